@@ -1,0 +1,349 @@
+ghost use Rattle.std.specs.Prelude.{◌≡◌, ◌≢◌, ◌+◌, ◌<◌, ◌≤◌, ◌^◌, ◌↔◌, [], ◌++◌, length, take, drop, true, false, Ok, Err, IsTrue, IsOk, IfOk, IfSome, IfNone, OnOk, OnErr, IsErrOf, unwrap_or};
+ghost use Rattle.std.specs.Io.KnownBytes.{IsAtEnd, prepend_known};
+ghost use Rattle.hv_bytes.specs.Devices.{Rose};
+ghost use Rattle.hv_bytes.specs.FirstLine.{BeginsLong, FitsLimits, IsLong, Passes, TakesLine};
+ghost use Rattle.hv_bytes.specs.LineParts.{EndsLine, IsLongPart, LengthensLine};
+ghost use Rattle.hv_bytes.specs.States.{coming_of};
+
+use crate::held::Held;
+use crate::outside::{Failed, Shelf};
+use crate::splitting::find_lf;
+use std::alloc::{AllocError, Global};
+use std::marker::Model;
+use thiserror::Error;
+
+/// How long a line may be, and how far into the file its last byte may lie. Both are at most 2^62.
+#[derive(Clone, Copy, Debug, PartialEq, Eq)]
+pub struct Limits {
+    /// The most bytes of a line without its LF.
+    pub line: u64,
+    /// The most bytes of a file.
+    pub file: u64,
+}
+
+impl Limits {
+    /// The standard limits: 16,777,216 bytes a line and 2^40 bytes a file.
+    pub const STANDARD: Limits = Limits {
+        line: 16_777_216,
+        file: 1_099_511_627_776,
+    };
+
+    /// Whether a line of this length, without its LF and after so many earlier bytes, is within the
+    /// limits.
+    pub fn fits(self, earlier: u64, length: u64) -> bool
+        ensures fits { IsTrue result ↔ FitsLimits self.line self.file earlier length }
+        ensures long { result ≡ false → IsLong self.line self.file earlier length }
+    {
+        let last_byte = length.max(1);
+        length <= self.line && last_byte <= self.file && earlier <= self.file - last_byte
+    }
+}
+
+/// What a call of `Lines::next` found.
+#[derive(Clone, Copy, Debug, PartialEq, Eq)]
+pub enum Next {
+    /// A line, which `Lines::line` gives.
+    Line,
+    /// The end of the input.
+    End,
+}
+
+/// Why there is no further line.
+#[derive(Clone, Copy, Debug, PartialEq, Eq, Error)]
+pub enum LineFault {
+    /// The line is longer than the limits allow.
+    #[error("the line is too long")]
+    Long,
+    /// The shelf failed.
+    #[error("the file can't be read")]
+    Failed,
+    /// Memory ran out.
+    #[error("out of memory")]
+    Memory,
+}
+
+impl From<AllocError> for LineFault {
+    ghost use Rattle.std.specs.Prelude.{◌≡◌};
+    ghost use Rattle.hv_bytes.specs.declared.cutting.LineFault.TheVariants as LineFault;
+
+    ghost from_gives = { λ _ fault. fault ≡ LineFault.Memory };
+
+    fn from(_error: AllocError) -> LineFault {
+        LineFault::Memory
+    }
+}
+
+impl From<Failed> for LineFault {
+    ghost use Rattle.std.specs.Prelude.{◌≡◌};
+    ghost use Rattle.hv_bytes.specs.declared.cutting.LineFault.TheVariants as LineFault;
+
+    ghost from_gives = { λ _ fault. fault ≡ LineFault.Failed };
+
+    fn from(_error: Failed) -> LineFault {
+        LineFault::Failed
+    }
+}
+
+/// Appends the first `count` held bytes to the line, where it then is within the limits.
+fn append_part(
+    held: &mut Held,
+    line: &mut Vec<u8>,
+    count: usize,
+    earlier: u64,
+    limits: Limits,
+) -> Result<(), LineFault>
+    requires within { count ≤ length held.old }
+    requires limit { limits.line ≤ 2 ^ 62 }
+    requires short { length line.old.items ≤ limits.line }
+    ensures line { OnOk result (line.new.items ≡ line.old.items ++ take count held.old) }
+    ensures held { OnOk result (held.new ≡ drop count held.old) }
+    ensures fits { OnOk result (FitsLimits limits.line limits.file earlier (length line.old.items + count)) }
+    ensures long { IsErrOf result LineFault.Long →
+        IsLong limits.line limits.file earlier (length line.old.items + count) }
+    ensures sure { result ≢ Err LineFault.Failed }
+{
+    let part = &held.as_slice()[..count];
+    let length = line.len() as u64 + part.len() as u64;
+    if !limits.fits(earlier, length) {
+        return Err(LineFault::Long);
+    }
+    line.extend_from_slice(part)?;
+    held.skip(count);
+    Ok(())
+}
+
+/// Moves the held bytes before the first LF, and that LF, or all of them where none is held, to the
+/// line, and says whether there was an LF.
+fn take_part(
+    held: &mut Held,
+    line: &mut Vec<u8>,
+    earlier: u64,
+    limits: Limits,
+) -> Result<bool, LineFault>
+    requires limit { limits.line ≤ 2 ^ 62 }
+    requires short { length line.old.items ≤ limits.line }
+    ensures ended { result ≡ Ok true → EndsLine held.old held.new line.old.items line.new.items }
+    ensures open { result ≡ Ok false → LengthensLine held.old held.new line.old.items line.new.items }
+    ensures fits { OnOk result (FitsLimits limits.line limits.file earlier (length line.new.items)) }
+    ensures long { IsErrOf result LineFault.Long →
+        IsLongPart held.old limits.line limits.file earlier (length line.old.items) }
+    ensures sure { result ≢ Err LineFault.Failed }
+{
+    match find_lf(held.as_slice()) {
+        Some(at) => {
+            append_part(held, line, at, earlier, limits)?;
+            held.skip(1);
+            Ok(true)
+        }
+        None => {
+            let count = held.as_slice().len();
+            append_part(held, line, count, earlier, limits)?;
+            Ok(false)
+        }
+    }
+}
+
+/// Reads the line that the held bytes begin, and says how many bytes it has with its LF.
+fn read_begun<S: Shelf>(
+    shelf: &mut S,
+    held: &mut Held,
+    line: &mut Vec<u8>,
+    earlier: u64,
+    limits: Limits,
+) -> Result<u64, LineFault>
+    requires some { held.old ≢ [] }
+    requires limit { limits.line ≤ 2 ^ 62 }
+    ensures line { OnOk result (TakesLine
+        (prepend_known held.old (S.left shelf.old)) (prepend_known held.new (S.left shelf.new)) line.new.items) }
+    ensures passes { IfOk result (λ n. Passes
+        (prepend_known held.old (S.left shelf.old)) (prepend_known held.new (S.left shelf.new)) 0 n) }
+    ensures count { IfOk result (λ n. (0 < n) × (length line.new.items ≤ n) × (n ≤ length line.new.items + 1)) }
+    ensures fits { OnOk result (FitsLimits limits.line limits.file earlier (length line.new.items)) }
+    ensures long { IsErrOf result LineFault.Long →
+        BeginsLong (prepend_known held.old (S.left shelf.old)) limits.line limits.file earlier }
+    ensures held { S.held shelf.new ≡ S.held shelf.old }
+    ensures allows { S.allows shelf.new ≡ S.allows shelf.old }
+    ensures later { S.faults shelf.old ≤ S.faults shelf.new }
+    ensures cause { IsErrOf result LineFault.Failed → Rose (S.faults shelf.old) (S.faults shelf.new) }
+{
+    line.clear();
+    'parts: loop {
+        if take_part(held, line, earlier, limits)? {
+            return Ok(line.len() as u64 + 1);
+        }
+        held.refill(shelf)?;
+        if held.is_empty() {
+            return Ok(line.len() as u64);
+        }
+    }
+}
+
+/// Reads the next line, and says how many bytes it has with its LF: none at the end of the input.
+fn read_line<S: Shelf>(
+    shelf: &mut S,
+    held: &mut Held,
+    line: &mut Vec<u8>,
+    earlier: u64,
+    limits: Limits,
+) -> Result<Option<u64>, LineFault>
+    requires { limits.line ≤ 2 ^ 62 }
+    ensures line { IfOk result (λ count. IfSome count (λ _. TakesLine
+        (prepend_known held.old (S.left shelf.old)) (prepend_known held.new (S.left shelf.new)) line.new.items)) }
+    ensures passes { IfOk result (λ count. Passes
+        (prepend_known held.old (S.left shelf.old)) (prepend_known held.new (S.left shelf.new)) 0 (unwrap_or count 0)) }
+    ensures count { IfOk result (λ count. IfSome count (λ n.
+        (0 < n) × (length line.new.items ≤ n) × (n ≤ length line.new.items + 1))) }
+    ensures fits { IfOk result (λ count. IfSome count (λ _.
+        FitsLimits limits.line limits.file earlier (length line.new.items))) }
+    ensures end { IfOk result (λ count. IfNone count (
+        (held.old ≡ []) × (held.new ≡ []) × (line.new.items ≡ line.old.items)
+        × IsAtEnd (prepend_known held.old (S.left shelf.old))
+        × IsAtEnd (prepend_known held.new (S.left shelf.new)))) }
+    ensures long { IsErrOf result LineFault.Long →
+        BeginsLong (prepend_known held.old (S.left shelf.old)) limits.line limits.file earlier }
+    ensures held { S.held shelf.new ≡ S.held shelf.old }
+    ensures allows { S.allows shelf.new ≡ S.allows shelf.old }
+    ensures later { S.faults shelf.old ≤ S.faults shelf.new }
+    ensures cause { IsErrOf result LineFault.Failed → Rose (S.faults shelf.old) (S.faults shelf.new) }
+{
+    held.refill(shelf)?;
+    if held.is_empty() {
+        return Ok(None);
+    }
+    let count = read_begun(shelf, held, line, earlier, limits)?;
+    Ok(Some(count))
+}
+
+/// A text on a shelf, cut into lines at LF.
+#[derive(Drop)]
+pub struct Lines {
+    held: Held,
+    line: Vec<u8>,
+    earlier: u64,
+    number: u64,
+    live: bool,
+    limits: Limits,
+}
+
+impl Model for Lines {
+    ghost use Rattle.hv_bytes.specs.States.{LinesState, IsCounted};
+
+    ghost Value = { LinesState };
+
+    ghost view = { λ l. record {
+      held = l.held;
+      earlier = l.earlier;
+      number = l.number;
+      line = l.line.items;
+      live = l.live;
+      line_limit = l.limits.line;
+      file_limit = l.limits.file;
+    } };
+
+    ghost invariant = { λ l. IsCounted l.limits.line l.limits.file l.earlier l.number };
+}
+
+impl Lines {
+    /// A cutter that gave no line yet.
+    pub fn new(alloc: Global, limits: Limits) -> Result<Lines, AllocError>
+        requires line { limits.line ≤ 2 ^ 62 }
+        requires file { limits.file ≤ 2 ^ 62 }
+        ensures { IfOk result (λ lines. lines ≡ record {
+          held = [];
+          earlier = 0;
+          number = 0;
+          line = [];
+          live = true;
+          line_limit = limits.line;
+          file_limit = limits.file;
+        }) }
+    {
+        let held = Held::new(alloc)?;
+        Ok(Lines {
+            held,
+            line: Vec::new(alloc),
+            earlier: 0,
+            number: 0,
+            live: true,
+            limits,
+        })
+    }
+
+    /// Whether it may be asked for a further line: until a call answers with a fault.
+    pub fn live(&self) -> bool
+        ensures { result ≡ self.now.live }
+    {
+        self.live
+    }
+
+    /// The line given last, without its LF.
+    pub fn line(&self) -> &[u8]
+        ensures { result.now ≡ self.now.line }
+    {
+        self.line.as_slice()
+    }
+
+    /// The number of the line given last, from 1.
+    pub fn number(&self) -> u64
+        ensures { result ≡ self.now.number }
+    {
+        self.number
+    }
+
+    /// Reads the next line of the shelf's open file. A read of 0 bytes is the end of the input.
+    ///
+    /// The same shelf is to be given in each call, with nothing else read from it in between: the
+    /// held bytes and those left on the shelf are together the bytes still to come.
+    pub fn next<S: Shelf>(&mut self, shelf: &mut S) -> Result<Next, LineFault>
+        requires { IsTrue self.old.live }
+
+        // where the shelf tells what is left, a line exactly where bytes are to come: the first of them
+        ensures line { result ≡ Ok Next.Line → TakesLine
+            (coming_of self.old (S.left shelf.old)) (coming_of self.new (S.left shelf.new)) self.new.line }
+        ensures end { result ≡ Ok Next.End → IsAtEnd (coming_of self.old (S.left shelf.old))
+            × IsAtEnd (coming_of self.new (S.left shelf.new)) }
+        ensures earlier { OnOk result (Passes
+            (coming_of self.old (S.left shelf.old)) (coming_of self.new (S.left shelf.new))
+            self.old.earlier self.new.earlier) }
+
+        // long exactly where the line is long
+        ensures fits { result ≡ Ok Next.Line →
+            FitsLimits self.old.line_limit self.old.file_limit self.old.earlier (length self.new.line) }
+        ensures long { IsErrOf result LineFault.Long → BeginsLong
+            (coming_of self.old (S.left shelf.old))
+            self.old.line_limit self.old.file_limit self.old.earlier }
+
+        // told or not
+        ensures number { result ≡ Ok Next.Line → self.new.number ≡ self.old.number + 1 }
+        ensures same { result ≡ Ok Next.End → self.new ≡ self.old }
+        ensures same_number { OnErr result (self.new.number ≡ self.old.number) }
+        ensures same_earlier { OnErr result (self.new.earlier ≡ self.old.earlier) }
+        ensures within { self.new.number ≤ self.new.file_limit }
+        ensures live { IsTrue self.new.live ↔ IsOk result }
+        ensures line_limit { self.new.line_limit ≡ self.old.line_limit }
+        ensures file_limit { self.new.file_limit ≡ self.old.file_limit }
+
+        ensures held { S.held shelf.new ≡ S.held shelf.old }
+        ensures allows { S.allows shelf.new ≡ S.allows shelf.old }
+        ensures later { S.faults shelf.old ≤ S.faults shelf.new }
+        ensures cause { IsErrOf result LineFault.Failed → Rose (S.faults shelf.old) (S.faults shelf.new) }
+    {
+        self.live = false;
+        let count = read_line(
+            shelf,
+            &mut self.held,
+            &mut self.line,
+            self.earlier,
+            self.limits,
+        )?;
+        self.live = true;
+        match count {
+            None => Ok(Next::End),
+            Some(count) => {
+                self.earlier += count;
+                self.number += 1;
+                Ok(Next::Line)
+            }
+        }
+    }
+}

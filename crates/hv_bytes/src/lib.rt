@@ -1,0 +1,25 @@
+//! Bytes in and out: shelves that files are read from, sinks that bytes are written to, lines, and
+//! numbers in texts.
+#![tactic(auto)]
+
+mod cutting;
+mod held;
+mod memory_shelf;
+mod memory_sink;
+mod outside;
+mod schedule;
+mod spelling;
+mod splitting;
+mod sure;
+#[cfg(test)]
+mod tests;
+mod transfer;
+
+pub use cutting::{Limits, LineFault, Lines, Next};
+pub use memory_shelf::MemoryShelf;
+pub use memory_sink::MemorySink;
+pub use outside::{Failed, Shelf, Sink};
+pub use spelling::{Text, read_decimal, read_short_decimal};
+pub use splitting::split_line;
+pub use sure::{SureShelf, SureSink};
+pub use transfer::{ReadAllFault, read_all, send};
