@@ -1,0 +1,87 @@
+-- The atoms that a state holds, as a list that rises.
+use Rattle.std.proofs.Common.{◌≡◌, ℕ, ◌+◌, ◌<◌, ◌≤◌, ◌∙◌, ◌↔◌, Bool, true, false, List, [], ◌∷◌, ◌++◌, length, get_or, refl, sym, ap, arith, inl, inr, subst}
+use Rattle.std.proofs.lemmas.Bool.{cases_lt}
+use Rattle.std.proofs.lemmas.Bool.Decides.{same_from_decides}
+use Rattle.std.proofs.lemmas.List.{get_or_push, get_or_append_left, length_push}
+use Rattle.std.proofs.lemmas.List.Elements.{Contains-get_or, Contains-append_left, Contains-push, Contains-push_cases}
+use Rattle.std.specs.List.{Contains}
+use Rattle.std.specs.List.Sorted.{IsStrictlyIncreasing}
+use Rattle.hv_task.specs.AtomList.{ListsBelow, IsListOf}
+use Rattle.hv_task.specs.State.{AreBelow, has_atom, names_atom, state_of}
+use Rattle.hv_task.proofs.Places.{has_atom-state_of, length-state_of, same_state, names_atom-Decides}
+use Rattle.hv_task.proofs.Rising.{same_rising}
+
+-- a greater atom at the end keeps a list rising
+rises-push : (xs : List ℕ) (i : ℕ) → IsStrictlyIncreasing xs → ((k : ℕ) → k < length xs → get_or xs k 0 < i)
+    → IsStrictlyIncreasing (xs ++ i ∷ [])
+rises-push xs i rises below k within =
+    let size = length_push xs i in
+    let here : get_or (xs ++ i ∷ []) k 0 ≡ get_or xs k 0 = get_or_append_left xs (i ∷ []) 0 k (omega arith) in
+    elim (cases_lt (k + 1) (length xs)) [
+      | inl less ↦
+          let next : get_or (xs ++ i ∷ []) (k + 1) 0 ≡ get_or xs (k + 1) 0 = get_or_append_left xs (i ∷ []) 0 (k + 1) less in
+          let rise = rises k less in omega arith
+      | inr last ↦
+          let next : get_or (xs ++ i ∷ []) (k + 1) 0 ≡ i = get_or_push xs i 0 (k + 1) (omega arith) in
+          let less = below k (omega arith) in omega arith
+    ]
+
+module _ (state : List Bool) (i : ℕ) (xs : List ℕ) (so_far : ListsBelow state i xs) where
+  -- the next atom is held, and was put last
+  pub lists_held : has_atom state i ≡ true → ListsBelow state (i + 1) (xs ++ i ∷ [])
+  lists_held held = record {
+    rises = rises-push xs i so_far.rises (λ k within. ((so_far.has (get_or xs k 0)).0 (Contains-get_or xs k 0 within)).0);
+    has = λ a. (
+      λ c. elim (Contains-push_cases xs i a c) [
+        | inl old ↦ let f = (so_far.has a).0 old in (omega (arith, f.0), f.1)
+        | inr e ↦ (omega arith, ap (λ p. has_atom state p) (sym e) ∙ held)
+      ],
+      λ f. elim (cases_lt a i) [
+        | inl less ↦ Contains-append_left xs (i ∷ []) a ((so_far.has a).1 (less, f.1))
+        | inr upto ↦ let same : i ≡ a = omega (arith, f.0) in subst (λ p. Contains (xs ++ i ∷ []) p) same (Contains-push xs i)
+      ],
+    );
+  }
+
+  -- the next atom isn't held
+  pub lists_other : has_atom state i ≡ false → ListsBelow state (i + 1) xs
+  lists_other other = record {
+    rises = so_far.rises;
+    has = λ a. (
+      λ c. let f = (so_far.has a).0 c in (omega (arith, f.0), f.1),
+      λ f. elim (cases_lt a i) [
+        | inl less ↦ (so_far.has a).1 (less, f.1)
+        | inr upto ↦
+            let same : i ≡ a = omega (arith, f.0) in
+            absurd (let clash : true ≡ false = sym f.1 ∙ (ap (λ p. has_atom state p) (sym same) ∙ other) in cc)
+      ],
+    );
+  }
+
+-- a list that rises and has just the atoms of a state is the state
+pub state_of-listed : (state : List Bool) (held : List ℕ) → IsListOf state held → state_of (length state) held ≡ state
+state_of-listed state held listed =
+    let size : length (state_of (length state) held) ≡ length state = length-state_of (length state) held in
+    same_state (state_of (length state) held) state size
+    (λ p within.
+    let below : p < length state = omega arith in
+    has_atom-state_of (length state) held p below ∙ named p below)
+  where
+    named : (p : ℕ) → p < length state → names_atom held p ≡ has_atom state p
+    named p below =
+        same_from_decides (names_atom held p) (has_atom state p) (names_atom-Decides held p)
+        (λ holds. (listed.has p).1 (below, holds), λ c. ((listed.has p).0 c).1)
+
+-- the states of two lists that rise, of atoms below a number, are one only where the lists are
+pub same_listed : (n : ℕ) (xs ys : List ℕ) → IsStrictlyIncreasing xs → IsStrictlyIncreasing ys → AreBelow n xs → AreBelow n ys
+    → state_of n xs ≡ state_of n ys → xs ≡ ys
+same_listed n xs ys rises_x rises_y below_x below_y same =
+    same_rising xs ys rises_x rises_y (names_in xs ys below_x same) (names_in ys xs below_y (sym same))
+  where
+    names_in : (us vs : List ℕ) → AreBelow n us → state_of n us ≡ state_of n vs → (a : ℕ) → Contains us a → Contains vs a
+    names_in us vs below e a c =
+        let within : a < n = subst (λ b. b < n) c.2 (below c.0 a c.1) in
+        let named : names_atom us a ≡ true = (names_atom-Decides us a).1 c in
+        let other : names_atom us a ≡ names_atom vs a =
+        sym (has_atom-state_of n us a within) ∙ (ap (λ s. has_atom s a) e ∙ has_atom-state_of n vs a within) in
+        (names_atom-Decides vs a).0 (sym other ∙ named)

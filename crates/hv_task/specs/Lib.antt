@@ -1,0 +1,5 @@
+pub mod AtomList
+pub mod State
+pub mod Strips
+pub mod Plan
+pub mod Deadness

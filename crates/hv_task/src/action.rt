@@ -1,0 +1,36 @@
+ghost use Rattle.std.specs.Prelude.{◌≡◌, length};
+
+use crate::atom_list::AtomList;
+use crate::name::Name;
+use crate::state::State;
+
+/// An action of a planning task: it is applicable where its whole precondition holds, and its result is the state without
+/// the delete set, and then with the add set.
+#[derive(Drop)]
+pub struct Action {
+    /// For people: no answer of the checker depends on it.
+    pub name: Name,
+    /// From 0 to 4,294,967,295. No answer of the checker depends on it.
+    pub cost: u32,
+    /// The precondition: the atoms that a state must hold.
+    pub pre: AtomList,
+    /// The atoms that are true afterwards.
+    pub add: AtomList,
+    /// The atoms that are false afterwards, but for those that are added.
+    pub del: AtomList,
+}
+
+impl Action {
+    ghost use Rattle.hv_task.specs.State.{successor};
+    ghost use Rattle.hv_task.specs.Strips.{IsOver};
+
+    // Makes the state its successor.
+    pub(crate) fn apply(&self, state: &mut State)
+        requires { IsOver (length state.old) self.now }
+        ensures successor { state.new ≡ successor self.now state.old }
+        ensures atoms { length state.new ≡ length state.old }
+    {
+        state.put_all(self.del.as_slice(), false);
+        state.put_all(self.add.as_slice(), true);
+    }
+}

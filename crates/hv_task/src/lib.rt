@@ -1,0 +1,19 @@
+//! Planning tasks in STRIPS form: atoms, states, actions, plans.
+#![tactic(auto)]
+
+pub mod action;
+pub mod atom_list;
+pub mod laws;
+pub mod name;
+pub mod state;
+pub mod task;
+
+pub use action::Action;
+pub use atom_list::AtomList;
+pub use laws::{laws_of_dead_states, laws_of_states};
+pub use name::Name;
+pub use state::State;
+pub use task::Task;
+
+#[cfg(test)]
+mod tests;
