@@ -1,0 +1,11 @@
+pub mod Held
+pub mod Once
+pub mod Reached
+pub mod Sets
+pub mod Spelled
+pub mod Steps
+pub mod OneAnswer
+pub mod SoFar
+pub mod Turns
+pub mod Appended
+pub mod Readable

@@ -1,0 +1,77 @@
+use Rattle.std.proofs.Common.{◌+◌, ap, sym, subst, ◌∙◌, length, Err, arith, rules}
+use Rattle.hv_bytes.specs.FirstLine.{FitsLimits, TakesLine}
+use Rattle.hv_bytes.specs.States.{coming_of}
+use Rattle.hv_task_text.proofs.Turns.{end_answer, feed_fault, follows_first, follows_more, line_fault_answer, ready_reader, same_fits, same_long}
+use Rattle.hv_task_text.proofs.read.read_task.Goals as goal
+
+pub reading-init : goal.reading-init
+reading-init g c =
+    let e = c.in_ok-lines.ensures in (
+      follows_first _ _ c.args.limits _ c.in_ok-reader.reader c.in_ok-lines.lines c.in_ok-open.ensures.opened c.in_ok-reader.ensures e,
+      ap (λ l. l.live) e,
+      ap (λ l. l.line_limit) e,
+      ap (λ l. l.file_limit) e,
+      c.in_ok-open.ensures.held,
+      c.in_ok-open.ensures.allows,
+      c.in_ok-open.ensures.cause.later,
+    )
+
+pub feed-requires : goal.feed-requires
+feed-requires g c =
+    let b = c.reading.invariant.0 in ready_reader c.reading.reader b.0 b.1.legal b.1.holds
+
+pub end-requires : goal.end-requires
+end-requires g c =
+    let b = c.reading.invariant.0 in ready_reader c.reading.reader b.0 b.1.legal b.1.holds
+
+pub returns-in-Err-feed-clause-read : goal.returns-in-Err-feed-clause-read
+returns-in-Err-feed-clause-read g c =
+    let before = coming_of c.reading.lines (g.S.Shelf.left c.reading.shelf) in
+    let after = coming_of c.next.new.self (g.S.Shelf.left c.next.new.shelf) in
+    let b = c.reading.invariant.0 in
+    let line = c.line.result.now in
+    feed_fault (g.S.Shelf.held c.args.shelf.now) c.args.name.now c.args.limits c.reading.reader c.feed.new.self c.reading.lines.number c.number.result c.reading.lines.earlier before after line c.in-Err-feed.error c.at.result b.0 b.1
+    (subst (λ l. TakesLine before after l) (sym c.line.ensures) (c.in-Ok-Line.ensures.line (cc)))
+    (same_fits c.args.limits c.reading.lines.line_limit c.reading.lines.file_limit _ _ c.reading.invariant.2 c.reading.invariant.3
+    (subst (λ l. FitsLimits c.reading.lines.line_limit c.reading.lines.file_limit c.reading.lines.earlier (length l)) (sym c.line.ensures) (c.in-Ok-Line.ensures.fits (cc))))
+    (c.number.ensures ∙ c.in-Ok-Line.ensures.number (cc))
+    c.in-Err-feed.ensures
+    c.at.ensures
+
+pub reading-preserved : goal.reading-preserved
+reading-preserved g c =
+    let before = coming_of c.reading.lines (g.S.Shelf.left c.reading.shelf) in
+    let after = coming_of c.next.new.self (g.S.Shelf.left c.next.new.shelf) in
+    let b = c.reading.invariant.0 in
+    let line = c.line.result.now in (
+      follows_more (g.S.Shelf.held c.args.shelf.now) c.args.name.now c.args.limits c.reading.reader c.feed.new.self c.reading.lines.number c.next.new.self.number c.reading.lines.earlier c.next.new.self.earlier before after line b.0 b.1
+          c.in_default.ensures
+          (subst (λ l. TakesLine before after l) (sym c.line.ensures) (c.in-Ok-Line.ensures.line (cc)))
+          c.in-Ok-Line.ensures.earlier
+          (same_fits c.args.limits c.reading.lines.line_limit c.reading.lines.file_limit _ _ c.reading.invariant.2 c.reading.invariant.3
+          (subst (λ l. FitsLimits c.reading.lines.line_limit c.reading.lines.file_limit c.reading.lines.earlier (length l)) (sym c.line.ensures) (c.in-Ok-Line.ensures.fits (cc))))
+          (c.in-Ok-Line.ensures.number (cc)),
+      (c.in-Ok-Line.ensures.live).1 (search rules),
+      c.in-Ok-Line.ensures.line_limit ∙ c.reading.invariant.2,
+      c.in-Ok-Line.ensures.file_limit ∙ c.reading.invariant.3,
+      c.in-Ok-Line.ensures.held ∙ c.reading.invariant.4,
+      c.in-Ok-Line.ensures.allows ∙ c.reading.invariant.5,
+      omega (arith, c.reading.invariant.6, c.in-Ok-Line.ensures.later),
+    )
+
+pub returns-in-Ok-End-clause-read : goal.returns-in-Ok-End-clause-read
+returns-in-Ok-End-clause-read g c =
+    let b = c.reading.invariant.0 in
+    end_answer (g.S.Shelf.held c.args.shelf.now) c.args.name.now c.args.limits c.reading.reader c.reading.lines.number (c.number-in-Ok-End.result + 1) c.reading.lines.earlier (coming_of c.reading.lines (g.S.Shelf.left c.reading.shelf)) c.end.result b.0 b.1
+    ((c.in-Ok-End.ensures.end (cc)).0)
+    c.end.ensures
+    (ap (λ n. n + 1) (c.number-in-Ok-End.ensures ∙ ap (λ l. l.number) (c.in-Ok-End.ensures.same (cc))))
+
+pub returns-in-Err-clause-read : goal.returns-in-Err-clause-read
+returns-in-Err-clause-read g c =
+    let b = c.reading.invariant.0 in
+    let coming = coming_of c.reading.lines (g.S.Shelf.left c.reading.shelf) in
+    line_fault_answer (g.S.Shelf.held c.args.shelf.now) c.args.name.now c.args.limits c.reading.reader c.reading.lines.number (c.number-in-Err.result + 1) c.reading.lines.earlier coming c.in-Err.fault c.line_fault.result b.0 b.1
+    (λ e. same_long c.args.limits c.reading.lines.line_limit c.reading.lines.file_limit c.reading.lines.earlier coming c.reading.invariant.2 c.reading.invariant.3 (c.in-Err.ensures.long (ap (λ f. Err f) e)))
+    (ap (λ n. n + 1) (c.number-in-Err.ensures ∙ c.in-Err.ensures.same_number))
+    c.line_fault.ensures

@@ -1,0 +1,106 @@
+-- The parts of a task text as they are written, and the task that a whole text stands for.
+use Rattle.std.specs.Prelude.{ℕ, ◌==◌, List, [], ◌∷◌, ◌++◌, Option, Some, None, map, filter, length, decimal, codes}
+use Rattle.std.specs.List.{filter_map, flat_map, list_any, range_with_len}
+use Rattle.hv_task.specs.declared.action.Action.{Action}
+use Rattle.hv_task.specs.Strips.{Strips}
+
+-- one line of an action's lists: the word and the atom's number behind it
+pub data Item : Type 0 where
+  pre : ℕ → Item
+  add : ℕ → Item
+  del : ℕ → Item
+
+abbrev pub item_line : Item → List ℕ
+item_line (pre atom) = codes "PRE:" ++ decimal atom
+item_line (add atom) = codes "ADD:" ++ decimal atom
+item_line (del atom) = codes "DEL:" ++ decimal atom
+
+-- an action as it is written
+pub record Entry : Type 0 where
+  pub name : List ℕ
+  pub cost : ℕ
+  pub items : List Item
+
+-- what is written before the actions: the names of the atoms, the numbers of the initial state and of the goal
+pub record Head : Type 0 where
+  pub names : List (List ℕ)
+  pub start : List ℕ
+  pub goal : List ℕ
+
+-- The lines up to each place of a text. A line is given without its LF.
+
+-- up to some name of an atom, after the header's number
+abbrev pub name_lines : ℕ → List (List ℕ) → List (List ℕ)
+name_lines count names = (codes "begin_atoms:" ++ decimal count) ∷ names
+
+-- all names of the atoms
+abbrev pub atom_lines : List (List ℕ) → List (List ℕ)
+atom_lines names = name_lines (length names) names ++ codes "end_atoms" ∷ []
+
+-- up to some number of the initial state
+abbrev pub start_lines : List (List ℕ) → List ℕ → List (List ℕ)
+start_lines names start = atom_lines names ++ codes "begin_init" ∷ map decimal start
+
+-- up to some number of the goal
+abbrev pub goal_lines : List (List ℕ) → List ℕ → List ℕ → List (List ℕ)
+goal_lines names start goal = start_lines names start ++ codes "end_init" ∷ codes "begin_goal" ∷ map decimal goal
+
+-- all that is written before the actions
+abbrev pub head_lines : Head → List (List ℕ)
+head_lines head = goal_lines head.names head.start head.goal ++ codes "end_goal" ∷ []
+
+-- an action up to some line of its lists
+abbrev pub body_lines : Entry → List (List ℕ)
+body_lines entry =
+    codes "begin_action" ∷ entry.name ∷ (codes "cost:" ++ decimal entry.cost) ∷ map item_line entry.items
+
+-- a whole action
+abbrev pub entry_lines : Entry → List (List ℕ)
+entry_lines entry = body_lines entry ++ codes "end_action" ∷ []
+
+-- up to some action, after the number of actions
+abbrev pub action_lines : ℕ → Head → List Entry → List (List ℕ)
+action_lines count head actions =
+    head_lines head ++ (codes "begin_actions:" ++ decimal count) ∷ flat_map entry_lines actions
+
+-- a whole text
+abbrev pub text_lines : Head → List Entry → List (List ℕ)
+text_lines head actions = action_lines (length actions) head actions ++ codes "end_actions" ∷ []
+
+-- the atoms, of so many, that stand in the list: each once, rising
+abbrev pub set_of : ℕ → List ℕ → List ℕ
+set_of atoms listed = filter (λ atom. list_any (λ n. n == atom) listed) (range_with_len 0 atoms)
+
+abbrev pub pre_of : Item → Option ℕ
+pre_of (pre atom) = Some atom
+pre_of (add atom) = None
+pre_of (del atom) = None
+
+abbrev pub add_of : Item → Option ℕ
+add_of (pre atom) = None
+add_of (add atom) = Some atom
+add_of (del atom) = None
+
+abbrev pub del_of : Item → Option ℕ
+del_of (pre atom) = None
+del_of (add atom) = None
+del_of (del atom) = Some atom
+
+-- the action that a written one stands for, in a task of so many atoms
+abbrev pub action_of : ℕ → Entry → Action
+action_of atoms entry = record {
+  name = entry.name;
+  cost = entry.cost;
+  pre = set_of atoms (filter_map pre_of entry.items);
+  add = set_of atoms (filter_map add_of entry.items);
+  del = set_of atoms (filter_map del_of entry.items);
+}
+
+-- the task that a text stands for
+abbrev pub task_of : Head → List Entry → Strips
+task_of head actions = record {
+  names = head.names;
+  start = set_of (length head.names) head.start;
+  goal = set_of (length head.names) head.goal;
+  actions = map (action_of (length head.names)) actions;
+}

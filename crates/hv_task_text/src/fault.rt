@@ -1,0 +1,114 @@
+ghost use Rattle.std.specs.Prelude.{◌≡◌};
+ghost use Rattle.hv_task_text.specs.declared.fault.TaskFault.TheVariants as F;
+ghost use Rattle.hv_task_text.specs.Words.{kind_word, limit_word};
+
+use hv_bytes::Failed;
+use std::alloc::AllocError;
+use thiserror::Error;
+
+/// The kind of a place in a task text: what its line has to be.
+#[derive(Clone, Copy, Debug, PartialEq, Eq)]
+pub enum TaskKind {
+    BeginAtoms,
+    AtomName,
+    EndAtoms,
+    BeginInit,
+    InitAtom,
+    BeginGoal,
+    GoalAtom,
+    BeginActions,
+    BeginAction,
+    ActionName,
+    Cost,
+    ActionLine,
+    EndActions,
+    End,
+}
+
+/// A limit that a line of a task text passes.
+#[derive(Clone, Copy, Debug, PartialEq, Eq)]
+pub enum TaskLimit {
+    /// More than 65,535 atoms.
+    Atoms,
+    /// More than 1,000,000 actions.
+    Actions,
+    /// A name of more than 1,024 bytes.
+    Name,
+    /// A cost above 4,294,967,295.
+    Cost,
+    /// A line of too many bytes, or too far from the start of the file.
+    Long,
+}
+
+/// Why a task text isn't read. Lines are counted from 1; at the end of the input the line is the one
+/// after the last.
+#[derive(Clone, Copy, Debug, PartialEq, Eq, Error)]
+pub enum TaskFault {
+    /// The form that this place expects isn't there.
+    #[error("line {0} isn't what the text expects there")]
+    Place(u64, TaskKind),
+    /// The line has its form, and passes this limit; or it is long, whatever its form.
+    #[error("line {0} passes a limit")]
+    Limit(u64, TaskLimit),
+    /// The shelf failed.
+    #[error("the file can't be read")]
+    ReadFault,
+    /// Memory ran out.
+    #[error("out of memory")]
+    Memory,
+}
+
+impl From<AllocError> for TaskFault {
+    ghost from_gives = { λ _ fault. fault ≡ F.Memory };
+
+    fn from(_error: AllocError) -> TaskFault {
+        TaskFault::Memory
+    }
+}
+
+impl From<Failed> for TaskFault {
+    ghost from_gives = { λ _ fault. fault ≡ F.ReadFault };
+
+    fn from(_error: Failed) -> TaskFault {
+        TaskFault::ReadFault
+    }
+}
+
+impl TaskKind {
+    /// The word that names the kind in a refusal.
+    pub fn word(&self) -> &'static str
+        ensures { result.now ≡ kind_word self.now }
+    {
+        match self {
+            TaskKind::BeginAtoms => "begin_atoms",
+            TaskKind::AtomName => "atom_name",
+            TaskKind::EndAtoms => "end_atoms",
+            TaskKind::BeginInit => "begin_init",
+            TaskKind::InitAtom => "init_atom",
+            TaskKind::BeginGoal => "begin_goal",
+            TaskKind::GoalAtom => "goal_atom",
+            TaskKind::BeginActions => "begin_actions",
+            TaskKind::BeginAction => "begin_action",
+            TaskKind::ActionName => "action_name",
+            TaskKind::Cost => "cost",
+            TaskKind::ActionLine => "action_line",
+            TaskKind::EndActions => "end_actions",
+            TaskKind::End => "end",
+        }
+    }
+}
+
+impl TaskLimit {
+    /// The word that names the limit in a refusal.
+    pub fn word(&self) -> &'static str
+        ensures { result.now ≡ limit_word self.now }
+    {
+        match self {
+            TaskLimit::Atoms => "atoms",
+            TaskLimit::Actions => "actions",
+            TaskLimit::Name => "name",
+            TaskLimit::Cost => "cost",
+            TaskLimit::Long => "long",
+        }
+    }
+}
