@@ -1,0 +1,10 @@
+pub mod Nodes
+pub mod Spelling
+pub mod Numbering
+pub mod Literals
+pub mod TableState
+pub mod Meaning
+pub mod Rules
+pub mod Basic
+pub mod Good
+pub mod Judged

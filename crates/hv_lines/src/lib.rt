@@ -1,0 +1,16 @@
+//! The lines of a proof, the table of accepted lines, and what they mean.
+#![tactic(auto)]
+
+pub mod action_list;
+pub mod diagrams;
+pub mod line;
+pub mod premises;
+pub mod reason;
+pub mod table;
+
+pub use action_list::ActionList;
+pub use diagrams::{Diagrams, Node};
+pub use line::{Acts, Constant, Expr, Line, Statement, Word};
+pub use premises::Premises;
+pub use reason::Reason;
+pub use table::Table;

@@ -1,0 +1,331 @@
+ghost use Rattle.std.specs.Prelude.{◌≡◌, ◌<◌, ◌^◌, ◌↔◌, ◌++◌, [], ◌∷◌, length, reverse, slice_get, vec_len, Some, IsTrue, OnOk, OnErr};
+ghost use Rattle.hv_lines.specs.Literals.{IsFormula, IsConstantExpr, IsPlainExpr, IsLiteral};
+ghost use Rattle.hv_lines.specs.Numbering.{acts_count, expr_count, known_count, acts_at, expr_at, statement_at, word_at, premises_at, ActsReferBelow, ExprRefersBelow, SpeaksBelow, IsNext, IsTable};
+ghost use Rattle.hv_task.specs.State.{AreBelow};
+
+use crate::line::{Acts, Expr, Line, Statement, Word};
+use crate::premises::Premises;
+use std::alloc::{AllocError, Global};
+use std::marker::Model;
+
+/// The lines of a proof, found by their identifiers and by their places.
+#[derive(Drop)]
+pub struct Table {
+    lines: Vec<Line>,
+    /// Where the `a` line of each identifier stands among the lines.
+    acts: Vec<usize>,
+    /// Where the `e` line of each identifier stands among the lines.
+    exprs: Vec<usize>,
+    /// Where the `k` line of each identifier stands among the lines.
+    knowns: Vec<usize>,
+}
+
+impl Model for Table {
+    ghost use Rattle.std.specs.Prelude.{◌-◌, min, reverse, vec_len, vec_capacity};
+    ghost use Rattle.hv_lines.specs.TableState.{TableState, IsIndexed, room_of};
+
+    ghost Value = { TableState };
+
+    ghost view = { λ t. record {
+      lines = reverse t.lines.items;
+      room = min (room_of t.lines) (min (room_of t.acts) (min (room_of t.exprs) (room_of t.knowns)));
+    } };
+
+    ghost invariant = { λ t. IsIndexed t.lines.items (reverse t.lines.items) t.acts.items t.exprs.items t.knowns.items };
+}
+
+impl Table {
+    /// A table without lines.
+    pub fn new(alloc: Global) -> Table
+        ensures { result.lines ≡ [] }
+    {
+        Table {
+            lines: Vec::new(alloc),
+            acts: Vec::new(alloc),
+            exprs: Vec::new(alloc),
+            knowns: Vec::new(alloc),
+        }
+    }
+
+    /// Puts the line last. Its identifier is the number of earlier lines of its letter, and it refers to earlier lines alone.
+    pub fn push(&mut self, line: Line) -> Result<(), AllocError>
+        requires { IsNext self.old.lines line }
+        ensures ok { OnOk result (self.new.lines ≡ line ∷ self.old.lines) }
+        ensures err { OnErr result (self.new.lines ≡ self.old.lines) }
+    {
+        match &line {
+            Line::Acts { .. } => {
+                push_both(&mut self.lines, &mut self.acts, line)?;
+                Ok(())
+            }
+            Line::Expr { .. } => {
+                push_both(&mut self.lines, &mut self.exprs, line)?;
+                Ok(())
+            }
+            Line::Known { .. } => {
+                push_both(&mut self.lines, &mut self.knowns, line)?;
+                Ok(())
+            }
+        }
+    }
+
+    /// How many lines there are, of all letters.
+    pub fn len(&self) -> usize
+        ensures length { result ≡ length self.now.lines }
+        ensures small { result < 2 ^ 63 }
+        ensures table { IsTable self.now.lines }
+    {
+        self.lines.len()
+    }
+
+    /// Whether there is no line.
+    pub fn is_empty(&self) -> bool
+        ensures { IsTrue result ↔ (self.now.lines ≡ []) }
+    {
+        self.lines.is_empty()
+    }
+
+    /// The line at a place from 0, in the order in which the lines were pushed.
+    pub fn line(&self, place: usize) -> &Line
+        requires { place < length self.now.lines }
+        ensures { slice_get (reverse self.now.lines) place ≡ Some result.now }
+    {
+        &self.lines[place]
+    }
+
+    /// How many `a` lines there are: their identifiers are the numbers below it.
+    pub fn acts_count(&self) -> usize
+        ensures count { result ≡ acts_count self.now.lines }
+        ensures small { result < 2 ^ 63 }
+        ensures table { IsTable self.now.lines }
+    {
+        self.acts.len()
+    }
+
+    /// How many `e` lines there are: their identifiers are the numbers below it.
+    pub fn expr_count(&self) -> usize
+        ensures count { result ≡ expr_count self.now.lines }
+        ensures small { result < 2 ^ 63 }
+        ensures table { IsTable self.now.lines }
+    {
+        self.exprs.len()
+    }
+
+    /// How many `k` lines there are: their identifiers are the numbers below it.
+    pub fn known_count(&self) -> usize
+        ensures count { result ≡ known_count self.now.lines }
+        ensures small { result < 2 ^ 63 }
+        ensures table { IsTable self.now.lines }
+    {
+        self.knowns.len()
+    }
+
+    /// What the `a` line of the identifier says.
+    pub fn acts(&self, id: usize) -> &Acts
+        requires { id < acts_count self.now.lines }
+        ensures says { acts_at self.now.lines id ≡ Some result.now }
+        ensures before { ActsReferBelow id result.now }
+        ensures below { ActsReferBelow (acts_count self.now.lines) result.now }
+    {
+        match &self.lines[self.acts[id]] {
+            Line::Acts { acts, .. } => acts,
+            _ => unreachable!(),
+        }
+    }
+
+    /// What the `e` line of the identifier says.
+    pub fn expr(&self, id: usize) -> &Expr
+        requires { id < expr_count self.now.lines }
+        ensures says { expr_at self.now.lines id ≡ Some result.now }
+        ensures before { ExprRefersBelow (acts_count self.now.lines) id result.now }
+        ensures below { ExprRefersBelow (acts_count self.now.lines) (expr_count self.now.lines) result.now }
+    {
+        match &self.lines[self.exprs[id]] {
+            Line::Expr { expr, .. } => expr,
+            _ => unreachable!(),
+        }
+    }
+
+    /// What the `k` line of the identifier claims.
+    pub fn statement(&self, id: usize) -> &Statement
+        requires { id < known_count self.now.lines }
+        ensures says { statement_at self.now.lines id ≡ Some result.now }
+        ensures below { SpeaksBelow (acts_count self.now.lines) (expr_count self.now.lines) result.now }
+    {
+        self.known(id).statement
+    }
+
+    /// The word by which the `k` line of the identifier is justified.
+    pub fn word(&self, id: usize) -> Word
+        requires { id < known_count self.now.lines }
+        ensures { word_at self.now.lines id ≡ Some result }
+    {
+        self.known(id).word
+    }
+
+    /// The premises of the `k` line of the identifier.
+    pub fn premises(&self, id: usize) -> &Premises
+        requires { id < known_count self.now.lines }
+        ensures says { premises_at self.now.lines id ≡ Some result.now }
+        ensures before { AreBelow id result.now }
+    {
+        self.known(id).premises
+    }
+
+    fn known(&self, id: usize) -> Known<'_>
+        requires { id < known_count self.now.lines }
+        ensures statement { statement_at self.now.lines id ≡ Some result.statement.now }
+        ensures word { word_at self.now.lines id ≡ Some result.word }
+        ensures premises { premises_at self.now.lines id ≡ Some result.premises.now }
+        ensures below { SpeaksBelow (acts_count self.now.lines) (expr_count self.now.lines) result.statement.now }
+        ensures before { AreBelow id result.premises.now }
+    {
+        match &self.lines[self.knowns[id]] {
+            Line::Known {
+                statement,
+                word,
+                premises,
+                ..
+            } => Known {
+                statement,
+                word: *word,
+                premises,
+            },
+            _ => unreachable!(),
+        }
+    }
+
+    /// Whether the set is a formula or a constant, or the negation of one.
+    pub fn is_literal(&self, id: usize) -> bool
+        requires { id < expr_count self.now.lines }
+        ensures { IsTrue result ↔ IsLiteral self.now.lines id }
+    {
+        match self.expr(id) {
+            Expr::Not(inner) => is_plain(self.expr(*inner)),
+            expr => is_plain(expr),
+        }
+    }
+}
+
+/// What a `k` line says.
+#[derive(Clone, Copy)]
+struct Known<'a> {
+    statement: &'a Statement,
+    word: Word,
+    premises: &'a Premises,
+}
+
+/// Puts the line last, and its place last among the places of its letter.
+fn push_both(lines: &mut Vec<Line>, places: &mut Vec<usize>, line: Line) -> Result<(), AllocError>
+    ensures ok_line { OnOk result (lines.new.items ≡ lines.old.items ++ line ∷ []) }
+    ensures ok_place { OnOk result (places.new.items ≡ places.old.items ++ vec_len lines.old ∷ []) }
+    ensures err_line { OnErr result (lines.new.items ≡ lines.old.items) }
+    ensures err_place { OnErr result (places.new.items ≡ places.old.items) }
+{
+    places.push(lines.len())?;
+    match lines.push(line) {
+        Ok(()) => Ok(()),
+        Err(_) => {
+            let _ = places.pop();
+            Err(AllocError)
+        }
+    }
+}
+
+/// Whether it is a formula or a constant.
+fn is_plain(expr: &Expr) -> bool
+    ensures { IsTrue result ↔ IsPlainExpr expr.now }
+{
+    match expr {
+        Expr::Constant(_) | Expr::Horn(_) | Expr::Two(_) | Expr::States(_) | Expr::Node(_) => true,
+        Expr::Not(_) | Expr::And(..) | Expr::Or(..) | Expr::After(..) | Expr::Before(..) => false,
+    }
+}
+
+#[cfg(test)]
+mod tests {
+    use super::*;
+    use crate::action_list::ActionList;
+    use crate::line::Constant;
+    use hv_sets::Clauses;
+    use std::test::Fail;
+
+    #[test]
+    fn finds_lines(rt: HostRuntime) -> Result<(), Fail> {
+        let mut table = Table::new(rt.alloc());
+        table.push(Line::Expr {
+            id: 0,
+            expr: Expr::Constant(Constant::Goal),
+        })?;
+        table.push(Line::Acts {
+            id: 0,
+            acts: Acts::All,
+        })?;
+        table.push(Line::Expr {
+            id: 1,
+            expr: Expr::After(0, 0),
+        })?;
+        table.push(Line::Known {
+            id: 0,
+            statement: Statement::Sub(1, 0),
+            word: Word::B2,
+            premises: Premises::none(),
+        })?;
+        assert_eq!(rt; table.len(), 4);
+        let Line::Acts { .. } = table.line(1) else {
+            panic!(&rt; "line 1");
+        };
+        let Expr::After(0, 0) = table.expr(1) else {
+            panic!(&rt; "e 1");
+        };
+        assert_eq!(rt; *table.statement(0), Statement::Sub(1, 0));
+        assert_eq!(rt; table.word(0), Word::B2);
+        assert_eq!(rt; table.premises(0).len(), 0);
+        Ok(())
+    }
+
+    #[test]
+    fn tells_literals(rt: HostRuntime) -> Result<(), Fail> {
+        let mut table = Table::new(rt.alloc());
+        let constant = Expr::Constant(Constant::Start);
+        let formula = Expr::Horn(Clauses::new(rt.alloc()));
+        table.push(Line::Expr {
+            id: 0,
+            expr: constant,
+        })?;
+        table.push(Line::Expr {
+            id: 1,
+            expr: formula,
+        })?;
+        table.push(Line::Expr {
+            id: 2,
+            expr: Expr::Not(0),
+        })?;
+        table.push(Line::Expr {
+            id: 3,
+            expr: Expr::Not(2),
+        })?;
+        table.push(Line::Expr {
+            id: 4,
+            expr: Expr::Or(0, 1),
+        })?;
+        table.push(Line::Expr {
+            id: 5,
+            expr: Expr::Not(4),
+        })?;
+        let literals = [true, true, true, false, false, false];
+        for (id, want) in literals.into_iter().enumerate() {
+            assert!(rt; id < table.expr_count());
+            assert_eq!(rt; table.is_literal(id), want, "e {id}");
+        }
+        Ok(())
+    }
+
+    #[test]
+    fn lists_actions(rt: HostRuntime) -> Result<(), Fail> {
+        let mut actions = ActionList::new(rt.alloc());
+        actions.push(3)?;
+        assert_eq!(rt; actions.as_slice(), [3].as_slice());
+        Ok(())
+    }
+}
