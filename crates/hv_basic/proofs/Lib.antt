@@ -1,0 +1,6 @@
+mod Anchors
+mod Members
+mod Marked
+mod Kept
+mod Led
+mod Decided

@@ -1,0 +1,33 @@
+-- Flags for the actions of an action set.
+use Rattle.std.specs.Prelude.{◌≡◌, ◌<◌, ◌||◌, ℕ, Bool, true, false, List, length, replicate, slice_index_or, slice_set, nat_eq}
+use Rattle.std.specs.List.{list_any}
+use Rattle.hv_lines.specs.Meaning.{acts_of}
+use Rattle.hv_lines.specs.declared.line.Acts.{Acts}
+use Rattle.hv_lines.specs.declared.line.Acts.TheVariants as A
+use Rattle.hv_lines.specs.declared.line.Line.{Line}
+
+-- the flag at this place; there is none past the end
+abbrev pub flag_at : List Bool → ℕ → Bool
+flag_at flags place = slice_index_or flags place false
+
+-- one flag for each of so many actions, true for those of the action set
+pub record AreFlagsOf (lines : List Line) (acts actions : ℕ) (flags : List Bool) : Type 0 where
+  pub each : length flags ≡ actions
+  pub true_for : (number : ℕ) → number < actions → flag_at flags number ≡ acts_of lines acts number
+
+-- some flag is set
+abbrev pub HasFlag : List Bool → Type 0
+HasFlag flags = (place : ℕ) × (flag_at flags place ≡ true)
+
+-- flags and wanted action sets after an action set was looked at: where it is all actions every flag is set, where it lists some
+-- those are set, and where it is made of two others these are wanted besides
+abbrev pub Marks : Acts → List Bool → List Bool → List Bool → List Bool → Type 0
+Marks A.All flags wanted new_flags new_wanted =
+    (new_flags ≡ replicate (length flags) true) × (new_wanted ≡ wanted)
+Marks (A.List listed) flags wanted new_flags new_wanted =
+    (length new_flags ≡ length flags)
+    × ((number : ℕ) → number < length flags
+    → flag_at new_flags number ≡ flag_at flags number || list_any (λ n. nat_eq n number) listed)
+    × (new_wanted ≡ wanted)
+Marks (A.Both left right) flags wanted new_flags new_wanted =
+    (new_flags ≡ flags) × (new_wanted ≡ slice_set (slice_set wanted left true) right true)
