@@ -1,0 +1,7 @@
+pub mod Counted
+pub mod Decoding
+pub mod Joined
+pub mod LineFields
+pub mod LineForms
+pub mod Rising
+pub mod TokenLists

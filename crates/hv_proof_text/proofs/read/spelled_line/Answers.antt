@@ -1,0 +1,21 @@
+use Rattle.std.proofs.Common.{MatchOption}
+use Rattle.std.proofs.lemmas.Result.{IfOk-weaker}
+use Rattle.hv_lines.specs.Spelling.{Spells}
+use Rattle.hv_lines.specs.declared.line.Line.{Line}
+use Rattle.hv_proof_text.specs.Tokens.{SpellsTokens, tokens_of}
+use Rattle.hv_proof_text.proofs.LineFields.{found_in_bytes, tokens_from_bytes}
+use Rattle.hv_proof_text.proofs.read.spelled_line.Goals as goal
+
+pub returns-in-Some : goal.returns-in-Some
+returns-in-Some c =
+    let are = rw c.in-Some.is at c.in_ok-tokens.ensures in
+    let shown = c.deref.result.now in
+    IfOk-weaker c.line_of.result
+    (λ found. MatchOption found ((line : Line) → SpellsTokens line shown → ⊥) (λ line. SpellsTokens line shown))
+    (λ found. MatchOption found ((line : Line) → Spells line c.args.bytes.now → ⊥) (λ line. Spells line c.args.bytes.now))
+    (λ found. found_in_bytes c.in-Some.tokens.items shown c.args.bytes.now c.deref.ensures.value are found) c.line_of.ensures
+
+pub returns-in-None : goal.returns-in-None
+returns-in-None c = λ line spells.
+    let never = rw c.in-None.is at c.in_ok-tokens.ensures in
+    never (tokens_of line) (tokens_from_bytes line c.args.bytes.now spells)

@@ -1,0 +1,8 @@
+use Rattle.std.proofs.Common.{◌≡◌, take}
+use Rattle.std.specs.List.{flat_map}
+use Rattle.hv_lines.specs.Spelling.{clause_fields}
+use Rattle.hv_proof_text.specs.Writing.{with_fields}
+use Rattle.hv_proof_text.proofs.write.push_clauses.Given as goal
+
+abbrev pub invariant-loop-clause : goal.invariant-loop-clause
+invariant-loop-clause l = l.text ≡ with_fields l.fn.text (flat_map clause_fields (take l.clause-index l.items))

@@ -1,0 +1,17 @@
+//! Proof texts: lines to bytes and back.
+#![tactic(auto)]
+
+mod fields;
+mod forms;
+mod laws;
+mod lists;
+mod read;
+mod shapes;
+#[cfg(test)]
+mod tests;
+mod token;
+mod write;
+
+pub use laws::one_line;
+pub use read::{LineError, read_line};
+pub use write::{write_line, write_proof};

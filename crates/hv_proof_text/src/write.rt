@@ -1,0 +1,271 @@
+ghost use Rattle.std.specs.Prelude.{◌≡◌, [], ◌∷◌, ◌++◌, OnOk, OnErr, IfOk, codes, decimal, map, length, reverse};
+ghost use Rattle.std.specs.List.{flat_map};
+ghost use Rattle.hv_lines.specs.Spelling.{acts_fields, clause_fields, constant_field, expr_fields, literal_field, proof_text, spelling_of, state_fields, statement_fields, word_field};
+ghost use Rattle.hv_proof_text.specs.Writing.{with_fields};
+
+use hv_bytes::Text;
+use hv_lines::{Acts, Constant, Expr, Line, Statement, Table, Word};
+use hv_sets::{Clause, Clauses, Literal, StateList};
+use hv_task::AtomList;
+use std::alloc::{AllocError, Global};
+
+/// The one spelling of the line, without LF.
+pub fn write_line(alloc: Global, line: &Line) -> Result<Text, AllocError>
+    ensures { IfOk result (λ text. text ≡ spelling_of line.now) }
+{
+    let mut text = Text::new(alloc);
+    push_line(&mut text, line)?;
+    Ok(text)
+}
+
+/// Appends the lines of the table, in the order in which they were pushed, each with an LF.
+pub fn write_proof(alloc: Global, table: &Table, out: &mut Text) -> Result<(), AllocError>
+    ensures ok { OnOk result (out.new ≡ out.old ++ proof_text (reverse table.now.lines)) }
+    ensures err { OnErr result (out.new ≡ out.old) }
+{
+    let text = lines_text(alloc, table)?;
+    out.push_bytes(text.as_bytes())
+}
+
+fn lines_text(alloc: Global, table: &Table) -> Result<Text, AllocError>
+    ensures { IfOk result (λ text. text ≡ proof_text (reverse table.now.lines)) }
+{
+    let mut text = Text::new(alloc);
+    for place in 0..table.len() {
+        push_line(&mut text, table.line(place))?;
+        text.push_bytes(b"\n")?;
+    }
+    Ok(text)
+}
+
+/// Appends the spelling of the line.
+fn push_line(text: &mut Text, line: &Line) -> Result<(), AllocError>
+    ensures { OnOk result (text.new ≡ text.old ++ spelling_of line.now) }
+{
+    match line {
+        Line::Acts { id, acts } => {
+            text.push_bytes(b"a")?;
+            push_number(text, *id as u64)?;
+            push_acts(text, acts)
+        }
+        Line::Expr { id, expr } => {
+            text.push_bytes(b"e")?;
+            push_number(text, *id as u64)?;
+            push_expr(text, expr)
+        }
+        Line::Known {
+            id,
+            statement,
+            word,
+            premises,
+        } => {
+            text.push_bytes(b"k")?;
+            push_number(text, *id as u64)?;
+            push_statement(text, statement)?;
+            push_field(text, word_text(*word))?;
+            push_ids(text, premises.as_slice())
+        }
+    }
+}
+
+fn push_acts(text: &mut Text, acts: &Acts) -> Result<(), AllocError>
+    ensures { OnOk result (text.new ≡ with_fields text.old (acts_fields acts.now)) }
+{
+    match acts {
+        Acts::All => push_field(text, b"a"),
+        Acts::List(actions) => {
+            push_field(text, b"b")?;
+            push_number(text, actions.len() as u64)?;
+            push_numbers(text, actions.as_slice())
+        }
+        Acts::Both(left, right) => push_pair(text, b"u", *left, *right),
+    }
+}
+
+fn push_expr(text: &mut Text, expr: &Expr) -> Result<(), AllocError>
+    ensures { OnOk result (text.new ≡ with_fields text.old (expr_fields expr.now)) }
+{
+    match expr {
+        Expr::Constant(constant) => {
+            push_field(text, b"c")?;
+            push_field(text, constant_text(*constant))
+        }
+        Expr::Horn(clauses) => {
+            push_field(text, b"h")?;
+            push_number(text, clauses.len() as u64)?;
+            push_clauses(text, clauses)
+        }
+        Expr::Two(clauses) => {
+            push_field(text, b"t")?;
+            push_number(text, clauses.len() as u64)?;
+            push_clauses(text, clauses)
+        }
+        Expr::States(states) => {
+            push_field(text, b"x")?;
+            push_number(text, states.len() as u64)?;
+            push_states(text, states)
+        }
+        Expr::Node(node) => push_one(text, b"b", *node as usize),
+        Expr::Not(set) => push_one(text, b"n", *set),
+        Expr::And(left, right) => push_pair(text, b"i", *left, *right),
+        Expr::Or(left, right) => push_pair(text, b"u", *left, *right),
+        Expr::After(set, acts) => push_pair(text, b"p", *set, *acts),
+        Expr::Before(set, acts) => push_pair(text, b"r", *set, *acts),
+    }
+}
+
+fn push_statement(text: &mut Text, statement: &Statement) -> Result<(), AllocError>
+    ensures { OnOk result (text.new ≡ with_fields text.old (statement_fields statement.now)) }
+{
+    match statement {
+        Statement::Sub(left, right) => push_pair(text, b"s", *left, *right),
+        Statement::ActSub(left, right) => push_pair(text, b"a", *left, *right),
+        Statement::Dead(set) => push_one(text, b"d", *set),
+        Statement::Unsolvable => push_field(text, b"u"),
+    }
+}
+
+fn push_clauses(text: &mut Text, clauses: &Clauses) -> Result<(), AllocError>
+    ensures { OnOk result (text.new ≡ with_fields text.old (flat_map clause_fields clauses.now)) }
+{
+    let items = clauses.as_slice();
+    for clause in items {
+        push_clause(text, clause)?;
+    }
+    Ok(())
+}
+
+fn push_clause(text: &mut Text, clause: &Clause) -> Result<(), AllocError>
+    ensures { OnOk result (text.new ≡ with_fields text.old (clause_fields clause.now)) }
+{
+    let items = clause.as_slice();
+    for literal in items {
+        push_literal(text, literal)?;
+    }
+    push_field(text, b"0")
+}
+
+fn push_literal(text: &mut Text, literal: &Literal) -> Result<(), AllocError>
+    ensures { OnOk result (text.new ≡ text.old ++ 32 ∷ literal_field literal.now) }
+{
+    let number = u64::from(literal.atom) + 1;
+    if literal.positive {
+        push_number(text, number)
+    } else {
+        text.push_bytes(b" -")?;
+        text.push_number(number)
+    }
+}
+
+fn push_states(text: &mut Text, states: &StateList) -> Result<(), AllocError>
+    ensures { OnOk result (text.new ≡ with_fields text.old (flat_map state_fields states.now)) }
+{
+    let items = states.as_slice();
+    for state in items {
+        push_state(text, state)?;
+    }
+    Ok(())
+}
+
+fn push_state(text: &mut Text, state: &AtomList) -> Result<(), AllocError>
+    ensures { OnOk result (text.new ≡ with_fields text.old (state_fields state.now)) }
+{
+    for place in 0..state.len() {
+        push_number(text, state.get(place) as u64)?;
+    }
+    push_field(text, b";")
+}
+
+fn push_numbers(text: &mut Text, numbers: &[u32]) -> Result<(), AllocError>
+    ensures { OnOk result (text.new ≡ with_fields text.old (map decimal numbers.now)) }
+{
+    for number in numbers {
+        push_number(text, u64::from(*number))?;
+    }
+    Ok(())
+}
+
+fn push_ids(text: &mut Text, ids: &[usize]) -> Result<(), AllocError>
+    ensures { OnOk result (text.new ≡ with_fields text.old (map decimal ids.now)) }
+{
+    for id in ids {
+        push_number(text, *id as u64)?;
+    }
+    Ok(())
+}
+
+/// A letter and an identifier.
+fn push_one(text: &mut Text, letter: &[u8], id: usize) -> Result<(), AllocError>
+    ensures { OnOk result (text.new ≡ with_fields text.old (letter.now ∷ decimal id ∷ [])) }
+{
+    push_field(text, letter)?;
+    push_number(text, id as u64)
+}
+
+/// A letter and two identifiers.
+fn push_pair(text: &mut Text, letter: &[u8], left: usize, right: usize) -> Result<(), AllocError>
+    ensures { OnOk result (text.new ≡ with_fields text.old (letter.now ∷ decimal left ∷ decimal right ∷ [])) }
+{
+    push_field(text, letter)?;
+    push_number(text, left as u64)?;
+    push_number(text, right as u64)
+}
+
+fn push_field(text: &mut Text, field: &[u8]) -> Result<(), AllocError>
+    ensures { OnOk result (text.new ≡ text.old ++ 32 ∷ field.now) }
+{
+    text.push_bytes(b" ")?;
+    text.push_bytes(field)
+}
+
+fn push_number(text: &mut Text, number: u64) -> Result<(), AllocError>
+    ensures { OnOk result (text.new ≡ text.old ++ 32 ∷ decimal number) }
+{
+    text.push_bytes(b" ")?;
+    text.push_number(number)
+}
+
+fn constant_text(constant: Constant) -> &'static [u8]
+    ensures { result.now ≡ constant_field constant }
+{
+    match constant {
+        Constant::Empty => b"e",
+        Constant::Start => b"i",
+        Constant::Goal => b"g",
+    }
+}
+
+fn word_text(word: Word) -> &'static [u8]
+    ensures { result.now ≡ word_field word }
+{
+    match word {
+        Word::B1 => b"b1",
+        Word::B2 => b"b2",
+        Word::B3 => b"b3",
+        Word::B4 => b"b4",
+        Word::B5 => b"b5",
+        Word::Ed => b"ed",
+        Word::Ud => b"ud",
+        Word::Sd => b"sd",
+        Word::Pg => b"pg",
+        Word::Pi => b"pi",
+        Word::Rg => b"rg",
+        Word::Ri => b"ri",
+        Word::Ci => b"ci",
+        Word::Cg => b"cg",
+        Word::Ur => b"ur",
+        Word::Ul => b"ul",
+        Word::Ir => b"ir",
+        Word::Il => b"il",
+        Word::Di => b"di",
+        Word::Su => b"su",
+        Word::Si => b"si",
+        Word::St => b"st",
+        Word::At => b"at",
+        Word::Au => b"au",
+        Word::Pt => b"pt",
+        Word::Pu => b"pu",
+        Word::Pr => b"pr",
+        Word::Rp => b"rp",
+    }
+}
