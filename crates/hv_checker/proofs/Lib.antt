@@ -1,0 +1,2 @@
+pub mod GoodLines
+mod Standing

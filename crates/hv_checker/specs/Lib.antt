@@ -1,0 +1,4 @@
+pub mod Texts
+pub mod Heard
+pub mod Stopping
+pub mod Stands

@@ -1,0 +1,189 @@
+ghost use Rattle.std.specs.Prelude.{◌≡◌, ◌≢◌, ◌<◌, ◌≤◌, ◌+◌, ◌^◌, ◌↔◌, ℕ, List, [], ◌∷◌, ◌++◌, Some, None, MatchOption, IfOk, OnOk, OnErr, IsTrue, option_copied};
+ghost use Rattle.hv_task.specs.Plan.{IsUnsolvable};
+ghost use Rattle.hv_lines.specs.Meaning.{AllTrue};
+ghost use Rattle.hv_lines.specs.Good.{AreGood};
+ghost use Rattle.hv_lines.specs.Judged.{Concludes, LineText};
+ghost use Rattle.hv_checker.specs.Stopping.{IsRefusal, stop_after};
+ghost use Rattle.hv_checker.specs.declared.stop.Stop.TheVariants as S;
+
+use crate::judge::{Bench, accept};
+use crate::piece::{End, Fed, Piece};
+use crate::stop::Stop;
+use hv_lines::{Diagrams, Reason, Statement, Table};
+use hv_task::Task;
+use std::alloc::{AllocError, Global};
+use std::marker::Model;
+
+/// Judges the lines of a proof one after another, for a task, the nodes of a node file and a budget. It keeps the accepted
+/// lines, the number of pieces that it was fed, and the refusal or want of memory that it met.
+#[derive(Drop)]
+pub struct Checker<'a> {
+    alloc: Global,
+    task: &'a Task,
+    diagrams: &'a Diagrams,
+    budget: u64,
+    table: Table,
+    fed: u64,
+    stop: Stop,
+}
+
+impl<'a> Model for Checker<'a> {
+    ghost use Rattle.hv_lines.specs.Good.{AreGood};
+    ghost use Rattle.hv_checker.specs.Stands.{CheckerState};
+
+    ghost Value = { CheckerState };
+
+    ghost view = { λ c. record { task = c.task.now; nodes = c.diagrams.now.nodes; budget = c.budget; lines = c.table.lines; fed = c.fed; stop = c.stop } };
+
+    ghost invariant = { λ c. AreGood c.task.now c.diagrams.now.nodes c.budget c.table.lines };
+}
+
+impl<'a> Checker<'a> {
+    ghost use Rattle.hv_checker.specs.Heard.{IsAccepted};
+    ghost use Rattle.hv_checker.specs.Stands.{IsEnd, SameTask, Stands};
+    ghost use Rattle.hv_checker.specs.Texts.{text_of};
+
+    /// A checker that was fed nothing. The budget bounds the cost of each query of a basic statement; it is from 1 to
+    /// 16,777,216.
+    pub fn new(
+        alloc: Global,
+        task: &'a Task,
+        diagrams: &'a Diagrams,
+        budget: u64,
+    ) -> Result<Checker<'a>, AllocError>
+        requires some { 0 < budget }
+        requires small { budget ≤ 16777216 }
+        ensures task { IfOk result (λ c. c.task ≡ task.now) }
+        ensures nodes { IfOk result (λ c. c.nodes ≡ diagrams.now.nodes) }
+        ensures budget { IfOk result (λ c. c.budget ≡ budget) }
+        ensures lines { IfOk result (λ c. c.lines ≡ []) }
+        ensures fed { IfOk result (λ c. c.fed ≡ 0) }
+        ensures stop { IfOk result (λ c. c.stop ≡ S.Going) }
+        ensures stands { IfOk result (λ c. Stands c []) }
+    {
+        Ok(Checker {
+            alloc,
+            task,
+            diagrams,
+            budget,
+            table: Table::new(alloc),
+            fed: 0,
+            stop: Stop::Going,
+        })
+    }
+
+    /// How many pieces were fed, up to and including the first that was refused or met want of memory.
+    pub fn fed(&self) -> u64
+        ensures { result ≡ self.now.fed }
+    {
+        self.fed
+    }
+
+    /// Judges one more piece. After a refusal and after want of memory the accepted lines are as before the call, and every
+    /// later piece is answered by `Stopped`.
+    pub fn feed(&mut self, piece: Piece<'_>) -> Result<Fed, AllocError>
+        requires { self.old.fed < 2 ^ 62 }
+        ensures same { SameTask self.old self.new }
+        ensures answers { self.old.stop ≡ S.Going → IfOk result (λ fed. IsAccepted self.old.task self.old.nodes self.old.budget self.old.lines self.new.lines (text_of piece.entry) fed) }
+        ensures stop { self.old.stop ≡ S.Going → IfOk result (λ fed. self.new.stop ≡ stop_after fed) }
+        ensures stopped { self.old.stop ≢ S.Going → (result ≡ Ok Fed.Stopped) × (self.new ≡ self.old) }
+        ensures counted { self.old.stop ≡ S.Going → self.new.fed ≡ self.old.fed + 1 }
+        ensures few { self.new.fed ≤ self.old.fed + 1 }
+        ensures memory { OnErr result (self.new.stop ≡ S.Memory) }
+        ensures lines { OnErr result (self.new.lines ≡ self.old.lines) }
+        ensures stands { OnOk result ((pieces : List LineText) → Stands self.old pieces → Stands self.new (pieces ++ text_of piece.entry ∷ [])) }
+    {
+        if !is_going(&self.stop) {
+            return Ok(Fed::Stopped);
+        }
+        self.fed += 1;
+        let bench = Bench {
+            alloc: self.alloc,
+            task: self.task,
+            diagrams: self.diagrams,
+            budget: self.budget,
+        };
+        match accept(&bench, &mut self.table, piece) {
+            Ok(fed) => {
+                self.stop = stop_after(fed);
+                Ok(fed)
+            }
+            Err(error) => {
+                self.stop = Stop::Memory;
+                Err(error)
+            }
+        }
+    }
+
+    /// What is said of the pieces fed so far as a whole proof.
+    pub fn end(&self) -> End
+        ensures judged { (pieces : List LineText) → Stands self.now pieces → IsEnd self.now pieces result }
+        ensures sound { result ≡ End.Unsolvable → IsUnsolvable self.now.task }
+        ensures concludes { result ≡ End.Unsolvable → (self.now.stop ≡ S.Going) × Concludes self.now.lines }
+        ensures refused { (place : ℕ) → result ≡ End.Refused place → (place ≡ self.now.fed) × IsRefusal self.now.stop }
+        ensures silent { result ≡ End.NoConclusion → (self.now.stop ≡ S.Going) × (Concludes self.now.lines → ⊥) }
+        ensures memory { (result ≡ End.Memory) ↔ (self.now.stop ≡ S.Memory) }
+    {
+        match self.stop {
+            Stop::Refused(_) => End::Refused(self.fed),
+            Stop::Memory => End::Memory,
+            Stop::Going => {
+                if concludes(&self.table) {
+                    End::Unsolvable
+                } else {
+                    End::NoConclusion
+                }
+            }
+        }
+    }
+
+    /// Why the last piece was refused, where one was.
+    pub fn reason(&self) -> Option<&Reason>
+        ensures { MatchOption (option_copied result) ((reason : Reason) → self.now.stop ≢ S.Refused reason) (λ reason. self.now.stop ≡ S.Refused reason) }
+    {
+        match &self.stop {
+            Stop::Refused(reason) => Some(reason),
+            _ => None,
+        }
+    }
+
+    /// The accepted lines.
+    pub fn table(&self) -> &Table
+        ensures lines { result.now.lines ≡ self.now.lines }
+        ensures good { AreGood self.now.task self.now.nodes self.now.budget self.now.lines }
+        ensures sound { AllTrue self.now.task self.now.nodes self.now.lines }
+    {
+        &self.table
+    }
+}
+
+fn is_going(stop: &Stop) -> bool
+    ensures { IsTrue result ↔ (stop.now ≡ S.Going) }
+{
+    match stop {
+        Stop::Going => true,
+        Stop::Refused(_) | Stop::Memory => false,
+    }
+}
+
+/// Whether a checker goes on after this answer.
+fn stop_after(fed: Fed) -> Stop
+    ensures { result ≡ stop_after fed }
+{
+    match fed {
+        Fed::Refused(reason) => Stop::Refused(reason),
+        Fed::Skipped | Fed::Good | Fed::Stopped => Stop::Going,
+    }
+}
+
+/// Whether some line says that the task is unsolvable.
+fn concludes(table: &Table) -> bool
+    ensures { IsTrue result ↔ Concludes table.now.lines }
+{
+    for premise in 0..table.known_count() {
+        if let Statement::Unsolvable = table.statement(premise) {
+            return true;
+        }
+    }
+    false
+}

@@ -1,0 +1,15 @@
+//! Judges a proof line by line.
+#![tactic(auto)]
+
+pub mod checker;
+mod conditions;
+mod judge;
+pub mod piece;
+pub mod stop;
+#[cfg(test)]
+mod tests;
+
+pub use checker::Checker;
+pub use hv_lines::Reason;
+pub use piece::{End, Fed, Piece};
+pub use stop::Stop;

@@ -1,0 +1,36 @@
+use hv_lines::Reason;
+
+/// A line of a proof, as it is fed to a checker.
+#[derive(Clone, Copy)]
+pub enum Piece<'b> {
+    /// The bytes of the line without its LF.
+    Line(&'b [u8]),
+    /// A line that is longer than a line may be, or ends past the end of what is read.
+    Long,
+}
+
+/// What a checker says of a piece.
+#[derive(Clone, Copy, Debug, PartialEq, Eq)]
+pub enum Fed {
+    /// An empty line or a comment.
+    Skipped,
+    /// The line is good, and was accepted.
+    Good,
+    /// The line isn't good, for this reason. Every later piece is answered by `Stopped`.
+    Refused(Reason),
+    /// An earlier piece was refused or met want of memory; nothing was done.
+    Stopped,
+}
+
+/// What a checker says of all pieces.
+#[derive(Clone, Copy, Debug, PartialEq, Eq)]
+pub enum End {
+    /// Every line is good, and one says that the task is unsolvable.
+    Unsolvable,
+    /// The piece with this number, counted from 1, is the first that isn't good; `Checker::reason` says why.
+    Refused(u64),
+    /// Every line is good, and none says that the task is unsolvable.
+    NoConclusion,
+    /// A piece met want of memory.
+    Memory,
+}
