@@ -1,0 +1,7 @@
+use Rattle.hv_command.proofs.SoundAnswers.{sound_told}
+use Rattle.hv_command.specs.Words.{job_of}
+use Rattle.hv_command.proofs.top.run.Goals as goal
+
+pub returns-in-Ok-send-clause-sound : goal.returns-in-Ok-send-clause-sound
+returns-in-Ok-send-clause-sound g c = λ answered.
+    sound_told (job_of c.args.words.now) (g.S.Shelf.held c.args.shelf.now) c.in-Ok.reply.status c.in-Ok.reply.text c.in-Ok.ensures.answer

@@ -1,0 +1,30 @@
+ghost use Rattle.std.specs.Prelude.{◌≡◌};
+ghost use Rattle.hv_command.specs.Replies.{status_number};
+
+/// How a run ended.
+#[derive(Clone, Copy, Debug, PartialEq, Eq)]
+pub enum Status {
+    /// The job's yes.
+    Done,
+    /// The job's no, with the line or the words.
+    Refused,
+    /// The words are no job.
+    Usage,
+    /// A text isn't in its grammar, or passes a limit.
+    BadInput,
+    /// A file can't be opened or read.
+    ReadFault,
+    /// The sink takes no more.
+    WriteFault,
+    /// Memory was refused.
+    Memory,
+}
+
+impl Status {
+    /// The exit status of the program, from 0 to 6.
+    pub fn number(self) -> u8
+        ensures { result ≡ status_number self }
+    {
+        self as u8
+    }
+}

@@ -1,0 +1,101 @@
+//! The whole product as one call.
+
+ghost use Rattle.std.specs.Prelude.{◌≡◌, ◌≤◌, ◌⊎◌, ℕ, List, Some, None, IfOk, IsErrOf, IsTrue};
+ghost use Rattle.std.specs.Io.KnownBytes.{Appends, Keeps};
+ghost use Rattle.hv_bytes.specs.Devices.{AppendsFront, Rose};
+ghost use Rattle.hv_command.specs.Answer.{AnswersTold, IsSoundTold};
+ghost use Rattle.hv_command.specs.Replies.{IsAnswered, IsJobStatus};
+ghost use Rattle.hv_command.specs.Words.{HasName, job_of};
+ghost use Rattle.hv_command.specs.declared.status.Status.{Status as StatusOf};
+
+use crate::checking::check;
+use crate::job::{Job, read_job};
+use crate::reply::{Reply, fixed};
+use crate::status::Status;
+use crate::stop::Stop;
+use crate::words::Words;
+use hv_bytes::{Shelf, Sink, send};
+use std::alloc::Global;
+
+/// Does what the words ask for: reads the files that they name from the shelf, and writes the answer to the sink. The whole
+/// answer stands in memory before its first byte is written.
+pub fn run<S: Shelf, K: Sink>(alloc: Global, words: &Words, shelf: &mut S, out: &mut K) -> Status
+    requires { (name : List ℕ) → HasName (job_of words.now) name → IsTrue (S.allows shelf.old name) }
+
+    // the shelf still holds and allows the same, and no count falls
+    ensures held { S.held shelf.new ≡ S.held shelf.old }
+    ensures allows { S.allows shelf.new ≡ S.allows shelf.old }
+    ensures later { S.faults shelf.old ≤ S.faults shelf.new }
+    ensures later_out { K.faults out.old ≤ K.faults out.new }
+
+    // the answer of the job, and that it was written
+    ensures answer { IsAnswered result → (text : List ℕ) × AnswersTold (job_of words.now) (S.held shelf.old) result text × Appends (K.taken out.old) (K.taken out.new) text }
+    // what it says is true
+    ensures sound { IsAnswered result → IsSoundTold (job_of words.now) (S.held shelf.old) result }
+
+    // the usage line, exactly where the words are no job
+    ensures usage { result ≡ Status.Usage → job_of words.now ≡ None }
+    ensures no_job { job_of words.now ≡ None → (result ≡ Status.Usage) ⊎ (result ≡ Status.WriteFault) ⊎ (result ≡ Status.Memory) }
+
+    // faults of the shelf
+    ensures read_fault { result ≡ Status.ReadFault → Rose (S.faults shelf.old) (S.faults shelf.new) }
+    ensures read_nothing { result ≡ Status.ReadFault → Keeps (K.taken out.old) (K.taken out.new) }
+
+    // faults of the sink
+    ensures write_fault { result ≡ Status.WriteFault → Rose (K.faults out.old) (K.faults out.new) }
+    ensures write_front { result ≡ Status.WriteFault → (status : StatusOf) × (text : List ℕ) × IsAnswered status × AnswersTold (job_of words.now) (S.held shelf.old) status text × AppendsFront (K.taken out.old) (K.taken out.new) text }
+
+    // want of memory
+    ensures memory { result ≡ Status.Memory → Keeps (K.taken out.old) (K.taken out.new) }
+{
+    match answer(alloc, words, shelf) {
+        Ok(reply) => match send(out, reply.text.as_bytes()) {
+            Ok(()) => reply.status,
+            Err(_) => Status::WriteFault,
+        },
+        Err(Stop::ReadFault) => Status::ReadFault,
+        Err(Stop::Memory) => Status::Memory,
+    }
+}
+
+/// The answer of the job that the words name.
+fn answer<S: Shelf>(alloc: Global, words: &Words, shelf: &mut S) -> Result<Reply, Stop>
+    requires { (name : List ℕ) → HasName (job_of words.now) name → IsTrue (S.allows shelf.old name) }
+    ensures answer { IfOk result (λ r. AnswersTold (job_of words.now) (S.held shelf.old) r.status r.text) }
+    ensures answered { IfOk result (λ r. IsAnswered r.status) }
+    ensures usage { IfOk result (λ r. r.status ≡ Status.Usage → job_of words.now ≡ None) }
+    ensures no_job { IfOk result (λ r. job_of words.now ≡ None → r.status ≡ Status.Usage) }
+    ensures a_job { IsErrOf result Stop.ReadFault → job_of words.now ≡ None → ⊥ }
+    ensures held { S.held shelf.new ≡ S.held shelf.old }
+    ensures allows { S.allows shelf.new ≡ S.allows shelf.old }
+    ensures later { S.faults shelf.old ≤ S.faults shelf.new }
+    ensures cause { IsErrOf result Stop.ReadFault → Rose (S.faults shelf.old) (S.faults shelf.new) }
+{
+    match read_job(alloc, words)? {
+        None => {
+            let usage = fixed(alloc, Status::Usage, b"usage: helve COMMAND ARGUMENTS")?;
+            Ok(usage)
+        }
+        Some(job) => {
+            let reply = do_job(alloc, shelf, &job)?;
+            Ok(reply)
+        }
+    }
+}
+
+fn do_job<S: Shelf>(alloc: Global, shelf: &mut S, job: &Job) -> Result<Reply, Stop>
+    requires { (name : List ℕ) → HasName (Some job.now) name → IsTrue (S.allows shelf.old name) }
+    ensures answer { IfOk result (λ r. AnswersTold (Some job.now) (S.held shelf.old) r.status r.text) }
+    ensures job_status { IfOk result (λ r. IsJobStatus r.status) }
+    ensures held { S.held shelf.new ≡ S.held shelf.old }
+    ensures allows { S.allows shelf.new ≡ S.allows shelf.old }
+    ensures later { S.faults shelf.old ≤ S.faults shelf.new }
+    ensures cause { IsErrOf result Stop.ReadFault → Rose (S.faults shelf.old) (S.faults shelf.new) }
+{
+    match job {
+        Job::Check { task, proof } => {
+            let reply = check(alloc, shelf, task, proof)?;
+            Ok(reply)
+        }
+    }
+}
