@@ -1,14 +1,32 @@
-//! What families of state sets share: literals, clauses, listed states.
+//! What families of state sets share: literals, clauses, listed states, cubes, queries, and the traits with their laws.
 #![tactic(auto)]
 
 pub mod clause;
 pub mod clauses;
+pub mod cube;
+pub mod cursor;
+pub mod family;
+pub mod finding;
 pub mod literal;
+pub mod operand;
+pub mod operands;
+pub mod query;
+pub mod scratch;
 pub mod state_list;
+pub mod state_set;
 #[cfg(test)]
 mod tests;
 
 pub use clause::Clause;
 pub use clauses::Clauses;
+pub use cube::Cube;
+pub use cursor::{Cursor, Step};
+pub use family::Family;
+pub use finding::Finding;
 pub use literal::Literal;
+pub use operand::{Operand, Which};
+pub use operands::Operands;
+pub use query::Query;
+pub use scratch::Scratch;
 pub use state_list::StateList;
+pub use state_set::{Covering, Inside, Outside, StateSet};

@@ -1,4 +1,4 @@
-ghost use Rattle.std.specs.Prelude.{◌≡◌, ◌<◌, ◌↔◌, [], length, IsTrue, OnOk, OnErr, slice_get};
+ghost use Rattle.std.specs.Prelude.{◌≡◌, ◌<◌, ◌↔◌, [], length, IsTrue, IfOk, OnOk, OnErr, slice_get};
 ghost use Rattle.std.specs.List.{Contains};
 ghost use Rattle.std.specs.List.Sorted.{IsStrictlyIncreasing};
 ghost use Rattle.hv_task.specs.AtomList.{Inserts, IsPlaceOf};
@@ -31,6 +31,15 @@ impl AtomList {
         AtomList {
             atoms: Vec::new(alloc),
         }
+    }
+
+    /// Another list of the same atoms.
+    pub fn copy(&self, alloc: Global) -> Result<AtomList, AllocError>
+        ensures { IfOk result (λ list. list ≡ self.now) }
+    {
+        Ok(AtomList {
+            atoms: Vec::from_slice(alloc, self.atoms.as_slice())?,
+        })
     }
 
     /// Puts an atom in. One that is there already changes nothing.

@@ -1,4 +1,4 @@
-ghost use Rattle.std.specs.Prelude.{◌≡◌, ◌<◌, ◌↔◌, [], length, IsTrue, IfOk, OnOk, slice_set};
+ghost use Rattle.std.specs.Prelude.{◌≡◌, ◌<◌, ◌↔◌, ℕ, [], length, IsTrue, IfOk, OnOk, OnErr, slice_set};
 ghost use Rattle.std.proofs.Common.{ap};
 ghost use Rattle.std.specs.Cmp.{bool_eq_equiv, booleans_Decides, partial_equiv_from_equiv};
 ghost use Rattle.std.proofs.Math.Bool.{beq};
@@ -44,6 +44,16 @@ impl State {
         ensures { result ≡ length self.now }
     {
         self.flags.len() as u32
+    }
+
+    /// Makes it a state of a task with so many atoms: each of them that it held it still holds, and no other.
+    pub fn resize(&mut self, atoms: u32) -> Result<(), AllocError>
+        ensures atoms { OnOk result (length self.new ≡ atoms) }
+        ensures held { OnOk result ((p : ℕ) → p < atoms → has_atom self.new p ≡ has_atom self.old p) }
+        ensures err { OnErr result (self.new ≡ self.old) }
+    {
+        self.flags.resize(atoms as usize, false)?;
+        Ok(())
     }
 
     /// Whether it holds the atom.

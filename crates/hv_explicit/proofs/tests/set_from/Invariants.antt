@@ -1,0 +1,5 @@
+use Rattle.hv_explicit.specs.Listing.{AreStates}
+use Rattle.hv_explicit.proofs.tests.set_from.Given as goal
+
+abbrev pub invariant-loop-code : goal.invariant-loop-code
+invariant-loop-code l = AreStates 2 l.states

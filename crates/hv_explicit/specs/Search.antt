@@ -1,0 +1,31 @@
+-- The search through listed states for a counterexample to a query.
+use Rattle.std.specs.Prelude.{◌≡◌, ◌<◌, ◌≤◌, ℕ, Bool, true, false, List, length, if◌then◌else◌, IfSome}
+use Rattle.std.specs.List.{All}
+use Rattle.hv_task.specs.State.{state_of}
+use Rattle.hv_task.specs.Strips.{Strips, atoms, start_state}
+use Rattle.hv_sets.specs.declared.finding.Finding.{Finding}
+use Rattle.hv_sets.specs.declared.finding.Finding.TheVariants as F
+use Rattle.hv_sets.specs.declared.operand.Operand.{Operand}
+use Rattle.hv_sets.specs.Query.{HasAnchor, IsReady, in_which}
+use Rattle.hv_explicit.specs.Listing.{AreOver}
+use Rattle.hv_explicit.specs.declared.search.Search.{Search}
+
+-- the state that is asked about, of those before and after an action, is in what the operand names
+abbrev pub in_either : Strips → (ℕ → List Bool → Bool) → List Bool → List Bool → Operand → Bool
+in_either task sets before after operand = in_which task sets operand.which (if operand.after then after else before)
+
+-- the exact answer of a search through listed states: that there are more than the budget, that a state of the task passes the
+-- test, or that no listed state does
+abbrev pub IsFound : Finding → ℕ → ℕ → (List Bool → Bool) → List (List ℕ) → List Bool → Type 0
+IsFound F.Over budget atoms test states found = budget < length states
+IsFound F.Clash budget atoms test states found = (length states ≤ budget) × (length found ≡ atoms) × (test found ≡ true)
+IsFound F.Empty budget atoms test states found =
+    (length states ≤ budget) × All (λ held. test (state_of atoms held) ≡ false) states
+
+-- the query can be asked of the sets, which are over the task, and the initial state is at hand
+pub record IsSearch (s : Search) : Type 0 where
+  pub over : AreOver s.sets.now (atoms s.task.now)
+  pub start : s.start.now ≡ start_state s.task.now
+  pub ready : IsReady (length s.sets.now) s.query.now
+  pub anchor : HasAnchor s.query.now
+  pub action : IfSome s.query.now.action (λ a. a < length s.task.now.actions)

@@ -1,0 +1,12 @@
+//! Explicit sets: sets of states that are listed one by one.
+#![tactic(auto)]
+
+pub mod explicit;
+pub mod explicits;
+mod search;
+
+pub use explicit::Explicit;
+pub use explicits::Explicits;
+
+#[cfg(test)]
+mod tests;

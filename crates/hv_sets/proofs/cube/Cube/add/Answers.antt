@@ -1,0 +1,27 @@
+use Rattle.std.proofs.Common.{sym, is_ok}
+use Rattle.hv_sets.proofs.Cubes.{Adds-insert, no_opposite, rises_either, opposite_test}
+use Rattle.hv_sets.proofs.cube.Cube.add.Goals as goal
+
+pub invariant_of-self-in-Err : goal.invariant_of-self-in-Err
+invariant_of-self-in-Err c =
+    let place = rw c.as_slice.ensures.value at c.in-Err.ensures in
+    rises_either (is_ok c.insert.result) c.self.inside.items.items c.args.literal c.in-Err.place c.insert.new.self.items
+    c.self.invariant place c.insert.ensures.items
+
+pub returns-in_ok-insert-in-Err-clause-added : goal.returns-in_ok-insert-in-Err-clause-added
+returns-in_ok-insert-in-Err-clause-added c = λ _.
+    let place = rw c.as_slice.ensures.value at c.in-Err.ensures in
+    rw (c.in_ok-insert-in-Err.ensures.items, ← c.self.view_is)
+    (Adds-insert c.self.inside.items.items c.args.literal c.in-Err.place c.self.invariant place)
+
+pub returns-in_ok-insert-in-Err-clause-opposite : goal.returns-in_ok-insert-in-Err-clause-opposite
+returns-in_ok-insert-in-Err-clause-opposite c =
+    let place = rw c.as_slice.ensures.value at c.in-Err.ensures in
+    let none = no_opposite c.self.inside.items.items c.args.literal c.in-Err.place c.self.invariant place in
+    (λ e. absurd cc, λ there. absurd (none (rw c.self.view_is there)))
+
+pub returns-in-Ok-clause-opposite : goal.returns-in-Ok-clause-opposite
+returns-in-Ok-clause-opposite c =
+    let place = rw c.as_slice.ensures.value at c.in-Ok.ensures in
+    rw (← c.self.view_is)
+    (opposite_test c.self.inside.items.items c.args.literal c.in-Ok.place c.self.invariant place c.index.result.now (sym c.index.ensures))

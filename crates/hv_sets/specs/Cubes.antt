@@ -1,0 +1,28 @@
+-- Cubes as lists of literals whose atoms rise.
+use Rattle.std.specs.Prelude.{◌≡◌, ◌<◌, ◌≤◌, ◌⊎◌, ◌↔◌, ℕ, List, length, map, not, slice_index}
+use Rattle.std.specs.List.{All, Contains}
+use Rattle.std.specs.List.Sorted.{IsStrictlyIncreasing}
+use Rattle.hv_sets.specs.declared.literal.Literal.{Literal}
+
+-- the atoms of the literals, in order
+abbrev pub atoms_of : List Literal → List ℕ
+atoms_of literals = map (λ l. l.atom) literals
+
+-- the literals speak of atoms below this number alone
+abbrev pub SpeakBelow : ℕ → List Literal → Type 0
+SpeakBelow bound literals = All (λ l. l.atom < bound) literals
+
+-- the literal of the same atom with the other sign
+abbrev pub opposite : Literal → Literal
+opposite literal = record { atom = literal.atom; positive = not literal.positive }
+
+-- the new cube is the old one with this literal put in: its atoms rise, and it has the literals of the old one and this one
+pub record Adds (old : List Literal) (literal : Literal) (new : List Literal) : Type 0 where
+  pub rises : IsStrictlyIncreasing (atoms_of new)
+  pub has : (l : Literal) → Contains new l ↔ (Contains old l ⊎ (l ≡ literal))
+
+-- the atoms before this place are less than the atom, and the others are not
+abbrev pub IsFirstUpto : List ℕ → ℕ → ℕ → Type 0
+IsFirstUpto atoms atom place =
+    (place ≤ length atoms) × ((k : ℕ) → k < place → slice_index atoms k < atom)
+    × ((k : ℕ) → place ≤ k → k < length atoms → atom ≤ slice_index atoms k)
