@@ -1,2 +1,5 @@
 pub mod Listing
+pub mod Owned
+pub mod Hits
+pub mod Wider
 pub mod Anchored

@@ -1,18 +1,30 @@
 -- The search through listed states for a counterexample to a query.
 use Rattle.std.specs.Prelude.{◌≡◌, ◌<◌, ◌≤◌, ℕ, Bool, true, false, List, length, if◌then◌else◌, IfSome}
-use Rattle.std.specs.List.{All}
+use Rattle.std.specs.List.{All, Contains}
 use Rattle.hv_task.specs.State.{state_of}
 use Rattle.hv_task.specs.Strips.{Strips, atoms, start_state}
 use Rattle.hv_sets.specs.declared.finding.Finding.{Finding}
 use Rattle.hv_sets.specs.declared.finding.Finding.TheVariants as F
 use Rattle.hv_sets.specs.declared.operand.Operand.{Operand}
+use Rattle.hv_sets.specs.declared.operand.Which.{Which}
+use Rattle.hv_sets.specs.Names.{Names}
 use Rattle.hv_sets.specs.Query.{HasAnchor, IsReady, in_which}
-use Rattle.hv_explicit.specs.Listing.{AreOver}
+use Rattle.hv_explicit.specs.Listing.{AreOver, in_set}
 use Rattle.hv_explicit.specs.declared.search.Search.{Search}
 
 -- the state that is asked about, of those before and after an action, is in what the operand names
 abbrev pub in_either : Strips → (ℕ → List Bool → Bool) → List Bool → List Bool → Operand → Bool
 in_either task sets before after operand = in_which task sets operand.which (if operand.after then after else before)
+
+-- some operand of this side is a set that has the state: the operands that are asked about after the action, or the others
+abbrev pub IsHit : Strips → (ℕ → List Bool → Bool) → List Operand → Bool → List Bool → Type 0
+IsHit task sets operands after state =
+    (operand : Operand) × Contains operands operand × (operand.after ≡ after) × (in_which task sets operand.which state ≡ true)
+
+-- the set is a negative operand of this side, and has the state
+abbrev pub IsHitBy : Search → Which → Bool → List Bool → Type 0
+IsHitBy s which after state =
+    Names s.query.now.negative which after × (in_which s.task.now (in_set s.sets.now) which state ≡ true)
 
 -- the exact answer of a search through listed states: that there are more than the budget, that a state of the task passes the
 -- test, or that no listed state does

@@ -1,4 +1,5 @@
-ghost use Rattle.std.specs.Prelude.{◌≡◌, ◌<◌, ◌≤◌, ◌+◌, Bool, List, length, min, map, drop, IfOk, OnOk, ⊤};
+ghost use Rattle.std.specs.Prelude.{◌≡◌, ◌<◌, ◌≤◌, ◌+◌, Bool, true, List, length, min, map, drop, IfOk, OnOk, ⊤};
+ghost use Rattle.std.specs.List.{Contains};
 ghost use Rattle.hv_task.specs.State.{AreBelow};
 ghost use Rattle.hv_task.specs.Strips.{atoms};
 ghost use Rattle.hv_sets.specs.Cubes.{SpeakBelow};
@@ -52,6 +53,13 @@ impl Explicit {
         ensures below { AreStates self.now.atoms result.now }
     {
         self.states.as_slice()
+    }
+
+    /// The listed states, each once.
+    pub(crate) fn distinct(&self) -> &[State]
+        ensures { (state : List Bool) → in_listing self.now state ≡ true → Contains result.now state }
+    {
+        self.index.as_slice()
     }
 }
 

@@ -1,10 +1,12 @@
-ghost use Rattle.std.specs.Prelude.{◌≡◌, ◌<◌, ◌++◌, ◌∷◌, [], length, slice_get, Some, IfOk, OnErr};
+ghost use Rattle.std.specs.Prelude.{◌≡◌, ◌<◌, ◌++◌, ◌∷◌, ℕ, [], length, slice_get, true, ⊤, Some, IfOk, OnErr};
+ghost use Rattle.std.specs.List.{Contains};
 ghost use Rattle.hv_task.specs.Strips.{atoms};
 ghost use Rattle.hv_sets.specs.Cost.{StatesPass};
 ghost use Rattle.hv_sets.specs.Query.{HasAnchor, IsReady};
 ghost use Rattle.hv_explicit.specs.Listing.{AreOver, in_set, states_in};
 
 use crate::explicit::Explicit;
+use crate::owners::Owners;
 use crate::search::Search;
 use hv_sets::{Family, Finding, Query, Scratch};
 use hv_task::{State, Task};
@@ -15,15 +17,19 @@ use std::marker::Model;
 #[derive(Drop)]
 pub struct Explicits {
     sets: Vec<Explicit>,
+    owners: Owners,
 }
 
 impl Model for Explicits {
     ghost use Rattle.std.specs.Prelude.{List};
     ghost use Rattle.hv_explicit.specs.Listing.{Listing};
+    ghost use Rattle.hv_explicit.specs.Owners.{AreNoted};
 
     ghost Value = { List Listing };
 
     ghost view = { λ s. s.sets.items };
+
+    ghost invariant = { λ s. AreNoted s.owners s.sets.items };
 }
 
 impl Explicits {
@@ -33,6 +39,7 @@ impl Explicits {
     {
         Explicits {
             sets: Vec::new(alloc),
+            owners: Owners::new(alloc),
         }
     }
 
@@ -43,6 +50,7 @@ impl Explicits {
         ensures err { OnErr result (self.new ≡ self.old) }
     {
         let number = self.sets.len();
+        self.owners.note(set.distinct(), number)?;
         self.sets.push(set)?;
         Ok(number)
     }
@@ -61,6 +69,13 @@ impl Explicits {
     {
         &self.sets[place]
     }
+
+    /// The numbers of the sets that list the state, and maybe others: those that were to be added when memory ran out.
+    pub(crate) fn owners_of(&self, state: &State) -> &[usize]
+        ensures { (number : ℕ) → in_set self.now number state.now ≡ true → Contains result.now number }
+    {
+        self.owners.of(state)
+    }
 }
 
 impl Family for Explicits {
@@ -68,7 +83,9 @@ impl Family for Explicits {
 
     ghost is_over = { AreOver };
 
-    ghost ready = { λ sets query. IsReady (length sets) query × HasAnchor query };
+    ghost count = { λ sets. length sets };
+
+    ghost wants_anchor = { λ _. ⊤ };
 
     ghost passes = { λ sets _ query budget. StatesPass (states_in sets) query budget };
 

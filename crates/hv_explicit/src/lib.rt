@@ -3,6 +3,7 @@
 
 pub mod explicit;
 pub mod explicits;
+mod owners;
 mod search;
 
 pub use explicit::Explicit;

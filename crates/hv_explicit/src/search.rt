@@ -1,18 +1,22 @@
 //! The search through the states of the anchor.
 
-ghost use Rattle.std.specs.Prelude.{◌≡◌, ◌<◌, ◌&&◌, ◌↔◌, length, not, slice_get, Some, IsTrue, MatchOption};
+ghost use Rattle.std.specs.Prelude.{◌≡◌, ◌<◌, ◌&&◌, ◌↔◌, ℕ, length, not, slice_get, Some, IsTrue, MatchOption};
 ghost use Rattle.std.specs.List.{All, Contains, list_all};
 ghost use Rattle.hv_task.specs.State.{AreBelow, state_of};
 ghost use Rattle.hv_task.specs.Strips.{IsState, atoms};
 ghost use Rattle.hv_sets.specs.Cost.{IsAnswer, StatesPass};
 ghost use Rattle.hv_sets.specs.Query.{CanAnchor, IsAnchor, IsNamed, Rises, in_which, is_clash};
 ghost use Rattle.hv_sets.specs.declared.operand.Operand.{Operand};
+ghost use Rattle.hv_sets.specs.declared.operand.Which.TheVariants as W;
 ghost use Rattle.hv_explicit.specs.Listing.{AreStates, in_set, states_in};
 
 use crate::explicits::Explicits;
 use hv_sets::{Finding, Operand, Query, StateSet, Which};
 use hv_task::{AtomList, State, Task};
 use std::slice;
+
+// To go through so many operands is no dearer than to look up the sets that list a state.
+const FEW: usize = 4;
 
 /// What is asked, of which sets; the initial state of the task is at hand.
 #[derive(Clone, Copy)]
@@ -24,7 +28,7 @@ pub(crate) struct Search<'a> {
 }
 
 impl Search<'_> {
-    ghost use Rattle.hv_explicit.specs.Search.{IsFound, IsSearch, in_either};
+    ghost use Rattle.hv_explicit.specs.Search.{IsFound, IsHit, IsHitBy, IsSearch, in_either};
 
     /// The exact answer to the query. The two states are overwritten.
     pub(crate) fn answer(&self, budget: u64, state: &mut State, after: &mut State) -> Finding
@@ -113,8 +117,7 @@ impl Search<'_> {
         requires after { IsState self.now.task.now after.now }
         ensures { result ≡ (list_all (in_either self.now.task.now (in_set self.now.sets.now) before.now after.now) self.now.query.now.positive && list_all (λ o. not (in_either self.now.task.now (in_set self.now.sets.now) before.now after.now o)) self.now.query.now.negative) }
     {
-        self.are_all(self.query.positive.as_slice(), before, after)
-            && self.are_none(self.query.negative.as_slice(), before, after)
+        self.are_all(self.query.positive.as_slice(), before, after) && self.are_none(before, after)
     }
 
     fn are_all(&self, operands: &[Operand], before: &State, after: &State) -> bool
@@ -132,19 +135,70 @@ impl Search<'_> {
         true
     }
 
-    fn are_none(&self, operands: &[Operand], before: &State, after: &State) -> bool
+    fn are_none(&self, before: &State, after: &State) -> bool
         requires search { IsSearch self.now }
-        requires operands { All (λ o. IsNamed (length self.now.sets.now) o.which) operands.now }
         requires before { IsState self.now.task.now before.now }
         requires after { IsState self.now.task.now after.now }
-        ensures { result ≡ list_all (λ o. not (in_either self.now.task.now (in_set self.now.sets.now) before.now after.now o)) operands.now }
+        ensures { result ≡ list_all (λ o. not (in_either self.now.task.now (in_set self.now.sets.now) before.now after.now o)) self.now.query.now.negative }
+    {
+        !self.is_hit(before, false) && (self.query.action.is_none() || !self.is_hit(after, true))
+    }
+
+    // Whether a negative operand that is asked about after the action (true) or before it (false) has the state. Few operands are
+    // gone through. Of many only those are asked about that name a set that lists the state, if such sets are fewer.
+    fn is_hit(&self, state: &State, after: bool) -> bool
+        requires search { IsSearch self.now }
+        requires state { IsState self.now.task.now state.now }
+        ensures { IsTrue result ↔ IsHit self.now.task.now (in_set self.now.sets.now) self.now.query.now.negative after state.now }
+    {
+        let operands = self.query.negative.as_slice();
+        if operands.len() <= FEW {
+            return self.is_hit_among(operands, state, after);
+        }
+        let owners = self.sets.owners_of(state);
+        if operands.len() <= owners.len() {
+            return self.is_hit_among(operands, state, after);
+        }
+        self.is_hit_by(Which::Start, state, after)
+            || self.is_hit_by(Which::Goal, state, after)
+            || self.is_hit_by_some(owners, state, after)
+    }
+
+    fn is_hit_among(&self, operands: &[Operand], state: &State, after: bool) -> bool
+        requires search { IsSearch self.now }
+        requires operands { All (λ o. IsNamed (length self.now.sets.now) o.which) operands.now }
+        requires state { IsState self.now.task.now state.now }
+        ensures { IsTrue result ↔ IsHit self.now.task.now (in_set self.now.sets.now) operands.now after state.now }
     {
         for operand in operands {
-            if self.is_in(operand, before, after) {
-                return false;
+            if operand.after == after && self.has(operand.which, state) {
+                return true;
             }
         }
-        true
+        false
+    }
+
+    // Whether one of these sets is a negative operand that has the state.
+    fn is_hit_by_some(&self, numbers: &[usize], state: &State, after: bool) -> bool
+        requires search { IsSearch self.now }
+        requires state { IsState self.now.task.now state.now }
+        ensures { IsTrue result ↔ ((number : ℕ) × Contains numbers.now number × IsHitBy self.now (W.Set number) after state.now) }
+    {
+        for number in numbers {
+            if self.is_hit_by(Which::Set(*number), state, after) {
+                return true;
+            }
+        }
+        false
+    }
+
+    // Whether this set is a negative operand and has the state.
+    fn is_hit_by(&self, which: Which, state: &State, after: bool) -> bool
+        requires search { IsSearch self.now }
+        requires state { IsState self.now.task.now state.now }
+        ensures { IsTrue result ↔ IsHitBy self.now which after state.now }
+    {
+        self.query.negative.names(which, after) && self.has(which, state)
     }
 
     fn is_in(&self, operand: &Operand, before: &State, after: &State) -> bool

@@ -1,4 +1,4 @@
-ghost use Rattle.std.specs.Prelude.{◌≡◌, ◌<◌, false, None, IfOk, OnOk, length};
+ghost use Rattle.std.specs.Prelude.{◌≡◌, ◌<◌, ◌++◌, ◌∷◌, [], false, None, IfOk, OnOk, length};
 ghost use Rattle.hv_task.specs.State.{AreBelow};
 ghost use Rattle.hv_task.specs.Strips.{atoms};
 ghost use Rattle.hv_sets.specs.Query.{HasAnchor, IsNamed, IsReady};
@@ -109,6 +109,7 @@ fn store_of(alloc: Global, task: &Task, masks: [u32; 2]) -> Result<Explicits, Al
 // The constants and the two sets of the store, by a number below 5. The last can't be the anchor.
 fn which_of(number: u32) -> Which
     ensures named { IsNamed 2 result }
+    ensures many { IsNamed 8 result }
     ensures anchor { number < 4 → result ≡ W.Goal → ⊥ }
 {
     match number {
@@ -151,6 +152,67 @@ fn query_of(
         after,
     })?;
     Ok(query)
+}
+
+fn add_negative(query: &mut Query, operand: Operand) -> Result<(), AllocError>
+    ensures { OnOk result (query.new ≡ record { positive = query.old.positive; negative = query.old.negative ++ operand ∷ []; action = query.old.action }) }
+{
+    query.negative.push(operand)?;
+    Ok(())
+}
+
+// Of a store with so many sets the first is in the query, and the others and one more are not.
+fn wide_query_of(
+    alloc: Global,
+    count: usize,
+    last: Which,
+    action: Option<u32>,
+    after: bool,
+) -> Result<Query, AllocError>
+    requires count { 1 < count }
+    requires last { IsNamed count last }
+    requires after { action ≡ None → after ≡ false }
+    ensures ready { IfOk result (IsReady count) }
+    ensures anchor { IfOk result HasAnchor }
+    ensures action { IfOk result (λ query. query.action ≡ action) }
+{
+    let mut query = Query {
+        positive: Operands::new(alloc),
+        negative: Operands::new(alloc),
+        action,
+    };
+    query.positive.push(Operand {
+        which: Which::Set(0),
+        id: 0,
+        after: false,
+    })?;
+    for number in 1..count {
+        let operand = Operand {
+            which: Which::Set(number),
+            id: number,
+            after,
+        };
+        add_negative(&mut query, operand)?;
+    }
+    let operand = Operand {
+        which: last,
+        id: count,
+        after,
+    };
+    add_negative(&mut query, operand)?;
+    Ok(query)
+}
+
+fn many_sets_of(alloc: Global, task: &Task, masks: &[u32]) -> Result<Explicits, AllocError>
+    requires { atoms task.now ≡ 2 }
+    ensures len { IfOk result (λ sets. length sets ≡ length masks.now) }
+    ensures over { IfOk result (λ sets. AreOver sets 2) }
+{
+    let mut sets = Explicits::new(alloc);
+    for mask in masks {
+        sets.add(set_from(alloc, task, *mask)?)?;
+    }
+    Ok(sets)
 }
 
 // What the definitions say, by going through all states.
@@ -225,6 +287,57 @@ fn answers_as_listed(
         Finding::Clash => {
             let code = scratch.state().has(0) as usize + 2 * (scratch.state().has(1) as usize);
             cost_of(positive, masks) <= budget && clashes[code]
+        }
+    })
+}
+
+fn union_of(masks: &[u32]) -> u32 {
+    let mut states = 0;
+    for mask in masks {
+        states |= *mask;
+    }
+    states
+}
+
+fn is_wide_clash(masks: [u32; 8], last: Which, acts: bool, after: bool, code: u32) -> bool
+    requires { code < 4 }
+{
+    let asked = if after { 2 } else { code };
+    (!acts || has_bit(code, 0))
+        && has_bit(masks[0], code)
+        && !has_bit(union_of(&masks[1..]), asked)
+        && !is_in(last, [masks[0], masks[1]], asked)
+}
+
+// Whether the query of the first set, and of none of the others and the last, is answered as all states say.
+fn wide_is_answered(
+    alloc: Global,
+    task: &Task,
+    masks: [u32; 8],
+    last: Which,
+    acts: bool,
+    after: bool,
+) -> Result<bool, AllocError>
+    requires atoms { atoms task.now ≡ 2 }
+    requires actions { length task.now.actions ≡ 1 }
+    requires last { IsNamed 8 last }
+    requires after { acts ≡ false → after ≡ false }
+{
+    let sets = many_sets_of(alloc, task, &masks)?;
+    let action = if acts { Some(0) } else { None };
+    let query = wide_query_of(alloc, 8, last, action, after)?;
+    let mut scratch = Scratch::new(alloc)?;
+    let found = sets.find(alloc, task, &query, 4, &mut scratch)?;
+    let mut clashes = [false; 4];
+    for code in 0..4 {
+        clashes[code as usize] = is_wide_clash(masks, last, acts, after, code);
+    }
+    Ok(match found {
+        Finding::Over => false,
+        Finding::Empty => !clashes.contains(&true),
+        Finding::Clash => {
+            let code = scratch.state().has(0) as usize + 2 * (scratch.state().has(1) as usize);
+            clashes[code]
         }
     })
 }
@@ -314,6 +427,29 @@ fn cubes_are_met_and_walked_as_all_states_say(rt: HostRuntime) -> Result<(), Fai
         let mut cube = Cube::new(rt.alloc());
         for turn in 0..5 {
             assert!(rt; step_is_listed(&set, &mut cursor, &mut cube, mask, turn)?);
+        }
+    }
+    Ok(())
+}
+
+#[test]
+fn many_negative_operands_are_answered_as_all_states_say(rt: HostRuntime) -> Result<(), Fail> {
+    let task = task_of_two(rt.alloc())?;
+    let several = [
+        [10, 4, 4, 2, 2, 0, 0, 0],
+        [10, 4, 5, 2, 8, 8, 0, 1],
+        [15, 1, 0, 0, 0, 0, 0, 8],
+        [15, 0, 0, 4, 0, 2, 1, 0],
+        [3, 0, 0, 0, 0, 0, 0, 0],
+        [2, 2, 2, 2, 2, 2, 2, 2],
+    ];
+    for masks in several {
+        for number in 0..5 {
+            for (acts, after) in [(false, false), (true, false), (true, true)] {
+                assert!(rt;
+                    wide_is_answered(rt.alloc(), &task, masks, which_of(number), acts, after)?
+                );
+            }
         }
     }
     Ok(())

@@ -85,14 +85,18 @@ module _ (xs : List Literal) (l : Literal) (place : ℕ) where
     Adds-insert = record { rises = rises_insert; has = has_insert }
 
     -- and no literal of its atom was there
-    pub no_opposite : Contains xs (opposite l) → ⊥
-    no_opposite c =
+    pub none_of_atom : (m : Literal) → m.atom ≡ l.atom → Contains xs m → ⊥
+    none_of_atom m one_atom c =
         let size = length-map xs (λ (l : Literal). l.atom) in
-        let at : get_or (atoms_of xs) c.0 0 ≡ l.atom = atom_at xs c.0 (opposite l) c.1 ∙ ap (λ m. m.atom) c.2 in
+        let at : get_or (atoms_of xs) c.0 0 ≡ l.atom = atom_at xs c.0 m c.1 ∙ (ap (λ m. m.atom) c.2 ∙ one_atom) in
         elim (cases_lt c.0 place) [
           | inl less ↦ let below = fits.1 c.0 less in absurd (omega arith)
           | inr upto ↦ let above = fits.2 c.0 upto (omega (arith, c.1)) in absurd (omega arith)
         ]
+
+    -- so not the opposite one
+    pub no_opposite : Contains xs (opposite l) → ⊥
+    no_opposite c = none_of_atom (opposite l) refl c
 
   module _ (rises : IsStrictlyIncreasing (atoms_of xs)) (fits : IsPlaceOf (atoms_of xs) l.atom (Ok place)) (here : Literal)
       (is : get_or xs place here ≡ here) where

@@ -1,5 +1,5 @@
 -- What a query costs, and what it is answered within a budget.
-use Rattle.std.specs.Prelude.{◌≡◌, ◌<◌, ◌*◌, ℕ, Bool, true, false, List, [], ◌∷◌, length}
+use Rattle.std.specs.Prelude.{◌≡◌, ◌<◌, ◌*◌, ◌+◌, ℕ, Bool, true, false, List, [], ◌∷◌, length}
 use Rattle.hv_task.specs.Strips.{Strips, atoms}
 use Rattle.hv_sets.specs.declared.finding.Finding.{Finding}
 use Rattle.hv_sets.specs.declared.finding.Finding.TheVariants as F
@@ -22,6 +22,12 @@ abbrev pub choices_of : Strips → (ℕ → ℕ) → List Operand → ℕ
 choices_of task clauses [] = 1
 choices_of task clauses (operand ∷ operands) =
     clauses_of task clauses operand.which * choices_of task clauses operands
+
+-- how many clauses the operands have together
+abbrev pub clauses_among : Strips → (ℕ → ℕ) → List Operand → ℕ
+clauses_among task clauses [] = 0
+clauses_among task clauses (operand ∷ operands) =
+    clauses_of task clauses operand.which + clauses_among task clauses operands
 
 -- over clauses, the cost of a query is the number of ways to choose one clause of each negative operand: that passes the budget
 abbrev pub ClausesPass : Strips → (ℕ → ℕ) → Query → ℕ → Type 0

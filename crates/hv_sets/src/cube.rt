@@ -45,6 +45,8 @@ impl Cube {
         ensures added { IfOk result (λ yes. yes ≡ true → Adds self.old literal self.new) }
         // A literal of a greater atom than all others goes last.
         ensures last { IfOk result (λ yes. AreBelow literal.atom (atoms_of self.old) → (yes ≡ true) × (self.new ≡ self.old ++ literal ∷ [])) }
+        // A literal that stands in the cube changes nothing.
+        ensures there { IfOk result (λ _. Contains self.old literal → self.new ≡ self.old) }
         ensures refused { IfOk result (λ yes. yes ≡ false → self.new ≡ self.old) }
         ensures opposite { IfOk result (λ yes. (yes ≡ false) ↔ Contains self.old (opposite literal)) }
         ensures err { OnErr result (self.new ≡ self.old) }

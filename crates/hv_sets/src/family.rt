@@ -1,7 +1,7 @@
 ghost use Rattle.std.specs.Prelude.{◌<◌, ℕ, Bool, List, length, IfOk, IfSome};
 ghost use Rattle.hv_task.specs.Strips.{Strips, atoms};
 ghost use Rattle.hv_sets.specs.Cost.{IsAnswer};
-ghost use Rattle.hv_sets.specs.Query.{is_clash};
+ghost use Rattle.hv_sets.specs.Query.{HasAnchor, IsReady, is_clash};
 ghost use Rattle.hv_sets.specs.Room.{KeepsLengths};
 ghost use Rattle.hv_sets.specs.declared.query.Query.{Query};
 
@@ -19,8 +19,11 @@ pub trait Family {
     // The sets are sets of states of a task with so many atoms.
     ghost is_over: { Self → ℕ → Type 0 };
 
-    // The query can be asked.
-    ghost ready: { Self → Query → Type 0 };
+    // How many sets there are.
+    ghost count: { Self → ℕ };
+
+    // A query has to have an anchor.
+    ghost wants_anchor: { Self → Type 0 };
 
     // The query costs more than the budget.
     ghost passes: { Self → Strips → Query → ℕ → Type 0 };
@@ -35,7 +38,8 @@ pub trait Family {
         budget: u64,
         scratch: &mut Scratch,
     ) -> Result<Finding, AllocError>
-        requires ready { ready self.now query.now }
+        requires ready { IsReady (count self.now) query.now }
+        requires anchor { wants_anchor self.now → HasAnchor query.now }
         requires task { is_over self.now (atoms task.now) }
         requires action { IfSome query.now.action (λ a. a < length task.now.actions) }
         ensures answer { IfOk result (λ found. IsAnswer found (passes self.now task.now query.now budget) (atoms task.now) (is_clash task.now (has self.now) query.now) scratch.new.state) }

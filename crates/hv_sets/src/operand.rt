@@ -1,5 +1,5 @@
 /// The set that an operand stands for.
-#[derive(Clone, Copy, Debug, PartialEq, Eq)]
+#[derive(Clone, Copy, Debug, PartialEq, Eq, Hash)]
 pub enum Which {
     /// The set without states.
     Empty,

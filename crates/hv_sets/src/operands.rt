@@ -1,6 +1,8 @@
-ghost use Rattle.std.specs.Prelude.{◌≡◌, ◌<◌, [], ◌∷◌, ◌++◌, ◌==◌, length, slice_get, Some, OnOk, OnErr};
+ghost use Rattle.std.specs.Prelude.{◌≡◌, ◌<◌, ◌↔◌, [], ◌∷◌, ◌++◌, ◌==◌, length, slice_get, Some, IsTrue, OnOk, OnErr};
+ghost use Rattle.hv_sets.specs.Names.{Names};
 
-use crate::operand::Operand;
+use crate::operand::{Operand, Which};
+use indexmap::IndexSet;
 use std::alloc::{AllocError, Global};
 use std::marker::Model;
 
@@ -8,15 +10,20 @@ use std::marker::Model;
 #[derive(Drop)]
 pub struct Operands {
     items: Vec<Operand>,
+    // What the items name, and whether it is asked about after the action, to look one up.
+    named: IndexSet<(Which, bool)>,
 }
 
 impl Model for Operands {
     ghost use Rattle.std.specs.Prelude.{List};
     ghost use Rattle.hv_sets.specs.declared.operand.Operand.{Operand};
+    ghost use Rattle.hv_sets.specs.Names.{AreNamesOf};
 
     ghost Value = { List Operand };
 
     ghost view = { λ l. l.items.items };
+
+    ghost invariant = { λ l. AreNamesOf l.named.keys l.items.items };
 }
 
 impl Operands {
@@ -26,6 +33,7 @@ impl Operands {
     {
         Operands {
             items: Vec::new(alloc),
+            named: IndexSet::new(alloc),
         }
     }
 
@@ -34,7 +42,9 @@ impl Operands {
         ensures ok { OnOk result (self.new ≡ self.old ++ item ∷ []) }
         ensures err { OnErr result (self.new ≡ self.old) }
     {
-        self.items.push(item)?;
+        self.items.reserve(1)?;
+        self.named.insert((item.which, item.after))?;
+        self.items.push_reserved(item);
         Ok(())
     }
 
@@ -58,6 +68,13 @@ impl Operands {
         ensures { slice_get self.now place ≡ Some result.now }
     {
         &self.items[place]
+    }
+
+    /// Whether some operand is this set, asked about after the action (true) or before it: one look-up.
+    pub fn names(&self, which: Which, after: bool) -> bool
+        ensures { IsTrue result ↔ Names self.now which after }
+    {
+        self.named.contains(&(which, after))
     }
 
     /// All items, in order.

@@ -1,4 +1,4 @@
-use crate::{Clause, Clauses, Literal, StateList};
+use crate::{Clause, Clauses, Literal, Operand, Operands, StateList, Which};
 use hv_task::AtomList;
 use std::test::Fail;
 
@@ -27,5 +27,33 @@ fn lists_keep_the_order_of_their_items(rt: HostRuntime) -> Result<(), Fail> {
     let mut states = StateList::new(rt.alloc());
     states.push(AtomList::new(rt.alloc()))?;
     assert_eq!(rt; states.as_slice().len(), 1);
+    Ok(())
+}
+
+#[test]
+fn operands_name_their_sets_before_or_after_the_action(rt: HostRuntime) -> Result<(), Fail> {
+    let mut operands = Operands::new(rt.alloc());
+    assert!(rt; !operands.names(Which::Goal, false));
+    for id in 0..3 {
+        operands.push(Operand {
+            which: Which::Set(7),
+            id,
+            after: true,
+        })?;
+    }
+    operands.push(Operand {
+        which: Which::Goal,
+        id: 3,
+        after: false,
+    })?;
+    assert_eq!(rt; operands.len(), 4);
+    assert_eq!(rt; operands.get(0).which, Which::Set(7));
+    assert_eq!(rt; operands.get(3).which, Which::Goal);
+    assert!(rt; operands.names(Which::Set(7), true));
+    assert!(rt; !operands.names(Which::Set(7), false));
+    assert!(rt; !operands.names(Which::Set(6), true));
+    assert!(rt; operands.names(Which::Goal, false));
+    assert!(rt; !operands.names(Which::Goal, true));
+    assert!(rt; !operands.names(Which::Start, false));
     Ok(())
 }

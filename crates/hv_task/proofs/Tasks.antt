@@ -37,7 +37,9 @@ IsTask-add_atom task name is_task room =
     let more : atoms task ≤ length (task.names ++ name ∷ []) = omega arith in
     record {
       start = AreBelow-more (atoms task) (length (task.names ++ name ∷ [])) task.start more is_task.start;
+      start_rises = is_task.start_rises;
       goal = AreBelow-more (atoms task) (length (task.names ++ name ∷ [])) task.goal more is_task.goal;
+      goal_rises = is_task.goal_rises;
       actions = All-weaker (IsOver (atoms task)) (IsOver (length (task.names ++ name ∷ [])))
           (λ a over. IsOver-more (atoms task) (length (task.names ++ name ∷ [])) a more over) task.actions is_task.actions;
       few_atoms = omega arith;
@@ -49,7 +51,9 @@ pub IsTask-add_action : (task : Strips) (a : Action) → IsTask task → IsOver 
     → IsTask (record task { actions = task.actions ++ a ∷ [] })
 IsTask-add_action task a is_task over room = record {
   start = is_task.start;
+  start_rises = is_task.start_rises;
   goal = is_task.goal;
+  goal_rises = is_task.goal_rises;
   actions = All-push (IsOver (atoms task)) task.actions a is_task.actions over;
   few_atoms = is_task.few_atoms;
   few_actions = omega (arith, length-append task.actions (a ∷ []));

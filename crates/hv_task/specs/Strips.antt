@@ -1,6 +1,7 @@
 -- A planning task in STRIPS form, as contracts see a `Task`.
 use Rattle.std.specs.Prelude.{◌≡◌, ◌≤◌, ℕ, Bool, List, length}
 use Rattle.std.specs.List.{All}
+use Rattle.std.specs.List.Sorted.{IsStrictlyIncreasing}
 use Rattle.hv_task.specs.declared.action.Action.{Action}
 use Rattle.hv_task.specs.State.{AreBelow, has_all, state_of}
 
@@ -29,10 +30,12 @@ pub record IsOver (bound : ℕ) (action : Action) : Type 0 where
   pub add : AreBelow bound action.add
   pub del : AreBelow bound action.del
 
--- what every task keeps: its lists name its own atoms, and it is within the limits
+-- what every task keeps: its lists name its own atoms, those of the start and the goal rise, and it is within the limits
 pub record IsTask (task : Strips) : Type 0 where
   pub start : AreBelow (length task.names) task.start
+  pub start_rises : IsStrictlyIncreasing task.start
   pub goal : AreBelow (length task.names) task.goal
+  pub goal_rises : IsStrictlyIncreasing task.goal
   pub actions : All (IsOver (length task.names)) task.actions
   pub few_atoms : length task.names ≤ 65535
   pub few_actions : length task.actions ≤ 1000000

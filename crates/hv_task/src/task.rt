@@ -61,6 +61,7 @@ impl Task {
         requires { AreBelow (atoms self.old) start }
         ensures { self.new ≡ record self.old { start = start } }
     {
+        let _len = start.len();
         self.start = start;
     }
 
@@ -69,6 +70,7 @@ impl Task {
         requires { AreBelow (atoms self.old) goal }
         ensures { self.new ≡ record self.old { goal = goal } }
     {
+        let _len = goal.len();
         self.goal = goal;
     }
 

@@ -1,5 +1,5 @@
-use Rattle.std.proofs.Common.{sym, is_ok}
-use Rattle.hv_sets.proofs.Cubes.{Adds-insert, no_opposite, rises_either, opposite_test}
+use Rattle.std.proofs.Common.{refl, sym, is_ok}
+use Rattle.hv_sets.proofs.Cubes.{Adds-insert, no_opposite, none_of_atom, rises_either, opposite_test}
 use Rattle.hv_sets.proofs.cube.Cube.add.Goals as goal
 
 pub invariant_of-self-in-Err : goal.invariant_of-self-in-Err
@@ -25,3 +25,9 @@ returns-in-Ok-clause-opposite c =
     let place = rw c.as_slice.ensures.value at c.in-Ok.ensures in
     rw (← c.self.view_is)
     (opposite_test c.self.inside.items.items c.args.literal c.in-Ok.place c.self.invariant place c.index.result.now (sym c.index.ensures))
+
+pub returns-in_ok-insert-in-Err-clause-there : goal.returns-in_ok-insert-in-Err-clause-there
+returns-in_ok-insert-in-Err-clause-there c = λ there.
+    let place = rw c.as_slice.ensures.value at c.in-Err.ensures in
+    let none = none_of_atom c.self.inside.items.items c.args.literal c.in-Err.place c.self.invariant place c.args.literal refl in
+    absurd (none (rw c.self.view_is there))
