@@ -1,0 +1,124 @@
+-- Why a chosen clause that is known to be true, or that the effect leaves alone, refutes its choice.
+use Rattle.std.proofs.Common.{◌≡◌, ℕ, zero, suc, ◌+◌, ◌<◌, ◌≤◌, ◌%◌, ◌/◌, ◌∙◌, Bool, true, false, not, ◌||◌, cond, ap₂, List, [], ◌∷◌, Option, None, Some, length, get_or, take, refl, sym, ap, arith, subst}
+use Rattle.std.proofs.lemmas.List.{get_or_default}
+use Rattle.std.proofs.lemmas.List.Elements.{All-contains, Contains-get_or}
+use Rattle.std.proofs.lemmas.List.Folds.{list_any_at}
+use Rattle.std.specs.List.{All, Contains, list_any}
+use Rattle.hv_task.specs.State.{has_atom}
+use Rattle.hv_task.specs.Strips.{Strips, atoms}
+use Rattle.hv_sets.specs.declared.literal.Literal.{Literal}
+use Rattle.hv_sets.specs.declared.operand.Operand.{Operand}
+use Rattle.hv_sets.specs.declared.operand.Which.{Which}
+use Rattle.hv_sets.specs.declared.operand.Which.TheVariants as W
+use Rattle.hv_sets.specs.Cubes.{SpeakBelow}
+use Rattle.hv_sets.specs.Cost.{clauses_of}
+use Rattle.hv_sets.specs.Names.{Names}
+use Rattle.hv_sets.specs.Query.{in_which}
+use Rattle.hv_sets.specs.Truth.{in_clause, in_clauses, in_literal}
+use Rattle.hv_clauses.specs.Choices.{Breaks, clause_at}
+use Rattle.hv_clauses.specs.Clausal.{AreClauses, InAll, clauses_in, late, sets_of, sizes_of}
+use Rattle.hv_clauses.specs.Marks.{Agrees, known, over}
+use Rattle.hv_clauses.specs.Units.{value_of}
+use Rattle.hv_clauses.proofs.Effects.{list_all_get}
+use Rattle.hv_clauses.proofs.Marked.{has_atom-over_none, over-nil, value_true}
+use Rattle.hv_clauses.proofs.OperandRounds.{left_after}
+
+-- a true literal makes its clause true
+true_in : (clause : List Literal) (state : List Bool) (l : Literal) → Contains clause l → in_literal l state ≡ true → in_clause clause state ≡ true
+true_in clause state l c e = list_any_at (λ m. in_literal m state) clause c.0 l c.1 (ap (λ m. in_literal m state) c.2 ∙ e)
+
+not_both : (b : Bool) → b ≡ true → b ≡ false → ⊥
+not_both true e f = let g : true ≡ false = f in absurd cc
+not_both false e f = let g : false ≡ true = e in absurd cc
+
+-- where a literal is known to be true, no state that agrees with the marks breaks the clause
+pub known_true : (effect marks : List ℕ) (clause : List Literal) (n : ℕ) (state : List Bool) → SpeakBelow n clause → length state ≡ n
+    → ((l : Literal) × Contains clause l × (value_of effect marks l ≡ Some true)) → Agrees marks state
+    → in_clause clause (over effect state) ≡ false → ⊥
+known_true effect marks clause n state below size found agrees broken =
+    let within : (found.0).atom < n = All-contains (λ l. l.atom < n) clause found.0 below found.1 in
+    not_both (in_clause clause (over effect state))
+    (true_in clause (over effect state) found.0 found.1 (value_true effect marks found.0 state found.2 agrees (omega arith))) broken
+
+-- a clause that the effect leaves alone is true after the action where it is true before
+untouched_same : (effect : List ℕ) (clause : List Literal) (state : List Bool) → All (λ l. known effect l.atom ≡ None) clause
+    → in_clause clause (over effect state) ≡ in_clause clause state
+untouched_same effect [] state all = refl
+untouched_same effect (l ∷ clause) state all =
+    ap₂ (λ a b. a || b)
+    (ap (λ flag. cond l.positive flag (not flag)) (has_atom-over_none effect state l.atom (all 0 l (omega arith))))
+    (untouched_same effect clause state (λ k d within. all (suc k) d (omega arith)))
+
+late_other : (effect : List ℕ) (after : Bool) (clause : List Literal) (state : List Bool) → All (λ l. known effect l.atom ≡ None) clause
+    → in_clause clause (over (late effect (not after)) state) ≡ in_clause clause (over (late effect after) state)
+late_other effect true clause state all = ap (in_clause clause) (over-nil state) ∙ sym (untouched_same effect clause state all)
+late_other effect false clause state all = untouched_same effect clause state all ∙ sym (ap (in_clause clause) (over-nil state))
+
+-- so where its set is a positive operand at the other time, no state of the positive operands breaks it
+pub framed_true : (task : Strips) (formulas : ℕ → List (List Literal)) (effect : List ℕ) (positive : List Operand) (number : ℕ) (after : Bool)
+    (place : ℕ) (state : List Bool) → place < length (formulas number) → Names positive (W.Set number) (not after)
+    → All (λ l. known effect l.atom ≡ None) (clause_at (formulas number) place) → InAll task formulas effect positive state
+    → in_clause (clause_at (formulas number) place) (over (late effect after) state) ≡ false → ⊥
+framed_true task formulas effect positive number after place state within named untouched inside broken =
+    let clause = clause_at (formulas number) place in
+    let o = named.0 in
+    let holds : in_which task (sets_of formulas) o.which (over (late effect o.after) state) ≡ true =
+    All-contains (λ o. in_which task (sets_of formulas) o.which (over (late effect o.after) state) ≡ true) positive o inside named.1 in
+    let other : in_clauses (formulas number) (over (late effect (not after)) state) ≡ true =
+    sym (ap (λ w. in_which task (sets_of formulas) w (over (late effect o.after) state)) named.2 ∙ ap (λ b. in_clauses (formulas number) (over (late effect b) state)) named.3) ∙ holds in
+    not_both (in_clause clause (over (late effect after) state))
+    (sym (late_other effect after clause state untouched)
+    ∙ list_all_get (λ c. in_clause c (over (late effect (not after)) state)) (formulas number) place [] other within) broken
+
+-- what a choice breaks at each place
+pub breaks_at : (task : Strips) (formulas : ℕ → List (List Literal)) (effect : List ℕ) (operands : List Operand) (place : ℕ) (d : Operand) (number : ℕ)
+    (state : List Bool) → place < length operands → Breaks task formulas effect operands number state
+    → in_clause (clause_at (clauses_in task formulas (get_or operands place d).which)
+    (left_after task formulas (take place operands) number % length (clauses_in task formulas (get_or operands place d).which)))
+    (over (late effect (get_or operands place d).after) state) ≡ false
+breaks_at task formulas effect [] place d number state within breaks = absurd (omega arith)
+breaks_at task formulas effect (o ∷ os) zero d number state within breaks = breaks.0
+breaks_at task formulas effect (o ∷ os) (suc place) d number state within breaks =
+    breaks_at task formulas effect os place d (number / length (clauses_in task formulas o.which)) state (omega arith) breaks.1
+
+-- The same as the calls give it.
+module _ (task : Strips) (formulas : ℕ → List (List Literal)) (effect : List ℕ) (which : Which) (number place : ℕ) (is : which ≡ W.Set number)
+    (set listed : List (List Literal)) (item clause : List Literal) (of_store : set ≡ formulas number) (lists : listed ≡ set)
+    (read : item ≡ get_or listed place item) (sliced : clause ≡ item) (less : place < clauses_of task (sizes_of formulas) which) where
+  place_within : place < length (formulas number)
+  place_within = subst (λ w. place < clauses_of task (sizes_of formulas) w) is less
+
+  clause_is : clause ≡ clause_at (formulas number) place
+  clause_is =
+      sliced ∙ (read ∙ (ap (λ xs. get_or xs place item) (lists ∙ of_store) ∙ get_or_default (formulas number) place item [] place_within))
+
+  broken_is : (after : Bool) (state : List Bool) → in_clause (clause_at (clauses_in task formulas which) place) (over (late effect after) state) ≡ false
+      → in_clause (clause_at (formulas number) place) (over (late effect after) state) ≡ false
+  broken_is after state broken =
+      sym (ap (λ w. in_clause (clause_at (clauses_in task formulas w) place) (over (late effect after) state)) is) ∙ broken
+
+  pub refuted_known : (after : Bool) (seen base : List ℕ) (bound n : ℕ) (state : List Bool) → seen ≡ late effect after → AreClauses bound listed
+      → bound ≡ n → length state ≡ n → ((l : Literal) × Contains clause l × (value_of seen base l ≡ Some true)) → Agrees base state
+      → in_clause (clause_at (clauses_in task formulas which) place) (over (late effect after) state) ≡ false → ⊥
+  refuted_known after seen base bound n state through below bound_is size found agrees broken =
+      let within : place < length listed = omega (arith, place_within, ap length (lists ∙ of_store)) in
+      let speaks : SpeakBelow n clause =
+      subst (λ k. SpeakBelow k clause) bound_is (subst (SpeakBelow bound) (sym (sliced ∙ read)) (below place item within)) in
+      known_true seen base clause n state speaks size found agrees
+      (ap₂ (λ c e. in_clause c (over e state)) clause_is through ∙ broken_is after state broken)
+
+  pub refuted_framed : (after : Bool) (positive : List Operand) (state : List Bool) → Names positive which (not after)
+      → All (λ l. known effect l.atom ≡ None) clause → InAll task formulas effect positive state
+      → in_clause (clause_at (clauses_in task formulas which) place) (over (late effect after) state) ≡ false → ⊥
+  refuted_framed after positive state named untouched inside broken =
+      framed_true task formulas effect positive number after place state place_within (subst (λ w. Names positive w (not after)) is named)
+      (subst (λ c. All (λ l. known effect l.atom ≡ None) c) clause_is untouched) inside (broken_is after state broken)
+
+pub refuted_by : (task : Strips) (formulas : ℕ → List (List Literal)) (effect : List ℕ) (listed operands : List Operand) (place : ℕ) (d : Operand)
+    (number digit : ℕ) (state : List Bool) → listed ≡ operands → place < length listed
+    → digit ≡ left_after task formulas (take place listed) number % length (clauses_in task formulas (get_or listed place d).which)
+    → Breaks task formulas effect operands number state
+    → in_clause (clause_at (clauses_in task formulas (get_or listed place d).which) digit) (over (late effect (get_or listed place d).after) state) ≡ false
+refuted_by task formulas effect listed operands place d number digit state e within is breaks =
+    ap (λ k. in_clause (clause_at (clauses_in task formulas (get_or listed place d).which) k) (over (late effect (get_or listed place d).after) state)) is
+    ∙ breaks_at task formulas effect listed place d number state within (subst (λ os. Breaks task formulas effect os number state) (sym e) breaks)

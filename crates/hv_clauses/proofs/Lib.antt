@@ -1,0 +1,17 @@
+pub mod Choosing
+pub mod Completion
+pub mod Covered
+pub mod Deciding
+pub mod Effects
+pub mod Framed
+pub mod Kinded
+pub mod Marked
+pub mod Meeting
+pub mod OperandClauses
+pub mod OperandRounds
+pub mod Outside
+pub mod Pairs
+pub mod Problems
+pub mod Rounds
+pub mod Searching
+pub mod Steps

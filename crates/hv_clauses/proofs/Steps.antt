@@ -1,0 +1,184 @@
+-- Single steps: what a literal that is forced and what a clause that was looked through make of the marks.
+use Rattle.std.proofs.Common.{◌≡◌, ℕ, ◌+◌, ◌<◌, ◌∙◌, ◌⊎◌, Bool, true, false, not, ◌&&◌, eqb, List, length, get_or, Option, None, Some, refl, sym, ap, arith, inl, inr, subst}
+use Rattle.std.proofs.lemmas.Bool.{and_parts, eq-eqb, eqb-true, false_from_ne_true}
+use Rattle.std.proofs.Math.Bool.{beq}
+use Rattle.std.proofs.lemmas.List.Elements.{All-contains, Contains-get_or}
+use Rattle.std.proofs.lemmas.List.Folds.{Any-from_list_any, list_any_at, list_any_none}
+use Rattle.std.specs.List.{All, Contains}
+use Rattle.hv_sets.specs.declared.literal.Literal.{Literal}
+use Rattle.hv_sets.specs.Cubes.{SpeakBelow, opposite}
+use Rattle.hv_sets.specs.Truth.{in_clause, in_literal}
+use Rattle.hv_clauses.specs.Marks.{Agrees, Extends, known, over, unknown_in}
+use Rattle.hv_clauses.specs.Units.{AreFalse, IsConcluded, IsPropagated, IsSettled, value_of}
+use Rattle.hv_clauses.proofs.Marked.{agrees_write, extends_same, extends_write, has_atom-literal, in_literal-opposite, value_false, value_from_opposite, value_marked, value_none, value_open}
+use Rattle.hv_clauses.proofs.Rounds.{Upto, conclude_same, never, read_at, upto_more}
+
+-- one mark more, at the atom of a literal
+pub record IsMarked (literal : Literal) (old new : List ℕ) : Type 0 where
+  pub size : length new ≡ length old
+  pub here : known new literal.atom ≡ Some literal.positive
+  pub others : (p : ℕ) → (p ≡ literal.atom → ⊥) → known new p ≡ known old p
+
+module _ (e m : List ℕ) (l : Literal) where
+  -- a literal that is known to be true or false
+  pub force_known : (v : Bool) → l.atom < length m → value_of e m l ≡ Some v
+      → IsConcluded (λ s. in_literal l (over e s) ≡ true) (λ k. value_of e k l ≡ Some true) m m v
+  force_known v within h = record {
+    size = refl;
+    grows = extends_same m;
+    follows = λ state size holds agrees. agrees;
+    broken = λ is state size holds agrees.
+        never (sym holds ∙ value_false e m l state (h ∙ ap Some is) agrees (omega (arith, size)));
+    done = λ is. h ∙ ap Some is;
+  }
+
+  module _ (k : List ℕ) (nothing : value_of e m l ≡ None) (marks : IsMarked l m k) where
+    -- what follows where the literal is true
+    pub follows_write : l.atom < length m → (state : List Bool) → length state ≡ length m → in_literal l (over e state) ≡ true
+        → Agrees m state → Agrees k state
+    follows_write within state size holds agrees =
+        agrees_write m k l.atom l.positive state marks.here marks.others
+        (has_atom-literal l state (sym (value_open e m l state nothing (omega (arith, size))) ∙ holds)) agrees
+
+    grows_write : Extends m k
+    grows_write = extends_write m k l.atom (value_none e m l nothing).1 marks.others
+
+    -- a literal of which nothing is known
+    pub force_open : l.atom < length m
+        → IsConcluded (λ s. in_literal l (over e s) ≡ true) (λ n. value_of e n l ≡ Some true) m k true
+    force_open within = record {
+      size = marks.size;
+      grows = grows_write;
+      follows = follows_write within;
+      broken = λ is. never is;
+      done = λ is. value_marked e k l (value_none e m l nothing).0 marks.here;
+    }
+
+    -- the one open literal of a clause
+    pub step_unit : (clause : List Literal) → SpeakBelow (length m) clause
+        → All (λ c. (c ≡ l) ⊎ (value_of e m c ≡ Some false)) clause → 1 + unknown_in k ≡ unknown_in m → (i : Bool)
+        → IsPropagated (λ s. in_clause clause (over e s) ≡ true) (λ n. IsSettled e n clause) m i k true true
+    step_unit clause below all count i = record {
+      size = marks.size;
+      grows = grows_write;
+      follows = λ state size holds agrees.
+          let some = Any-from_list_any (λ c. in_literal c (over e state)) clause holds in
+          let at : Contains clause some.1 = (some.0, some.2, some.3) in
+          let low : some.1.atom < length m = All-contains (λ c. c.atom < length m) clause some.1 below at in
+          elim (All-contains (λ c. (c ≡ l) ⊎ (value_of e m c ≡ Some false)) clause some.1 all at) [
+            | inl same ↦
+                follows_write (subst (λ c. c.atom < length m) same low) state size
+                (ap (λ c. in_literal c (over e state)) (sym same) ∙ some.4) agrees
+            | inr out ↦ never (sym some.4 ∙ value_false e m some.1 state out agrees (omega (arith, size)))
+          ];
+      broken = λ is. never is;
+      still = λ is none. never none;
+      count = omega (arith, count);
+    }
+
+-- a clause whose literals are all false
+pub step_broken : (e m : List ℕ) (clause : List Literal) (i : Bool) → SpeakBelow (length m) clause → AreFalse e clause m
+    → IsPropagated (λ s. in_clause clause (over e s) ≡ true) (λ n. IsSettled e n clause) m i m i false
+step_broken e m clause i below all = record {
+  size = refl;
+  grows = extends_same m;
+  follows = λ state size holds agrees. agrees;
+  broken = λ is state size holds agrees.
+      never (sym holds
+      ∙ list_any_none (λ l. in_literal l (over e state)) clause
+      (λ k d h. value_false e m (get_or clause k d) state (all k d h) agrees
+      (subst (λ n. (get_or clause k d).atom < n) (sym size) (below k d h))));
+  still = λ is. never (sym is);
+  count = omega arith;
+}
+
+-- what a look through the literals of a clause knows at a place: all before are false; or this literal is open, and the others
+-- are false
+abbrev pub Seen : Option Literal → List ℕ → List ℕ → List Literal → ℕ → Type 0
+Seen None e m clause i = Upto (λ l. value_of e m l ≡ Some false) clause i
+Seen (Some u) e m clause i =
+    Contains clause u × (value_of e m u ≡ None) × Upto (λ l. (l ≡ u) ⊎ (value_of e m l ≡ Some false)) clause i
+
+module _ (e m : List ℕ) (clause : List Literal) (i : ℕ) (d : Literal) (within : i < length clause) where
+  -- a false literal tells nothing new
+  pub seen_false : (u : Option Literal) → value_of e m (get_or clause i d) ≡ Some false → Seen u e m clause i
+      → Seen u e m clause (i + 1)
+  seen_false None h seen =
+      upto_more (λ l. value_of e m l ≡ Some false) clause i (get_or clause i d) within (read_at clause i d within) seen h
+  seen_false (Some u) h seen = (
+    seen.0,
+    seen.1,
+    upto_more (λ l. (l ≡ u) ⊎ (value_of e m l ≡ Some false)) clause i (get_or clause i d) within (read_at clause i d within)
+        seen.2 (inr h),
+  )
+
+  -- the first open one
+  pub seen_first : value_of e m (get_or clause i d) ≡ None → Seen None e m clause i
+      → Seen (Some (get_or clause i d)) e m clause (i + 1)
+  seen_first h seen = (
+    Contains-get_or clause i d within,
+    h,
+    upto_more (λ l. (l ≡ get_or clause i d) ⊎ (value_of e m l ≡ Some false)) clause i (get_or clause i d) within
+        (read_at clause i d within)
+        (λ k f less. inr (seen k f less)) (inl refl),
+  )
+
+  -- the same one again
+  pub seen_again : (u : Literal) → u ≡ get_or clause i d → Seen (Some u) e m clause i → Seen (Some u) e m clause (i + 1)
+  seen_again u same seen = (
+    seen.0,
+    seen.1,
+    upto_more (λ l. (l ≡ u) ⊎ (value_of e m l ≡ Some false)) clause i (get_or clause i d) within (read_at clause i d within) seen.2
+        (inl (sym same)),
+  )
+
+  -- another one
+  pub seen_two : (u : Literal) → (u ≡ get_or clause i d → ⊥) → value_of e m (get_or clause i d) ≡ None
+      → Seen (Some u) e m clause i → IsSettled e m clause
+  seen_two u other h seen = inr (u, get_or clause i d, seen.0, Contains-get_or clause i d within, other, seen.1, h)
+
+-- whether two literals are one, as a test
+pub literals_differ : (l k : Literal) → not (eqb l.atom k.atom && beq l.positive k.positive) ≡ true → l ≡ k → ⊥
+literals_differ l k h same =
+    let at : not (eqb l.atom l.atom && beq l.positive l.positive) ≡ true =
+    subst (λ n. not (eqb l.atom n.atom && beq l.positive n.positive) ≡ true) (sym same) h in
+    own (eqb l.atom l.atom) l.positive (eq-eqb l.atom l.atom refl) at
+  where
+    own : (b sign : Bool) → b ≡ true → not (b && beq sign sign) ≡ true → ⊥
+    own true true e h = never (sym h)
+    own true false e h = never (sym h)
+    own false sign e h = never (sym e)
+
+pub literals_same : (l k : Literal) → not (eqb l.atom k.atom && beq l.positive k.positive) ≡ false → l ≡ k
+literals_same l k h =
+    let both = and_parts (eqb l.atom k.atom) (beq l.positive k.positive)
+    (opened (eqb l.atom k.atom && beq l.positive k.positive) h) in
+    let first = eqb-true l.atom k.atom both.0 in
+    let second = signs l.positive k.positive both.1 in
+    λ i. record { atom = first i; positive = second i }
+  where
+    opened : (b : Bool) → not b ≡ false → b ≡ true
+    opened true e = refl
+    opened false e = never e
+
+    signs : (a b : Bool) → beq a b ≡ true → a ≡ b
+    signs true true e = refl
+    signs false false e = refl
+    signs true false e = never (sym e)
+    signs false true e = never (sym e)
+
+-- where a clause is false each literal is
+pub all_false : (clause : List Literal) (state : List Bool) → in_clause clause state ≡ false
+    → All (λ l. in_literal l state ≡ false) clause
+all_false clause state h = λ k d less.
+    false_from_ne_true (in_literal (get_or clause k d) state)
+    (λ is. never (sym (list_any_at (λ l. in_literal l state) clause k d less is) ∙ h))
+
+-- a literal is made false by its opposite
+pub deny_one : (e : List ℕ) (l : Literal) (m k : List ℕ) (r : Bool)
+    → IsConcluded (λ s. in_literal (opposite l) (over e s) ≡ true) (λ n. value_of e n (opposite l) ≡ Some true) m k r
+    → IsConcluded (λ s. in_literal l (over e s) ≡ false) (λ n. value_of e n l ≡ Some false) m k r
+deny_one e l m k r one =
+    conclude_same (λ s. in_literal (opposite l) (over e s) ≡ true) (λ s. in_literal l (over e s) ≡ false)
+    (λ n. value_of e n (opposite l) ≡ Some true) (λ n. value_of e n l ≡ Some false) m k r
+    (λ s size holds. in_literal-opposite l (over e s) ∙ ap not holds) (λ n size h. value_from_opposite e n l true h) one

@@ -1,0 +1,13 @@
+pub mod Marks
+pub mod Units
+pub mod Clausal
+pub mod Choices
+pub mod Scan
+pub mod Completion
+pub mod Denial
+pub mod Effect
+pub mod Problem
+pub mod Found
+pub mod Overwriting
+pub mod Laws
+pub mod Store
