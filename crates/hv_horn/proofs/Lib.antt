@@ -1,0 +1,2 @@
+pub mod HornClauses
+pub mod Stored

@@ -1,0 +1,10 @@
+//! Horn formulas: sets of states that are given by clauses whose positive literals are of one atom at most.
+#![tactic(auto)]
+
+pub mod horn;
+pub mod horns;
+#[cfg(test)]
+mod tests;
+
+pub use horn::{Horn, HornFault};
+pub use horns::Horns;

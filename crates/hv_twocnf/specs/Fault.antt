@@ -1,0 +1,11 @@
+-- Why clauses are no 2CNF formula.
+use Rattle.std.specs.Prelude.{List, ⊤}
+use Rattle.hv_sets.specs.declared.literal.Literal.{Literal}
+use Rattle.hv_sets.specs.Kinds.{IsFirstOther, IsTwoClause}
+use Rattle.hv_twocnf.specs.declared.two_cnf.TwoCnfFault.{TwoCnfFault}
+use Rattle.hv_twocnf.specs.declared.two_cnf.TwoCnfFault.TheVariants as F
+
+-- the clause that is named is the first that has more than two different literals; want of memory may come at any time
+abbrev pub IsFault : List (List Literal) → TwoCnfFault → Type 0
+IsFault clauses (F.NotTwo place) = IsFirstOther IsTwoClause clauses place
+IsFault clauses F.Memory = ⊤
