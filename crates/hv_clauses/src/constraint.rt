@@ -12,8 +12,7 @@ pub(crate) trait Constraint {
     // The condition tells nothing more beside these marks.
     ghost settled: { Self → List ℕ → Type 0 };
 
-    // One round: marks what follows. The answer is false only if no state that agrees with the marks meets the
-    /// condition.
+    // One round: marks what follows. The answer is false only if no state that agrees with the marks meets the condition.
     fn sweep(&self, marks: &mut [u32], moved: &mut bool) -> bool
         requires { is_over self.now (length marks.old) }
         ensures { IsPropagated (admits self.now) (settled self.now) marks.old moved.old marks.new moved.new result };
