@@ -2,5 +2,7 @@ pub mod DecimalTexts
 pub mod FilePlaces
 pub mod HeldBytes
 pub mod Known
+pub mod LineFields
 pub mod LineLaws
+pub mod PieceFronts
 pub mod WholeText

@@ -1,74 +1,172 @@
--- A text, line after line from its first to its last.
-use Rattle.std.proofs.Common.{◌≡◌, ◌≢◌, ℕ, ◌+◌, List, [], ◌∷◌, ◌++◌, Option, None, Some, IfSome, IsSomeAnd, length, slice_get, take, refl, sym, ap, subst, ◌∙◌, arith, ⊎_elim, append_assoc, append-nil, length-append}
-use Rattle.std.specs.Io.KnownBytes.{IsAtEnd}
-use Rattle.std.proofs.lemmas.List.{take_at}
-use Rattle.std.proofs.lemmas.List.Sums.{sum_by-append}
-use Rattle.hv_bytes.specs.FirstLine.{BeginsLong, FitsAt, FitsLimits, IsFirstLine, IsLong, IsLongAt, Passes, TakesLine}
-use Rattle.hv_bytes.specs.LineCuts.{GaveLines, bytes_in, lines_of}
+-- A reader that takes the lines of a file one after another, against the pieces of the whole file.
+use Rattle.std.proofs.Common.{◌≡◌, ℕ, ◌+◌, ◌≤◌, ◌&&◌, All, Bool, true, false, cond, List, [], ◌∷◌, ◌++◌, Option, None, Some, IfSome, length, nat_le, refl, sym, subst, ap, ◌∙◌, arith, inl, inr, ⊎_elim, append_assoc, append-nil, length-append}
+use Rattle.std.specs.Io.KnownBytes.{IsAtEnd, prepend_known}
+use Rattle.std.proofs.Math.Bool.{and-false}
+use Rattle.std.proofs.lemmas.Bool.{le-leb, leb-true, lt-leb}
+use Rattle.std.proofs.lemmas.List.{map-append}
+use Rattle.std.proofs.lemmas.List.Elements.{All-head, All-tail}
+use Rattle.std.proofs.lemmas.List.Sums.{sum_by-cons}
+use Rattle.hv_bytes.specs.Files.{Names, Opens, bytes_of, file_of}
+use Rattle.hv_bytes.specs.FirstLine.{BeginsLong, FitsLimits, IsFirstLine, IsLong, Passes, TakesLine, last_byte}
+use Rattle.hv_bytes.specs.LineCuts.{bytes_in, lines_of}
+use Rattle.hv_bytes.specs.Pieces.{ComesNext, GaveLines, Piece, as_pieces, fits_limits, pieces_after, pieces_of}
+use Rattle.hv_bytes.specs.declared.cutting.Limits.{Limits}
 use Rattle.hv_bytes.proofs.LineLaws.{lines_of-first}
 
--- one more line of a text in memory
-pub lines_more : (text rest later : List ℕ) (given : List (List ℕ)) (line : List ℕ) → lines_of text ≡ given ++ lines_of rest → lines_of rest ≡ line ∷ lines_of later → lines_of text ≡ (given ++ line ∷ []) ++ lines_of later
-lines_more text rest later given line so_far first =
-    so_far ∙ ap (λ ls. given ++ ls) first ∙ sym (append_assoc given (line ∷ []) (lines_of later))
+-- the line has at most so many bytes
+abbrev pub IsWithin : ℕ → List ℕ → Type 0
+IsWithin most line = length line ≤ most
 
--- before the first line
-pub gave_none : (text : Option (List ℕ)) → GaveLines text [] text 0
-gave_none None = tt
-gave_none (Some text) = (refl, λ _. refl)
+-- the test says what it is to be within the limits
+pub fits-true : (limits : Limits) (earlier size : ℕ) → FitsLimits limits.line limits.file earlier size → fits_limits limits earlier size ≡ true
+fits-true limits earlier size fits = rw (le-leb size limits.line fits.in_line, le-leb (earlier + last_byte size) limits.file fits.in_file)
 
-bytes_in-push : (given : List (List ℕ)) (line : List ℕ) → bytes_in (given ++ line ∷ []) ≡ bytes_in given + (length line + 1)
-bytes_in-push given line = omega (arith, sum_by-append (λ l. length l + 1) given (line ∷ []))
+pub fits-false : (limits : Limits) (earlier size : ℕ) → IsLong limits.line limits.file earlier size → fits_limits limits earlier size ≡ false
+fits-false limits earlier size (inl long) = rw (lt-leb size limits.line long)
+fits-false limits earlier size (inr long) = rw (lt-leb (earlier + last_byte size) limits.file long) (and-false (nat_le size limits.line))
 
-passed : (old line new : List ℕ) (before after : ℕ) → IsFirstLine old line new → after + length new ≡ before + length old → new ≢ [] → after ≡ before + (length line + 1)
-passed old line new before after first sums some =
-    ⊎_elim
-    (λ ended. omega (arith, ap length ended, length-append line (10 ∷ new)))
-    (λ last. absurd (some last.1))
+and-left : (a b : Bool) → (a && b) ≡ true → a ≡ true
+and-left true b e = refl
+and-left false b e = absurd cc
+
+and-right : (a b : Bool) → (a && b) ≡ true → b ≡ true
+and-right true b e = e
+and-right false b e = absurd cc
+
+pub fits_from-true : (limits : Limits) (earlier size : ℕ) → fits_limits limits earlier size ≡ true → FitsLimits limits.line limits.file earlier size
+fits_from-true limits earlier size is = record {
+  in_line = leb-true size limits.line (and-left (nat_le size limits.line) (nat_le (earlier + last_byte size) limits.file) is);
+  in_file = leb-true (earlier + last_byte size) limits.file (and-right (nat_le size limits.line) (nat_le (earlier + last_byte size) limits.file) is);
+}
+
+-- the first of the coming pieces is a line that fits
+pub pieces-line : (limits : Limits) (earlier : ℕ) (line : List ℕ) (lines : List (List ℕ)) → FitsLimits limits.line limits.file earlier (length line)
+    → pieces_after limits earlier (line ∷ lines) ≡ Some line ∷ pieces_after limits (earlier + (length line + 1)) lines
+pieces-line limits earlier line lines fits = rw (fits-true limits earlier (length line) fits)
+
+-- or a long one, and then the last
+pub pieces-long : (limits : Limits) (earlier : ℕ) (line : List ℕ) (lines : List (List ℕ)) → IsLong limits.line limits.file earlier (length line) → pieces_after limits earlier (line ∷ lines) ≡ None ∷ []
+pieces-long limits earlier line lines long = rw (fits-false limits earlier (length line) long)
+
+as_pieces-push : (given : List (List ℕ)) (line : List ℕ) → as_pieces (given ++ line ∷ []) ≡ as_pieces given ++ Some line ∷ []
+as_pieces-push given line = map-append (λ l. Some l) given (line ∷ [])
+
+-- the pieces of the coming bytes, the first of which is a line that was taken off
+pieces_taken : (limits : Limits) (old line new : List ℕ) (before after : ℕ) → IsFirstLine old line new → after + length new ≡ before + length old → FitsLimits limits.line limits.file before (length line)
+    → pieces_after limits before (lines_of old) ≡ Some line ∷ pieces_after limits after (lines_of new)
+pieces_taken limits old line new before after first sums fits =
+    ap (pieces_after limits before) (lines_of-first old line new first) ∙ pieces-line limits before line (lines_of new) fits
+    ∙ ⊎_elim
+    (λ ended. let next : before + (length line + 1) ≡ after = omega (arith, ap length ended, length-append line (10 ∷ new)) in
+    ap (λ n. Some line ∷ pieces_after limits n (lines_of new)) next)
+    (λ last. rw (last.1) refl)
     first.cut
 
+-- before the first line
+pub gave_none : (limits : Limits) (file : Option (List ℕ)) → GaveLines limits file [] file 0
+gave_none limits None = tt
+gave_none limits (Some file) = refl
+
+-- what holds of the file's bytes, where they are known
+pub known : (files : Option Names) (name : List ℕ) (P : List ℕ → Type 0) → IfSome (file_of files name) P → IfSome files (λ f. P (bytes_of f name))
+known None name P h = tt
+known (Some files) name P h = h
+
+-- a file that was opened just now
+pub opened : (files : Option Names) (name : List ℕ) (limits : Limits) (left : Option (List ℕ)) → Opens files name left → GaveLines limits (file_of files name) [] (prepend_known [] left) 0
+opened None name limits left o = tt
+opened (Some files) name limits left o =
+    subst (λ l. GaveLines limits (Some (bytes_of files name)) [] (prepend_known [] l) 0) (sym o) (gave_none limits (Some (bytes_of files name)))
+
 -- one more line
-pub gave_more : (text old new : Option (List ℕ)) (given : List (List ℕ)) (line : List ℕ) (before after : ℕ) → GaveLines text given old before → TakesLine old new line → Passes old new before after
-    → GaveLines text (given ++ line ∷ []) new after
-gave_more None old new given line before after gave first sums = tt
-gave_more (Some text) None new given line before after gave first sums = absurd gave
-gave_more (Some text) (Some old) None given line before after gave first sums = absurd first
-gave_more (Some text) (Some old) (Some new) given line before after gave first sums = (
-  lines_more text old new given line gave.0 (lines_of-first old line new first),
-  λ some. omega (arith, passed old line new before after first sums some, gave.1 first.some, bytes_in-push given line),
-)
+pub gave_more : (limits : Limits) (file old new : Option (List ℕ)) (given : List (List ℕ)) (line : List ℕ) (before after : ℕ) → GaveLines limits file given old before → TakesLine old new line → Passes old new before after
+    → FitsLimits limits.line limits.file before (length line) → GaveLines limits file (given ++ line ∷ []) new after
+gave_more limits None old new given line before after gave first sums fits = tt
+gave_more limits (Some file) None new given line before after gave first sums fits = absurd gave
+gave_more limits (Some file) (Some old) None given line before after gave first sums fits = absurd first
+gave_more limits (Some file) (Some old) (Some new) given line before after gave first sums fits =
+    gave ∙ ap (λ ps. as_pieces given ++ ps) (pieces_taken limits old line new before after first sums fits)
+    ∙ sym (append_assoc (as_pieces given) (Some line ∷ []) (pieces_after limits after (lines_of new)))
+    ∙ ap (λ ps. ps ++ pieces_after limits after (lines_of new)) (sym (as_pieces-push given line))
 
--- at the end all the lines were given
-pub gave_all : (text coming : Option (List ℕ)) (given : List (List ℕ)) (earlier : ℕ) → GaveLines text given coming earlier → IsAtEnd coming → IfSome text (λ bytes. given ≡ lines_of bytes)
-gave_all None coming given earlier gave end = tt
-gave_all (Some text) None given earlier gave end = absurd gave
-gave_all (Some text) (Some coming) given earlier gave end =
-    sym (gave.0 ∙ ap (λ bytes. given ++ lines_of bytes) end ∙ append-nil given)
+-- at the end all pieces were given: they are the lines of the file, none of them long
+pub gave_all : (limits : Limits) (file coming : Option (List ℕ)) (given : List (List ℕ)) (earlier : ℕ) → GaveLines limits file given coming earlier → IsAtEnd coming
+    → IfSome file (λ bytes. pieces_of limits bytes ≡ as_pieces given)
+gave_all limits None coming given earlier gave end = tt
+gave_all limits (Some file) None given earlier gave end = absurd gave
+gave_all limits (Some file) (Some coming) given earlier gave end =
+    gave ∙ ap (λ bytes. as_pieces given ++ pieces_after limits earlier (lines_of bytes)) end ∙ append-nil (as_pieces given)
 
-slice_get_at : (given : List (List ℕ)) (line : List ℕ) (later : List (List ℕ)) → slice_get (given ++ line ∷ later) (length given) ≡ Some line
-slice_get_at [] line later = refl
-slice_get_at (l ∷ given) line later = slice_get_at given line later
+-- where the next line is long, it is the last piece
+pub gave_long : (limits : Limits) (file coming : Option (List ℕ)) (given : List (List ℕ)) (earlier : ℕ) → GaveLines limits file given coming earlier → BeginsLong coming limits.line limits.file earlier
+    → IfSome file (λ bytes. pieces_of limits bytes ≡ as_pieces given ++ None ∷ [])
+gave_long limits None coming given earlier gave long = tt
+gave_long limits (Some file) None given earlier gave long = absurd gave
+gave_long limits (Some file) (Some coming) given earlier gave long =
+    gave ∙ ap (λ ps. as_pieces given ++ ps) (ap (pieces_after limits earlier) (lines_of-first coming long.0 long.1 long.2) ∙ pieces-long limits earlier long.0 (lines_of long.1) long.3)
 
-module _ (text coming line rest : List ℕ) (given : List (List ℕ)) (earlier : ℕ) (gave : GaveLines (Some text) given (Some coming) earlier) (first : IsFirstLine coming line rest) where
-  -- a fact on the next line, after the earlier bytes, is one on the line at its place of the text
-  at_place : (P : ℕ → ℕ → Type 0) → P earlier (length line) → IsSomeAnd (slice_get (lines_of text) (length given)) (λ l. P (bytes_in (take (length given) (lines_of text))) (length l))
-  at_place P here =
-      let all : lines_of text ≡ given ++ line ∷ lines_of rest = gave.0 ∙ ap (λ ls. given ++ ls) (lines_of-first coming line rest first) in
-      rw (all, slice_get_at, take_at given (line ∷ lines_of rest) (length given) refl) (subst (λ n. P n (length line)) (gave.1 first.some) here)
+-- the given lines are the first pieces, wherever the reader stops
+pub gave_front : (limits : Limits) (file coming : Option (List ℕ)) (given : List (List ℕ)) (earlier : ℕ) → GaveLines limits file given coming earlier
+    → IfSome file (λ bytes. (rest : List Piece) × (pieces_of limits bytes ≡ as_pieces given ++ rest))
+gave_front limits None coming given earlier gave = tt
+gave_front limits (Some file) None given earlier gave = absurd gave
+gave_front limits (Some file) (Some coming) given earlier gave = (pieces_after limits earlier (lines_of coming), gave)
 
--- the next line of the coming bytes is long: it is the one of the text after those that were given
-pub long_at : (text coming : Option (List ℕ)) (given : List (List ℕ)) (line_limit file_limit earlier : ℕ) → GaveLines text given coming earlier → BeginsLong coming line_limit file_limit earlier
-    → IfSome text (λ bytes. IsLongAt line_limit file_limit bytes (length given))
-long_at None coming given line_limit file_limit earlier gave long = tt
-long_at (Some text) None given line_limit file_limit earlier gave long = absurd gave
-long_at (Some text) (Some coming) given line_limit file_limit earlier gave long =
-    at_place text coming long.0 long.1 given earlier gave long.2 (IsLong line_limit file_limit) long.3
+-- what comes next after the given lines: a line, a long line, or the end
+pub line_next : (limits : Limits) (file old new : Option (List ℕ)) (given : List (List ℕ)) (line : List ℕ) (before number : ℕ) → GaveLines limits file given old before → TakesLine old new line
+    → FitsLimits limits.line limits.file before (length line) → number ≡ length given + 1 → IfSome file (λ bytes. (rest : List Piece) × ComesNext (pieces_of limits bytes) given (Some line ∷ rest) number)
+line_next limits None old new given line before number gave first fits counted = tt
+line_next limits (Some file) None new given line before number gave first fits counted = absurd gave
+line_next limits (Some file) (Some old) None given line before number gave first fits counted = absurd first
+line_next limits (Some file) (Some old) (Some new) given line before number gave first fits counted =
+    let pieces = ap (pieces_after limits before) (lines_of-first old line new first) ∙ pieces-line limits before line (lines_of new) fits in (
+      pieces_after limits (before + (length line + 1)) (lines_of new),
+      record { cut = gave ∙ ap (λ ps. as_pieces given ++ ps) pieces; counted = counted },
+    )
 
--- the same of a line that fits
-pub fits_at : (text old new : Option (List ℕ)) (given : List (List ℕ)) (line : List ℕ) (line_limit file_limit earlier : ℕ) → GaveLines text given old earlier → TakesLine old new line
-    → FitsLimits line_limit file_limit earlier (length line) → IfSome text (λ bytes. FitsAt line_limit file_limit bytes (length given))
-fits_at None old new given line line_limit file_limit earlier gave first fits = tt
-fits_at (Some text) None new given line line_limit file_limit earlier gave first fits = absurd gave
-fits_at (Some text) (Some old) None given line line_limit file_limit earlier gave first fits = absurd first
-fits_at (Some text) (Some old) (Some new) given line line_limit file_limit earlier gave first fits =
-    at_place text old line new given earlier gave first (FitsLimits line_limit file_limit) fits
+pub long_next : (limits : Limits) (file coming : Option (List ℕ)) (given : List (List ℕ)) (earlier number : ℕ) → GaveLines limits file given coming earlier → BeginsLong coming limits.line limits.file earlier
+    → number ≡ length given + 1 → IfSome file (λ bytes. ComesNext (pieces_of limits bytes) given (None ∷ []) number)
+long_next limits None coming given earlier number gave long counted = tt
+long_next limits (Some file) None given earlier number gave long counted = absurd gave
+long_next limits (Some file) (Some coming) given earlier number gave long counted =
+    record { cut = gave_long limits (Some file) (Some coming) given earlier gave long; counted = counted }
+
+pub end_next : (limits : Limits) (file coming : Option (List ℕ)) (given : List (List ℕ)) (earlier number : ℕ) → GaveLines limits file given coming earlier → IsAtEnd coming
+    → number ≡ length given + 1 → IfSome file (λ bytes. ComesNext (pieces_of limits bytes) given [] number)
+end_next limits None coming given earlier number gave end counted = tt
+end_next limits (Some file) None given earlier number gave end counted = absurd gave
+end_next limits (Some file) (Some coming) given earlier number gave end counted =
+    record { cut = gave_all limits (Some file) (Some coming) given earlier gave end ∙ sym (append-nil (as_pieces given)); counted = counted }
+
+piece_some : (limits : Limits) (earlier : ℕ) (line : List ℕ) (lines : List (List ℕ)) (fits : Bool) → cond fits (Some line ∷ pieces_after limits (earlier + (length line + 1)) lines) (None ∷ []) ≡ [] → ⊥
+piece_some limits earlier line lines true e = cc
+piece_some limits earlier line lines false e = cc
+
+line_from : (limits : Limits) (earlier : ℕ) (line f : List ℕ) (lines found : List (List ℕ)) (fits : Bool) → cond fits (Some line ∷ pieces_after limits (earlier + (length line + 1)) lines) (None ∷ []) ≡ Some f ∷ as_pieces found
+    → (pieces_after limits (earlier + (length line + 1)) lines ≡ as_pieces found → found ≡ lines) → f ∷ found ≡ line ∷ lines
+line_from limits earlier line f lines found true e later =
+    let rest : pieces_after limits (earlier + (length line + 1)) lines ≡ as_pieces found = cc in
+    let same : found ≡ lines = later rest in
+    let first : f ≡ line = cc in
+    cc
+line_from limits earlier line f lines found false e later = absurd cc
+
+lines_from : (limits : Limits) (earlier : ℕ) (lines found : List (List ℕ)) → pieces_after limits earlier lines ≡ as_pieces found → found ≡ lines
+lines_from limits earlier [] [] e = refl
+lines_from limits earlier [] (f ∷ found) e = absurd cc
+lines_from limits earlier (line ∷ lines) [] e = absurd (piece_some limits earlier line lines (fits_limits limits earlier (length line)) e)
+lines_from limits earlier (line ∷ lines) (f ∷ found) e = line_from limits earlier line f lines found (fits_limits limits earlier (length line)) e (lines_from limits (earlier + (length line + 1)) lines found)
+
+-- pieces of which none is long are the lines of the file
+pub lines_from_pieces : (limits : Limits) (file : List ℕ) (lines : List (List ℕ)) → pieces_of limits file ≡ as_pieces lines → lines ≡ lines_of file
+lines_from_pieces limits file lines e = lines_from limits 0 (lines_of file) lines e
+
+-- lines that are short enough for a line, and all together for the file, are the pieces
+pub pieces_of_short : (limits : Limits) (earlier : ℕ) (lines : List (List ℕ)) → All (IsWithin limits.line) lines → earlier + bytes_in lines ≤ limits.file
+    → pieces_after limits earlier lines ≡ as_pieces lines
+pieces_of_short limits earlier [] each all = refl
+pieces_of_short limits earlier (line ∷ lines) each all =
+    let more : bytes_in (line ∷ lines) ≡ (length line + 1) + bytes_in lines = sum_by-cons (λ l. length l + 1) line lines in
+    let last : last_byte (length line) ≤ length line + 1 = omega arith in
+    pieces-line limits earlier line lines (record { in_line = All-head (IsWithin limits.line) line lines each; in_file = omega arith })
+    ∙ ap (λ ps. Some line ∷ ps) (pieces_of_short limits (earlier + (length line + 1)) lines (All-tail (IsWithin limits.line) line lines each) (omega arith))

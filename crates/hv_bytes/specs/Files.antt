@@ -10,6 +10,11 @@ Names = List ℕ → Option (List ℕ)
 abbrev pub bytes_of : Names → List ℕ → List ℕ
 bytes_of held name = unwrap_or (held name) []
 
+-- the bytes under a name, where a shelf tells what it holds
+abbrev pub file_of : Option Names → List ℕ → Option (List ℕ)
+file_of None name = None
+file_of (Some held) name = Some (bytes_of held name)
+
 -- a file as it was added: its name and its bytes
 pub record File : Type 0 where
   pub name : List ℕ

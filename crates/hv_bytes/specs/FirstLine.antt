@@ -1,6 +1,6 @@
 -- The first line of what is still to come, and when it is long.
-use Rattle.std.specs.Prelude.{◌≡◌, ◌≢◌, ℕ, ◌+◌, ◌<◌, ◌≤◌, ◌⊎◌, max, List, [], ◌∷◌, ◌++◌, length, take, Option, None, Some, IsSomeAnd, slice_get}
-use Rattle.hv_bytes.specs.LineCuts.{IsClean, bytes_in, lines_of}
+use Rattle.std.specs.Prelude.{◌≡◌, ◌≢◌, ℕ, ◌+◌, ◌<◌, ◌≤◌, ◌⊎◌, max, List, [], ◌∷◌, ◌++◌, length, Option, None, Some}
+use Rattle.hv_bytes.specs.LineCuts.{IsClean}
 
 -- the first line of these bytes, without its LF, and what comes after it and its LF
 pub record IsFirstLine (coming line rest : List ℕ) : Type 0 where
@@ -26,7 +26,8 @@ IsLong line_limit file_limit earlier length_of_line =
 abbrev pub BeginsLong : Option (List ℕ) → ℕ → ℕ → ℕ → Type 0
 BeginsLong None line_limit file_limit earlier = Unit {0}
 BeginsLong (Some coming) line_limit file_limit earlier =
-    (line : List ℕ) × (rest : List ℕ) × IsFirstLine coming line rest × IsLong line_limit file_limit earlier (length line)
+    (line : List ℕ) × (rest : List ℕ) × IsFirstLine coming line rest
+    × IsLong line_limit file_limit earlier (length line)
 
 -- the first line of the known coming bytes was taken off
 abbrev pub TakesLine : Option (List ℕ) → Option (List ℕ) → List ℕ → Type 0
@@ -39,13 +40,3 @@ abbrev pub Passes : Option (List ℕ) → Option (List ℕ) → ℕ → ℕ → 
 Passes None new before after = Unit {0}
 Passes (Some old) None before after = ⊥
 Passes (Some old) (Some new) before after = after + length new ≡ before + length old
-
--- the line of a text at this place, counted from 0, is long
-abbrev pub IsLongAt : ℕ → ℕ → List ℕ → ℕ → Type 0
-IsLongAt line_limit file_limit text place =
-    IsSomeAnd (slice_get (lines_of text) place) (λ line. IsLong line_limit file_limit (bytes_in (take place (lines_of text))) (length line))
-
--- the line of a text at this place, counted from 0, is within both limits
-abbrev pub FitsAt : ℕ → ℕ → List ℕ → ℕ → Type 0
-FitsAt line_limit file_limit text place =
-    IsSomeAnd (slice_get (lines_of text) place) (λ line. FitsLimits line_limit file_limit (bytes_in (take place (lines_of text))) (length line))

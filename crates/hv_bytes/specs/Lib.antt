@@ -1,7 +1,10 @@
 pub mod Decimals
 pub mod Devices
 pub mod FirstLine
+pub mod Fields
 pub mod Files
 pub mod LineCuts
 pub mod LineParts
+pub mod Pieces
+pub mod Standard
 pub mod States

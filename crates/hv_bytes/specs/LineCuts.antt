@@ -1,12 +1,13 @@
 -- A text cut into lines at LF, byte 10.
-use Rattle.std.specs.Prelude.{◌≡◌, ◌≢◌, ℕ, ◌+◌, ◌<◌, ◌==◌, List, [], ◌∷◌, ◌++◌, Option, None, Some, length, take, drop, sum_by, All, if◌then◌else◌}
+use Rattle.std.specs.Prelude.{◌≡◌, ◌≢◌, ℕ, ◌+◌, ◌<◌, ◌==◌, List, [], ◌∷◌, length, take, drop, sum_by, All, if◌then◌else◌}
 use Rattle.std.specs.List.{onto_first}
 
 -- no byte is an LF
 abbrev pub IsClean : List ℕ → Type 0
 IsClean bytes = All (λ b. b ≢ 10) bytes
 
--- the lines of a text, without their LFs: the last LF may be missing, and an LF at the end begins no further line
+-- the lines of a text, without their LFs: the last LF may be missing, and an LF at the end begins no
+-- further line
 abbrev pub lines_of : List ℕ → List (List ℕ)
 lines_of [] = []
 lines_of (b ∷ bytes) = if b == 10 then [] ∷ lines_of bytes else onto_first b (lines_of bytes)
@@ -20,10 +21,3 @@ pub record IsFirstLf (bytes : List ℕ) (at : ℕ) : Type 0 where
 -- how many bytes these lines have, each with its LF
 abbrev pub bytes_in : List (List ℕ) → ℕ
 bytes_in lines = sum_by (λ line. length line + 1) lines
-
--- of a known text these lines were given: they and the lines of the bytes still to come are its lines, and the earlier bytes are those of the given lines with their LFs, as long as some are to come
-abbrev pub GaveLines : Option (List ℕ) → List (List ℕ) → Option (List ℕ) → ℕ → Type 0
-GaveLines None given coming earlier = Unit {0}
-GaveLines (Some text) given None earlier = ⊥
-GaveLines (Some text) given (Some coming) earlier =
-    (lines_of text ≡ given ++ lines_of coming) × (coming ≢ [] → earlier ≡ bytes_in given)

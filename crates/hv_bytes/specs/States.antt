@@ -1,7 +1,8 @@
 -- What contracts see of the shelves, sinks and line cutters of this crate.
-use Rattle.std.specs.Prelude.{ℕ, ◌+◌, ◌^◌, ◌≤◌, Bool, List, Option}
+use Rattle.std.specs.Prelude.{◌≡◌, ℕ, ◌+◌, ◌^◌, ◌≤◌, Bool, true, false, List, [], Option, Some, if◌then◌else◌}
 use Rattle.std.specs.Io.KnownBytes.{prepend_known}
 use Rattle.hv_bytes.specs.Files.{File}
+use Rattle.hv_bytes.specs.declared.cutting.Limits.{Limits}
 
 -- a shelf in memory
 pub record ShelfState : Type 0 where
@@ -48,19 +49,42 @@ pub record LinesState : Type 0 where
   pub number : ℕ
   -- the line given last, without its LF
   pub line : List ℕ
+  -- whether the input has ended: nothing more is read then
+  pub ended : Bool
   -- whether it may be asked for a further line
   pub live : Bool
-  pub line_limit : ℕ
-  pub file_limit : ℕ
+  pub limits : Limits
 
--- the bytes still to come, where the shelf tells what it has left: the held ones, then those on the shelf
+-- a cutter that gave no line yet
+abbrev pub no_lines : Limits → LinesState
+no_lines limits = record {
+  held = [];
+  earlier = 0;
+  number = 0;
+  line = [];
+  ended = false;
+  live = true;
+  limits = limits;
+}
+
+-- the bytes still to come, where the shelf tells what it has left: the held ones, then those on the
+-- shelf; none once the input has ended
 abbrev pub coming_of : LinesState → Option (List ℕ) → Option (List ℕ)
-coming_of state left = prepend_known state.held left
+coming_of state left = if state.ended then Some [] else prepend_known state.held left
 
--- the limits are not too great for 64 bits, and the counts are within them
-pub record IsCounted (line_limit file_limit earlier number : ℕ) : Type 0 where
-  pub line_bound : line_limit ≤ 2 ^ 62
-  pub file_bound : file_limit ≤ 2 ^ 62
-  pub earlier_bound : earlier ≤ file_limit + 1
-  pub number_bound : number ≤ earlier
-  pub lines_bound : number ≤ file_limit
+-- how many bytes a line of this length has with its LF, which the last line of an input that ended may
+-- lack
+abbrev pub size_of : ℕ → Bool → ℕ
+size_of length_of_line ended = if ended then length_of_line else length_of_line + 1
+
+-- the limits are not too great for 64 bits, the counts are within them, and no byte is held behind the
+-- end
+pub record IsCounted
+    (limits : Limits) (earlier number : ℕ) (held : List ℕ) (ended : Bool) : Type 0
+  where
+    pub line_bound : limits.line ≤ 2 ^ 62
+    pub file_bound : limits.file ≤ 2 ^ 62
+    pub earlier_bound : earlier ≤ limits.file + 1
+    pub number_bound : number ≤ earlier
+    pub lines_bound : number ≤ limits.file
+    pub all_given : ended ≡ true → held ≡ []

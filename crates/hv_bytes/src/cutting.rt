@@ -3,7 +3,7 @@ ghost use Rattle.std.specs.Io.KnownBytes.{IsAtEnd, prepend_known};
 ghost use Rattle.hv_bytes.specs.Devices.{Rose};
 ghost use Rattle.hv_bytes.specs.FirstLine.{BeginsLong, FitsLimits, IsLong, Passes, TakesLine};
 ghost use Rattle.hv_bytes.specs.LineParts.{EndsLine, IsLongPart, LengthensLine};
-ghost use Rattle.hv_bytes.specs.States.{coming_of};
+ghost use Rattle.hv_bytes.specs.States.{coming_of, no_lines, size_of};
 
 use crate::held::Held;
 use crate::outside::{Failed, Shelf};
@@ -21,11 +21,17 @@ pub struct Limits {
     pub file: u64,
 }
 
+/// The most bytes of a line without its LF, under the standard limits.
+pub const MOST_LINE_BYTES: u64 = 16_777_216;
+
+/// The most bytes of a file, under the standard limits: 2^40.
+pub const MOST_FILE_BYTES: u64 = 1_099_511_627_776;
+
 impl Limits {
     /// The standard limits: 16,777,216 bytes a line and 2^40 bytes a file.
     pub const STANDARD: Limits = Limits {
-        line: 16_777_216,
-        file: 1_099_511_627_776,
+        line: MOST_LINE_BYTES,
+        file: MOST_FILE_BYTES,
     };
 
     /// Whether a line of this length, without its LF and after so many earlier bytes, is within the
@@ -97,7 +103,8 @@ fn append_part(
     requires short { length line.old.items ≤ limits.line }
     ensures line { OnOk result (line.new.items ≡ line.old.items ++ take count held.old) }
     ensures held { OnOk result (held.new ≡ drop count held.old) }
-    ensures fits { OnOk result (FitsLimits limits.line limits.file earlier (length line.old.items + count)) }
+    ensures fits { OnOk result (FitsLimits
+        limits.line limits.file earlier (length line.old.items + count)) }
     ensures long { IsErrOf result LineFault.Long →
         IsLong limits.line limits.file earlier (length line.old.items + count) }
     ensures sure { result ≢ Err LineFault.Failed }
@@ -122,9 +129,12 @@ fn take_part(
 ) -> Result<bool, LineFault>
     requires limit { limits.line ≤ 2 ^ 62 }
     requires short { length line.old.items ≤ limits.line }
-    ensures ended { result ≡ Ok true → EndsLine held.old held.new line.old.items line.new.items }
-    ensures open { result ≡ Ok false → LengthensLine held.old held.new line.old.items line.new.items }
-    ensures fits { OnOk result (FitsLimits limits.line limits.file earlier (length line.new.items)) }
+    ensures ended { result ≡ Ok true →
+        EndsLine held.old held.new line.old.items line.new.items }
+    ensures open { result ≡ Ok false →
+        LengthensLine held.old held.new line.old.items line.new.items }
+    ensures fits { OnOk result (FitsLimits
+        limits.line limits.file earlier (length line.new.items)) }
     ensures long { IsErrOf result LineFault.Long →
         IsLongPart held.old limits.line limits.file earlier (length line.old.items) }
     ensures sure { result ≢ Err LineFault.Failed }
@@ -154,17 +164,24 @@ fn read_begun<S: Shelf>(
     requires some { held.old ≢ [] }
     requires limit { limits.line ≤ 2 ^ 62 }
     ensures line { OnOk result (TakesLine
-        (prepend_known held.old (S.left shelf.old)) (prepend_known held.new (S.left shelf.new)) line.new.items) }
+        (prepend_known held.old (S.left shelf.old))
+        (prepend_known held.new (S.left shelf.new)) line.new.items) }
     ensures passes { IfOk result (λ n. Passes
-        (prepend_known held.old (S.left shelf.old)) (prepend_known held.new (S.left shelf.new)) 0 n) }
-    ensures count { IfOk result (λ n. (0 < n) × (length line.new.items ≤ n) × (n ≤ length line.new.items + 1)) }
-    ensures fits { OnOk result (FitsLimits limits.line limits.file earlier (length line.new.items)) }
+        (prepend_known held.old (S.left shelf.old))
+        (prepend_known held.new (S.left shelf.new)) 0 n) }
+    ensures count { IfOk result (λ n.
+        (0 < n) × (length line.new.items ≤ n) × (n ≤ length line.new.items + 1)) }
+    ensures last { IfOk result (λ n. n ≡ length line.new.items →
+        (held.new ≡ []) × IsAtEnd (prepend_known held.new (S.left shelf.new))) }
+    ensures fits { OnOk result (FitsLimits
+        limits.line limits.file earlier (length line.new.items)) }
     ensures long { IsErrOf result LineFault.Long →
         BeginsLong (prepend_known held.old (S.left shelf.old)) limits.line limits.file earlier }
     ensures held { S.held shelf.new ≡ S.held shelf.old }
     ensures allows { S.allows shelf.new ≡ S.allows shelf.old }
     ensures later { S.faults shelf.old ≤ S.faults shelf.new }
-    ensures cause { IsErrOf result LineFault.Failed → Rose (S.faults shelf.old) (S.faults shelf.new) }
+    ensures cause { IsErrOf result LineFault.Failed →
+        Rose (S.faults shelf.old) (S.faults shelf.new) }
 {
     line.clear();
     'parts: loop {
@@ -188,11 +205,15 @@ fn read_line<S: Shelf>(
 ) -> Result<Option<u64>, LineFault>
     requires { limits.line ≤ 2 ^ 62 }
     ensures line { IfOk result (λ count. IfSome count (λ _. TakesLine
-        (prepend_known held.old (S.left shelf.old)) (prepend_known held.new (S.left shelf.new)) line.new.items)) }
+        (prepend_known held.old (S.left shelf.old))
+        (prepend_known held.new (S.left shelf.new)) line.new.items)) }
     ensures passes { IfOk result (λ count. Passes
-        (prepend_known held.old (S.left shelf.old)) (prepend_known held.new (S.left shelf.new)) 0 (unwrap_or count 0)) }
+        (prepend_known held.old (S.left shelf.old))
+        (prepend_known held.new (S.left shelf.new)) 0 (unwrap_or count 0)) }
     ensures count { IfOk result (λ count. IfSome count (λ n.
         (0 < n) × (length line.new.items ≤ n) × (n ≤ length line.new.items + 1))) }
+    ensures last { IfOk result (λ count. IfSome count (λ n. n ≡ length line.new.items →
+        (held.new ≡ []) × IsAtEnd (prepend_known held.new (S.left shelf.new)))) }
     ensures fits { IfOk result (λ count. IfSome count (λ _.
         FitsLimits limits.line limits.file earlier (length line.new.items))) }
     ensures end { IfOk result (λ count. IfNone count (
@@ -204,7 +225,8 @@ fn read_line<S: Shelf>(
     ensures held { S.held shelf.new ≡ S.held shelf.old }
     ensures allows { S.allows shelf.new ≡ S.allows shelf.old }
     ensures later { S.faults shelf.old ≤ S.faults shelf.new }
-    ensures cause { IsErrOf result LineFault.Failed → Rose (S.faults shelf.old) (S.faults shelf.new) }
+    ensures cause { IsErrOf result LineFault.Failed →
+        Rose (S.faults shelf.old) (S.faults shelf.new) }
 {
     held.refill(shelf)?;
     if held.is_empty() {
@@ -221,6 +243,7 @@ pub struct Lines {
     line: Vec<u8>,
     earlier: u64,
     number: u64,
+    ended: bool,
     live: bool,
     limits: Limits,
 }
@@ -235,12 +258,12 @@ impl Model for Lines {
       earlier = l.earlier;
       number = l.number;
       line = l.line.items;
+      ended = l.ended;
       live = l.live;
-      line_limit = l.limits.line;
-      file_limit = l.limits.file;
+      limits = l.limits;
     } };
 
-    ghost invariant = { λ l. IsCounted l.limits.line l.limits.file l.earlier l.number };
+    ghost invariant = { λ l. IsCounted l.limits l.earlier l.number l.held l.ended };
 }
 
 impl Lines {
@@ -248,15 +271,7 @@ impl Lines {
     pub fn new(alloc: Global, limits: Limits) -> Result<Lines, AllocError>
         requires line { limits.line ≤ 2 ^ 62 }
         requires file { limits.file ≤ 2 ^ 62 }
-        ensures { IfOk result (λ lines. lines ≡ record {
-          held = [];
-          earlier = 0;
-          number = 0;
-          line = [];
-          live = true;
-          line_limit = limits.line;
-          file_limit = limits.file;
-        }) }
+        ensures { IfOk result (λ lines. lines ≡ no_lines limits) }
     {
         let held = Held::new(alloc)?;
         Ok(Lines {
@@ -264,6 +279,7 @@ impl Lines {
             line: Vec::new(alloc),
             earlier: 0,
             number: 0,
+            ended: false,
             live: true,
             limits,
         })
@@ -290,44 +306,55 @@ impl Lines {
         self.number
     }
 
-    /// Reads the next line of the shelf's open file. A read of 0 bytes is the end of the input.
+    /// Reads the next line of the shelf's open file. A read of 0 bytes is the end of the input: after it
+    /// nothing is read any more.
     ///
     /// The same shelf is to be given in each call, with nothing else read from it in between: the
     /// held bytes and those left on the shelf are together the bytes still to come.
     pub fn next<S: Shelf>(&mut self, shelf: &mut S) -> Result<Next, LineFault>
         requires { IsTrue self.old.live }
 
-        // where the shelf tells what is left, a line exactly where bytes are to come: the first of them
+        // where the shelf tells what is left, a line exactly where bytes are to come: the first of
+        // them
         ensures line { result ≡ Ok Next.Line → TakesLine
-            (coming_of self.old (S.left shelf.old)) (coming_of self.new (S.left shelf.new)) self.new.line }
-        ensures end { result ≡ Ok Next.End → IsAtEnd (coming_of self.old (S.left shelf.old))
-            × IsAtEnd (coming_of self.new (S.left shelf.new)) }
+            (coming_of self.old (S.left shelf.old))
+            (coming_of self.new (S.left shelf.new)) self.new.line }
+        ensures end { result ≡ Ok Next.End → IsAtEnd (coming_of self.old (S.left shelf.old)) }
         ensures earlier { OnOk result (Passes
             (coming_of self.old (S.left shelf.old)) (coming_of self.new (S.left shelf.new))
             self.old.earlier self.new.earlier) }
 
         // long exactly where the line is long
-        ensures fits { result ≡ Ok Next.Line →
-            FitsLimits self.old.line_limit self.old.file_limit self.old.earlier (length self.new.line) }
+        ensures fits { result ≡ Ok Next.Line → FitsLimits
+            self.old.limits.line self.old.limits.file self.old.earlier (length self.new.line) }
         ensures long { IsErrOf result LineFault.Long → BeginsLong
             (coming_of self.old (S.left shelf.old))
-            self.old.line_limit self.old.file_limit self.old.earlier }
+            self.old.limits.line self.old.limits.file self.old.earlier }
 
-        // told or not
+        // told or not: each line counts, with its bytes and its LF
         ensures number { result ≡ Ok Next.Line → self.new.number ≡ self.old.number + 1 }
-        ensures same { result ≡ Ok Next.End → self.new ≡ self.old }
+        ensures counted { result ≡ Ok Next.Line →
+            self.new.earlier ≡ self.old.earlier + size_of (length self.new.line) self.new.ended }
+        ensures same { result ≡ Ok Next.End → self.new ≡ record self.old { ended = true } }
         ensures same_number { OnErr result (self.new.number ≡ self.old.number) }
         ensures same_earlier { OnErr result (self.new.earlier ≡ self.old.earlier) }
-        ensures within { self.new.number ≤ self.new.file_limit }
+        ensures within { self.new.number ≤ self.new.limits.file }
+        ensures earlier_within { self.new.earlier ≤ self.new.limits.file + 1 }
+        ensures limits { self.new.limits ≡ self.old.limits }
         ensures live { IsTrue self.new.live ↔ IsOk result }
-        ensures line_limit { self.new.line_limit ≡ self.old.line_limit }
-        ensures file_limit { self.new.file_limit ≡ self.old.file_limit }
+
+        // once the input has ended nothing is read
+        ensures ended { IsTrue self.old.ended → (result ≡ Ok Next.End) × (shelf.new ≡ shelf.old) }
 
         ensures held { S.held shelf.new ≡ S.held shelf.old }
         ensures allows { S.allows shelf.new ≡ S.allows shelf.old }
         ensures later { S.faults shelf.old ≤ S.faults shelf.new }
-        ensures cause { IsErrOf result LineFault.Failed → Rose (S.faults shelf.old) (S.faults shelf.new) }
+        ensures cause { IsErrOf result LineFault.Failed →
+            Rose (S.faults shelf.old) (S.faults shelf.new) }
     {
+        if self.ended {
+            return Ok(Next::End);
+        }
         self.live = false;
         let count = read_line(
             shelf,
@@ -338,8 +365,12 @@ impl Lines {
         )?;
         self.live = true;
         match count {
-            None => Ok(Next::End),
+            None => {
+                self.ended = true;
+                Ok(Next::End)
+            }
             Some(count) => {
+                self.ended = count == self.line.len() as u64;
                 self.earlier += count;
                 self.number += 1;
                 Ok(Next::Line)

@@ -15,11 +15,11 @@ mod sure;
 mod tests;
 mod transfer;
 
-pub use cutting::{Limits, LineFault, Lines, Next};
+pub use cutting::{Limits, LineFault, Lines, MOST_FILE_BYTES, MOST_LINE_BYTES, Next};
 pub use memory_shelf::MemoryShelf;
 pub use memory_sink::MemorySink;
 pub use outside::{Failed, Shelf, Sink};
 pub use spelling::{Text, read_decimal, read_short_decimal};
-pub use splitting::split_line;
+pub use splitting::{split_field, split_line};
 pub use sure::{SureShelf, SureSink};
 pub use transfer::{ReadAllFault, read_all, send};

@@ -1,4 +1,4 @@
-ghost use Rattle.std.specs.Prelude.{◌≡◌, ℕ, ◌≤◌, ◌++◌, [], ◌↔◌, length, IsTrue, OnOk, OnErr, IfSome, IfNone, decimal};
+ghost use Rattle.std.specs.Prelude.{◌≡◌, ℕ, ◌≤◌, ◌++◌, [], ◌↔◌, length, take, IsTrue, OnOk, OnErr, IfSome, IfNone, decimal};
 ghost use Rattle.std.specs.Str.Parse.{AllDigits, digits_value};
 ghost use Rattle.hv_bytes.specs.Decimals.{HasDecimalShape, IsDecimal, IsShortDecimal};
 
@@ -46,6 +46,21 @@ impl Text {
         let mut buffer = Buffer::new();
         self.bytes
             .extend_from_slice(buffer.format(number).as_bytes())
+    }
+
+    /// How many bytes it has.
+    pub fn len(&self) -> usize
+        ensures { result ≡ length self.now }
+    {
+        self.bytes.len()
+    }
+
+    /// Keeps the first `count` bytes alone.
+    pub fn truncate(&mut self, count: usize)
+        requires { count ≤ length self.old }
+        ensures { self.new ≡ take count self.old }
+    {
+        self.bytes.truncate(count);
     }
 
     /// The bytes of the text.

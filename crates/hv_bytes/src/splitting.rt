@@ -1,4 +1,5 @@
-ghost use Rattle.std.specs.Prelude.{◌≡◌, ◌<◌, ◌↔◌, [], ◌∷◌, length, IsNone, IfSome, IfNone};
+ghost use Rattle.std.specs.Prelude.{◌≡◌, ◌<◌, ◌↔◌, [], ◌∷◌, length, IsNone, IfSome, IfNone, MatchOption};
+ghost use Rattle.hv_bytes.specs.Fields.{HasNoSpace, IsFirstSpace, cut_fields};
 ghost use Rattle.hv_bytes.specs.FirstLine.{IsFirstLine};
 ghost use Rattle.hv_bytes.specs.LineCuts.{IsClean, IsFirstLf, lines_of};
 
@@ -26,5 +27,28 @@ pub fn split_line(text: &[u8]) -> Option<(&[u8], &[u8])>
     match find_lf(text) {
         Some(at) => Some((&text[..at], &text[at + 1..])),
         None => Some((text, &[])),
+    }
+}
+
+/// The place of the first space.
+fn find_space(bytes: &[u8]) -> Option<usize>
+    ensures none { IfNone result (HasNoSpace bytes.now) }
+    ensures some { IfSome result (IsFirstSpace bytes.now) }
+{
+    memchr(b' ', bytes)
+}
+
+/// The first field of a line, which ends before the first space, and what comes after that space:
+/// nothing where the field is the last one.
+pub fn split_field(line: &[u8]) -> (&[u8], Option<&[u8]>)
+    ensures fields { MatchOption result.1
+        (cut_fields line.now ≡ result.0.now ∷ [])
+        (λ rest. cut_fields line.now ≡ result.0.now ∷ cut_fields rest.now) }
+    ensures clean { HasNoSpace result.0.now }
+    ensures shorter { IfSome result.1 (λ rest. length rest.now < length line.now) }
+{
+    match find_space(line) {
+        Some(at) => (&line[..at], Some(&line[at + 1..])),
+        None => (line, None),
     }
 }

@@ -1,10 +1,11 @@
 //! Worked examples, and each call that takes memory once on its happy path.
-ghost use Rattle.std.specs.Prelude.{◌≡◌, ◌≤◌, ◌^◌, [], ◌∷◌, ◌++◌, map, IfOk, IfSome, OnOk};
-ghost use Rattle.hv_bytes.specs.LineCuts.{lines_of};
+ghost use Rattle.std.specs.Prelude.{None, true, ◌≡◌, ◌≤◌, ◌^◌, [], ◌∷◌, ◌++◌, map, IfOk, IfSome, OnOk};
+ghost use Rattle.hv_bytes.specs.Pieces.{as_pieces, pieces_of};
 
 use crate::{
-    Limits, LineFault, Lines, MemoryShelf, MemorySink, Next, ReadAllFault, Shelf, Sink, SureShelf,
-    SureSink, Text, read_all, read_decimal, read_short_decimal, send, split_line,
+    Failed, Limits, LineFault, Lines, MemoryShelf, MemorySink, Next, ReadAllFault, Shelf, Sink,
+    SureShelf, SureSink, Text, read_all, read_decimal, read_short_decimal, send, split_field,
+    split_line,
 };
 use std::alloc::{AllocError, Global};
 use std::test::Fail;
@@ -39,8 +40,8 @@ fn all_lines<S: Shelf>(
 ) -> Result<Vec<Vec<u8>>, LineFault>
     requires line { limits.line ≤ 2 ^ 62 }
     requires file { limits.file ≤ 2 ^ 62 }
-    ensures { IfSome (S.left shelf.old) (λ text.
-        IfOk result (λ all. map (λ v. v.items) all.items ≡ lines_of text)) }
+    ensures { IfSome (S.left shelf.old) (λ text. IfOk result (λ all.
+        pieces_of limits text ≡ as_pieces (map (λ v. v.items) all.items))) }
 {
     let mut lines = Lines::new(alloc, limits)?;
     let mut all = Vec::new(alloc);
@@ -110,6 +111,78 @@ fn cuts_lines(rt: HostRuntime) -> Result<(), Fail> {
     Ok(())
 }
 
+/// A terminal: it gives some bytes, says once that they end, and gives them again.
+#[derive(Drop)]
+struct Terminal {
+    reads: u8,
+}
+
+impl Shelf for Terminal {
+    ghost held = { λ _. None };
+
+    ghost left = { λ _. None };
+
+    ghost allows = { λ _ _. true };
+
+    ghost faults = { λ _. 0 };
+
+    fn open(&mut self, _name: &str) -> Result<(), Failed> {
+        Ok(())
+    }
+
+    fn read(&mut self, into: &mut [u8]) -> Result<usize, Failed> {
+        self.reads = self.reads.wrapping_add(1);
+        if self.reads == 2 {
+            return Ok(0);
+        }
+        into[0] = b'a';
+        Ok(1)
+    }
+}
+
+#[test]
+fn ends_once(rt: HostRuntime) -> Result<(), Fail> {
+    let mut terminal = Terminal { reads: 0 };
+    let mut lines = Lines::new(rt.alloc(), Limits::STANDARD)?;
+    for want in [Next::Line, Next::End, Next::End] {
+        assert!(rt; lines.live());
+        assert_eq!(rt; lines.next(&mut terminal)?, want);
+    }
+    assert_eq!(rt; terminal.reads, 2);
+    Ok(())
+}
+
+#[test]
+fn reads_no_further_than_a_line(rt: HostRuntime) -> Result<(), Fail> {
+    // the open and two reads of seven bytes bring the eight bytes of the first line
+    for call in [3, 4] {
+        let mut shelf = shelf_of(rt.alloc(), "e 1 c e\n# x\n# x\n# x\n", 7)?;
+        shelf.fail_at(call)?;
+        shelf.open("file")?;
+        let mut lines = Lines::new(rt.alloc(), Limits::STANDARD)?;
+        let first = lines.next(&mut shelf);
+        assert_eq!(rt; first.is_ok(), call == 4, "at call {call}");
+    }
+    Ok(())
+}
+
+#[test]
+fn parts_fields(rt: HostRuntime) {
+    let cases = [
+        ("", "", None),
+        ("17", "17", None),
+        ("17 0 1", "17", Some("0 1")),
+        (" 17", "", Some("17")),
+        ("17 ", "17", Some("")),
+        ("1  0", "1", Some(" 0")),
+    ];
+    for (line, first, rest) in cases {
+        let got = split_field(line.as_bytes());
+        assert_eq!(rt; got.0, first.as_bytes(), "{line:?}");
+        assert_eq!(rt; got.1, rest.map(|rest| rest.as_bytes()), "{line:?}");
+    }
+}
+
 #[test]
 fn refuses_long_lines(rt: HostRuntime) -> Result<(), Fail> {
     // the last byte of an empty line is its LF, and that of another line stands before its LF
@@ -173,6 +246,8 @@ fn writes_bytes_and_numbers(rt: HostRuntime) -> Result<(), Fail> {
         text.push_bytes(b"=")?;
         text.push_number(number)?;
         assert_eq!(rt; text.as_bytes(), want.as_bytes());
+        text.truncate(1);
+        assert_eq!(rt; text.as_bytes(), b"=".as_slice());
     }
 
     let mut sure = SureSink::new();

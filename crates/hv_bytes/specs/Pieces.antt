@@ -1,0 +1,47 @@
+-- The pieces of a file: its lines in order, up to the first one that is long.
+use Rattle.std.specs.Prelude.{◌≡◌, ℕ, ◌+◌, ◌&&◌, Bool, List, [], ◌∷◌, ◌++◌, Option, None, Some, map, length, nat_le, if◌then◌else◌}
+use Rattle.hv_bytes.specs.FirstLine.{last_byte}
+use Rattle.hv_bytes.specs.LineCuts.{lines_of}
+use Rattle.hv_bytes.specs.declared.cutting.Limits.{Limits}
+
+-- a piece of a file: the bytes of a line without its LF, or none where the line is long
+abbrev pub Piece : Type 0
+Piece = Option (List ℕ)
+
+-- whether a line of this length, after so many earlier bytes of the file, is within both limits
+abbrev pub fits_limits : Limits → ℕ → ℕ → Bool
+fits_limits limits earlier length_of_line =
+    nat_le length_of_line limits.line && nat_le (earlier + last_byte length_of_line) limits.file
+
+-- the pieces that these lines are, after so many earlier bytes of the file: a file with a long line is
+-- read no further
+abbrev pub pieces_after : Limits → ℕ → List (List ℕ) → List Piece
+pieces_after limits earlier [] = []
+pieces_after limits earlier (line ∷ lines) =
+    if fits_limits limits earlier (length line)
+    then Some line ∷ pieces_after limits (earlier + (length line + 1)) lines
+    else None ∷ []
+
+-- the pieces of a file
+abbrev pub pieces_of : Limits → List ℕ → List Piece
+pieces_of limits file = pieces_after limits 0 (lines_of file)
+
+-- these lines as pieces, none of them long
+abbrev pub as_pieces : List (List ℕ) → List Piece
+as_pieces lines = map (λ line. Some line) lines
+
+-- Of these pieces the lines `before` come first, none of them long. The one of this number, counted
+-- from 1, comes next: the first of the rest, or none at the end of the file.
+pub record ComesNext
+    (pieces : List Piece) (before : List (List ℕ)) (rest : List Piece) (number : ℕ) : Type 0
+  where
+    pub cut : pieces ≡ as_pieces before ++ rest
+    pub counted : number ≡ length before + 1
+
+-- of a known file these lines were given, none of them long: with the pieces of the coming bytes they
+-- are its pieces
+abbrev pub GaveLines : Limits → Option (List ℕ) → List (List ℕ) → Option (List ℕ) → ℕ → Type 0
+GaveLines limits None given coming earlier = Unit {0}
+GaveLines limits (Some file) given None earlier = ⊥
+GaveLines limits (Some file) given (Some coming) earlier =
+    pieces_of limits file ≡ as_pieces given ++ pieces_after limits earlier (lines_of coming)
