@@ -3,4 +3,7 @@ pub mod Runs
 pub mod Deadness
 pub mod Rising
 pub mod Tasks
+pub mod Flags
+pub mod Next
+pub mod Outside
 pub mod Listing

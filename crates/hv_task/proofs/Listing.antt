@@ -1,14 +1,15 @@
 -- The atoms that a state holds, as a list that rises.
-use Rattle.std.proofs.Common.{◌≡◌, ℕ, ◌+◌, ◌<◌, ◌∙◌, Bool, true, false, List, [], ◌∷◌, ◌++◌, length, get_or, sym, ap, arith, inl, inr, subst}
-use Rattle.std.proofs.lemmas.Bool.{cases_lt}
+use Rattle.std.proofs.Common.{◌≡◌, ℕ, ◌+◌, ◌<◌, ◌↔◌, ◌∙◌, Bool, true, List, [], ◌∷◌, ◌++◌, Some, None, length, get_or, sym, ap, arith, inl, inr, subst}
+use Rattle.std.proofs.lemmas.Bool.{both_ways, cases_lt}
 use Rattle.std.proofs.lemmas.Bool.Decides.{same_from_decides}
 use Rattle.std.proofs.lemmas.List.{get_or_push, get_or_append_left, length_push}
 use Rattle.std.proofs.lemmas.List.Elements.{Contains-get_or, Contains-append_left, Contains-push, Contains-push_cases}
 use Rattle.std.specs.List.{Contains}
 use Rattle.std.specs.List.Sorted.{IsStrictlyIncreasing}
-use Rattle.hv_task.specs.AtomList.{ListsBelow, IsListOf}
+use Rattle.hv_task.specs.AtomList.{IsListOf}
+use Rattle.hv_task.specs.Atoms.{IsNext, Lists}
 use Rattle.hv_task.specs.State.{AreBelow, has_atom, names_atom, state_of}
-use Rattle.hv_task.proofs.Places.{has_atom-state_of, length-state_of, same_state, names_atom-Decides}
+use Rattle.hv_task.proofs.Places.{has_atom_past, has_atom-state_of, length-state_of, same_state, names_atom-Decides}
 use Rattle.hv_task.proofs.Rising.{same_rising}
 
 -- a greater atom at the end keeps a list rising
@@ -26,37 +27,59 @@ rises-push xs i rises below k within =
           let less = below k (omega arith) in omega arith
     ]
 
-module _ (state : List Bool) (i : ℕ) (xs : List ℕ) (so_far : ListsBelow state i xs) where
-  -- the next atom is held, and was put last
-  pub lists_held : has_atom state i ≡ true → ListsBelow state (i + 1) (xs ++ i ∷ [])
-  lists_held held = record {
-    rises = rises-push xs i so_far.rises (λ k within. ((so_far.has (get_or xs k 0)).0 (Contains-get_or xs k 0 within)).0);
-    has = λ a. (
-      λ c. elim (Contains-push_cases xs i a c) [
-        | inl old ↦ let f = (so_far.has a).0 old in (omega (arith, f.0), f.1)
-        | inr e ↦ (omega arith, ap (λ p. has_atom state p) (sym e) ∙ held)
+module _ (set : ℕ → Bool) where
+  pub lists_none : Lists set 0 []
+  lists_none = record {
+    rises = λ k within. absurd (omega arith);
+    has = λ a. (λ c. absurd (omega (arith, c.1)), λ f. absurd (omega (arith, f.0)));
+  }
+
+  -- the next atom, put last
+  pub lists_next : (from : ℕ) (xs : List ℕ) (a : ℕ) → Lists set from xs → IsNext set from (Some a) → Lists set (a + 1) (xs ++ a ∷ [])
+  lists_next from xs a lists next = record {
+    rises = rises-push xs a lists.rises (λ k within. let f = (lists.has (get_or xs k 0)).0 (Contains-get_or xs k 0 within) in omega (arith, f.0, next.0));
+    has = λ b. (
+      λ c. elim (Contains-push_cases xs a b c) [
+        | inl old ↦ let f = (lists.has b).0 old in (omega (arith, f.0, next.0), f.1)
+        | inr e ↦ (omega (arith, e), subst (λ p. set p ≡ true) e next.1)
       ],
-      λ f. elim (cases_lt a i) [
-        | inl less ↦ Contains-append_left xs (i ∷ []) a ((so_far.has a).1 (less, f.1))
-        | inr upto ↦ let same : i ≡ a = omega (arith, f.0) in subst (λ p. Contains (xs ++ i ∷ []) p) same (Contains-push xs i)
+      λ f. elim (cases_lt b from) [
+        | inl less ↦ Contains-append_left xs (a ∷ []) b ((lists.has b).1 (less, f.1))
+        | inr upto ↦
+            elim (cases_lt b a) [
+              | inl less ↦ absurd (both_ways (set b) (next.2 b upto less) f.1)
+              | inr last ↦ let same : a ≡ b = omega (arith, f.0) in subst (λ p. Contains (xs ++ a ∷ []) p) same (Contains-push xs a)
+            ]
       ],
     );
   }
 
-  -- the next atom isn't held
-  pub lists_other : has_atom state i ≡ false → ListsBelow state (i + 1) xs
-  lists_other other = record {
-    rises = so_far.rises;
-    has = λ a. (
-      λ c. let f = (so_far.has a).0 c in (omega (arith, f.0), f.1),
-      λ f. elim (cases_lt a i) [
-        | inl less ↦ (so_far.has a).1 (less, f.1)
-        | inr upto ↦
-            let same : i ≡ a = omega (arith, f.0) in
-            absurd (let clash : true ≡ false = sym f.1 ∙ (ap (λ p. has_atom state p) (sym same) ∙ other) in cc)
-      ],
-    );
-  }
+  -- no next atom: the list has all
+  pub lists_all : (from : ℕ) (xs : List ℕ) → Lists set from xs → IsNext set from None → (a : ℕ) → Contains xs a ↔ (set a ≡ true)
+  lists_all from xs lists next a = (
+    λ c. ((lists.has a).0 c).1,
+    λ e. elim (cases_lt a from) [
+      | inl less ↦ (lists.has a).1 (less, e)
+      | inr upto ↦ absurd (both_ways (set a) (next a upto) e)
+    ],
+  )
+
+-- what a state holds is an atom of its task
+pub within_state : (state : List Bool) (a : ℕ) → has_atom state a ≡ true → a < length state
+within_state state a held =
+    elim (cases_lt a (length state)) [
+      | inl less ↦ less
+      | inr past ↦ absurd (both_ways (has_atom state a) (has_atom_past state a past) held)
+    ]
+
+-- no next atom of a state: the list has all that it holds
+pub lists_state : (state : List Bool) (from : ℕ) (xs : List ℕ) → Lists (has_atom state) from xs → IsNext (has_atom state) from None → IsListOf state xs
+lists_state state from xs lists next = record {
+  rises = lists.rises;
+  has = λ a.
+      let all = lists_all (has_atom state) from xs lists next a in
+      (λ c. let held = all.0 c in (within_state state a held, held), λ f. all.1 f.1);
+}
 
 -- a list that rises and has just the atoms of a state is the state
 pub state_of-listed : (state : List Bool) (held : List ℕ) → IsListOf state held → state_of (length state) held ≡ state

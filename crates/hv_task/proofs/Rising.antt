@@ -16,7 +16,7 @@ use Rattle.hv_task.specs.State.{AreBelow}
 pub rises_apart : (xs : List ℕ) (i j : ℕ) → IsStrictlyIncreasing xs → i < j → j < length xs → get_or xs i 0 < get_or xs j 0
 rises_apart xs i j rises less within = below_from_sorted xs i j 0 (sorted_from_strictly_increasing xs rises) less within
 
-rises_upto : (xs : List ℕ) (i j : ℕ) → IsStrictlyIncreasing xs → i ≤ j → j < length xs → get_or xs i 0 ≤ get_or xs j 0
+pub rises_upto : (xs : List ℕ) (i j : ℕ) → IsStrictlyIncreasing xs → i ≤ j → j < length xs → get_or xs i 0 ≤ get_or xs j 0
 rises_upto xs i j rises upto within =
     elim (cases_lt i j) [
       | inl less ↦ let below = rises_apart xs i j rises less within in omega arith

@@ -1,8 +1,9 @@
 -- Sets of atoms as lists that rise.
-use Rattle.std.specs.Prelude.{◌≡◌, ◌<◌, ◌≤◌, ◌⊎◌, ◌↔◌, ℕ, Bool, true, List, length, slice_index, Result, MatchResult}
+use Rattle.std.specs.Prelude.{◌≡◌, ◌<◌, ◌≤◌, ◌⊎◌, ◌↔◌, ℕ, Bool, List, length, slice_index, Result, MatchResult}
 use Rattle.std.specs.List.{Contains}
 use Rattle.std.specs.List.Sorted.{IsStrictlyIncreasing}
 use Rattle.hv_task.specs.State.{has_atom}
+use Rattle.hv_task.specs.Atoms.{Lists}
 
 -- the new list is the old one with this atom put in: it rises, and it has the atoms of the old one and this atom
 pub record Inserts (old : List ℕ) (atom : ℕ) (new : List ℕ) : Type 0 where
@@ -17,11 +18,13 @@ IsPlaceOf atoms atom place =
     (λ i. (i ≤ length atoms) × ((k : ℕ) → k < i → slice_index atoms k < atom)
     × ((k : ℕ) → i ≤ k → k < length atoms → atom < slice_index atoms k))
 
--- the list has the atoms below this number that the state holds, and rises
-pub record ListsBelow (state : List Bool) (bound : ℕ) (held : List ℕ) : Type 0 where
-  pub rises : IsStrictlyIncreasing held
-  pub has : (atom : ℕ) → Contains held atom ↔ ((atom < bound) × (has_atom state atom ≡ true))
+-- the place in a list where what is at least this number begins: what stands before it is less, and
+-- nothing from it on
+pub record IsFirstFrom (list : List ℕ) (from place : ℕ) : Type 0 where
+  pub upto : place ≤ length list
+  pub before : (k : ℕ) → k < place → slice_index list k < from
+  pub after : (k : ℕ) → place ≤ k → k < length list → from ≤ slice_index list k
 
 -- the list is that of the atoms that the state holds, rising
 abbrev pub IsListOf : List Bool → List ℕ → Type 0
-IsListOf state held = ListsBelow state (length state) held
+IsListOf state held = Lists (has_atom state) (length state) held

@@ -1,8 +1,11 @@
-ghost use Rattle.std.specs.Prelude.{◌≡◌, ◌<◌, ◌↔◌, [], length, IsTrue, IfOk, OnOk, OnErr, slice_get};
-ghost use Rattle.std.specs.List.{Contains};
+ghost use Rattle.std.specs.Prelude.{◌≡◌, ◌<◌, ◌≤◌, ◌-◌, ◌↔◌, [], length, IsTrue, IfOk, OnOk, OnErr, slice_get, slice_index};
+ghost use Rattle.std.specs.List.{All, Contains};
 ghost use Rattle.std.specs.List.Sorted.{IsStrictlyIncreasing};
-ghost use Rattle.hv_task.specs.AtomList.{Inserts, IsPlaceOf};
+ghost use Rattle.hv_task.specs.AtomList.{Inserts, IsFirstFrom, IsPlaceOf};
+ghost use Rattle.hv_task.specs.Atoms.{IsNext};
+ghost use Rattle.hv_task.specs.State.{names_atom};
 
+use crate::atoms::{Atoms, Hint};
 use std::alloc::{AllocError, Global};
 use std::marker::Model;
 
@@ -77,6 +80,18 @@ impl AtomList {
         place_of(self.atoms.as_slice(), atom).is_ok()
     }
 
+    /// Whether all of these atoms are among them.
+    pub fn has_all(&self, atoms: &[u32]) -> bool
+        ensures { IsTrue result ↔ All (λ p. Contains self.now p) atoms.now }
+    {
+        for atom in atoms {
+            if !self.has(*atom) {
+                return false;
+            }
+        }
+        true
+    }
+
     /// All atoms, rising.
     pub fn as_slice(&self) -> &[u32]
         ensures items { result.now ≡ self.now }
@@ -84,6 +99,70 @@ impl AtomList {
     {
         self.atoms.as_slice()
     }
+}
+
+impl Atoms for AtomList {
+    ghost has = { names_atom };
+
+    fn next(&self, from: u32, hint: &mut Hint) -> Option<u32> {
+        next_in(self.atoms.as_slice(), from, &mut hint.first)
+    }
+}
+
+/// The least atom of a list that rises that is at least this number. The hint becomes its place.
+pub(crate) fn next_in(list: &[u32], from: u32, hint: &mut usize) -> Option<u32>
+    requires { IsStrictlyIncreasing list.now }
+    ensures { IsNext (names_atom list.now) from result }
+{
+    let place = place_from(list, from, *hint);
+    *hint = place;
+    if place < list.len() {
+        return Some(list[place]);
+    }
+    None
+}
+
+/// The place of the least atom of a list that rises that is at least this number, or the length of
+/// the list. The place of the hint and the next are tried first.
+pub(crate) fn place_from(list: &[u32], from: u32, hint: usize) -> usize
+    requires { IsStrictlyIncreasing list.now }
+    ensures { IsFirstFrom list.now from result }
+{
+    if is_first_from(list, from, hint) {
+        return hint;
+    }
+    let next = hint.saturating_add(1);
+    if is_first_from(list, from, next) {
+        return next;
+    }
+    match list.binary_search(&from) {
+        Ok(place) => place,
+        Err(place) => place,
+    }
+}
+
+// Whether all before the place is less than the number, and nothing from it on.
+fn is_first_from(list: &[u32], from: u32, place: usize) -> bool
+    requires { IsStrictlyIncreasing list.now }
+    ensures { IsTrue result → IsFirstFrom list.now from place }
+{
+    if place > list.len() {
+        return false;
+    }
+    less_before(list, from, place) && not_less_at(list, from, place)
+}
+
+fn less_before(list: &[u32], from: u32, place: usize) -> bool
+    requires { place ≤ length list.now }
+    ensures { IsTrue result → 0 < place → slice_index list.now (place - 1) < from }
+{
+    place == 0 || list[place - 1] < from
+}
+
+fn not_less_at(list: &[u32], from: u32, place: usize) -> bool
+    ensures { IsTrue result → place < length list.now → from ≤ slice_index list.now place }
+{
+    place >= list.len() || from <= list[place]
 }
 
 // Most lists are filled in rising order, so the end is tried before the search.

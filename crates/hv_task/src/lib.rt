@@ -2,14 +2,19 @@
 #![tactic(auto)]
 
 pub mod action;
+pub mod after;
 pub mod atom_list;
+pub mod atoms;
+mod bits;
 pub mod laws;
 pub mod name;
 pub mod state;
 pub mod task;
 
 pub use action::Action;
+pub use after::After;
 pub use atom_list::AtomList;
+pub use atoms::{Atoms, Hint};
 pub use laws::{laws_of_dead_states, laws_of_states};
 pub use name::Name;
 pub use state::State;

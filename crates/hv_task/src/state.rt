@@ -1,32 +1,49 @@
-ghost use Rattle.std.specs.Prelude.{◌≡◌, ◌<◌, ◌↔◌, ℕ, [], length, IsTrue, IfOk, OnOk, OnErr, slice_set};
-ghost use Rattle.std.proofs.Common.{ap};
-ghost use Rattle.std.specs.Cmp.{bool_eq_equiv, booleans_Decides, partial_equiv_from_equiv};
+ghost use Rattle.std.specs.Prelude.{◌≡◌, ◌<◌, ◌↔◌, ◌&&◌, not, ℕ, [], length, IsTrue, IfOk, OnOk, OnErr, slice_set};
+ghost use Rattle.std.specs.Cmp.{bool_eq_equiv, partial_equiv_from_equiv};
+ghost use Rattle.std.specs.Cmp.Lexicographic.{pointwise, lists_equiv, lists_per};
 ghost use Rattle.std.proofs.Math.Bool.{beq};
-ghost use Rattle.std.specs.Cmp.Lexicographic.{pointwise, lists_per, lists_equiv};
-ghost use Rattle.std.specs.Hash as fed;
-ghost use Rattle.std.specs.Hash.{items_Alike};
 ghost use Rattle.hv_task.specs.AtomList.{IsListOf};
+ghost use Rattle.hv_task.specs.Atoms.{IsNext};
 ghost use Rattle.hv_task.specs.State.{AreBelow, has_all, has_atom, put_all, state_of};
+ghost use Rattle.hv_task.specs.Words.{AreWords};
 
 use crate::atom_list::AtomList;
+use crate::atoms::{Atoms, Hint};
+use crate::bits::{
+    clear_all, copy_all, has_flag, meet_all, next_flag, next_outside, put_flag, resize_all,
+    same_all, zeros,
+};
 use std::alloc::{AllocError, Global};
-use std::hash::{Hash, Hasher};
 use std::marker::Model;
 
-/// A state of a planning task: a set of atoms, as one flag for each atom of the task.
+/// A state of a planning task: a set of atoms, as one flag for each atom of the task, 64 a word.
 #[derive(Drop)]
 pub struct State {
-    flags: Vec<bool>,
+    atoms: u32,
+    words: Vec<u64>,
 }
 
 impl Model for State {
-    ghost use Rattle.std.specs.Prelude.{◌<◌, ◌^◌, Bool, List, length};
+    ghost use Rattle.std.specs.Prelude.{Bool, List};
+    ghost use Rattle.hv_task.specs.Words.{IsPacked, flags_of};
 
     ghost Value = { List Bool };
 
-    ghost view = { λ s. s.flags.items };
+    ghost view = { λ s. flags_of s.words.items s.atoms };
 
-    ghost invariant = { λ s. length s.flags.items < 2 ^ 32 };
+    ghost invariant = { λ s. IsPacked s.words.items s.atoms };
+}
+
+impl Atoms for State {
+    ghost has = { has_atom };
+
+    fn next(&self, from: u32, hint: &mut Hint) -> Option<u32> {
+        let _ = hint;
+        if from >= self.atoms {
+            return None;
+        }
+        next_flag(self.words.as_slice(), from)
+    }
 }
 
 impl State {
@@ -35,7 +52,8 @@ impl State {
         ensures { IfOk result (λ state. state ≡ state_of atoms []) }
     {
         Ok(State {
-            flags: vec![in alloc; false; atoms as usize]?,
+            atoms,
+            words: zeros(alloc, atoms)?,
         })
     }
 
@@ -43,7 +61,15 @@ impl State {
     pub fn atoms(&self) -> u32
         ensures { result ≡ length self.now }
     {
-        self.flags.len() as u32
+        self.atoms
+    }
+
+    /// Its words, one for each 64 atoms: bit b of word w is 1 exactly where it holds the atom
+    /// 64 * w + b.
+    pub fn words(&self) -> &[u64]
+        ensures { AreWords self.now result.now }
+    {
+        self.words.as_slice()
     }
 
     /// Makes it a state of a task with so many atoms: each of them that it held it still holds, and no other.
@@ -52,7 +78,8 @@ impl State {
         ensures held { OnOk result ((p : ℕ) → p < atoms → has_atom self.new p ≡ has_atom self.old p) }
         ensures err { OnErr result (self.new ≡ self.old) }
     {
-        self.flags.resize(atoms as usize, false)?;
+        resize_all(&mut self.words, atoms)?;
+        self.atoms = atoms;
         Ok(())
     }
 
@@ -61,7 +88,7 @@ impl State {
         requires { atom < length self.now }
         ensures { result ≡ has_atom self.now atom }
     {
-        self.flags[atom as usize]
+        has_flag(self.words.as_slice(), atom)
     }
 
     /// Puts the atom in (true) or takes it out (false).
@@ -69,7 +96,7 @@ impl State {
         requires { atom < length self.old }
         ensures { self.new ≡ slice_set self.old atom value }
     {
-        self.flags[atom as usize] = value;
+        put_flag(&mut self.words, atom, value);
     }
 
     /// Makes it the other state, of as many atoms.
@@ -77,7 +104,28 @@ impl State {
         requires { length self.old ≡ length other.now }
         ensures { self.new ≡ other.now }
     {
-        self.flags.copy_from_slice(other.flags.as_slice());
+        copy_all(&mut self.words, &other.words);
+    }
+
+    /// Keeps of its atoms those that the other holds too.
+    pub fn meet(&mut self, other: &State)
+        requires { length self.old ≡ length other.now }
+        ensures met { (p : ℕ)
+            → has_atom self.new p ≡ (has_atom self.old p && has_atom other.now p) }
+        ensures atoms { length self.new ≡ length self.old }
+    {
+        meet_all(&mut self.words, &other.words);
+    }
+
+    /// The least atom from this number on that it holds and the other doesn't.
+    pub fn next_outside(&self, other: &State, from: u32) -> Option<u32>
+        requires { length self.now ≡ length other.now }
+        ensures { IsNext (λ p. has_atom self.now p && not (has_atom other.now p)) from result }
+    {
+        if from >= self.atoms {
+            return None;
+        }
+        next_outside(self.words.as_slice(), other.words.as_slice(), from)
     }
 
     /// Whether the two are one state, of as many atoms.
@@ -85,7 +133,7 @@ impl State {
         requires { length self.now ≡ length other.now }
         ensures { IsTrue result ↔ (self.now ≡ other.now) }
     {
-        self == other
+        same_all(self.words.as_slice(), other.words.as_slice(), self.atoms)
     }
 
     /// Makes it the state that holds these atoms and no other.
@@ -94,8 +142,16 @@ impl State {
         ensures held { self.new ≡ state_of (length self.old) held.now }
         ensures atoms { length self.new ≡ length self.old }
     {
-        self.flags.fill(false);
+        self.clear();
         self.put_all(held.as_slice(), true);
+    }
+
+    // Takes all atoms out.
+    fn clear(&mut self)
+        ensures none { self.new ≡ state_of (length self.old) [] }
+        ensures atoms { length self.new ≡ length self.old }
+    {
+        clear_all(&mut self.words);
     }
 
     /// Writes the atoms that it holds, rising, in place of what the list has. After want of memory nothing is said of the list.
@@ -103,10 +159,12 @@ impl State {
         ensures listed { OnOk result (IsListOf self.now held.new.items) }
     {
         held.clear();
-        for atom in 0..self.atoms() {
-            if self.has(atom) {
-                held.push(atom)?;
-            }
+        let _atoms = self.atoms();
+        let mut hint = Hint::default();
+        let mut from = 0;
+        while let Some(atom) = self.next(from, &mut hint) {
+            held.push(atom)?;
+            from = atom + 1;
         }
         Ok(())
     }
@@ -136,20 +194,13 @@ impl PartialEq for State {
     ghost laws = { lists_per (partial_equiv_from_equiv bool_eq_equiv) };
 
     fn eq(&self, other: &State) -> bool {
-        self.flags == other.flags
+        if self.atoms() != other.atoms() {
+            return false;
+        }
+        self.same(other)
     }
 }
 
 impl Eq for State {
     ghost laws = { lists_equiv bool_eq_equiv };
-}
-
-impl Hash for State {
-    ghost hash_input = { fed.slice fed.bool };
-
-    ghost respects_eq = { (items_Alike {E = beq} {F = fed.bool} (record { fed = λ x y e. ap fed.bool ((booleans_Decides x y).0 e) })).fed };
-
-    fn hash<H: Hasher>(&self, state: &mut H) {
-        self.flags.as_slice().hash(state);
-    }
 }

@@ -3,7 +3,9 @@ ghost use Rattle.hv_task.specs.State.{AreBelow};
 ghost use Rattle.hv_task.specs.Strips.{atoms};
 
 use crate::action::Action;
+use crate::after::After;
 use crate::atom_list::AtomList;
+use crate::atoms::{Atoms, Hint};
 use crate::name::Name;
 use crate::state::State;
 use crate::task::Task;
@@ -68,6 +70,52 @@ fn states_compare_by_their_atoms(rt: HostRuntime) -> Result<(), Fail> {
     assert!(rt; !first.same(&second));
     second.copy_from(&first);
     assert!(rt; first.same(&second));
+    Ok(())
+}
+
+#[test]
+fn a_word_keeps_64_atoms(rt: HostRuntime) -> Result<(), Fail> {
+    let mut state = State::empty(rt.alloc(), 130)?;
+    state.set(0, true);
+    state.set(63, true);
+    state.set(64, true);
+    state.set(129, true);
+    assert_eq!(rt; state.words(), [0x8000_0000_0000_0001, 1, 2].as_slice());
+    let mut hint = Hint::default();
+    assert_eq!(rt; state.next(1, &mut hint), Some(63));
+    assert_eq!(rt; state.next(65, &mut hint), Some(129));
+
+    state.resize(64)?;
+    state.resize(130)?;
+    assert_eq!(rt; state.words(), [0x8000_0000_0000_0001, 0, 0].as_slice());
+    assert_eq!(rt; state.next(64, &mut hint), None);
+    Ok(())
+}
+
+#[test]
+fn the_result_of_an_action_is_read_without_being_built(rt: HostRuntime) -> Result<(), Fail> {
+    let mut held = AtomList::new(rt.alloc());
+    held.insert(0)?;
+    held.insert(2)?;
+    held.insert(7)?;
+    let mut del = list_of(rt.alloc(), 0)?;
+    del.insert(7)?;
+    let action = Action {
+        name: Name::new(rt.alloc(), b"go")?,
+        cost: 1,
+        pre: AtomList::new(rt.alloc()),
+        add: list_of(rt.alloc(), 5)?,
+        del,
+    };
+    let after = After {
+        held: &held,
+        action: &action,
+    };
+    let mut hint = Hint::default();
+    assert_eq!(rt; after.next(0, &mut hint), Some(2));
+    assert_eq!(rt; after.next(3, &mut hint), Some(5));
+    assert_eq!(rt; after.next(6, &mut hint), None);
+    assert!(rt; held.has_all(&[7, 0]) && !held.has_all(&[0, 5]));
     Ok(())
 }
 

@@ -1,0 +1,6 @@
+use Rattle.std.proofs.Common.{◌≡◌, ◌<◌, ◌≤◌, ◌/◌, ℕ, false}
+use Rattle.hv_task.specs.Words.{flag_at}
+use Rattle.hv_task.proofs.bits.next_flag.Given as goal
+
+abbrev pub invariant-loop-at : goal.invariant-loop-at
+invariant-loop-at l = (p : ℕ) → l.from ≤ p → p / 64 < l.at → flag_at l.words p ≡ false
