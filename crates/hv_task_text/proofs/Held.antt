@@ -1,17 +1,29 @@
 -- What the reader holds after a legal beginning.
 use Rattle.std.proofs.Common.{◌≡◌, ℕ, List, [], length, map, refl}
+use Rattle.std.specs.List.{filter_map}
 use Rattle.std.proofs.lemmas.List.{length-map}
 use Rattle.hv_task.specs.declared.action.Action.{Action}
 use Rattle.hv_task.specs.Strips.{IsOver}
 use Rattle.hv_task_text.specs.declared.fault.TaskKind.{TaskKind}
 use Rattle.hv_task_text.specs.declared.fault.TaskKind.TheVariants as K
 use Rattle.hv_task_text.specs.declared.reader.Reader.{Reader}
-use Rattle.hv_task_text.specs.Written.{Entry, Head, action_of, set_of}
+use Rattle.hv_task_text.specs.Written.{Entry, Head, action_of, add_of, del_of, pre_of, set_of}
+use Rattle.hv_task_text.specs.declared.reader.OpenAction.{OpenAction}
 use Rattle.hv_task_text.specs.Beginning.{Beginning, at_begin_atoms, at_atom_name, at_end_atoms, at_begin_init, at_init_atom, at_begin_goal, at_goal_atom, at_begin_actions, at_begin_action, at_action_name, at_cost, at_action_line, at_end_actions, at_end, IsLegal, expected_after, names_before}
 use Rattle.hv_task_text.specs.Reading.{no_action, IsReady}
 use Rattle.hv_task_text.proofs.Sets.{set_below}
 
-abbrev reader : TaskKind → ℕ → List (List ℕ) → List ℕ → List ℕ → List Action → Action → Reader
+-- what is kept of a written action that isn't whole yet
+abbrev pub open_of : ℕ → Entry → OpenAction
+open_of atoms entry = record {
+  name = entry.name;
+  cost = entry.cost;
+  pre = set_of atoms (filter_map pre_of entry.items);
+  add = set_of atoms (filter_map add_of entry.items);
+  del = set_of atoms (filter_map del_of entry.items);
+}
+
+abbrev reader : TaskKind → ℕ → List (List ℕ) → List ℕ → List ℕ → List Action → OpenAction → Reader
 reader expected count names start goal actions action = record {
   expected = expected;
   count = count;
@@ -21,7 +33,7 @@ reader expected count names start goal actions action = record {
   action = action;
 }
 
-abbrev with_head : TaskKind → ℕ → Head → List Entry → Action → Reader
+abbrev with_head : TaskKind → ℕ → Head → List Entry → OpenAction → Reader
 with_head expected count head actions action =
     reader expected count head.names (set_of (length head.names) head.start) (set_of (length head.names) head.goal) (map (action_of (length head.names)) actions) action
 
@@ -39,7 +51,7 @@ held (at_begin_action count head actions) = with_head K.BeginAction count head a
 held (at_action_name count head actions) = with_head K.ActionName count head actions no_action
 held (at_cost count head actions name) = with_head K.Cost count head actions (record no_action { name = name })
 held (at_action_line count head actions entry) =
-    with_head K.ActionLine count head actions (action_of (length head.names) entry)
+    with_head K.ActionLine count head actions (open_of (length head.names) entry)
 held (at_end_actions head actions) = with_head K.EndActions (length actions) head actions no_action
 held (at_end head actions) = with_head K.End (length actions) head actions no_action
 

@@ -10,16 +10,19 @@ use Rattle.std.proofs.lemmas.Bool.Decides.{Decides-eqb}
 use Rattle.std.proofs.lemmas.Fmt.{digits_decimal, length-decimal-le}
 use Rattle.std.proofs.lemmas.List.{length-map}
 use Rattle.std.proofs.lemmas.List.Elements.{All-append, All-cons, All-map, All-nil, All-head, All-tail, All-weaker, filter_map-append}
+use Rattle.std.proofs.lemmas.List.Sums.{sum_by-cons}
 use Rattle.std.proofs.lemmas.Str.Parse.{IsNumeralModel}
-use Rattle.hv_bytes.specs.LineCuts.{IsClean, lines_of}
-use Rattle.hv_bytes.specs.declared.cutting.Limits.{Limits}
+use Rattle.hv_bytes.specs.LineCuts.{IsClean, bytes_in, lines_of}
+use Rattle.hv_bytes.specs.Pieces.{pieces_after}
+use Rattle.hv_bytes.specs.Standard.{most_file_bytes, most_line_bytes, standard}
+use Rattle.hv_bytes.proofs.WholeText.{IsWithin, pieces_of_short}
 use Rattle.hv_bytes.proofs.LineLaws.{lines_of-ended}
 use Rattle.hv_task.specs.State.{AreBelow}
 use Rattle.hv_task.specs.Strips.{Strips, IsOver, IsTask}
 use Rattle.hv_task.specs.declared.action.Action.{Action}
 use Rattle.hv_task_text.specs.Beginning.{at_end, IsLegal, IsItem, IsEntry, IsName}
 use Rattle.hv_task_text.specs.Canonical.{bytes_of_lines, canonical_lines, canonical_of, entry_of, head_of, with_lf, HasWritableNames, IsStored, IsWritableName}
-use Rattle.hv_task_text.specs.TaskText.{bytes_in, AreShort, TaskText}
+use Rattle.hv_task_text.specs.TaskText.{TaskText}
 use Rattle.hv_task_text.specs.Written.{Item, pre, add, del, Entry, item_line, atom_lines, start_lines, goal_lines, head_lines, entry_lines, body_lines, pre_of, add_of, del_of, action_of, set_of, task_of}
 use Rattle.hv_task_text.proofs.Sets.{set_same}
 
@@ -49,7 +52,7 @@ clean_word (b ∷ bytes) e = cleaner b bytes (b == 10) refl (clean_word bytes) e
 -- a line that can stand in a text: it has no LF and is within the limit
 record IsLine (line : List ℕ) : Type 0 where
   pub clean : IsClean line
-  pub short : length line ≤ 16777216
+  pub short : length line ≤ most_line_bytes
 
 word_line : (word : List ℕ) → list_all (λ b. not (b == 10)) word ≡ true → length word ≤ 100 → IsLine word
 word_line word e l = record { clean = clean_word word e; short = omega arith }
@@ -162,16 +165,10 @@ lines_back (line ∷ lines) a =
 
 bytes_counted : (lines : List (List ℕ)) → length (bytes_of_lines lines) ≡ bytes_in lines
 bytes_counted [] = refl
-bytes_counted (line ∷ lines) = omega (arith, length-append (with_lf line) (bytes_of_lines lines), length-append line (10 ∷ []), bytes_counted lines)
+bytes_counted (line ∷ lines) = omega (arith, length-append (with_lf line) (bytes_of_lines lines), length-append line (10 ∷ []), bytes_counted lines, sum_by-cons (λ l. length l + 1) line lines)
 
-abbrev pub standard : Limits
-standard = record { line = 16777216; file = 1099511627776 }
-
-short_lines : (earlier : ℕ) (lines : List (List ℕ)) → All IsLine lines → earlier + bytes_in lines ≤ 1099511627776 → AreShort standard earlier lines
-short_lines earlier [] a l = tt
-short_lines earlier (line ∷ lines) a l =
-    let s = (All-head IsLine line lines a).short in
-    (record { in_line = s; in_file = omega arith }, short_lines (earlier + (length line + 1)) lines (All-tail IsLine line lines a) (omega arith))
+within_limit : (lines : List (List ℕ)) → All IsLine lines → All (IsWithin most_line_bytes) lines
+within_limit lines fine = All-weaker IsLine (IsWithin most_line_bytes) (λ line l. l.short) lines fine
 
 module _ (task : Strips) (is_task : IsTask task) (start_rises : IsStrictlyIncreasing task.start) (goal_rises : IsStrictlyIncreasing task.goal) (stored : All IsStored task.actions) (names : HasWritableNames task) where
   whole : All (IsWhole (length task.names)) task.actions
@@ -228,15 +225,14 @@ module _ (task : Strips) (is_task : IsTask task) (start_rises : IsStrictlyIncrea
       let a = actions_back (length task.names) task.actions whole in
       same_task task.names _ _ _ _ _ _ s g a
 
-  pub readable : length (canonical_of task) ≤ 1099511627776 → TaskText standard (canonical_of task) task
+  pub readable : length (canonical_of task) ≤ most_file_bytes → TaskText standard (canonical_of task) task
   readable few =
-      let back = lines_back (canonical_lines task) lines_fine in (
+      let counted = bytes_counted (canonical_lines task) in (
         head_of task,
         map entry_of task.actions,
         record {
           legal = legal;
-          spelled = sym back;
-          short = subst (λ ls. AreShort standard 0 ls) (sym back) (short_lines 0 (canonical_lines task) lines_fine (let c = bytes_counted (canonical_lines task) in omega arith));
+          spelled = sym (ap (pieces_after standard 0) (lines_back (canonical_lines task) lines_fine) ∙ pieces_of_short standard 0 (canonical_lines task) (within_limit (canonical_lines task) lines_fine) (omega arith));
           says = says;
         },
       )

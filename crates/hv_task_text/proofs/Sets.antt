@@ -1,16 +1,17 @@
 -- Sets of atoms as rising lists: two of them with the same members are one list.
-use Rattle.std.proofs.Common.{◌≡◌, ℕ, suc, zero, ◌+◌, ◌<◌, Bool, true, false, eqb, cond, List, [], ◌∷◌, ◌++◌, ◌⊎◌, inl, inr, length, get_or, refl, sym, ap, subst, arith}
-use Rattle.std.specs.Prelude.{◌||◌, ◌==◌}
+use Rattle.std.proofs.Common.{◌≡◌, ℕ, suc, zero, ◌+◌, ◌<◌, ◌≤◌, Bool, true, false, eqb, cond, List, [], ◌∷◌, ◌++◌, ◌⊎◌, inl, inr, length, get_or, sum, refl, sym, ap, subst, arith}
+use Rattle.std.specs.Prelude.{◌||◌, ◌==◌, ◌↔◌}
 use Rattle.std.specs.List.{AllPairs, Contains, filter, list_any, range_with_len}
 use Rattle.std.specs.List.Sorted.{IsStrictlyIncreasing}
 use Rattle.std.proofs.lemmas.Bool.Decides.{Decides-eqb}
 use Rattle.std.proofs.lemmas.List.FromFn.{get_or-range_with_len, length-range_with_len}
 use Rattle.std.proofs.lemmas.List.Elements.{Contains-push_cases, Contains-append_left, Contains-push}
 use Rattle.std.proofs.lemmas.List.{get_or_default}
+use Rattle.std.proofs.lemmas.List.Sums.{sum_by-cons}
 use Rattle.std.proofs.lemmas.List.Kept.{AllPairs-from_increasing, IsStrictlyIncreasing-filter}
 use Rattle.hv_task.specs.AtomList.{Inserts}
 use Rattle.hv_task.specs.State.{AreBelow}
-use Rattle.hv_task_text.specs.Written.{set_of}
+use Rattle.hv_task_text.specs.Written.{members, set_of}
 
 -- membership by recursion
 abbrev Has : ℕ → List ℕ → Type 0
@@ -164,3 +165,42 @@ set_inserted atoms n listed l = record {
 pub inserted_once : (old : List ℕ) (n : ℕ) (a b : List ℕ) → Inserts old n a → Inserts old n b → a ≡ b
 inserted_once old n a b i j =
     same_set a b i.rises j.rises (λ x c. (j.has x).1 ((i.has x).0 c)) (λ x c. (i.has x).1 ((j.has x).0 c))
+
+has_below_sum : (a : ℕ) (xs : List ℕ) → Has a xs → a ≤ sum xs
+has_below_sum a [] h = absurd h
+has_below_sum a (x ∷ xs) (inl e) = let more = sum_by-cons (λ n. n) x xs in omega arith
+has_below_sum a (x ∷ xs) (inr h) = let more = sum_by-cons (λ n. n) x xs in let later = has_below_sum a xs h in omega arith
+
+-- the members of a list are its numbers, each once
+pub members_rise : (listed : List ℕ) → IsStrictlyIncreasing (members listed)
+members_rise listed = set_rises (sum listed + 1) listed
+
+pub members_has : (listed : List ℕ) (a : ℕ) → Contains (members listed) a ↔ Contains listed a
+members_has listed a = (
+  (λ c. (listed_from_set (sum listed + 1) listed a c).1),
+  (λ c. let below = has_below_sum a listed (has a listed c) in set_has (sum listed + 1) listed a (omega arith) c),
+)
+
+-- lists of the same numbers have the same members
+pub same_members_of : (xs ys : List ℕ) → ((a : ℕ) → Contains xs a → Contains ys a) → ((a : ℕ) → Contains ys a → Contains xs a) → members xs ≡ members ys
+same_members_of xs ys f g =
+    same_set (members xs) (members ys) (members_rise xs) (members_rise ys)
+    (λ a c. (members_has ys a).1 (f a ((members_has xs a).0 c)))
+    (λ a c. (members_has xs a).1 (g a ((members_has ys a).0 c)))
+
+-- one more number
+pub members_insert : (listed : List ℕ) (n : ℕ) → Inserts (members listed) n (members (listed ++ n ∷ []))
+members_insert listed n = record {
+  rises = members_rise (listed ++ n ∷ []);
+  has = λ a. (
+    (λ c. elim (Contains-push_cases listed n a ((members_has (listed ++ n ∷ []) a).0 c)) [ inl k ↦ inl ((members_has listed a).1 k) | inr e ↦ inr (sym e) ]),
+    (λ c. (members_has (listed ++ n ∷ []) a).1
+        (elim c [
+          | inl k ↦ Contains-append_left listed (n ∷ []) a ((members_has listed a).0 k)
+          | inr e ↦ subst (λ b. Contains (listed ++ n ∷ []) b) (sym e) (Contains-push listed n)
+        ])),
+  );
+}
+
+pub members_more : (listed : List ℕ) (n : ℕ) (new : List ℕ) → Inserts (members listed) n new → new ≡ members (listed ++ n ∷ [])
+members_more listed n new i = inserted_once (members listed) n new (members (listed ++ n ∷ [])) i (members_insert listed n)

@@ -13,12 +13,23 @@ use Rattle.hv_bytes.specs.declared.cutting.LineFault.TheVariants as L
 use Rattle.hv_task_text.specs.declared.fault.TaskLimit.TheVariants as W
 use Rattle.hv_task_text.specs.declared.fault.TaskFault.{TaskFault}
 use Rattle.hv_task_text.specs.declared.fault.TaskFault.TheVariants as F
+use Rattle.hv_task_text.specs.declared.reader.OpenAction.{OpenAction}
 use Rattle.hv_task_text.specs.declared.reader.FeedError.{FeedError}
 use Rattle.hv_task_text.specs.declared.reader.FeedError.TheVariants as E
 use Rattle.hv_task_text.specs.declared.reader.Reader.{Reader}
 
+-- the action that an open one becomes
+abbrev pub closed : OpenAction → Action
+closed open_one = record {
+  name = open_one.name;
+  cost = open_one.cost;
+  pre = open_one.pre;
+  add = open_one.add;
+  del = open_one.del;
+}
+
 -- no action is open
-abbrev pub no_action : Action
+abbrev pub no_action : OpenAction
 no_action = record { name = []; cost = 0; pre = []; add = []; del = [] }
 
 -- a reader that has read nothing
@@ -50,7 +61,8 @@ IsReady K.BeginAction r = Unit {0}
 IsReady K.ActionName r = Unit {0}
 IsReady K.Cost r = Unit {0}
 IsReady K.ActionLine r =
-    (length r.task.actions < r.count) × (r.count ≤ 1000000) × IsOver (length r.task.names) r.action
+    (length r.task.actions < r.count) × (r.count ≤ 1000000)
+    × IsOver (length r.task.names) (closed r.action)
 IsReady K.EndActions r = Unit {0}
 IsReady K.End r = AreBelow (length r.task.names) r.start × AreBelow (length r.task.names) r.goal
 
@@ -67,7 +79,7 @@ abbrev pub ClosesAction : Reader → Reader → Type 0
 ClosesAction r new =
     new ≡ record r {
       expected = turn (length r.task.actions + 1) r.count K.BeginAction K.EndActions;
-      task = record r.task { actions = r.task.actions ++ r.action ∷ [] };
+      task = record r.task { actions = r.task.actions ++ closed r.action ∷ [] };
       action = no_action;
     }
 
@@ -137,9 +149,12 @@ fault_at number (E.Place kind) = F.Place number kind
 fault_at number (E.Limit limit) = F.Limit number limit
 fault_at number E.Memory = F.Memory
 
--- what the reader answers where no line is left, before the line of this number
+-- what the reader answers where no line is left, before the line of this number; want of memory is
+-- free
 abbrev pub Ends : Result Strips TaskFault → Reader → ℕ → Type 0
-Ends (Ok task) r number = (r.expected ≡ K.End) × (task ≡ record r.task { start = r.start; goal = r.goal })
+Ends (Err F.Memory) r number = Unit {0}
+Ends (Ok task) r number =
+    (r.expected ≡ K.End) × (task ≡ record r.task { start = r.start; goal = r.goal })
 Ends (Err fault) r number = (r.expected ≢ K.End) × (fault ≡ F.Place number r.expected)
 
 -- the fault of a line of this number that can't be had

@@ -1,5 +1,5 @@
 -- The parts of a task text as they are written, and the task that a whole text stands for.
-use Rattle.std.specs.Prelude.{ℕ, ◌==◌, List, [], ◌∷◌, ◌++◌, Option, Some, None, map, filter, length, decimal, codes}
+use Rattle.std.specs.Prelude.{ℕ, ◌+◌, ◌==◌, List, [], ◌∷◌, ◌++◌, Option, Some, None, map, filter, length, sum, decimal, codes}
 use Rattle.std.specs.List.{filter_map, flat_map, list_any, range_with_len}
 use Rattle.hv_task.specs.declared.action.Action.{Action}
 use Rattle.hv_task.specs.Strips.{Strips}
@@ -70,6 +70,10 @@ text_lines head actions = action_lines (length actions) head actions ++ codes "e
 -- the atoms, of so many, that stand in the list: each once, rising
 abbrev pub set_of : ℕ → List ℕ → List ℕ
 set_of atoms listed = filter (λ atom. list_any (λ n. n == atom) listed) (range_with_len 0 atoms)
+
+-- the numbers that stand in the list: each once, rising
+abbrev pub members : List ℕ → List ℕ
+members listed = set_of (sum listed + 1) listed
 
 abbrev pub pre_of : Item → Option ℕ
 pre_of (pre atom) = Some atom

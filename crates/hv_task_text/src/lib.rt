@@ -1,6 +1,7 @@
 //! Task texts: planning tasks read from text and written to it.
 #![tactic(auto)]
 
+mod atom_set;
 mod fault;
 mod laws;
 mod numbers;

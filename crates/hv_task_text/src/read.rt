@@ -54,7 +54,7 @@ pub fn read_task<S: Shelf>(
                     return Err(error.at(lines.number()));
                 }
             }
-            Ok(Next::End) => return reader.end(lines.number() + 1),
+            Ok(Next::End) => return reader.end(alloc, lines.number() + 1),
             Err(fault) => return Err(line_fault(fault, lines.number() + 1)),
         }
     }

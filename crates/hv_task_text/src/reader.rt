@@ -2,11 +2,12 @@ ghost use Rattle.std.specs.Prelude.{◌≡◌, ℕ, ◌+◌, ◌<◌, ◌≤◌,
 ghost use Rattle.hv_task_text.specs.declared.fault.TaskKind.{TaskKind};
 ghost use Rattle.hv_task_text.specs.declared.fault.TaskKind.TheVariants as K;
 ghost use Rattle.hv_task_text.specs.declared.reader.FeedError.TheVariants as E;
-ghost use Rattle.hv_task_text.specs.Reading.{no_action, turn, IsReady, ClosesAction, TakesWord, Takes, Feeds, FeedsEnd, Ends, fault_at, no_lines};
+ghost use Rattle.hv_task_text.specs.Reading.{closed, no_action, turn, IsReady, ClosesAction, TakesWord, Takes, Feeds, FeedsEnd, Ends, fault_at, no_lines};
 
+use crate::atom_set::AtomSet;
 use crate::fault::{TaskFault, TaskKind, TaskLimit};
 use crate::numbers::{atom_alone, atom_behind, numbered};
-use hv_task::{Action, AtomList, Name, Task};
+use hv_task::{Action, Name, Task};
 use std::alloc::{AllocError, Global};
 use std::mem;
 
@@ -53,22 +54,53 @@ pub struct Reader {
     count: u32,
     // The atoms and the whole actions.
     task: Task,
-    start: AtomList,
-    goal: AtomList,
+    start: AtomSet,
+    goal: AtomSet,
     // The action that isn't whole yet.
-    action: Action,
+    action: OpenAction,
 }
 
-fn empty_action(alloc: Global) -> Result<Action, AllocError>
-    ensures { IfOk result (λ action. action ≡ no_action) }
-{
-    Ok(Action {
-        name: Name::new(alloc, b"")?,
-        cost: 0,
-        pre: AtomList::new(alloc),
-        add: AtomList::new(alloc),
-        del: AtomList::new(alloc),
-    })
+/// An action that isn't whole yet.
+#[derive(Drop)]
+pub struct OpenAction {
+    name: Name,
+    cost: u32,
+    pre: AtomSet,
+    add: AtomSet,
+    del: AtomSet,
+}
+
+impl OpenAction {
+    fn new(alloc: Global) -> Result<OpenAction, AllocError>
+        ensures { IfOk result (λ action. action ≡ no_action) }
+    {
+        Ok(OpenAction {
+            name: Name::new(alloc, b"")?,
+            cost: 0,
+            pre: AtomSet::new(alloc),
+            add: AtomSet::new(alloc),
+            del: AtomSet::new(alloc),
+        })
+    }
+
+    // Gives the whole action, and leaves none open.
+    fn close(&mut self, alloc: Global) -> Result<Action, AllocError>
+        ensures action { IfOk result (λ action. action ≡ closed self.old) }
+        ensures empty { OnOk result (self.new ≡ no_action) }
+    {
+        let pre = self.pre.take(alloc)?;
+        let add = self.add.take(alloc)?;
+        let del = self.del.take(alloc)?;
+        let name = mem::replace(&mut self.name, Name::new(alloc, b"")?);
+        let cost = mem::replace(&mut self.cost, 0);
+        Ok(Action {
+            name,
+            cost,
+            pre,
+            add,
+            del,
+        })
+    }
 }
 
 // The place after `done` of `count` parts.
@@ -87,9 +119,9 @@ impl Reader {
             expected: TaskKind::BeginAtoms,
             count: 0,
             task: Task::new(alloc),
-            start: AtomList::new(alloc),
-            goal: AtomList::new(alloc),
-            action: empty_action(alloc)?,
+            start: AtomSet::new(alloc),
+            goal: AtomSet::new(alloc),
+            action: OpenAction::new(alloc)?,
         })
     }
 
@@ -117,7 +149,7 @@ impl Reader {
     }
 
     /// The task, where the text ends here, before the line of this number.
-    pub fn end(self, number: u64) -> Result<Task, TaskFault>
+    pub fn end(self, alloc: Global, number: u64) -> Result<Task, TaskFault>
         requires { IsReady self.expected self }
         ensures { Ends result self number }
     {
@@ -126,12 +158,12 @@ impl Reader {
         }
         let Reader {
             mut task,
-            start,
-            goal,
+            mut start,
+            mut goal,
             ..
         } = self;
-        task.set_start(start);
-        task.set_goal(goal);
+        task.set_start(start.take(alloc)?);
+        task.set_goal(goal.take(alloc)?);
         Ok(task)
     }
 
@@ -277,7 +309,7 @@ impl Reader {
         requires { IsReady K.ActionLine self.old }
         ensures { OnOk result (ClosesAction self.old self.new) }
     {
-        let action = mem::replace(&mut self.action, empty_action(alloc)?);
+        let action = self.action.close(alloc)?;
         let number = self.task.add_action(action)?;
         self.expected = place_after(
             number + 1,

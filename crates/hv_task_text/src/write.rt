@@ -1,11 +1,12 @@
-ghost use Rattle.std.specs.Prelude.{◌≡◌, ◌≤◌, ◌^◌, ◌++◌, codes, length, decimal, OnOk, IfOk};
+ghost use Rattle.std.specs.Prelude.{◌≡◌, ◌≤◌, ◌++◌, codes, length, decimal, OnOk, IfOk};
 ghost use Rattle.std.specs.List.{flat_map, All};
 ghost use Rattle.std.specs.List.Sorted.{IsStrictlyIncreasing};
+ghost use Rattle.hv_bytes.specs.Standard.{most_file_bytes, standard};
 ghost use Rattle.hv_task_text.specs.Canonical.{bytes_of_lines, canonical_of, entry_of, head_of, with_lf, HasWritableNames, IsStored};
 ghost use Rattle.hv_task_text.specs.TaskText.{TaskText};
 ghost use Rattle.hv_task_text.specs.Written.{entry_lines, head_lines, name_lines};
 
-use hv_bytes::{Limits, Text};
+use hv_bytes::Text;
 use hv_task::{Action, AtomList, Task};
 use std::alloc::{AllocError, Global};
 
@@ -106,8 +107,9 @@ pub fn write_task(alloc: Global, task: &Task) -> Result<Text, AllocError>
     ensures text { IfOk result (λ text. text ≡ canonical_of task.now) }
 
     // `read_task` gives the task again
-    ensures readable { IfOk result (λ text. HasWritableNames task.now → length text ≤ 2 ^ 40
-        → TaskText Limits.STANDARD text task.now) }
+    ensures readable { IfOk result (λ text.
+        HasWritableNames task.now → length text ≤ most_file_bytes
+        → TaskText standard text task.now) }
 {
     let mut text = Text::new(alloc);
     write_head(&mut text, task)?;

@@ -1,7 +1,11 @@
 use Rattle.std.proofs.Common.{◌+◌, ap, sym, subst, ◌∙◌, length, Err, arith, rules}
-use Rattle.hv_bytes.specs.FirstLine.{FitsLimits, TakesLine}
+use Rattle.hv_bytes.specs.Files.{file_of}
+use Rattle.hv_bytes.specs.FirstLine.{BeginsLong, FitsLimits, TakesLine}
 use Rattle.hv_bytes.specs.States.{coming_of}
-use Rattle.hv_task_text.proofs.Turns.{end_answer, feed_fault, follows_first, follows_more, line_fault_answer, ready_reader, same_fits, same_long}
+use Rattle.hv_bytes.specs.declared.cutting.Limits.{Limits}
+use Rattle.hv_bytes.proofs.WholeText.{known}
+use Rattle.hv_task_text.specs.TaskText.{IsReadFrom}
+use Rattle.hv_task_text.proofs.Turns.{end_answer, feed_fault, follows_first, follows_more, line_fault_answer, ready_reader}
 use Rattle.hv_task_text.proofs.read.read_task.Goals as goal
 
 pub reading-init : goal.reading-init
@@ -9,8 +13,7 @@ reading-init g c =
     let e = c.in_ok-lines.ensures in (
       follows_first _ _ c.args.limits _ c.in_ok-reader.reader c.in_ok-lines.lines c.in_ok-open.ensures.opened c.in_ok-reader.ensures e,
       ap (λ l. l.live) e,
-      ap (λ l. l.line_limit) e,
-      ap (λ l. l.file_limit) e,
+      ap (λ l. l.limits) e,
       c.in_ok-open.ensures.held,
       c.in_ok-open.ensures.allows,
       c.in_ok-open.ensures.cause.later,
@@ -30,13 +33,15 @@ returns-in-Err-feed-clause-read g c =
     let after = coming_of c.next.new.self (g.S.Shelf.left c.next.new.shelf) in
     let b = c.reading.invariant.0 in
     let line = c.line.result.now in
-    feed_fault (g.S.Shelf.held c.args.shelf.now) c.args.name.now c.args.limits c.reading.reader c.feed.new.self c.reading.lines.number c.number.result c.reading.lines.earlier before after line c.in-Err-feed.error c.at.result b.0 b.1
+    known (g.S.Shelf.held c.args.shelf.now) c.args.name.now (λ bytes. IsReadFrom c.args.limits bytes (Err c.at.result))
+    (feed_fault c.args.limits (file_of (g.S.Shelf.held c.args.shelf.now) c.args.name.now) c.reading.reader c.reading.lines.number c.reading.lines.earlier before b.0 b.1
+    c.feed.new.self c.number.result after line c.in-Err-feed.error c.at.result
     (subst (λ l. TakesLine before after l) (sym c.line.ensures) (c.in-Ok-Line.ensures.line (cc)))
-    (same_fits c.args.limits c.reading.lines.line_limit c.reading.lines.file_limit _ _ c.reading.invariant.2 c.reading.invariant.3
-    (subst (λ l. FitsLimits c.reading.lines.line_limit c.reading.lines.file_limit c.reading.lines.earlier (length l)) (sym c.line.ensures) (c.in-Ok-Line.ensures.fits (cc))))
+    (subst (λ (limits : Limits). FitsLimits limits.line limits.file c.reading.lines.earlier (length line)) c.reading.invariant.2
+    (subst (λ l. FitsLimits c.reading.lines.limits.line c.reading.lines.limits.file c.reading.lines.earlier (length l)) (sym c.line.ensures) (c.in-Ok-Line.ensures.fits (cc))))
     (c.number.ensures ∙ c.in-Ok-Line.ensures.number (cc))
     c.in-Err-feed.ensures
-    c.at.ensures
+    c.at.ensures)
 
 pub reading-preserved : goal.reading-preserved
 reading-preserved g c =
@@ -44,34 +49,38 @@ reading-preserved g c =
     let after = coming_of c.next.new.self (g.S.Shelf.left c.next.new.shelf) in
     let b = c.reading.invariant.0 in
     let line = c.line.result.now in (
-      follows_more (g.S.Shelf.held c.args.shelf.now) c.args.name.now c.args.limits c.reading.reader c.feed.new.self c.reading.lines.number c.next.new.self.number c.reading.lines.earlier c.next.new.self.earlier before after line b.0 b.1
+      follows_more c.args.limits (file_of (g.S.Shelf.held c.args.shelf.now) c.args.name.now) c.reading.reader c.reading.lines.number c.reading.lines.earlier before b.0 b.1
+          c.feed.new.self c.next.new.self.number c.next.new.self.earlier after line
           c.in_default.ensures
           (subst (λ l. TakesLine before after l) (sym c.line.ensures) (c.in-Ok-Line.ensures.line (cc)))
           c.in-Ok-Line.ensures.earlier
-          (same_fits c.args.limits c.reading.lines.line_limit c.reading.lines.file_limit _ _ c.reading.invariant.2 c.reading.invariant.3
-          (subst (λ l. FitsLimits c.reading.lines.line_limit c.reading.lines.file_limit c.reading.lines.earlier (length l)) (sym c.line.ensures) (c.in-Ok-Line.ensures.fits (cc))))
+          (subst (λ (limits : Limits). FitsLimits limits.line limits.file c.reading.lines.earlier (length line)) c.reading.invariant.2
+          (subst (λ l. FitsLimits c.reading.lines.limits.line c.reading.lines.limits.file c.reading.lines.earlier (length l)) (sym c.line.ensures) (c.in-Ok-Line.ensures.fits (cc))))
           (c.in-Ok-Line.ensures.number (cc)),
       (c.in-Ok-Line.ensures.live).1 (search rules),
-      c.in-Ok-Line.ensures.line_limit ∙ c.reading.invariant.2,
-      c.in-Ok-Line.ensures.file_limit ∙ c.reading.invariant.3,
-      c.in-Ok-Line.ensures.held ∙ c.reading.invariant.4,
-      c.in-Ok-Line.ensures.allows ∙ c.reading.invariant.5,
-      omega (arith, c.reading.invariant.6, c.in-Ok-Line.ensures.later),
+      c.in-Ok-Line.ensures.limits ∙ c.reading.invariant.2,
+      c.in-Ok-Line.ensures.held ∙ c.reading.invariant.3,
+      c.in-Ok-Line.ensures.allows ∙ c.reading.invariant.4,
+      omega (arith, c.reading.invariant.5, c.in-Ok-Line.ensures.later),
     )
 
 pub returns-in-Ok-End-clause-read : goal.returns-in-Ok-End-clause-read
 returns-in-Ok-End-clause-read g c =
     let b = c.reading.invariant.0 in
-    end_answer (g.S.Shelf.held c.args.shelf.now) c.args.name.now c.args.limits c.reading.reader c.reading.lines.number (c.number-in-Ok-End.result + 1) c.reading.lines.earlier (coming_of c.reading.lines (g.S.Shelf.left c.reading.shelf)) c.end.result b.0 b.1
-    ((c.in-Ok-End.ensures.end (cc)).0)
+    known (g.S.Shelf.held c.args.shelf.now) c.args.name.now (λ bytes. IsReadFrom c.args.limits bytes c.end.result)
+    (end_answer c.args.limits (file_of (g.S.Shelf.held c.args.shelf.now) c.args.name.now) c.reading.reader c.reading.lines.number c.reading.lines.earlier (coming_of c.reading.lines (g.S.Shelf.left c.reading.shelf)) b.0 b.1
+    (c.number-in-Ok-End.result + 1) c.end.result
+    (c.in-Ok-End.ensures.end (cc))
     c.end.ensures
-    (ap (λ n. n + 1) (c.number-in-Ok-End.ensures ∙ ap (λ l. l.number) (c.in-Ok-End.ensures.same (cc))))
+    (ap (λ n. n + 1) (c.number-in-Ok-End.ensures ∙ ap (λ l. l.number) (c.in-Ok-End.ensures.same (cc)))))
 
 pub returns-in-Err-clause-read : goal.returns-in-Err-clause-read
 returns-in-Err-clause-read g c =
     let b = c.reading.invariant.0 in
     let coming = coming_of c.reading.lines (g.S.Shelf.left c.reading.shelf) in
-    line_fault_answer (g.S.Shelf.held c.args.shelf.now) c.args.name.now c.args.limits c.reading.reader c.reading.lines.number (c.number-in-Err.result + 1) c.reading.lines.earlier coming c.in-Err.fault c.line_fault.result b.0 b.1
-    (λ e. same_long c.args.limits c.reading.lines.line_limit c.reading.lines.file_limit c.reading.lines.earlier coming c.reading.invariant.2 c.reading.invariant.3 (c.in-Err.ensures.long (ap (λ f. Err f) e)))
+    known (g.S.Shelf.held c.args.shelf.now) c.args.name.now (λ bytes. IsReadFrom c.args.limits bytes (Err c.line_fault.result))
+    (line_fault_answer c.args.limits (file_of (g.S.Shelf.held c.args.shelf.now) c.args.name.now) c.reading.reader c.reading.lines.number c.reading.lines.earlier coming b.0 b.1
+    (c.number-in-Err.result + 1) c.in-Err.fault c.line_fault.result
+    (λ e. subst (λ (limits : Limits). BeginsLong coming limits.line limits.file c.reading.lines.earlier) c.reading.invariant.2 (c.in-Err.ensures.long (ap (λ f. Err f) e)))
     (ap (λ n. n + 1) (c.number-in-Err.ensures ∙ c.in-Err.ensures.same_number))
-    c.line_fault.ensures
+    c.line_fault.ensures)

@@ -1,11 +1,12 @@
-use Rattle.std.proofs.Common.{◌++◌, ◌≤◌, ◌^◌, ap, sym, subst, ◌∙◌, length}
+use Rattle.std.proofs.Common.{◌++◌, ◌≤◌, ap, sym, subst, ◌∙◌, length}
 use Rattle.std.specs.Prelude.{codes}
 use Rattle.std.specs.Fmt.{decimal}
 use Rattle.hv_task_text.specs.Canonical.{bytes_of_lines, head_of, with_lf}
 use Rattle.hv_task_text.specs.Written.{head_lines}
 use Rattle.hv_task_text.specs.TaskText.{TaskText}
+use Rattle.hv_bytes.specs.Standard.{most_file_bytes, standard}
 use Rattle.hv_task_text.proofs.Appended.{task_written}
-use Rattle.hv_task_text.proofs.Readable.{readable, standard}
+use Rattle.hv_task_text.proofs.Readable.{readable}
 use Rattle.hv_task_text.proofs.write.write_task.Goals as goal
 
 pub returns-clause-text : goal.returns-clause-text
@@ -21,4 +22,4 @@ returns-clause-readable c =
     λ names short.
     let e = returns-clause-text c in
     subst (λ text. TaskText standard text c.args.task.now) (sym e)
-    (readable c.args.task.now c.actions.ensures.task c.in_ok-write_head.ensures.start c.in_ok-write_head.ensures.goal c.in_ok-write_actions.ensures.stored names (subst (λ text. length text ≤ 2 ^ 40) e short))
+    (readable c.args.task.now c.actions.ensures.task c.in_ok-write_head.ensures.start c.in_ok-write_head.ensures.goal c.in_ok-write_actions.ensures.stored names (subst (λ text. length text ≤ most_file_bytes) e short))
