@@ -1,5 +1,5 @@
 -- Cubes: where the literal of an atom stands, and a literal put in.
-use Rattle.std.proofs.Common.{◌≡◌, ℕ, ◌<◌, ◌≤◌, ◌∙◌, ◌⊎◌, ◌↔◌, Bool, true, false, not, List, [], ◌∷◌, ◌++◌, length, get_or, take, drop, refl, sym, ap, ap₂, arith, ltb, ltb-true, ltb-false, if◌then◌else◌, inl, inr, Ok, Err, subst}
+use Rattle.std.proofs.Common.{◌≡◌, ℕ, ◌-◌, ◌<◌, ◌≤◌, ◌∙◌, ◌⊎◌, ◌↔◌, Bool, true, false, not, List, [], ◌∷◌, ◌++◌, length, get_or, take, drop, refl, sym, ap, ap₂, arith, ltb, ltb-true, ltb-false, if◌then◌else◌, inl, inr, Ok, Err, subst}
 use Rattle.std.proofs.lemmas.Bool.{cases_lt, cases_order}
 use Rattle.std.proofs.lemmas.List.{get_or_default, get_or-map, length-map, map-append, take-append-drop, take-map, drop-map}
 use Rattle.std.proofs.lemmas.List.Edits.{get_or-insert_at, length-insert}
@@ -201,3 +201,18 @@ first_from_point xs atom place bound point =
           let at = atom_at xs k d (omega arith) in
           let upto = ltb-false _ _ (point.1 k d from (omega arith)) in omega arith,
     )
+
+-- where the last atom is less, all are
+pub all_less : (xs : List Literal) (last : Literal) (atom : ℕ) → IsStrictlyIncreasing (atoms_of xs)
+    → (0 < length xs) × (last ≡ get_or xs (length xs - 1) last) → last.atom < atom → IsFirstUpto (atoms_of xs) atom (length xs)
+all_less xs last atom rises ends less =
+    let size = length-map xs (λ (l : Literal). l.atom) in
+    let some = ends.0 in
+    let at : get_or (atoms_of xs) (length xs - 1) 0 ≡ last.atom =
+    atom_at xs (length xs - 1) last (omega arith) ∙ ap (λ (l : Literal). l.atom) (sym ends.1) in
+    let each : (k : ℕ) → k < length xs → get_or (atoms_of xs) k 0 < atom =
+    λ k within. elim (cases_lt k (length xs - 1)) [
+      | inl before ↦ let apart = rises_apart (atoms_of xs) k (length xs - 1) rises before (omega arith) in omega arith
+      | inr here ↦ let same : k ≡ length xs - 1 = omega arith in let e = ap (λ j. get_or (atoms_of xs) j 0) same in omega arith
+    ] in
+    (omega arith, each, λ k from within. absurd (omega arith))

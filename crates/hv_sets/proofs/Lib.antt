@@ -1,3 +1,5 @@
 pub mod Cubes
 pub mod Listed
 pub mod Named
+pub mod Pieces
+pub mod Placed

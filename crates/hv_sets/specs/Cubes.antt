@@ -1,6 +1,6 @@
 -- Cubes as lists of literals whose atoms rise.
-use Rattle.std.specs.Prelude.{◌≡◌, ◌<◌, ◌≤◌, ◌⊎◌, ◌↔◌, ℕ, List, length, map, not, slice_index}
-use Rattle.std.specs.List.{All, Contains}
+use Rattle.std.specs.Prelude.{◌≡◌, ◌<◌, ◌≤◌, ◌⊎◌, ◌↔◌, ℕ, List, [], ◌∷◌, cond, length, map, nat_eq, nat_lt, not, slice_index}
+use Rattle.std.specs.List.{All, Contains, fold}
 use Rattle.std.specs.List.Sorted.{IsStrictlyIncreasing}
 use Rattle.hv_sets.specs.declared.literal.Literal.{Literal}
 
@@ -26,3 +26,13 @@ abbrev pub IsFirstUpto : List ℕ → ℕ → ℕ → Type 0
 IsFirstUpto atoms atom place =
     (place ≤ length atoms) × ((k : ℕ) → k < place → slice_index atoms k < atom)
     × ((k : ℕ) → place ≤ k → k < length atoms → atom ≤ slice_index atoms k)
+
+-- the cube with one literal more, by rising atoms; where a literal of its atom stands, the cube stays as it is
+abbrev pub put_in : Literal → List Literal → List Literal
+put_in literal [] = literal ∷ []
+put_in literal (l ∷ ls) =
+    cond (nat_lt l.atom literal.atom) (l ∷ put_in literal ls) (cond (nat_eq l.atom literal.atom) (l ∷ ls) (literal ∷ l ∷ ls))
+
+-- the cube of these literals, put in one after the other
+abbrev pub cube_of : List Literal → List Literal
+cube_of literals = fold (λ cube l. put_in l cube) [] literals

@@ -38,6 +38,13 @@ impl Clause {
         Ok(())
     }
 
+    /// Takes all literals out.
+    pub fn clear(&mut self)
+        ensures { self.new ≡ [] }
+    {
+        self.items.clear();
+    }
+
     /// How many literals there are.
     pub fn len(&self) -> usize
         ensures { result ≡ length self.now }

@@ -3,7 +3,7 @@ ghost use Rattle.std.specs.List.{Contains};
 ghost use Rattle.std.specs.List.Sorted.{IsStrictlyIncreasing};
 ghost use Rattle.hv_task.specs.AtomList.{IsPlaceOf};
 ghost use Rattle.hv_task.specs.State.{AreBelow};
-ghost use Rattle.hv_sets.specs.Cubes.{Adds, IsFirstUpto, SpeakBelow, atoms_of, opposite};
+ghost use Rattle.hv_sets.specs.Cubes.{Adds, IsFirstUpto, SpeakBelow, atoms_of, opposite, put_in};
 ghost use Rattle.hv_sets.specs.Truth.{in_cube};
 
 use crate::literal::Literal;
@@ -43,6 +43,8 @@ impl Cube {
     /// Puts a literal in. The answer is false if the opposite literal stands in the cube, which is then unchanged.
     pub fn add(&mut self, literal: Literal) -> Result<bool, AllocError>
         ensures added { IfOk result (λ yes. yes ≡ true → Adds self.old literal self.new) }
+        // It goes where its atom belongs.
+        ensures placed { IfOk result (λ _. self.new ≡ put_in literal self.old) }
         // A literal of a greater atom than all others goes last.
         ensures last { IfOk result (λ yes. AreBelow literal.atom (atoms_of self.old) → (yes ≡ true) × (self.new ≡ self.old ++ literal ∷ [])) }
         // A literal that stands in the cube changes nothing.
@@ -118,8 +120,18 @@ fn place_of(literals: &[Literal], atom: u32) -> Result<usize, usize>
     }
 }
 
-// How many literals have lesser atoms.
+// How many literals have lesser atoms. It takes no search where all have.
 fn first_upto(literals: &[Literal], atom: u32) -> usize
+    requires { IsStrictlyIncreasing (atoms_of literals.now) }
+    ensures { IsFirstUpto (atoms_of literals.now) atom result }
+{
+    match literals.last() {
+        Some(last) if last.atom >= atom => search(literals, atom),
+        _ => literals.len(),
+    }
+}
+
+fn search(literals: &[Literal], atom: u32) -> usize
     requires { IsStrictlyIncreasing (atoms_of literals.now) }
     ensures { IsFirstUpto (atoms_of literals.now) atom result }
 {

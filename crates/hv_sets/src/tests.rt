@@ -21,8 +21,13 @@ fn lists_keep_the_order_of_their_items(rt: HostRuntime) -> Result<(), Fail> {
     assert!(rt; clauses.is_empty());
     clauses.push(clause)?;
     clauses.push(Clause::new(rt.alloc()))?;
-    assert_eq!(rt; clauses.len(), 2);
+    clauses.push_literals(&[negated])?;
+    assert_eq!(rt; clauses.len(), 3);
     assert_eq!(rt; clauses.get(0).len(), 2);
+    assert_eq!(rt; clauses.get(1).len(), 0);
+    assert_eq!(rt; clauses.get(2)[0], negated);
+    let copy = clauses.copy(rt.alloc())?;
+    assert_eq!(rt; copy.get(0)[1], negated);
 
     let mut states = StateList::new(rt.alloc());
     states.push(AtomList::new(rt.alloc()))?;

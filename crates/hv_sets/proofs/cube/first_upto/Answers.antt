@@ -1,11 +1,9 @@
-use Rattle.std.proofs.Common.{ltb, rules}
-use Rattle.std.proofs.lemmas.List.Sorted.{IsPartitionPoint-from_clause, IsPartitionedBy-ltb}
-use Rattle.hv_sets.specs.declared.literal.Literal.{Literal}
-use Rattle.hv_sets.proofs.Cubes.{never_falls, first_from_point}
+use Rattle.std.proofs.Common.{sym, ltb-true}
+use Rattle.hv_sets.proofs.Cubes.{all_less}
 use Rattle.hv_sets.proofs.cube.first_upto.Goals as goal
 
-pub returns : goal.returns
-returns c =
-    let parted = IsPartitionedBy-ltb (λ (l : Literal). l.atom) _ c.args.atom (never_falls c.args.literals.now c.requires) in
-    let point = IsPartitionPoint-from_clause (λ (l : Literal). ltb l.atom c.args.atom) _ _ c.partition_point.ensures.partitioned parted (λ a r q k. search rules) in
-    first_from_point c.args.literals.now c.args.atom c.partition_point.result c.partition_point.ensures.bound point
+pub returns-in_default : goal.returns-in_default
+returns-in_default c =
+    let found = c.in-Some.ensures.item in
+    all_less c.args.literals.now c.in-Some.last.now c.args.atom c.requires (ltb-true _ _ (sym found.0), found.1)
+    c.if-last-atom.false

@@ -1,0 +1,10 @@
+use Rattle.std.proofs.Common.{ap, length, arith}
+use Rattle.hv_sets.proofs.Pieces.{length-pieces}
+use Rattle.hv_sets.proofs.clauses.Clauses.get.Goals as goal
+
+pub piece_at-requires-clause-place : goal.piece_at-requires-clause-place
+piece_at-requires-clause-place c =
+    let size = length-pieces c.self.inside.literals.items 0 c.self.inside.ends.items in
+    let is = ap length c.self.view_is in
+    let ends = ap length c.deref-2.ensures.value in
+    omega (arith, c.requires, size, is, ends)
