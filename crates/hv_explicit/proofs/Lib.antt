@@ -1,5 +1,9 @@
+pub mod Coded
+pub mod Linked
 pub mod Listing
+pub mod LookUp
+pub mod Anchored
 pub mod Owned
 pub mod Hits
+pub mod Clashes
 pub mod Wider
-pub mod Anchored

@@ -1,3 +1,5 @@
+pub mod Codes
+pub mod Places
 pub mod Listing
 pub mod Owners
 pub mod Laws

@@ -1,12 +1,15 @@
 -- Explicit sets, whose states are listed one by one.
-use Rattle.std.specs.Prelude.{◌≡◌, ◌++◌, ℕ, zero, suc, Bool, false, List, [], ◌∷◌, Option, None, Some, length, map, slice_get}
+use Rattle.std.specs.Prelude.{◌≡◌, ◌<◌, ◌++◌, ℕ, zero, suc, Bool, false, List, [], ◌∷◌, Option, None, Some, length, map, slice_get, slice_index, slice_index_or}
 use Rattle.std.specs.List.{All}
-use Rattle.indexmap.specs.IndexSet.{IndexSet, contains}
+use Rattle.std.specs.List.Sorted.{IsStrictlyIncreasing}
 use Rattle.hv_task.specs.State.{AreBelow, names_atom}
-use Rattle.hv_sets.specs.Truth.{in_states, is_same}
+use Rattle.hv_sets.specs.Truth.{in_states}
 use Rattle.hv_sets.specs.declared.literal.Literal.{Literal}
+use Rattle.hv_explicit.specs.Codes.{IsSame, code_of}
+use Rattle.hv_explicit.specs.Places.{code_at}
 
--- what an explicit set is: how many atoms the task has, and the listed states, each by the atoms that it holds
+-- what an explicit set is: how many atoms the task has, and the listed states, each by the atoms that
+-- it holds
 pub record Listing : Type 0 where
   pub atoms : ℕ
   pub states : List (List ℕ)
@@ -18,7 +21,8 @@ in_listing set state = in_states set.atoms set.states state
 -- the cube of one state alone: a literal for each atom
 abbrev pub full_cube : ℕ → List ℕ → List Literal
 full_cube zero held = []
-full_cube (suc atoms) held = full_cube atoms held ++ record { atom = atoms; positive = names_atom held atoms } ∷ []
+full_cube (suc atoms) held =
+    full_cube atoms held ++ record { atom = atoms; positive = names_atom held atoms } ∷ []
 
 -- the cubes of the listed states
 abbrev pub full_cubes : Listing → List (List Literal)
@@ -28,9 +32,37 @@ full_cubes set = map (λ held. full_cube set.atoms held) set.states
 abbrev pub AreStates : ℕ → List (List ℕ) → Type 0
 AreStates atoms states = All (λ held. AreBelow atoms held) states
 
--- the keys of the index are the listed states
-abbrev pub IsIndexOf : {S : Type 0} → IndexSet (List Bool) S → ℕ → List (List ℕ) → Type 0
-IsIndexOf index atoms states = (state : List Bool) → contains is_same index state ≡ in_states atoms states state
+-- the lists of the states rise
+abbrev pub AreRising : List (List ℕ) → Type 0
+AreRising states = All IsStrictlyIncreasing states
+
+-- the state at the place that stands at this entry
+abbrev pub first_at : List (List ℕ) → List ℕ → ℕ → List ℕ
+first_at states firsts e = slice_index_or states (slice_index firsts e) []
+
+-- the entries are places of the first so many states of a list, and each of these states stands at
+-- one of them
+pub record AreFirsts (states : List (List ℕ)) (firsts : List ℕ) (count : ℕ) : Type 0 where
+  pub within : (e : ℕ) → e < length firsts → slice_index firsts e < count
+  pub each : (k : ℕ) → k < count
+      → (e : ℕ) × (e < length firsts) × (first_at states firsts e ≡ slice_index_or states k [])
+
+-- the index has the code of the state at each entry
+pub record IsIndex (codes firsts : List ℕ) (states : List (List ℕ)) : Type 0 where
+  pub many : length codes ≡ length firsts
+  pub code : (e : ℕ) → e < length firsts → code_at codes e ≡ code_of (first_at states firsts e)
+
+-- the state at some entry has just these atoms
+abbrev pub IsFirst : (ℕ → Bool) → List (List ℕ) → List ℕ → Type 0
+IsFirst held states firsts =
+    (e : ℕ) × (e < length firsts) × IsSame held (first_at states firsts e)
+
+-- what an explicit set keeps
+pub record IsKept (atoms : ℕ) (states : List (List ℕ)) (codes places : List ℕ) : Type 0 where
+  pub below : AreStates atoms states
+  pub rise : AreRising states
+  pub firsts : AreFirsts states places (length states)
+  pub index : IsIndex codes places states
 
 -- A store is a list of explicit sets, by number.
 

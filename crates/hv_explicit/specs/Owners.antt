@@ -1,25 +1,60 @@
--- Which sets list a state.
-use Rattle.std.specs.Prelude.{◌≡◌, ℕ, Bool, true, List, [], Option, None, Some}
-use Rattle.std.specs.List.{Contains}
-use Rattle.std.specs.Global.{Vec}
-use Rattle.indexmap.specs.IndexMap.{get}
-use Rattle.hv_sets.specs.Truth.{is_same}
-use Rattle.hv_explicit.specs.Listing.{Listing, in_set}
-use Rattle.hv_explicit.specs.declared.owners.Owners.{Owners}
+-- Which sets list a state: entries by code.
+use Rattle.std.specs.Prelude.{◌≡◌, ◌<◌, ◌≤◌, ℕ, Bool, true, List, [], length, slice_get, slice_index_or, Some}
+use Rattle.std.specs.List.{All}
+use Rattle.hv_sets.specs.Names.{Names}
+use Rattle.hv_sets.specs.declared.operand.Operand.{Operand}
+use Rattle.hv_sets.specs.declared.operand.Which.TheVariants as W
+use Rattle.hv_explicit.specs.Codes.{IsSame, code_of}
+use Rattle.hv_explicit.specs.Listing.{AreRising, AreStates, Listing, in_set}
+use Rattle.hv_explicit.specs.Places.{code_at}
+use Rattle.hv_explicit.specs.declared.owners.Entry.{Entry}
 
--- the numbers that a look-up found
-abbrev pub numbers_found : Option (Vec ℕ) → List ℕ
-numbers_found None = []
-numbers_found (Some numbers) = numbers.items
+-- the entry at a place
+abbrev pub entry_at : List Entry → ℕ → Entry
+entry_at entries e = slice_index_or entries e (record { set = 0; place = 0 })
 
--- the numbers that are noted for the state
-abbrev pub owners_of : Owners → List Bool → List ℕ
-owners_of owners state = numbers_found (get is_same owners.numbers state)
+-- the state of an entry of a set that lists these
+abbrev pub state_of_entry : List (List ℕ) → Entry → List ℕ
+state_of_entry states entry = slice_index_or states entry.place []
 
--- what was noted still is
-abbrev pub Keeps : Owners → Owners → Type 0
-Keeps old new = (state : List Bool) (number : ℕ) → Contains (owners_of old state) number → Contains (owners_of new state) number
+-- there is an entry of the set for this state, under its code
+abbrev pub IsEntered : List ℕ → List Entry → ℕ → List (List ℕ) → List ℕ → Type 0
+IsEntered codes entries number states held =
+    (e : ℕ) × (e < length codes) × ((entry_at entries e).set ≡ number)
+    × ((entry_at entries e).place < length states)
+    × (state_of_entry states (entry_at entries e) ≡ held)
+    × (code_at codes e ≡ code_of held)
 
--- each set is noted for the states that it lists; other numbers may be noted too
-abbrev pub AreNoted : Owners → List Listing → Type 0
-AreNoted owners sets = (state : List Bool) (number : ℕ) → in_set sets number state ≡ true → Contains (owners_of owners state) number
+-- what was entered still is
+abbrev pub Keeps : List ℕ → List Entry → List ℕ → List Entry → Type 0
+Keeps codes entries codes' entries' =
+    (number : ℕ) (states : List (List ℕ)) (held : List ℕ)
+    → IsEntered codes entries number states held → IsEntered codes' entries' number states held
+
+-- each state of each set is entered; there may be more entries
+abbrev pub AreEntered : List ℕ → List Entry → List Listing → Type 0
+AreEntered codes entries sets =
+    (number : ℕ) (set : Listing) → slice_get sets number ≡ Some set
+    → All (λ held. IsEntered codes entries number set.states held) set.states
+
+-- the states of the sets are states of their tasks, by lists that rise
+abbrev pub AreListed : List Listing → Type 0
+AreListed sets = All (λ set. AreStates set.atoms set.states × AreRising set.states) sets
+
+-- what a store of sets keeps
+pub record IsStore (sets : List Listing) (codes : List ℕ) (entries : List Entry) : Type 0 where
+  pub listed : AreListed sets
+  pub entered : AreEntered codes entries sets
+  pub size : length codes ≤ length entries
+
+-- the entry is of a set that these operands name, asked about after the action or before it, and
+-- its state has just these atoms
+abbrev pub IsOwner : (ℕ → Bool) → List Listing → List Operand → Bool → Entry → Type 0
+IsOwner held sets operands after entry =
+    (set : Listing) × (slice_get sets entry.set ≡ Some set) × Names operands (W.Set entry.set) after
+    × (entry.place < length set.states) × IsSame held (state_of_entry set.states entry)
+
+-- some set of the store is among the operands of this side, and has the state
+abbrev pub IsOwned : List Listing → List Operand → Bool → List Bool → Type 0
+IsOwned sets operands after state =
+    (number : ℕ) × Names operands (W.Set number) after × (in_set sets number state ≡ true)

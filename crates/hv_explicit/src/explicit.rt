@@ -1,49 +1,66 @@
-ghost use Rattle.std.specs.Prelude.{◌≡◌, ◌<◌, ◌≤◌, ◌+◌, Bool, true, List, length, min, map, drop, IfOk, OnOk, ⊤};
+ghost use Rattle.std.specs.Prelude.{◌≡◌, ◌<◌, ◌≤◌, ◌+◌, ◌-◌, ◌^◌, ℕ, Bool, true, List, [], length, min, map, drop, slice_index, slice_index_or, IsTrue, IfOk, OnOk, ⊤, ◌↔◌};
 ghost use Rattle.std.specs.List.{Contains};
+ghost use Rattle.std.specs.List.Sorted.{IsStrictlyIncreasing};
 ghost use Rattle.hv_task.specs.State.{AreBelow};
 ghost use Rattle.hv_task.specs.Strips.{atoms};
 ghost use Rattle.hv_sets.specs.Cubes.{SpeakBelow};
 ghost use Rattle.hv_sets.specs.Walks.{IsStateOf, Meets};
 ghost use Rattle.hv_sets.specs.Truth.{in_states};
-ghost use Rattle.hv_explicit.specs.Listing.{AreStates, IsIndexOf, full_cube, full_cubes, in_listing};
+ghost use Rattle.hv_explicit.specs.Codes.{IsBelow, IsCode, IsListed, IsSame, IsSetOf};
+ghost use Rattle.hv_explicit.specs.Listing.{AreFirsts, AreRising, AreStates, IsFirst, IsIndex, full_cube, full_cubes, in_listing};
 ghost use Rattle.hv_explicit.specs.Laws as laws;
 
+use crate::codes::{code_of, is_same, list_code};
+use crate::places::Places;
 use hv_sets::{Cube, Cursor, Inside, Literal, Scratch, StateList, StateSet, Step};
-use hv_task::{AtomList, State, Task};
-use indexmap::IndexSet;
+use hv_task::{AtomList, Atoms, State, Task};
 use std::alloc::{AllocError, Global};
 use std::marker::Model;
 
-/// A set of states of a task that are listed one by one.
+/// A set of states of a task that are listed one by one. Each is kept once, as its atoms.
 #[derive(Drop)]
 pub struct Explicit {
     atoms: u32,
-    states: Vec<AtomList>,
-    // The listed states once more, to look one up.
-    index: IndexSet<State>,
+    states: StateList,
+    // The places of the states that no earlier one is, and the codes of these, to look one up.
+    firsts: Vec<u32>,
+    index: Places,
 }
 
 impl Model for Explicit {
-    ghost use Rattle.hv_explicit.specs.Listing.{AreStates, IsIndexOf, Listing};
+    ghost use Rattle.hv_explicit.specs.Listing.{IsKept, Listing};
 
     ghost Value = { Listing };
 
-    ghost view = { λ s. record { atoms = s.atoms; states = s.states.items } };
+    ghost view = { λ s. record { atoms = s.atoms; states = s.states } };
 
-    ghost invariant = { λ s. AreStates s.atoms s.states.items × IsIndexOf s.index s.atoms s.states.items };
+    ghost invariant = { λ s. IsKept s.atoms s.states s.index s.firsts.items };
 }
 
 impl Explicit {
-    /// The set of these states of the task.
+    /// The set of these states of the task, which are copied.
     pub fn new(alloc: Global, task: &Task, states: &StateList) -> Result<Explicit, AllocError>
         requires { AreStates (atoms task.now) states.now }
-        ensures { IfOk result (λ set. set ≡ record { atoms = atoms task.now; states = states.now }) }
+        ensures { IfOk result (λ set.
+            set ≡ record { atoms = atoms task.now; states = states.now }) }
+    {
+        Explicit::from_list(alloc, task, copy_of(alloc, states)?)
+    }
+
+    /// The set of these states of the task. There is no room for more than 4,294,967,295.
+    pub fn from_list(alloc: Global, task: &Task, states: StateList) -> Result<Explicit, AllocError>
+        requires { AreStates (atoms task.now) states }
+        ensures { IfOk result (λ set. set ≡ record { atoms = atoms task.now; states = states }) }
     {
         let atoms = task.atoms();
+        let mut firsts = Vec::new(alloc);
+        let mut index = Places::new(alloc);
+        enter_all(atoms, &states, &mut firsts, &mut index)?;
         Ok(Explicit {
             atoms,
-            states: copy_of(alloc, states.as_slice())?,
-            index: index_of(alloc, atoms, states.as_slice())?,
+            states,
+            firsts,
+            index,
         })
     }
 
@@ -51,15 +68,40 @@ impl Explicit {
     pub(crate) fn states(&self) -> &[AtomList]
         ensures states { result.now ≡ self.now.states }
         ensures below { AreStates self.now.atoms result.now }
+        ensures rise { AreRising result.now }
     {
         self.states.as_slice()
     }
 
-    /// The listed states, each once.
-    pub(crate) fn distinct(&self) -> &[State]
-        ensures { (state : List Bool) → in_listing self.now state ≡ true → Contains result.now state }
+    /// The places of the states that no earlier one is.
+    pub(crate) fn firsts(&self) -> &[u32]
+        ensures { AreFirsts self.now.states result.now (length self.now.states) }
     {
-        self.index.as_slice()
+        self.firsts.as_slice()
+    }
+
+    /// Whether the state of these atoms is listed.
+    pub(crate) fn lists<A: Atoms>(&self, held: &A) -> bool
+        requires { IsBelow self.now.atoms (A.has held.now) }
+        ensures { (state : List Bool) → length state ≡ self.now.atoms
+            → IsSetOf (A.has held.now) state → result ≡ in_listing self.now state }
+    {
+        look_up(
+            code_of(held, self.atoms),
+            self.atoms,
+            &self.states,
+            self.firsts.as_slice(),
+            &self.index,
+            held,
+        )
+    }
+
+    /// Whether the state at this place has just these atoms.
+    pub(crate) fn has_at<A: Atoms>(&self, place: usize, held: &A) -> bool
+        ensures { IsTrue result ↔ ((place < length self.now.states)
+            × IsSame (A.has held.now) (slice_index_or self.now.states place [])) }
+    {
+        place < self.states.len() && is_at(self.atoms, &self.states, place, held)
     }
 }
 
@@ -69,7 +111,7 @@ impl StateSet for Explicit {
     ghost has = { in_listing };
 
     fn holds(&self, state: &State) -> bool {
-        self.index.contains(state)
+        self.lists(state)
     }
 
     fn meets(&self, alloc: Global, cube: &Cube, scratch: &mut Scratch) -> Result<bool, AllocError> {
@@ -90,7 +132,7 @@ impl Inside for Explicit {
         if cursor.place >= self.states.len() as u64 {
             return Ok(Step::End);
         }
-        fill(cube, self.atoms, &self.states[cursor.place as usize])?;
+        fill(cube, self.atoms, self.states.get(cursor.place as usize))?;
         cursor.place += 1;
         Ok(Step::Cube)
     }
@@ -111,7 +153,8 @@ impl Inside for Explicit {
 fn meets_some(states: &[AtomList], cube: &Cube, state: &mut State) -> bool
     requires states { AreStates (length state.old) states.now }
     requires cube { SpeakBelow (length state.old) cube.now }
-    ensures meets { Meets result (length state.old) (in_states (length state.old) states.now) cube.now state.new }
+    ensures meets { Meets result (length state.old) (in_states (length state.old) states.now)
+        cube.now state.new }
     ensures length { length state.new ≡ length state.old }
 {
     for held in states {
@@ -135,25 +178,110 @@ fn fill(cube: &mut Cube, atoms: u32, held: &AtomList) -> Result<(), AllocError>
     Ok(())
 }
 
-fn copy_of(alloc: Global, states: &[AtomList]) -> Result<Vec<AtomList>, AllocError>
-    ensures { IfOk result (λ copy. copy.items ≡ states.now) }
+fn copy_of(alloc: Global, states: &StateList) -> Result<StateList, AllocError>
+    ensures { IfOk result (λ copy. copy ≡ states.now) }
 {
-    let mut copy = Vec::with_capacity(alloc, states.len())?;
-    for held in states {
+    let mut copy = StateList::new(alloc);
+    for held in states.as_slice() {
         copy.push(held.copy(alloc)?)?;
     }
     Ok(copy)
 }
 
-fn index_of(alloc: Global, atoms: u32, states: &[AtomList]) -> Result<IndexSet<State>, AllocError>
-    requires { AreStates atoms states.now }
-    ensures { IfOk result (λ index. IsIndexOf index atoms states.now) }
+// Lists rise: that is known of a list once it was used.
+fn use_all(states: &[AtomList])
+    ensures { AreRising states.now }
 {
-    let mut index = IndexSet::new(alloc);
     for held in states {
-        let mut state = State::empty(alloc, atoms)?;
-        state.hold(held);
-        index.insert(state)?;
+        let _len = held.len();
     }
-    Ok(index)
+}
+
+// Enters each state that no earlier one is.
+fn enter_all(
+    atoms: u32,
+    states: &StateList,
+    firsts: &mut Vec<u32>,
+    index: &mut Places,
+) -> Result<(), AllocError>
+    requires states { AreStates atoms states.now }
+    requires firsts { firsts.old.items ≡ [] }
+    requires index { index.old ≡ [] }
+    ensures rise { OnOk result (AreRising states.now) }
+    ensures firsts { OnOk result (AreFirsts states.now firsts.new.items (length states.now)) }
+    ensures index { OnOk result (IsIndex index.new firsts.new.items states.now) }
+{
+    if states.len() > u32::MAX as usize {
+        return Err(AllocError);
+    }
+    use_all(states.as_slice());
+    for place in 0..states.len() {
+        enter(atoms, states, firsts, index, place)?;
+    }
+    Ok(())
+}
+
+// Enters the state at a place, unless an earlier one is this state.
+fn enter(
+    atoms: u32,
+    states: &StateList,
+    firsts: &mut Vec<u32>,
+    index: &mut Places,
+    place: usize,
+) -> Result<(), AllocError>
+    requires place { place < length states.now }
+    requires few { length states.now < 2 ^ 32 }
+    requires below { AreStates atoms states.now }
+    requires rise { AreRising states.now }
+    requires firsts { AreFirsts states.now firsts.old.items place }
+    requires index { IsIndex index.old firsts.old.items states.now }
+    ensures firsts { OnOk result (AreFirsts states.now firsts.new.items (place + 1)) }
+    ensures index { OnOk result (IsIndex index.new firsts.new.items states.now) }
+{
+    let held = states.get(place);
+    let code = list_code(held.as_slice());
+    if look_up(code, atoms, states, firsts.as_slice(), index, held) {
+        return Ok(());
+    }
+    index.push(code)?;
+    firsts.push(place as u32)?;
+    Ok(())
+}
+
+// Whether the state at some entry has just these atoms, of which this is the code.
+fn look_up<A: Atoms>(
+    code: u64,
+    atoms: u32,
+    states: &StateList,
+    firsts: &[u32],
+    index: &Places,
+    held: &A,
+) -> bool
+    requires code { IsCode (A.has held.now) code }
+    requires below { AreStates atoms states.now }
+    requires rise { AreRising states.now }
+    requires firsts { (e : ℕ) → e < length firsts.now
+        → slice_index firsts.now e < length states.now }
+    requires index { IsIndex index.now firsts.now states.now }
+    ensures { IsTrue result ↔ IsFirst (A.has held.now) states.now firsts.now }
+{
+    let mut end = index.last(code);
+    while end > 0 {
+        let entry = end - 1;
+        if is_at(atoms, states, firsts[entry] as usize, held) {
+            return true;
+        }
+        end = index.earlier(entry);
+    }
+    false
+}
+
+// Whether the state at a place has just these atoms.
+fn is_at<A: Atoms>(atoms: u32, states: &StateList, place: usize, held: &A) -> bool
+    requires place { place < length states.now }
+    requires below { AreStates atoms states.now }
+    ensures { IsTrue result ↔ IsSame (A.has held.now) (slice_index_or states.now place []) }
+{
+    let _ = atoms;
+    is_same(states.get(place).as_slice(), held)
 }

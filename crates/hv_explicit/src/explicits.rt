@@ -1,15 +1,16 @@
-ghost use Rattle.std.specs.Prelude.{◌≡◌, ◌<◌, ◌++◌, ◌∷◌, ℕ, [], length, slice_get, true, ⊤, Some, IfOk, OnErr};
-ghost use Rattle.std.specs.List.{Contains};
+ghost use Rattle.std.specs.Prelude.{◌≡◌, ◌<◌, ◌++◌, ◌∷◌, ◌↔◌, ℕ, Bool, List, [], length, slice_get, ⊤, Some, IsTrue, IfOk, IfSome, OnErr};
 ghost use Rattle.hv_task.specs.Strips.{atoms};
 ghost use Rattle.hv_sets.specs.Cost.{StatesPass};
 ghost use Rattle.hv_sets.specs.Query.{HasAnchor, IsReady};
+ghost use Rattle.hv_explicit.specs.Codes.{IsBelow, IsSetOf};
 ghost use Rattle.hv_explicit.specs.Listing.{AreOver, in_set, states_in};
+ghost use Rattle.hv_explicit.specs.Owners.{IsOwned};
 
 use crate::explicit::Explicit;
-use crate::owners::Owners;
+use crate::owners::{Owners, enter_set, find_owner};
 use crate::search::Search;
-use hv_sets::{Family, Finding, Query, Scratch};
-use hv_task::{State, Task};
+use hv_sets::{Family, Finding, Operands, Query, Scratch};
+use hv_task::{Atoms, Task};
 use std::alloc::{AllocError, Global};
 use std::marker::Model;
 
@@ -23,13 +24,13 @@ pub struct Explicits {
 impl Model for Explicits {
     ghost use Rattle.std.specs.Prelude.{List};
     ghost use Rattle.hv_explicit.specs.Listing.{Listing};
-    ghost use Rattle.hv_explicit.specs.Owners.{AreNoted};
+    ghost use Rattle.hv_explicit.specs.Owners.{IsStore};
 
     ghost Value = { List Listing };
 
     ghost view = { λ s. s.sets.items };
 
-    ghost invariant = { λ s. AreNoted s.owners s.sets.items };
+    ghost invariant = { λ s. IsStore s.sets.items s.owners.codes s.owners.entries.items };
 }
 
 impl Explicits {
@@ -50,7 +51,15 @@ impl Explicits {
         ensures err { OnErr result (self.new ≡ self.old) }
     {
         let number = self.sets.len();
-        self.owners.note(set.distinct(), number)?;
+        if number > u32::MAX as usize {
+            return Err(AllocError);
+        }
+        enter_set(
+            &mut self.owners.codes,
+            &mut self.owners.entries,
+            &set,
+            number as u32,
+        )?;
         self.sets.push(set)?;
         Ok(number)
     }
@@ -70,11 +79,30 @@ impl Explicits {
         &self.sets[place]
     }
 
-    /// The numbers of the sets that list the state, and maybe others: those that were to be added when memory ran out.
-    pub(crate) fn owners_of(&self, state: &State) -> &[usize]
-        ensures { (number : ℕ) → in_set self.now number state.now ≡ true → Contains result.now number }
+    /// Whether one of the operands, asked about after the action (true) or before it, is a set that
+    /// lists the state of these atoms; or none, which says nothing, where more sets list it than there
+    /// are operands.
+    pub(crate) fn find_owner<A: Atoms>(
+        &self,
+        operands: &Operands,
+        after: bool,
+        held: &A,
+        atoms: u32,
+    ) -> Option<bool>
+        requires over { AreOver self.now atoms }
+        requires below { IsBelow atoms (A.has held.now) }
+        ensures { IfSome result (λ yes. (state : List Bool) → length state ≡ atoms
+            → IsSetOf (A.has held.now) state
+            → IsTrue yes ↔ IsOwned self.now operands.now after state) }
     {
-        self.owners.of(state)
+        find_owner(
+            &self.owners,
+            self.sets.as_slice(),
+            operands,
+            after,
+            held,
+            atoms,
+        )
     }
 }
 
@@ -98,14 +126,12 @@ impl Family for Explicits {
         scratch: &mut Scratch,
     ) -> Result<Finding, AllocError> {
         scratch.reserve(task.atoms(), 0, 0)?;
-        let start = task.start_state(alloc)?;
-        let mut after = State::empty(alloc, task.atoms())?;
+        let _ = alloc;
         let search = Search {
             task,
-            start: &start,
             sets: self,
             query,
         };
-        Ok(search.answer(budget, &mut scratch.state, &mut after))
+        Ok(search.answer(budget, &mut scratch.state))
     }
 }

@@ -1,9 +1,11 @@
 //! Explicit sets: sets of states that are listed one by one.
 #![tactic(auto)]
 
+mod codes;
 pub mod explicit;
 pub mod explicits;
 mod owners;
+mod places;
 mod search;
 
 pub use explicit::Explicit;

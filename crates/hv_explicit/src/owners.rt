@@ -1,62 +1,136 @@
 //! Which sets list a state.
 
-ghost use Rattle.std.specs.Prelude.{◌≡◌, IfOk, OnOk};
-ghost use Rattle.std.specs.List.{All, Contains};
-ghost use Rattle.hv_explicit.specs.Owners.{Keeps, owners_of};
+ghost use Rattle.std.specs.Prelude.{◌≡◌, ◌<◌, ◌≤◌, ◌+◌, ◌^◌, ◌↔◌, ℕ, Bool, List, [], length, slice_index_or, IsTrue, IfOk, IfSome, OnOk, OnErr};
+ghost use Rattle.std.specs.List.{All};
+ghost use Rattle.hv_sets.specs.declared.operand.Operand.{Operand};
+ghost use Rattle.hv_explicit.specs.Codes.{IsBelow, IsSetOf, code_of};
+ghost use Rattle.hv_explicit.specs.Listing.{AreFirsts, AreOver, Listing};
+ghost use Rattle.hv_explicit.specs.Owners.{AreEntered, IsEntered, IsOwned, IsOwner, IsStore, Keeps};
 
-use hv_task::State;
-use indexmap::IndexMap;
+use crate::codes::{code_of, list_code};
+use crate::explicit::Explicit;
+use crate::places::Places;
+use hv_sets::{Operands, Which};
+use hv_task::{AtomList, Atoms};
 use std::alloc::{AllocError, Global};
 
-/// The numbers of the sets that list a state, to look them up by the state.
+/// A listed state: the number of a set, and a place in its list.
+#[derive(Clone, Copy)]
+pub(crate) struct Entry {
+    pub set: u32,
+    pub place: u32,
+}
+
+/// The states of all sets, to find by a state the sets that list it.
 #[derive(Drop)]
 pub(crate) struct Owners {
-    numbers: IndexMap<State, Vec<usize>>,
+    pub entries: Vec<Entry>,
+    // The codes of the entries.
+    pub codes: Places,
 }
 
 impl Owners {
-    /// Nothing is noted.
-    pub(crate) fn new(alloc: Global) -> Owners {
+    /// Nothing is entered.
+    pub(crate) fn new(alloc: Global) -> Owners
+        ensures codes { result.codes ≡ [] }
+        ensures entries { result.entries.items ≡ [] }
+    {
         Owners {
-            numbers: IndexMap::new(alloc),
+            entries: Vec::new(alloc),
+            codes: Places::new(alloc),
         }
     }
+}
 
-    /// The numbers that are noted for the state.
-    pub(crate) fn of(&self, state: &State) -> &[usize]
-        ensures { result.now ≡ owners_of self.now state.now }
-    {
-        match self.numbers.get(state) {
-            Some(numbers) => numbers.as_slice(),
-            None => &[],
-        }
+/// Enters the states of a set, by the places of the first ones. After want of memory some of them may
+/// be entered.
+pub(crate) fn enter_set(
+    codes: &mut Places,
+    entries: &mut Vec<Entry>,
+    set: &Explicit,
+    number: u32,
+) -> Result<(), AllocError>
+    requires { length codes.old ≤ length entries.old.items }
+    ensures keeps { Keeps codes.old entries.old.items codes.new entries.new.items }
+    ensures size { length codes.new ≤ length entries.new.items }
+    ensures ok { OnOk result (All (λ held.
+        IsEntered codes.new entries.new.items number set.now.states held) set.now.states) }
+{
+    let states = set.states();
+    for place in set.firsts() {
+        let code = list_code(states[*place as usize].as_slice());
+        let entry = Entry {
+            set: number,
+            place: *place,
+        };
+        enter_one(codes, entries, code, entry)?;
     }
+    Ok(())
+}
 
-    /// Notes the number for each of the states. After want of memory it may be noted for some of them.
-    pub(crate) fn note(&mut self, states: &[State], number: usize) -> Result<(), AllocError>
-        ensures keeps { Keeps self.old self.new }
-        ensures ok { OnOk result (All (λ state. Contains (owners_of self.new state) number) states.now) }
-    {
-        for state in states {
-            self.note_one(state, number)?;
-        }
-        Ok(())
-    }
+fn enter_one(
+    codes: &mut Places,
+    entries: &mut Vec<Entry>,
+    code: u64,
+    entry: Entry,
+) -> Result<(), AllocError>
+    requires { length codes.old ≤ length entries.old.items }
+    ensures keeps { Keeps codes.old entries.old.items codes.new entries.new.items }
+    ensures size { length codes.new ≤ length entries.new.items }
+    ensures ok { OnOk result ((states : List (List ℕ)) → entry.place < length states
+        → code ≡ code_of (slice_index_or states entry.place [])
+        → IsEntered codes.new entries.new.items entry.set states
+        (slice_index_or states entry.place [])) }
+{
+    entries.truncate(codes.len());
+    entries.push(entry)?;
+    codes.push(code)?;
+    Ok(())
+}
 
-    fn note_one(&mut self, state: &State, number: usize) -> Result<(), AllocError>
-        ensures keeps { Keeps self.old self.new }
-        ensures ok { OnOk result (Contains (owners_of self.new state.now) number) }
-    {
-        if let Some(numbers) = self.numbers.get_mut(state) {
-            numbers.push(number)?;
-            return Ok(());
+/// Whether one of the operands, asked about after the action (true) or before it, is a set that lists
+/// the state of these atoms; or none, which says nothing, where more sets list it than there are
+/// operands.
+pub(crate) fn find_owner<A: Atoms>(
+    owners: &Owners,
+    sets: &[Explicit],
+    operands: &Operands,
+    after: bool,
+    held: &A,
+    atoms: u32,
+) -> Option<bool>
+    requires store { IsStore sets.now owners.now.codes owners.now.entries.items }
+    requires over { AreOver sets.now atoms }
+    requires below { IsBelow atoms (A.has held.now) }
+    ensures { IfSome result (λ yes. (state : List Bool) → length state ≡ atoms
+        → IsSetOf (A.has held.now) state → IsTrue yes ↔ IsOwned sets.now operands.now after state) }
+{
+    let code = code_of(held, atoms);
+    let mut rest = owners.codes.last(code);
+    'entries: for _ in 0..operands.len() {
+        if rest == 0 {
+            return Some(false);
         }
-        let alloc = *self.numbers.allocator();
-        let mut key = State::empty(alloc, state.atoms())?;
-        key.copy_from(state);
-        let mut numbers = Vec::new(alloc);
-        numbers.push(number)?;
-        self.numbers.insert(key, numbers)?;
-        Ok(())
+        if is_owner(sets, operands, after, owners.entries[rest - 1], held) {
+            return Some(true);
+        }
+        rest = owners.codes.earlier(rest - 1);
     }
+    None
+}
+
+fn is_owner<A: Atoms>(
+    sets: &[Explicit],
+    operands: &Operands,
+    after: bool,
+    entry: Entry,
+    held: &A,
+) -> bool
+    ensures { IsTrue result ↔ IsOwner (A.has held.now) sets.now operands.now after entry }
+{
+    let number = entry.set as usize;
+    if number >= sets.len() || !operands.names(Which::Set(number), after) {
+        return false;
+    }
+    sets[number].has_at(entry.place as usize, held)
 }

@@ -1,131 +1,140 @@
 //! The search through the states of the anchor.
 
-ghost use Rattle.std.specs.Prelude.{◌≡◌, ◌<◌, ◌&&◌, ◌↔◌, ℕ, length, not, slice_get, Some, IsTrue, MatchOption};
+ghost use Rattle.std.specs.Prelude.{◌≡◌, ◌<◌, ◌↔◌, ℕ, Bool, List, length, slice_index_or, slice_get, Some, IsTrue, MatchOption};
 ghost use Rattle.std.specs.List.{All, Contains, list_all};
 ghost use Rattle.hv_task.specs.State.{AreBelow, state_of};
-ghost use Rattle.hv_task.specs.Strips.{IsState, atoms};
+ghost use Rattle.hv_task.specs.Strips.{IsState, atoms, is_goal};
 ghost use Rattle.hv_sets.specs.Cost.{IsAnswer, StatesPass};
 ghost use Rattle.hv_sets.specs.Query.{CanAnchor, IsAnchor, IsNamed, Rises, in_which, is_clash};
 ghost use Rattle.hv_sets.specs.declared.operand.Operand.{Operand};
 ghost use Rattle.hv_sets.specs.declared.operand.Which.TheVariants as W;
-ghost use Rattle.hv_explicit.specs.Listing.{AreStates, in_set, states_in};
+ghost use Rattle.hv_explicit.specs.Codes.{IsBelow, IsSame};
+ghost use Rattle.hv_explicit.specs.Listing.{AreFirsts, AreRising, AreStates, in_set, states_in};
 
+use crate::codes::is_same;
 use crate::explicits::Explicits;
-use hv_sets::{Finding, Operand, Query, StateSet, Which};
-use hv_task::{AtomList, State, Task};
+use hv_sets::{Finding, Operand, Query, Which};
+use hv_task::{After, AtomList, Atoms, Hint, State, Task};
 use std::slice;
 
 // To go through so many operands is no dearer than to look up the sets that list a state.
 const FEW: usize = 4;
 
-/// What is asked, of which sets; the initial state of the task is at hand.
+/// What is asked, of which sets.
 #[derive(Clone, Copy)]
 pub(crate) struct Search<'a> {
     pub task: &'a Task,
-    pub start: &'a State,
     pub sets: &'a Explicits,
     pub query: &'a Query,
 }
 
 impl Search<'_> {
-    ghost use Rattle.hv_explicit.specs.Search.{IsFound, IsHit, IsHitBy, IsSearch, in_either};
+    ghost use Rattle.hv_explicit.specs.Search.{IsFound, IsHit, IsHitBy, IsSearch, Stands, in_either, is_fit, is_in_none};
 
-    /// The exact answer to the query. The two states are overwritten.
-    pub(crate) fn answer(&self, budget: u64, state: &mut State, after: &mut State) -> Finding
+    /// The exact answer to the query. The state is overwritten.
+    pub(crate) fn answer(&self, budget: u64, state: &mut State) -> Finding
         requires search { IsSearch self.now }
         requires state { IsState self.now.task.now state.old }
-        requires after { IsState self.now.task.now after.old }
-        ensures { IsAnswer result (StatesPass (states_in self.now.sets.now) self.now.query.now budget) (atoms self.now.task.now) (is_clash self.now.task.now (in_set self.now.sets.now) self.now.query.now) state.new }
+        ensures { IsAnswer result
+            (StatesPass (states_in self.now.sets.now) self.now.query.now budget)
+            (atoms self.now.task.now)
+            (is_clash self.now.task.now (in_set self.now.sets.now) self.now.query.now) state.new }
     {
         match anchor_of(self.query.positive.as_slice()) {
-            Some(anchor) => self.answer_at(anchor.which, budget, state, after),
+            Some(anchor) => self.answer_at(anchor.which, budget, state),
             None => Finding::Empty,
         }
     }
 
     // The answer, where the anchor names this set.
-    fn answer_at(&self, anchor: Which, budget: u64, state: &mut State, after: &mut State) -> Finding
+    fn answer_at(&self, anchor: Which, budget: u64, state: &mut State) -> Finding
         requires search { IsSearch self.now }
-        requires anchor { (o : Operand) × IsAnchor self.now.query.now.positive o × (o.which ≡ anchor) }
+        requires anchor { (o : Operand) × IsAnchor self.now.query.now.positive o
+            × (o.which ≡ anchor) }
         requires state { IsState self.now.task.now state.old }
-        requires after { IsState self.now.task.now after.old }
-        ensures { IsAnswer result (StatesPass (states_in self.now.sets.now) self.now.query.now budget) (atoms self.now.task.now) (is_clash self.now.task.now (in_set self.now.sets.now) self.now.query.now) state.new }
+        ensures { IsAnswer result
+            (StatesPass (states_in self.now.sets.now) self.now.query.now budget)
+            (atoms self.now.task.now)
+            (is_clash self.now.task.now (in_set self.now.sets.now) self.now.query.now) state.new }
     {
         match anchor {
             Which::Start => {
-                self.find_among(slice::from_ref(self.task.start()), budget, state, after)
+                self.find_among(slice::from_ref(self.task.start()), &[0], budget, state)
             }
             Which::Set(number) => {
-                self.find_among(self.sets.get(number).states(), budget, state, after)
+                let set = self.sets.get(number);
+                self.find_among(set.states(), set.firsts(), budget, state)
             }
             _ => Finding::Empty,
         }
     }
 
-    // Looks for a counterexample among these states.
+    // Looks for a counterexample among these states, of which the ones at these places are all.
     fn find_among(
         &self,
         states: &[AtomList],
+        firsts: &[u32],
         budget: u64,
         state: &mut State,
-        after: &mut State,
     ) -> Finding
         requires search { IsSearch self.now }
         requires states { AreStates (atoms self.now.task.now) states.now }
+        requires firsts { AreFirsts states.now firsts.now (length states.now) }
         requires state { IsState self.now.task.now state.old }
-        requires after { IsState self.now.task.now after.old }
-        ensures { IsFound result budget (atoms self.now.task.now) (is_clash self.now.task.now (in_set self.now.sets.now) self.now.query.now) states.now state.new }
+        ensures { IsFound result budget (atoms self.now.task.now)
+            (is_clash self.now.task.now (in_set self.now.sets.now) self.now.query.now)
+            states.now state.new }
     {
         if states.len() as u64 > budget {
             return Finding::Over;
         }
-        for held in states {
-            if self.clashes(held, state, after) {
+        for place in firsts {
+            let held = &states[*place as usize];
+            if self.clashes(held) {
+                state.hold(held);
                 return Finding::Clash;
             }
         }
         Finding::Empty
     }
 
-    // Whether this state is a counterexample. It is written into the first state, and its successor into the second.
-    fn clashes(&self, held: &AtomList, state: &mut State, after: &mut State) -> bool
+    // Whether the state of these atoms is a counterexample.
+    fn clashes(&self, held: &AtomList) -> bool
         requires search { IsSearch self.now }
         requires held { AreBelow (atoms self.now.task.now) held.now }
-        requires state { IsState self.now.task.now state.old }
-        requires after { IsState self.now.task.now after.old }
-        ensures clash { result ≡ is_clash self.now.task.now (in_set self.now.sets.now) self.now.query.now state.new }
-        ensures state { state.new ≡ state_of (atoms self.now.task.now) held.now }
-        ensures after { IsState self.now.task.now after.new }
+        ensures { result ≡ is_clash self.now.task.now (in_set self.now.sets.now) self.now.query.now
+            (state_of (atoms self.now.task.now) held.now) }
     {
-        state.hold(held);
         match self.query.action {
-            None => self.fits(state, state),
-            Some(action) => {
-                if !self.task.applicable(action, state) {
-                    return false;
-                }
-                self.task.after(action, state, after);
-                self.fits(state, after)
+            None => self.fits(held, held),
+            Some(number) => {
+                let action = self.task.action(number);
+                held.has_all(action.pre.as_slice()) && self.fits(held, &After { held, action })
             }
         }
     }
 
-    // Whether the states before and after the action are in each positive operand and in no negative one.
-    fn fits(&self, before: &State, after: &State) -> bool
+    // Whether the states before and after the action are in each positive operand and in no negative
+    // one.
+    fn fits<B: Atoms, A: Atoms>(&self, before: &B, after: &A) -> bool
         requires search { IsSearch self.now }
-        requires before { IsState self.now.task.now before.now }
-        requires after { IsState self.now.task.now after.now }
-        ensures { result ≡ (list_all (in_either self.now.task.now (in_set self.now.sets.now) before.now after.now) self.now.query.now.positive && list_all (λ o. not (in_either self.now.task.now (in_set self.now.sets.now) before.now after.now o)) self.now.query.now.negative) }
+        requires before { IsBelow (atoms self.now.task.now) (B.has before.now) }
+        requires after { IsBelow (atoms self.now.task.now) (A.has after.now) }
+        ensures { (b a : List Bool) → Stands self.now.task.now (B.has before.now) b
+            → Stands self.now.task.now (A.has after.now) a → result ≡ is_fit self.now b a }
     {
         self.are_all(self.query.positive.as_slice(), before, after) && self.are_none(before, after)
     }
 
-    fn are_all(&self, operands: &[Operand], before: &State, after: &State) -> bool
+    fn are_all<B: Atoms, A: Atoms>(&self, operands: &[Operand], before: &B, after: &A) -> bool
         requires search { IsSearch self.now }
         requires operands { All (λ o. IsNamed (length self.now.sets.now) o.which) operands.now }
-        requires before { IsState self.now.task.now before.now }
-        requires after { IsState self.now.task.now after.now }
-        ensures { result ≡ list_all (in_either self.now.task.now (in_set self.now.sets.now) before.now after.now) operands.now }
+        requires before { IsBelow (atoms self.now.task.now) (B.has before.now) }
+        requires after { IsBelow (atoms self.now.task.now) (A.has after.now) }
+        ensures { (b a : List Bool) → Stands self.now.task.now (B.has before.now) b
+            → Stands self.now.task.now (A.has after.now) a
+            → result ≡ list_all (in_either self.now.task.now (in_set self.now.sets.now) b a)
+            operands.now }
     {
         for operand in operands {
             if !self.is_in(operand, before, after) {
@@ -135,57 +144,54 @@ impl Search<'_> {
         true
     }
 
-    fn are_none(&self, before: &State, after: &State) -> bool
+    fn are_none<B: Atoms, A: Atoms>(&self, before: &B, after: &A) -> bool
         requires search { IsSearch self.now }
-        requires before { IsState self.now.task.now before.now }
-        requires after { IsState self.now.task.now after.now }
-        ensures { result ≡ list_all (λ o. not (in_either self.now.task.now (in_set self.now.sets.now) before.now after.now o)) self.now.query.now.negative }
+        requires before { IsBelow (atoms self.now.task.now) (B.has before.now) }
+        requires after { IsBelow (atoms self.now.task.now) (A.has after.now) }
+        ensures { (b a : List Bool) → Stands self.now.task.now (B.has before.now) b
+            → Stands self.now.task.now (A.has after.now) a
+            → result ≡ is_in_none self.now b a }
     {
         !self.is_hit(before, false) && (self.query.action.is_none() || !self.is_hit(after, true))
     }
 
-    // Whether a negative operand that is asked about after the action (true) or before it (false) has the state. Few operands are
-    // gone through. Of many only those are asked about that name a set that lists the state, if such sets are fewer.
-    fn is_hit(&self, state: &State, after: bool) -> bool
+    // Whether a negative operand that is asked about after the action (true) or before it (false) has
+    // the state. Few operands are gone through. Of many only those are asked about that name a set that
+    // lists the state, if such sets are fewer.
+    fn is_hit<A: Atoms>(&self, held: &A, after: bool) -> bool
         requires search { IsSearch self.now }
-        requires state { IsState self.now.task.now state.now }
-        ensures { IsTrue result ↔ IsHit self.now.task.now (in_set self.now.sets.now) self.now.query.now.negative after state.now }
+        requires below { IsBelow (atoms self.now.task.now) (A.has held.now) }
+        ensures { (state : List Bool) → Stands self.now.task.now (A.has held.now) state
+            → IsTrue result ↔ IsHit self.now.task.now (in_set self.now.sets.now)
+            self.now.query.now.negative after state }
     {
         let operands = self.query.negative.as_slice();
         if operands.len() <= FEW {
-            return self.is_hit_among(operands, state, after);
+            return self.is_hit_among(operands, held, after);
         }
-        let owners = self.sets.owners_of(state);
-        if operands.len() <= owners.len() {
-            return self.is_hit_among(operands, state, after);
+        match self
+            .sets
+            .find_owner(&self.query.negative, after, held, self.task.atoms())
+        {
+            Some(owned) => {
+                owned
+                    || self.is_hit_by(Which::Start, held, after)
+                    || self.is_hit_by(Which::Goal, held, after)
+            }
+            None => self.is_hit_among(operands, held, after),
         }
-        self.is_hit_by(Which::Start, state, after)
-            || self.is_hit_by(Which::Goal, state, after)
-            || self.is_hit_by_some(owners, state, after)
     }
 
-    fn is_hit_among(&self, operands: &[Operand], state: &State, after: bool) -> bool
+    fn is_hit_among<A: Atoms>(&self, operands: &[Operand], held: &A, after: bool) -> bool
         requires search { IsSearch self.now }
         requires operands { All (λ o. IsNamed (length self.now.sets.now) o.which) operands.now }
-        requires state { IsState self.now.task.now state.now }
-        ensures { IsTrue result ↔ IsHit self.now.task.now (in_set self.now.sets.now) operands.now after state.now }
+        requires below { IsBelow (atoms self.now.task.now) (A.has held.now) }
+        ensures { (state : List Bool) → Stands self.now.task.now (A.has held.now) state
+            → IsTrue result ↔ IsHit self.now.task.now (in_set self.now.sets.now)
+            operands.now after state }
     {
         for operand in operands {
-            if operand.after == after && self.has(operand.which, state) {
-                return true;
-            }
-        }
-        false
-    }
-
-    // Whether one of these sets is a negative operand that has the state.
-    fn is_hit_by_some(&self, numbers: &[usize], state: &State, after: bool) -> bool
-        requires search { IsSearch self.now }
-        requires state { IsState self.now.task.now state.now }
-        ensures { IsTrue result ↔ ((number : ℕ) × Contains numbers.now number × IsHitBy self.now (W.Set number) after state.now) }
-    {
-        for number in numbers {
-            if self.is_hit_by(Which::Set(*number), state, after) {
+            if operand.after == after && self.has(operand.which, held) {
                 return true;
             }
         }
@@ -193,20 +199,23 @@ impl Search<'_> {
     }
 
     // Whether this set is a negative operand and has the state.
-    fn is_hit_by(&self, which: Which, state: &State, after: bool) -> bool
+    fn is_hit_by<A: Atoms>(&self, which: Which, held: &A, after: bool) -> bool
         requires search { IsSearch self.now }
-        requires state { IsState self.now.task.now state.now }
-        ensures { IsTrue result ↔ IsHitBy self.now which after state.now }
+        requires below { IsBelow (atoms self.now.task.now) (A.has held.now) }
+        ensures { (state : List Bool) → Stands self.now.task.now (A.has held.now) state
+            → IsTrue result ↔ IsHitBy self.now which after state }
     {
-        self.query.negative.names(which, after) && self.has(which, state)
+        self.query.negative.names(which, after) && self.has(which, held)
     }
 
-    fn is_in(&self, operand: &Operand, before: &State, after: &State) -> bool
+    fn is_in<B: Atoms, A: Atoms>(&self, operand: &Operand, before: &B, after: &A) -> bool
         requires search { IsSearch self.now }
         requires operand { IsNamed (length self.now.sets.now) operand.now.which }
-        requires before { IsState self.now.task.now before.now }
-        requires after { IsState self.now.task.now after.now }
-        ensures { result ≡ in_either self.now.task.now (in_set self.now.sets.now) before.now after.now operand.now }
+        requires before { IsBelow (atoms self.now.task.now) (B.has before.now) }
+        requires after { IsBelow (atoms self.now.task.now) (A.has after.now) }
+        ensures { (b a : List Bool) → Stands self.now.task.now (B.has before.now) b
+            → Stands self.now.task.now (A.has after.now) a
+            → result ≡ in_either self.now.task.now (in_set self.now.sets.now) b a operand.now }
     {
         if operand.after {
             self.has(operand.which, after)
@@ -215,25 +224,58 @@ impl Search<'_> {
         }
     }
 
-    fn has(&self, which: Which, state: &State) -> bool
+    fn has<A: Atoms>(&self, which: Which, held: &A) -> bool
         requires search { IsSearch self.now }
         requires which { IsNamed (length self.now.sets.now) which }
-        requires state { IsState self.now.task.now state.now }
-        ensures { result ≡ in_which self.now.task.now (in_set self.now.sets.now) which state.now }
+        requires below { IsBelow (atoms self.now.task.now) (A.has held.now) }
+        ensures { (state : List Bool) → Stands self.now.task.now (A.has held.now) state
+            → result ≡ in_which self.now.task.now (in_set self.now.sets.now) which state }
     {
         match which {
             Which::Empty => false,
-            Which::Start => self.start == state,
-            Which::Goal => self.task.goal_in(state),
-            Which::Set(number) => self.sets.get(number).holds(state),
+            Which::Start => is_start(self.task, held),
+            Which::Goal => has_goal(self.task, held),
+            Which::Set(number) => self.sets.get(number).lists(held),
         }
     }
+}
+
+fn is_start<A: Atoms>(task: &Task, held: &A) -> bool
+    ensures same { IsTrue result ↔ IsSame (A.has held.now) task.now.start }
+    ensures below { AreBelow (atoms task.now) task.now.start }
+{
+    let _atoms = task.atoms();
+    is_same(task.start().as_slice(), held)
+}
+
+fn has_goal<A: Atoms>(task: &Task, held: &A) -> bool
+    ensures { IsTrue result ↔ All (λ p. IsTrue (A.has held.now p)) task.now.goal }
+{
+    has_all(task.goal().as_slice(), held)
+}
+
+fn has_all<A: Atoms>(atoms: &[u32], held: &A) -> bool
+    ensures { IsTrue result ↔ All (λ p. IsTrue (A.has held.now p)) atoms.now }
+{
+    for atom in atoms {
+        if !has_atom(*atom, held) {
+            return false;
+        }
+    }
+    true
+}
+
+fn has_atom<A: Atoms>(atom: u32, held: &A) -> bool
+    ensures { result ≡ A.has held.now atom }
+{
+    held.next(atom, &mut Hint::default()) == Some(atom)
 }
 
 // The first operand that can be the anchor, which has the least identifier, since identifiers rise.
 fn anchor_of(operands: &[Operand]) -> Option<Operand>
     requires { Rises operands.now }
-    ensures { MatchOption result ((o : Operand) → Contains operands.now o → CanAnchor o → ⊥) (λ o. IsAnchor operands.now o) }
+    ensures { MatchOption result ((o : Operand) → Contains operands.now o → CanAnchor o → ⊥)
+        (λ o. IsAnchor operands.now o) }
 {
     for operand in operands {
         if can_anchor(operand) {

@@ -14,7 +14,8 @@ use hv_task::{Action, AtomList, Name, State, Task};
 use std::alloc::{AllocError, Global};
 use std::test::Fail;
 
-// A state of a task with two atoms is a code below 4, with a bit for each atom. A set is a mask, with a bit for each code.
+// A state of a task with two atoms is a code below 4, with a bit for each atom. A set is a mask, with a
+// bit for each code.
 fn has_bit(bits: u32, place: u32) -> bool
     requires { place < 32 }
 {
@@ -95,67 +96,12 @@ fn task_of_two(alloc: Global) -> Result<Task, AllocError>
     Ok(task)
 }
 
-fn store_of(alloc: Global, task: &Task, masks: [u32; 2]) -> Result<Explicits, AllocError>
-    requires { atoms task.now ≡ 2 }
-    ensures len { IfOk result (λ sets. length sets ≡ 2) }
-    ensures over { IfOk result (λ sets. AreOver sets 2) }
-{
-    let mut sets = Explicits::new(alloc);
-    sets.add(set_from(alloc, task, masks[0])?)?;
-    sets.add(set_from(alloc, task, masks[1])?)?;
-    Ok(sets)
-}
-
-// The constants and the two sets of the store, by a number below 5. The last can't be the anchor.
-fn which_of(number: u32) -> Which
-    ensures named { IsNamed 2 result }
-    ensures many { IsNamed 8 result }
-    ensures anchor { number < 4 → result ≡ W.Goal → ⊥ }
-{
-    match number {
-        0 => Which::Empty,
-        1 => Which::Start,
-        2 => Which::Set(0),
-        3 => Which::Set(1),
-        _ => Which::Goal,
-    }
-}
-
-fn query_of(
-    alloc: Global,
-    positive: Which,
-    negative: Which,
-    action: Option<u32>,
-    after: bool,
-) -> Result<Query, AllocError>
-    requires positive { IsNamed 2 positive }
-    requires negative { IsNamed 2 negative }
-    requires anchor { positive ≡ W.Goal → ⊥ }
-    requires after { action ≡ None → after ≡ false }
-    ensures ready { IfOk result (IsReady 2) }
-    ensures anchor { IfOk result HasAnchor }
-    ensures action { IfOk result (λ query. query.action ≡ action) }
-{
-    let mut query = Query {
-        positive: Operands::new(alloc),
-        negative: Operands::new(alloc),
-        action,
-    };
-    query.positive.push(Operand {
-        which: positive,
-        id: 0,
-        after: false,
-    })?;
-    query.negative.push(Operand {
-        which: negative,
-        id: 1,
-        after,
-    })?;
-    Ok(query)
-}
-
 fn add_negative(query: &mut Query, operand: Operand) -> Result<(), AllocError>
-    ensures { OnOk result (query.new ≡ record { positive = query.old.positive; negative = query.old.negative ++ operand ∷ []; action = query.old.action }) }
+    ensures { OnOk result (query.new ≡ record {
+      positive = query.old.positive;
+      negative = query.old.negative ++ operand ∷ [];
+      action = query.old.action;
+    }) }
 {
     query.negative.push(operand)?;
     Ok(())
@@ -215,242 +161,96 @@ fn many_sets_of(alloc: Global, task: &Task, masks: &[u32]) -> Result<Explicits, 
     Ok(sets)
 }
 
-// What the definitions say, by going through all states.
-
-fn is_in(which: Which, masks: [u32; 2], code: u32) -> bool
-    requires { code < 4 }
-{
-    match which {
-        Which::Empty => false,
-        Which::Start => code == 1,
-        Which::Goal => has_bit(code, 1),
-        Which::Set(0) => has_bit(masks[0], code),
-        Which::Set(_) => has_bit(masks[1], code),
-    }
-}
-
-fn cost_of(which: Which, masks: [u32; 2]) -> u64 {
-    match which {
-        Which::Start => 1,
-        Which::Set(0) => masks[0].count_ones() as u64,
-        Which::Set(1) => masks[1].count_ones() as u64,
-        _ => 0,
-    }
-}
-
-// The action takes atom 0 and adds atom 1, so that its only result is the state 2 or 3 without atom 0.
-fn is_clash(
-    positive: Which,
-    negative: Which,
-    masks: [u32; 2],
-    acts: bool,
-    after: bool,
-    code: u32,
-) -> bool
-    requires { code < 4 }
-{
-    let asked = if after { 2 } else { code };
-    (!acts || has_bit(code, 0)) && is_in(positive, masks, code) && !is_in(negative, masks, asked)
-}
-
-fn answers_as_listed(
+// The counterexample to the query of the first set, and of none of the others and the last: its code,
+// or 4 where there is none and 5 where the query costs more than the budget.
+fn found_by(
     alloc: Global,
-    task: &Task,
-    sets: &Explicits,
-    masks: [u32; 2],
-    positive: Which,
-    negative: Which,
-    acts: bool,
-    after: bool,
-    budget: u64,
-) -> Result<bool, AllocError>
-    requires atoms { atoms task.now ≡ 2 }
-    requires actions { length task.now.actions ≡ 1 }
-    requires len { length sets.now ≡ 2 }
-    requires over { AreOver sets.now 2 }
-    requires positive { IsNamed 2 positive }
-    requires negative { IsNamed 2 negative }
-    requires anchor { positive ≡ W.Goal → ⊥ }
-    requires after { acts ≡ false → after ≡ false }
-{
-    let action = if acts { Some(0) } else { None };
-    let query = query_of(alloc, positive, negative, action, after)?;
-    let mut scratch = Scratch::new(alloc)?;
-    let found = sets.find(alloc, task, &query, budget, &mut scratch)?;
-    let mut clashes = [false; 4];
-    for code in 0..4 {
-        clashes[code as usize] = is_clash(positive, negative, masks, acts, after, code);
-    }
-    Ok(match found {
-        Finding::Over => cost_of(positive, masks) > budget,
-        Finding::Empty => cost_of(positive, masks) <= budget && !clashes.contains(&true),
-        Finding::Clash => {
-            let code = scratch.state().has(0) as usize + 2 * (scratch.state().has(1) as usize);
-            cost_of(positive, masks) <= budget && clashes[code]
-        }
-    })
-}
-
-fn union_of(masks: &[u32]) -> u32 {
-    let mut states = 0;
-    for mask in masks {
-        states |= *mask;
-    }
-    states
-}
-
-fn is_wide_clash(masks: [u32; 8], last: Which, acts: bool, after: bool, code: u32) -> bool
-    requires { code < 4 }
-{
-    let asked = if after { 2 } else { code };
-    (!acts || has_bit(code, 0))
-        && has_bit(masks[0], code)
-        && !has_bit(union_of(&masks[1..]), asked)
-        && !is_in(last, [masks[0], masks[1]], asked)
-}
-
-// Whether the query of the first set, and of none of the others and the last, is answered as all states say.
-fn wide_is_answered(
-    alloc: Global,
-    task: &Task,
-    masks: [u32; 8],
+    masks: [u32; 6],
     last: Which,
     acts: bool,
     after: bool,
-) -> Result<bool, AllocError>
-    requires atoms { atoms task.now ≡ 2 }
-    requires actions { length task.now.actions ≡ 1 }
-    requires last { IsNamed 8 last }
+    budget: u64,
+) -> Result<u32, AllocError>
+    requires last { IsNamed 6 last }
     requires after { acts ≡ false → after ≡ false }
 {
-    let sets = many_sets_of(alloc, task, &masks)?;
+    let task = task_of_two(alloc)?;
+    let sets = many_sets_of(alloc, &task, &masks)?;
     let action = if acts { Some(0) } else { None };
-    let query = wide_query_of(alloc, 8, last, action, after)?;
+    let query = wide_query_of(alloc, 6, last, action, after)?;
     let mut scratch = Scratch::new(alloc)?;
-    let found = sets.find(alloc, task, &query, 4, &mut scratch)?;
-    let mut clashes = [false; 4];
-    for code in 0..4 {
-        clashes[code as usize] = is_wide_clash(masks, last, acts, after, code);
-    }
+    let found = sets.find(alloc, &task, &query, budget, &mut scratch)?;
     Ok(match found {
-        Finding::Over => false,
-        Finding::Empty => !clashes.contains(&true),
-        Finding::Clash => {
-            let code = scratch.state().has(0) as usize + 2 * (scratch.state().has(1) as usize);
-            clashes[code]
-        }
+        Finding::Over => 5,
+        Finding::Empty => 4,
+        Finding::Clash => code_of(scratch.state()),
     })
 }
 
-// Whether the next step of a walk is the cube of a listed state, or the end after as many steps as there are states.
-fn step_is_listed(
-    set: &Explicit,
-    cursor: &mut Cursor,
-    cube: &mut Cube,
-    mask: u32,
-    turn: u32,
-) -> Result<bool, AllocError> {
-    let step = set.inside_next(cursor, cube)?;
-    if step != Step::Cube {
-        return Ok(turn >= mask.count_ones());
-    }
-    if turn >= mask.count_ones() || cube.len() != 2 {
-        return Ok(false);
-    }
-    let code = cube.get(0).positive as u32 + 2 * (cube.get(1).positive as u32);
-    Ok(has_bit(mask, code))
+fn code_of(state: &State) -> u32
+    requires { length state.now ≡ 2 }
+{
+    state.has(0) as u32 + 2 * (state.has(1) as u32)
 }
 
 #[test]
-fn a_set_has_its_listed_states(rt: HostRuntime) -> Result<(), Fail> {
+fn a_repeated_state_is_listed_and_counted(rt: HostRuntime) -> Result<(), Fail> {
     let task = task_of_two(rt.alloc())?;
-    for mask in 0..16 {
-        let set = set_from(rt.alloc(), &task, mask)?;
-        for code in 0..4 {
-            let state = state_from(rt.alloc(), code)?;
-            assert_eq!(rt; set.holds(&state), has_bit(mask, code));
-        }
-    }
+    let mut states = StateList::new(rt.alloc());
+    put_state(rt.alloc(), &mut states, 15, 1)?;
+    put_state(rt.alloc(), &mut states, 15, 2)?;
+    put_state(rt.alloc(), &mut states, 15, 1)?;
+    let set = Explicit::new(rt.alloc(), &task, &states)?;
+    assert_eq!(rt; set.firsts().len(), 2);
+    assert_eq!(rt; set.inside_count(rt.alloc(), 9)?, 3);
+    assert!(rt; set.holds(&state_from(rt.alloc(), 2)?));
+    assert!(rt; !set.holds(&state_from(rt.alloc(), 3)?));
     Ok(())
 }
 
 #[test]
-fn queries_are_answered_as_all_states_say(rt: HostRuntime) -> Result<(), Fail> {
+fn a_set_is_walked_and_met(rt: HostRuntime) -> Result<(), Fail> {
     let task = task_of_two(rt.alloc())?;
-    let modes = [(false, false), (true, false), (true, true)];
-    for masks in [[6, 12], [15, 5], [2, 2], [10, 11]] {
-        let sets = store_of(rt.alloc(), &task, masks)?;
-        for positive in 0..4 {
-            for negative in 0..5 {
-                for (acts, after) in modes {
-                    for budget in [0, 1, 2, 4] {
-                        assert!(rt;
-                            answers_as_listed(
-                                rt.alloc(),
-                                &task,
-                                &sets,
-                                masks,
-                                which_of(positive),
-                                which_of(negative),
-                                acts,
-                                after,
-                                budget
-                            )?
-                        );
-                    }
-                }
-            }
-        }
-    }
-    Ok(())
-}
-
-#[test]
-fn cubes_are_met_and_walked_as_all_states_say(rt: HostRuntime) -> Result<(), Fail> {
-    let task = task_of_two(rt.alloc())?;
+    let set = set_from(rt.alloc(), &task, 2)?;
+    let mut cube = Cube::new(rt.alloc());
+    cube.add(Literal {
+        atom: 1,
+        positive: true,
+    })?;
     let mut scratch = Scratch::new(rt.alloc())?;
-    for mask in 0..16 {
-        let set = set_from(rt.alloc(), &task, mask)?;
-        for sign in [true, false] {
-            let mut cube = Cube::new(rt.alloc());
-            cube.add(Literal {
-                atom: 1,
-                positive: sign,
-            })?;
-            let among = if sign { 12 } else { 3 };
-            assert_eq!(rt;
-                set.meets(rt.alloc(), &cube, &mut scratch)?,
-                mask & among != 0
-            );
-        }
-        let mut cursor = Cursor::new(rt.alloc());
-        let mut cube = Cube::new(rt.alloc());
-        for turn in 0..5 {
-            assert!(rt; step_is_listed(&set, &mut cursor, &mut cube, mask, turn)?);
-        }
-    }
+    assert!(rt; !set.meets(rt.alloc(), &cube, &mut scratch)?);
+    let mut cursor = Cursor::new(rt.alloc());
+    assert_eq!(rt; set.inside_next(&mut cursor, &mut cube)?, Step::Cube);
+    assert_eq!(rt; cube.len(), 2);
+    assert_eq!(rt; set.inside_next(&mut cursor, &mut cube)?, Step::End);
     Ok(())
 }
 
+// By hand: a mask is a set of codes, the action leads from 1 and 3 to 2, and 1 is the start.
 #[test]
-fn many_negative_operands_are_answered_as_all_states_say(rt: HostRuntime) -> Result<(), Fail> {
-    let task = task_of_two(rt.alloc())?;
-    let several = [
-        [10, 4, 4, 2, 2, 0, 0, 0],
-        [10, 4, 5, 2, 8, 8, 0, 1],
-        [15, 1, 0, 0, 0, 0, 0, 8],
-        [15, 0, 0, 4, 0, 2, 1, 0],
-        [3, 0, 0, 0, 0, 0, 0, 0],
-        [2, 2, 2, 2, 2, 2, 2, 2],
-    ];
-    for masks in several {
-        for number in 0..5 {
-            for (acts, after) in [(false, false), (true, false), (true, true)] {
-                assert!(rt;
-                    wide_is_answered(rt.alloc(), &task, masks, which_of(number), acts, after)?
-                );
-            }
-        }
-    }
+fn queries_are_answered_by_the_sets_that_list_a_state(rt: HostRuntime) -> Result<(), Fail> {
+    let shared = [10, 4, 6, 2, 2, 4];
+    assert_eq!(rt;
+        found_by(rt.alloc(), shared, Which::Empty, false, false, 2)?,
+        3
+    );
+    assert_eq!(rt;
+        found_by(rt.alloc(), shared, Which::Goal, false, false, 2)?,
+        4
+    );
+    assert_eq!(rt;
+        found_by(rt.alloc(), shared, Which::Empty, false, false, 1)?,
+        5
+    );
+    assert_eq!(rt;
+        found_by(rt.alloc(), shared, Which::Empty, true, true, 2)?,
+        4
+    );
+    let apart = [8, 1, 9, 2, 2, 0];
+    assert_eq!(rt;
+        found_by(rt.alloc(), apart, Which::Start, true, true, 1)?,
+        3
+    );
+    assert_eq!(rt; found_by(rt.alloc(), apart, Which::Goal, true, true, 1)?, 4);
     Ok(())
 }

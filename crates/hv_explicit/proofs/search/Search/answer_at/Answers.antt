@@ -20,8 +20,8 @@ pub returns-in-Set : goal.returns-in-Set
 returns-in-Set c =
     let o = c.requires.anchor.0 in
     answer_set c.args.self.now.task.now c.args.self.now.sets.now c.args.self.now.query.now c.requires.search.ready o c.requires.anchor.1
-    c.find_among-in-Set.result c.args.budget c.in-Set.number c.get.result.now c.find_among-in-Set.new.state c.requires.search.over
-    (c.requires.anchor.2 ∙ c.in-Set.is) c.get.ensures
+    c.find_among-in-Set.result c.args.budget c.in-Set.number c.get-set.result.now c.find_among-in-Set.new.state c.requires.search.over
+    (c.requires.anchor.2 ∙ c.in-Set.is) c.get-set.ensures
     (subst (λ states. IsFound c.find_among-in-Set.result c.args.budget (atoms c.args.self.now.task.now)
     (is_clash c.args.self.now.task.now (in_set c.args.self.now.sets.now) c.args.self.now.query.now) states c.find_among-in-Set.new.state)
     c.states.ensures.states c.find_among-in-Set.ensures)

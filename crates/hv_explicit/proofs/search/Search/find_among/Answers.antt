@@ -1,34 +1,32 @@
-use Rattle.std.proofs.Common.{◌≡◌, ◌∙◌, get_or, length, ap, sym, arith, inl, inr}
-use Rattle.std.proofs.lemmas.Bool.{cases_lt}
-use Rattle.std.proofs.lemmas.List.{get_or_default}
-use Rattle.hv_task.specs.State.{state_of}
+use Rattle.std.proofs.Common.{◌≡◌, ◌∙◌, ℕ, false, get_or, ap, sym, subst, arith}
+use Rattle.hv_task.specs.State.{AreBelow, state_of}
 use Rattle.hv_task.specs.Strips.{atoms}
-use Rattle.hv_task.proofs.Places.{length-state_of}
 use Rattle.hv_sets.specs.Query.{is_clash}
 use Rattle.hv_explicit.specs.Listing.{in_set}
+use Rattle.hv_explicit.proofs.LookUp.{all_from_firsts}
 use Rattle.hv_explicit.proofs.search.Search.find_among.Goals as goal
+
+pub hold-requires : goal.hold-requires
+hold-requires c =
+    let place = get_or c.args.firsts.now c.loop-place.place-index 0 in
+    subst (λ (n : ℕ). AreBelow n c.index-states-place.result) (sym c.loop-place.invariant.state)
+    (subst (AreBelow (atoms c.args.self.now.task.now)) (sym c.index-states-place.is)
+    (c.requires.states place c.index-states-place.result (c.requires.firsts.within c.loop-place.place-index c.loop-place-test.true)))
 
 pub returns-then-clashes : goal.returns-then-clashes
 returns-then-clashes c = (
   omega (arith, c.if-states-budget.false),
-  ap length c.clashes.ensures.state ∙ length-state_of (atoms c.args.self.now.task.now) c.held-item.result,
-  sym c.clashes.ensures.clash ∙ c.if-clashes.true,
+  c.hold.ensures.atoms ∙ c.loop-place.invariant.state,
+  ap (is_clash c.args.self.now.task.now (in_set c.args.self.now.sets.now) c.args.self.now.query.now)
+      (c.hold.ensures.held ∙ ap (λ m. state_of m c.index-states-place.result) c.loop-place.invariant.state)
+      ∙ (sym c.clashes.ensures ∙ c.if-clashes.true),
 )
 
-pub loop-held-preserved : goal.loop-held-preserved
-loop-held-preserved c = record {
-  state = ap length c.clashes.ensures.state ∙ length-state_of (atoms c.args.self.now.task.now) c.held-item.result;
-  after = c.clashes.ensures.after;
-  none = λ k d less.
-      elim (cases_lt k c.loop-held.held-index) [
-        | inl before ↦ c.loop-held.invariant.none k d before
-        | inr upto ↦
-            let same : k ≡ c.loop-held.held-index = omega arith in
-            let held : get_or c.args.states.now k d ≡ c.held-item.result =
-            ap (λ j. get_or c.args.states.now j d) same
-            ∙ (get_or_default c.args.states.now c.loop-held.held-index d c.held-item.result c.loop-held-test.true ∙ sym c.held-item.is) in
-            ap (λ h. is_clash c.args.self.now.task.now (in_set c.args.self.now.sets.now) c.args.self.now.query.now (state_of (atoms c.args.self.now.task.now) h)) held
-            ∙ (ap (is_clash c.args.self.now.task.now (in_set c.args.self.now.sets.now) c.args.self.now.query.now) (sym c.clashes.ensures.state)
-            ∙ (sym c.clashes.ensures.clash ∙ c.if-clashes.false))
-      ];
-}
+pub returns : goal.returns
+returns c = (
+  omega (arith, c.if-states-budget.false),
+  all_from_firsts
+      (λ held. is_clash c.args.self.now.task.now (in_set c.args.self.now.sets.now) c.args.self.now.query.now (state_of (atoms c.args.self.now.task.now) held) ≡ false)
+      c.args.states.now c.args.firsts.now c.requires.firsts
+      (λ e less. c.loop-place.invariant.none e (let over = c.loop-place-test.false in omega arith)),
+)

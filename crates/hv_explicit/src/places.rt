@@ -1,0 +1,294 @@
+//! Places in a list of codes, found by the code.
+
+ghost use Rattle.std.specs.Prelude.{◌≡◌, ◌<◌, ◌≤◌, ◌-◌, ◌+◌, ◌^◌, ◌++◌, ◌∷◌, ℕ, [], length, slice_index, IfOk, OnOk, OnErr};
+ghost use Rattle.hv_explicit.specs.Places.{IsChain, IsEnd, IsLinked, IsTable, code_at, slot_at, slot_of};
+
+use std::alloc::{AllocError, Global};
+use std::marker::Model;
+
+// A chain of so many places in a row with other codes is long.
+const LONG: usize = 64;
+
+// How often all places are linked again before there are more slots.
+const TURNS: u32 = 16;
+
+/// A list of codes, in which the places of a code are found without a walk over the list. Each slot
+/// has a chain of the places whose codes fall into it. Codes that were made to fall into one slot are
+/// linked again by another factor.
+#[derive(Drop)]
+pub(crate) struct Places {
+    codes: Vec<u64>,
+    // For each place, one more than the last earlier place in its slot, or 0.
+    before: Vec<u32>,
+    // For each slot, one more than the last place in it, or 0.
+    heads: Vec<u32>,
+    turn: Turn,
+}
+
+// The factor by which codes fall into slots, and how often it may be changed before there are more
+// slots.
+#[derive(Clone, Copy)]
+struct Turn {
+    factor: u64,
+    left: u32,
+}
+
+impl Model for Places {
+    ghost use Rattle.std.specs.Prelude.{ℕ, List};
+    ghost use Rattle.hv_explicit.specs.Places.{IsTable};
+
+    ghost Value = { List ℕ };
+
+    ghost view = { λ p. p.codes.items };
+
+    ghost invariant = { λ p. IsTable p.codes.items p.before.items p.heads.items p.turn.factor };
+}
+
+impl Places {
+    /// No code.
+    pub(crate) fn new(alloc: Global) -> Places
+        ensures { result ≡ [] }
+    {
+        Places {
+            codes: Vec::new(alloc),
+            before: Vec::new(alloc),
+            heads: Vec::new(alloc),
+            turn: Turn {
+                factor: 0x9e37_79b9_7f4a_7c15,
+                left: TURNS,
+            },
+        }
+    }
+
+    /// How many codes there are.
+    pub(crate) fn len(&self) -> usize
+        ensures len { result ≡ length self.now }
+        ensures few { result < 2 ^ 32 }
+    {
+        self.codes.len()
+    }
+
+    /// Puts a code last. There is no room for more than 4,294,967,295.
+    #[tactic(auto, using(crate::proofs::Linked::linked_push))]
+    pub(crate) fn push(&mut self, code: u64) -> Result<(), AllocError>
+        ensures ok { OnOk result (self.new ≡ self.old ++ code ∷ []) }
+        ensures err { OnErr result (self.new ≡ self.old) }
+    {
+        if self.codes.len() >= u32::MAX as usize {
+            return Err(AllocError);
+        }
+        self.turn = widen(
+            self.codes.as_slice(),
+            self.turn,
+            &mut self.before,
+            &mut self.heads,
+        )?;
+        lengthen(
+            self.codes.as_slice(),
+            self.turn.factor,
+            &mut self.before,
+            &self.heads,
+        )?;
+        let place = self.codes.len();
+        self.codes.push(code)?;
+        link(
+            self.codes.as_slice(),
+            self.turn.factor,
+            &mut self.before,
+            &mut self.heads,
+            place,
+        );
+        self.turn = settle(
+            self.codes.as_slice(),
+            self.turn,
+            &mut self.before,
+            &mut self.heads,
+        );
+        Ok(())
+    }
+
+    /// One more than the last place that has this code, or 0 where none has it.
+    pub(crate) fn last(&self, code: u64) -> usize
+        ensures { IsEnd (code_at self.now) code (length self.now) result }
+    {
+        if self.codes.is_empty() {
+            return 0;
+        }
+        let slot = slot_of(self.turn.factor, self.heads.len(), code);
+        skip(
+            self.codes.as_slice(),
+            self.turn.factor,
+            self.before.as_slice(),
+            self.heads.len(),
+            code,
+            self.heads[slot] as usize,
+        )
+    }
+
+    /// One more than the last earlier place that has the code of this one, or 0.
+    pub(crate) fn earlier(&self, place: usize) -> usize
+        requires { place < length self.now }
+        ensures { IsEnd (code_at self.now) (code_at self.now place) place result }
+    {
+        skip(
+            self.codes.as_slice(),
+            self.turn.factor,
+            self.before.as_slice(),
+            self.heads.len(),
+            self.codes[place],
+            self.before[place] as usize,
+        )
+    }
+}
+
+#[tactic(auto, unfolding(crate::specs::Places::slot_of))]
+fn slot_of(factor: u64, slots: usize, code: u64) -> usize
+    requires { 0 < slots }
+    ensures slot { result ≡ slot_of factor slots code }
+    ensures within { result < slots }
+{
+    ((code.wrapping_mul(factor) >> 32) % slots as u64) as usize
+}
+
+// Chains a place in its slot.
+fn link(codes: &[u64], factor: u64, before: &mut Vec<u32>, heads: &mut Vec<u32>, place: usize)
+    requires codes { place < length codes.now }
+    requires few { length codes.now < 2 ^ 32 }
+    requires before { place < length before.old.items }
+    requires heads { 0 < length heads.old.items }
+    requires linked { IsLinked codes.now before.old.items heads.old.items factor
+        (length heads.old.items) place }
+    ensures linked { IsLinked codes.now before.new.items heads.new.items factor
+        (length heads.new.items) (place + 1) }
+    ensures before { length before.new.items ≡ length before.old.items }
+    ensures heads { length heads.new.items ≡ length heads.old.items }
+{
+    let slot = slot_of(factor, heads.len(), codes[place]);
+    before[place] = heads[slot];
+    heads[slot] = (place + 1) as u32;
+}
+
+// Makes more slots than there are codes.
+fn widen(
+    codes: &[u64],
+    turn: Turn,
+    before: &mut Vec<u32>,
+    heads: &mut Vec<u32>,
+) -> Result<Turn, AllocError>
+    requires table { IsTable codes.now before.old.items heads.old.items turn.factor }
+    ensures table { IfOk result (λ new.
+        IsTable codes.now before.new.items heads.new.items new.factor) }
+    ensures room { IfOk result (λ _. 0 < length heads.new.items) }
+    ensures err { OnErr result (IsTable codes.now before.new.items heads.new.items turn.factor) }
+{
+    if codes.len() < heads.len() {
+        return Ok(turn);
+    }
+    let size = codes.len().saturating_mul(2).max(8);
+    let mut wider = vec![in *heads.allocator(); 0; size]?;
+    link_all(codes, turn.factor, before, &mut wider);
+    *heads = wider;
+    Ok(Turn {
+        factor: turn.factor,
+        left: TURNS,
+    })
+}
+
+// Makes room for one place more.
+fn lengthen(
+    codes: &[u64],
+    factor: u64,
+    before: &mut Vec<u32>,
+    heads: &Vec<u32>,
+) -> Result<(), AllocError>
+    requires table { IsTable codes.now before.old.items heads.now.items factor }
+    ensures table { IsTable codes.now before.new.items heads.now.items factor }
+    ensures room { OnOk result (length codes.now < length before.new.items) }
+{
+    let _ = factor;
+    let _ = heads;
+    if codes.len() < before.len() {
+        return Ok(());
+    }
+    before.push(0)?;
+    Ok(())
+}
+
+// Where the last place came into a long chain, links all again by another factor.
+fn settle(codes: &[u64], turn: Turn, before: &mut Vec<u32>, heads: &mut Vec<u32>) -> Turn
+    requires few { length codes.now < 2 ^ 32 }
+    requires before { length codes.now ≤ length before.old.items }
+    requires heads { 0 < length heads.old.items }
+    requires linked { IsLinked codes.now before.old.items heads.old.items turn.factor
+        (length heads.old.items) (length codes.now) }
+    ensures linked { IsLinked codes.now before.new.items heads.new.items result.factor
+        (length heads.new.items) (length codes.now) }
+    ensures before { length before.new.items ≡ length before.old.items }
+    ensures heads { length heads.new.items ≡ length heads.old.items }
+{
+    if turn.left == 0 || !is_crowded(codes, before.as_slice()) {
+        return turn;
+    }
+    let next = Turn {
+        factor: turn.factor.wrapping_mul(0xd134_2543_de82_ef95),
+        left: turn.left - 1,
+    };
+    heads.fill(0);
+    link_all(codes, next.factor, before, heads);
+    next
+}
+
+// Whether many places with other codes come before the last one in its chain.
+fn is_crowded(codes: &[u64], before: &[u32]) -> bool {
+    let mut end = codes.len();
+    for _ in 0..LONG {
+        if end == 0 || end > codes.len() || end > before.len() {
+            return false;
+        }
+        if end < codes.len() && codes[end - 1] == codes[codes.len() - 1] {
+            return false;
+        }
+        end = before[end - 1] as usize;
+    }
+    true
+}
+
+fn link_all(codes: &[u64], factor: u64, before: &mut Vec<u32>, heads: &mut Vec<u32>)
+    requires few { length codes.now < 2 ^ 32 }
+    requires before { length codes.now ≤ length before.old.items }
+    requires heads { 0 < length heads.old.items }
+    requires none { (b : ℕ) → b < length heads.old.items → slice_index heads.old.items b ≡ 0 }
+    ensures linked { IsLinked codes.now before.new.items heads.new.items factor
+        (length heads.new.items) (length codes.now) }
+    ensures before { length before.new.items ≡ length before.old.items }
+    ensures heads { length heads.new.items ≡ length heads.old.items }
+{
+    for place in 0..codes.len() {
+        link(codes, factor, before, heads, place);
+    }
+}
+
+// Goes back along a chain to a place with the code.
+fn skip(codes: &[u64], factor: u64, before: &[u32], slots: usize, code: u64, start: usize) -> usize
+    requires fits { start ≤ length codes.now }
+    requires before { length codes.now ≤ length before.now }
+    requires chain { IsChain codes.now before.now factor slots (length codes.now) }
+    requires slot { 0 < start
+        → slot_at codes.now factor slots (start - 1) ≡ slot_of factor slots code }
+    ensures { IsEnd (code_at codes.now) code start result }
+{
+    let _ = factor;
+    let _ = slots;
+    let mut end = start;
+    while end > 0 {
+        let place = end - 1;
+        if codes[place] == code {
+            return end;
+        }
+        end = before[place] as usize;
+    }
+    0
+}
+
+#[cfg(test)]
+mod tests;
