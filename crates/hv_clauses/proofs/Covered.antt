@@ -38,6 +38,22 @@ module _ (clause : List Literal) (marks : List ℕ) (state : List Bool) (size : 
 pub agrees_none : (marks : List ℕ) → ((p : ℕ) → known marks p ≡ None) → (state : List Bool) → Agrees marks state
 agrees_none marks none state = λ atom value e. let f = none atom in absurd cc
 
+-- a cube that was forced where there is no effect
+pub forced_cube : (e : List ℕ) (cube : List Literal) (m k : List ℕ) (r : Bool) → e ≡ []
+    → IsConcluded (λ state. in_cube cube (over e state) ≡ true) (AreTrue e cube) m k r
+    → IsConcluded (λ state. in_cube cube (over [] state) ≡ true) (AreTrue [] cube) m k r
+forced_cube e cube m k r none one =
+    subst (λ x. IsConcluded (λ state. in_cube cube (over x state) ≡ true) (AreTrue x cube) m k r) none one
+
+-- each state that agrees with marks by which the literals of a cube are true is in the cube
+pub cube_holds : (cube : List Literal) (m : List ℕ) (state : List Bool) → AreTrue [] cube m → SpeakBelow (length state) cube → Agrees m state
+    → in_cube cube state ≡ true
+cube_holds cube m state all speaks agrees =
+    (in_cube-Decides cube state).1
+    (λ k d within.
+    let l = get_or cube k d in
+    ap (in_literal l) (sym (over-nil state)) ∙ value_true [] m l state (all k d within) agrees (speaks k d within))
+
 -- marks to which the literals of a cube were forced, from marks that say nothing
 module _ (cube : List Literal) (clear firm : List ℕ) (result : Bool) (none : (p : ℕ) → known clear p ≡ None)
     (forced : IsConcluded (λ state. in_cube cube (over [] state) ≡ true) (AreTrue [] cube) clear firm result) where

@@ -9,9 +9,10 @@ use Rattle.hv_sets.specs.declared.operand.Operand.{Operand}
 use Rattle.hv_sets.specs.declared.query.Query.{Query}
 use Rattle.hv_sets.specs.Cost.{choices_of, clauses_of}
 use Rattle.hv_sets.specs.Query.{IsNamed, action_of, may_apply}
-use Rattle.hv_clauses.specs.declared.kind.Kind.{Kind}
+use Rattle.hv_clauses.specs.declared.completion.Completion.{Completion}
+use Rattle.hv_clauses.specs.Kinded.{CompletesClauses, IsShort}
 use Rattle.hv_clauses.specs.Choices.{AreChosenFalse, Breaks}
-use Rattle.hv_clauses.specs.Clausal.{AreClauses, AreOfKind, Completes, InAll, sizes_of}
+use Rattle.hv_clauses.specs.Clausal.{AreClauses, Completes, InAll, sizes_of}
 use Rattle.hv_clauses.specs.Completion.{IsCompleted}
 use Rattle.hv_clauses.specs.Effect.{IsEnabled}
 use Rattle.hv_clauses.specs.Found.{IsBase, IsMet}
@@ -120,10 +121,10 @@ module _ (task : Strips) (formulas : ℕ → List (List Literal)) (effect : List
             one.refuted refl state (long ∙ sym (closed.size ∙ m1_wide)) (inside_of state fits.inside)
 
   -- the positive operands can be completed
-  pub positive_completes : (kind : Kind) (count : ℕ) (positive : List Operand) (bound : ℕ) → bound ≡ atoms task → AreBelow (atoms task) task.goal
-      → ((number : ℕ) → number < count → AreOfKind kind (formulas number))
+  pub positive_completes : (how : Completion) (IsOf : List Literal → Type 0) → CompletesClauses how IsOf → ((clause : List Literal) → IsShort clause → IsOf clause) → (count : ℕ) (positive : List Operand) (bound : ℕ) → bound ≡ atoms task → AreBelow (atoms task) task.goal
+      → ((number : ℕ) → number < count → All IsOf (formulas number))
       → ((number : ℕ) → number < count → AreClauses (atoms task) (formulas number)) → All (λ o. IsNamed count o.which) positive
-      → Completes kind (InAll task formulas effect positive) (AreAllSettled task formulas effect positive) bound
-  positive_completes kind count positive bound e goal of_kind below named =
-      subst (λ n. Completes kind (InAll task formulas effect positive) (AreAllSettled task formulas effect positive) n) (sym e)
-      (operands_complete kind task formulas count effect (clauses_in_is task formulas) goal of_kind below positive named)
+      → Completes how (InAll task formulas effect positive) (AreAllSettled task formulas effect positive) bound
+  positive_completes how IsOf law short count positive bound e goal of_kind below named =
+      subst (λ n. Completes how (InAll task formulas effect positive) (AreAllSettled task formulas effect positive) n) (sym e)
+      (operands_complete how IsOf law short task formulas count effect (clauses_in_is task formulas) goal of_kind below positive named)

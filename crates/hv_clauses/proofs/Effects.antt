@@ -89,6 +89,13 @@ below_more P i before here k less =
       | inr le ↦ let same : i ≡ k = omega arith in subst P same here
     ]
 
+-- a literal that was forced where there is no effect
+pub forced_plain : (e : List ℕ) (l : Literal) (m k : List ℕ) (r : Bool) → e ≡ []
+    → IsConcluded (λ state. in_literal l (over e state) ≡ true) (λ marks. value_of e marks l ≡ Some true) m k r
+    → IsConcluded (λ state. in_literal l (over [] state) ≡ true) (λ marks. value_of [] marks l ≡ Some true) m k r
+forced_plain e l m k r none one =
+    subst (λ x. IsConcluded (λ state. in_literal l (over x state) ≡ true) (λ marks. value_of x marks l ≡ Some true) m k r) none one
+
 abbrev pub lit : ℕ → Literal
 lit p = record { atom = p; positive = true }
 

@@ -1,11 +1,13 @@
--- Why a chosen clause that is known to be true, or that the effect leaves alone, refutes its choice.
-use Rattle.std.proofs.Common.{◌≡◌, ℕ, zero, suc, ◌+◌, ◌<◌, ◌≤◌, ◌%◌, ◌/◌, ◌∙◌, Bool, true, false, not, ◌||◌, cond, ap₂, List, [], ◌∷◌, Option, None, Some, length, get_or, take, refl, sym, ap, arith, subst}
+-- Why a chosen clause that is known to be true, or of which the effect turns no literal, refutes its choice.
+use Rattle.std.proofs.Common.{◌⊎◌, Option, inl, inr, ◌≡◌, ℕ, zero, suc, ◌<◌, ◌%◌, ◌/◌, ◌∙◌, Bool, true, false, not, cond, ap₂, List, [], ◌∷◌, None, Some, length, get_or, take, refl, sym, ap, arith, subst}
 use Rattle.std.proofs.lemmas.List.{get_or_default}
-use Rattle.std.proofs.lemmas.List.Elements.{All-contains, Contains-get_or}
-use Rattle.std.proofs.lemmas.List.Folds.{list_any_at}
-use Rattle.std.specs.List.{All, Contains, list_any}
-use Rattle.hv_task.specs.State.{has_atom}
-use Rattle.hv_task.specs.Strips.{Strips, atoms}
+use Rattle.std.proofs.lemmas.List.Elements.{All-contains}
+use Rattle.std.proofs.lemmas.Bool.{cases_lt}
+use Rattle.std.proofs.lemmas.List.Folds.{Any-from_list_any, list_any_at}
+use Rattle.std.specs.Option.{option_map}
+use Rattle.std.specs.List.{All, Contains}
+use Rattle.hv_task.proofs.Places.{has_atom_past}
+use Rattle.hv_task.specs.Strips.{Strips}
 use Rattle.hv_sets.specs.declared.literal.Literal.{Literal}
 use Rattle.hv_sets.specs.declared.operand.Operand.{Operand}
 use Rattle.hv_sets.specs.declared.operand.Which.{Which}
@@ -18,9 +20,9 @@ use Rattle.hv_sets.specs.Truth.{in_clause, in_clauses, in_literal}
 use Rattle.hv_clauses.specs.Choices.{Breaks, clause_at}
 use Rattle.hv_clauses.specs.Clausal.{AreClauses, InAll, clauses_in, late, sets_of, sizes_of}
 use Rattle.hv_clauses.specs.Marks.{Agrees, known, over}
-use Rattle.hv_clauses.specs.Units.{value_of}
+use Rattle.hv_clauses.specs.Units.{first_of, value_of}
 use Rattle.hv_clauses.proofs.Effects.{list_all_get}
-use Rattle.hv_clauses.proofs.Marked.{has_atom-over_none, over-nil, value_true}
+use Rattle.hv_clauses.proofs.Marked.{has_atom-over_none, has_atom-over_some, length-over, over-nil, value_true}
 use Rattle.hv_clauses.proofs.OperandRounds.{left_after}
 
 -- a true literal makes its clause true
@@ -40,26 +42,74 @@ known_true effect marks clause n state below size found agrees broken =
     not_both (in_clause clause (over effect state))
     (true_in clause (over effect state) found.0 found.1 (value_true effect marks found.0 state found.2 agrees (omega arith))) broken
 
--- a clause that the effect leaves alone is true after the action where it is true before
-untouched_same : (effect : List ℕ) (clause : List Literal) (state : List Bool) → All (λ l. known effect l.atom ≡ None) clause
-    → in_clause clause (over effect state) ≡ in_clause clause state
-untouched_same effect [] state all = refl
-untouched_same effect (l ∷ clause) state all =
-    ap₂ (λ a b. a || b)
-    (ap (λ flag. cond l.positive flag (not flag)) (has_atom-over_none effect state l.atom (all 0 l (omega arith))))
-    (untouched_same effect clause state (λ k d within. all (suc k) d (omega arith)))
+-- A sharper test: a clause that is true before is true after, unless the effect makes a literal of it false; and one that is true after
+-- is true before, unless the effect makes a literal of it true.
+value_alone : (e : List ℕ) (l : Literal) (v : Bool) → known e l.atom ≡ Some v → value_of e [] l ≡ Some (cond l.positive v (not v))
+value_alone e l v h = ap (λ o. option_map (λ value. cond l.positive value (not value)) (first_of o (known [] l.atom))) h
 
-late_other : (effect : List ℕ) (after : Bool) (clause : List Literal) (state : List Bool) → All (λ l. known effect l.atom ≡ None) clause
-    → in_clause clause (over (late effect (not after)) state) ≡ in_clause clause (over (late effect after) state)
-late_other effect true clause state all = ap (in_clause clause) (over-nil state) ∙ sym (untouched_same effect clause state all)
-late_other effect false clause state all = untouched_same effect clause state all ∙ sym (ap (in_clause clause) (over-nil state))
+turned_literal : (e : List ℕ) (l : Literal) (s : List Bool) (v : Bool) → known e l.atom ≡ Some v
+    → (in_literal l (over e s) ≡ in_literal l s) ⊎ (in_literal l (over e s) ≡ cond l.positive v (not v))
+turned_literal e l s v h =
+    elim (cases_lt l.atom (length s)) [
+      | inl less ↦ inr (ap (λ f. cond l.positive f (not f)) (has_atom-over_some e s l.atom v less h))
+      | inr past ↦
+          let size = length-over e s in
+          inl (ap (λ f. cond l.positive f (not f)) (has_atom_past (over e s) l.atom (omega arith) ∙ sym (has_atom_past s l.atom past)))
+    ]
+
+literal_after : (e : List ℕ) (l : Literal) (s : List Bool) → (value_of e [] l ≡ Some false → ⊥) → in_literal l s ≡ true
+    → in_literal l (over e s) ≡ true
+literal_after e l s held holds = by (known e l.atom) refl
+  where
+    flag : (b : Bool) → (b ≡ false → ⊥) → b ≡ true
+    flag true h = refl
+    flag false h = absurd (h refl)
+
+    by : (o : Option Bool) → known e l.atom ≡ o → in_literal l (over e s) ≡ true
+    by None none = ap (λ f. cond l.positive f (not f)) (has_atom-over_none e s l.atom none) ∙ holds
+    by (Some v) some =
+        elim (turned_literal e l s v some) [
+          | inl same ↦ same ∙ holds
+          | inr is ↦ is ∙ flag (cond l.positive v (not v)) (λ no. held (value_alone e l v some ∙ ap Some no))
+        ]
+
+literal_before : (e : List ℕ) (l : Literal) (s : List Bool) → (value_of e [] l ≡ Some true → ⊥) → in_literal l (over e s) ≡ true
+    → in_literal l s ≡ true
+literal_before e l s held holds = by (known e l.atom) refl
+  where
+    by : (o : Option Bool) → known e l.atom ≡ o → in_literal l s ≡ true
+    by None none = sym (ap (λ f. cond l.positive f (not f)) (has_atom-over_none e s l.atom none)) ∙ holds
+    by (Some v) some =
+        elim (turned_literal e l s v some) [
+          | inl same ↦ sym same ∙ holds
+          | inr is ↦ absurd (held (value_alone e l v some ∙ ap Some (sym is ∙ holds)))
+        ]
+
+-- the value that turns a clause of an operand that is asked at this time against it
+pub clause_held : (e : List ℕ) (after : Bool) (clause : List Literal) (s : List Bool)
+    → All (λ l. value_of e [] l ≡ Some (not after) → ⊥) clause → in_clause clause (over (late e (not after)) s) ≡ true
+    → in_clause clause (over (late e after) s) ≡ true
+clause_held e true clause s all holds =
+    let some = Any-from_list_any (λ l. in_literal l (over [] s)) clause holds in
+    let at : Contains clause some.1 = (some.0, some.2, some.3) in
+    list_any_at (λ l. in_literal l (over e s)) clause some.0 some.1 some.2
+    (ap (λ l. in_literal l (over e s)) some.3
+    ∙ literal_after e some.1 s (All-contains (λ l. value_of e [] l ≡ Some false → ⊥) clause some.1 all at)
+    (sym (ap (in_literal some.1) (over-nil s)) ∙ some.4))
+clause_held e false clause s all holds =
+    let some = Any-from_list_any (λ l. in_literal l (over e s)) clause holds in
+    let at : Contains clause some.1 = (some.0, some.2, some.3) in
+    list_any_at (λ l. in_literal l (over [] s)) clause some.0 some.1 some.2
+    (ap (λ l. in_literal l (over [] s)) some.3
+    ∙ (ap (in_literal some.1) (over-nil s)
+    ∙ literal_before e some.1 s (All-contains (λ l. value_of e [] l ≡ Some true → ⊥) clause some.1 all at) some.4))
 
 -- so where its set is a positive operand at the other time, no state of the positive operands breaks it
 pub framed_true : (task : Strips) (formulas : ℕ → List (List Literal)) (effect : List ℕ) (positive : List Operand) (number : ℕ) (after : Bool)
     (place : ℕ) (state : List Bool) → place < length (formulas number) → Names positive (W.Set number) (not after)
-    → All (λ l. known effect l.atom ≡ None) (clause_at (formulas number) place) → InAll task formulas effect positive state
+    → All (λ l. value_of effect [] l ≡ Some (not after) → ⊥) (clause_at (formulas number) place) → InAll task formulas effect positive state
     → in_clause (clause_at (formulas number) place) (over (late effect after) state) ≡ false → ⊥
-framed_true task formulas effect positive number after place state within named untouched inside broken =
+framed_true task formulas effect positive number after place state within named held inside broken =
     let clause = clause_at (formulas number) place in
     let o = named.0 in
     let holds : in_which task (sets_of formulas) o.which (over (late effect o.after) state) ≡ true =
@@ -67,8 +117,8 @@ framed_true task formulas effect positive number after place state within named 
     let other : in_clauses (formulas number) (over (late effect (not after)) state) ≡ true =
     sym (ap (λ w. in_which task (sets_of formulas) w (over (late effect o.after) state)) named.2 ∙ ap (λ b. in_clauses (formulas number) (over (late effect b) state)) named.3) ∙ holds in
     not_both (in_clause clause (over (late effect after) state))
-    (sym (late_other effect after clause state untouched)
-    ∙ list_all_get (λ c. in_clause c (over (late effect (not after)) state)) (formulas number) place [] other within) broken
+    (clause_held effect after clause state held
+    (list_all_get (λ c. in_clause c (over (late effect (not after)) state)) (formulas number) place [] other within)) broken
 
 -- what a choice breaks at each place
 pub breaks_at : (task : Strips) (formulas : ℕ → List (List Literal)) (effect : List ℕ) (operands : List Operand) (place : ℕ) (d : Operand) (number : ℕ)
@@ -108,11 +158,11 @@ module _ (task : Strips) (formulas : ℕ → List (List Literal)) (effect : List
       (ap₂ (λ c e. in_clause c (over e state)) clause_is through ∙ broken_is after state broken)
 
   pub refuted_framed : (after : Bool) (positive : List Operand) (state : List Bool) → Names positive which (not after)
-      → All (λ l. known effect l.atom ≡ None) clause → InAll task formulas effect positive state
+      → All (λ l. value_of effect [] l ≡ Some (not after) → ⊥) clause → InAll task formulas effect positive state
       → in_clause (clause_at (clauses_in task formulas which) place) (over (late effect after) state) ≡ false → ⊥
-  refuted_framed after positive state named untouched inside broken =
+  refuted_framed after positive state named held inside broken =
       framed_true task formulas effect positive number after place state place_within (subst (λ w. Names positive w (not after)) is named)
-      (subst (λ c. All (λ l. known effect l.atom ≡ None) c) clause_is untouched) inside (broken_is after state broken)
+      (subst (λ c. All (λ l. value_of effect [] l ≡ Some (not after) → ⊥) c) clause_is held) inside (broken_is after state broken)
 
 pub refuted_by : (task : Strips) (formulas : ℕ → List (List Literal)) (effect : List ℕ) (listed operands : List Operand) (place : ℕ) (d : Operand)
     (number digit : ℕ) (state : List Bool) → listed ≡ operands → place < length listed

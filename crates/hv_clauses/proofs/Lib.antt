@@ -1,5 +1,6 @@
+pub mod Changes
 pub mod Choosing
-pub mod Completion
+pub mod Completing
 pub mod Covered
 pub mod Deciding
 pub mod Effects
@@ -10,8 +11,16 @@ pub mod Meeting
 pub mod OperandClauses
 pub mod OperandRounds
 pub mod Outside
-pub mod Pairs
 pub mod Problems
 pub mod Rounds
 pub mod Searching
 pub mod Steps
+pub mod Stored
+pub mod Trailed
+pub mod Occurring
+pub mod Chasing
+pub mod Forced
+pub mod Touching
+pub mod Keyed
+pub mod Gathered
+pub mod Implying

@@ -9,7 +9,7 @@ use Rattle.hv_task.proofs.Places.{has_atom_past, same_state}
 use Rattle.hv_sets.specs.declared.literal.Literal.{Literal}
 use Rattle.hv_sets.specs.Cubes.{opposite}
 use Rattle.hv_sets.specs.Truth.{in_literal}
-use Rattle.hv_clauses.specs.Marks.{Agrees, Extends, known, low, mark_of, or_else, over}
+use Rattle.hv_clauses.specs.Marks.{Agrees, Extends, filled, known, low, mark_of, or_else, over}
 use Rattle.hv_clauses.specs.Units.{AreFalse, first_of, known_through, value_of}
 
 -- past the end nothing is known
@@ -30,8 +30,11 @@ length-over m [] = refl
 length-over [] (f ∷ fs) = refl
 length-over (x ∷ m) (f ∷ fs) = ap suc (length-over m fs)
 
+pub length-filled : (value : Bool) (m : List ℕ) → length (filled value m) ≡ length m
+length-filled value m = length-over m (replicate (length m) value) ∙ length-replicate (length m) value
+
 pub length-low : (m : List ℕ) → length (low m) ≡ length m
-length-low m = length-over m (replicate (length m) false) ∙ length-replicate (length m) false
+length-low m = length-filled false m
 
 -- each flag of a state with marks over it
 pub has_atom-over : (m : List ℕ) (s : List Bool) (p : ℕ) → p < length s
@@ -56,11 +59,14 @@ has_atom-over_none m s p e =
           has_atom_past (over m s) p (omega arith) ∙ sym (has_atom_past s p past)
     ]
 
+pub has_atom-filled : (value : Bool) (m : List ℕ) (p : ℕ) → p < length m → has_atom (filled value m) p ≡ or_else (known m p) value
+has_atom-filled value m p h =
+    let within : p < length (replicate (length m) value) = omega (arith, length-replicate (length m) value) in
+    has_atom-over m (replicate (length m) value) p within
+    ∙ ap (or_else (known m p)) (get_or-replicate (length m) p value false h)
+
 pub has_atom-low : (m : List ℕ) (p : ℕ) → p < length m → has_atom (low m) p ≡ or_else (known m p) false
-has_atom-low m p h =
-    let within : p < length (replicate (length m) false) = omega (arith, length-replicate (length m) false) in
-    has_atom-over m (replicate (length m) false) p within
-    ∙ ap (or_else (known m p)) (get_or-replicate (length m) p false false h)
+has_atom-low m p h = has_atom-filled false m p h
 
 -- marks that say nothing change nothing
 pub over-nil : (s : List Bool) → over [] s ≡ s
@@ -75,8 +81,11 @@ over-none m s none =
 pub agrees_over : (m : List ℕ) (s : List Bool) → length m ≡ length s → Agrees m (over m s)
 agrees_over m s e = λ p b h. let within = known_within m p b h in has_atom-over_some m s p b (omega arith) h
 
+pub agrees_filled : (value : Bool) (m : List ℕ) → Agrees m (filled value m)
+agrees_filled value m = agrees_over m (replicate (length m) value) (sym (length-replicate (length m) value))
+
 pub agrees_low : (m : List ℕ) → Agrees m (low m)
-agrees_low m = agrees_over m (replicate (length m) false) (sym (length-replicate (length m) false))
+agrees_low m = agrees_filled false m
 
 pub extends_same : (m : List ℕ) → Extends m m
 extends_same m = λ p b h. h

@@ -1,4 +1,4 @@
--- Rounds and conclusions over the clauses of operands, one after the other.
+-- Conclusions over the clauses of operands, one after the other.
 use Rattle.std.proofs.Common.{◌≡◌, ℕ, ◌<◌, ◌≤◌, ◌+◌, ◌%◌, ◌/◌, ◌∙◌, Bool, true, false, ◌&&◌, List, [], ◌∷◌, ◌++◌, length, refl, sym, ap, ap₂, subst, get_or, take, drop}
 use Rattle.std.proofs.lemmas.Bool.{and_parts}
 use Rattle.std.proofs.lemmas.List.{take-append-drop, take_all, take_more}
@@ -14,117 +14,19 @@ use Rattle.hv_sets.specs.Truth.{in_clause, in_clauses}
 use Rattle.hv_clauses.specs.Choices.{AreChosenFalse, Breaks, clause_at}
 use Rattle.hv_clauses.specs.Clausal.{clauses_in, late, sets_of, sizes_of}
 use Rattle.hv_clauses.specs.Marks.{over}
-use Rattle.hv_clauses.specs.Units.{AreFalse, AreSettled, IsConcluded, IsPropagated, IsSettled}
-use Rattle.hv_clauses.proofs.Rounds.{conclude_stop, conclude_then, round_none, round_same, round_stop, round_then}
+use Rattle.hv_clauses.specs.Units.{AreFalse, IsConcluded}
+use Rattle.hv_clauses.proofs.Rounds.{conclude_stop, conclude_then}
 use Rattle.hv_clauses.proofs.Choosing.{chosen_false_extends}
 use Rattle.hv_clauses.proofs.OperandClauses.{clauses_of_is}
 
--- a round over clauses, over one clause, and a clause that was marked as false
-abbrev pub IsWalked : List ℕ → List (List Literal) → List ℕ → Bool → List ℕ → Bool → Bool → Type 0
-IsWalked effect clauses =
-    IsPropagated (λ state. in_clauses clauses (over effect state) ≡ true) (AreSettled effect clauses)
-
-abbrev pub IsStepped : List ℕ → List Literal → List ℕ → Bool → List ℕ → Bool → Bool → Type 0
-IsStepped effect clause =
-    IsPropagated (λ state. in_clause clause (over effect state) ≡ true) (λ marks. IsSettled effect marks clause)
-
+-- a clause was marked as false
 abbrev pub IsDenied : List ℕ → List Literal → List ℕ → List ℕ → Bool → Type 0
 IsDenied effect clause = IsConcluded (λ state. in_clause clause (over effect state) ≡ false) (AreFalse effect clause)
 
 -- the same under another name
-pub walked_same : (effect m : List ℕ) (i : Bool) (k : List ℕ) (j r : Bool) (given clauses : List (List Literal)) → given ≡ clauses
-    → IsWalked effect given m i k j r → IsWalked effect clauses m i k j r
-walked_same effect m i k j r given clauses is one = subst (λ cs. IsWalked effect cs m i k j r) is one
-
 pub denied_same : (effect m k : List ℕ) (r : Bool) (made clause : List Literal) → made ≡ clause
     → IsDenied effect made m k r → IsDenied effect clause m k r
 denied_same effect m k r made clause is one = subst (λ c. IsDenied effect c m k r) is one
-
--- a round over what an operand names
-abbrev pub IsWalkedWhich : Strips → (ℕ → List (List Literal)) → List ℕ → Which → List ℕ → Bool → List ℕ → Bool → Bool → Type 0
-IsWalkedWhich task formulas effect which =
-    IsPropagated (λ state. in_which task (sets_of formulas) which (over effect state) ≡ true)
-    (AreSettled effect (clauses_in task formulas which))
-
--- where the operand is known to be of this form
-pub walked_which : (task : Strips) (formulas : ℕ → List (List Literal)) (effect m : List ℕ) (i : Bool) (k : List ℕ) (j r : Bool)
-    (which form : Which) → which ≡ form
-    → IsWalkedWhich task formulas effect form m i k j r → IsWalkedWhich task formulas effect which m i k j r
-walked_which task formulas effect m i k j r which form is one = subst (λ w. IsWalkedWhich task formulas effect w m i k j r) (sym is) one
-
--- a state in which all clauses are true is so in the first and in each
-first_clauses : (clauses : List (List Literal)) (count : ℕ) (state : List Bool) → in_clauses clauses state ≡ true
-    → in_clauses (take count clauses) state ≡ true
-first_clauses clauses count state e =
-    (and_parts (in_clauses (take count clauses) state) (in_clauses (drop count clauses) state) (
-    sym (list_all-append (λ clause. in_clause clause state) (take count clauses) (drop count clauses))
-    ∙ ap (λ cs. in_clauses cs state) (take-append-drop count clauses)
-    ∙ e
-    )).0
-
-alone_true : (b : Bool) → (b && true) ≡ true → b ≡ true
-alone_true true e = refl
-alone_true false e = let f : false ≡ true = e in absurd cc
-
-clauses_parts : (clauses : List (List Literal)) (place : ℕ) (state : List Bool) → place < length clauses
-    → in_clauses (take (place + 1) clauses) state ≡ true
-    → (in_clauses (take place clauses) state ≡ true) × (in_clause (clause_at clauses place) state ≡ true)
-clauses_parts clauses place state within e =
-    let parts = and_parts (in_clauses (take place clauses) state) (in_clauses (clause_at clauses place ∷ []) state) (
-    sym (list_all-append (λ clause. in_clause clause state) (take place clauses) (clause_at clauses place ∷ []))
-    ∙ ap (λ cs. in_clauses cs state) (sym (take_more clauses place [] within))
-    ∙ e
-    ) in
-    (parts.0, alone_true (in_clause (clause_at clauses place) state) parts.1)
-
-module _ (effect : List ℕ) (clauses : List (List Literal)) where
-  abbrev AreTrueIn : ℕ → List Bool → Type 0
-  AreTrueIn count state = in_clauses (take count clauses) (over effect state) ≡ true
-
-  abbrev AreSettledUpto : ℕ → List ℕ → Type 0
-  AreSettledUpto count = AreSettled effect (take count clauses)
-
-  -- a round over no clause
-  pub walk_none : (m : List ℕ) (i : Bool) → IsWalked effect (take 0 clauses) m i m i true
-  walk_none m i = round_none (AreTrueIn 0) (AreSettledUpto 0) m i (λ e. All-nil (IsSettled effect m))
-
-  -- a round over one clause more
-  pub walk_more : (place : ℕ) (made : List Literal) (m : List ℕ) (i : Bool) (k : List ℕ) (j : Bool) (n : List ℕ) (l r : Bool)
-      → place < length clauses → made ≡ clause_at clauses place
-      → IsWalked effect (take place clauses) m i k j true → IsStepped effect made k j n l r
-      → IsWalked effect (take (place + 1) clauses) m i n l r
-  walk_more place made m i k j n l r within is one two =
-      round_then (AreTrueIn place) (λ state. in_clause made (over effect state) ≡ true) (AreTrueIn (place + 1))
-      (AreSettledUpto place) (λ marks. IsSettled effect marks made) (AreSettledUpto (place + 1)) m i k j n l r
-      (λ state size holds. (clauses_parts clauses place (over effect state) within holds).0)
-      (λ state size holds.
-      ap (λ c. in_clause c (over effect state)) is ∙ (clauses_parts clauses place (over effect state) within holds).1)
-      (λ marks size first last.
-      All-more (IsSettled effect marks) clauses place [] within first (subst (IsSettled effect marks) is last))
-      one two
-
-  -- a round that ends at a broken clause
-  pub walk_broken : (R : List Bool → Type 0) (U : List ℕ → Type 0) (place : ℕ) (made : List Literal)
-      (m : List ℕ) (i : Bool) (k : List ℕ) (j : Bool) (n : List ℕ) (l : Bool)
-      → ((state : List Bool) → length state ≡ length m → R state → in_clauses clauses (over effect state) ≡ true)
-      → place < length clauses → made ≡ clause_at clauses place
-      → IsWalked effect (take place clauses) m i k j true → IsStepped effect made k j n l false → IsPropagated R U m i n l false
-  walk_broken R U place made m i k j n l back within is one two =
-      round_stop (AreTrueIn (place + 1)) (λ state. in_clauses clauses (over effect state) ≡ true) R
-      (AreSettledUpto (place + 1)) (AreSettled effect clauses) U m i n l
-      (λ state size holds. first_clauses clauses (place + 1) (over effect state) (back state size holds))
-      (walk_more place made m i k j n l false within is one two)
-
-  -- a round over all clauses
-  pub walk_all : (R : List Bool → Type 0) (place : ℕ) (m : List ℕ) (i : Bool) (k : List ℕ) (j : Bool)
-      → ((state : List Bool) → length state ≡ length m → R state → in_clauses clauses (over effect state) ≡ true)
-      → length clauses ≤ place
-      → IsWalked effect (take place clauses) m i k j true → IsPropagated R (AreSettled effect clauses) m i k j true
-  walk_all R place m i k j back past one =
-      round_same (AreTrueIn place) R (AreSettledUpto place) (AreSettled effect clauses) m i k j true
-      (λ state size holds. first_clauses clauses place (over effect state) (back state size holds))
-      (λ marks size settled. subst (λ cs. AreSettled effect cs marks) (take_all place clauses past) settled)
-      one
 
 -- The digits of a number, from the first.
 module _ (task : Strips) (formulas : ℕ → List (List Literal)) where

@@ -1,95 +1,16 @@
--- Rounds of propagation, and conclusions, joined one after the other. The whole condition R says both that of the first part, P,
--- and that of the second, Q; what the parts settle settles the whole.
+-- Conclusions joined one after the other. The whole condition R says both that of the first part, P, and that of the second, Q; what
+-- the parts settle settles the whole.
 use Rattle.std.proofs.Common.{◌≡◌, ℕ, ◌+◌, ◌<◌, ◌≤◌, ◌∙◌, Bool, true, false, List, length, get_or, refl, sym, ap, arith, subst, inl, inr}
 use Rattle.std.proofs.lemmas.Bool.{cases_lt}
 use Rattle.std.proofs.lemmas.List.{get_or_default}
 use Rattle.std.specs.List.{All}
 use Rattle.hv_clauses.specs.Marks.{Extends}
-use Rattle.hv_clauses.specs.Units.{IsConcluded, IsPropagated}
+use Rattle.hv_clauses.specs.Units.{IsConcluded}
 use Rattle.hv_clauses.proofs.Marked.{extends_same, extends_then}
 
 -- no answer is both
 pub never : {P : Type 0} → true ≡ false → P
 never e = absurd (cc)
-
--- nothing was done
-pub round_none : (R : List Bool → Type 0) (S : List ℕ → Type 0) (m : List ℕ) (i : Bool) → (i ≡ false → S m)
-    → IsPropagated R S m i m i true
-round_none R S m i settled = record {
-  size = refl;
-  grows = extends_same m;
-  follows = λ state size holds agrees. agrees;
-  broken = λ e. never e;
-  still = λ e none. (none, refl, settled none);
-  count = omega arith;
-}
-
--- the same condition by other words
-pub round_same : (P R : List Bool → Type 0) (S T : List ℕ → Type 0) (m : List ℕ) (i : Bool) (k : List ℕ) (j : Bool) (r : Bool)
-    → ((state : List Bool) → length state ≡ length m → R state → P state)
-    → ((marks : List ℕ) → length marks ≡ length m → S marks → T marks)
-    → IsPropagated P S m i k j r → IsPropagated R T m i k j r
-round_same P R S T m i k j r back on round = record {
-  size = round.size;
-  grows = round.grows;
-  follows = λ state size holds agrees. round.follows state size (back state size holds) agrees;
-  broken = λ e state size holds agrees. round.broken e state size (back state size holds) agrees;
-  still = λ e none. let parts = round.still e none in (parts.0, parts.1, on k round.size parts.2);
-  count = round.count;
-}
-
-module _ (P Q R : List Bool → Type 0) (S T U : List ℕ → Type 0) (m : List ℕ) (i : Bool) (k : List ℕ) (j : Bool) where
-  -- the first part answered false, and the second wasn't done
-  pub round_stop : ((state : List Bool) → length state ≡ length m → R state → P state) → IsPropagated P S m i k j false
-      → IsPropagated R U m i k j false
-  round_stop first one = record {
-    size = one.size;
-    grows = one.grows;
-    follows = λ state size holds agrees. one.follows state size (first state size holds) agrees;
-    broken = λ e state size holds agrees. one.broken refl state size (first state size holds) agrees;
-    still = λ e. never (sym e);
-    count = one.count;
-  }
-
-  module _ (n : List ℕ) (l : Bool) where
-    -- the first part answered true, and then the second was done
-    pub round_then : (r : Bool)
-        → ((state : List Bool) → length state ≡ length m → R state → P state)
-        → ((state : List Bool) → length state ≡ length m → R state → Q state)
-        → ((marks : List ℕ) → length marks ≡ length m → S marks → T marks → U marks)
-        → IsPropagated P S m i k j true → IsPropagated Q T k j n l r → IsPropagated R U m i n l r
-    round_then r first second both one two = record {
-      size = two.size ∙ one.size;
-      grows = extends_then m k n one.grows two.grows;
-      follows = λ state size holds agrees.
-          two.follows state (size ∙ sym one.size) (second state size holds)
-          (one.follows state size (first state size holds) agrees);
-      broken = λ e state size holds agrees.
-          two.broken e state (size ∙ sym one.size) (second state size holds)
-          (one.follows state size (first state size holds) agrees);
-      still = λ e none.
-          let last = two.still e none in
-          let before = one.still refl last.0 in
-          (before.0, last.1 ∙ before.1, both n (two.size ∙ one.size) (subst S (sym last.1) before.2) last.2);
-      count = let a = one.count in let b = two.count in omega arith;
-    }
-
-    -- the first part answered true, and the second false
-    pub round_broken : ((state : List Bool) → length state ≡ length m → R state → P state)
-        → ((state : List Bool) → length state ≡ length m → R state → Q state)
-        → IsPropagated P S m i k j true → IsPropagated Q T k j n l false → IsPropagated R U m i n l false
-    round_broken first second one two = record {
-      size = two.size ∙ one.size;
-      grows = extends_then m k n one.grows two.grows;
-      follows = λ state size holds agrees.
-          two.follows state (size ∙ sym one.size) (second state size holds)
-          (one.follows state size (first state size holds) agrees);
-      broken = λ e state size holds agrees.
-          two.broken refl state (size ∙ sym one.size) (second state size holds)
-          (one.follows state size (first state size holds) agrees);
-      still = λ e. never (sym e);
-      count = let a = one.count in let b = two.count in omega arith;
-    }
 
 -- the same condition by other words
 pub conclude_same : (P R : List Bool → Type 0) (S T : List ℕ → Type 0) (m k : List ℕ) (r : Bool)
@@ -175,7 +96,7 @@ read_as xs i x y within same is = same ∙ (is ∙ get_or_default xs i x y withi
 pub read_at : {X : Type 0} (xs : List X) (i : ℕ) (d : X) → i < length xs → get_or xs i d ≡ get_or xs i (get_or xs i d)
 read_at xs i d within = get_or_default xs i d (get_or xs i d) within
 
--- rounds for each element of a list, one after the other
+-- a conclusion for each element of a list, one after the other
 module _ {X : Type 0} (P : X → List Bool → Type 0) (S : X → List ℕ → Type 0) (xs : List X) (i : ℕ) (x : X)
     (within : i < length xs) (is : x ≡ get_or xs i x) where
   at_it : (state : List Bool) → Upto (λ y. P y state) xs (i + 1) → P x state
@@ -183,25 +104,6 @@ module _ {X : Type 0} (P : X → List Bool → Type 0) (S : X → List ℕ → T
 
   among : (state : List Bool) → All (λ y. P y state) xs → P x state
   among state holds = subst (λ y. P y state) (sym is) (holds i x within)
-
-  pub round_more : (m : List ℕ) (a : Bool) (k : List ℕ) (j : Bool) (n : List ℕ) (l : Bool)
-      → IsPropagated (λ s. Upto (λ y. P y s) xs i) (λ w. Upto (λ y. S y w) xs i) m a k j true
-      → IsPropagated (P x) (S x) k j n l true
-      → IsPropagated (λ s. Upto (λ y. P y s) xs (i + 1)) (λ w. Upto (λ y. S y w) xs (i + 1)) m a n l true
-  round_more m a k j n l one two =
-      round_then (λ s. Upto (λ y. P y s) xs i) (P x) (λ s. Upto (λ y. P y s) xs (i + 1))
-      (λ w. Upto (λ y. S y w) xs i) (S x) (λ w. Upto (λ y. S y w) xs (i + 1)) m a k j n l true
-      (λ s size holds q d less. holds q d (omega arith)) (λ s size holds. at_it s holds)
-      (λ w size before here. upto_more (λ y. S y w) xs i x within is before here) one two
-
-  pub round_fails : (m : List ℕ) (a : Bool) (k : List ℕ) (j : Bool) (n : List ℕ) (l : Bool)
-      → IsPropagated (λ s. Upto (λ y. P y s) xs i) (λ w. Upto (λ y. S y w) xs i) m a k j true
-      → IsPropagated (P x) (S x) k j n l false
-      → IsPropagated (λ s. All (λ y. P y s) xs) (λ w. All (λ y. S y w) xs) m a n l false
-  round_fails m a k j n l one two =
-      round_broken (λ s. Upto (λ y. P y s) xs i) (P x) (λ s. All (λ y. P y s) xs)
-      (λ w. Upto (λ y. S y w) xs i) (S x) (λ w. All (λ y. S y w) xs) m a k j n l
-      (λ s size holds q d less. holds q d (omega arith)) (λ s size holds. among s holds) one two
 
   pub conclude_more : (m k n : List ℕ) → ((old new : List ℕ) (y : X) → Extends old new → S y old → S y new)
       → IsConcluded (λ s. Upto (λ y. P y s) xs i) (λ w. Upto (λ y. S y w) xs i) m k true
@@ -226,13 +128,6 @@ module _ {X : Type 0} (P : X → List Bool → Type 0) (S : X → List ℕ → T
 -- and at the end of the list
 module _ {X : Type 0} (P : X → List Bool → Type 0) (S : X → List ℕ → Type 0) (xs : List X) (i : ℕ) (upto : i ≤ length xs)
     (end : length xs ≤ i) where
-  pub round_all : (m : List ℕ) (a : Bool) (k : List ℕ) (j : Bool) (r : Bool)
-      → IsPropagated (λ s. Upto (λ y. P y s) xs i) (λ w. Upto (λ y. S y w) xs i) m a k j r
-      → IsPropagated (λ s. All (λ y. P y s) xs) (λ w. All (λ y. S y w) xs) m a k j r
-  round_all m a k j r one =
-      round_same (λ s. Upto (λ y. P y s) xs i) (λ s. All (λ y. P y s) xs) (λ w. Upto (λ y. S y w) xs i) (λ w. All (λ y. S y w) xs)
-      m a k j r (λ s size holds q d less. holds q d (omega arith)) (λ w size all q d less. all q d (omega arith)) one
-
   pub conclude_all : (m k : List ℕ) (r : Bool)
       → IsConcluded (λ s. Upto (λ y. P y s) xs i) (λ w. Upto (λ y. S y w) xs i) m k r
       → IsConcluded (λ s. All (λ y. P y s) xs) (λ w. All (λ y. S y w) xs) m k r

@@ -9,7 +9,7 @@ use Rattle.hv_sets.specs.declared.literal.Literal.{Literal}
 use Rattle.hv_sets.specs.Cubes.{SpeakBelow, opposite}
 use Rattle.hv_sets.specs.Truth.{in_clause, in_literal}
 use Rattle.hv_clauses.specs.Marks.{Agrees, Extends, known, over, unknown_in}
-use Rattle.hv_clauses.specs.Units.{AreFalse, IsConcluded, IsPropagated, IsSettled, value_of}
+use Rattle.hv_clauses.specs.Units.{IsConcluded, IsSettled, value_of}
 use Rattle.hv_clauses.proofs.Marked.{agrees_write, extends_same, extends_write, has_atom-literal, in_literal-opposite, value_false, value_from_opposite, value_marked, value_none, value_open}
 use Rattle.hv_clauses.proofs.Rounds.{Upto, conclude_same, never, read_at, upto_more}
 
@@ -40,7 +40,7 @@ module _ (e m : List ℕ) (l : Literal) where
         agrees_write m k l.atom l.positive state marks.here marks.others
         (has_atom-literal l state (sym (value_open e m l state nothing (omega (arith, size))) ∙ holds)) agrees
 
-    grows_write : Extends m k
+    pub grows_write : Extends m k
     grows_write = extends_write m k l.atom (value_none e m l nothing).1 marks.others
 
     -- a literal of which nothing is known
@@ -53,44 +53,6 @@ module _ (e m : List ℕ) (l : Literal) where
       broken = λ is. never is;
       done = λ is. value_marked e k l (value_none e m l nothing).0 marks.here;
     }
-
-    -- the one open literal of a clause
-    pub step_unit : (clause : List Literal) → SpeakBelow (length m) clause
-        → All (λ c. (c ≡ l) ⊎ (value_of e m c ≡ Some false)) clause → 1 + unknown_in k ≡ unknown_in m → (i : Bool)
-        → IsPropagated (λ s. in_clause clause (over e s) ≡ true) (λ n. IsSettled e n clause) m i k true true
-    step_unit clause below all count i = record {
-      size = marks.size;
-      grows = grows_write;
-      follows = λ state size holds agrees.
-          let some = Any-from_list_any (λ c. in_literal c (over e state)) clause holds in
-          let at : Contains clause some.1 = (some.0, some.2, some.3) in
-          let low : some.1.atom < length m = All-contains (λ c. c.atom < length m) clause some.1 below at in
-          elim (All-contains (λ c. (c ≡ l) ⊎ (value_of e m c ≡ Some false)) clause some.1 all at) [
-            | inl same ↦
-                follows_write (subst (λ c. c.atom < length m) same low) state size
-                (ap (λ c. in_literal c (over e state)) (sym same) ∙ some.4) agrees
-            | inr out ↦ never (sym some.4 ∙ value_false e m some.1 state out agrees (omega (arith, size)))
-          ];
-      broken = λ is. never is;
-      still = λ is none. never none;
-      count = omega (arith, count);
-    }
-
--- a clause whose literals are all false
-pub step_broken : (e m : List ℕ) (clause : List Literal) (i : Bool) → SpeakBelow (length m) clause → AreFalse e clause m
-    → IsPropagated (λ s. in_clause clause (over e s) ≡ true) (λ n. IsSettled e n clause) m i m i false
-step_broken e m clause i below all = record {
-  size = refl;
-  grows = extends_same m;
-  follows = λ state size holds agrees. agrees;
-  broken = λ is state size holds agrees.
-      never (sym holds
-      ∙ list_any_none (λ l. in_literal l (over e state)) clause
-      (λ k d h. value_false e m (get_or clause k d) state (all k d h) agrees
-      (subst (λ n. (get_or clause k d).atom < n) (sym size) (below k d h))));
-  still = λ is. never (sym is);
-  count = omega arith;
-}
 
 -- what a look through the literals of a clause knows at a place: all before are false; or this literal is open, and the others
 -- are false

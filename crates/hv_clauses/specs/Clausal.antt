@@ -8,12 +8,11 @@ use Rattle.hv_sets.specs.declared.operand.Operand.{Operand}
 use Rattle.hv_sets.specs.declared.operand.Which.{Which}
 use Rattle.hv_sets.specs.declared.operand.Which.TheVariants as W
 use Rattle.hv_sets.specs.Cubes.{SpeakBelow}
-use Rattle.hv_sets.specs.Kinds.{IsHornClause, IsTwoClause}
 use Rattle.hv_sets.specs.Query.{in_which}
 use Rattle.hv_sets.specs.Truth.{in_clauses}
-use Rattle.hv_clauses.specs.declared.kind.Kind.{Kind}
-use Rattle.hv_clauses.specs.declared.kind.Kind.TheVariants as K
-use Rattle.hv_clauses.specs.Marks.{AllKnown, low, over}
+use Rattle.hv_clauses.specs.declared.completion.Completion.{Completion}
+use Rattle.hv_clauses.specs.declared.completion.Completion.TheVariants as C
+use Rattle.hv_clauses.specs.Marks.{AllKnown, filled, low, over}
 
 -- what a set is that clauses give: how many atoms the task has, and the clauses
 pub record Formula : Type 0 where
@@ -28,21 +27,12 @@ in_formula formula state = in_clauses formula.clauses state
 abbrev pub AreClauses : ℕ → List (List Literal) → Type 0
 AreClauses atoms clauses = All (λ clause. SpeakBelow atoms clause) clauses
 
--- the clause is of the kind
-abbrev pub IsOfKind : Kind → List Literal → Type 0
-IsOfKind K.Horn clause = IsHornClause clause
-IsOfKind K.Two clause = IsTwoClause clause
-
--- the clauses are of the kind
-abbrev pub AreOfKind : Kind → List (List Literal) → Type 0
-AreOfKind kind clauses = All (IsOfKind kind) clauses
-
--- marks that are settled for a condition of this kind can be completed to a state that meets it: for Horn clauses the atoms of
--- which nothing is known can be left out; with clauses of two literals each state that meets it can be made to agree with the marks
--- by putting these over it, and where all is known the marks are such a state
-abbrev pub Completes : Kind → (List Bool → Type 0) → (List ℕ → Type 0) → ℕ → Type 0
-Completes K.Horn Holds Settled atoms = (marks : List ℕ) → length marks ≡ atoms → Settled marks → Holds (low marks)
-Completes K.Two Holds Settled atoms =
+-- settled marks can be completed to a state that meets the condition: the atoms of which nothing is known can be given this value;
+-- or each state that meets it can be made to agree with the marks by putting these over it, and where all is known the marks are such
+-- a state
+abbrev pub Completes : Completion → (List Bool → Type 0) → (List ℕ → Type 0) → ℕ → Type 0
+Completes (C.Fill value) Holds Settled atoms = (marks : List ℕ) → length marks ≡ atoms → Settled marks → Holds (filled value marks)
+Completes C.Try Holds Settled atoms =
     ((marks : List ℕ) (state : List Bool) → length marks ≡ atoms → length state ≡ atoms → Settled marks → Holds state → Holds (over marks state))
     × ((marks : List ℕ) → length marks ≡ atoms → AllKnown atoms marks → Settled marks → Holds (low marks))
 

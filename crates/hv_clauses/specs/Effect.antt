@@ -1,9 +1,14 @@
 -- The effect of an action as marks.
-use Rattle.std.specs.Prelude.{◌≡◌, ℕ, Bool, true, List, Option, length, Some}
+use Rattle.std.specs.Prelude.{◌≡◌, ℕ, Bool, true, false, List, Option, length, replicate, Some}
 use Rattle.std.specs.List.{All}
 use Rattle.hv_task.specs.declared.action.Action.{Action}
 use Rattle.hv_sets.specs.Query.{asked, may_apply}
 use Rattle.hv_clauses.specs.Marks.{Agrees, known, over}
+use Rattle.hv_clauses.specs.Overwriting.{overwrite}
+
+-- the effect of adding these atoms, and deleting those that aren't added, as marks of so many atoms
+abbrev pub effect_of : ℕ → List ℕ → List ℕ → List ℕ
+effect_of atoms add del = overwrite true add (overwrite false del (replicate atoms 0))
 
 -- the marks are the effect of the action, if there is one: put over a state of as many atoms they make its successor
 abbrev pub IsEffect : Option Action → List ℕ → Type 0

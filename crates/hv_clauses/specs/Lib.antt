@@ -11,3 +11,13 @@ pub mod Found
 pub mod Overwriting
 pub mod Laws
 pub mod Store
+pub mod Kinded
+pub mod Trail
+pub mod Occurrences
+pub mod Chase
+pub mod Closure
+pub mod Start
+pub mod Rows
+pub mod Negative
+pub mod Implied
+pub mod Lists

@@ -43,6 +43,10 @@ over marks [] = []
 over [] (flag ∷ flags) = flag ∷ flags
 over (mark ∷ marks) (flag ∷ flags) = or_else (mark_of mark) flag ∷ over marks flags
 
+-- the state with the marks put over it, in which each atom of which nothing is known has this value
+abbrev pub filled : Bool → List ℕ → List Bool
+filled value marks = over marks (replicate (length marks) value)
+
 -- the state that has the atoms of which it is known that they are in, and no other
 abbrev pub low : List ℕ → List Bool
-low marks = over marks (replicate (length marks) false)
+low marks = filled false marks

@@ -2,8 +2,8 @@
 use Rattle.std.specs.Prelude.{◌≡◌, ◌⊎◌, ℕ, false, List, None, Some}
 use Rattle.std.specs.List.{All, Contains}
 use Rattle.hv_sets.specs.declared.literal.Literal.{Literal}
-use Rattle.hv_clauses.specs.declared.units.Scan.{Scan}
-use Rattle.hv_clauses.specs.declared.units.Scan.TheVariants as S
+use Rattle.hv_clauses.specs.declared.chase.Scan.{Scan}
+use Rattle.hv_clauses.specs.declared.chase.Scan.TheVariants as S
 use Rattle.hv_clauses.specs.Units.{AreFalse, IsSettled, value_of}
 
 -- it is settled; or this literal is the one open one, and the others are false; or all are false

@@ -2,10 +2,10 @@
 --
 -- A clause can be asked about a state through an effect: marks that are put over the state before. The effect of an action has the
 -- atoms that it adds marked as in and the others that it deletes marked as out; without marks it leaves each state as it is.
-use Rattle.std.specs.Prelude.{◌≡◌, ◌≤◌, ◌+◌, ◌⊎◌, ℕ, Bool, true, false, not, cond, List, length, Option, None, Some, option_map}
+use Rattle.std.specs.Prelude.{◌≡◌, ◌⊎◌, ℕ, Bool, true, false, not, cond, List, length, Option, None, Some, option_map}
 use Rattle.std.specs.List.{All, Contains}
 use Rattle.hv_sets.specs.declared.literal.Literal.{Literal}
-use Rattle.hv_clauses.specs.Marks.{Agrees, Extends, known, unknown_in}
+use Rattle.hv_clauses.specs.Marks.{Agrees, Extends, known}
 
 -- the first of the two that says something
 abbrev pub first_of : Option Bool → Option Bool → Option Bool
@@ -37,22 +37,6 @@ AreFalse effect literals marks = All (λ l. value_of effect marks l ≡ Some fal
 -- each literal is known to be true
 abbrev pub AreTrue : List ℕ → List Literal → List ℕ → Type 0
 AreTrue effect literals marks = All (λ l. value_of effect marks l ≡ Some true) literals
-
--- 1 for yes, 0 for no
-abbrev pub one_if : Bool → ℕ
-one_if true = 1
-one_if false = 0
-
--- one round of propagation of a condition on states: what is marked in addition follows from it, an answer false says that no
--- state that agrees with the marks meets it, and where the answer is true and nothing was marked the marks are settled for it. Each round in which something
--- moves leaves less unknown.
-pub record IsPropagated (Holds : List Bool → Type 0) (Settled : List ℕ → Type 0) (old : List ℕ) (moved : Bool) (new : List ℕ) (moves : Bool) (result : Bool) : Type 0 where
-  pub size : length new ≡ length old
-  pub grows : Extends old new
-  pub follows : (state : List Bool) → length state ≡ length old → Holds state → Agrees old state → Agrees new state
-  pub broken : result ≡ false → (state : List Bool) → length state ≡ length old → Holds state → Agrees old state → ⊥
-  pub still : result ≡ true → moves ≡ false → (moved ≡ false) × (new ≡ old) × Settled new
-  pub count : one_if moves + unknown_in new ≤ one_if moved + unknown_in old
 
 -- all that follows from a condition was marked, so that this is done; or no state that agrees with the marks meets the condition
 pub record IsConcluded (Holds : List Bool → Type 0) (Done : List ℕ → Type 0) (old new : List ℕ) (result : Bool) : Type 0 where

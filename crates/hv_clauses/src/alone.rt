@@ -1,85 +1,87 @@
-//! The clauses of one set as a condition on states.
+//! Whether clauses are true in some state of a cube.
 
-ghost use Rattle.std.specs.Prelude.{◌≡◌, ◌≤◌, ◌*◌, [], true, length};
+ghost use Rattle.std.specs.Prelude.{◌≡◌, ◌≤◌, ◌^◌, Bool, List, [], true, length};
+ghost use Rattle.std.specs.List.{All};
 ghost use Rattle.hv_sets.specs.Cubes.{SpeakBelow};
 ghost use Rattle.hv_sets.specs.Truth.{in_clauses};
 ghost use Rattle.hv_sets.specs.Walks.{Meets};
-ghost use Rattle.hv_clauses.specs.Clausal.{AreClauses, AreOfKind};
-ghost use Rattle.hv_clauses.specs.Marks.{over};
+ghost use Rattle.hv_clauses.specs.Clausal.{AreClauses};
+ghost use Rattle.hv_clauses.specs.Closure.{IsClosure};
+ghost use Rattle.hv_clauses.specs.Marks.{Agrees};
+ghost use Rattle.hv_clauses.specs.Occurrences.{IsIndexOf};
+ghost use Rattle.hv_clauses.specs.Trail.{marks_of};
 ghost use Rattle.hv_clauses.specs.Units.{AreSettled};
 
-use crate::constraint::Constraint;
-use crate::kind::Kind;
-use crate::{complete, marks, units};
-use hv_sets::{Clause, Literal};
+use crate::change::Effect;
+use crate::clause_kind::ClauseKind;
+use crate::closure::Closure;
+use crate::constraint::{Alone, Constraint};
+use crate::trail::Marks;
+use crate::{complete, literals};
+use hv_sets::{Clauses, Literal};
 use hv_task::State;
 
-// The clauses of one set as a condition on states.
-#[derive(Drop)]
-struct Alone<'a> {
-    clauses: &'a [Clause],
-}
-
-impl Constraint for Alone<'_> {
-    ghost is_over = { λ alone atoms. AreClauses atoms alone.clauses.now };
-
-    ghost admits = { λ alone state. in_clauses alone.clauses.now (over [] state) ≡ true };
-
-    ghost settled = { λ alone marks. AreSettled [] alone.clauses.now marks };
-
-    fn sweep(&self, marks: &mut [u32], moved: &mut bool) -> bool {
-        units::walk(self.clauses, &[], marks, moved)
-    }
-}
-
-// Looks for a state of the cube in which the clauses are true.
-pub(crate) fn meet(
-    kind: Kind,
-    clauses: &[Clause],
+// Looks for a state of the cube in which the clauses are true, in room for each atom.
+pub(crate) fn meet<K: ClauseKind>(
+    clauses: &Clauses,
+    closure: &Closure,
     cube: &[Literal],
-    marks: &mut [u32],
+    places: &mut [u32],
+    queue: &mut [u32],
     state: &mut State,
 ) -> bool
-    requires kind { AreOfKind kind clauses.now }
+    requires kind { All K.is_of clauses.now }
     requires clauses { AreClauses (length state.old) clauses.now }
+    requires closure { IsClosure (length state.old) clauses.now closure.now }
     requires cube { SpeakBelow (length state.old) cube.now }
-    requires marks { 4 * length state.old ≤ length marks.old }
+    requires few { length state.old ≤ 2 ^ 31 }
+    requires places { length state.old ≤ length places.old }
+    requires queue { length state.old ≤ length queue.old }
     ensures meets { Meets result (length state.old) (in_clauses clauses.now) cube.now state.new }
-    ensures marks { length marks.new ≡ length marks.old }
+    ensures places { length places.new ≡ length places.old }
+    ensures queue { length queue.new ≡ length queue.old }
     ensures state { length state.new ≡ length state.old }
 {
+    if closure.broken {
+        return false;
+    }
     let atoms = state.atoms() as usize;
-    let (firm, rest) = marks.split_at_mut(atoms);
-    let (trial, _) = rest.split_at_mut(atoms);
-    meet_with(kind, clauses, cube, firm, trial, state)
+    let forced = closure.forced.as_slice();
+    let mut marks = Marks::over(atoms, forced, places, queue);
+    let alone = Alone {
+        clauses,
+        occurs: &closure.occurs,
+    };
+    meet_from::<K>(&alone, cube, &mut marks, state)
 }
 
-// The same with two parts of the marks, each for all atoms.
-fn meet_with(
-    kind: Kind,
-    clauses: &[Clause],
+// The same from what follows from the clauses alone.
+fn meet_from<K: ClauseKind>(
+    alone: &Alone<'_>,
     cube: &[Literal],
-    firm: &mut [u32],
-    trial: &mut [u32],
+    marks: &mut Marks<'_>,
     state: &mut State,
 ) -> bool
-    requires kind { AreOfKind kind clauses.now }
-    requires clauses { AreClauses (length state.old) clauses.now }
+    requires kind { All K.is_of alone.now.clauses.now }
+    requires clauses { AreClauses (length state.old) alone.now.clauses.now }
+    requires index { IsIndexOf alone.now.clauses.now alone.now.occurs.now }
     requires cube { SpeakBelow (length state.old) cube.now }
-    requires firm { length firm.old ≡ length state.old }
-    requires trial { length trial.old ≡ length state.old }
-    ensures meets { Meets result (length state.old) (in_clauses clauses.now) cube.now state.new }
-    ensures firm { length firm.new ≡ length firm.old }
-    ensures trial { length trial.new ≡ length trial.old }
+    requires marks { length marks.old.base ≡ length state.old }
+    requires none { marks.old.trail ≡ [] }
+    requires settled { AreSettled [] alone.now.clauses.now (marks_of marks.old) }
+    requires follows { (state : List Bool) → length state ≡ length marks.old.base → in_clauses
+        alone.now.clauses.now state ≡ true → Agrees (marks_of marks.old) state }
+    ensures meets { Meets result (length state.old) (in_clauses alone.now.clauses.now) cube.now
+        state.new }
     ensures state { length state.new ≡ length state.old }
 {
-    let alone = Alone { clauses };
-    marks::clear(firm);
-    if !units::force_all(cube, &[], firm) {
+    alone.laws();
+    let none = Effect::none();
+    if !literals::force_all(cube, &none, marks) {
         return false;
     }
-    if !complete::close(&alone, firm) {
+    if !complete::close(alone, marks, 0) {
         return false;
     }
-    complete::complete(kind, &alone, firm, trial, state)
+    complete::complete(K::completion(), alone, marks, state)
 }

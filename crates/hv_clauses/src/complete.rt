@@ -1,124 +1,140 @@
-//! From marks to states: propagation to its end, and completion of what is left open.
+//! From what is known to states: propagation to its end, and completion of what is left open.
 
-ghost use Rattle.std.specs.Prelude.{◌≡◌, ◌<◌, ◌^◌, None, length};
+ghost use Rattle.std.specs.Prelude.{◌≡◌, ◌<◌, ◌≤◌, ℕ, Bool, List, None, Some, false, true, length};
+ghost use Rattle.hv_task.specs.State.{has_atom};
+ghost use Rattle.hv_clauses.specs.Chase.{IsFollowed};
 ghost use Rattle.hv_clauses.specs.Clausal.{Completes};
-ghost use Rattle.hv_clauses.specs.declared.kind.Kind.TheVariants as K;
+ghost use Rattle.hv_clauses.specs.declared.completion.Completion.TheVariants as C2;
 ghost use Rattle.hv_clauses.specs.Completion.{IsAssumed, IsCompleted, IsTried};
-ghost use Rattle.hv_clauses.specs.Marks.{AllKnown, known, over};
-ghost use Rattle.hv_clauses.specs.Units.{IsConcluded};
+ghost use Rattle.hv_clauses.specs.Marks.{AllKnown, known};
+ghost use Rattle.hv_clauses.specs.Trail.{Grows, marks_of};
 
+use crate::completion::Completion;
 use crate::constraint::Constraint;
-use crate::kind::Kind;
-use crate::marks;
+use crate::trail::Marks;
+use hv_sets::Literal;
 use hv_task::State;
 
-// Marks all that follows. The answer is false only if no state that agrees with the marks meets the condition.
-pub(crate) fn close<C: Constraint>(constraint: &C, marks: &mut [u32]) -> bool
-    requires { C.is_over constraint.now (length marks.old) }
-    ensures { IsConcluded (C.admits constraint.now) (C.settled constraint.now) marks.old marks.new result }
+// Follows up what the trail has from a place on, until nothing more follows. The answer is false only if no state that agrees with what
+// was known meets the condition.
+pub(crate) fn close<C: Constraint>(constraint: &C, marks: &mut Marks<'_>, from: usize) -> bool
+    requires over { C.is_over constraint.now (length marks.old.base) }
+    requires from { from ≤ length marks.old.trail }
+    requires left { C.left constraint.now marks.old from }
+    ensures followed { IsFollowed (C.admits constraint.now) marks.old marks.new result }
+    ensures left { result ≡ true → C.left constraint.now marks.new (length marks.new.trail) }
+    ensures settled { result ≡ true → C.settled constraint.now (marks_of marks.new) }
 {
-    loop {
-        let mut moved = false;
-        if !constraint.sweep(marks, &mut moved) {
+    constraint.laws();
+    let mut place = from;
+    while place < marks.len() {
+        if !constraint.visit(marks, place) {
             return false;
         }
-        if !moved {
-            return true;
-        }
+        place += 1;
     }
+    true
 }
 
-// Tries a value of an open atom: marks it with all that follows, or leaves the marks if no state that agrees with them has it.
-pub(crate) fn assume<C: Constraint>(
-    constraint: &C,
-    firm: &mut [u32],
-    trial: &mut [u32],
-    atom: u32,
-    value: bool,
-) -> bool
-    requires over { C.is_over constraint.now (length firm.old) }
-    requires size { length trial.old ≡ length firm.old }
-    requires atom { atom < length firm.old }
-    requires open { known firm.old atom ≡ None }
-    requires settled { C.settled constraint.now firm.old }
-    ensures assumed { IsAssumed (C.admits constraint.now) (C.settled constraint.now) atom value firm.old firm.new result }
-    ensures trial { length trial.new ≡ length trial.old }
+// Tries a value of an open atom: puts it on the trail with all that follows, or leaves all as it was if no state that agrees with what is
+// known has it.
+pub(crate) fn assume<C: Constraint>(constraint: &C, marks: &mut Marks<'_>, literal: Literal) -> bool
+    requires over { C.is_over constraint.now (length marks.old.base) }
+    requires atom { literal.atom < length marks.old.base }
+    requires open { known (marks_of marks.old) literal.atom ≡ None }
+    requires left { C.left constraint.now marks.old (length marks.old.trail) }
+    ensures assumed { IsAssumed (C.admits constraint.now) (C.settled constraint.now) literal.atom
+        literal.positive (marks_of marks.old) (marks_of marks.new) result }
+    ensures grown { Grows marks.old marks.new }
+    ensures left { C.left constraint.now marks.new (length marks.new.trail) }
 {
-    trial.copy_from_slice(firm);
-    marks::write(trial, atom, value);
-    if !close(constraint, trial) {
-        return false;
+    constraint.laws();
+    let point = marks.len();
+    marks.write(literal);
+    if close(constraint, marks, point) {
+        return true;
     }
-    firm.copy_from_slice(trial);
-    true
+    marks.undo(point);
+    false
 }
 
 // Finds a value for an atom. The answer is false only if no state meets the condition.
-pub(crate) fn settle<C: Constraint>(
-    constraint: &C,
-    firm: &mut [u32],
-    trial: &mut [u32],
-    atom: u32,
-) -> bool
-    requires over { C.is_over constraint.now (length firm.old) }
-    requires size { length trial.old ≡ length firm.old }
-    requires atom { atom < length firm.old }
-    requires settled { C.settled constraint.now firm.old }
-    requires completes { Completes K.Two (C.admits constraint.now) (C.settled constraint.now) (length firm.old) }
-    ensures tried { IsTried (C.admits constraint.now) (C.settled constraint.now) (λ marks. known marks atom ≡ None → ⊥) firm.old firm.new result }
-    ensures trial { length trial.new ≡ length trial.old }
+pub(crate) fn settle<C: Constraint>(constraint: &C, marks: &mut Marks<'_>, atom: u32) -> bool
+    requires over { C.is_over constraint.now (length marks.old.base) }
+    requires atom { atom < length marks.old.base }
+    requires left { C.left constraint.now marks.old (length marks.old.trail) }
+    requires completes { Completes C2.Try (C.admits constraint.now) (C.settled constraint.now)
+        (length marks.old.base) }
+    ensures tried { IsTried (C.admits constraint.now) (C.settled constraint.now)
+        (λ marks. known marks atom ≡ None → ⊥) (marks_of marks.old) (marks_of marks.new) result }
+    ensures grown { Grows marks.old marks.new }
+    ensures left { C.left constraint.now marks.new (length marks.new.trail) }
 {
-    if marks::read(firm, atom).is_some() {
+    constraint.laws();
+    if marks.read(atom).is_some() {
         return true;
     }
-    assume(constraint, firm, trial, atom, false) || assume(constraint, firm, trial, atom, true)
+    let out = Literal {
+        atom,
+        positive: false,
+    };
+    if assume(constraint, marks, out) {
+        return true;
+    }
+    let inside = Literal {
+        atom,
+        positive: true,
+    };
+    assume(constraint, marks, inside)
 }
 
 // Finds a value for each atom. The answer is false only if no state meets the condition.
-pub(crate) fn settle_all<C: Constraint>(constraint: &C, firm: &mut [u32], trial: &mut [u32]) -> bool
-    requires over { C.is_over constraint.now (length firm.old) }
-    requires size { length trial.old ≡ length firm.old }
-    requires few { length firm.old < 2 ^ 32 }
-    requires settled { C.settled constraint.now firm.old }
-    requires completes { Completes K.Two (C.admits constraint.now) (C.settled constraint.now) (length firm.old) }
-    ensures tried { IsTried (C.admits constraint.now) (C.settled constraint.now) (AllKnown (length firm.old)) firm.old firm.new result }
-    ensures trial { length trial.new ≡ length trial.old }
+pub(crate) fn settle_all<C: Constraint>(constraint: &C, marks: &mut Marks<'_>) -> bool
+    requires over { C.is_over constraint.now (length marks.old.base) }
+    requires left { C.left constraint.now marks.old (length marks.old.trail) }
+    requires completes { Completes C2.Try (C.admits constraint.now) (C.settled constraint.now)
+        (length marks.old.base) }
+    ensures tried { IsTried (C.admits constraint.now) (C.settled constraint.now)
+        (AllKnown (length marks.old.base)) (marks_of marks.old) (marks_of marks.new) result }
+    ensures grown { Grows marks.old marks.new }
 {
-    for atom in 0..firm.len() as u32 {
-        if !settle(constraint, firm, trial, atom) {
+    constraint.laws();
+    for atom in 0..marks.atoms() as u32 {
+        if !settle(constraint, marks, atom) {
             return false;
         }
     }
     true
 }
 
-// Completes settled marks to a state that meets the condition. The answer is false only if no state meets it.
+// Completes what is known to a state that meets the condition. The answer is false only if no state meets it.
 pub(crate) fn complete<C: Constraint>(
-    kind: Kind,
+    how: Completion,
     constraint: &C,
-    firm: &mut [u32],
-    trial: &mut [u32],
+    marks: &mut Marks<'_>,
     state: &mut State,
 ) -> bool
-    requires over { C.is_over constraint.now (length firm.old) }
-    requires size { length trial.old ≡ length firm.old }
-    requires state { length state.old ≡ length firm.old }
-    requires settled { C.settled constraint.now firm.old }
-    requires completes { Completes kind (C.admits constraint.now) (C.settled constraint.now) (length firm.old) }
-    ensures completed { IsCompleted (C.admits constraint.now) firm.old state.new result }
-    ensures firm { length firm.new ≡ length firm.old }
-    ensures trial { length trial.new ≡ length trial.old }
+    requires over { C.is_over constraint.now (length marks.old.base) }
+    requires state { length state.old ≡ length marks.old.base }
+    requires left { C.left constraint.now marks.old (length marks.old.trail) }
+    requires completes { Completes how (C.admits constraint.now) (C.settled constraint.now)
+        (length marks.old.base) }
+    ensures completed { IsCompleted (C.admits constraint.now) (marks_of marks.old) state.new result }
+    ensures grown { Grows marks.old marks.new }
     ensures state { length state.new ≡ length state.old }
 {
-    let _atoms = state.atoms();
-    match kind {
-        Kind::Horn => {}
-        Kind::Two => {
-            if !settle_all(constraint, firm, trial) {
+    constraint.laws();
+    match how {
+        Completion::Fill(value) => {
+            marks.fill(value, state);
+            true
+        }
+        Completion::Try => {
+            if !settle_all(constraint, marks) {
                 return false;
             }
+            marks.fill(false, state);
+            true
         }
     }
-    marks::fill(firm, state);
-    true
 }

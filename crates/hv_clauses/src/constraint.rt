@@ -1,7 +1,21 @@
-ghost use Rattle.std.specs.Prelude.{ℕ, Bool, List, length};
-ghost use Rattle.hv_clauses.specs.Units.{IsPropagated};
+//! Conditions on states, and what follows from them for the atoms.
 
-// A condition on states of which can be told, step by step, what follows from it for the atoms.
+ghost use Rattle.std.specs.Prelude.{◌≡◌, ◌<◌, ◌≤◌, ◌+◌, ℕ, Bool, List, [], true, length};
+ghost use Rattle.hv_sets.specs.Truth.{in_clauses};
+ghost use Rattle.hv_clauses.specs.Chase.{AreKept, IsFollowed};
+ghost use Rattle.hv_clauses.specs.Clausal.{AreClauses};
+ghost use Rattle.hv_clauses.specs.Marks.{over};
+ghost use Rattle.hv_clauses.specs.Occurrences.{IsIndexOf};
+ghost use Rattle.hv_clauses.specs.Trail.{Grows, Knowledge, marks_of};
+ghost use Rattle.hv_clauses.specs.Units.{AreSettled};
+
+use crate::change::Effect;
+use crate::chase;
+use crate::occurrences::Occurrences;
+use crate::trail::Marks;
+use hv_sets::Clauses;
+
+// A condition on states of which can be told what follows from what was found out last.
 pub(crate) trait Constraint {
     // The condition speaks of states of a task with so many atoms.
     ghost is_over: { Self → ℕ → Type 0 };
@@ -12,8 +26,47 @@ pub(crate) trait Constraint {
     // The condition tells nothing more beside these marks.
     ghost settled: { Self → List ℕ → Type 0 };
 
-    // One round: marks what follows. The answer is false only if no state that agrees with the marks meets the condition.
-    fn sweep(&self, marks: &mut [u32], moved: &mut bool) -> bool
-        requires { is_over self.now (length marks.old) }
-        ensures { IsPropagated (admits self.now) (settled self.now) marks.old moved.old marks.new moved.new result };
+    // It tells nothing more than what comes from the trail from this place on.
+    ghost left: { Self → Knowledge → ℕ → Type 0 };
+
+    // Follows up the literal at this place of the trail. The answer is false only if no state that agrees with what was known meets the
+    // condition.
+    fn visit(&self, marks: &mut Marks<'_>, from: usize) -> bool
+        requires over { is_over self.now (length marks.old.base) }
+        requires from { from < length marks.old.trail }
+        requires left { left self.now marks.old from }
+        ensures followed { IsFollowed (admits self.now) marks.old marks.new result }
+        ensures left { result ≡ true → left self.now marks.new (from + 1) };
+
+    // What it means that it tells nothing more than what comes from a place on.
+    fn laws(&self)
+        ensures ends { (k : Knowledge) (from : ℕ) → length k.trail ≤ from → left self.now k from →
+            settled self.now (marks_of k) }
+        ensures stays { (old new : Knowledge) (from : ℕ) → Grows old new → from ≤ length old.trail →
+            left self.now old from → left self.now new from };
+}
+
+// Clauses, and where their literals stand.
+#[derive(Drop)]
+pub(crate) struct Alone<'a> {
+    pub clauses: &'a Clauses,
+    pub occurs: &'a Occurrences,
+}
+
+impl Constraint for Alone<'_> {
+    ghost is_over = { λ alone atoms. AreClauses atoms alone.clauses.now × IsIndexOf
+        alone.clauses.now alone.occurs.now };
+
+    ghost admits = { λ alone state. in_clauses alone.clauses.now (over [] state) ≡ true };
+
+    ghost settled = { λ alone marks. AreSettled [] alone.clauses.now marks };
+
+    ghost left = { λ alone k from. AreKept [] alone.clauses.now k from };
+
+    fn visit(&self, marks: &mut Marks<'_>, from: usize) -> bool {
+        let none = Effect::none();
+        chase::visit(self.clauses, self.occurs, &none, marks, from)
+    }
+
+    fn laws(&self) {}
 }

@@ -1,84 +1,83 @@
 //! Whether clauses are true in each state of a cube.
 
-ghost use Rattle.std.specs.Prelude.{◌≡◌, ◌≤◌, ◌*◌, Bool, List, [], false, true, length};
+ghost use Rattle.std.specs.Prelude.{◌≡◌, ◌≤◌, ◌^◌, ℕ, Bool, List, None, [], false, true, length};
 ghost use Rattle.hv_sets.specs.Cubes.{SpeakBelow};
 ghost use Rattle.hv_sets.specs.Truth.{in_clause, in_clauses};
 ghost use Rattle.hv_sets.specs.Walks.{Covers};
 ghost use Rattle.hv_clauses.specs.Clausal.{AreClauses};
-ghost use Rattle.hv_clauses.specs.Marks.{Agrees, Extends};
+ghost use Rattle.hv_clauses.specs.Marks.{Agrees, known};
+ghost use Rattle.hv_clauses.specs.Trail.{Grows, marks_of};
 ghost use Rattle.hv_clauses.specs.Units.{AreFalse};
 
-use crate::{marks, units};
-use hv_sets::{Clause, Literal};
+use crate::change::Effect;
+use crate::literals;
+use crate::trail::Marks;
+use hv_sets::{Clauses, Literal};
 use hv_task::State;
 
-// Looks for a state of the cube in which a clause is false. The answer is false if there is one.
+// Looks for a state of the cube in which a clause is false, in room for each atom. The answer is false if there is one.
 pub(crate) fn cover(
-    clauses: &[Clause],
+    clauses: &Clauses,
     cube: &[Literal],
-    marks: &mut [u32],
+    places: &mut [u32],
+    queue: &mut [u32],
     state: &mut State,
 ) -> bool
     requires clauses { AreClauses (length state.old) clauses.now }
     requires cube { SpeakBelow (length state.old) cube.now }
-    requires marks { 4 * length state.old ≤ length marks.old }
+    requires few { length state.old ≤ 2 ^ 31 }
+    requires places { length state.old ≤ length places.old }
+    requires queue { length state.old ≤ length queue.old }
     ensures covers { Covers result (length state.old) (in_clauses clauses.now) cube.now state.new }
-    ensures marks { length marks.new ≡ length marks.old }
+    ensures places { length places.new ≡ length places.old }
+    ensures queue { length queue.new ≡ length queue.old }
     ensures state { length state.new ≡ length state.old }
 {
     let atoms = state.atoms() as usize;
-    let (firm, rest) = marks.split_at_mut(atoms);
-    let (trial, _) = rest.split_at_mut(atoms);
-    cover_with(clauses, cube, firm, trial, state)
+    let mut marks = Marks::over(atoms, &[], places, queue);
+    cover_from(clauses, cube, &mut marks, state)
 }
 
-// The same with two parts of the marks, each for all atoms.
-fn cover_with(
-    clauses: &[Clause],
-    cube: &[Literal],
-    firm: &mut [u32],
-    trial: &mut [u32],
-    state: &mut State,
-) -> bool
+// The same from marks that say nothing.
+fn cover_from(clauses: &Clauses, cube: &[Literal], marks: &mut Marks<'_>, state: &mut State) -> bool
     requires clauses { AreClauses (length state.old) clauses.now }
     requires cube { SpeakBelow (length state.old) cube.now }
-    requires firm { length firm.old ≡ length state.old }
-    requires trial { length trial.old ≡ length state.old }
+    requires marks { length marks.old.base ≡ length state.old }
+    requires none { (p : ℕ) → known (marks_of marks.old) p ≡ None }
     ensures covers { Covers result (length state.old) (in_clauses clauses.now) cube.now state.new }
-    ensures firm { length firm.new ≡ length firm.old }
-    ensures trial { length trial.new ≡ length trial.old }
     ensures state { length state.new ≡ length state.old }
 {
-    marks::clear(firm);
-    if !units::force_all(cube, &[], firm) {
+    let none = Effect::none();
+    if !literals::force_all(cube, &none, marks) {
         return true;
     }
-    trial.copy_from_slice(firm);
-    for clause in clauses {
-        if breaks(clause.as_slice(), firm, trial) {
-            marks::fill(trial, state);
+    for place in 0..clauses.len() {
+        if breaks(clauses.get(place), marks) {
+            marks.fill(false, state);
             return false;
         }
     }
     true
 }
 
-// Marks the literals of the clause as false in the trial marks. The answer is false if the clause is true in each state that agrees
-// with the firm marks: the trial marks are then as these.
-fn breaks(clause: &[Literal], firm: &[u32], trial: &mut [u32]) -> bool
-    requires clause { SpeakBelow (length firm.now) clause.now }
-    requires same { trial.old ≡ firm.now }
-    ensures broken { result ≡ true → AreFalse [] clause.now trial.new × Extends firm.now trial.new }
-    ensures kept { result ≡ false → trial.new ≡ firm.now }
-    ensures true_in { result ≡ false → (state : List Bool) → length state ≡ length firm.now → Agrees firm.now state → in_clause clause.now state ≡ true }
-    ensures size { length trial.new ≡ length trial.old }
+// Marks the literals of the clause as false. The answer is false if the clause is true in each state that agrees with what is known: that
+// is then as it was.
+fn breaks(clause: &[Literal], marks: &mut Marks<'_>) -> bool
+    requires { SpeakBelow (length marks.old.base) clause.now }
+    ensures broken { result ≡ true → AreFalse [] clause.now (marks_of marks.new) × Grows marks.old
+        marks.new }
+    ensures same { result ≡ false → marks.new ≡ marks.old }
+    ensures true_in { result ≡ false → (state : List Bool) → length state ≡ length marks.old.base →
+        Agrees (marks_of marks.old) state → in_clause clause.now state ≡ true }
 {
-    if units::has_true(clause, &[], firm) {
+    let none = Effect::none();
+    if literals::has_true(clause, &none, marks) {
         return false;
     }
-    if units::deny(clause, &[], trial) {
+    let point = marks.len();
+    if literals::deny(clause, &none, marks) {
         return true;
     }
-    trial.copy_from_slice(firm);
+    marks.undo(point);
     false
 }

@@ -1,36 +1,46 @@
 //! The search for a counterexample to a query.
 
-ghost use Rattle.std.specs.Prelude.{◌≡◌, ◌<◌, ◌≤◌, ◌*◌, Bool, List, false, true, length, IfSome};
+ghost use Rattle.std.specs.Prelude.{◌≡◌, ◌<◌, ◌≤◌, [], Bool, List, IfSome, false, true, length};
 ghost use Rattle.hv_task.specs.Strips.{atoms};
 ghost use Rattle.hv_sets.specs.Cost.{ClausesPass, IsAnswer, choices_of};
 ghost use Rattle.hv_sets.specs.Query.{IsReady, action_of, is_clash, may_apply};
 ghost use Rattle.hv_sets.specs.Room.{HasRoom, KeepsLengths};
 ghost use Rattle.hv_clauses.specs.Clausal.{InAll, sets_of, sizes_of};
 ghost use Rattle.hv_clauses.specs.Effect.{IsEffect};
-ghost use Rattle.hv_clauses.specs.Found.{IsBase, IsFound, IsMet, IsMetBelow};
+ghost use Rattle.hv_clauses.specs.Found.{IsBased, IsFound, IsMet, IsMetBelow, IsPosed};
+ghost use Rattle.hv_clauses.specs.Marks.{Agrees};
 ghost use Rattle.hv_clauses.specs.Problem.{Fits};
+ghost use Rattle.hv_clauses.specs.Start.{IsBasedOn};
+ghost use Rattle.hv_clauses.specs.Store.{AreOver, formula_at};
+ghost use Rattle.hv_clauses.specs.Trail.{Grows, marks_of};
 
-use crate::clausal::Clausal;
-use crate::problem::Problem;
-use crate::{choices, complete, effect, frame, marks};
+use crate::change::Effect;
+use crate::clause_kind::ClauseKind;
+use crate::constraint::Constraint;
+use crate::formulas::Formulas;
+use crate::problem::{self, Problem};
+use crate::trail::Marks;
+use crate::{choices, complete, effect, frame, start, touched};
 use hv_sets::{Finding, Query, Scratch};
 use hv_task::{State, Task};
 
 /// The exact answer to a query over a store of clauses of one kind: Over exactly where there are more choices of one clause of
 /// each negative operand than the budget; else Clash exactly where some state is a counterexample, and such a state then stands
 /// in the scratch; else Empty. It takes no memory.
-pub fn find_in<S: Clausal>(
-    store: &S,
+pub(crate) fn find_in<K: ClauseKind>(
+    store: &Formulas<K>,
     task: &Task,
     query: &Query,
     budget: u64,
     scratch: &mut Scratch,
 ) -> Finding
-    requires ready { IsReady (S.count store.now) query.now }
-    requires over { S.is_over store.now (atoms task.now) }
+    requires ready { IsReady (length store.now) query.now }
+    requires over { AreOver store.now (atoms task.now) }
     requires action { IfSome query.now.action (λ a. a < length task.now.actions) }
     requires room { HasRoom (atoms task.now) 0 0 scratch.old }
-    ensures answer { IsAnswer result (ClausesPass task.now (sizes_of (S.formula store.now)) query.now budget) (atoms task.now) (is_clash task.now (sets_of (S.formula store.now)) query.now) scratch.new.state }
+    ensures answer { IsAnswer result (ClausesPass task.now (sizes_of (formula_at store.now))
+        query.now budget) (atoms task.now) (is_clash task.now (sets_of (formula_at store.now))
+        query.now) scratch.new.state }
     ensures state { length scratch.new.state ≡ length scratch.old.state }
     ensures lengths { KeepsLengths scratch.old scratch.new }
 {
@@ -38,180 +48,235 @@ pub fn find_in<S: Clausal>(
     let Some(cost) = choices::cost_within(task, store, negative, budget) else {
         return Finding::Over;
     };
-    let marks = scratch.marks.as_mut_slice();
-    if search(task, store, query, cost, marks, &mut scratch.state) {
+    let effect = Effect::of(task, query.action);
+    let problem = Problem {
+        task,
+        store,
+        query,
+        effect: &effect,
+    };
+    let places = scratch.marks.as_mut_slice();
+    let queue = scratch.queue.as_mut_slice();
+    if search(&problem, cost, places, queue, &mut scratch.state) {
         Finding::Clash
     } else {
         Finding::Empty
     }
 }
 
-// Cuts the marks into four parts, and searches with these.
-fn search<S: Clausal>(
-    task: &Task,
-    store: &S,
-    query: &Query,
+// Starts at what follows from one positive operand alone, in room for each atom.
+fn search<K: ClauseKind>(
+    problem: &Problem<'_, K>,
     cost: u64,
-    marks: &mut [u32],
+    places: &mut [u32],
+    queue: &mut [u32],
     state: &mut State,
 ) -> bool
-    requires ready { IsReady (S.count store.now) query.now }
-    requires over { S.is_over store.now (atoms task.now) }
-    requires action { IfSome query.now.action (λ a. a < length task.now.actions) }
-    requires cost { cost ≡ choices_of task.now (sizes_of (S.formula store.now)) query.now.negative }
-    requires marks { 4 * atoms task.now ≤ length marks.old }
-    requires state { length state.old ≡ atoms task.now }
-    ensures found { IsFound result (atoms task.now) (is_clash task.now (sets_of (S.formula store.now)) query.now) state.new }
-    ensures marks { length marks.new ≡ length marks.old }
+    requires posed { IsPosed problem.now.task.now problem.now.store.now problem.now.effect.now
+        problem.now.query.now }
+    requires action { IfSome problem.now.query.now.action
+        (λ a. a < length problem.now.task.now.actions) }
+    requires effect { IsEffect (action_of problem.now.task.now problem.now.query.now.action)
+        problem.now.effect.now }
+    requires cost { cost ≡ choices_of problem.now.task.now
+        (sizes_of (formula_at problem.now.store.now)) problem.now.query.now.negative }
+    requires places { atoms problem.now.task.now ≤ length places.old }
+    requires queue { atoms problem.now.task.now ≤ length queue.old }
+    requires state { length state.old ≡ atoms problem.now.task.now }
+    ensures found { IsFound result (atoms problem.now.task.now)
+        (is_clash problem.now.task.now (sets_of (formula_at problem.now.store.now))
+        problem.now.query.now) state.new }
+    ensures places { length places.new ≡ length places.old }
+    ensures queue { length queue.new ≡ length queue.old }
     ensures state { length state.new ≡ length state.old }
 {
-    let atoms = task.atoms() as usize;
-    let (base, rest) = marks.split_at_mut(atoms);
-    let (firm, rest) = rest.split_at_mut(atoms);
-    let (trial, rest) = rest.split_at_mut(atoms);
-    let (effect, _) = rest.split_at_mut(atoms);
-    effect::mark_effect(task, query.action, effect);
-    search_through(task, store, query, cost, effect, base, firm, trial, state)
+    let Some(start) = start::start_of(problem) else {
+        return false;
+    };
+    let atoms = problem.task.atoms() as usize;
+    let mut marks = Marks::over(atoms, start.forced, places, queue);
+    search_from(problem, start.set, cost, &mut marks, state)
 }
 
-// Marks what follows from the precondition and the positive operands, and then tries each choice.
-fn search_through<S: Clausal>(
-    task: &Task,
-    store: &S,
-    query: &Query,
+// Marks what follows from the precondition and the positive operands, and then tries the choices.
+fn search_from<K: ClauseKind>(
+    problem: &Problem<'_, K>,
+    based: Option<usize>,
     cost: u64,
-    effect: &[u32],
-    base: &mut [u32],
-    firm: &mut [u32],
-    trial: &mut [u32],
+    marks: &mut Marks<'_>,
     state: &mut State,
 ) -> bool
-    requires ready { IsReady (S.count store.now) query.now }
-    requires over { S.is_over store.now (atoms task.now) }
-    requires action { IfSome query.now.action (λ a. a < length task.now.actions) }
-    requires cost { cost ≡ choices_of task.now (sizes_of (S.formula store.now)) query.now.negative }
-    requires effect { IsEffect (action_of task.now query.now.action) effect.now }
-    requires effect_size { length effect.now ≡ atoms task.now }
-    requires base { length base.old ≡ atoms task.now }
-    requires firm { length firm.old ≡ atoms task.now }
-    requires trial { length trial.old ≡ atoms task.now }
-    requires state { length state.old ≡ atoms task.now }
-    ensures found { IsFound result (atoms task.now) (is_clash task.now (sets_of (S.formula store.now)) query.now) state.new }
-    ensures base { length base.new ≡ length base.old }
-    ensures firm { length firm.new ≡ length firm.old }
-    ensures trial { length trial.new ≡ length trial.old }
+    requires posed { IsPosed problem.now.task.now problem.now.store.now problem.now.effect.now
+        problem.now.query.now }
+    requires action { IfSome problem.now.query.now.action
+        (λ a. a < length problem.now.task.now.actions) }
+    requires effect { IsEffect (action_of problem.now.task.now problem.now.query.now.action)
+        problem.now.effect.now }
+    requires cost { cost ≡ choices_of problem.now.task.now
+        (sizes_of (formula_at problem.now.store.now)) problem.now.query.now.negative }
+    requires marks { length marks.old.base ≡ atoms problem.now.task.now }
+    requires none { marks.old.trail ≡ [] }
+    requires based { IsBasedOn (formula_at problem.now.store.now) based marks.old.base }
+    requires follows { (state : List Bool) → length state ≡ atoms problem.now.task.now → InAll
+        problem.now.task.now (formula_at problem.now.store.now) problem.now.effect.now
+        problem.now.query.now.positive state → Agrees (marks_of marks.old) state }
+    requires state { length state.old ≡ atoms problem.now.task.now }
+    ensures found { IsFound result (atoms problem.now.task.now)
+        (is_clash problem.now.task.now (sets_of (formula_at problem.now.store.now))
+        problem.now.query.now) state.new }
     ensures state { length state.new ≡ length state.old }
 {
-    if !mark_base(task, store, query, effect, base) {
+    if !mark_base(problem, based, marks) {
         return false;
     }
-    choose(task, store, query, cost, effect, base, firm, trial, state)
+    choose(problem, cost, marks, state)
 }
 
 // Marks what follows from the precondition and the positive operands. The answer is false only if no state meets these.
-fn mark_base<S: Clausal>(
-    task: &Task,
-    store: &S,
-    query: &Query,
-    effect: &[u32],
-    base: &mut [u32],
+fn mark_base<K: ClauseKind>(
+    problem: &Problem<'_, K>,
+    based: Option<usize>,
+    marks: &mut Marks<'_>,
 ) -> bool
-    requires ready { IsReady (S.count store.now) query.now }
-    requires over { S.is_over store.now (atoms task.now) }
-    requires action { IfSome query.now.action (λ a. a < length task.now.actions) }
-    requires base { length base.old ≡ atoms task.now }
-    ensures base { result ≡ true → IsBase task.now (S.formula store.now) effect.now query.now base.new }
-    ensures none { result ≡ false → (state : List Bool) → length state ≡ length base.old → may_apply (action_of task.now query.now.action) state ≡ true → InAll task.now (S.formula store.now) effect.now query.now.positive state → ⊥ }
-    ensures size { length base.new ≡ length base.old }
+    requires posed { IsPosed problem.now.task.now problem.now.store.now problem.now.effect.now
+        problem.now.query.now }
+    requires action { IfSome problem.now.query.now.action
+        (λ a. a < length problem.now.task.now.actions) }
+    requires marks { length marks.old.base ≡ atoms problem.now.task.now }
+    requires none { marks.old.trail ≡ [] }
+    requires based { IsBasedOn (formula_at problem.now.store.now) based marks.old.base }
+    requires follows { (state : List Bool) → length state ≡ atoms problem.now.task.now → InAll
+        problem.now.task.now (formula_at problem.now.store.now) problem.now.effect.now
+        problem.now.query.now.positive state → Agrees (marks_of marks.old) state }
+    ensures based { result ≡ true → IsBased problem.now.task.now (formula_at problem.now.store.now)
+        problem.now.effect.now problem.now.query.now marks.new }
+    ensures never { result ≡ false → (state : List Bool) → length state ≡ atoms problem.now.task.now
+        → may_apply (action_of problem.now.task.now problem.now.query.now.action) state ≡ true →
+        InAll problem.now.task.now (formula_at problem.now.store.now) problem.now.effect.now
+        problem.now.query.now.positive state → ⊥ }
 {
-    let problem = Problem {
-        task,
-        store,
-        effect,
-        positive: query.positive.as_slice(),
-    };
-    marks::clear(base);
-    effect::mark_pre(task, query.action, base) && complete::close(&problem, base)
+    if !effect::mark_pre(problem.task, problem.query.action, marks) {
+        return false;
+    }
+    if !problem::start_all(problem, based, marks) {
+        return false;
+    }
+    complete::close(problem, marks, 0)
 }
 
-// Tries each choice of one clause of each negative operand. The answer is true once one fits some state, which is then written.
-fn choose<S: Clausal>(
-    task: &Task,
-    store: &S,
-    query: &Query,
+// Tries choices of one clause of each negative operand. The answer is true once one fits some state, which is then written.
+fn choose<K: ClauseKind>(
+    problem: &Problem<'_, K>,
     cost: u64,
-    effect: &[u32],
-    base: &[u32],
-    firm: &mut [u32],
-    trial: &mut [u32],
+    marks: &mut Marks<'_>,
     state: &mut State,
 ) -> bool
-    requires ready { IsReady (S.count store.now) query.now }
-    requires over { S.is_over store.now (atoms task.now) }
-    requires cost { cost ≡ choices_of task.now (sizes_of (S.formula store.now)) query.now.negative }
-    requires effect_size { length effect.now ≡ atoms task.now }
-    requires base { IsBase task.now (S.formula store.now) effect.now query.now base.now }
-    requires base_size { length base.now ≡ atoms task.now }
-    requires firm { length firm.old ≡ atoms task.now }
-    requires trial { length trial.old ≡ atoms task.now }
-    requires state { length state.old ≡ atoms task.now }
-    ensures met { IsMetBelow result cost (atoms task.now) (Fits task.now (S.formula store.now) effect.now query.now) state.new }
-    ensures firm { length firm.new ≡ length firm.old }
-    ensures trial { length trial.new ≡ length trial.old }
+    requires posed { IsPosed problem.now.task.now problem.now.store.now problem.now.effect.now
+        problem.now.query.now }
+    requires cost { cost ≡ choices_of problem.now.task.now
+        (sizes_of (formula_at problem.now.store.now)) problem.now.query.now.negative }
+    requires based { IsBased problem.now.task.now (formula_at problem.now.store.now)
+        problem.now.effect.now problem.now.query.now marks.old }
+    requires state { length state.old ≡ atoms problem.now.task.now }
+    ensures met { IsMetBelow result (choices_of problem.now.task.now
+        (sizes_of (formula_at problem.now.store.now)) problem.now.query.now.negative)
+        (atoms problem.now.task.now) (Fits problem.now.task.now (formula_at problem.now.store.now)
+        problem.now.effect.now problem.now.query.now) state.new }
+    ensures state { length state.new ≡ length state.old }
+{
+    match frame::framed(problem.query) {
+        Some(operand) => touched::choose_touched(problem, operand, marks, state),
+        None => choose_each(problem, cost, marks, state),
+    }
+}
+
+// Tries each choice.
+fn choose_each<K: ClauseKind>(
+    problem: &Problem<'_, K>,
+    cost: u64,
+    marks: &mut Marks<'_>,
+    state: &mut State,
+) -> bool
+    requires posed { IsPosed problem.now.task.now problem.now.store.now problem.now.effect.now
+        problem.now.query.now }
+    requires cost { cost ≡ choices_of problem.now.task.now
+        (sizes_of (formula_at problem.now.store.now)) problem.now.query.now.negative }
+    requires based { IsBased problem.now.task.now (formula_at problem.now.store.now)
+        problem.now.effect.now problem.now.query.now marks.old }
+    requires state { length state.old ≡ atoms problem.now.task.now }
+    ensures met { IsMetBelow result cost (atoms problem.now.task.now)
+        (Fits problem.now.task.now (formula_at problem.now.store.now) problem.now.effect.now
+        problem.now.query.now) state.new }
     ensures state { length state.new ≡ length state.old }
 {
     for number in 0..cost {
-        if decide(task, store, query, number, effect, base, firm, trial, state) {
+        if decide(problem, number, marks, state) {
             return true;
         }
     }
     false
 }
 
-// Looks for a state that fits this choice: one in which each of the chosen clauses is false.
-fn decide<S: Clausal>(
-    task: &Task,
-    store: &S,
-    query: &Query,
+// Looks for a state that fits this choice: one in which each of the chosen clauses is false. What is known stays as it was.
+pub(crate) fn decide<K: ClauseKind>(
+    problem: &Problem<'_, K>,
     number: u64,
-    effect: &[u32],
-    base: &[u32],
-    firm: &mut [u32],
-    trial: &mut [u32],
+    marks: &mut Marks<'_>,
     state: &mut State,
 ) -> bool
-    requires ready { IsReady (S.count store.now) query.now }
-    requires over { S.is_over store.now (atoms task.now) }
-    requires number { number < choices_of task.now (sizes_of (S.formula store.now)) query.now.negative }
-    requires effect_size { length effect.now ≡ atoms task.now }
-    requires base { IsBase task.now (S.formula store.now) effect.now query.now base.now }
-    requires base_size { length base.now ≡ atoms task.now }
-    requires firm { length firm.old ≡ atoms task.now }
-    requires trial { length trial.old ≡ atoms task.now }
-    requires state { length state.old ≡ atoms task.now }
-    ensures met { IsMet result (atoms task.now) (Fits task.now (S.formula store.now) effect.now query.now number) state.new }
-    ensures firm { length firm.new ≡ length firm.old }
-    ensures trial { length trial.new ≡ length trial.old }
+    requires posed { IsPosed problem.now.task.now problem.now.store.now problem.now.effect.now
+        problem.now.query.now }
+    requires number { number < choices_of problem.now.task.now
+        (sizes_of (formula_at problem.now.store.now)) problem.now.query.now.negative }
+    requires based { IsBased problem.now.task.now (formula_at problem.now.store.now)
+        problem.now.effect.now problem.now.query.now marks.old }
+    requires state { length state.old ≡ atoms problem.now.task.now }
+    ensures met { IsMet result (atoms problem.now.task.now)
+        (Fits problem.now.task.now (formula_at problem.now.store.now) problem.now.effect.now
+        problem.now.query.now number) state.new }
+    ensures same { marks.new ≡ marks.old }
     ensures state { length state.new ≡ length state.old }
 {
-    let kind = store.kind();
+    if frame::is_refuted(problem, number, marks) {
+        return false;
+    }
+    let point = marks.len();
+    let met = try_choice(problem, number, marks, state);
+    marks.undo(point);
+    met
+}
+
+// The same, with what follows left on the trail.
+fn try_choice<K: ClauseKind>(
+    problem: &Problem<'_, K>,
+    number: u64,
+    marks: &mut Marks<'_>,
+    state: &mut State,
+) -> bool
+    requires posed { IsPosed problem.now.task.now problem.now.store.now problem.now.effect.now
+        problem.now.query.now }
+    requires number { number < choices_of problem.now.task.now
+        (sizes_of (formula_at problem.now.store.now)) problem.now.query.now.negative }
+    requires based { IsBased problem.now.task.now (formula_at problem.now.store.now)
+        problem.now.effect.now problem.now.query.now marks.old }
+    requires state { length state.old ≡ atoms problem.now.task.now }
+    ensures met { IsMet result (atoms problem.now.task.now)
+        (Fits problem.now.task.now (formula_at problem.now.store.now) problem.now.effect.now
+        problem.now.query.now number) state.new }
+    ensures grown { Grows marks.old marks.new }
+    ensures state { length state.new ≡ length state.old }
+{
+    let how = problem.store.completion();
+    let task = problem.task;
     let _atoms = task.atoms();
-    if frame::is_refuted(task, store, query, number, effect, base) {
+    problem.laws();
+    let point = marks.len();
+    let negative = problem.query.negative.as_slice();
+    if !choices::deny_all(task, problem.store, negative, number, problem.effect, marks) {
         return false;
     }
-    firm.copy_from_slice(base);
-    let negative = query.negative.as_slice();
-    if !choices::deny_all(task, store, negative, number, effect, firm) {
+    if !complete::close(problem, marks, point) {
         return false;
     }
-    let problem = Problem {
-        task,
-        store,
-        effect,
-        positive: query.positive.as_slice(),
-    };
-    if !complete::close(&problem, firm) {
-        return false;
-    }
-    complete::complete(kind, &problem, firm, trial, state)
+    complete::complete(how, problem, marks, state)
 }

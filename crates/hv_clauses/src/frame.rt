@@ -1,40 +1,51 @@
 //! Choices of clauses of which it can be told at once that no state fits them.
 
-ghost use Rattle.std.specs.Prelude.{◌≡◌, ◌<◌, None, true, false, length, List, Bool};
+ghost use Rattle.std.specs.Prelude.{◌≡◌, ◌<◌, ◌≤◌, [], ℕ, Some, true, false, not, length, slice_get, List, Bool, IfSome};
 ghost use Rattle.std.specs.List.{All};
 ghost use Rattle.hv_task.specs.Strips.{atoms};
 ghost use Rattle.hv_sets.specs.Cost.{clauses_of};
 ghost use Rattle.hv_sets.specs.Query.{IsNamed};
 ghost use Rattle.hv_sets.specs.Truth.{in_clause};
+ghost use Rattle.hv_sets.specs.declared.operand.Operand.{Operand as OperandOf};
+ghost use Rattle.hv_sets.specs.declared.operand.Which.TheVariants as W;
 ghost use Rattle.hv_clauses.specs.Choices.{Breaks, clause_at};
 ghost use Rattle.hv_clauses.specs.Clausal.{InAll, clauses_in, late, sizes_of};
-ghost use Rattle.hv_clauses.specs.Marks.{Agrees, known, over};
+ghost use Rattle.hv_clauses.specs.Found.{IsAlone, IsFramed};
+ghost use Rattle.hv_clauses.specs.Marks.{Agrees, over};
+ghost use Rattle.hv_clauses.specs.Store.{AreOver, formula_at};
+ghost use Rattle.hv_clauses.specs.Trail.{marks_of};
+ghost use Rattle.hv_clauses.specs.Units.{value_of};
 
-use crate::clausal::Clausal;
-use crate::{choices, marks, units};
+use crate::change::Effect;
+use crate::clause_kind::ClauseKind;
+use crate::problem::Problem;
+use crate::trail::Marks;
+use crate::{choices, literals};
 use hv_sets::{Literal, Operand, Query, Which};
-use hv_task::Task;
 
-// Whether a chosen clause is true in each state that agrees with the marks and is in each positive operand, as far as that shows
+// Whether a chosen clause is true in each state that agrees with what is known and is in each positive operand, as far as that shows
 // without propagation.
-pub(crate) fn is_refuted<S: Clausal>(
-    task: &Task,
-    store: &S,
-    query: &Query,
+pub(crate) fn is_refuted<K: ClauseKind>(
+    problem: &Problem<'_, K>,
     number: u64,
-    effect: &[u32],
-    base: &[u32],
+    marks: &Marks<'_>,
 ) -> bool
-    requires named { All (λ o. IsNamed (S.count store.now) o.which) query.now.negative }
-    requires some { All (λ o. 0 < clauses_of task.now (sizes_of (S.formula store.now)) o.which) query.now.negative }
-    requires over { S.is_over store.now (atoms task.now) }
-    ensures { result ≡ true → (state : List Bool) → length state ≡ atoms task.now → Agrees base.now state → InAll task.now (S.formula store.now) effect.now query.now.positive state → Breaks task.now (S.formula store.now) effect.now query.now.negative number state → ⊥ }
+    requires named { All (λ o. IsNamed (length problem.now.store.now) o.which)
+        problem.now.query.now.negative }
+    requires some { All (λ o. 0 < clauses_of problem.now.task.now
+        (sizes_of (formula_at problem.now.store.now)) o.which) problem.now.query.now.negative }
+    requires over { AreOver problem.now.store.now (atoms problem.now.task.now) }
+    ensures { result ≡ true → (state : List Bool) → length state ≡ atoms problem.now.task.now →
+        Agrees (marks_of marks.now) state → InAll problem.now.task.now
+        (formula_at problem.now.store.now) problem.now.effect.now problem.now.query.now.positive
+        state → Breaks problem.now.task.now (formula_at problem.now.store.now)
+        problem.now.effect.now problem.now.query.now.negative number state → ⊥ }
 {
-    let negative = query.negative.as_slice();
     let mut rest = number;
+    let negative = problem.query.negative.as_slice();
     for operand in negative {
-        let count = choices::count_of(task, store, operand.which);
-        if is_clause_true(task, store, query, *operand, rest % count, effect, base) {
+        let count = choices::count_of(problem.task, problem.store, operand.which);
+        if is_clause_true(problem, *operand, rest % count, marks) {
             return true;
         }
         rest /= count;
@@ -43,40 +54,96 @@ pub(crate) fn is_refuted<S: Clausal>(
 }
 
 // The same for the clause at a place of an operand: a literal of it is known to be true, or its set is a positive operand at the other
-// time and the effect doesn't touch it.
-fn is_clause_true<S: Clausal>(
-    task: &Task,
-    store: &S,
-    query: &Query,
+// time and the effect turns no literal of it against the operand.
+fn is_clause_true<K: ClauseKind>(
+    problem: &Problem<'_, K>,
     operand: Operand,
     place: u64,
-    effect: &[u32],
-    base: &[u32],
+    marks: &Marks<'_>,
 ) -> bool
-    requires named { IsNamed (S.count store.now) operand.which }
-    requires place { place < clauses_of task.now (sizes_of (S.formula store.now)) operand.which }
-    requires over { S.is_over store.now (atoms task.now) }
-    ensures { result ≡ true → (state : List Bool) → length state ≡ atoms task.now → Agrees base.now state → InAll task.now (S.formula store.now) effect.now query.now.positive state → in_clause (clause_at (clauses_in task.now (S.formula store.now) operand.which) place) (over (late effect.now operand.after) state) ≡ false → ⊥ }
+    requires named { IsNamed (length problem.now.store.now) operand.which }
+    requires place { place < clauses_of problem.now.task.now
+        (sizes_of (formula_at problem.now.store.now)) operand.which }
+    requires over { AreOver problem.now.store.now (atoms problem.now.task.now) }
+    ensures { result ≡ true → (state : List Bool) → length state ≡ atoms problem.now.task.now →
+        Agrees (marks_of marks.now) state → InAll problem.now.task.now
+        (formula_at problem.now.store.now) problem.now.effect.now problem.now.query.now.positive
+        state → in_clause (clause_at (clauses_in problem.now.task.now
+        (formula_at problem.now.store.now) operand.which) place)
+        (over (late problem.now.effect.now operand.after) state) ≡ false → ⊥ }
 {
     let Which::Set(number) = operand.which else {
         return false;
     };
-    let clause = store.set(number).clauses()[place as usize].as_slice();
-    if units::has_true(clause, choices::late(effect, operand.after), base) {
+    let clause = problem.store.set(number).clauses().get(place as usize);
+    let seen = problem.effect.late(operand.after);
+    if literals::has_true(clause, &seen, marks) {
         return true;
     }
-    query.positive.names(operand.which, !operand.after) && is_untouched(clause, effect)
+    problem.query.positive.names(operand.which, !operand.after)
+        && is_held(clause, problem.effect, operand.after)
 }
 
-// Whether the effect says nothing of the atoms of the clause.
-fn is_untouched(clause: &[Literal], effect: &[u32]) -> bool
-    ensures { result ≡ true → All (λ l. known effect.now l.atom ≡ None) clause.now }
+// Whether the effect turns no literal of the clause: none is made false by it where the clause is asked about after the action, and
+// none true where it is asked about before.
+fn is_held(clause: &[Literal], effect: &Effect<'_>, after: bool) -> bool
+    ensures { result ≡ true → All (λ l. value_of effect.now [] l ≡ Some (not after) → ⊥) clause.now }
 {
     for literal in clause {
-        match marks::read(effect, literal.atom) {
-            None => {}
-            Some(_) => return false,
+        if is_made(*literal, effect, !after) {
+            return false;
         }
     }
     true
+}
+
+// Whether the effect makes a literal true, or false.
+fn is_made(literal: Literal, effect: &Effect<'_>, to: bool) -> bool
+    ensures { result ≡ false → value_of effect.now [] literal ≡ Some to → ⊥ }
+{
+    match effect.read(literal.atom) {
+        None => false,
+        Some(value) => (value == literal.positive) == to,
+    }
+}
+
+// The one negative operand, but for the empty set, if it is a set of the store that is a positive operand at the other time.
+pub(crate) fn framed(query: &Query) -> Option<Operand>
+    ensures { IfSome result (IsFramed query.now) }
+{
+    let operand = alone(query.negative.as_slice())?;
+    let Which::Set(_) = operand.which else {
+        return None;
+    };
+    if !query.positive.names(operand.which, !operand.after) {
+        return None;
+    }
+    Some(operand)
+}
+
+// The one operand that isn't the empty set, if there is just one.
+fn alone(operands: &[Operand]) -> Option<Operand>
+    ensures { IfSome result (λ operand. IsAlone operand operands.now) }
+{
+    let place = first_filled(operands, 0);
+    let operand = *operands.get(place)?;
+    if first_filled(operands, place + 1) < operands.len() {
+        return None;
+    }
+    Some(operand)
+}
+
+// The first place from here on of an operand that isn't the empty set, or the length.
+fn first_filled(operands: &[Operand], from: usize) -> usize
+    requires { from ≤ length operands.now }
+    ensures within { result ≤ length operands.now }
+    ensures empty { (k : ℕ) (o : OperandOf) → from ≤ k → k < result → slice_get operands.now k ≡ Some o → o.which ≡ W.Empty }
+{
+    for place in from..operands.len() {
+        match operands[place].which {
+            Which::Empty => {}
+            _ => return place,
+        }
+    }
+    operands.len()
 }

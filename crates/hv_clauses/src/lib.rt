@@ -2,25 +2,35 @@
 #![tactic(auto)]
 
 mod alone;
+mod change;
+mod chase;
 mod choices;
-pub mod clausal;
-pub mod clause_set;
+pub mod clause_kind;
+mod closure;
 mod complete;
+pub mod completion;
 mod constraint;
 mod cover;
 mod denial;
 mod effect;
 pub mod find;
+pub mod formula;
+pub mod formulas;
 mod frame;
-pub mod kind;
-mod marks;
+mod implied;
+pub mod listing;
+mod lists;
+mod literals;
+mod negative;
+mod occurrences;
 mod problem;
-mod units;
+mod rows;
+mod start;
+mod touched;
+mod trail;
 
-pub use clausal::Clausal;
-pub use clause_set::ClauseSet;
-pub use find::find_in;
-pub use kind::Kind;
-
-#[cfg(test)]
-mod tests;
+pub use clause_kind::ClauseKind;
+pub use completion::Completion;
+pub use formula::Formula;
+pub use formulas::Formulas;
+pub use listing::Listing;

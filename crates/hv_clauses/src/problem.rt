@@ -1,64 +1,211 @@
 //! The positive operands of a query as a condition on states.
 
-ghost use Rattle.std.specs.Prelude.{◌≡◌, length};
+ghost use Rattle.std.specs.Prelude.{◌≡◌, ◌<◌, ◌+◌, ℕ, Some, false, true, length, map};
 ghost use Rattle.std.specs.List.{All};
-ghost use Rattle.hv_task.specs.Strips.{atoms};
-ghost use Rattle.hv_sets.specs.Query.{IsNamed};
-ghost use Rattle.hv_clauses.specs.Clausal.{InAll};
-ghost use Rattle.hv_clauses.specs.Problem.{AreAllSettled};
-ghost use Rattle.hv_clauses.specs.Units.{IsPropagated};
+ghost use Rattle.hv_task.specs.Strips.{atoms, is_goal, start_state};
+ghost use Rattle.hv_sets.specs.declared.operand.Which.TheVariants as W;
+ghost use Rattle.hv_sets.specs.Query.{IsNamed, in_which};
+ghost use Rattle.hv_sets.specs.Truth.{is_same};
+ghost use Rattle.hv_clauses.specs.Chase.{IsFollowed};
+ghost use Rattle.hv_clauses.specs.Clausal.{InAll, clauses_of_state, late, sets_of, unit};
+ghost use Rattle.hv_clauses.specs.Marks.{over};
+ghost use Rattle.hv_clauses.specs.Problem.{AreAllLeft, AreAllSettled, IsLeft};
+ghost use Rattle.hv_clauses.specs.Trail.{marks_of};
+ghost use Rattle.hv_clauses.specs.Units.{AreSettled};
+ghost use Rattle.hv_clauses.specs.Start.{IsBasedOn};
+ghost use Rattle.hv_clauses.specs.Store.{AreOver, formula_at};
 
-use crate::choices;
-use crate::clausal::Clausal;
+use crate::change::Effect;
+use crate::clause_kind::ClauseKind;
 use crate::constraint::Constraint;
-use hv_sets::Operand;
+use crate::formulas::Formulas;
+use crate::trail::Marks;
+use crate::{chase, choices, literals};
+use hv_sets::{Operand, Query, Which};
 use hv_task::Task;
 
-// The positive operands of a query over a store, and the effect of its action.
+// A query over a store, and the effect of its action.
 #[derive(Drop)]
-pub(crate) struct Problem<'a, S> {
+pub(crate) struct Problem<'a, K: ClauseKind> {
     pub task: &'a Task,
-    pub store: &'a S,
-    pub effect: &'a [u32],
-    pub positive: &'a [Operand],
+    pub store: &'a Formulas<K>,
+    pub query: &'a Query,
+    pub effect: &'a Effect<'a>,
 }
 
-impl<S: Clausal> Constraint for Problem<'_, S> {
-    ghost is_over = { λ p n. (n ≡ atoms p.task.now) × S.is_over p.store.now (atoms p.task.now) × All (λ o. IsNamed (S.count p.store.now) o.which) p.positive.now };
+impl<K: ClauseKind> Constraint for Problem<'_, K> {
+    ghost is_over = { λ p n. (n ≡ atoms p.task.now) × AreOver p.store.now (atoms p.task.now) × All
+        (λ o. IsNamed (length p.store.now) o.which) p.query.now.positive };
 
-    ghost admits = { λ p state. InAll p.task.now (S.formula p.store.now) p.effect.now p.positive.now state };
+    ghost admits = { λ p state. InAll p.task.now (formula_at p.store.now) p.effect.now
+        p.query.now.positive state };
 
-    ghost settled = { λ p marks. AreAllSettled p.task.now (S.formula p.store.now) p.effect.now p.positive.now marks };
+    ghost settled = { λ p marks. AreAllSettled p.task.now (formula_at p.store.now) p.effect.now
+        p.query.now.positive marks };
 
-    fn sweep(&self, marks: &mut [u32], moved: &mut bool) -> bool {
-        walk_all(
-            self.task,
-            self.store,
-            self.positive,
-            self.effect,
-            marks,
-            moved,
-        )
+    ghost left = { λ p k from. AreAllLeft p.task.now (formula_at p.store.now) p.effect.now
+        p.query.now.positive k from };
+
+    fn visit(&self, marks: &mut Marks<'_>, from: usize) -> bool {
+        let positive = self.query.positive.as_slice();
+        for operand in positive {
+            let seen = self.effect.late(operand.after);
+            if !visit_which(self.task, self.store, operand.which, &seen, marks, from) {
+                return false;
+            }
+        }
+        true
+    }
+
+    fn laws(&self) {}
+}
+
+// Follows up the literal at this place of the trail in the clauses of an operand.
+fn visit_which<K: ClauseKind>(
+    task: &Task,
+    store: &Formulas<K>,
+    which: Which,
+    effect: &Effect<'_>,
+    marks: &mut Marks<'_>,
+    from: usize,
+) -> bool
+    requires named { IsNamed (length store.now) which }
+    requires over { AreOver store.now (atoms task.now) }
+    requires size { length marks.old.base ≡ atoms task.now }
+    requires from { from < length marks.old.trail }
+    requires left { IsLeft task.now (formula_at store.now) effect.now which marks.old from }
+    ensures followed { IsFollowed (λ state. in_which task.now (sets_of (formula_at store.now)) which
+        (over effect.now state) ≡ true) marks.old marks.new result }
+    ensures left { result ≡ true → IsLeft task.now (formula_at store.now) effect.now which marks.new
+        (from + 1) }
+{
+    let Which::Set(number) = which else {
+        return true;
+    };
+    let set = store.set(number);
+    chase::visit(set.clauses(), set.occurs(), effect, marks, from)
+}
+
+// Looks at each clause of each positive operand once, but for the set on which all is based.
+pub(crate) fn start_all<K: ClauseKind>(
+    problem: &Problem<'_, K>,
+    based: Option<usize>,
+    marks: &mut Marks<'_>,
+) -> bool
+    requires named { All (λ o. IsNamed (length problem.now.store.now) o.which)
+        problem.now.query.now.positive }
+    requires over { AreOver problem.now.store.now (atoms problem.now.task.now) }
+    requires size { length marks.old.base ≡ atoms problem.now.task.now }
+    requires based { IsBasedOn (formula_at problem.now.store.now) based marks.old.base }
+    ensures followed { IsFollowed (InAll problem.now.task.now (formula_at problem.now.store.now)
+        problem.now.effect.now problem.now.query.now.positive) marks.old marks.new result }
+    ensures left { result ≡ true → AreAllLeft problem.now.task.now
+        (formula_at problem.now.store.now) problem.now.effect.now problem.now.query.now.positive
+        marks.new 0 }
+{
+    let positive = problem.query.positive.as_slice();
+    for operand in positive {
+        if !start_operand(problem, *operand, based, marks) {
+            return false;
+        }
+    }
+    true
+}
+
+// Looks at each clause of an operand once, unless it is the set on which all is based.
+fn start_operand<K: ClauseKind>(
+    problem: &Problem<'_, K>,
+    operand: Operand,
+    based: Option<usize>,
+    marks: &mut Marks<'_>,
+) -> bool
+    requires named { IsNamed (length problem.now.store.now) operand.which }
+    requires over { AreOver problem.now.store.now (atoms problem.now.task.now) }
+    requires size { length marks.old.base ≡ atoms problem.now.task.now }
+    requires based { IsBasedOn (formula_at problem.now.store.now) based marks.old.base }
+    ensures followed { IsFollowed (λ state. in_which problem.now.task.now
+        (sets_of (formula_at problem.now.store.now)) operand.which
+        (over (late problem.now.effect.now operand.after) state) ≡ true) marks.old marks.new result }
+    ensures left { result ≡ true → IsLeft problem.now.task.now (formula_at problem.now.store.now)
+        (late problem.now.effect.now operand.after) operand.which marks.new 0 }
+{
+    if is_based(operand, based) {
+        return true;
+    }
+    let seen = problem.effect.late(operand.after);
+    start_which(problem.task, problem.store, operand.which, &seen, marks)
+}
+
+// Whether the operand is the set on which all is based.
+fn is_based(operand: Operand, based: Option<usize>) -> bool
+    ensures { result ≡ true → (operand.after ≡ false) × (number : ℕ) ×
+        (operand.which ≡ W.Set number) × (based ≡ Some number) }
+{
+    if operand.after {
+        return false;
+    }
+    let Which::Set(number) = operand.which else {
+        return false;
+    };
+    let Some(set) = based else {
+        return false;
+    };
+    set == number
+}
+
+// Looks at each clause of an operand once.
+fn start_which<K: ClauseKind>(
+    task: &Task,
+    store: &Formulas<K>,
+    which: Which,
+    effect: &Effect<'_>,
+    marks: &mut Marks<'_>,
+) -> bool
+    requires named { IsNamed (length store.now) which }
+    requires over { AreOver store.now (atoms task.now) }
+    requires size { length marks.old.base ≡ atoms task.now }
+    ensures followed { IsFollowed (λ state. in_which task.now (sets_of (formula_at store.now)) which
+        (over effect.now state) ≡ true) marks.old marks.new result }
+    ensures left { result ≡ true → IsLeft task.now (formula_at store.now) effect.now which marks.new
+        0 }
+{
+    match which {
+        Which::Empty => false,
+        Which::Start => start_start(task, effect, marks),
+        Which::Goal => start_goal(task, effect, marks),
+        Which::Set(number) => chase::start(store.set(number).clauses(), effect, marks),
     }
 }
 
-// A step for each clause of each operand.
-fn walk_all<S: Clausal>(
-    task: &Task,
-    store: &S,
-    positive: &[Operand],
-    effect: &[u32],
-    marks: &mut [u32],
-    moved: &mut bool,
-) -> bool
-    requires named { All (λ o. IsNamed (S.count store.now) o.which) positive.now }
-    requires over { S.is_over store.now (atoms task.now) }
-    requires size { length marks.old ≡ atoms task.now }
-    ensures { IsPropagated (InAll task.now (S.formula store.now) effect.now positive.now) (AreAllSettled task.now (S.formula store.now) effect.now positive.now) marks.old moved.old marks.new moved.new result }
+// Makes each atom as it is in the initial state.
+fn start_start(task: &Task, effect: &Effect<'_>, marks: &mut Marks<'_>) -> bool
+    requires size { length marks.old.base ≡ atoms task.now }
+    ensures followed { IsFollowed (λ state. is_same (start_state task.now) (over effect.now state) ≡
+        true) marks.old marks.new result }
+    ensures settled { result ≡ true → AreSettled effect.now
+        (clauses_of_state (atoms task.now) task.now.start) (marks_of marks.new) }
 {
-    for operand in positive {
-        let seen = choices::late(effect, operand.after);
-        if !choices::walk_which(task, store, operand.which, seen, marks, moved) {
+    for atom in 0..task.atoms() {
+        let literal = choices::start_literal(task, atom);
+        if !literals::force(literal, effect, marks) {
+            return false;
+        }
+    }
+    true
+}
+
+// Makes each atom of the goal true.
+fn start_goal(task: &Task, effect: &Effect<'_>, marks: &mut Marks<'_>) -> bool
+    requires size { length marks.old.base ≡ atoms task.now }
+    ensures followed { IsFollowed (λ state. is_goal task.now (over effect.now state) ≡ true)
+        marks.old marks.new result }
+    ensures settled { result ≡ true → AreSettled effect.now
+        (map (λ atom. unit atom true) task.now.goal) (marks_of marks.new) }
+{
+    let goal = task.goal().as_slice();
+    for atom in goal {
+        let literal = choices::goal_literal(*atom);
+        if !literals::force(literal, effect, marks) {
             return false;
         }
     }

@@ -6,9 +6,8 @@ use Rattle.std.proofs.lemmas.Bool.{eqb-true, eq-eqb}
 use Rattle.std.specs.List.{All, AllWithin, Contains, HoldsAt, list_all}
 use Rattle.std.proofs.lemmas.List.Sums.{AllPass-from_list_all}
 use Rattle.hv_sets.specs.declared.literal.Literal.{Literal}
-use Rattle.hv_sets.specs.Kinds.{IsFirstOther, IsHornClause}
+use Rattle.hv_sets.specs.Kinds.{IsHornClause}
 use Rattle.hv_clauses.proofs.Effects.{list_all_from}
-use Rattle.hv_horn.specs.Formulas.{IsHorn, IsOther}
 
 -- the literal is negative, or of the atom of the head
 abbrev pub fits : Literal → Literal → Bool
@@ -52,27 +51,3 @@ module _ (clause : List Literal) where
 
     pub horn_with : (answer : Bool) → answer ≡ list_all (fits head) clause → IsTrue answer ↔ IsHornClause clause
     horn_with answer is = (λ e. forward (sym is ∙ e), λ horn. is ∙ back horn)
-
--- what a search for the first clause of another kind answers
-pub match_other : (clauses : List (List Literal)) (r : Option ℕ)
-    → MatchOption r (AllWithin IsHorn clauses 0 (length clauses))
-    (λ i. (i < length clauses) × HoldsAt IsOther clauses i × AllWithin IsHorn clauses 0 i)
-    → MatchOption r (All IsHornClause clauses) (IsFirstOther IsHornClause clauses)
-match_other clauses None all = λ k d less. (all k d (omega arith) less).horn
-match_other clauses (Some i) found =
-    record {
-      among = found.0;
-      other = (found.1 []).other;
-      before = λ k less. (found.2 k [] (omega arith) less).horn;
-    }
-
--- the same of one clause
-pub other_from : (answer : Bool) (clause : List Literal) → (IsTrue answer ↔ IsHornClause clause) → not answer ≡ true
-    → IsOther clause
-other_from true clause is e = absurd cc
-other_from false clause is e = record { other = λ horn. let t : false ≡ true = is.1 horn in absurd cc }
-
-pub horn_from : (answer : Bool) (clause : List Literal) → (IsTrue answer ↔ IsHornClause clause) → not answer ≡ false
-    → IsHorn clause
-horn_from true clause is e = record { horn = is.0 refl }
-horn_from false clause is e = absurd cc

@@ -1,2 +1,1 @@
 pub mod HornClauses
-pub mod Stored

@@ -1,5 +1,7 @@
 -- Why clauses are no Horn formula.
-use Rattle.std.specs.Prelude.{List, ⊤}
+use Rattle.std.proofs.Common.{◌≡◌, List, subst, sym}
+use Rattle.std.specs.Prelude.{⊤}
+use Rattle.std.specs.declared.alloc.AllocError.{AllocError as NoMemory}
 use Rattle.hv_sets.specs.declared.literal.Literal.{Literal}
 use Rattle.hv_sets.specs.Kinds.{IsFirstOther, IsHornClause}
 use Rattle.hv_horn.specs.declared.horn.HornFault.{HornFault}
@@ -9,3 +11,7 @@ use Rattle.hv_horn.specs.declared.horn.HornFault.TheVariants as H
 abbrev pub IsFault : List (List Literal) → HornFault → Type 0
 IsFault clauses (H.NotHorn place) = IsFirstOther IsHornClause clauses place
 IsFault clauses H.Memory = ⊤
+
+-- want of memory is always right
+pub memory_is_fault : (clauses : List (List Literal)) (error : NoMemory) (fault : HornFault) → fault ≡ H.Memory → IsFault clauses fault
+memory_is_fault clauses error fault is = subst (IsFault clauses) (sym is) tt

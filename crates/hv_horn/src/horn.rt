@@ -1,22 +1,14 @@
-ghost use Rattle.std.specs.Prelude.{◌≡◌, ◌↔◌, ◌≤◌, ⊤, false, true, length, drop, IfOk, IfErr, IsTrue, MatchOption};
-ghost use Rattle.std.specs.List.{All};
-ghost use Rattle.hv_task.specs.Strips.{atoms};
-ghost use Rattle.hv_sets.specs.Cubes.{SpeakBelow};
-ghost use Rattle.hv_sets.specs.Kinds.{IsFirstOther, IsHornClause};
-ghost use Rattle.hv_sets.specs.Room.{HasRoom, KeepsLengths};
-ghost use Rattle.hv_sets.specs.Walks.{Covers, Meets};
-ghost use Rattle.hv_clauses.specs.Clausal.{AreClauses, in_formula};
-ghost use Rattle.hv_clauses.specs.Denial.{steps_of};
-ghost use Rattle.hv_clauses.specs.Laws as laws;
-ghost use Rattle.hv_horn.specs.Fault.{IsFault};
-ghost use Rattle.hv_horn.specs.Formulas.{IsHorn, IsHornFormula, IsOther};
+ghost use Rattle.std.specs.Prelude.{◌≡◌, ◌↔◌, false, IsTrue};
+ghost use Rattle.hv_sets.specs.Kinds.{IsHornClause};
+ghost use Rattle.hv_clauses.specs.declared.completion.Completion.TheVariants as C;
+ghost use Rattle.hv_clauses.specs.declared.listing.Listing.TheVariants as L;
+ghost use Rattle.hv_horn.specs.Fault.{IsFault, memory_is_fault};
+ghost use Rattle.hv_horn.specs.Laws as laws;
 ghost use Rattle.hv_horn.specs.declared.horn.HornFault.TheVariants as F;
 
-use hv_clauses::{ClauseSet, Kind};
-use hv_sets::{Clause, Clauses, Covering, Cube, Cursor, Literal, Outside, Scratch, StateSet, Step};
-use hv_task::{State, Task};
-use std::alloc::{AllocError, Global};
-use std::marker::Model;
+use hv_clauses::{ClauseKind, Completion, Formula, Formulas, Listing};
+use hv_sets::Literal;
+use std::alloc::AllocError;
 use thiserror::Error;
 
 /// Why clauses are no Horn formula.
@@ -38,137 +30,47 @@ impl From<AllocError> for HornFault {
     }
 }
 
-/// A Horn formula: the set of the states of a task in which each of its clauses is true. The positive literals of a clause are of one
-/// atom at most.
-#[derive(Drop)]
-pub struct Horn {
-    set: ClauseSet,
-}
+/// Horn clauses: the positive literals of a clause are of one atom at most. Atoms of which nothing is known can be left out.
+pub enum HornKind {}
 
-impl Model for Horn {
-    ghost use Rattle.hv_clauses.specs.Clausal.{AreOfKind, Formula};
-    ghost use Rattle.hv_clauses.specs.declared.kind.Kind.TheVariants as K;
+/// A Horn formula: the set of the states of a task in which each of its clauses is true.
+pub type Horn = Formula<HornKind>;
 
-    ghost Value = { Formula };
+/// The Horn formulas of a proof, numbered from 0 in the order in which they were added.
+pub type Horns = Formulas<HornKind>;
 
-    ghost view = { λ s. s.set };
+impl ClauseKind for HornKind {
+    type Fault = HornFault;
 
-    ghost invariant = { λ s. AreOfKind K.Horn s.set.clauses };
-}
+    ghost is_of = { IsHornClause };
 
-impl Horn {
-    /// The formula of these clauses over the states of the task.
-    pub fn new(alloc: Global, task: &Task, clauses: &Clauses) -> Result<Horn, HornFault>
-        requires { AreClauses (atoms task.now) clauses.now }
-        ensures ok { IfOk result (λ set. set ≡ record { atoms = atoms task.now; clauses = clauses.now }) }
-        ensures horn { IfOk result (λ _. All IsHornClause clauses.now) }
-        ensures err { IfErr result (IsFault clauses.now) }
-    {
-        if let Some(place) = first_other(clauses.as_slice()) {
-            return Err(HornFault::NotHorn(place));
-        }
-        let set = ClauseSet::new(alloc, task.atoms(), clauses)?;
-        Ok(Horn { set })
+    ghost completed_by = { C.Fill false };
+
+    ghost listed_by = { L.Negative };
+
+    ghost is_fault = { IsFault };
+
+    fn takes(clause: &[Literal]) -> bool {
+        is_horn(clause)
     }
 
-    /// Whether some state is in the cube and in the set. One such state then stands in the scratch. It takes no memory.
-    pub fn meets_in(&self, cube: &Cube, scratch: &mut Scratch) -> bool
-        requires cube { SpeakBelow self.now.atoms cube.now }
-        requires room { HasRoom self.now.atoms 0 (length self.now.clauses) scratch.old }
-        ensures meets { Meets result self.now.atoms (in_formula self.now) cube.now scratch.new.state }
-        ensures state { length scratch.new.state ≡ length scratch.old.state }
-        ensures lengths { KeepsLengths scratch.old scratch.new }
-    {
-        self.set.meets_in(Kind::Horn, cube, scratch)
+    fn completion() -> Completion {
+        Completion::Fill(false)
     }
 
-    /// Whether each state of the cube is in the set. Otherwise a state of the cube outside the set stands in the scratch. It takes no
-    /// memory.
-    pub fn covers_in(&self, cube: &Cube, scratch: &mut Scratch) -> bool
-        requires cube { SpeakBelow self.now.atoms cube.now }
-        requires room { HasRoom self.now.atoms 0 (length self.now.clauses) scratch.old }
-        ensures covers { Covers result self.now.atoms (in_formula self.now) cube.now scratch.new.state }
-        ensures state { length scratch.new.state ≡ length scratch.old.state }
-        ensures lengths { KeepsLengths scratch.old scratch.new }
-    {
-        self.set.covers_in(cube, scratch)
+    fn listing() -> Listing {
+        Listing::Negative
     }
 
-    /// The set as one that clauses give.
-    pub(crate) fn set(&self) -> &ClauseSet
-        ensures set { result.now ≡ self.now }
-        ensures formula { IsHornFormula self.now }
-    {
-        let _ = self.set.clauses();
-        &self.set
-    }
-}
-
-impl StateSet for Horn {
-    ghost atoms = { λ set. set.atoms };
-
-    ghost has = { in_formula };
-
-    fn holds(&self, state: &State) -> bool {
-        self.set.holds(state)
+    fn other(place: usize) -> HornFault {
+        HornFault::NotHorn(place)
     }
 
-    fn meets(&self, alloc: Global, cube: &Cube, scratch: &mut Scratch) -> Result<bool, AllocError> {
-        let _ = alloc;
-        scratch.reserve(self.set.atoms(), 0, self.set.clauses().len())?;
-        Ok(self.meets_in(cube, scratch))
-    }
-}
+    ghost memory_is_fault = { memory_is_fault };
 
-impl Covering for Horn {
-    fn covers(
-        &self,
-        alloc: Global,
-        cube: &Cube,
-        scratch: &mut Scratch,
-    ) -> Result<bool, AllocError> {
-        let _ = alloc;
-        scratch.reserve(self.set.atoms(), 0, self.set.clauses().len())?;
-        Ok(self.covers_in(cube, scratch))
-    }
-}
+    ghost short_are_of = { laws.short_are_horn };
 
-impl Outside for Horn {
-    ghost outside = { steps_of };
-
-    ghost stands_outside = { λ _ _. ⊤ };
-
-    ghost outside_left = { λ set cursor. drop cursor.place (steps_of set) };
-
-    fn outside_next(&self, cursor: &mut Cursor, cube: &mut Cube) -> Result<Step, AllocError> {
-        self.set.outside_next(cursor, cube)
-    }
-
-    fn outside_count(&self, alloc: Global, cap: u64) -> Result<u64, AllocError> {
-        let _ = alloc;
-        Ok(self.set.outside_count(cap))
-    }
-
-    ghost starts_outside = { λ _ _ _. tt };
-
-    ghost starts_with_outside = { laws.starts_with_steps };
-
-    ghost outside_is = { laws.outside_are };
-}
-
-// The place of the first clause that is no Horn clause.
-fn first_other(clauses: &[Clause]) -> Option<usize>
-    ensures { MatchOption result (All IsHornClause clauses.now) (IsFirstOther IsHornClause clauses.now) }
-{
-    clauses.iter().position(|clause| is_other(clause))
-}
-
-// Whether the positive literals of a clause are of two atoms or more.
-fn is_other(clause: &Clause) -> bool
-    ensures other { result ≡ true → IsOther clause.now }
-    ensures horn { result ≡ false → IsHorn clause.now }
-{
-    !is_horn(clause.as_slice())
+    ghost completes = { laws.horn_completes };
 }
 
 // Whether the positive literals of a clause are of one atom at most.

@@ -2,9 +2,8 @@
 #![tactic(auto)]
 
 pub mod horn;
-pub mod horns;
+
+pub use horn::{Horn, HornFault, HornKind, Horns};
+
 #[cfg(test)]
 mod tests;
-
-pub use horn::{Horn, HornFault};
-pub use horns::Horns;

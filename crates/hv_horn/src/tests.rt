@@ -8,7 +8,6 @@ ghost use Rattle.hv_clauses.specs.Clausal.{AreClauses, sizes_of};
 ghost use Rattle.hv_clauses.specs.Store.{AreOver, formula_at};
 
 use crate::{Horn, HornFault, Horns};
-use hv_clauses::Clausal;
 use hv_sets::{
     Clause, Clauses, Covering, Cube, Cursor, Family, Finding, Literal, Operand, Operands, Outside,
     Query, Scratch, StateSet, Step, Which,
@@ -371,7 +370,7 @@ fn room_of(task: &Task, sets: &Horns, which: Which) -> usize
         Which::Empty => 1,
         Which::Start => task.atoms() as usize,
         Which::Goal => task.goal().len(),
-        Which::Set(number) => sets.set(number).clauses().len(),
+        Which::Set(number) => sets.get(number).clauses().len(),
     }
 }
 
@@ -555,7 +554,7 @@ fn cube_is_met_in(
 {
     let cube = cube_from(alloc, digits)?;
     let mut scratch = Scratch::new(alloc)?;
-    scratch.reserve(3, 0, set.set().clauses().len())?;
+    scratch.reserve(3, 0, set.clauses().len())?;
     let meets = set.meets_in(&cube, &mut scratch);
     if !is_witnessed(meets, true, sides(digits, codes, true), scratch.state()) {
         return Ok(false);

@@ -1,3 +1,2 @@
 mod Asked
 mod Pairs
-mod Stores

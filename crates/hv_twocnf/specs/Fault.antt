@@ -1,5 +1,7 @@
 -- Why clauses are no 2CNF formula.
-use Rattle.std.specs.Prelude.{List, ⊤}
+use Rattle.std.proofs.Common.{◌≡◌, List, subst, sym}
+use Rattle.std.specs.Prelude.{⊤}
+use Rattle.std.specs.declared.alloc.AllocError.{AllocError as NoMemory}
 use Rattle.hv_sets.specs.declared.literal.Literal.{Literal}
 use Rattle.hv_sets.specs.Kinds.{IsFirstOther, IsTwoClause}
 use Rattle.hv_twocnf.specs.declared.two_cnf.TwoCnfFault.{TwoCnfFault}
@@ -9,3 +11,7 @@ use Rattle.hv_twocnf.specs.declared.two_cnf.TwoCnfFault.TheVariants as F
 abbrev pub IsFault : List (List Literal) → TwoCnfFault → Type 0
 IsFault clauses (F.NotTwo place) = IsFirstOther IsTwoClause clauses place
 IsFault clauses F.Memory = ⊤
+
+-- want of memory is always right
+pub memory_is_fault : (clauses : List (List Literal)) (error : NoMemory) (fault : TwoCnfFault) → fault ≡ F.Memory → IsFault clauses fault
+memory_is_fault clauses error fault is = subst (IsFault clauses) (sym is) tt

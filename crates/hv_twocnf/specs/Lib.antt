@@ -1,2 +1,3 @@
+pub mod Either
 pub mod Fault
-pub mod Formulas
+pub mod Laws

@@ -1,10 +1,9 @@
-//! 2CNF formulas: sets of states that are given by clauses of at most two literals.
+//! 2CNF formulas: sets of states that are given by clauses of at most two different literals.
 #![tactic(auto)]
+
+pub mod two_cnf;
+
+pub use two_cnf::{TwoCnf, TwoCnfFault, TwoCnfs, TwoKind};
 
 #[cfg(test)]
 mod tests;
-pub mod two_cnf;
-pub mod two_cnfs;
-
-pub use two_cnf::{TwoCnf, TwoCnfFault};
-pub use two_cnfs::TwoCnfs;

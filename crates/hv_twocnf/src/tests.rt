@@ -421,7 +421,7 @@ fn clauses_in(task: &Task, sets: &TwoCnfs, which: Which) -> usize
         Which::Empty => 1,
         Which::Start => task.atoms() as usize,
         Which::Goal => task.goal().len(),
-        Which::Set(number) => sets.get(number).set().clauses().len(),
+        Which::Set(number) => sets.get(number).clauses().len(),
     }
 }
 
@@ -631,7 +631,7 @@ fn cube_is_right(
     if !is_found_right(!covers, false, number, rows, scratch.state()) {
         return Ok(false);
     }
-    scratch.reserve(2, 0, set.set().clauses().len())?;
+    scratch.reserve(2, 0, set.clauses().len())?;
     if set.meets_in(&cube, scratch) != meets
         || !is_found_right(meets, true, number, rows, scratch.state())
     {

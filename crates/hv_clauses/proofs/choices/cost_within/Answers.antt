@@ -6,6 +6,7 @@ use Rattle.hv_sets.specs.declared.operand.Operand.{Operand}
 use Rattle.hv_sets.specs.Cost.{choices_of, clauses_of}
 use Rattle.hv_clauses.specs.Clausal.{sizes_of}
 use Rattle.hv_clauses.proofs.Choosing.{choices_more, choices_upto}
+use Rattle.hv_clauses.specs.Store.{formula_at}
 use Rattle.hv_clauses.proofs.choices.cost_within.Goals as goal
 
 -- without a result the budget is passed
@@ -34,13 +35,13 @@ product_over task sizes operands place d old count budget within some first here
 pub returns-in_err-cost : goal.returns-in_err-cost
 returns-in_err-cost g c =
     none_over c.from_residual.result _ _ c.from_residual.ensures (
-    product_over c.args.task.now (sizes_of (g.S.Clausal.formula c.args.store.now)) c.args.negative.now c.loop-operand.operand-index _
+    product_over c.args.task.now (sizes_of (formula_at c.args.store.now)) c.args.negative.now c.loop-operand.operand-index _
     c.loop-operand.cost c.count_of.result c.args.budget c.loop-operand-test.true (c.if-has_empty.ensures.some refl)
     c.loop-operand.invariant c.count_of.ensures c.in_err-cost.ensures
     )
 
 pub loop-operand-preserved : goal.loop-operand-preserved
 loop-operand-preserved g c =
-    product_more c.args.task.now (sizes_of (g.S.Clausal.formula c.args.store.now)) c.args.negative.now c.loop-operand.operand-index _
+    product_more c.args.task.now (sizes_of (formula_at c.args.store.now)) c.args.negative.now c.loop-operand.operand-index _
     c.loop-operand.cost c.count_of.result c.in_ok-cost.cost c.loop-operand-test.true
     c.loop-operand.invariant c.count_of.ensures c.in_ok-cost.ensures.0

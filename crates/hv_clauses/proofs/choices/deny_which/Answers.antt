@@ -11,6 +11,7 @@ use Rattle.hv_clauses.specs.Choices.{clause_at}
 use Rattle.hv_clauses.specs.Clausal.{clauses_in, sizes_of}
 use Rattle.hv_clauses.proofs.OperandClauses.{made_goal, made_start, one_below}
 use Rattle.hv_clauses.proofs.OperandRounds.{denied_same}
+use Rattle.hv_clauses.specs.Store.{formula_at}
 use Rattle.hv_clauses.proofs.choices.deny_which.Goals as goal
 
 -- a place among the clauses of the initial state is an atom of the task
@@ -20,19 +21,19 @@ place_below task sizes which place less is = subst (λ w. place < clauses_of tas
 
 pub overflow_cast-place : goal.overflow_cast-place
 overflow_cast-place g c =
-    let sizes = sizes_of (g.S.Clausal.formula c.args.store.now) in
+    let sizes = sizes_of (formula_at c.args.store.now) in
     let less = place_below c.args.task.now sizes c.args.which c.args.place c.requires.place c.in-Start.is in
     omega (arith, less, c.atoms-atoms.ensures.task.few_atoms)
 
-pub returns-in-Start : goal.returns-in-Start
-returns-in-Start g c =
-    let formulas = g.S.Clausal.formula c.args.store.now in
+pub returns-in-Start-clause-denied : goal.returns-in-Start-clause-denied
+returns-in-Start-clause-denied g c =
+    let formulas = formula_at c.args.store.now in
     let less = place_below c.args.task.now (sizes_of formulas) c.args.which c.args.place c.requires.place c.in-Start.is in
     denied_same c.args.effect.now _ _ _ c.from_ref.result.now _ (
     made_start (atoms c.args.task.now) c.args.task.now.start c.args.place c.start_literal-literal.result c.from_ref.result.now
     c.from_ref.ensures.value c.start_literal-literal.ensures less
     ∙ ap (λ w. clause_at (clauses_in c.args.task.now formulas w) c.args.place) (sym c.in-Start.is)
-    ) c.deny.ensures
+    ) c.deny.ensures.denied
 
 -- the literal of the goal atom at a place
 goal_literal_is : (items : List ℕ) (place atom : ℕ) (literal : Literal) → slice_get items place ≡ Some atom
@@ -51,13 +52,13 @@ deny-requires-in-Goal g c =
     let atom = ap (λ (l : Literal). l.atom) c.goal_literal-literal.ensures in
     one_below _ _ _ c.from_ref-in-Goal.ensures.value (omega (arith, below, atom, c.requires.size))
 
-pub returns-in-Goal : goal.returns-in-Goal
-returns-in-Goal g c =
-    let formulas = g.S.Clausal.formula c.args.store.now in
+pub returns-in-Goal-clause-denied : goal.returns-in-Goal-clause-denied
+returns-in-Goal-clause-denied g c =
+    let formulas = formula_at c.args.store.now in
     denied_same c.args.effect.now _ _ _ c.from_ref-in-Goal.result.now _ (
     made_goal c.args.task.now.goal c.goal.result.now c.args.place _ c.from_ref-in-Goal.result.now
     c.from_ref-in-Goal.ensures.value
     (goal_literal_is c.goal.result.now c.args.place c.get.result _ c.get.ensures c.goal_literal-literal.ensures)
     c.goal.ensures.goal (slice_get_within c.goal.result.now c.args.place c.get.result c.get.ensures)
     ∙ ap (λ w. clause_at (clauses_in c.args.task.now formulas w) c.args.place) (sym c.in-Goal.is)
-    ) c.deny-in-Goal.ensures
+    ) c.deny-in-Goal.ensures.denied

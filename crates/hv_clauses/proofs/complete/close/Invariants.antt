@@ -1,11 +1,13 @@
-use Rattle.std.proofs.Common.{true}
-use Rattle.std.specs.Prelude.{⊤}
-use Rattle.hv_clauses.specs.Marks.{unknown_in}
-use Rattle.hv_clauses.specs.Units.{IsConcluded}
+use Rattle.std.proofs.Common.{◌≤◌, ◌-◌, true, length}
+use Rattle.hv_clauses.specs.Chase.{IsFollowed}
 use Rattle.hv_clauses.proofs.complete.close.Given as goal
 
-abbrev pub invariant-loop-moved : goal.invariant-loop-moved
-invariant-loop-moved g l = IsConcluded (g.C.Constraint.admits l.constraint) (λ _. ⊤) l.initial.marks l.marks true
+abbrev pub invariant-loop-place : goal.invariant-loop-place
+invariant-loop-place g l = record {
+  followed : IsFollowed (g.C.Constraint.admits l.constraint) l.fn.marks l.marks true;
+  within : l.place ≤ length l.marks.trail;
+  left : g.C.Constraint.left l.constraint l.marks l.place;
+}
 
-abbrev pub decreases-loop-moved : goal.decreases-loop-moved
-decreases-loop-moved g l = unknown_in l.marks
+abbrev pub decreases-loop-place : goal.decreases-loop-place
+decreases-loop-place g l = length l.marks.base - l.place

@@ -1,8 +1,12 @@
-use Rattle.std.proofs.Common.{true}
+use Rattle.std.proofs.Common.{length, true}
 use Rattle.hv_clauses.specs.Completion.{IsTried}
 use Rattle.hv_clauses.specs.Marks.{AllKnown}
+use Rattle.hv_clauses.specs.Trail.{Grows, marks_of}
 use Rattle.hv_clauses.proofs.complete.settle_all.Given as goal
 
 abbrev pub invariant-loop-atom : goal.invariant-loop-atom
-invariant-loop-atom g l =
-    IsTried (g.C.Constraint.admits l.constraint) (g.C.Constraint.settled l.constraint) (AllKnown l.atom) l.initial.firm l.firm true
+invariant-loop-atom g l = record {
+  tried : IsTried (g.C.Constraint.admits l.constraint) (g.C.Constraint.settled l.constraint) (AllKnown l.atom) (marks_of l.initial.marks) (marks_of l.marks) true;
+  grown : Grows l.initial.marks l.marks;
+  left : g.C.Constraint.left l.constraint l.marks (length l.marks.trail);
+}

@@ -1,0 +1,138 @@
+-- Numbers by key, kept as one rising list of codes.
+use Rattle.std.proofs.Common.{◌≡◌, ℕ, ◌+◌, ◌-◌, ◌<◌, ◌≤◌, ◌∙◌, List, inl, inr, length, get_or, refl, sym, ap, subst, arith}
+use Rattle.std.proofs.lemmas.Bool.{cases_lt}
+use Rattle.std.proofs.lemmas.List.{get_or_default, get_or-map, length-map}
+use Rattle.std.proofs.lemmas.List.Edits.{get_or-between, length-between}
+use Rattle.std.proofs.lemmas.List.Elements.{Contains-get_or}
+use Rattle.std.specs.List.{Contains}
+use Rattle.std.specs.List.Sorted.{IsNonDecreasingBy, IsStrictlyIncreasing}
+use Rattle.std.specs.Prelude.{slice_range}
+use Rattle.hv_task.proofs.Rising.{rises_apart}
+use Rattle.hv_clauses.specs.Rows.{AreRows, IsPartOf, IsEndBefore, IsEndWith, IsRow, code, key_of, number_of}
+
+-- the two parts of a code
+pub key_of-code : (key number : ℕ) → number < 4294967296 → key_of (code key number) ≡ key
+key_of-code key number small = omega arith
+
+pub number_of-code : (key number : ℕ) → number < 4294967296 → number_of (code key number) ≡ number
+number_of-code key number small = omega arith
+
+pub code_is : (c : ℕ) → c ≡ code (key_of c) (number_of c)
+code_is c = omega arith
+
+key_upto : (a b : ℕ) → a ≤ b → key_of a ≤ key_of b
+key_upto a b upto = omega arith
+
+number_less : (a b : ℕ) → a < b → key_of a ≡ key_of b → number_of a < number_of b
+number_less a b less same = omega arith
+
+-- rising codes have keys that don't fall
+pub keys_upto : (codes : List ℕ) → IsStrictlyIncreasing codes → IsNonDecreasingBy key_of codes
+keys_upto codes rises i j d upto within = elim (cases_lt i j) [
+  | inl less ↦
+      let apart = rises_apart codes i j rises less within in
+      let first = get_or_default codes i d 0 (omega arith) in
+      let second = get_or_default codes j d 0 within in
+      key_upto (get_or codes i d) (get_or codes j d) (omega arith)
+  | inr same ↦
+      let one : i ≡ j = omega arith in
+      key_upto (get_or codes i d) (get_or codes j d) (let e = ap (λ k. get_or codes k d) one in omega arith)
+]
+
+-- the codes of a key end where or after they start
+pub starts_upto : (codes : List ℕ) (key from upto : ℕ) → IsEndBefore key codes from → IsEndWith key codes upto → from ≤ upto
+starts_upto codes key from upto starts ends = elim (cases_lt upto from) [
+  | inl less ↦
+      let before = starts.before upto less in
+      let after = ends.after upto (omega arith) (let w = starts.within in omega arith) in
+      absurd (omega arith)
+  | inr more ↦ more
+]
+
+module _ (Pair : ℕ → ℕ → Type 0) (codes numbers : List ℕ) (rows : AreRows Pair codes numbers) (key from upto : ℕ)
+    (starts : IsEndBefore key codes from) (ends : IsEndWith key codes upto) where
+  size : length numbers ≡ length codes
+  size = ap length rows.numbers_are ∙ length-map codes number_of
+
+  pub row_ends : upto ≤ length numbers
+  row_ends = let e = size in let w = ends.within in omega arith
+
+  row_size : length (slice_range numbers from upto) ≡ upto - from
+  row_size = length-between numbers from upto row_ends
+
+  -- the key and the number of the code at a place of the row
+  key_at : (k : ℕ) → k < upto - from → key_of (get_or codes (from + k) 0) ≡ key
+  key_at k less =
+      let low = starts.after (from + k) (omega arith) (let w = ends.within in omega arith) in
+      let high = ends.before (from + k) (omega arith) in
+      omega arith
+
+  number_at : (k : ℕ) (d : ℕ) → k < upto - from → get_or (slice_range numbers from upto) k d ≡ number_of (get_or codes (from + k) 0)
+  number_at k d less =
+      get_or-between numbers from upto k d (omega arith)
+      ∙ ap (λ xs. get_or xs (from + k) d) rows.numbers_are
+      ∙ get_or-map number_of codes (from + k) 0 d (let w = ends.within in omega arith)
+
+  row_rises : IsStrictlyIncreasing (slice_range numbers from upto)
+  row_rises k less =
+      let e = row_size in
+      let w = ends.within in
+      let next : from + (k + 1) ≡ from + k + 1 = omega arith in
+      let here = number_at k 0 (omega arith) in
+      let there = number_at (k + 1) 0 (omega arith) in
+      let keys : key_of (get_or codes (from + k) 0) ≡ key_of (get_or codes (from + (k + 1)) 0) =
+      key_at k (omega arith) ∙ sym (key_at (k + 1) (omega arith)) in
+      let rise : get_or codes (from + k) 0 < get_or codes (from + (k + 1)) 0 =
+      rises_apart codes (from + k) (from + (k + 1)) rows.rises (omega arith) (omega arith) in
+      let numbers_rise = number_less (get_or codes (from + k) 0) (get_or codes (from + (k + 1)) 0) rise keys in
+      omega arith
+
+  row_only : (number : ℕ) → Contains (slice_range numbers from upto) number → Pair key number
+  row_only number c =
+      let e = row_size in
+      let w = ends.within in
+      let less : c.0 < upto - from = omega (arith, c.1) in
+      let x = get_or codes (from + c.0) 0 in
+      let found = (rows.has x).0 (Contains-get_or codes (from + c.0) 0 (omega arith)) in
+      let number_is : found.1 ≡ number =
+      sym (number_of-code found.0 found.1 found.3) ∙ (ap number_of (sym found.2) ∙ (sym (number_at c.0 number less) ∙ c.2)) in
+      let key_is : found.0 ≡ key = sym (key_of-code found.0 found.1 found.3) ∙ (ap key_of (sym found.2) ∙ key_at c.0 less) in
+      subst (λ n. Pair key n) number_is (subst (λ k. Pair k found.1) key_is found.4)
+
+  row_all : (number : ℕ) → Pair key number → Contains (slice_range numbers from upto) number
+  row_all number pair =
+      let small = rows.small key number pair in
+      let c = (rows.has (code key number)).1 (key, number, refl, small, pair) in
+      let e = row_size in
+      let w = ends.within in
+      let is : get_or codes c.0 0 ≡ code key number = get_or_default codes c.0 0 (code key number) c.1 ∙ c.2 in
+      let key_is : key_of (get_or codes c.0 0) ≡ key = ap key_of is ∙ key_of-code key number small in
+      let low : from ≤ c.0 = elim (cases_lt c.0 from) [
+        | inl less ↦ let before = starts.before c.0 less in absurd (omega arith)
+        | inr more ↦ more
+      ] in
+      let high : c.0 < upto = elim (cases_lt c.0 upto) [
+        | inl less ↦ less
+        | inr more ↦ let after = ends.after c.0 more c.1 in absurd (omega arith)
+      ] in
+      let place : from + (c.0 - from) ≡ c.0 = omega arith in
+      let less : c.0 - from < upto - from = omega arith in (
+        c.0 - from,
+        omega arith,
+        number_at (c.0 - from) number less
+            ∙ ap (λ k. number_of (get_or codes k 0)) place
+            ∙ ap number_of is
+            ∙ number_of-code key number small,
+      )
+
+  pub row_is : IsRow Pair key (slice_range numbers from upto)
+  row_is = record { rises = row_rises; has = λ number. (row_only number, row_all number) }
+
+-- the part that code hands out is the row
+pub row_from : (Pair : ℕ → ℕ → Type 0) (codes numbers key_codes key_numbers : List ℕ) (key : ℕ) (part : List ℕ)
+    → AreRows Pair codes numbers → key_codes ≡ codes → key_numbers ≡ numbers → IsPartOf key key_codes key_numbers part
+    → IsRow Pair key part
+row_from Pair codes numbers key_codes key_numbers key part rows same_codes same_numbers is =
+    let moved : IsPartOf key codes numbers part =
+    subst (λ xs. IsPartOf key codes xs part) same_numbers (subst (λ xs. IsPartOf key xs key_numbers part) same_codes is) in
+    subst (IsRow Pair key) (sym moved.4) (row_is Pair codes numbers rows key moved.0 moved.1 moved.2 moved.3)

@@ -1,0 +1,14 @@
+use Rattle.std.proofs.Common.{◌≡◌, ℕ, ◌+◌, ◌<◌, true, get_or}
+use Rattle.hv_sets.specs.Truth.{in_clauses}
+use Rattle.hv_clauses.specs.declared.occurrences.Occurrence.{Occurrence}
+use Rattle.hv_clauses.specs.Chase.{AreKept, IsFollowed, IsKept}
+use Rattle.hv_clauses.specs.Choices.{clause_at}
+use Rattle.hv_clauses.specs.Marks.{over}
+use Rattle.hv_clauses.proofs.chase.visit.Given as goal
+
+abbrev pub invariant-loop-occurrence : goal.invariant-loop-occurrence
+invariant-loop-occurrence l = record {
+  followed : IsFollowed (λ state. in_clauses l.clauses (over l.effect state) ≡ true) l.fn.marks l.marks true;
+  kept : AreKept l.effect l.clauses l.marks l.from;
+  seen : (k : ℕ) → k < l.occurrence-index → (d : Occurrence) → IsKept l.effect (clause_at l.clauses (get_or l.listed k d).place) l.marks (l.from + 1);
+}

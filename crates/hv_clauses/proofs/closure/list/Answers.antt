@@ -1,0 +1,32 @@
+use Rattle.std.proofs.Common.{◌≡◌, ◌∙◌, ◌<◌, ℕ, length, arith, inl, inr, refl, subst, sym, ap}
+use Rattle.std.proofs.lemmas.Bool.{cases_lt}
+use Rattle.hv_clauses.specs.Marks.{known}
+use Rattle.hv_clauses.specs.Trail.{marked, marks_of}
+use Rattle.hv_clauses.proofs.Forced.{said_everywhere}
+use Rattle.hv_clauses.proofs.closure.list.Goals as goal
+
+pub loop-atom-preserved : goal.loop-atom-preserved
+loop-atom-preserved c =
+    let k = c.args.marks.now in
+    let n = length k.base in
+    let end = c.atoms-atom-end.ensures.atoms in
+    let test = c.loop-atom-test.true in
+    record {
+      listed = c.in_ok-put.ensures.below;
+      same = λ p less.
+          elim (cases_lt p c.loop-atom.atom) [
+            | inl before ↦ c.in_ok-put.ensures.others n p (λ e. omega arith) ∙ c.loop-atom.invariant.same p before
+            | inr last ↦
+                let at : c.loop-atom.atom ≡ p = omega arith in
+                subst (λ q. known (marked n c.put.new.forced.items) q ≡ known (marks_of k) q) at
+                (c.in_ok-put.ensures.here n (omega arith) ∙ c.read.ensures)
+          ];
+    }
+
+pub returns-clause-same : goal.returns-clause-same
+returns-clause-same c =
+    let k = c.args.marks.now in
+    let end = c.atoms-atom-end.ensures.atoms in
+    let few = c.atoms-atom-end.ensures.few in
+    let past = c.loop-atom-test.false in
+    said_everywhere k c.loop-atom.forced.items (length k.base) refl (λ p less. c.loop-atom.invariant.same p (omega arith))

@@ -1,0 +1,9 @@
+use Rattle.std.proofs.Common.{ap, subst}
+use Rattle.hv_clauses.specs.Clausal.{Formula}
+use Rattle.hv_clauses.specs.Occurrences.{IsIndexOf}
+use Rattle.hv_clauses.proofs.formula.Formula.occurs.Goals as goal
+
+pub returns : goal.returns
+returns g c =
+    let s = c.self.inside in
+    subst (λ clauses. IsIndexOf clauses s.closure.occurs) (ap (λ (f : Formula). f.clauses) c.self.view_is) c.self.invariant.2.index

@@ -1,0 +1,10 @@
+use Rattle.std.proofs.Common.{◌∙◌, ℕ, List, map, ap}
+use Rattle.hv_clauses.specs.Rows.{number_of}
+use Rattle.hv_clauses.proofs.Gathered.{negative_rows}
+use Rattle.hv_clauses.proofs.lists.negative_lists.Goals as goal
+
+pub returns : goal.returns
+returns c =
+    negative_rows c.args.clauses.now c.in_ok-codes.codes.items c.sort.new.codes.items c.in_ok-places.places.items c.requires
+    c.in_ok-codes.ensures c.sort.ensures.rises c.sort.ensures.has
+    (c.in_ok-places.ensures ∙ ap (λ (xs : List ℕ). map number_of xs) c.deref.ensures.value)

@@ -1,0 +1,49 @@
+use Rattle.std.proofs.Common.{◌≡◌, ◌<◌, ◌∙◌, ℕ, Bool, List, length, get_or, sym, ap, arith, below_more, subst}
+use Rattle.std.specs.List.{All, Contains}
+use Rattle.std.proofs.lemmas.List.Elements.{All-contains, Contains-get_or}
+use Rattle.std.proofs.lemmas.List.{get_or_default}
+use Rattle.hv_task.specs.Strips.{atoms}
+use Rattle.hv_sets.specs.Cost.{choices_of}
+use Rattle.hv_clauses.specs.declared.occurrences.Occurrence.{Occurrence}
+use Rattle.hv_clauses.specs.Clausal.{sizes_of}
+use Rattle.hv_clauses.specs.Found.{IsBased}
+use Rattle.hv_clauses.specs.Occurrences.{signed}
+use Rattle.hv_clauses.specs.Problem.{Fits}
+use Rattle.hv_clauses.specs.Store.{formula_at}
+use Rattle.hv_clauses.specs.Trail.{Knowledge}
+use Rattle.hv_clauses.proofs.touched.try_value.Goals as goal
+
+pub try_listed-requires-clause-inside : goal.try_listed-requires-clause-inside
+try_listed-requires-clause-inside g c = λ k d less.
+    let p = c.args.problem.now in
+    All-contains (λ (o : Occurrence). o.place < choices_of p.task.now (sizes_of (formula_at p.store.now)) p.query.now.negative)
+    (signed c.args.occurs.now c.turning_sign-sign.result) _ (c.requires.inside c.turning_sign-sign.result)
+    (c.of-listed.ensures.only _ (Contains-get_or c.of-listed.result.now k d less))
+
+pub try_listed-requires-clause-based : goal.try_listed-requires-clause-based
+try_listed-requires-clause-based g c =
+    let p = c.args.problem.now in
+    subst (λ (k : Knowledge). IsBased p.task.now (formula_at p.store.now) p.effect.now p.query.now k) (sym c.loop-atom.invariant.same) c.requires.based
+
+pub loop-atom-preserved : goal.loop-atom-preserved
+loop-atom-preserved g c =
+    let p = c.args.problem.now in
+    record {
+      none = below_more (λ k. (o : Occurrence) → Contains (signed c.args.occurs.now c.turning_sign-sign.result) o → o.atom ≡ get_or c.turned-turned.result.now k 0
+          → (state : List Bool) → length state ≡ atoms p.task.now → Fits p.task.now (formula_at p.store.now) p.effect.now p.query.now o.place state → ⊥)
+          c.loop-atom.atom-index c.loop-atom.invariant.none
+          (λ o has at state size fits. c.if-try_listed.ensures.met o (c.of-listed.ensures.all o has at) tt state size fits);
+      same = c.if-try_listed.ensures.same ∙ c.loop-atom.invariant.same;
+      state = c.if-try_listed.ensures.state ∙ c.loop-atom.invariant.state;
+    }
+
+pub returns-clause-met : goal.returns-clause-met
+returns-clause-met g c = λ o has is_known state size fits.
+    let at = c.turned-turned.ensures o.atom is_known in
+    let within : at.0 < length c.turned-turned.result.now = at.1 in
+    let end = c.loop-atom-test.false in
+    c.loop-atom.invariant.none at.0 (omega arith) o (subst (λ s. Contains (signed c.args.occurs.now s) o) (sym c.turning_sign-sign.ensures) has)
+    (sym (get_or_at c.turned-turned.result.now at.0 o.atom within at.2)) state size fits
+  where
+    get_or_at : (xs : List ℕ) (k p : ℕ) → k < length xs → get_or xs k p ≡ p → get_or xs k 0 ≡ p
+    get_or_at xs k p less e = get_or_default xs k 0 p less ∙ e

@@ -1,0 +1,12 @@
+use Rattle.std.proofs.Common.{length, arith}
+use Rattle.hv_clauses.specs.Trail.{marked}
+use Rattle.hv_clauses.proofs.Trailed.{joined_none, length-marked}
+use Rattle.hv_clauses.proofs.trail.Marks.over.Goals as goal
+
+pub invariant_of-result : goal.invariant_of-result
+invariant_of-result c =
+    let wide = length-marked c.args.atoms c.args.base.now in (
+      c.requires.few,
+      joined_none (marked c.args.atoms c.args.base.now) c.args.places.now c.args.queue.now (omega (arith, c.requires.places)) (omega (arith, c.requires.queue)),
+      c.requires.rises,
+    )

@@ -1,0 +1,15 @@
+use Rattle.std.proofs.Common.{◌∙◌, List, length, take, ap, arith}
+use Rattle.hv_sets.specs.declared.literal.Literal.{Literal}
+use Rattle.hv_clauses.specs.Trail.{Knowledge, marked, marks_of, trail_of}
+use Rattle.hv_clauses.proofs.Trailed.{length-trail, trail_front}
+use Rattle.hv_clauses.proofs.trail.Marks.undo.Goals as goal
+
+pub returns : goal.returns
+returns c =
+    let s = c.self.inside in
+    let joined = c.self.invariant.1 in
+    let size = length-trail s.queue.now s.len joined.within in
+    let is = ap (λ (k : Knowledge). length k.trail) c.self.view_is in
+    let h = c.requires in
+    ap (λ (ls : List Literal). let k : Knowledge = record { base = (marked s.atoms s.base.now); trail = ls } in k) (trail_front s.queue.now s.len c.args.len (omega arith))
+    ∙ ap (λ (k : Knowledge). let m : Knowledge = record { base = k.base; trail = take c.args.len k.trail } in m) c.self.view_is

@@ -1,0 +1,128 @@
+//! What follows from clauses alone, worked out once.
+
+ghost use Rattle.std.specs.Prelude.{◌≡◌, ◌<◌, ◌≤◌, ◌+◌, ◌^◌, ℕ, IfOk, None, true, false, length, [], List, Bool};
+ghost use Rattle.std.specs.List.Sorted.{IsStrictlyIncreasing};
+ghost use Rattle.hv_sets.specs.Cubes.{atoms_of};
+ghost use Rattle.hv_sets.specs.Truth.{in_clauses};
+ghost use Rattle.hv_clauses.specs.Clausal.{AreClauses};
+ghost use Rattle.hv_clauses.specs.Closure.{AreForced, AreNever, IsClosure, ListsBelow};
+ghost use Rattle.hv_clauses.specs.Marks.{Agrees, known};
+ghost use Rattle.hv_clauses.specs.Occurrences.{IsIndexOf};
+ghost use Rattle.hv_clauses.specs.Trail.{marked, marks_of};
+ghost use Rattle.hv_clauses.specs.Units.{AreSettled};
+
+use crate::change::Effect;
+use crate::constraint::Alone;
+use crate::occurrences::Occurrences;
+use crate::trail::Marks;
+use crate::{chase, complete};
+use hv_sets::{Clauses, Literal};
+use std::alloc::{AllocError, Global};
+
+/// Where the literals of clauses stand, and what follows from the clauses alone: that they are true in no state, or literals that are
+/// true in each state in which they are, by rising atoms.
+#[derive(Drop)]
+pub(crate) struct Closure {
+    pub occurs: Occurrences,
+    pub broken: bool,
+    pub forced: Vec<Literal>,
+}
+
+impl Closure {
+    /// What follows from these clauses, which speak of so many atoms. More than 2^32 clauses are taken as want of memory.
+    pub(crate) fn of(alloc: Global, atoms: usize, clauses: &Clauses) -> Result<Closure, AllocError>
+        requires few { atoms ≤ 2 ^ 31 }
+        requires clauses { AreClauses atoms clauses.now }
+        ensures { IfOk result (IsClosure atoms clauses.now) }
+    {
+        if clauses.len() > 1 << 32 {
+            return Err(AllocError);
+        }
+        let occurs = Occurrences::new(alloc, clauses)?;
+        let mut forced = Vec::new(alloc);
+        let broken = !force(alloc, atoms, clauses, &occurs, &mut forced)?;
+        Ok(Closure {
+            occurs,
+            broken,
+            forced,
+        })
+    }
+}
+
+// Lists what follows from the clauses. The answer is false only if they are true in no state.
+fn force(
+    alloc: Global,
+    atoms: usize,
+    clauses: &Clauses,
+    occurs: &Occurrences,
+    forced: &mut Vec<Literal>,
+) -> Result<bool, AllocError>
+    requires few { atoms ≤ 2 ^ 31 }
+    requires clauses { AreClauses atoms clauses.now }
+    requires index { IsIndexOf clauses.now occurs.now }
+    requires none { forced.old.items ≡ [] }
+    ensures forced { IfOk result (λ r. r ≡ true → AreForced atoms clauses.now forced.new.items) }
+    ensures never { IfOk result (λ r. r ≡ false → AreNever atoms clauses.now) }
+{
+    let mut places = Vec::new(alloc);
+    places.resize(atoms, 0)?;
+    let mut queue = Vec::new(alloc);
+    queue.resize(atoms, 0)?;
+    let places = places.as_mut_slice();
+    let queue = queue.as_mut_slice();
+    let mut marks = Marks::over(atoms, &[], places, queue);
+    if !conclude(clauses, occurs, &mut marks) {
+        return Ok(false);
+    }
+    list(&marks, forced)?;
+    Ok(true)
+}
+
+// Marks what follows from the clauses. The answer is false only if they are true in no state.
+fn conclude(clauses: &Clauses, occurs: &Occurrences, marks: &mut Marks<'_>) -> bool
+    requires clauses { AreClauses (length marks.old.base) clauses.now }
+    requires index { IsIndexOf clauses.now occurs.now }
+    requires none { marks.old.trail ≡ [] }
+    requires unknown { (p : ℕ) → known marks.old.base p ≡ None }
+    ensures settled { result ≡ true → AreSettled [] clauses.now (marks_of marks.new) }
+    ensures follows { result ≡ true → (state : List Bool) → length state ≡ length marks.old.base →
+        in_clauses clauses.now state ≡ true → Agrees (marks_of marks.new) state }
+    ensures never { result ≡ false → AreNever (length marks.old.base) clauses.now }
+    ensures size { length marks.new.base ≡ length marks.old.base }
+{
+    let none = Effect::none();
+    if !chase::start(clauses, &none, marks) {
+        return false;
+    }
+    let alone = Alone { clauses, occurs };
+    complete::close(&alone, marks, 0)
+}
+
+// Lists what is known, by rising atoms.
+fn list(marks: &Marks<'_>, forced: &mut Vec<Literal>) -> Result<(), AllocError>
+    requires none { forced.old.items ≡ [] }
+    ensures rises { IfOk result (λ _. IsStrictlyIncreasing (atoms_of forced.new.items)) }
+    ensures same { IfOk result (λ _. (p : ℕ) → known (marked (length marks.now.base)
+        forced.new.items) p ≡ known (marks_of marks.now) p) }
+{
+    for atom in 0..marks.atoms() as u32 {
+        put(atom, marks.read(atom), forced)?;
+    }
+    Ok(())
+}
+
+// Puts the literal of an atom that is above all before last, if something is known of the atom.
+fn put(atom: u32, value: Option<bool>, forced: &mut Vec<Literal>) -> Result<(), AllocError>
+    requires { ListsBelow atom forced.old.items }
+    ensures below { IfOk result (λ _. ListsBelow (atom + 1) forced.new.items) }
+    ensures here { IfOk result (λ _. (n : ℕ) → atom < n → known (marked n forced.new.items) atom ≡
+        value) }
+    ensures others { IfOk result (λ _. (n p : ℕ) → (p ≡ atom → ⊥) → known
+        (marked n forced.new.items) p ≡ known (marked n forced.old.items) p) }
+{
+    let Some(positive) = value else {
+        return Ok(());
+    };
+    forced.push(Literal { atom, positive })?;
+    Ok(())
+}

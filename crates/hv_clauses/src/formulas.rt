@@ -1,0 +1,132 @@
+ghost use Rattle.std.specs.Prelude.{◌≡◌, ◌<◌, ◌+◌, ◌++◌, ◌∷◌, [], ℕ, length, slice_get, Some, IfOk, IfSome, OnErr};
+ghost use Rattle.std.specs.List.{All};
+ghost use Rattle.hv_task.specs.Strips.{atoms};
+ghost use Rattle.hv_sets.specs.Cost.{ClausesPass, IsAnswer, clauses_among};
+ghost use Rattle.hv_sets.specs.Query.{IsReady, is_clash};
+ghost use Rattle.hv_sets.specs.Room.{HasRoom, KeepsLengths};
+ghost use Rattle.hv_clauses.specs.Clausal.{sets_of, sizes_of};
+ghost use Rattle.hv_clauses.specs.Kinded.{IsKinded};
+ghost use Rattle.hv_clauses.specs.Store.{AreOver, formula_at};
+
+use crate::clause_kind::ClauseKind;
+use crate::completion::Completion;
+use crate::find;
+use crate::formula::Formula;
+use hv_sets::{Family, Finding, Query, Scratch};
+use hv_task::Task;
+use std::alloc::{AllocError, Global};
+use std::marker::Model;
+
+/// The formulas of one kind of a proof, numbered from 0 in the order in which they were added.
+#[derive(Drop)]
+pub struct Formulas<K: ClauseKind> {
+    sets: Vec<Formula<K>>,
+}
+
+impl<K: ClauseKind> Model for Formulas<K> {
+    ghost use Rattle.std.specs.Prelude.{List};
+    ghost use Rattle.std.specs.List.{All};
+    ghost use Rattle.hv_clauses.specs.Clausal.{Formula};
+    ghost use Rattle.hv_clauses.specs.Kinded.{IsKinded};
+
+    ghost Value = { List Formula };
+
+    ghost view = { λ s. s.sets.items };
+
+    ghost invariant = { λ s. All (IsKinded K.is_of) s.sets.items };
+}
+
+impl<K: ClauseKind> Formulas<K> {
+    /// A store without sets.
+    pub fn new(alloc: Global) -> Formulas<K>
+        ensures { result ≡ [] }
+    {
+        Formulas {
+            sets: Vec::new(alloc),
+        }
+    }
+
+    /// Adds a set, and gives its number.
+    pub fn add(&mut self, set: Formula<K>) -> Result<usize, AllocError>
+        ensures number { IfOk result (λ number. number ≡ length self.old) }
+        ensures ok { IfOk result (λ _. self.new ≡ self.old ++ set ∷ []) }
+        ensures err { OnErr result (self.new ≡ self.old) }
+    {
+        let number = self.sets.len();
+        // Its clauses are of the kind.
+        let _ = set.clauses();
+        self.sets.push(set)?;
+        Ok(number)
+    }
+
+    /// How many sets there are.
+    pub fn len(&self) -> usize
+        ensures { result ≡ length self.now }
+    {
+        self.sets.len()
+    }
+
+    /// The set of this number.
+    pub fn get(&self, place: usize) -> &Formula<K>
+        requires { place < length self.now }
+        ensures { slice_get self.now place ≡ Some result.now }
+    {
+        &self.sets[place]
+    }
+
+    // The same, with the clauses by number.
+    pub(crate) fn set(&self, number: usize) -> &Formula<K>
+        requires { number < length self.now }
+        ensures clauses { result.now.clauses ≡ formula_at self.now number }
+        ensures atoms { (n : ℕ) → AreOver self.now n → result.now.atoms ≡ n }
+    {
+        &self.sets[number]
+    }
+
+    // How settled marks are completed for its clauses, which are of the kind.
+    pub(crate) fn completion(&self) -> Completion
+        ensures how { result ≡ K.completed_by }
+        ensures kinded { All (IsKinded K.is_of) self.now }
+    {
+        let _ = &self.sets;
+        K::completion()
+    }
+
+    /// The exact answer to a query, as `find` gives it. It takes no memory.
+    pub fn find_in(&self, task: &Task, query: &Query, budget: u64, scratch: &mut Scratch) -> Finding
+        requires ready { IsReady (length self.now) query.now }
+        requires task { AreOver self.now (atoms task.now) }
+        requires action { IfSome query.now.action (λ a. a < length task.now.actions) }
+        requires room { HasRoom (atoms task.now) (length query.now.positive + length query.now.negative) (clauses_among task.now (sizes_of (formula_at self.now)) query.now.positive + clauses_among task.now (sizes_of (formula_at self.now)) query.now.negative) scratch.old }
+        ensures answer { IsAnswer result (ClausesPass task.now (sizes_of (formula_at self.now)) query.now budget) (atoms task.now) (is_clash task.now (sets_of (formula_at self.now)) query.now) scratch.new.state }
+        ensures state { length scratch.new.state ≡ length scratch.old.state }
+        ensures lengths { KeepsLengths scratch.old scratch.new }
+    {
+        find::find_in(self, task, query, budget, scratch)
+    }
+}
+
+impl<K: ClauseKind> Family for Formulas<K> {
+    ghost has = { λ sets. sets_of (formula_at sets) };
+
+    ghost is_over = { AreOver };
+
+    ghost count = { λ sets. length sets };
+
+    ghost wants_anchor = { λ _. ⊥ };
+
+    ghost passes = { λ sets task query budget. ClausesPass task (sizes_of (formula_at sets)) query budget };
+
+    fn find(
+        &self,
+        alloc: Global,
+        task: &Task,
+        query: &Query,
+        budget: u64,
+        scratch: &mut Scratch,
+    ) -> Result<Finding, AllocError> {
+        let _ = alloc;
+        scratch.reserve(task.atoms(), 0, 0)?;
+        Ok(find::find_in(self, task, query, budget, scratch))
+    }
+}

@@ -1,0 +1,8 @@
+/// Which lists a formula keeps, to hand them out.
+#[derive(Clone, Copy, Debug, PartialEq, Eq)]
+pub enum Listing {
+    /// For each atom the numbers of the clauses in which it stands negatively.
+    Negative,
+    /// For each literal the numbers of the literals that it implies at once.
+    Implied,
+}
