@@ -1,0 +1,4 @@
+pub mod Reached
+pub mod Index
+pub mod Waiting
+pub mod Table

@@ -1,0 +1,200 @@
+//! The atoms that are reached from a state.
+
+ghost use Rattle.std.specs.Prelude.{◌≡◌, ◌<◌, ◌≤◌, ◌↔◌, ◌⊎◌, ℕ, Bool, true, false, length, Some, IfOk, OnOk, slice_get, slice_index};
+ghost use Rattle.std.specs.List.{Contains};
+ghost use Rattle.hv_task.specs.declared.action.Action.{Action};
+ghost use Rattle.hv_task.specs.State.{AreBelow, has_atom};
+ghost use Rattle.hv_task.specs.Strips.{IsState, atoms};
+ghost use Rattle.hv_reach.specs.Reached.{AreIn, Keeps, ReachedAtom};
+ghost use Rattle.hv_reach.specs.Index.{IsIndex};
+ghost use Rattle.hv_reach.specs.Waiting.{AreSettled, AreSettledBut, GrowsWithin, IsKept, IsSettled, IsStep};
+
+use crate::index::{index, range};
+use hv_task::{AtomList, State, Task};
+use std::alloc::{AllocError, Global};
+
+/// The atoms that are reached from a state: those of the least set that has the state's atoms and,
+/// with all of an action's precondition, its add set. The work is linear in the task: each action
+/// waits for one atom of its precondition at a time.
+pub fn reached_atoms(alloc: Global, task: &Task, start: &State) -> Result<AtomList, AllocError>
+    requires { IsState task.now start.now }
+    ensures { IfOk result (λ list. (p : ℕ) → Contains list p ↔ ReachedAtom task.now start.now p) }
+{
+    let held = reached_state(alloc, task, start)?;
+    let list = list_of(alloc, &held)?;
+    Ok(list)
+}
+
+// The state of the atoms that are reached.
+fn reached_state(alloc: Global, task: &Task, start: &State) -> Result<State, AllocError>
+    requires { IsState task.now start.now }
+    ensures reached { IfOk result (λ held. (p : ℕ) → has_atom held p ≡ true
+        → ReachedAtom task.now start.now p) }
+    ensures all { IfOk result (λ held. (p : ℕ) → ReachedAtom task.now start.now p
+        → has_atom held p ≡ true) }
+{
+    let mut held = State::empty(alloc, task.atoms())?;
+    held.copy_from(start);
+    let mut queue = Vec::new(alloc);
+    let mut passed = vec![in alloc; 0; task.actions() as usize]?;
+    let rows = index(alloc, task)?;
+    let all = range(alloc, task.actions())?;
+    wake(task, &mut held, &mut queue, &mut passed, all.as_slice())?;
+    close(task, &mut held, &mut queue, &mut passed, &rows)?;
+    Ok(held)
+}
+
+// The atoms of a state, as a list.
+fn list_of(alloc: Global, held: &State) -> Result<AtomList, AllocError>
+    ensures { IfOk result (λ list. (p : ℕ) → Contains list p ↔ (has_atom held.now p ≡ true)) }
+{
+    let mut list = AtomList::new(alloc);
+    for atom in 0..held.atoms() {
+        put(&mut list, held, atom)?;
+    }
+    Ok(list)
+}
+
+// Puts the atom into the list where the state holds it.
+fn put(list: &mut AtomList, held: &State, atom: u32) -> Result<(), AllocError>
+    requires { atom < length held.now }
+    ensures { OnOk result ((p : ℕ) → Contains list.new p
+        ↔ (Contains list.old p ⊎ ((p ≡ atom) × (has_atom held.now p ≡ true)))) }
+{
+    if !held.has(atom) {
+        return Ok(());
+    }
+    list.insert(atom)?;
+    Ok(())
+}
+
+// Goes on until the queue is empty.
+fn close(
+    task: &Task,
+    held: &mut State,
+    queue: &mut Vec<u32>,
+    passed: &mut Vec<usize>,
+    rows: &Vec<Vec<u32>>,
+) -> Result<(), AllocError>
+    requires index { IsIndex (atoms task.now) task.now.actions rows.now.items }
+    requires state { IsState task.now held.old }
+    requires kept { IsKept task.now.actions held.old queue.old.items passed.old.items }
+    requires settled { AreSettled task.now.actions held.old queue.old.items passed.old.items }
+    ensures size { OnOk result (length held.new ≡ length held.old) }
+    ensures grows { OnOk result ((p : ℕ) → has_atom held.old p ≡ true
+        → has_atom held.new p ≡ true) }
+    ensures keeps { OnOk result (Keeps task.now.actions (has_atom held.new)) }
+    ensures least { OnOk result (GrowsWithin (Keeps task.now.actions) held.old held.new) }
+{
+    while let Some(atom) = queue.pop() {
+        let row = &rows[atom as usize];
+        wake(task, held, queue, passed, row.as_slice())?;
+    }
+    Ok(())
+}
+
+// Goes on with each of these actions.
+fn wake(
+    task: &Task,
+    held: &mut State,
+    queue: &mut Vec<u32>,
+    passed: &mut Vec<usize>,
+    numbers: &[u32],
+) -> Result<(), AllocError>
+    requires numbers { AreBelow (length task.now.actions) numbers.now }
+    requires state { IsState task.now held.old }
+    requires kept { IsKept task.now.actions held.old queue.old.items passed.old.items }
+    requires settled { AreSettledBut numbers.now 0
+        task.now.actions held.old queue.old.items passed.old.items }
+    ensures step { OnOk result (IsStep held.old queue.old.items held.new queue.new.items) }
+    ensures kept { OnOk result (IsKept task.now.actions held.new queue.new.items passed.new.items) }
+    ensures settled { OnOk result
+        (AreSettled task.now.actions held.new queue.new.items passed.new.items) }
+    ensures least { OnOk result (GrowsWithin (Keeps task.now.actions) held.old held.new) }
+{
+    for number in numbers {
+        visit(task, held, queue, passed, *number)?;
+    }
+    Ok(())
+}
+
+// Goes on with an action: it then waits for an atom that isn't held, or its add set is held.
+fn visit(
+    task: &Task,
+    held: &mut State,
+    queue: &mut Vec<u32>,
+    passed: &mut Vec<usize>,
+    number: u32,
+) -> Result<(), AllocError>
+    requires number { number < length task.now.actions }
+    requires state { IsState task.now held.old }
+    requires kept { IsKept task.now.actions held.old queue.old.items passed.old.items }
+    ensures step { OnOk result (IsStep held.old queue.old.items held.new queue.new.items) }
+    ensures kept { OnOk result (IsKept task.now.actions held.new queue.new.items passed.new.items) }
+    ensures settles { OnOk result ((a : Action) → slice_get task.now.actions number ≡ Some a
+        → IsSettled held.new queue.new.items a (slice_index passed.new.items number)) }
+    ensures others { OnOk result ((k : ℕ) → (k ≡ number → ⊥)
+        → slice_index passed.new.items k ≡ slice_index passed.old.items k) }
+    ensures least { OnOk result (GrowsWithin (Keeps task.now.actions) held.old held.new) }
+{
+    let action = task.action(number);
+    let from = passed[number as usize];
+    let size = action.pre.len();
+    if from == size && from > 0 {
+        return Ok(());
+    }
+    let place = first_missing(action.pre.as_slice(), held, from);
+    passed[number as usize] = place;
+    if place < size {
+        return Ok(());
+    }
+    reach_all(held, queue, action.add.as_slice())?;
+    Ok(())
+}
+
+// The first place from here on whose atom isn't held, or the length.
+fn first_missing(pre: &[u32], held: &State, from: usize) -> usize
+    requires from { from ≤ length pre.now }
+    requires below { AreBelow (length held.now) pre.now }
+    ensures from { from ≤ result }
+    ensures upto { result ≤ length pre.now }
+    ensures front { (i : ℕ) → from ≤ i → i < result
+        → has_atom held.now (slice_index pre.now i) ≡ true }
+    ensures missing { result < length pre.now
+        → has_atom held.now (slice_index pre.now result) ≡ false }
+{
+    for place in from..pre.len() {
+        if !held.has(pre[place]) {
+            return place;
+        }
+    }
+    pre.len()
+}
+
+// Puts these atoms in, and each that is new into the queue.
+fn reach_all(held: &mut State, queue: &mut Vec<u32>, atoms: &[u32]) -> Result<(), AllocError>
+    requires { AreBelow (length held.old) atoms.now }
+    ensures step { OnOk result (IsStep held.old queue.old.items held.new queue.new.items) }
+    ensures has { OnOk result (AreIn (has_atom held.new) atoms.now) }
+    ensures least { OnOk result (GrowsWithin (λ set. AreIn set atoms.now) held.old held.new) }
+{
+    for atom in atoms {
+        reach(held, queue, *atom)?;
+    }
+    Ok(())
+}
+
+// Puts the atom in, and into the queue if it is new.
+fn reach(held: &mut State, queue: &mut Vec<u32>, atom: u32) -> Result<(), AllocError>
+    requires { atom < length held.old }
+    ensures step { OnOk result (IsStep held.old queue.old.items held.new queue.new.items) }
+    ensures has { OnOk result (has_atom held.new atom ≡ true) }
+    ensures least { OnOk result (GrowsWithin (λ set. set atom ≡ true) held.old held.new) }
+{
+    if held.has(atom) {
+        return Ok(());
+    }
+    held.set(atom, true);
+    queue.push(atom)?;
+    Ok(())
+}

@@ -1,0 +1,79 @@
+//! The pairs of atoms that are reached from a state.
+
+ghost use Rattle.std.specs.Prelude.{◌≡◌, ◌<◌, ◌≤◌, ◌↔◌, ℕ, true, length, IfOk};
+ghost use Rattle.hv_task.specs.Strips.{IsState, atoms};
+ghost use Rattle.hv_reach.specs.Reached.{ReachedPair, has_pair};
+ghost use Rattle.hv_reach.specs.Table.{IsTable};
+
+use crate::index::{index, range};
+use crate::search::{close, wake};
+use crate::table::{mark_all, table};
+use hv_task::{State, Task};
+use std::alloc::{AllocError, Global};
+use std::marker::Model;
+
+/// A set of pairs of atoms, the two of a pair possibly equal. The order of the two doesn't matter.
+#[derive(Drop)]
+pub struct Pairs {
+    rows: Vec<State>,
+}
+
+impl Model for Pairs {
+    ghost use Rattle.std.specs.Prelude.{Bool, List, length};
+    ghost use Rattle.hv_reach.specs.Table.{IsTable};
+
+    ghost Value = { List (List Bool) };
+
+    ghost view = { λ pairs. pairs.rows.items };
+
+    ghost invariant = { λ pairs. IsTable (length pairs.rows.items) pairs.rows.items };
+}
+
+impl Pairs {
+    /// Whether the pair is in the set.
+    pub fn has(&self, first: u32, second: u32) -> bool
+        requires first { first < length self.now }
+        requires second { second < length self.now }
+        ensures has { result ≡ has_pair self.now first second }
+        ensures even { result ≡ has_pair self.now second first }
+    {
+        self.rows[first as usize].has(second)
+    }
+}
+
+/// The pairs that are reached from a state: those of the least set that has the pairs of the
+/// state's atoms and what actions give. An action is visited again only where the row of an atom of
+/// its precondition grew.
+pub fn reached_pairs(alloc: Global, task: &Task, start: &State) -> Result<Pairs, AllocError>
+    requires few { atoms task.now ≤ 1024 }
+    requires state { IsState task.now start.now }
+    ensures atoms { IfOk result (λ pairs. length pairs ≡ atoms task.now) }
+    ensures reached { IfOk result (λ pairs. (p q : ℕ)
+        → (has_pair pairs p q ≡ true) ↔ ReachedPair task.now start.now p q) }
+{
+    let rows = reached_rows(alloc, task, start)?;
+    Ok(Pairs { rows })
+}
+
+// The table of the pairs that are reached.
+fn reached_rows(alloc: Global, task: &Task, start: &State) -> Result<Vec<State>, AllocError>
+    requires { IsState task.now start.now }
+    ensures table { IfOk result (λ rows. IsTable (atoms task.now) rows.items) }
+    ensures reached { IfOk result (λ rows. (p q : ℕ) → has_pair rows.items p q ≡ true
+        → ReachedPair task.now start.now p q) }
+    ensures all { IfOk result (λ rows. (p q : ℕ) → ReachedPair task.now start.now p q
+        → has_pair rows.items p q ≡ true) }
+{
+    let mut rows = table(alloc, task.atoms())?;
+    let mut flags = State::empty(alloc, task.atoms() + 1)?;
+    let mut mask = State::empty(alloc, task.atoms())?;
+    let mut seen = State::empty(alloc, task.atoms())?;
+    let index = index(alloc, task)?;
+    let all = range(alloc, task.actions())?;
+    let mut held = Vec::new(alloc);
+    start.list_atoms(&mut held)?;
+    mark_all(task.atoms(), &mut rows, &mut flags, held.as_slice());
+    wake(task, &mut rows, &mut flags, &mut mask, all.as_slice());
+    close(task, &index, &mut rows, &mut flags, &mut mask, &mut seen);
+    Ok(rows)
+}
