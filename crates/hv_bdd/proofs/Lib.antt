@@ -1,0 +1,15 @@
+pub mod Ordered
+pub mod Walking
+pub mod Canonical
+pub mod Moved
+pub mod Chained
+pub mod Marked
+pub mod Graphs
+pub mod Asking
+pub mod Steps
+pub mod Tupled
+pub mod Explored
+pub mod Found
+pub mod Queried
+pub mod Within
+pub mod Built

@@ -1,0 +1,99 @@
+-- Marks: what they are after some were written, and a state with the marked bits.
+use Rattle.std.proofs.Common.{◌≡◌, ℕ, zero, suc, ◌<◌, ◌∙◌, ◌||◌, ◌&&◌, Bool, true, false, not, List, [], ◌∷◌, Option, None, Some, cond, eqb, length, set, refl, sym, ap, arith, inl, inr}
+use Rattle.std.proofs.lemmas.Bool.{cases_eq, cond-false, cond-true, eq-eqb, ne_eqb}
+use Rattle.std.proofs.lemmas.Grind.{get_or-set_at}
+use Rattle.std.proofs.lemmas.List.{get_or-replicate, get_or-set_other, length-replicate, length-set}
+use Rattle.hv_task.specs.declared.action.Action.{Action}
+use Rattle.hv_task.specs.State.{has_atom, names_atom, successor}
+use Rattle.hv_task.proofs.Places.{has_atom-successor, length-successor, same_state}
+use Rattle.hv_bdd.specs.Graphs.{over}
+use Rattle.hv_bdd.specs.Live.{changed_by, mark_all, mark_of, needed_by, no_marks, or_else}
+
+pub length-over : (marks : List (Option Bool)) (s : List Bool) → length (over marks s) ≡ length s
+length-over marks [] = refl
+length-over [] (b ∷ s) = refl
+length-over (m ∷ marks) (b ∷ s) = ap suc (length-over marks s)
+
+pub has_atom-over : (marks : List (Option Bool)) (s : List Bool) (a : ℕ) → a < length s
+    → has_atom (over marks s) a ≡ or_else (mark_of marks a) (has_atom s a)
+has_atom-over marks [] a less = absurd (omega arith)
+has_atom-over [] (b ∷ s) a less = refl
+has_atom-over (m ∷ marks) (b ∷ s) zero less = refl
+has_atom-over (m ∷ marks) (b ∷ s) (suc a) less = has_atom-over marks s a (omega arith)
+
+pub length-mark_all : (b : Bool) (atoms : List ℕ) (marks : List (Option Bool)) → length (mark_all b atoms marks) ≡ length marks
+length-mark_all b [] marks = refl
+length-mark_all b (p ∷ atoms) marks = length-mark_all b atoms (set marks p (Some b)) ∙ length-set marks p (Some b)
+
+twice : (a b : Bool) (x y : Option Bool) → cond b x (cond a x y) ≡ cond (a || b) x y
+twice true true x y = refl
+twice true false x y = refl
+twice false b x y = refl
+
+mark_of-set : (marks : List (Option Bool)) (q p : ℕ) (m : Option Bool) → p < length marks
+    → mark_of (set marks q m) p ≡ cond (eqb q p) m (mark_of marks p)
+mark_of-set marks q p m less =
+    elim (cases_eq q p) [
+      | inl e ↦ get_or-set_at marks q p m None (sym e) (omega arith) ∙ sym (cond-true (eqb q p) m (mark_of marks p) (eq-eqb q p e))
+      | inr e ↦
+          get_or-set_other marks q p m None (λ f. e (sym f)) ∙ sym (cond-false (eqb q p) m (mark_of marks p) (ne_eqb q p e))
+    ]
+
+pub mark_of-mark_all : (b : Bool) (atoms : List ℕ) (marks : List (Option Bool)) (p : ℕ) → p < length marks
+    → mark_of (mark_all b atoms marks) p ≡ cond (names_atom atoms p) (Some b) (mark_of marks p)
+mark_of-mark_all b [] marks p less = refl
+mark_of-mark_all b (q ∷ atoms) marks p less =
+    mark_of-mark_all b atoms (set marks q (Some b)) p (let size = length-set marks q (Some b) in omega arith)
+    ∙ (ap (λ x. cond (names_atom atoms p) (Some b) x) (mark_of-set marks q p (Some b) less)
+    ∙ twice (eqb q p) (names_atom atoms p) (Some b) (mark_of marks p))
+
+pub length-no_marks : (n : ℕ) → length (no_marks n) ≡ n
+length-no_marks n = length-replicate n None
+
+pub mark_of-no_marks : (n p : ℕ) → p < n → mark_of (no_marks n) p ≡ None
+mark_of-no_marks n p less = get_or-replicate n p None None less
+
+pub length-needed_by : (n : ℕ) (action : Option Action) → length (needed_by n action) ≡ n
+length-needed_by n None = length-no_marks n
+length-needed_by n (Some action) = length-mark_all true action.pre (no_marks n) ∙ length-no_marks n
+
+pub length-changed_by : (n : ℕ) (action : Option Action) → length (changed_by n action) ≡ n
+length-changed_by n None = length-no_marks n
+length-changed_by n (Some action) =
+    length-mark_all true action.add (mark_all false action.del (no_marks n)) ∙ (length-mark_all false action.del (no_marks n) ∙ length-no_marks n)
+
+pub mark_of-needed : (n p : ℕ) (action : Action) → p < n → mark_of (needed_by n (Some action)) p ≡ cond (names_atom action.pre p) (Some true) None
+mark_of-needed n p action less =
+    let size = length-no_marks n in
+    mark_of-mark_all true action.pre (no_marks n) p (omega arith)
+    ∙ ap (λ x. cond (names_atom action.pre p) (Some true) x) (mark_of-no_marks n p less)
+
+effect : (a d h : Bool) → or_else (cond a (Some true) (cond d (Some false) None)) h ≡ (a || (not d && h))
+effect true d h = refl
+effect false true h = refl
+effect false false h = refl
+
+-- a state with the marks of an action is its successor
+pub over_action : (n : ℕ) (action : Action) (s : List Bool) → length s ≡ n → over (changed_by n (Some action)) s ≡ successor action s
+over_action n action s size =
+    same_state (over (changed_by n (Some action)) s) (successor action s)
+    (length-over (changed_by n (Some action)) s ∙ sym (length-successor action s))
+    (λ p less.
+    let len = length-over (changed_by n (Some action)) s in
+    let none = length-no_marks n in
+    let dels = length-mark_all false action.del (no_marks n) in
+    has_atom-over (changed_by n (Some action)) s p (omega arith)
+    ∙ (ap (λ m. or_else m (has_atom s p))
+    (mark_of-mark_all true action.add (mark_all false action.del (no_marks n)) p (omega arith)
+    ∙ ap (λ m. cond (names_atom action.add p) (Some true) m)
+    (mark_of-mark_all false action.del (no_marks n) p (omega arith)
+    ∙ ap (λ m. cond (names_atom action.del p) (Some false) m) (mark_of-no_marks n p (omega arith))))
+    ∙ (effect (names_atom action.add p) (names_atom action.del p) (has_atom s p)
+    ∙ sym (has_atom-successor action s p (omega arith)))))
+
+pub over_none : (n : ℕ) (s : List Bool) → length s ≡ n → over (no_marks n) s ≡ s
+over_none n s size =
+    same_state (over (no_marks n) s) s (length-over (no_marks n) s)
+    (λ p less.
+    let len = length-over (no_marks n) s in
+    has_atom-over (no_marks n) s p (omega arith) ∙ ap (λ m. or_else m (has_atom s p)) (mark_of-no_marks n p (omega arith)))

@@ -1,0 +1,9 @@
+pub mod Nodes
+pub mod Order
+pub mod Reduced
+pub mod Tuples
+pub mod Live
+pub mod Graphs
+pub mod Sets
+pub mod Search
+pub mod Building

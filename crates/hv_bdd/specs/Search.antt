@@ -1,0 +1,126 @@
+-- The search through live tuples.
+use Rattle.std.specs.Prelude.{◌≡◌, ◌<◌, ◌≤◌, ◌+◌, ◌-◌, ◌++◌, ◌⊎◌, ℕ, Bool, false, List, [], ◌∷◌, Option, None, Some, length, map, slice_index_or, ⊤}
+use Rattle.std.specs.List.{All, Contains}
+use Rattle.indexmap.specs.IndexSet.{IndexSet}
+use Rattle.smallvec.specs.SmallVec.{SmallVec}
+use Rattle.hv_task.specs.State.{state_of}
+use Rattle.hv_task.specs.Strips.{Strips, atoms, start_state}
+use Rattle.hv_sets.specs.Query.{action_of}
+use Rattle.hv_sets.specs.declared.literal.Literal.{Literal}
+use Rattle.hv_sets.specs.declared.operand.Which.{Which}
+use Rattle.hv_sets.specs.declared.operand.Which.TheVariants as W
+use Rattle.hv_sets.specs.declared.query.Query.{Query}
+use Rattle.hv_bdd.specs.declared.asked.Asked.{Asked}
+use Rattle.hv_bdd.specs.declared.reach.Reached.{Reached}
+use Rattle.hv_bdd.specs.declared.search.Link.{Link}
+use Rattle.hv_bdd.specs.declared.search.Search.{Search}
+use Rattle.hv_bdd.specs.Nodes.{NodeList, node_count}
+use Rattle.hv_bdd.specs.Reduced.{IsReduced}
+use Rattle.hv_bdd.specs.Live.{Setting, asks_goal, changed_by, first_asked, moves, needed_by, no_marks, operands_of, roots}
+use Rattle.hv_bdd.specs.Graphs.{limit}
+use Rattle.hv_bdd.specs.Sets.{mark_literals}
+use Rattle.hv_bdd.specs.Tuples.{IsReached, Moves, if_live, least, next}
+
+-- what the tuples of the search move through
+abbrev pub setting : Search → Setting
+setting s = record {
+  list = s.nodes.now;
+  start = s.start.now;
+  goal = s.goal.now;
+  needed = s.needed.now;
+  changed = s.changed.now;
+}
+
+-- a setting in which all is left out but the goal
+abbrev pub goal_setting : NodeList → List Bool → Setting
+goal_setting list goal = record { list = list; start = []; goal = goal; needed = []; changed = [] }
+
+-- the table has the first goal node from each place on
+pub record IsGoalTable (S : Setting) (table : List ℕ) : Type 0 where
+  pub size : length table ≡ S.list.atoms + 1
+  pub each : (v : ℕ) → v ≤ S.list.atoms → slice_index_or table v 0 ≡ first_asked (asks_goal S) (S.list.atoms - v) v
+
+-- what is at hand suffices for this operand
+abbrev pub IsAskable : Search → Which → Type 0
+IsAskable s W.Empty = ⊤
+IsAskable s W.Start = (length s.start.now ≡ s.nodes.now.atoms) × (s.nodes.now.atoms ≤ 65535)
+IsAskable s W.Goal = IsGoalTable (setting s) s.first_goal.now
+IsAskable s (W.Set number) = number < node_count s.nodes.now
+
+-- the search can be made
+pub record IsSearch (s : Search) : Type 0 where
+  pub reduced : IsReduced s.nodes.now
+  pub needed : length s.needed.now ≡ s.nodes.now.atoms
+  pub changed : length s.changed.now ≡ s.nodes.now.atoms
+  pub asked : All (λ o. IsAskable s o.which) s.asked.now
+
+-- the tuple has a node of each operand
+pub record IsTuple (s : Search) (nodes : List ℕ) : Type 0 where
+  pub size : length nodes ≡ length s.asked.now
+  pub each : (k : ℕ) (o : Asked) → k < length nodes → slice_index_or nodes k 0 < limit (setting s) (slice_index_or s.asked.now k o).which
+
+-- the tuples of a set, in order
+abbrev pub tuples_of : {H : Type 0} → IndexSet (SmallVec ℕ) H → List (List ℕ)
+tuples_of set = map (λ v. v.items) set.keys
+
+-- the tuple is among them, and was put last with its link where it wasn't
+abbrev pub IsPut : List (List ℕ) → List Link → List ℕ → Link → List (List ℕ) → List Link → Type 0
+IsPut tuples links tuple link tuples' links' =
+    (Contains tuples tuple × (tuples' ≡ tuples) × (links' ≡ links))
+    ⊎ ((Contains tuples tuple → ⊥) × (tuples' ≡ tuples ++ tuple ∷ []) × (links' ≡ links ++ link ∷ []))
+
+abbrev pub IsPutSome : List (List ℕ) → List Link → Option (List ℕ) → Link → List (List ℕ) → List Link → Type 0
+IsPutSome tuples links None link tuples' links' = (tuples' ≡ tuples) × (links' ≡ links)
+IsPutSome tuples links (Some tuple) link tuples' links' = IsPut tuples links tuple link tuples' links'
+
+-- the tuple at a place, and the link to it
+abbrev pub tuple_at : List (List ℕ) → ℕ → List ℕ
+tuple_at tuples k = slice_index_or tuples k []
+
+abbrev pub link_at : List Link → ℕ → Link
+link_at links k = slice_index_or links k record { parent = 0; bit = false }
+
+-- what was found after the moves of so many tuples
+pub record IsExplored {O : Type 0} (m : Moves O) (os : List O) (root : List ℕ) (done : ℕ) (tuples : List (List ℕ)) (links : List Link) : Type 0 where
+  pub size : length links ≡ length tuples
+  pub upto : done ≤ length tuples
+  -- each tuple is reached, and none stands twice
+  pub reached : All (IsReached m os root) tuples
+  pub apart : (i j : ℕ) → i < j → j < length tuples → tuple_at tuples i ≡ tuple_at tuples j → ⊥
+  -- the tuple of roots is among them if it is live, and stands first
+  pub roots : (u : List ℕ) → if_live m os root ≡ Some u → Contains tuples u
+  pub first : 0 < length tuples → if_live m os root ≡ Some (tuple_at tuples 0)
+  -- the moves of the first so many lead to tuples among them
+  pub closed : (k : ℕ) (bit : Bool) (u : List ℕ) → k < done → next m os (tuple_at tuples k) bit ≡ Some u → Contains tuples u
+  -- each other tuple is led to from an earlier one by its bit
+  pub parent : (k : ℕ) → 0 < k → k < length tuples → (link_at links k).parent < k
+  pub linked : (k : ℕ) → 0 < k → k < length tuples
+      → next m os (tuple_at tuples (link_at links k).parent) (link_at links k).bit ≡ Some (tuple_at tuples k)
+
+-- the same of a search
+abbrev pub Explored : Search → ℕ → Reached → Type 0
+Explored s done reached =
+    IsExplored (moves (setting s)) s.asked.now (roots (setting s) s.asked.now) done (tuples_of reached.tuples) reached.links.items
+
+-- all tuples that are reached were found, or more of them than the budget
+abbrev pub IsDone : Search → ℕ → Reached → Type 0
+IsDone s budget reached =
+    (done : ℕ) × Explored s done reached × ((budget < length reached.tuples.keys) ⊎ (length reached.tuples.keys ≤ done))
+
+-- a tuple of ends
+abbrev pub IsEnd : Search → List ℕ → Type 0
+IsEnd s nodes = least (moves (setting s)) s.asked.now nodes ≡ s.nodes.now.atoms
+
+-- what a query gives to the search
+pub record IsFor (list : NodeList) (task : Strips) (query : Query) (s : Search) : Type 0 where
+  pub nodes : s.nodes.now ≡ list
+  pub start : s.start.now ≡ start_state task
+  pub goal : s.goal.now ≡ state_of (atoms task) task.goal
+  pub needed : s.needed.now ≡ needed_by (atoms task) (action_of task query.action)
+  pub changed : s.changed.now ≡ changed_by (atoms task) (action_of task query.action)
+  pub asked : s.asked.now ≡ operands_of query
+
+-- the search is for a state of the cube that is in the node or outside it
+pub record IsWithin (node : ℕ) (inside : Bool) (cube : List Literal) (s : Search) : Type 0 where
+  pub needed : s.needed.now ≡ mark_literals cube (no_marks s.nodes.now.atoms)
+  pub asked : s.asked.now ≡ record { which = W.Set node; after = false; positive = inside } ∷ []

@@ -1,0 +1,185 @@
+ghost use Rattle.std.specs.Prelude.{◌≡◌, ◌<◌, ◌≤◌, ◌↔◌, ◌&&◌, None, IsTrue, OnErr, OnOk, length, nat_lt};
+ghost use Rattle.hv_bdd.specs.Building.{fault_of, is_later, plain_fault, with_node};
+ghost use Rattle.hv_bdd.specs.Nodes.{IsNode, in_node, no_nodes, node_count};
+ghost use Rattle.hv_bdd.specs.Order.{atom_at, place};
+ghost use Rattle.hv_bdd.specs.Reduced.{AreOneSet, IsReduced, child, node_at, top};
+
+use crate::node::{Node, NodeFault};
+use crate::set::DiagramSet;
+use hv_task::State;
+use std::alloc::{AllocError, Global};
+use std::marker::Model;
+
+/// The decision diagrams of a node file. Node 0 is false, node 1 is true, and the listed nodes have the numbers from 2 on. The list
+/// is reduced and ordered, so different nodes stand for different sets.
+#[derive(Drop)]
+pub struct Diagrams {
+    atoms: u32,
+    nodes: Vec<Node>,
+}
+
+impl Model for Diagrams {
+    ghost use Rattle.hv_bdd.specs.Nodes.{NodeList};
+    ghost use Rattle.hv_bdd.specs.Reduced.{IsReduced};
+
+    ghost Value = { NodeList };
+
+    ghost view = { λ d. record { atoms = d.atoms; nodes = d.nodes.items } };
+
+    ghost invariant = { λ d. IsReduced record { atoms = d.atoms; nodes = d.nodes.items } };
+}
+
+impl Diagrams {
+    /// The nodes 0 and 1 alone, over this many atoms.
+    pub fn none(alloc: Global, atoms: u32) -> Diagrams
+        ensures { result ≡ no_nodes atoms }
+    {
+        Diagrams {
+            atoms,
+            nodes: Vec::new(alloc),
+        }
+    }
+
+    /// How many nodes there are, 0 and 1 among them.
+    pub fn count(&self) -> usize
+        ensures { result ≡ node_count self.now }
+    {
+        self.nodes.len() + 2
+    }
+
+    /// Whether the state is in the node.
+    pub fn holds(&self, node: u32, state: &State) -> bool
+        requires node { IsNode self.now node }
+        requires state { length state.now ≡ self.now.atoms }
+        ensures { result ≡ in_node self.now node state.now }
+    {
+        let _atoms = self.atoms();
+        let mut at = node;
+        while at >= 2 {
+            at = self.child(at, state.has(self.node(at).atom));
+        }
+        at == 1
+    }
+
+    /// Whether the two nodes stand for one set.
+    pub fn same(&self, left: u32, right: u32) -> bool
+        requires left { IsNode self.now left }
+        requires right { IsNode self.now right }
+        ensures { IsTrue result ↔ AreOneSet self.now left right }
+    {
+        let _atoms = self.atoms();
+        left == right
+    }
+
+    /// The set for which the node stands.
+    pub fn set(&self, node: u32) -> DiagramSet<'_>
+        requires { IsNode self.now node }
+        ensures nodes { result.nodes.now ≡ self.now }
+        ensures node { result.node ≡ node }
+    {
+        let _atoms = self.atoms();
+        DiagramSet { nodes: self, node }
+    }
+
+    /// How many atoms the task has.
+    pub(crate) fn atoms(&self) -> u32
+        ensures atoms { result ≡ self.now.atoms }
+        ensures reduced { IsReduced self.now }
+    {
+        self.atoms
+    }
+
+    // The listed node of this number.
+    pub(crate) fn node(&self, node: u32) -> Node
+        requires inner { 2 ≤ node }
+        requires node { IsNode self.now node }
+        ensures { result ≡ node_at self.now node }
+    {
+        self.nodes[node as usize - 2]
+    }
+
+    // The node to which a bit leads.
+    pub(crate) fn child(&self, node: u32, bit: bool) -> u32
+        requires inner { 2 ≤ node }
+        requires node { IsNode self.now node }
+        ensures child { result ≡ child self.now node bit }
+        ensures less { result < node }
+    {
+        let listed = self.node(node);
+        let _atoms = self.atoms();
+        if bit { listed.high } else { listed.low }
+    }
+
+    // The place of the atom for which a node asks, or that past all atoms for an end.
+    pub(crate) fn top(&self, node: u32) -> u32
+        requires { IsNode self.now node }
+        ensures { result ≡ top self.now node }
+    {
+        if node < 2 {
+            self.atoms()
+        } else {
+            self.place(self.node(node).atom)
+        }
+    }
+
+    // The place of an atom in the order.
+    pub(crate) fn place(&self, atom: u32) -> u32
+        ensures { result ≡ place self.now atom }
+    {
+        atom
+    }
+
+    // The atom at a place.
+    pub(crate) fn atom_at(&self, place: u32) -> u32
+        ensures { result ≡ atom_at self.now place }
+    {
+        place
+    }
+
+    // What is wrong with a further node, but for a twin.
+    pub(crate) fn plain_fault(&self, node: &Node) -> Option<NodeFault>
+        ensures { result ≡ plain_fault self.now node.now }
+    {
+        if node.atom >= self.atoms() {
+            return Some(NodeFault::Atom);
+        }
+        if !self.are_listed(node) {
+            return Some(NodeFault::Child);
+        }
+        if !self.are_later(node) {
+            return Some(NodeFault::Order);
+        }
+        if node.low == node.high {
+            return Some(NodeFault::SameChildren);
+        }
+        None
+    }
+
+    // Whether its children are listed.
+    fn are_listed(&self, node: &Node) -> bool
+        ensures { result ≡ (nat_lt node.now.low (node_count self.now) && nat_lt node.now.high (node_count self.now)) }
+    {
+        (node.low as usize) < self.count() && (node.high as usize) < self.count()
+    }
+
+    // Whether its children ask for later atoms.
+    fn are_later(&self, node: &Node) -> bool
+        requires low { IsNode self.now node.now.low }
+        requires high { IsNode self.now node.now.high }
+        ensures { result ≡ (is_later self.now node.now.atom node.now.low && is_later self.now node.now.atom node.now.high) }
+    {
+        let place = self.place(node.atom);
+        place < self.top(node.low) && place < self.top(node.high)
+    }
+
+    // Adds a node without faults.
+    pub(crate) fn push(&mut self, node: Node) -> Result<(), AllocError>
+        requires good { fault_of self.old node ≡ None }
+        requires few { length self.old.nodes < 16777216 }
+        ensures ok { OnOk result (self.new ≡ with_node self.old node) }
+        ensures err { OnErr result (self.new ≡ self.old) }
+    {
+        self.nodes.push(node)?;
+        Ok(())
+    }
+}

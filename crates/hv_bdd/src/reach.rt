@@ -1,0 +1,155 @@
+//! The search through live tuples: all that are reached, up to the budget, and the state of one that ends.
+
+ghost use Rattle.std.specs.Prelude.{◌≡◌, ◌<◌, ◌+◌, ℕ, List, length, map, option_map, slice_index_or, [], IfOk, MatchOption, OnOk};
+ghost use Rattle.std.specs.List.{All};
+ghost use Rattle.hv_bdd.specs.Graphs.{Agrees, Fits, IsLiveAnswer, Suits, in_asked};
+ghost use Rattle.hv_bdd.specs.Live.{moves, roots};
+ghost use Rattle.hv_bdd.specs.Tuples.{if_live};
+
+use crate::search::{Link, Search, Tuple};
+use hv_sets::Finding;
+use hv_task::State;
+use indexmap::IndexSet;
+use std::alloc::{AllocError, Global};
+
+/// The tuples that are reached, each with the link that led to it.
+#[derive(Drop)]
+pub(crate) struct Reached {
+    pub tuples: IndexSet<Tuple>,
+    pub links: Vec<Link>,
+}
+
+impl Reached {
+    ghost use Rattle.hv_bdd.specs.Search.{IsPutSome, tuples_of};
+
+    // Puts the tuple last, if there is one and it isn't there.
+    fn put(&mut self, tuple: Option<Tuple>, parent: usize, bit: bool) -> Result<(), AllocError>
+        ensures { OnOk result (IsPutSome (tuples_of self.old.tuples) self.old.links.items (option_map (λ t. t.items) tuple) record { parent = parent; bit = bit } (tuples_of self.new.tuples) self.new.links.items) }
+    {
+        if let Some(tuple) = tuple {
+            if self.tuples.insert(tuple)? {
+                self.links.push(Link { parent, bit })?;
+            }
+        }
+        Ok(())
+    }
+}
+
+impl Search<'_> {
+    ghost use Rattle.hv_bdd.specs.Search.{Explored, IsDone, IsEnd, IsSearch, IsTuple, setting, tuple_at, tuples_of};
+
+    /// Looks for a state that suits the operands.
+    pub(crate) fn find(
+        &self,
+        alloc: Global,
+        budget: u64,
+        state: &mut State,
+    ) -> Result<Finding, AllocError>
+        requires search { IsSearch self.now }
+        requires state { length state.old ≡ self.now.nodes.now.atoms }
+        ensures { IfOk result (λ found. IsLiveAnswer found (setting self.now) self.now.asked.now budget state.new) }
+    {
+        let reached = self.reach(alloc, budget)?;
+        if reached.tuples.len() as u64 > budget {
+            return Ok(Finding::Over);
+        }
+        match self.first_end(reached.tuples.as_slice()) {
+            None => Ok(Finding::Empty),
+            Some(end) => {
+                self.fill(state);
+                self.take_bits(&reached, end, state);
+                Ok(Finding::Clash)
+            }
+        }
+    }
+
+    // All live tuples that are reached, or more of them than the budget.
+    fn reach(&self, alloc: Global, budget: u64) -> Result<Reached, AllocError>
+        requires { IsSearch self.now }
+        ensures { IfOk result (λ reached. IsDone self.now budget reached) }
+    {
+        let mut reached = Reached {
+            tuples: IndexSet::new(alloc),
+            links: Vec::new(alloc),
+        };
+        let root = self.live_root(alloc)?;
+        reached.put(root, 0, false)?;
+        let mut done = 0;
+        while done < reached.tuples.len() && reached.tuples.len() as u64 <= budget {
+            self.expand(alloc, done, &mut reached)?;
+            done += 1;
+        }
+        Ok(reached)
+    }
+
+    // The tuple of the roots, if it is live.
+    fn live_root(&self, alloc: Global) -> Result<Option<Tuple>, AllocError>
+        requires { IsSearch self.now }
+        ensures { IfOk result (λ root. option_map (λ t. t.items) root ≡ if_live (moves (setting self.now)) self.now.asked.now (roots (setting self.now) self.now.asked.now)) }
+    {
+        let root = self.roots(alloc)?;
+        if !self.is_live(root.as_slice()) {
+            return Ok(None);
+        }
+        Ok(Some(root))
+    }
+
+    // Puts in what the bits lead to from one more tuple.
+    fn expand(&self, alloc: Global, done: usize, reached: &mut Reached) -> Result<(), AllocError>
+        requires search { IsSearch self.now }
+        requires explored { Explored self.now done reached.old }
+        requires done { done < length reached.old.tuples.keys }
+        ensures { OnOk result (Explored self.now (done + 1) reached.new) }
+    {
+        let tuple = reached.tuples.as_slice()[done].as_slice();
+        let place = self.least(tuple);
+        let low = self.next(alloc, tuple, place, false)?;
+        let high = self.next(alloc, tuple, place, true)?;
+        reached.put(low, done, false)?;
+        reached.put(high, done, true)?;
+        Ok(())
+    }
+
+    // The first tuple of ends.
+    fn first_end(&self, tuples: &[Tuple]) -> Option<usize>
+        requires search { IsSearch self.now }
+        requires tuples { All (λ t. IsTuple self.now t.items) tuples.now }
+        ensures { MatchOption result (All (λ t. IsEnd self.now t.items → ⊥) tuples.now) (λ k. (k < length tuples.now) × IsEnd self.now (tuple_at (map (λ t. t.items) tuples.now) k)) }
+    {
+        for (k, tuple) in tuples.iter().enumerate() {
+            if self.least(tuple.as_slice()) == self.nodes.atoms() {
+                return Some(k);
+            }
+        }
+        None
+    }
+
+    // Makes the state the one that has the needed atoms and no other.
+    fn fill(&self, state: &mut State)
+        requires search { IsSearch self.now }
+        requires state { length state.old ≡ self.now.nodes.now.atoms }
+        ensures { Fits (moves (setting self.now)) state.new }
+    {
+        for atom in 0..self.nodes.atoms() {
+            state.set(atom, self.needed[atom as usize] == Some(true));
+        }
+    }
+
+    // Writes the bits into the state that lead to a tuple.
+    fn take_bits(&self, reached: &Reached, end: usize, state: &mut State)
+        requires search { IsSearch self.now }
+        requires explored { (done : ℕ) × Explored self.now done reached.now }
+        requires end { end < length reached.now.tuples.keys }
+        requires fits { Fits (moves (setting self.now)) state.old }
+        requires agrees { Agrees (in_asked (setting self.now)) (λ o. o.positive) state.old self.now.asked.now (tuple_at (tuples_of reached.now.tuples) end) }
+        ensures { Suits (setting self.now) self.now.asked.now state.new }
+    {
+        let mut at = end;
+        while at > 0 {
+            let link = reached.links[at];
+            let place = self.least(reached.tuples.as_slice()[link.parent].as_slice());
+            state.set(self.nodes.atom_at(place), link.bit);
+            at = link.parent;
+        }
+    }
+}

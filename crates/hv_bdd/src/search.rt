@@ -1,0 +1,277 @@
+//! The search through live tuples: how a tuple moves.
+
+ghost use Rattle.std.specs.Prelude.{◌≡◌, ◌<◌, ◌≤◌, ◌-◌, true, cond, option_map, IfOk};
+ghost use Rattle.hv_sets.specs.declared.operand.Which.TheVariants as W;
+ghost use Rattle.hv_bdd.specs.Graphs.{limit};
+ghost use Rattle.hv_bdd.specs.Live.{asks_goal, child, first_asked, is_marked, mark_of, moves, or_else, root, roots, top};
+ghost use Rattle.hv_bdd.specs.Order.{atom_at};
+ghost use Rattle.hv_bdd.specs.Tuples.{is_live, least, move_all, move_one, next};
+
+use crate::asked::Asked;
+use crate::diagrams::Diagrams;
+use hv_sets::Which;
+use hv_task::State;
+use smallvec::SmallVec;
+use std::alloc::{AllocError, Global};
+
+/// A node for each operand.
+pub(crate) type Tuple = SmallVec<u32, 8>;
+
+/// From which tuple a tuple was reached, and by which bit.
+#[derive(Clone, Copy)]
+pub(crate) struct Link {
+    pub parent: usize,
+    pub bit: bool,
+}
+
+/// What tuples move through, and the operands that are asked.
+#[derive(Clone, Copy)]
+pub(crate) struct Search<'a> {
+    pub nodes: &'a Diagrams,
+    /// The initial state.
+    pub start: &'a State,
+    /// The atoms of the goal.
+    pub goal: &'a State,
+    /// From each place on the first place of a goal atom, as a node of the goal's chain.
+    pub first_goal: &'a [u32],
+    /// The bit that the state needs at an atom, if it needs one.
+    pub needed: &'a [Option<bool>],
+    /// The bit of an atom after the action, if the action changes it.
+    pub changed: &'a [Option<bool>],
+    pub asked: &'a [Asked],
+}
+
+impl Search<'_> {
+    ghost use Rattle.hv_bdd.specs.Search.{IsAskable, IsSearch, IsTuple, setting};
+
+    // The root of an operand.
+    pub(crate) fn root(&self, which: Which) -> u32
+        requires search { IsSearch self.now }
+        requires askable { IsAskable self.now which }
+        ensures { result ≡ root (setting self.now) which }
+    {
+        match which {
+            Which::Empty => 0,
+            Which::Start => self.start_from(0),
+            Which::Goal => self.goal_from(0),
+            Which::Set(number) => number as u32,
+        }
+    }
+
+    // The place for which a node of an operand asks.
+    pub(crate) fn top(&self, which: Which, node: u32) -> u32
+        requires search { IsSearch self.now }
+        requires node { node < limit (setting self.now) which }
+        ensures { result ≡ top (setting self.now) which node }
+    {
+        match which {
+            Which::Set(_) => self.nodes.top(node),
+            _ if node < 2 => self.nodes.atoms(),
+            _ => node - 2,
+        }
+    }
+
+    // The node to which a bit leads.
+    pub(crate) fn child(&self, which: Which, node: u32, bit: bool) -> u32
+        requires search { IsSearch self.now }
+        requires askable { IsAskable self.now which }
+        requires inner { 2 ≤ node }
+        requires node { node < limit (setting self.now) which }
+        ensures { result ≡ child (setting self.now) which node bit }
+    {
+        match which {
+            Which::Empty => 0,
+            Which::Start => self.start_child(node, bit),
+            Which::Goal => self.goal_child(node, bit),
+            Which::Set(_) => self.nodes.child(node, bit),
+        }
+    }
+
+    // The node of the initial state's chain for a place, or node 1 past the last.
+    fn start_from(&self, place: u32) -> u32
+        requires askable { IsAskable self.now W.Start }
+        requires place { place ≤ self.now.nodes.now.atoms }
+        ensures { result ≡ first_asked (λ v. true) (self.now.nodes.now.atoms - place) place }
+    {
+        if place < self.nodes.atoms() {
+            place + 2
+        } else {
+            1
+        }
+    }
+
+    // The first node of the goal's chain from a place on, or node 1 where there is none.
+    fn goal_from(&self, place: u32) -> u32
+        requires askable { IsAskable self.now W.Goal }
+        requires place { place ≤ self.now.nodes.now.atoms }
+        ensures { result ≡ first_asked (asks_goal (setting self.now)) (self.now.nodes.now.atoms - place) place }
+    {
+        self.first_goal[place as usize]
+    }
+
+    fn start_child(&self, node: u32, bit: bool) -> u32
+        requires askable { IsAskable self.now W.Start }
+        requires inner { 2 ≤ node }
+        requires node { node < limit (setting self.now) W.Start }
+        ensures { result ≡ child (setting self.now) W.Start node bit }
+    {
+        if bit == self.start.has(self.nodes.atom_at(node - 2)) {
+            self.start_from(node - 1)
+        } else {
+            0
+        }
+    }
+
+    fn goal_child(&self, node: u32, bit: bool) -> u32
+        requires askable { IsAskable self.now W.Goal }
+        requires inner { 2 ≤ node }
+        requires node { node < limit (setting self.now) W.Goal }
+        ensures { result ≡ child (setting self.now) W.Goal node bit }
+    {
+        if bit { self.goal_from(node - 1) } else { 0 }
+    }
+
+    // The bit that an operand sees where the state before the action has this bit at a place.
+    fn seen(&self, after: bool, place: u32, bit: bool) -> bool
+        requires search { IsSearch self.now }
+        requires place { place < self.now.nodes.now.atoms }
+        ensures { result ≡ cond after (or_else (mark_of self.now.changed.now (atom_at self.now.nodes.now place)) bit) bit }
+    {
+        if after {
+            or_else(self.changed[self.nodes.atom_at(place) as usize], bit)
+        } else {
+            bit
+        }
+    }
+
+    // Whether the state may have this bit at a place.
+    fn allows(&self, place: u32, bit: bool) -> bool
+        requires search { IsSearch self.now }
+        requires place { place < self.now.nodes.now.atoms }
+        ensures { result ≡ is_marked (mark_of self.now.needed.now (atom_at self.now.nodes.now place)) bit }
+    {
+        is_marked(self.needed[self.nodes.atom_at(place) as usize], bit)
+    }
+
+    /// The least place for which a node of the tuple asks, or the place past all atoms.
+    pub(crate) fn least(&self, tuple: &[u32]) -> u32
+        requires search { IsSearch self.now }
+        requires tuple { IsTuple self.now tuple.now }
+        ensures { result ≡ least (moves (setting self.now)) self.now.asked.now tuple.now }
+    {
+        let mut least = self.nodes.atoms();
+        for (k, node) in tuple.iter().enumerate() {
+            least = least.min(self.top(self.asked[k].which, *node));
+        }
+        least
+    }
+
+    // Whether no place rules its operand out.
+    pub(crate) fn is_live(&self, tuple: &[u32]) -> bool
+        requires search { IsSearch self.now }
+        requires tuple { IsTuple self.now tuple.now }
+        ensures { result ≡ is_live (moves (setting self.now)) self.now.asked.now tuple.now }
+    {
+        for (k, node) in tuple.iter().enumerate() {
+            if *node == ruled_out(self.asked[k].positive) {
+                return false;
+            }
+        }
+        true
+    }
+
+    // The tuple to which a bit at a place leads.
+    fn move_all(
+        &self,
+        alloc: Global,
+        tuple: &[u32],
+        place: u32,
+        bit: bool,
+    ) -> Result<Tuple, AllocError>
+        requires search { IsSearch self.now }
+        requires tuple { IsTuple self.now tuple.now }
+        requires place { place < self.now.nodes.now.atoms }
+        ensures { IfOk result (λ moved. moved.items ≡ move_all (moves (setting self.now)) place bit self.now.asked.now tuple.now) }
+    {
+        let mut moved = SmallVec::new(alloc);
+        for (k, node) in tuple.iter().enumerate() {
+            moved.push(self.move_one(&self.asked[k], *node, place, bit))?;
+        }
+        Ok(moved)
+    }
+
+    // The node to which a bit at a place leads.
+    fn move_one(&self, asked: &Asked, node: u32, place: u32, bit: bool) -> u32
+        requires search { IsSearch self.now }
+        requires askable { IsAskable self.now asked.now.which }
+        requires node { node < limit (setting self.now) asked.now.which }
+        requires place { place < self.now.nodes.now.atoms }
+        ensures { result ≡ move_one (moves (setting self.now)) place bit asked.now node }
+    {
+        if self.top(asked.which, node) == place {
+            self.child(asked.which, node, self.seen(asked.after, place, bit))
+        } else {
+            node
+        }
+    }
+
+    // The live tuple to which a bit at the least place leads, if there is one.
+    pub(crate) fn next(
+        &self,
+        alloc: Global,
+        tuple: &[u32],
+        place: u32,
+        bit: bool,
+    ) -> Result<Option<Tuple>, AllocError>
+        requires search { IsSearch self.now }
+        requires tuple { IsTuple self.now tuple.now }
+        requires least { place ≡ least (moves (setting self.now)) self.now.asked.now tuple.now }
+        ensures { IfOk result (λ to. option_map (λ t. t.items) to ≡ next (moves (setting self.now)) self.now.asked.now tuple.now bit) }
+    {
+        if place >= self.nodes.atoms() || !self.allows(place, bit) {
+            return Ok(None);
+        }
+        let moved = self.move_all(alloc, tuple, place, bit)?;
+        if !self.is_live(moved.as_slice()) {
+            return Ok(None);
+        }
+        Ok(Some(moved))
+    }
+
+    // The tuple of the roots.
+    pub(crate) fn roots(&self, alloc: Global) -> Result<Tuple, AllocError>
+        requires search { IsSearch self.now }
+        ensures { IfOk result (λ tuple. tuple.items ≡ roots (setting self.now) self.now.asked.now) }
+    {
+        let mut tuple = SmallVec::new(alloc);
+        for asked in self.asked {
+            tuple.push(self.root(asked.which))?;
+        }
+        Ok(tuple)
+    }
+}
+
+fn or_else(mark: Option<bool>, bit: bool) -> bool
+    ensures { result ≡ or_else mark bit }
+{
+    match mark {
+        None => bit,
+        Some(marked) => marked,
+    }
+}
+
+fn is_marked(mark: Option<bool>, bit: bool) -> bool
+    ensures { result ≡ is_marked mark bit }
+{
+    match mark {
+        None => true,
+        Some(marked) => marked == bit,
+    }
+}
+
+// The end that rules an operand out.
+fn ruled_out(positive: bool) -> u32
+    ensures { result ≡ cond positive 0 1 }
+{
+    if positive { 0 } else { 1 }
+}

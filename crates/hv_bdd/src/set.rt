@@ -1,0 +1,132 @@
+ghost use Rattle.std.specs.Prelude.{◌≡◌, length, IfOk};
+ghost use Rattle.hv_sets.specs.Cubes.{SpeakBelow};
+ghost use Rattle.hv_bdd.specs.Nodes.{IsNode, in_node};
+ghost use Rattle.hv_bdd.specs.Reduced.{IsReduced};
+ghost use Rattle.hv_bdd.specs.Sets.{Finds, mark_literals};
+
+use crate::asked::Asked;
+use crate::diagrams::Diagrams;
+use crate::search::Search;
+use hv_sets::{Covering, Cube, Finding, Literal, Scratch, StateSet, Which};
+use hv_task::State;
+use std::alloc::{AllocError, Global};
+use std::slice;
+
+/// The set of states for which a node stands.
+#[derive(Clone, Copy)]
+pub struct DiagramSet<'a> {
+    /// The list of the node.
+    pub nodes: &'a Diagrams,
+    /// Its number.
+    pub node: u32,
+    pub ghost reduced: { IsReduced nodes.now },
+    pub ghost within: { IsNode nodes.now node },
+}
+
+impl StateSet for DiagramSet<'_> {
+    ghost atoms = { λ set. set.nodes.now.atoms };
+
+    ghost has = { λ set. in_node set.nodes.now set.node };
+
+    fn holds(&self, state: &State) -> bool {
+        self.nodes.holds(self.node, state)
+    }
+
+    fn meets(&self, alloc: Global, cube: &Cube, scratch: &mut Scratch) -> Result<bool, AllocError> {
+        scratch.reserve(self.nodes.atoms(), 0, 0)?;
+        find(alloc, self.nodes, self.node, cube, true, &mut scratch.state)
+    }
+}
+
+impl Covering for DiagramSet<'_> {
+    fn covers(
+        &self,
+        alloc: Global,
+        cube: &Cube,
+        scratch: &mut Scratch,
+    ) -> Result<bool, AllocError> {
+        scratch.reserve(self.nodes.atoms(), 0, 0)?;
+        let outside = find(
+            alloc,
+            self.nodes,
+            self.node,
+            cube,
+            false,
+            &mut scratch.state,
+        )?;
+        Ok(!outside)
+    }
+}
+
+// Whether some state of the cube is in the node (true) or outside it (false). One such state is then left in the state.
+fn find(
+    alloc: Global,
+    nodes: &Diagrams,
+    node: u32,
+    cube: &Cube,
+    inside: bool,
+    state: &mut State,
+) -> Result<bool, AllocError>
+    requires node { IsNode nodes.now node }
+    requires cube { SpeakBelow nodes.now.atoms cube.now }
+    requires state { length state.old ≡ nodes.now.atoms }
+    ensures { IfOk result (λ yes. Finds inside yes nodes.now.atoms (in_node nodes.now node) cube.now state.new) }
+{
+    let none = State::empty(alloc, 0)?;
+    let atoms = nodes.atoms() as usize;
+    let mut needed = vec![in alloc; None; atoms]?;
+    mark_literals(needed.as_mut_slice(), cube.as_slice());
+    let changed = vec![in alloc; None; atoms]?;
+    let asked = Asked {
+        which: Which::Set(node as usize),
+        after: false,
+        positive: inside,
+    };
+    let search = Search {
+        nodes,
+        start: &none,
+        goal: &none,
+        first_goal: &[],
+        needed: needed.as_slice(),
+        changed: changed.as_slice(),
+        asked: slice::from_ref(&asked),
+    };
+    search.finds(alloc, node, cube, inside, state)
+}
+
+impl Search<'_> {
+    ghost use Rattle.hv_bdd.specs.Search.{IsSearch, IsWithin};
+
+    // Whether some state of the cube is in the node or outside it, where the search is for that.
+    fn finds(
+        &self,
+        alloc: Global,
+        node: u32,
+        cube: &Cube,
+        inside: bool,
+        state: &mut State,
+    ) -> Result<bool, AllocError>
+        requires search { IsSearch self.now }
+        requires within { IsWithin node inside cube.now self.now }
+        requires cube { SpeakBelow self.now.nodes.now.atoms cube.now }
+        requires state { length state.old ≡ self.now.nodes.now.atoms }
+        ensures { IfOk result (λ yes. Finds inside yes self.now.nodes.now.atoms (in_node self.now.nodes.now node) cube.now state.new) }
+    {
+        let _literals = cube.as_slice();
+        match self.find(alloc, self.nodes.count() as u64, state)? {
+            Finding::Clash => Ok(true),
+            Finding::Empty => Ok(false),
+            Finding::Over => Ok(false),
+        }
+    }
+}
+
+// Marks the atoms of the literals with their signs.
+fn mark_literals(marks: &mut [Option<bool>], literals: &[Literal])
+    requires { SpeakBelow (length marks.old) literals.now }
+    ensures { marks.new ≡ mark_literals literals.now marks.old }
+{
+    for literal in literals {
+        marks[literal.atom as usize] = Some(literal.positive);
+    }
+}
