@@ -1,20 +1,18 @@
 -- When a basic statement is accepted, by what the states of its anchor keep.
-use Rattle.std.proofs.Common.{◌≡◌, ℕ, zero, suc, ◌<◌, ◌≤◌, ◌∙◌, ◌⊎◌, ◌↔◌, Bool, true, false, not, List, [], ◌∷◌, Some, refl, sym, ap, subst, length, get_or, inl, inr, arith}
+use Rattle.std.proofs.Common.{◌≡◌, ℕ, zero, suc, ◌<◌, ◌≤◌, ◌∙◌, ◌↔◌, Bool, true, false, not, List, [], ◌∷◌, refl, sym, ap, subst, length, inl, inr, arith}
 use Rattle.std.proofs.lemmas.Bool.{cases_lt}
 use Rattle.std.proofs.lemmas.List.{get_or_past}
 use Rattle.std.proofs.lemmas.Option.{slice_get_within}
-use Rattle.std.specs.List.{Contains, slice_get}
-use Rattle.hv_task.specs.declared.action.Action.{Action}
-use Rattle.hv_task.specs.State.{applicable, successor}
-use Rattle.hv_task.specs.Strips.{Strips, IsState}
+use Rattle.std.specs.List.{Contains}
+use Rattle.hv_task.specs.State.{successor}
+use Rattle.hv_task.specs.Strips.{Strips}
 use Rattle.hv_task.proofs.Places.{IsState-successor}
-use Rattle.hv_lines.specs.Basic.{BasicHolds, CanAnchor, HasSomeAction, IsAnchor, IsConstant, IsLeftSide, IsListed, IsPlain, IsRightSide, states_listed}
-use Rattle.hv_lines.specs.Meaning.{IsAfter, IsTrueStatement, acts_of, sets_of}
+use Rattle.hv_lines.specs.Basic.{BasicHolds, CanAnchor, IsAnchor, IsLeftSide, IsPlain, IsRightSide, states_listed}
+use Rattle.hv_lines.specs.Meaning.{IsTrueStatement, acts_of, sets_of}
+use Rattle.hv_lines.specs.Setting.{setting_of}
 use Rattle.hv_lines.specs.Numbering.{IsTable, expr_at}
 use Rattle.hv_lines.specs.Rules.{IsExpr}
-use Rattle.hv_lines.specs.declared.diagrams.Node.{Node}
-use Rattle.hv_lines.specs.declared.line.Constant.TheVariants as C
-use Rattle.hv_lines.specs.declared.line.Expr.{Expr}
+use Rattle.hv_bdd.specs.Nodes.{NodeList}
 use Rattle.hv_lines.specs.declared.line.Expr.TheVariants as E
 use Rattle.hv_lines.specs.declared.line.Line.{Line}
 use Rattle.hv_lines.specs.declared.line.Statement.TheVariants as T
@@ -62,7 +60,7 @@ anchor_once : (lines : List Line) (parts : List ℕ) (x y : ℕ) → IsAnchor li
 anchor_once lines parts x y a b =
     let below = a.least y b.among b.can in let above = b.least x a.among a.can in omega arith
 
-module _ (task : Strips) (nodes : List Node) (budget : ℕ) (lines : List Line) (table : IsTable lines) where
+module _ (task : Strips) (nodes : NodeList) (budget : ℕ) (lines : List Line) (table : IsTable lines) where
   -- a state is in a left side exactly where it is in each of its parts
   left_out : (set : ℕ) (parts : List ℕ) → IsLeftSide lines set parts → (state : List Bool) → sets_of task nodes lines set state
       → InAll task nodes lines parts state
@@ -106,7 +104,7 @@ module _ (task : Strips) (nodes : List Node) (budget : ℕ) (lines : List Line) 
     pub inclusion_in : (parts others : List ℕ) (anchor : ℕ) → IsLeftSide lines left parts → IsRightSide lines right others
         → IsAnchor lines parts anchor → states_listed (expr_at lines anchor) ≤ budget
         → EachKeeps task nodes lines anchor (StaysIn task nodes lines parts others)
-        → BasicHolds task nodes budget lines (T.Sub left right) W.B1
+        → BasicHolds (setting_of task nodes budget) lines (T.Sub left right) W.B1
     inclusion_in parts others anchor is_left is_right is_anchor cost each = (
       parts,
       anchor,
@@ -119,7 +117,7 @@ module _ (task : Strips) (nodes : List Node) (budget : ℕ) (lines : List Line) 
     )
 
     pub inclusion_out : (parts others : List ℕ) (anchor : ℕ) → IsLeftSide lines left parts → IsRightSide lines right others
-        → IsAnchor lines parts anchor → BasicHolds task nodes budget lines (T.Sub left right) W.B1
+        → IsAnchor lines parts anchor → BasicHolds (setting_of task nodes budget) lines (T.Sub left right) W.B1
         → (states_listed (expr_at lines anchor) ≤ budget) × EachKeeps task nodes lines anchor (StaysIn task nodes lines parts others)
     inclusion_out parts others anchor is_left is_right is_anchor holds =
         let same = left_once lines left holds.0 parts holds.2 is_left in
@@ -130,7 +128,7 @@ module _ (task : Strips) (nodes : List Node) (budget : ℕ) (lines : List Line) 
         )
 
     -- where it is accepted there is an anchor
-    pub inclusion_anchor : (parts : List ℕ) → IsLeftSide lines left parts → BasicHolds task nodes budget lines (T.Sub left right) W.B1
+    pub inclusion_anchor : (parts : List ℕ) → IsLeftSide lines left parts → BasicHolds (setting_of task nodes budget) lines (T.Sub left right) W.B1
         → (anchor : ℕ) × IsAnchor lines parts anchor
     inclusion_anchor parts is_left holds =
         (holds.1, subst (λ ps. IsAnchor lines ps holds.1) (left_once lines left holds.0 parts holds.2 is_left) holds.3)
@@ -167,12 +165,12 @@ module _ (task : Strips) (nodes : List Node) (budget : ℕ) (lines : List Line) 
 
       pub progression_in : CanAnchor lines set → states_listed (expr_at lines set) ≤ budget
           → EachKeeps task nodes lines set (LeadsIn task nodes lines flags others)
-          → BasicHolds task nodes budget lines (T.Sub left right) W.B2
+          → BasicHolds (setting_of task nodes budget) lines (T.Sub left right) W.B2
       progression_in can cost each = (set, acts, is_after, can, λ some. cost, progression_true each)
 
       -- without an action there is no cost
       pub progression_none : CanAnchor lines set → ((number : ℕ) → flag_at flags number ≡ true → ⊥)
-          → BasicHolds task nodes budget lines (T.Sub left right) W.B2
+          → BasicHolds (setting_of task nodes budget) lines (T.Sub left right) W.B2
       progression_none can none = (
         set,
         acts,
@@ -182,16 +180,16 @@ module _ (task : Strips) (nodes : List Node) (budget : ℕ) (lines : List Line) 
         progression_true (λ state is_state inside number action within flag. absurd (none number flag)),
       )
 
-      pub progression_can : BasicHolds task nodes budget lines (T.Sub left right) W.B2 → CanAnchor lines set
+      pub progression_can : BasicHolds (setting_of task nodes budget) lines (T.Sub left right) W.B2 → CanAnchor lines set
       progression_can holds =
           let same : holds.0 ≡ set = cc (holds.2, is_after) in subst (λ s. CanAnchor lines s) same holds.3
 
-      pub progression_out : BasicHolds task nodes budget lines (T.Sub left right) W.B2
+      pub progression_out : BasicHolds (setting_of task nodes budget) lines (T.Sub left right) W.B2
           → EachKeeps task nodes lines set (LeadsIn task nodes lines flags others)
       progression_out holds = progression_each holds.5
 
       -- an accepted statement with an action is within the budget
-      pub progression_cost : (number : ℕ) → flag_at flags number ≡ true → BasicHolds task nodes budget lines (T.Sub left right) W.B2
+      pub progression_cost : (number : ℕ) → flag_at flags number ≡ true → BasicHolds (setting_of task nodes budget) lines (T.Sub left right) W.B2
           → states_listed (expr_at lines set) ≤ budget
       progression_cost number flag holds =
           let same : holds.0 ≡ set = cc (holds.2, is_after) in

@@ -4,14 +4,13 @@ use Rattle.std.proofs.lemmas.Bool.{cases_lt}
 use Rattle.std.proofs.lemmas.List.{length-map, length-take, get_or-map, get_or-take, get_or_default, take_all}
 use Rattle.std.specs.List.{All}
 use Rattle.hv_task.specs.AtomList.{IsListOf}
-use Rattle.hv_task.specs.State.{AreBelow, state_of}
+use Rattle.hv_task.specs.State.{state_of}
 use Rattle.hv_task.specs.Strips.{Strips, atoms, IsState, start_state}
 use Rattle.hv_task.proofs.Places.{length-state_of}
 use Rattle.hv_task.proofs.Listing.{state_of-listed}
-use Rattle.hv_lines.specs.Meaning.{acts_of, sets_of}
 use Rattle.hv_lines.specs.Numbering.{IsTable}
 use Rattle.hv_lines.specs.Rules.{IsExpr}
-use Rattle.hv_lines.specs.declared.diagrams.Node.{Node}
+use Rattle.hv_bdd.specs.Nodes.{NodeList}
 use Rattle.hv_lines.specs.declared.line.Constant.TheVariants as C
 use Rattle.hv_lines.specs.declared.line.Expr.TheVariants as E
 use Rattle.hv_lines.specs.declared.line.Line.{Line}
@@ -37,7 +36,7 @@ listed_atoms task state held is_state listed = record {
   rising = listed.rises;
 }
 
-module _ (task : Strips) (nodes : List Node) (lines : List Line) (set : ℕ) (table : IsTable lines) (Keeps : List Bool → Type 0) where
+module _ (task : Strips) (nodes : NodeList) (lines : List Line) (set : ℕ) (table : IsTable lines) (Keeps : List Bool → Type 0) where
   -- the empty set lists nothing
   pub each_empty : IsExpr lines set (E.Constant C.Empty) → EachKeeps task nodes lines set Keeps
   each_empty line state is_state inside = absurd (set_out task nodes lines set (E.Constant C.Empty) table line state inside)

@@ -1,11 +1,11 @@
 -- Where each action leads.
-use Rattle.std.proofs.Common.{◌≡◌, ℕ, ◌+◌, ◌<◌, ◌≤◌, ◌∙◌, ◌↔◌, Bool, true, List, Some, refl, sym, ap, subst, length, inl, inr, arith}
+use Rattle.std.proofs.Common.{◌≡◌, ℕ, ◌+◌, ◌<◌, ◌≤◌, ◌∙◌, ◌↔◌, Bool, true, List, Some, sym, subst, length, inl, inr, arith}
 use Rattle.std.proofs.lemmas.Bool.{cases_lt}
 use Rattle.std.proofs.lemmas.Option.{slice_get_cases, slice_get_within}
 use Rattle.std.specs.List.{slice_get}
 use Rattle.hv_task.specs.declared.action.Action.{Action}
 use Rattle.hv_task.specs.State.{applicable, successor}
-use Rattle.hv_lines.specs.declared.diagrams.Node.{Node}
+use Rattle.hv_bdd.specs.Nodes.{NodeList}
 use Rattle.hv_basic.specs.Clash.{LeadsBelow, LeadsIn}
 use Rattle.hv_basic.specs.Flags.{flag_at}
 use Rattle.hv_basic.specs.Parts.{InSome, parts_of}
@@ -17,7 +17,7 @@ named : (actions : List Action) (number : ℕ) → number < length actions → (
 named actions number within =
     elim ((slice_get_cases actions number).1) [ inl there ↦ (there.0, there.2) | inr past ↦ absurd (omega (arith, past.0)) ]
 
-module _ (p : Progression) (nodes : List Node) (state : List Bool) where
+module _ (p : Progression) (nodes : NodeList) (state : List Bool) where
   -- a flagged action that is applicable leads where its result is
   pub leads_to : (number : ℕ) (result : List Bool) (r applies : Bool) → number < length p.task.now.actions
       → flag_at p.flags.now number ≡ true

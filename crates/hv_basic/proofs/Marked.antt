@@ -1,5 +1,5 @@
 -- Going through the action sets that an action set is made of, from the newest to the oldest.
-use Rattle.std.proofs.Common.{◌≡◌, ℕ, ◌+◌, ◌<◌, ◌≤◌, ◌≢◌, ◌∙◌, ◌⊎◌, ◌↔◌, ◌||◌, Bool, true, false, List, [], ◌∷◌, length, get_or, set, eqb, refl, sym, ap, subst, inl, inr, arith, Some, replicate}
+use Rattle.std.proofs.Common.{◌≡◌, ℕ, ◌+◌, ◌<◌, ◌≤◌, ◌∙◌, ◌⊎◌, ◌↔◌, ◌||◌, Bool, true, false, List, length, get_or, set, eqb, refl, sym, ap, subst, inl, inr, arith, Some}
 use Rattle.std.proofs.lemmas.Bool.{cases_lt}
 use Rattle.std.proofs.lemmas.List.{get_or_default, get_or-set_same, get_or-set_other, get_or-replicate, length-set, length-replicate}
 use Rattle.std.specs.List.{list_any}
@@ -9,7 +9,7 @@ use Rattle.hv_lines.specs.declared.line.Acts.{Acts}
 use Rattle.hv_lines.specs.declared.line.Acts.TheVariants as A
 use Rattle.hv_lines.specs.declared.line.Line.{Line}
 use Rattle.hv_lines.proofs.Laws.{acts_law, acts_refer}
-use Rattle.hv_basic.specs.Flags.{AreFlagsOf, Marks, flag_at}
+use Rattle.hv_basic.specs.Flags.{Marks, flag_at}
 
 -- an action set below this identifier is wanted and has the action
 abbrev pub IsWanted : List Line → List Bool → ℕ → ℕ → Type 0

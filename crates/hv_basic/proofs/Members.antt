@@ -1,16 +1,16 @@
 -- When a state is in a constant or in a listed set.
-use Rattle.std.proofs.Common.{◌≡◌, ℕ, ◌<◌, ◌∙◌, ◌↔◌, Bool, List, map, Some, refl, sym, ap, length, get_or, arith}
+use Rattle.std.proofs.Common.{◌≡◌, ℕ, ◌<◌, ◌∙◌, ◌↔◌, Bool, List, Some, sym, ap, length, get_or, arith}
 use Rattle.std.proofs.lemmas.List.{length-map, get_or-map}
 use Rattle.std.specs.List.{All, Contains}
 use Rattle.hv_task.specs.State.{state_of}
-use Rattle.hv_task.specs.Strips.{Strips, atoms, IsState, start_state}
+use Rattle.hv_task.specs.Strips.{Strips, atoms, IsState}
 use Rattle.hv_task.proofs.Places.{length-state_of}
 use Rattle.hv_task.proofs.Listing.{same_listed}
 use Rattle.hv_sets.specs.Truth.{InStates}
 use Rattle.hv_lines.proofs.Laws.{set_in, set_out}
 use Rattle.hv_lines.specs.Meaning.{ActionSet, StateSet, acts_of, holds, sets_of}
 use Rattle.hv_lines.specs.Numbering.{IsTable, expr_at}
-use Rattle.hv_lines.specs.declared.diagrams.Node.{Node}
+use Rattle.hv_bdd.specs.Nodes.{NodeList}
 use Rattle.hv_lines.specs.declared.line.Constant.{Constant}
 use Rattle.hv_lines.specs.declared.line.Constant.TheVariants as C
 use Rattle.hv_lines.specs.declared.line.Expr.{Expr}
@@ -19,13 +19,13 @@ use Rattle.hv_lines.specs.declared.line.Line.{Line}
 use Rattle.hv_basic.specs.Parts.{IsAtomsOf, IsInConstant, ListsStates}
 
 -- the meaning of a constant
-pub in_constant : (task : Strips) (nodes : List Node) (acts : ℕ → ActionSet) (sets : ℕ → StateSet) (constant : Constant) (state : List Bool)
+pub in_constant : (task : Strips) (nodes : NodeList) (acts : ℕ → ActionSet) (sets : ℕ → StateSet) (constant : Constant) (state : List Bool)
     → IsInConstant task constant state → holds task nodes acts sets (E.Constant constant) state
 in_constant task nodes acts sets C.Empty state = λ h. h
 in_constant task nodes acts sets C.Start state = λ h. h
 in_constant task nodes acts sets C.Goal state = λ h. h
 
-pub of_constant : (task : Strips) (nodes : List Node) (acts : ℕ → ActionSet) (sets : ℕ → StateSet) (constant : Constant) (state : List Bool)
+pub of_constant : (task : Strips) (nodes : NodeList) (acts : ℕ → ActionSet) (sets : ℕ → StateSet) (constant : Constant) (state : List Bool)
     → holds task nodes acts sets (E.Constant constant) state → IsInConstant task constant state
 of_constant task nodes acts sets C.Empty state = λ h. h
 of_constant task nodes acts sets C.Start state = λ h. h
@@ -59,7 +59,7 @@ module _ (n : ℕ) (states : List (List ℕ)) (held : List ℕ) (state : List Bo
       let there : state_of n (get_or states k held) ≡ state = sym (get_or-map (state_of n) states k held state inside) ∙ e in
       (k, inside, sym ((same_states n held (get_or states k held) state is_held (each k held inside) same).1 (sym there)))
 
-module _ (task : Strips) (nodes : List Node) (lines : List Line) (set : ℕ) (table : IsTable lines) (state : List Bool) where
+module _ (task : Strips) (nodes : NodeList) (lines : List Line) (set : ℕ) (table : IsTable lines) (state : List Bool) where
   -- a state is in the set of a constant's line exactly where it is in the constant
   pub member_constant : (expr : Expr) (constant : Constant) → expr_at lines set ≡ Some expr → expr ≡ E.Constant constant
       → IsInConstant task constant state ↔ sets_of task nodes lines set state

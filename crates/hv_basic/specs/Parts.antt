@@ -7,7 +7,7 @@ use Rattle.hv_task.specs.Strips.{Strips, atoms, start_state, is_goal}
 use Rattle.hv_lines.specs.Basic.{IsPlain}
 use Rattle.hv_lines.specs.Meaning.{sets_of}
 use Rattle.hv_lines.specs.Rules.{IsExpr}
-use Rattle.hv_lines.specs.declared.diagrams.Node.{Node}
+use Rattle.hv_bdd.specs.Nodes.{NodeList}
 use Rattle.hv_lines.specs.declared.line.Constant.{Constant}
 use Rattle.hv_lines.specs.declared.line.Constant.TheVariants as C
 use Rattle.hv_lines.specs.declared.line.Expr.TheVariants as E
@@ -42,11 +42,11 @@ IsInConstant task C.Start state = state ≡ start_state task
 IsInConstant task C.Goal state = is_goal task state ≡ true
 
 -- the state is in each of these sets
-abbrev pub InAll : Strips → List Node → List Line → List ℕ → List Bool → Type 0
+abbrev pub InAll : Strips → NodeList → List Line → List ℕ → List Bool → Type 0
 InAll task nodes lines [] state = Unit {0}
 InAll task nodes lines (set ∷ sets) state = sets_of task nodes lines set state × InAll task nodes lines sets state
 
 -- the state is in one of these sets
-abbrev pub InSome : Strips → List Node → List Line → List ℕ → List Bool → Type 0
+abbrev pub InSome : Strips → NodeList → List Line → List ℕ → List Bool → Type 0
 InSome task nodes lines [] state = ⊥
 InSome task nodes lines (set ∷ sets) state = sets_of task nodes lines set state ⊎ InSome task nodes lines sets state

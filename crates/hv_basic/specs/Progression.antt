@@ -1,10 +1,10 @@
 -- What a progression has to know of its parts.
-use Rattle.std.specs.Prelude.{◌≡◌, ◌↔◌, ℕ, Bool, true, false, List, Some, length, slice_get, IsTrue}
+use Rattle.std.specs.Prelude.{◌≡◌, ℕ, Bool, true, List, Some, length, slice_get}
 use Rattle.hv_task.specs.declared.action.Action.{Action}
 use Rattle.hv_task.specs.State.{AreBelow, applicable, successor}
 use Rattle.hv_task.specs.Strips.{Strips, IsState}
 use Rattle.hv_lines.specs.Numbering.{expr_count}
-use Rattle.hv_lines.specs.declared.diagrams.Node.{Node}
+use Rattle.hv_bdd.specs.Nodes.{NodeList}
 use Rattle.hv_basic.specs.Flags.{flag_at}
 use Rattle.hv_basic.specs.Parts.{ArePlain, InSome, ListsStates, parts_of}
 use Rattle.hv_basic.specs.declared.progression.Progression.{Progression}
@@ -23,7 +23,7 @@ pub record HasRoom (task : Strips) (steps : Steps) : Type 0 where
   pub result : IsState task steps.result
 
 -- the action leads from the state into the right side, where it is flagged and applicable
-abbrev pub LeadsBy : Progression → List Node → List Bool → ℕ → Type 0
+abbrev pub LeadsBy : Progression → NodeList → List Bool → ℕ → Type 0
 LeadsBy p nodes state number =
     (action : Action) → flag_at p.flags.now number ≡ true → slice_get p.task.now.actions number ≡ Some action
     → applicable action state ≡ true → InSome p.task.now nodes p.table.now.lines (parts_of p.others) (successor action state)

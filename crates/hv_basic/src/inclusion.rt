@@ -7,7 +7,7 @@ ghost use Rattle.hv_task.specs.State.{AreBelow, state_of};
 ghost use Rattle.hv_task.specs.Strips.{IsState, atoms};
 ghost use Rattle.hv_lines.specs.Basic.{CanAnchor};
 ghost use Rattle.hv_lines.specs.Numbering.{expr_count};
-ghost use Rattle.hv_lines.specs.declared.diagrams.Node.{Node};
+ghost use Rattle.hv_bdd.specs.Nodes.{NodeList};
 ghost use Rattle.hv_basic.specs.Clash.{EachKeeps, StaysIn};
 ghost use Rattle.hv_basic.specs.Parts.{IsAtomsOf, parts_of};
 
@@ -35,7 +35,7 @@ impl Inclusion<'_> {
         requires sides { IsInclusion self.now }
         requires anchor { anchor < expr_count self.now.table.now.lines }
         requires can { CanAnchor self.now.table.now.lines anchor }
-        ensures { IfOk result (λ yes. (nodes : List Node) → (IsTrue yes ↔ EachKeeps self.now.task.now nodes self.now.table.now.lines anchor (StaysIn self.now.task.now nodes self.now.table.now.lines (parts_of self.now.parts) (parts_of self.now.others)))) }
+        ensures { IfOk result (λ yes. (nodes : NodeList) → (IsTrue yes ↔ EachKeeps self.now.task.now nodes self.now.table.now.lines anchor (StaysIn self.now.task.now nodes self.now.table.now.lines (parts_of self.now.parts) (parts_of self.now.others)))) }
     {
         let _count = self.table.expr_count();
         let mut state = State::empty(alloc, self.task.atoms())?;
@@ -50,7 +50,7 @@ impl Inclusion<'_> {
         requires sides { IsInclusion self.now }
         requires state { IsState self.now.task.now state.old }
         requires states { All (IsAtomsOf (atoms self.now.task.now)) states.now }
-        ensures { (nodes : List Node) → (IsTrue result ↔ All (λ held. StaysIn self.now.task.now nodes self.now.table.now.lines (parts_of self.now.parts) (parts_of self.now.others) (state_of (atoms self.now.task.now) held)) states.now) }
+        ensures { (nodes : NodeList) → (IsTrue result ↔ All (λ held. StaysIn self.now.task.now nodes self.now.table.now.lines (parts_of self.now.parts) (parts_of self.now.others) (state_of (atoms self.now.task.now) held)) states.now) }
     {
         for held in states {
             if !self.stays_in(state, held) {
@@ -65,7 +65,7 @@ impl Inclusion<'_> {
         requires sides { IsInclusion self.now }
         requires state { IsState self.now.task.now state.old }
         requires held { AreBelow (atoms self.now.task.now) held.now }
-        ensures stays { (nodes : List Node) → (IsTrue result ↔ StaysIn self.now.task.now nodes self.now.table.now.lines (parts_of self.now.parts) (parts_of self.now.others) (state_of (atoms self.now.task.now) held.now)) }
+        ensures stays { (nodes : NodeList) → (IsTrue result ↔ StaysIn self.now.task.now nodes self.now.table.now.lines (parts_of self.now.parts) (parts_of self.now.others) (state_of (atoms self.now.task.now) held.now)) }
         ensures state { IsState self.now.task.now state.new }
     {
         state.hold(held);

@@ -7,7 +7,7 @@ ghost use Rattle.hv_task.specs.Strips.{atoms};
 ghost use Rattle.hv_lines.specs.Basic.{IsPlain};
 ghost use Rattle.hv_lines.specs.Meaning.{sets_of};
 ghost use Rattle.hv_lines.specs.Numbering.{expr_count};
-ghost use Rattle.hv_lines.specs.declared.diagrams.Node.{Node};
+ghost use Rattle.hv_bdd.specs.Nodes.{NodeList};
 ghost use Rattle.hv_basic.specs.Parts.{ArePlain, InAll, InSome, IsAtomsOf, IsInConstant, ListsStates, parts_of};
 
 use crate::sides::Side;
@@ -21,7 +21,7 @@ pub(crate) fn is_in(task: &Task, table: &Table, set: usize, state: &State, held:
     requires lists { ListsStates task.now table.now.lines }
     requires held { IsAtomsOf (atoms task.now) held.now }
     requires same { state.now ≡ state_of (atoms task.now) held.now }
-    ensures { (nodes : List Node) → (IsTrue result ↔ sets_of task.now nodes table.now.lines set state.now) }
+    ensures { (nodes : NodeList) → (IsTrue result ↔ sets_of task.now nodes table.now.lines set state.now) }
 {
     let _count = table.expr_count();
     match table.expr(set) {
@@ -62,7 +62,7 @@ pub(crate) fn is_in_all(task: &Task, table: &Table, side: Side, state: &State, h
     requires lists { ListsStates task.now table.now.lines }
     requires held { IsAtomsOf (atoms task.now) held.now }
     requires same { state.now ≡ state_of (atoms task.now) held.now }
-    ensures { (nodes : List Node) → (IsTrue result ↔ InAll task.now nodes table.now.lines (parts_of side) state.now) }
+    ensures { (nodes : NodeList) → (IsTrue result ↔ InAll task.now nodes table.now.lines (parts_of side) state.now) }
 {
     match side {
         Side::One(set) => is_in(task, table, set, state, held),
@@ -85,7 +85,7 @@ pub(crate) fn is_in_some(
     requires lists { ListsStates task.now table.now.lines }
     requires held { IsAtomsOf (atoms task.now) held.now }
     requires same { state.now ≡ state_of (atoms task.now) held.now }
-    ensures { (nodes : List Node) → (IsTrue result ↔ InSome task.now nodes table.now.lines (parts_of side) state.now) }
+    ensures { (nodes : NodeList) → (IsTrue result ↔ InSome task.now nodes table.now.lines (parts_of side) state.now) }
 {
     match side {
         Side::One(set) => is_in(task, table, set, state, held),

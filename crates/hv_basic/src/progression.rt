@@ -8,7 +8,7 @@ ghost use Rattle.hv_task.specs.State.{AreBelow, state_of};
 ghost use Rattle.hv_task.specs.Strips.{IsState, atoms};
 ghost use Rattle.hv_lines.specs.Basic.{CanAnchor};
 ghost use Rattle.hv_lines.specs.Numbering.{expr_count};
-ghost use Rattle.hv_lines.specs.declared.diagrams.Node.{Node};
+ghost use Rattle.hv_bdd.specs.Nodes.{NodeList};
 ghost use Rattle.hv_basic.specs.Clash.{EachKeeps, LeadsIn};
 ghost use Rattle.hv_basic.specs.Parts.{InSome, IsAtomsOf, parts_of};
 
@@ -44,7 +44,7 @@ impl Progression<'_> {
         requires sides { IsProgression self.now }
         requires set { set < expr_count self.now.table.now.lines }
         requires can { CanAnchor self.now.table.now.lines set }
-        ensures { IfOk result (λ yes. (nodes : List Node) → (IsTrue yes ↔ EachKeeps self.now.task.now nodes self.now.table.now.lines set (LeadsIn self.now.task.now nodes self.now.table.now.lines self.now.flags.now (parts_of self.now.others)))) }
+        ensures { IfOk result (λ yes. (nodes : NodeList) → (IsTrue yes ↔ EachKeeps self.now.task.now nodes self.now.table.now.lines set (LeadsIn self.now.task.now nodes self.now.table.now.lines self.now.flags.now (parts_of self.now.others)))) }
     {
         let _count = self.table.expr_count();
         let atoms = self.task.atoms();
@@ -70,7 +70,7 @@ impl Progression<'_> {
         requires sides { IsProgression self.now }
         requires room { HasRoom self.now.task.now steps.old }
         requires states { All (IsAtomsOf (atoms self.now.task.now)) states.now }
-        ensures { IfOk result (λ yes. (nodes : List Node) → (IsTrue yes ↔ All (λ held. LeadsIn self.now.task.now nodes self.now.table.now.lines self.now.flags.now (parts_of self.now.others) (state_of (atoms self.now.task.now) held)) states.now)) }
+        ensures { IfOk result (λ yes. (nodes : NodeList) → (IsTrue yes ↔ All (λ held. LeadsIn self.now.task.now nodes self.now.table.now.lines self.now.flags.now (parts_of self.now.others) (state_of (atoms self.now.task.now) held)) states.now)) }
     {
         for held in states {
             if !self.leads_in(steps, held)? {
@@ -85,7 +85,7 @@ impl Progression<'_> {
         requires sides { IsProgression self.now }
         requires room { HasRoom self.now.task.now steps.old }
         requires held { AreBelow (atoms self.now.task.now) held.now }
-        ensures leads { IfOk result (λ yes. (nodes : List Node) → (IsTrue yes ↔ LeadsIn self.now.task.now nodes self.now.table.now.lines self.now.flags.now (parts_of self.now.others) (state_of (atoms self.now.task.now) held.now))) }
+        ensures leads { IfOk result (λ yes. (nodes : NodeList) → (IsTrue yes ↔ LeadsIn self.now.task.now nodes self.now.table.now.lines self.now.flags.now (parts_of self.now.others) (state_of (atoms self.now.task.now) held.now))) }
         ensures room { OnOk result (HasRoom self.now.task.now steps.new) }
     {
         steps.state.hold(held);
@@ -102,7 +102,7 @@ impl Progression<'_> {
         requires sides { IsProgression self.now }
         requires room { HasRoom self.now.task.now steps.old }
         requires action { action < length self.now.task.now.actions }
-        ensures leads { IfOk result (λ yes. (nodes : List Node) → (IsTrue yes ↔ LeadsBy self.now nodes steps.old.state action)) }
+        ensures leads { IfOk result (λ yes. (nodes : NodeList) → (IsTrue yes ↔ LeadsBy self.now nodes steps.old.state action)) }
         ensures room { OnOk result (HasRoom self.now.task.now steps.new) }
         ensures state { OnOk result (steps.new.state ≡ steps.old.state) }
     {
@@ -123,7 +123,7 @@ impl Progression<'_> {
         requires sides { IsProgression self.now }
         requires state { IsState self.now.task.now after.now }
         requires held { IsListOf after.now held.now }
-        ensures { (nodes : List Node) → (IsTrue result ↔ InSome self.now.task.now nodes self.now.table.now.lines (parts_of self.now.others) after.now) }
+        ensures { (nodes : NodeList) → (IsTrue result ↔ InSome self.now.task.now nodes self.now.table.now.lines (parts_of self.now.others) after.now) }
     {
         is_in_some(self.task, self.table, self.others, after, held)
     }

@@ -3,7 +3,8 @@
 ghost use Rattle.std.specs.Prelude.{◌≡◌, ◌<◌, ◌↔◌, ℕ, List, IsTrue, IfOk};
 ghost use Rattle.hv_lines.specs.Basic.{BasicHolds, HasBuiltSides};
 ghost use Rattle.hv_lines.specs.Numbering.{SpeaksBelow, acts_count, expr_count};
-ghost use Rattle.hv_lines.specs.declared.diagrams.Node.{Node};
+ghost use Rattle.hv_lines.specs.Setting.{setting_of};
+ghost use Rattle.hv_bdd.specs.Nodes.{NodeList};
 ghost use Rattle.hv_lines.specs.declared.line.Statement.TheVariants as T;
 ghost use Rattle.hv_lines.specs.declared.line.Word.TheVariants as W;
 ghost use Rattle.hv_basic.specs.Parts.{ListsStates};
@@ -30,7 +31,8 @@ pub fn holds(
     requires speaks { SpeaksBelow (acts_count table.now.lines) (expr_count table.now.lines) statement.now }
     requires sides { HasBuiltSides table.now.lines statement.now word }
     requires lists { ListsStates task.now table.now.lines }
-    ensures { IfOk result (λ yes. (nodes : List Node) → (IsTrue yes ↔ BasicHolds task.now nodes budget table.now.lines statement.now word)) }
+    ensures { IfOk result (λ yes. (nodes : NodeList) → (IsTrue yes
+        ↔ BasicHolds (setting_of task.now nodes budget) table.now.lines statement.now word)) }
 {
     match statement {
         Statement::Sub(left, right) => match word {
@@ -60,7 +62,8 @@ fn inclusion_holds(
     requires right { right < expr_count table.now.lines }
     requires sides { HasBuiltSides table.now.lines (T.Sub left right) W.B1 }
     requires lists { ListsStates task.now table.now.lines }
-    ensures { IfOk result (λ yes. (nodes : List Node) → (IsTrue yes ↔ BasicHolds task.now nodes budget table.now.lines (T.Sub left right) W.B1)) }
+    ensures { IfOk result (λ yes. (nodes : NodeList) → (IsTrue yes
+        ↔ BasicHolds (setting_of task.now nodes budget) table.now.lines (T.Sub left right) W.B1)) }
 {
     let _count = table.expr_count();
     let Some(parts) = left_side(table, left) else {
@@ -97,7 +100,8 @@ fn progression_holds(
     requires right { right < expr_count table.now.lines }
     requires sides { HasBuiltSides table.now.lines (T.Sub left right) W.B2 }
     requires lists { ListsStates task.now table.now.lines }
-    ensures { IfOk result (λ yes. (nodes : List Node) → (IsTrue yes ↔ BasicHolds task.now nodes budget table.now.lines (T.Sub left right) W.B2)) }
+    ensures { IfOk result (λ yes. (nodes : NodeList) → (IsTrue yes
+        ↔ BasicHolds (setting_of task.now nodes budget) table.now.lines (T.Sub left right) W.B2)) }
 {
     let _count = table.expr_count();
     let Expr::After(set, acts) = table.expr(left) else {

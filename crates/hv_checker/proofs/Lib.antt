@@ -1,2 +1,5 @@
 pub mod GoodLines
+pub mod OneJudgement
+mod PieceReasons
 mod Standing
+mod Told

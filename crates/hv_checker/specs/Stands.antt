@@ -1,8 +1,7 @@
 -- A checker, and the pieces that it was fed.
-use Rattle.std.specs.Prelude.{◌≡◌, ◌+◌, ℕ, List, ◌∷◌, ◌++◌, length, reverse}
-use Rattle.hv_task.specs.Strips.{Strips}
-use Rattle.hv_lines.specs.Judged.{LineText, Accepts, IsReason, IsRefused, IsJudgedUnsolvable, IsInconclusive}
-use Rattle.hv_lines.specs.declared.diagrams.Node.{Node}
+use Rattle.std.specs.Prelude.{◌≡◌, ◌≢◌, ◌+◌, ℕ, List, ◌∷◌, ◌++◌, Option, Some, None, length, reverse}
+use Rattle.hv_lines.specs.Judged.{LineText, Accepts, Concludes, IsReason, IsRefused, IsJudgedUnsolvable, IsInconclusive}
+use Rattle.hv_lines.specs.Setting.{Setting}
 use Rattle.hv_lines.specs.declared.line.Line.{Line}
 use Rattle.hv_lines.specs.declared.reason.Reason.{Reason}
 use Rattle.hv_checker.specs.declared.stop.Stop.{Stop}
@@ -12,9 +11,7 @@ use Rattle.hv_checker.specs.declared.piece.End.TheVariants as E
 
 -- what contracts see of a checker
 pub record CheckerState : Type 0 where
-  pub task : Strips
-  pub nodes : List Node
-  pub budget : ℕ
+  pub setting : Setting
   -- the accepted lines, the newest first
   pub lines : List Line
   -- how many pieces were fed, up to and including the first that was refused or met want of memory
@@ -22,34 +19,53 @@ pub record CheckerState : Type 0 where
   -- whether it goes on, and if not why
   pub stop : Stop
 
--- The checker's lines, its count and its refusal are those that the pieces give, in the order in which they were fed: all
--- were accepted, or the first that wasn't is the refused one. It met no want of memory.
+-- where a piece was refused, counted from 1, and why
+pub record Refusal : Type 0 where
+  pub place : ℕ
+  pub reason : Reason
+
+-- the refusal after so many pieces, by whether the checker goes on
+abbrev pub refusal_at : ℕ → Stop → Option Refusal
+refusal_at fed S.Going = None
+refusal_at fed (S.Refused reason) = Some (record { place = fed; reason = reason })
+refusal_at fed S.Memory = None
+
+-- The refusal of the pieces fed so far, where there is one. All that is said of a checker after a
+-- refusal is said of this.
+abbrev pub refusal_of : CheckerState → Option Refusal
+refusal_of checker = refusal_at checker.fed checker.stop
+
+-- The checker's lines, its count and its refusal are those that the pieces give, in the order in
+-- which they were fed: all were accepted, or the first that wasn't is the refused one. It met no
+-- want of memory.
 abbrev pub StandsAt : CheckerState → Stop → List LineText → Type 0
 StandsAt checker S.Going pieces =
-    (checker.fed ≡ length pieces)
-    × Accepts checker.task checker.nodes checker.budget (reverse pieces) checker.lines
+    (checker.fed ≡ length pieces) × Accepts checker.setting (reverse pieces) checker.lines
 StandsAt checker (S.Refused reason) pieces =
-    (front : List LineText) × (bad : LineText) × (rest : List LineText) × (pieces ≡ front ++ bad ∷ rest)
-    × (checker.fed ≡ length front + 1)
-    × Accepts checker.task checker.nodes checker.budget (reverse front) checker.lines
-    × IsReason checker.task checker.nodes checker.budget checker.lines bad reason
+    (front : List LineText) × (bad : LineText) × (rest : List LineText)
+    × (pieces ≡ front ++ bad ∷ rest) × (checker.fed ≡ length front + 1) × Accepts checker.setting (reverse front) checker.lines
+    × IsReason checker.setting checker.lines bad reason
 StandsAt checker S.Memory pieces = ⊥
 
 -- the checker is as these pieces leave a new one
 abbrev pub Stands : CheckerState → List LineText → Type 0
 Stands checker pieces = StandsAt checker checker.stop pieces
 
+-- what the checker says of the pieces fed so far, by what it keeps
+abbrev pub SaysAtEnd : CheckerState → End → Type 0
+SaysAtEnd checker E.Unsolvable =
+    (refusal_of checker ≡ None) × (checker.stop ≢ S.Memory) × Concludes checker.lines
+SaysAtEnd checker (E.Refused place) =
+    (reason : Reason) × (refusal_of checker ≡ Some (record { place = place; reason = reason }))
+SaysAtEnd checker E.NoConclusion =
+    (refusal_of checker ≡ None) × (checker.stop ≢ S.Memory) × (Concludes checker.lines → ⊥)
+SaysAtEnd checker E.Memory = checker.stop ≡ S.Memory
+
 -- what the end says of the pieces
 abbrev pub IsEnd : CheckerState → List LineText → End → Type 0
-IsEnd checker pieces E.Unsolvable = IsJudgedUnsolvable checker.task checker.nodes checker.budget pieces
+IsEnd checker pieces E.Unsolvable = IsJudgedUnsolvable checker.setting pieces
 IsEnd checker pieces (E.Refused place) =
-    (reason : Reason) × (checker.stop ≡ S.Refused reason)
-    × IsRefused checker.task checker.nodes checker.budget pieces place reason
-IsEnd checker pieces E.NoConclusion = IsInconclusive checker.task checker.nodes checker.budget pieces
+    (reason : Reason) × (refusal_of checker ≡ Some (record { place = place; reason = reason }))
+    × IsRefused checker.setting pieces place reason
+IsEnd checker pieces E.NoConclusion = IsInconclusive checker.setting pieces
 IsEnd checker pieces E.Memory = ⊥
-
--- the task, the nodes and the budget stay
-pub record SameTask (old new : CheckerState) : Type 0 where
-  pub task : new.task ≡ old.task
-  pub nodes : new.nodes ≡ old.nodes
-  pub budget : new.budget ≡ old.budget

@@ -1,15 +1,19 @@
-ghost use Rattle.std.specs.Prelude.{◌≡◌, ◌≢◌, ◌<◌, ◌≤◌, ◌+◌, ◌^◌, ◌↔◌, ℕ, List, [], ◌∷◌, ◌++◌, Some, None, MatchOption, IfOk, OnOk, OnErr, IsTrue, option_copied};
+ghost use Rattle.std.specs.Prelude.{◌≡◌, ◌≢◌, ◌<◌, ◌≤◌, ◌+◌, ◌^◌, ◌↔◌, ℕ, List, [], ◌∷◌, ◌++◌, IfOk, OnOk, OnErr, IsTrue, option_copied, option_map};
 ghost use Rattle.hv_task.specs.Plan.{IsUnsolvable};
-ghost use Rattle.hv_lines.specs.Meaning.{AllTrue};
+ghost use Rattle.hv_task.specs.Strips.{atoms};
+ghost use Rattle.hv_lines.specs.Meaning.{AllTrue, AreTrue};
 ghost use Rattle.hv_lines.specs.Good.{AreGood};
 ghost use Rattle.hv_lines.specs.Judged.{Concludes, LineText};
-ghost use Rattle.hv_checker.specs.Stopping.{IsRefusal, stop_after};
+ghost use Rattle.hv_lines.specs.Setting.{most_budget, setting_of};
+ghost use Rattle.hv_checker.specs.Stopping.{stop_after};
 ghost use Rattle.hv_checker.specs.declared.stop.Stop.TheVariants as S;
 
 use crate::judge::{Bench, accept};
 use crate::piece::{End, Fed, Piece};
 use crate::stop::Stop;
-use hv_lines::{Diagrams, Reason, Statement, Table};
+use hv_bdd::Diagrams;
+use hv_lines::{Reason, Statement, Table};
+use hv_proof_text::LineReader;
 use hv_task::Task;
 use std::alloc::{AllocError, Global};
 use std::marker::Model;
@@ -22,6 +26,7 @@ pub struct Checker<'a> {
     task: &'a Task,
     diagrams: &'a Diagrams,
     budget: u64,
+    reader: LineReader,
     table: Table,
     fed: u64,
     stop: Stop,
@@ -29,33 +34,40 @@ pub struct Checker<'a> {
 
 impl<'a> Model for Checker<'a> {
     ghost use Rattle.hv_lines.specs.Good.{AreGood};
+    ghost use Rattle.hv_lines.specs.Setting.{IsSetting, setting_of};
     ghost use Rattle.hv_checker.specs.Stands.{CheckerState};
 
     ghost Value = { CheckerState };
 
-    ghost view = { λ c. record { task = c.task.now; nodes = c.diagrams.now.nodes; budget = c.budget; lines = c.table.lines; fed = c.fed; stop = c.stop } };
+    ghost view = { λ c. record {
+      setting = setting_of c.task.now c.diagrams.now c.budget;
+      lines = c.table.lines;
+      fed = c.fed;
+      stop = c.stop;
+    } };
 
-    ghost invariant = { λ c. AreGood c.task.now c.diagrams.now.nodes c.budget c.table.lines };
+    ghost invariant = { λ c.
+        let setting = setting_of c.task.now c.diagrams.now c.budget in
+        IsSetting setting × AreGood setting c.table.lines };
 }
 
 impl<'a> Checker<'a> {
     ghost use Rattle.hv_checker.specs.Heard.{IsAccepted};
-    ghost use Rattle.hv_checker.specs.Stands.{IsEnd, SameTask, Stands};
+    ghost use Rattle.hv_checker.specs.Stands.{IsEnd, SaysAtEnd, Stands, refusal_of};
     ghost use Rattle.hv_checker.specs.Texts.{text_of};
 
-    /// A checker that was fed nothing. The budget bounds the cost of each query of a basic statement; it is from 1 to
-    /// 16,777,216.
+    /// A checker that was fed nothing. The diagrams are over the atoms of the task. The budget bounds the cost of each query of a
+    /// basic statement; it is from 1 to 16,777,216.
     pub fn new(
         alloc: Global,
         task: &'a Task,
         diagrams: &'a Diagrams,
         budget: u64,
     ) -> Result<Checker<'a>, AllocError>
+        requires over { diagrams.now.atoms ≡ atoms task.now }
         requires some { 0 < budget }
-        requires small { budget ≤ 16777216 }
-        ensures task { IfOk result (λ c. c.task ≡ task.now) }
-        ensures nodes { IfOk result (λ c. c.nodes ≡ diagrams.now.nodes) }
-        ensures budget { IfOk result (λ c. c.budget ≡ budget) }
+        requires small { budget ≤ most_budget }
+        ensures setting { IfOk result (λ c. c.setting ≡ setting_of task.now diagrams.now budget) }
         ensures lines { IfOk result (λ c. c.lines ≡ []) }
         ensures fed { IfOk result (λ c. c.fed ≡ 0) }
         ensures stop { IfOk result (λ c. c.stop ≡ S.Going) }
@@ -66,6 +78,7 @@ impl<'a> Checker<'a> {
             task,
             diagrams,
             budget,
+            reader: LineReader::new(alloc),
             table: Table::new(alloc),
             fed: 0,
             stop: Stop::Going,
@@ -83,15 +96,17 @@ impl<'a> Checker<'a> {
     /// later piece is answered by `Stopped`.
     pub fn feed(&mut self, piece: Piece<'_>) -> Result<Fed, AllocError>
         requires { self.old.fed < 2 ^ 62 }
-        ensures same { SameTask self.old self.new }
-        ensures answers { self.old.stop ≡ S.Going → IfOk result (λ fed. IsAccepted self.old.task self.old.nodes self.old.budget self.old.lines self.new.lines (text_of piece.entry) fed) }
-        ensures stop { self.old.stop ≡ S.Going → IfOk result (λ fed. self.new.stop ≡ stop_after fed) }
+        ensures same { self.new.setting ≡ self.old.setting }
+        ensures answers { self.old.stop ≡ S.Going → IfOk result (λ fed.
+            IsAccepted self.old.setting self.old.lines self.new.lines (text_of piece.entry) fed) }
+        ensures stop { IfOk result (λ fed. self.new.stop ≡ stop_after self.old.stop fed) }
         ensures stopped { self.old.stop ≢ S.Going → (result ≡ Ok Fed.Stopped) × (self.new ≡ self.old) }
         ensures counted { self.old.stop ≡ S.Going → self.new.fed ≡ self.old.fed + 1 }
         ensures few { self.new.fed ≤ self.old.fed + 1 }
         ensures memory { OnErr result (self.new.stop ≡ S.Memory) }
         ensures lines { OnErr result (self.new.lines ≡ self.old.lines) }
-        ensures stands { OnOk result ((pieces : List LineText) → Stands self.old pieces → Stands self.new (pieces ++ text_of piece.entry ∷ [])) }
+        ensures stands { OnOk result ((pieces : List LineText) → Stands self.old pieces
+            → Stands self.new (pieces ++ text_of piece.entry ∷ [])) }
     {
         if !is_going(&self.stop) {
             return Ok(Fed::Stopped);
@@ -103,10 +118,10 @@ impl<'a> Checker<'a> {
             diagrams: self.diagrams,
             budget: self.budget,
         };
-        match accept(&bench, &mut self.table, piece) {
-            Ok(fed) => {
-                self.stop = stop_after(fed);
-                Ok(fed)
+        match accept(&bench, &mut self.reader, &mut self.table, piece) {
+            Ok(outcome) => {
+                self.stop = outcome.stop;
+                Ok(outcome.fed)
             }
             Err(error) => {
                 self.stop = Stop::Memory;
@@ -118,13 +133,10 @@ impl<'a> Checker<'a> {
     /// What is said of the pieces fed so far as a whole proof.
     pub fn end(&self) -> End
         ensures judged { (pieces : List LineText) → Stands self.now pieces → IsEnd self.now pieces result }
-        ensures sound { result ≡ End.Unsolvable → IsUnsolvable self.now.task }
-        ensures concludes { result ≡ End.Unsolvable → (self.now.stop ≡ S.Going) × Concludes self.now.lines }
-        ensures refused { (place : ℕ) → result ≡ End.Refused place → (place ≡ self.now.fed) × IsRefusal self.now.stop }
-        ensures silent { result ≡ End.NoConclusion → (self.now.stop ≡ S.Going) × (Concludes self.now.lines → ⊥) }
-        ensures memory { (result ≡ End.Memory) ↔ (self.now.stop ≡ S.Memory) }
+        ensures says { SaysAtEnd self.now result }
+        ensures sound { result ≡ End.Unsolvable → IsUnsolvable self.now.setting.task }
     {
-        match self.stop {
+        match &self.stop {
             Stop::Refused(_) => End::Refused(self.fed),
             Stop::Memory => End::Memory,
             Stop::Going => {
@@ -137,21 +149,22 @@ impl<'a> Checker<'a> {
         }
     }
 
-    /// Why the last piece was refused, where one was.
+    /// Why a piece was refused, where one was.
     pub fn reason(&self) -> Option<&Reason>
-        ensures { MatchOption (option_copied result) ((reason : Reason) → self.now.stop ≢ S.Refused reason) (λ reason. self.now.stop ≡ S.Refused reason) }
+        ensures { option_copied result ≡ option_map (λ r. r.reason) (refusal_of self.now) }
     {
         match &self.stop {
             Stop::Refused(reason) => Some(reason),
-            _ => None,
+            Stop::Going | Stop::Memory => None,
         }
     }
 
-    /// The accepted lines.
+    /// The accepted lines. Each statement that they claim is true.
     pub fn table(&self) -> &Table
         ensures lines { result.now.lines ≡ self.now.lines }
-        ensures good { AreGood self.now.task self.now.nodes self.now.budget self.now.lines }
-        ensures sound { AllTrue self.now.task self.now.nodes self.now.lines }
+        ensures good { AreGood self.now.setting self.now.lines }
+        ensures sound { AllTrue self.now.setting.task self.now.setting.nodes self.now.lines }
+        ensures each { AreTrue self.now.setting.task self.now.setting.nodes self.now.lines }
     {
         &self.table
     }
@@ -163,16 +176,6 @@ fn is_going(stop: &Stop) -> bool
     match stop {
         Stop::Going => true,
         Stop::Refused(_) | Stop::Memory => false,
-    }
-}
-
-/// Whether a checker goes on after this answer.
-fn stop_after(fed: Fed) -> Stop
-    ensures { result ≡ stop_after fed }
-{
-    match fed {
-        Fed::Refused(reason) => Stop::Refused(reason),
-        Fed::Skipped | Fed::Good | Fed::Stopped => Stop::Going,
     }
 }
 

@@ -6,7 +6,8 @@ ghost use Rattle.hv_task.specs.State.{AreBelow};
 ghost use Rattle.hv_lines.specs.Numbering.{ActsReferBelow, ExprRefersBelow, IsNumbered, RefersBack, SpeaksBelow, acts_count, expr_count, known_count};
 ghost use Rattle.hv_lines.specs.Good.{ActsAreWithin, ClausesAreBelow, ExprIsWithin, IsBuilt, IsBuiltExpr, IsBuiltWord, IsKnown, IsWithin};
 
-use hv_lines::{Acts, Diagrams, Expr, Line, Statement, Table, Word};
+use hv_bdd::Diagrams;
+use hv_lines::{Acts, Expr, Line, Statement, Table, Word};
 use hv_sets::{Clauses, Literal};
 use hv_task::{AtomList, Task};
 
@@ -52,7 +53,7 @@ pub(crate) fn is_numbered(table: &Table, line: &Line) -> bool
 
 /// Whether all that the line refers to is there.
 pub(crate) fn is_known(task: &Task, diagrams: &Diagrams, table: &Table, line: &Line) -> bool
-    ensures { IsTrue result ↔ IsKnown task.now diagrams.now.nodes table.now.lines line.now }
+    ensures { IsTrue result ↔ IsKnown task.now diagrams.now table.now.lines line.now }
 {
     refers_back(table, line) && is_within(task, diagrams, line)
 }
@@ -120,7 +121,7 @@ fn are_below(count: u32, numbers: &[u32]) -> bool
 }
 
 fn is_within(task: &Task, diagrams: &Diagrams, line: &Line) -> bool
-    ensures { IsTrue result ↔ IsWithin task.now diagrams.now.nodes line.now }
+    ensures { IsTrue result ↔ IsWithin task.now diagrams.now line.now }
 {
     match line {
         Line::Acts { acts, .. } => acts_are_within(task, acts),
@@ -139,7 +140,7 @@ fn acts_are_within(task: &Task, acts: &Acts) -> bool
 }
 
 fn expr_is_within(task: &Task, diagrams: &Diagrams, expr: &Expr) -> bool
-    ensures { IsTrue result ↔ ExprIsWithin task.now diagrams.now.nodes expr.now }
+    ensures { IsTrue result ↔ ExprIsWithin task.now diagrams.now expr.now }
 {
     match expr {
         Expr::Horn(clauses) | Expr::Two(clauses) => clauses_are_below(task.atoms(), clauses),
@@ -152,10 +153,12 @@ fn expr_is_within(task: &Task, diagrams: &Diagrams, expr: &Expr) -> bool
 fn clauses_are_below(count: u32, clauses: &Clauses) -> bool
     ensures { IsTrue result ↔ ClausesAreBelow count clauses.now }
 {
-    clauses
-        .as_slice()
-        .iter()
-        .all(|clause| clause_is_below(count, clause.as_slice()))
+    for place in 0..clauses.len() {
+        if !clause_is_below(count, clauses.get(place)) {
+            return false;
+        }
+    }
+    true
 }
 
 fn clause_is_below(count: u32, clause: &[Literal]) -> bool

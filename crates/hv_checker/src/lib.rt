@@ -4,6 +4,7 @@
 pub mod checker;
 mod conditions;
 mod judge;
+pub mod laws;
 pub mod piece;
 pub mod stop;
 #[cfg(test)]
@@ -11,5 +12,6 @@ mod tests;
 
 pub use checker::Checker;
 pub use hv_lines::Reason;
+pub use laws::one_judgement;
 pub use piece::{End, Fed, Piece};
 pub use stop::Stop;

@@ -5,12 +5,12 @@ use hv_lines::Reason;
 pub enum Piece<'b> {
     /// The bytes of the line without its LF.
     Line(&'b [u8]),
-    /// A line that is longer than a line may be, or ends past the end of what is read.
+    /// A line with more bytes than a line may have, or whose last byte lies past what a file may have.
     Long,
 }
 
 /// What a checker says of a piece.
-#[derive(Clone, Copy, Debug, PartialEq, Eq)]
+#[derive(Drop, PartialEq, Eq)]
 pub enum Fed {
     /// An empty line or a comment.
     Skipped,

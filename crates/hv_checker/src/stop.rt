@@ -1,12 +1,12 @@
 use hv_lines::Reason;
 
 /// Whether a checker goes on.
-#[derive(Clone, Copy, Debug, PartialEq, Eq)]
+#[derive(Drop, PartialEq, Eq)]
 pub enum Stop {
     /// No piece was refused, and no want of memory was met.
     Going,
-    /// The piece fed last was refused.
+    /// The last piece that was counted was refused.
     Refused(Reason),
-    /// The piece fed last met want of memory.
+    /// The last piece that was counted met want of memory.
     Memory,
 }

@@ -12,8 +12,7 @@ use Rattle.hv_task.specs.State.{applicable, successor, state_of}
 use Rattle.hv_task.specs.Strips.{Strips, IsState, atoms, start_state, is_goal}
 use Rattle.hv_task.proofs.Places.{IsState-successor, beq-Decides}
 use Rattle.hv_sets.specs.Truth.{in_clauses}
-use Rattle.hv_lines.specs.Nodes.{in_node}
-use Rattle.hv_lines.specs.declared.diagrams.Node.{Node}
+use Rattle.hv_bdd.specs.Nodes.{NodeList, in_node}
 use Rattle.hv_lines.specs.declared.line.Constant.TheVariants as C
 use Rattle.hv_lines.specs.declared.line.Expr.{Expr}
 use Rattle.hv_lines.specs.declared.line.Expr.TheVariants as E
@@ -170,7 +169,7 @@ module _ (task : Strips) where
       (λ t is_state. both_dec (S t) (SomeStep acts t (λ r. r ≡ s)) (each t is_state)
       (some_step_dec acts t (λ r. r ≡ s) (λ a. same_dec (successor a t) s))))
 
-  module _ (nodes : List Node) where
+  module _ (nodes : NodeList) where
     holds_dec : (acts : ℕ → ActionSet) (sets : ℕ → StateSet) → ((e : ℕ) (s : List Bool) → IsState task s → Dec (sets e s)) → (x : Expr)
         → (s : List Bool) → IsState task s → Dec (holds task nodes acts sets x s)
     holds_dec acts sets each (E.Constant C.Empty) s is_state = no (λ h. h)

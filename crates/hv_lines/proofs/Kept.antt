@@ -1,7 +1,7 @@
 -- A true statement stays true when a line is added, so what the lines claim is true of all of them.
 use Rattle.std.proofs.Common.{◌≡◌, ℕ, ◌<◌, Bool, true, List, [], ◌∷◌, Some, sym, subst, inl, inr}
 use Rattle.hv_task.specs.Strips.{Strips}
-use Rattle.hv_lines.specs.declared.diagrams.Node.{Node}
+use Rattle.hv_bdd.specs.Nodes.{NodeList}
 use Rattle.hv_lines.specs.declared.line.Line.{Line}
 use Rattle.hv_lines.specs.declared.line.Line.TheVariants as L
 use Rattle.hv_lines.specs.declared.line.Statement.{Statement}
@@ -10,7 +10,7 @@ use Rattle.hv_lines.specs.Numbering.{acts_count, expr_count, statement_at, Speak
 use Rattle.hv_lines.specs.Meaning.{StateSet, ActionSet, sets_of, IsTrueStatement, AllTrue}
 use Rattle.hv_lines.proofs.Laws.{acts_more, sets_more, speaks_at, found_cases}
 
-module _ (task : Strips) (nodes : List Node) where
+module _ (task : Strips) (nodes : NodeList) where
   -- an earlier set has the same states after a line was added
   pub kept_in : (line : Line) (older : List Line) (e : ℕ) → IsNext older line → e < expr_count older → (state : List Bool)
       → sets_of task nodes older e state → sets_of task nodes (line ∷ older) e state

@@ -4,7 +4,7 @@ use Rattle.std.proofs.lemmas.Bool.{cases_eq, eq-eqb, ne_eqb, cond-true, cond-fal
 use Rattle.std.proofs.lemmas.Option.{same_Some}
 use Rattle.hv_task.specs.Strips.{Strips}
 use Rattle.hv_task.specs.State.{AreBelow}
-use Rattle.hv_lines.specs.declared.diagrams.Node.{Node}
+use Rattle.hv_bdd.specs.Nodes.{NodeList}
 use Rattle.hv_lines.specs.declared.line.Acts.{Acts}
 use Rattle.hv_lines.specs.declared.line.Acts.TheVariants as A
 use Rattle.hv_lines.specs.declared.line.Constant.TheVariants as C
@@ -314,7 +314,7 @@ pick_set-true : (test : Bool) (here there : StateSet) → test ≡ true → pick
 pick_set-true true here there h = refl
 pick_set-true false here there h = absurd (cc)
 
-module _ (task : Strips) (nodes : List Node) where
+module _ (task : Strips) (nodes : NodeList) where
   pub sets_more : (line : Line) (older : List Line) (e : ℕ) → IsNext older line → e < expr_count older
       → sets_of task nodes (line ∷ older) e ≡ sets_of task nodes older e
   sets_more (L.Acts id x) older e next below = refl

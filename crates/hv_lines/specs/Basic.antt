@@ -5,7 +5,7 @@ use Rattle.hv_task.specs.Strips.{Strips}
 use Rattle.hv_lines.specs.Meaning.{acts_of, IsTrueStatement}
 use Rattle.hv_lines.specs.Rules.{IsExpr}
 use Rattle.hv_lines.specs.Numbering.{expr_at}
-use Rattle.hv_lines.specs.declared.diagrams.Node.{Node}
+use Rattle.hv_lines.specs.Setting.{Setting}
 use Rattle.hv_lines.specs.declared.line.Constant.{Constant}
 use Rattle.hv_lines.specs.declared.line.Constant.TheVariants as C
 use Rattle.hv_lines.specs.declared.line.Expr.{Expr}
@@ -79,12 +79,13 @@ HasSomeAction task lines acts = (number : ℕ) × (number < length task.actions)
 -- A basic statement is accepted where it is offered, its cost is within the budget, and it is true. Over listed states it is
 -- offered where there is an anchor, and its cost is the number of states that the anchor lists; `b2` asks one query for each
 -- action, so without an action there is no cost.
-abbrev pub BasicHolds : Strips → List Node → ℕ → List Line → Statement → Word → Type 0
-BasicHolds task nodes budget lines (T.Sub left right) W.B1 =
+abbrev pub BasicHolds : Setting → List Line → Statement → Word → Type 0
+BasicHolds setting lines (T.Sub left right) W.B1 =
     (parts : List ℕ) × (anchor : ℕ) × IsLeftSide lines left parts × IsAnchor lines parts anchor
-    × (states_listed (expr_at lines anchor) ≤ budget) × IsTrueStatement task nodes lines (T.Sub left right)
-BasicHolds task nodes budget lines (T.Sub left right) W.B2 =
+    × (states_listed (expr_at lines anchor) ≤ setting.budget)
+    × IsTrueStatement setting.task setting.nodes lines (T.Sub left right)
+BasicHolds setting lines (T.Sub left right) W.B2 =
     (set : ℕ) × (acts : ℕ) × IsExpr lines left (E.After set acts) × CanAnchor lines set
-    × (HasSomeAction task lines acts → states_listed (expr_at lines set) ≤ budget)
-    × IsTrueStatement task nodes lines (T.Sub left right)
-BasicHolds task nodes budget lines _ _ = Unit {0}
+    × (HasSomeAction setting.task lines acts → states_listed (expr_at lines set) ≤ setting.budget)
+    × IsTrueStatement setting.task setting.nodes lines (T.Sub left right)
+BasicHolds setting lines _ _ = Unit {0}

@@ -1,5 +1,5 @@
 -- When a line is good after the lines accepted before it, and the reason why another isn't.
-use Rattle.std.specs.Prelude.{◌<◌, ◌+◌, ◌⊎◌, ℕ, List, [], ◌∷◌, length}
+use Rattle.std.specs.Prelude.{◌<◌, ℕ, List, [], ◌∷◌, length}
 use Rattle.std.specs.List.{All}
 use Rattle.hv_task.specs.State.{AreBelow}
 use Rattle.hv_task.specs.Strips.{Strips, atoms}
@@ -8,7 +8,10 @@ use Rattle.hv_lines.specs.Spelling.{IsSpelled}
 use Rattle.hv_lines.specs.Numbering.{IsNumbered, RefersBack}
 use Rattle.hv_lines.specs.Rules.{Fits}
 use Rattle.hv_lines.specs.Basic.{HasBuiltSides, BasicHolds}
-use Rattle.hv_lines.specs.declared.diagrams.Node.{Node}
+use Rattle.hv_lines.specs.Order.{Test, IsReasonBy}
+use Rattle.hv_lines.specs.Order as O
+use Rattle.hv_lines.specs.Setting.{Setting}
+use Rattle.hv_bdd.specs.Nodes.{NodeList, IsNode}
 use Rattle.hv_lines.specs.declared.line.Acts.{Acts}
 use Rattle.hv_lines.specs.declared.line.Acts.TheVariants as A
 use Rattle.hv_lines.specs.declared.line.Expr.{Expr}
@@ -18,7 +21,6 @@ use Rattle.hv_lines.specs.declared.line.Line.TheVariants as L
 use Rattle.hv_lines.specs.declared.line.Word.{Word}
 use Rattle.hv_lines.specs.declared.line.Word.TheVariants as W
 use Rattle.hv_lines.specs.declared.reason.Reason.{Reason}
-use Rattle.hv_lines.specs.declared.reason.Reason.TheVariants as R
 
 -- the set is of a form that is checked so far
 abbrev pub IsBuiltExpr : Expr → Type 0
@@ -51,21 +53,21 @@ abbrev pub ClausesAreBelow : ℕ → List (List Literal) → Type 0
 ClausesAreBelow bound clauses = All (All (λ l. l.atom < bound)) clauses
 
 -- the set names atoms of the task and nodes of the list alone
-abbrev pub ExprIsWithin : Strips → List Node → Expr → Type 0
+abbrev pub ExprIsWithin : Strips → NodeList → Expr → Type 0
 ExprIsWithin task nodes (E.Horn clauses) = ClausesAreBelow (atoms task) clauses
 ExprIsWithin task nodes (E.Two clauses) = ClausesAreBelow (atoms task) clauses
 ExprIsWithin task nodes (E.States states) = All (AreBelow (atoms task)) states
-ExprIsWithin task nodes (E.Node node) = node < length nodes + 2
+ExprIsWithin task nodes (E.Node node) = IsNode nodes node
 ExprIsWithin task nodes _ = Unit {0}
 
 -- the line names actions and atoms of the task and nodes of the list alone
-abbrev pub IsWithin : Strips → List Node → Line → Type 0
+abbrev pub IsWithin : Strips → NodeList → Line → Type 0
 IsWithin task nodes (L.Acts id acts) = ActsAreWithin task acts
 IsWithin task nodes (L.Expr id expr) = ExprIsWithin task nodes expr
 IsWithin task nodes (L.Known id statement word premises) = Unit {0}
 
 -- all that the line refers to is there
-abbrev pub IsKnown : Strips → List Node → List Line → Line → Type 0
+abbrev pub IsKnown : Strips → NodeList → List Line → Line → Type 0
 IsKnown task nodes lines line = RefersBack lines line × IsWithin task nodes line
 
 -- the word is one of the 23 derivation rules
@@ -89,41 +91,35 @@ SidesAreBuilt lines (L.Acts id acts) = Unit {0}
 SidesAreBuilt lines (L.Expr id expr) = Unit {0}
 SidesAreBuilt lines (L.Known id statement word premises) = HasBuiltSides lines statement word
 
--- where the line is justified by a basic statement, the statement is offered, within the budget, and true
-abbrev pub StatementHolds : Strips → List Node → ℕ → List Line → Line → Type 0
-StatementHolds task nodes budget lines (L.Acts id acts) = Unit {0}
-StatementHolds task nodes budget lines (L.Expr id expr) = Unit {0}
-StatementHolds task nodes budget lines (L.Known id statement word premises) =
-    BasicHolds task nodes budget lines statement word
+-- where the line is justified by a basic statement, the statement is offered, within the budget, and
+-- true
+abbrev pub StatementHolds : Setting → List Line → Line → Type 0
+StatementHolds setting lines (L.Acts id acts) = Unit {0}
+StatementHolds setting lines (L.Expr id expr) = Unit {0}
+StatementHolds setting lines (L.Known id statement word premises) =
+    BasicHolds setting lines statement word
 
--- the line is good after these lines, of which the newest is the first
-pub record IsGood (task : Strips) (nodes : List Node) (budget : ℕ) (lines : List Line) (line : Line) : Type 0 where
-  pub spelled : IsSpelled line
-  pub built : IsBuilt line
-  pub numbered : IsNumbered lines line
-  pub known : IsKnown task nodes lines line
-  pub sides : SidesAreBuilt lines line
-  pub rule : RuleHolds lines line
-  pub holds : StatementHolds task nodes budget lines line
+-- the line passes the test, after these lines, of which the newest is the first; whether it is too
+-- long is seen at the piece that spells it
+abbrev pub LinePasses : Setting → List Line → Line → Test → Type 0
+LinePasses setting lines line O.Length = Unit {0}
+LinePasses setting lines line O.Spelling = IsSpelled line
+LinePasses setting lines line O.Form = IsBuilt line
+LinePasses setting lines line O.Number = IsNumbered lines line
+LinePasses setting lines line O.Reference = IsKnown setting.task setting.nodes lines line
+LinePasses setting lines line O.Sides = SidesAreBuilt lines line
+LinePasses setting lines line O.Rule = RuleHolds lines line
+LinePasses setting lines line O.Holding = StatementHolds setting lines line
+
+-- the line is good after these lines: it passes each test
+abbrev pub IsGood : Setting → List Line → Line → Type 0
+IsGood setting lines line = (test : Test) → LinePasses setting lines line test
 
 -- each line is good after those before it; the newest is the first
-abbrev pub AreGood : Strips → List Node → ℕ → List Line → Type 0
-AreGood task nodes budget [] = Unit {0}
-AreGood task nodes budget (line ∷ older) = IsGood task nodes budget older line × AreGood task nodes budget older
+abbrev pub AreGood : Setting → List Line → Type 0
+AreGood setting [] = Unit {0}
+AreGood setting (line ∷ older) = IsGood setting older line × AreGood setting older
 
--- the reason why a line that has a spelling isn't good: the first test that it fails
-abbrev pub IsReasonOf : Strips → List Node → ℕ → List Line → Line → Reason → Type 0
-IsReasonOf task nodes budget lines line R.Long = ⊥
-IsReasonOf task nodes budget lines line R.Grammar = ⊥
-IsReasonOf task nodes budget lines line R.Number = IsBuilt line × (IsNumbered lines line → ⊥)
-IsReasonOf task nodes budget lines line R.Unknown =
-    IsBuilt line × IsNumbered lines line × (IsKnown task nodes lines line → ⊥)
-IsReasonOf task nodes budget lines line R.Unbuilt =
-    (IsBuilt line → ⊥)
-    ⊎ (IsBuilt line × IsNumbered lines line × IsKnown task nodes lines line × (SidesAreBuilt lines line → ⊥))
-IsReasonOf task nodes budget lines line R.Rule =
-    IsBuilt line × IsNumbered lines line × IsKnown task nodes lines line × SidesAreBuilt lines line
-    × (RuleHolds lines line → ⊥)
-IsReasonOf task nodes budget lines line R.NotGood =
-    IsBuilt line × IsNumbered lines line × IsKnown task nodes lines line × SidesAreBuilt lines line
-    × RuleHolds lines line × (StatementHolds task nodes budget lines line → ⊥)
+-- the reason why a line that has a spelling isn't good after these lines
+abbrev pub IsReasonOf : Setting → List Line → Line → Reason → Type 0
+IsReasonOf setting lines line reason = IsReasonBy (LinePasses setting lines line) reason

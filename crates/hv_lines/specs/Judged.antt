@@ -1,41 +1,47 @@
 -- What a checker says of a whole proof.
-use Rattle.std.specs.Prelude.{◌≡◌, ◌+◌, ◌⊎◌, ℕ, List, [], ◌∷◌, ◌++◌, Option, Some, None, length, reverse}
-use Rattle.hv_task.specs.Strips.{Strips}
+use Rattle.std.specs.Prelude.{◌≡◌, ◌+◌, ◌⊎◌, ℕ, List, [], ◌∷◌, ◌++◌, Some, None, length, reverse}
+use Rattle.hv_bytes.specs.Pieces.{Piece, pieces_of}
+use Rattle.hv_bytes.specs.declared.cutting.Limits.{Limits}
 use Rattle.hv_lines.specs.Spelling.{Spells, IsSkipped}
 use Rattle.hv_lines.specs.Rules.{Says}
-use Rattle.hv_lines.specs.Good.{IsGood, IsReasonOf}
-use Rattle.hv_lines.specs.declared.diagrams.Node.{Node}
+use Rattle.hv_lines.specs.Good.{IsGood, LinePasses}
+use Rattle.hv_lines.specs.Order.{Test, IsReasonBy, without_state}
+use Rattle.hv_lines.specs.Order as O
+use Rattle.hv_lines.specs.Setting.{Setting}
 use Rattle.hv_lines.specs.declared.line.Line.{Line}
 use Rattle.hv_lines.specs.declared.line.Statement.TheVariants as T
 use Rattle.hv_lines.specs.declared.reason.Reason.{Reason}
-use Rattle.hv_lines.specs.declared.reason.Reason.TheVariants as R
 
 -- a piece of a proof: the bytes of a line without its LF, or none where the line is too long
 abbrev pub LineText : Type 0
-LineText = Option (List ℕ)
+LineText = Piece
 
 -- a piece is skipped: it is an empty line or a comment
 abbrev pub IsPassedOver : LineText → Type 0
 IsPassedOver None = ⊥
 IsPassedOver (Some bytes) = IsSkipped bytes
 
--- the lines that are accepted of these pieces: each piece is skipped, or spells a line that is good after those before it.
--- Pieces and lines have the newest first.
-abbrev pub Accepts : Strips → List Node → ℕ → List LineText → List Line → Type 0
-Accepts task nodes budget [] lines = lines ≡ []
-Accepts task nodes budget (None ∷ older) lines = ⊥
-Accepts task nodes budget (Some bytes ∷ older) lines =
-    (IsSkipped bytes × Accepts task nodes budget older lines)
+-- the lines that are accepted of these pieces: each piece is skipped, or spells a line that is good
+-- after those before it. Pieces and lines have the newest first.
+abbrev pub Accepts : Setting → List LineText → List Line → Type 0
+Accepts setting [] lines = lines ≡ []
+Accepts setting (None ∷ older) lines = ⊥
+Accepts setting (Some bytes ∷ older) lines =
+    (IsSkipped bytes × Accepts setting older lines)
     ⊎ ((line : Line) × (before : List Line) × (lines ≡ line ∷ before) × Spells line bytes
-    × IsGood task nodes budget before line × Accepts task nodes budget older before)
+    × IsGood setting before line × Accepts setting older before)
+
+-- The piece passes the test, after these lines. One that is too long passes no test. Each other one
+-- passes the first test, and a later one where it is skipped or spells a line that passes it.
+abbrev pub Passes : Setting → List Line → LineText → Test → Type 0
+Passes setting lines None test = ⊥
+Passes setting lines (Some bytes) O.Length = Unit {0}
+Passes setting lines (Some bytes) test =
+    IsSkipped bytes ⊎ ((line : Line) × Spells line bytes × LinePasses setting lines line test)
 
 -- the reason why this piece is refused after these lines
-abbrev pub IsReason : Strips → List Node → ℕ → List Line → LineText → Reason → Type 0
-IsReason task nodes budget lines None reason = reason ≡ R.Long
-IsReason task nodes budget lines (Some bytes) R.Grammar =
-    (IsSkipped bytes → ⊥) × ((line : Line) → Spells line bytes → ⊥)
-IsReason task nodes budget lines (Some bytes) reason =
-    (line : Line) × Spells line bytes × IsReasonOf task nodes budget lines line reason
+abbrev pub IsReason : Setting → List Line → LineText → Reason → Type 0
+IsReason setting lines piece reason = IsReasonBy (Passes setting lines piece) reason
 
 -- some line says that the task is unsolvable
 abbrev pub Concludes : List Line → Type 0
@@ -43,7 +49,7 @@ Concludes lines = (premise : ℕ) × Says lines premise T.Unsolvable
 
 -- the first piece that isn't good, counted from 1 with the skipped ones, and why
 pub record IsRefused
-    (task : Strips) (nodes : List Node) (budget : ℕ) (pieces : List LineText) (place : ℕ) (reason : Reason) : Type 0
+    (setting : Setting) (pieces : List LineText) (place : ℕ) (reason : Reason) : Type 0
   where
     pub front : List LineText
     pub bad : LineText
@@ -51,17 +57,41 @@ pub record IsRefused
     pub cut : pieces ≡ front ++ bad ∷ rest
     pub counted : place ≡ length front + 1
     pub lines : List Line
-    pub accepted : Accepts task nodes budget (reverse front) lines
-    pub reason_is : IsReason task nodes budget lines bad reason
+    pub accepted : Accepts setting (reverse front) lines
+    pub reason_is : IsReason setting lines bad reason
 
 -- every piece is skipped or good, and some line says that the task is unsolvable
-pub record IsJudgedUnsolvable (task : Strips) (nodes : List Node) (budget : ℕ) (pieces : List LineText) : Type 0 where
+pub record IsJudgedUnsolvable (setting : Setting) (pieces : List LineText) : Type 0 where
   pub lines : List Line
-  pub accepted : Accepts task nodes budget (reverse pieces) lines
+  pub accepted : Accepts setting (reverse pieces) lines
   pub concludes : Concludes lines
 
 -- every piece is skipped or good, and no line says that the task is unsolvable
-pub record IsInconclusive (task : Strips) (nodes : List Node) (budget : ℕ) (pieces : List LineText) : Type 0 where
+pub record IsInconclusive (setting : Setting) (pieces : List LineText) : Type 0 where
   pub lines : List Line
-  pub accepted : Accepts task nodes budget (reverse pieces) lines
+  pub accepted : Accepts setting (reverse pieces) lines
   pub silent : Concludes lines → ⊥
+
+-- what is said of a whole proof
+pub data Judgement : Type 0 where
+  Unsolvable : Judgement
+  -- the place of the first piece that isn't good, and why
+  Refused : ℕ → Reason → Judgement
+  NoConclusion : Judgement
+
+-- what is said of a list of pieces
+abbrev pub Judged : Setting → List LineText → Judgement → Type 0
+Judged setting pieces Unsolvable = IsJudgedUnsolvable setting pieces
+Judged setting pieces (Refused place reason) = IsRefused setting pieces place reason
+Judged setting pieces NoConclusion = IsInconclusive setting pieces
+
+-- what is said of the bytes of a proof, cut into lines; a line that is long by the limits is the
+-- last piece, and is refused
+abbrev pub JudgedBytes : Setting → Limits → List ℕ → Judgement → Type 0
+JudgedBytes setting limits bytes judgement = Judged setting (pieces_of limits bytes) judgement
+
+-- what of a judgement is determined: all but the state of a counterexample
+abbrev pub outline_of : Judgement → Judgement
+outline_of Unsolvable = Unsolvable
+outline_of (Refused place reason) = Refused place (without_state reason)
+outline_of NoConclusion = NoConclusion

@@ -1,4 +1,4 @@
-pub mod Nodes
+pub mod Setting
 pub mod Spelling
 pub mod Numbering
 pub mod Literals
@@ -6,5 +6,6 @@ pub mod TableState
 pub mod Meaning
 pub mod Rules
 pub mod Basic
+pub mod Order
 pub mod Good
 pub mod Judged

@@ -6,8 +6,8 @@ use Rattle.hv_task.specs.State.{applicable, successor}
 use Rattle.hv_task.specs.Strips.{Strips, atoms, IsState, start_state, is_goal}
 use Rattle.hv_task.specs.Plan.{Dead, IsUnsolvable}
 use Rattle.hv_sets.specs.Truth.{in_clauses, InStates}
-use Rattle.hv_lines.specs.Nodes.{in_node}
-use Rattle.hv_lines.specs.declared.diagrams.Node.{Node}
+use Rattle.hv_bdd.specs.Nodes.{NodeList, in_node}
+use Rattle.hv_lines.specs.Numbering.{statement_at}
 use Rattle.hv_lines.specs.declared.line.Acts.{Acts}
 use Rattle.hv_lines.specs.declared.line.Acts.TheVariants as A
 use Rattle.hv_lines.specs.declared.line.Constant.TheVariants as C
@@ -54,7 +54,7 @@ pub record IsBefore (task : Strips) (set : StateSet) (acts : ActionSet) (state :
   pub inside : set (successor action state)
 
 -- the states of a set, where the earlier action sets and sets have these
-abbrev pub holds : Strips → List Node → (ℕ → ActionSet) → (ℕ → StateSet) → Expr → StateSet
+abbrev pub holds : Strips → NodeList → (ℕ → ActionSet) → (ℕ → StateSet) → Expr → StateSet
 holds task nodes acts sets (E.Constant C.Empty) state = ⊥
 holds task nodes acts sets (E.Constant C.Start) state = state ≡ start_state task
 holds task nodes acts sets (E.Constant C.Goal) state = is_goal task state ≡ true
@@ -87,7 +87,7 @@ acts_of (L.Expr id expr ∷ older) wanted = acts_of older wanted
 acts_of (L.Known id statement word premises ∷ older) wanted = acts_of older wanted
 
 -- the states of each set of the lines, the newest line first
-abbrev pub sets_of : Strips → List Node → List Line → ℕ → StateSet
+abbrev pub sets_of : Strips → NodeList → List Line → ℕ → StateSet
 sets_of task nodes [] wanted = λ state. ⊥
 sets_of task nodes (L.Acts id acts ∷ older) wanted = sets_of task nodes older wanted
 sets_of task nodes (L.Expr id expr ∷ older) wanted =
@@ -96,7 +96,7 @@ sets_of task nodes (L.Expr id expr ∷ older) wanted =
 sets_of task nodes (L.Known id statement word premises ∷ older) wanted = sets_of task nodes older wanted
 
 -- the statement is true: of the sets that these lines name
-abbrev pub IsTrueStatement : Strips → List Node → List Line → Statement → Type 0
+abbrev pub IsTrueStatement : Strips → NodeList → List Line → Statement → Type 0
 IsTrueStatement task nodes lines (T.Sub left right) =
     (state : List Bool) → IsState task state → sets_of task nodes lines left state → sets_of task nodes lines right state
 IsTrueStatement task nodes lines (T.ActSub left right) =
@@ -105,10 +105,16 @@ IsTrueStatement task nodes lines (T.Dead set) =
     (state : List Bool) → IsState task state → sets_of task nodes lines set state → Dead task state
 IsTrueStatement task nodes lines T.Unsolvable = IsUnsolvable task
 
--- every `k` line of the list claims what is true
-abbrev pub AllTrue : Strips → List Node → List Line → Type 0
+-- every `k` line of the list claims what is true of the sets that the lines before it name
+abbrev pub AllTrue : Strips → NodeList → List Line → Type 0
 AllTrue task nodes [] = Unit {0}
 AllTrue task nodes (L.Acts id acts ∷ older) = AllTrue task nodes older
 AllTrue task nodes (L.Expr id expr ∷ older) = AllTrue task nodes older
 AllTrue task nodes (L.Known id statement word premises ∷ older) =
     IsTrueStatement task nodes older statement × AllTrue task nodes older
+
+-- every `k` line claims what is true of the sets that these lines name
+abbrev pub AreTrue : Strips → NodeList → List Line → Type 0
+AreTrue task nodes lines =
+    (id : ℕ) (statement : Statement) → statement_at lines id ≡ Some statement
+    → IsTrueStatement task nodes lines statement

@@ -2,15 +2,13 @@
 #![tactic(auto)]
 
 pub mod action_list;
-pub mod diagrams;
 pub mod line;
 pub mod premises;
 pub mod reason;
 pub mod table;
 
 pub use action_list::ActionList;
-pub use diagrams::{Diagrams, Node};
 pub use line::{Acts, Constant, Expr, Line, Statement, Word};
 pub use premises::Premises;
-pub use reason::Reason;
+pub use reason::{Clash, Reason};
 pub use table::Table;

@@ -1,8 +1,46 @@
+ghost use Rattle.std.specs.Prelude.{◌≡◌, IfOk};
+
+use hv_task::State;
+use std::alloc::{AllocError, Global};
+
+/// A counterexample to a basic statement.
+#[derive(Drop, PartialEq, Eq)]
+pub struct Clash {
+    /// The action of the query that decides, where it has one; for an inclusion of action sets the action that isn't in the
+    /// right one.
+    pub action: Option<u32>,
+    /// A state that shows that the statement is false, where the statement is of states.
+    pub state: Option<State>,
+}
+
+impl Clash {
+    /// The same counterexample once more.
+    pub fn copy(&self, alloc: Global) -> Result<Clash, AllocError>
+        ensures { IfOk result (λ copy. copy ≡ self.now) }
+    {
+        match &self.state {
+            None => Ok(Clash {
+                action: self.action,
+                state: None,
+            }),
+            Some(state) => {
+                let mut copy = State::empty(alloc, state.atoms())?;
+                copy.copy_from(state);
+                Ok(Clash {
+                    action: self.action,
+                    state: Some(copy),
+                })
+            }
+        }
+    }
+}
+
 /// Why a line is refused: the first test that it fails. The tests come in the order of the variants, but for `Unbuilt`, whose
-/// place is between `Grammar` and `Number`, and for the sides of `b1` and `b2` between `Unknown` and `Rule`.
-#[derive(Clone, Copy, Debug, PartialEq, Eq)]
+/// place is between `Grammar` and `Number`, and for the sides of `b1` and `b2` between `Unknown` and `Rule`. `Family`, `Shape`,
+/// `NotOffered`, `Budget` and `False` aren't given so far.
+#[derive(Drop, PartialEq, Eq)]
 pub enum Reason {
-    /// The line is longer than a line may be, or ends past the end of what is read.
+    /// The line has more bytes than a line may have, or its last byte lies past what a file may have.
     Long,
     /// The bytes are no line of the proof text.
     Grammar,
@@ -10,11 +48,66 @@ pub enum Reason {
     Number,
     /// The line refers to an identifier, an action, an atom or a node that isn't there.
     Unknown,
+    /// A clause isn't of the kind that the line's formula asks for.
+    Family,
     /// The line's derivation rule doesn't fit.
     Rule,
+    /// The sides of the basic statement aren't of the form that its word asks for.
+    Shape,
+    /// The basic statement isn't one that is decided.
+    NotOffered,
+    /// A query of the basic statement costs more than the budget.
+    Budget,
+    /// The basic statement is false, as the counterexample shows.
+    False(Clash),
     /// The line is in the proof text, and isn't checked yet: a formula in clauses, a diagram node, a basic statement other than
     /// `b1` and `b2` over listed states.
     Unbuilt,
     /// The basic statement isn't offered, passes the budget, or is false.
     NotGood,
+}
+
+impl Reason {
+    /// The same reason once more.
+    pub fn copy(&self, alloc: Global) -> Result<Reason, AllocError>
+        ensures { IfOk result (λ copy. copy ≡ self.now) }
+    {
+        match self {
+            Reason::Long => Ok(Reason::Long),
+            Reason::Grammar => Ok(Reason::Grammar),
+            Reason::Number => Ok(Reason::Number),
+            Reason::Unknown => Ok(Reason::Unknown),
+            Reason::Family => Ok(Reason::Family),
+            Reason::Rule => Ok(Reason::Rule),
+            Reason::Shape => Ok(Reason::Shape),
+            Reason::NotOffered => Ok(Reason::NotOffered),
+            Reason::Budget => Ok(Reason::Budget),
+            Reason::False(clash) => {
+                let copy = clash.copy(alloc)?;
+                Ok(Reason::False(copy))
+            }
+            Reason::Unbuilt => Ok(Reason::Unbuilt),
+            Reason::NotGood => Ok(Reason::NotGood),
+        }
+    }
+}
+
+#[cfg(test)]
+mod tests {
+    use super::*;
+    use std::test::Fail;
+
+    #[test]
+    fn copies_a_counterexample(rt: HostRuntime) -> Result<(), Fail> {
+        let reason = Reason::False(Clash {
+            action: Some(3),
+            state: Some(State::empty(rt.alloc(), 2)?),
+        });
+        let copy = reason.copy(rt.alloc())?;
+        let same = copy == reason;
+        assert!(rt; same);
+        let short = Reason::Rule.copy(rt.alloc())?;
+        assert!(rt; short == Reason::Rule);
+        Ok(())
+    }
 }

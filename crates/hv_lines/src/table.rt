@@ -1,6 +1,7 @@
-ghost use Rattle.std.specs.Prelude.{◌≡◌, ◌<◌, ◌^◌, ◌↔◌, ◌++◌, [], ◌∷◌, length, reverse, slice_get, vec_len, Some, IsTrue, OnOk, OnErr};
+ghost use Rattle.std.specs.Prelude.{◌≡◌, ◌<◌, ◌≤◌, ◌+◌, ◌^◌, min, ◌↔◌, ◌++◌, [], ◌∷◌, length, reverse, slice_get, vec_len, Some, IsTrue, OnOk, OnErr};
 ghost use Rattle.hv_lines.specs.Literals.{IsFormula, IsConstantExpr, IsPlainExpr, IsLiteral};
 ghost use Rattle.hv_lines.specs.Numbering.{acts_count, expr_count, known_count, acts_at, expr_at, statement_at, word_at, premises_at, ActsReferBelow, ExprRefersBelow, SpeaksBelow, IsNext, IsTable};
+ghost use Rattle.hv_lines.specs.TableState.{room_of};
 ghost use Rattle.hv_task.specs.State.{AreBelow};
 
 use crate::line::{Acts, Expr, Line, Statement, Word};
@@ -47,11 +48,27 @@ impl Table {
         }
     }
 
+    /// Takes the memory for so many further lines.
+    pub fn reserve(&mut self, lines: usize) -> Result<(), AllocError>
+        ensures room { OnOk result (lines ≤ self.new.room) }
+        ensures more { self.old.room ≤ self.new.room }
+        ensures lines { self.new.lines ≡ self.old.lines }
+    {
+        self.lines.reserve(lines)?;
+        self.acts.reserve(lines)?;
+        self.exprs.reserve(lines)?;
+        self.knowns.reserve(lines)?;
+        Ok(())
+    }
+
     /// Puts the line last. Its identifier is the number of earlier lines of its letter, and it refers to earlier lines alone.
+    /// Where room was reserved it takes no memory, and uses up room for one line at most.
     pub fn push(&mut self, line: Line) -> Result<(), AllocError>
         requires { IsNext self.old.lines line }
         ensures ok { OnOk result (self.new.lines ≡ line ∷ self.old.lines) }
         ensures err { OnErr result (self.new.lines ≡ self.old.lines) }
+        ensures full { OnErr result (self.old.room ≡ 0) }
+        ensures room { self.old.room ≤ self.new.room + 1 }
     {
         match &line {
             Line::Acts { .. } => {
@@ -221,6 +238,9 @@ fn push_both(lines: &mut Vec<Line>, places: &mut Vec<usize>, line: Line) -> Resu
     ensures ok_place { OnOk result (places.new.items ≡ places.old.items ++ vec_len lines.old ∷ []) }
     ensures err_line { OnErr result (lines.new.items ≡ lines.old.items) }
     ensures err_place { OnErr result (places.new.items ≡ places.old.items) }
+    ensures full { OnErr result (min (room_of lines.old) (room_of places.old) ≡ 0) }
+    ensures room_lines { room_of lines.old ≤ room_of lines.new + 1 }
+    ensures room_places { room_of places.old ≤ room_of places.new + 1 }
 {
     places.push(lines.len())?;
     match lines.push(line) {
@@ -253,6 +273,7 @@ mod tests {
     #[test]
     fn finds_lines(rt: HostRuntime) -> Result<(), Fail> {
         let mut table = Table::new(rt.alloc());
+        table.reserve(2)?;
         table.push(Line::Expr {
             id: 0,
             expr: Expr::Constant(Constant::Goal),

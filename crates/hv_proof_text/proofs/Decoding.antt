@@ -15,7 +15,8 @@ use Rattle.hv_proof_text.specs.declared.token.Letter.{Letter}
 use Rattle.hv_proof_text.specs.declared.token.Letter.TheVariants as L
 use Rattle.hv_proof_text.specs.declared.token.Token.{Token}
 use Rattle.hv_proof_text.specs.declared.token.Token.TheVariants as T
-use Rattle.hv_proof_text.specs.Tokens.{AreTokens, IsToken, cut_fields, field_of, letter_field}
+use Rattle.hv_bytes.specs.Fields.{cut_fields}
+use Rattle.hv_proof_text.specs.Tokens.{AreTokens, IsToken, field_of, letter_field}
 
 -- where one field stands for no token, the fields stand for no tokens
 pub no_tokens : (fields : List (List ℕ)) (i : ℕ) (field : List ℕ) → i < length fields → field ≡ get_or fields i field

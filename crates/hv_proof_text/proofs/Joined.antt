@@ -2,9 +2,9 @@
 use Rattle.std.proofs.Common.{◌≡◌, ℕ, ◌+◌, ◌<◌, ◌∙◌, List, [], ◌∷◌, ◌++◌, length, map, take, get_or, Some, refl, sym, ap, append_assoc, decimal, slice_get}
 use Rattle.std.proofs.lemmas.List.{append-nil, map_more, take_more}
 use Rattle.std.proofs.lemmas.List.Concat.{flat_map-append}
-use Rattle.std.proofs.lemmas.Option.{get_or_from_slice_get}
+use Rattle.std.proofs.lemmas.Option.{get_or_from_slice_get, slice_get_within}
 use Rattle.std.proofs.lemmas.List.Sums.{fold-append}
-use Rattle.std.specs.List.{join_with_byte}
+use Rattle.std.specs.List.{flat_map, join_with_byte}
 use Rattle.hv_lines.specs.Spelling.{proof_text, spelling_of}
 use Rattle.hv_lines.specs.declared.line.Line.{Line}
 use Rattle.hv_proof_text.specs.Writing.{with_fields}
@@ -63,3 +63,30 @@ one_line_more lines i line before middle after within at so_far spelled ended =
     ∙ ap (λ t. proof_text (take i lines) ++ t) (sym (append-nil (spelling_of (get_or lines i line) ++ 10 ∷ [])))
     ∙ sym (flat_map-append (λ l. spelling_of l ++ 10 ∷ []) (take i lines) (get_or lines i line ∷ []))
     ∙ ap proof_text (sym (take_more lines i line within))
+
+-- one more line, which was written apart, behind a text
+pub line_appended : (lines : List Line) (i : ℕ) (line : Line) (old before after empty spelled ended : List ℕ) → i < length lines → slice_get lines i ≡ Some line
+    → before ≡ old ++ proof_text (take i lines) → empty ≡ [] → spelled ≡ empty ++ spelling_of line → ended ≡ spelled ++ 10 ∷ [] → after ≡ before ++ ended
+    → after ≡ old ++ proof_text (take (i + 1) lines)
+line_appended lines i line old before after empty spelled ended within at so_far none spells ends appended =
+    let front = proof_text (take i lines) in
+    let bytes = spelling_of line in
+    let written : ended ≡ bytes ++ 10 ∷ [] = ends ∙ ap (λ t. t ++ 10 ∷ []) (spells ∙ ap (λ t. t ++ bytes) none) in
+    appended
+    ∙ ap (λ t. t ++ ended) so_far
+    ∙ append_assoc old front ended
+    ∙ ap (λ t. old ++ t)
+    (ap (λ t. front ++ t) written ∙ sym (append_assoc front bytes (10 ∷ []))
+    ∙ one_line_more lines i line front (front ++ bytes) ((front ++ bytes) ++ 10 ∷ []) within at refl refl refl)
+
+-- the fields of one more item
+pub items_more : {A : Type 0} (fields : A → List (List ℕ)) (xs : List A) (place : ℕ) (x : A) (old text new : List ℕ) → slice_get xs place ≡ Some x
+    → text ≡ with_fields old (flat_map fields (take place xs)) → new ≡ with_fields text (fields x)
+    → new ≡ with_fields old (flat_map fields (take (place + 1) xs))
+items_more fields xs place x old text new is at_text at_new =
+    at_new
+    ∙ ap (λ t. with_fields t (fields x)) at_text
+    ∙ sym (fold-append (λ t f. t ++ 32 ∷ f) old (flat_map fields (take place xs)) (fields x))
+    ∙ ap (λ fs. with_fields old fs)
+    (sym (ap (λ ys. flat_map fields ys) (take_more xs place x (slice_get_within xs place x is) ∙ ap (λ y. take place xs ++ y ∷ []) (get_or_from_slice_get xs place x x is))
+    ∙ (flat_map-append fields (take place xs) (x ∷ []) ∙ ap (λ fs. flat_map fields (take place xs) ++ fs) (append-nil (fields x)))))

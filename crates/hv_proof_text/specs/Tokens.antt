@@ -1,6 +1,6 @@
 -- The tokens of a line: each of its fields stands for one.
-use Rattle.std.specs.Prelude.{◌≡◌, ◌==◌, ◌<◌, ◌+◌, ◌^◌, ℕ, List, [], ◌∷◌, ◌++◌, cond, length, map, codes, decimal}
-use Rattle.std.specs.List.{All, flat_map, slice_split}
+use Rattle.std.specs.Prelude.{◌≡◌, ◌<◌, ◌+◌, ◌^◌, ℕ, List, [], ◌∷◌, ◌++◌, cond, length, map, codes, decimal}
+use Rattle.std.specs.List.{All, flat_map}
 use Rattle.hv_sets.specs.declared.literal.Literal.{Literal}
 use Rattle.hv_lines.specs.Spelling.{IsSpelled, IsRising, FitsLiteral, word_field}
 use Rattle.hv_lines.specs.declared.line.Acts.{Acts}
@@ -51,10 +51,6 @@ IsToken (T.Word word) = Unit {0}
 IsToken (T.Number n) = n < 10 ^ 18
 IsToken (T.Minus n) = n < 10 ^ 18
 IsToken T.End = Unit {0}
-
--- the bytes cut at each space
-abbrev pub cut_fields : List ℕ → List (List ℕ)
-cut_fields bytes = slice_split (λ b. b == 32) bytes
 
 -- each of the fields stands for one of the tokens, in order
 pub record AreTokens (tokens : List Token) (fields : List (List ℕ)) : Type 0 where

@@ -1,23 +1,25 @@
-ghost use Rattle.std.specs.Prelude.{◌≡◌, ◌==◌, ℕ, List, MatchOption, IfOk};
-ghost use Rattle.hv_proof_text.specs.Tokens.{AreTokens, cut_fields};
+ghost use Rattle.std.specs.Prelude.{◌≡◌, ◌==◌, ℕ, true, false, List, Ok};
+ghost use Rattle.hv_bytes.specs.Fields.{cut_fields};
+ghost use Rattle.hv_proof_text.specs.Tokens.{AreTokens};
 ghost use Rattle.hv_proof_text.specs.declared.token.Token.{Token};
 
 use crate::token::{Token, token_of};
-use std::alloc::{AllocError, Global};
+use std::alloc::AllocError;
 
-/// The tokens of the fields, where each field is one: the bytes are cut at each space.
-pub(crate) fn tokens_in(alloc: Global, bytes: &[u8]) -> Result<Option<Vec<Token>>, AllocError>
-    ensures { IfOk result (λ found. MatchOption found
-        ((tokens : List Token) → AreTokens tokens (cut_fields bytes.now) → ⊥)
-        (λ tokens. AreTokens tokens.items (cut_fields bytes.now))) }
+/// Puts the tokens of the fields in place of what was there, and says whether each field is one: the
+/// bytes are cut at each space. The memory grows with the fields before the first one that is no
+/// token.
+pub(crate) fn tokens_in(tokens: &mut Vec<Token>, bytes: &[u8]) -> Result<bool, AllocError>
+    ensures some { result ≡ Ok true → AreTokens tokens.new.items (cut_fields bytes.now) }
+    ensures none { result ≡ Ok false
+        → (others : List Token) → AreTokens others (cut_fields bytes.now) → ⊥ }
 {
-    let count = bytes.iter().filter(|byte| **byte == b' ').count();
-    let mut tokens = Vec::with_capacity(alloc, count + 1)?;
+    tokens.clear();
     for field in bytes.split(|byte| *byte == b' ') {
         match token_of(field) {
             Some(token) => tokens.push(token)?,
-            None => return Ok(None),
+            None => return Ok(false),
         }
     }
-    Ok(Some(tokens))
+    Ok(true)
 }

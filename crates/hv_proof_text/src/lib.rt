@@ -13,5 +13,5 @@ mod token;
 mod write;
 
 pub use laws::one_line;
-pub use read::{LineError, read_line};
+pub use read::{LineError, LineReader, read_line};
 pub use write::{write_line, write_proof};

@@ -96,8 +96,8 @@ pub(crate) fn clauses_in(alloc: Global, tokens: &[Token]) -> Result<Option<Claus
         match clause_piece(*token) {
             ClausePiece::Literal(literal) => clause.push(literal)?,
             ClausePiece::End => {
-                all.push(clause)?;
-                clause = Clause::new(alloc);
+                all.push_literals(clause.as_slice())?;
+                clause.clear();
             }
             ClausePiece::Other => return Ok(None),
         }

@@ -5,6 +5,7 @@ ghost use Rattle.hv_proof_text.specs.Reading.{IsRead};
 
 use crate::fields::tokens_in;
 use crate::forms::line_of;
+use crate::token::Token;
 use hv_lines::Line;
 use std::alloc::{AllocError, Global};
 use thiserror::Error;
@@ -36,12 +37,34 @@ impl From<AllocError> for LineError {
 pub fn read_line(alloc: Global, bytes: &[u8]) -> Result<Option<Line>, LineError>
     ensures { IsRead result bytes.now }
 {
-    if is_skipped(bytes) {
-        return Ok(None);
+    LineReader::new(alloc).read(alloc, bytes)
+}
+
+/// A reader of lines, which keeps the memory that it reads them in from line to line.
+#[derive(Drop)]
+pub struct LineReader {
+    tokens: Vec<Token>,
+}
+
+impl LineReader {
+    /// A reader that has read nothing.
+    pub fn new(alloc: Global) -> LineReader {
+        LineReader {
+            tokens: Vec::new(alloc),
+        }
     }
-    match spelled_line(alloc, bytes)? {
-        Some(line) => Ok(Some(line)),
-        None => Err(LineError::Grammar),
+
+    /// The line that the bytes spell: as `read_line`.
+    pub fn read(&mut self, alloc: Global, bytes: &[u8]) -> Result<Option<Line>, LineError>
+        ensures { IsRead result bytes.now }
+    {
+        if is_skipped(bytes) {
+            return Ok(None);
+        }
+        match spelled_line(alloc, &mut self.tokens, bytes)? {
+            Some(line) => Ok(Some(line)),
+            None => Err(LineError::Grammar),
+        }
     }
 }
 
@@ -54,13 +77,18 @@ fn is_skipped(bytes: &[u8]) -> bool
     }
 }
 
-fn spelled_line(alloc: Global, bytes: &[u8]) -> Result<Option<Line>, AllocError>
+fn spelled_line(
+    alloc: Global,
+    tokens: &mut Vec<Token>,
+    bytes: &[u8],
+) -> Result<Option<Line>, AllocError>
     ensures { IfOk result (λ found. MatchOption found
         ((line : Line) → Spells line bytes.now → ⊥)
         (λ line. Spells line bytes.now)) }
 {
-    match tokens_in(alloc, bytes)? {
-        Some(tokens) => line_of(alloc, &tokens),
-        None => Ok(None),
+    if tokens_in(tokens, bytes)? {
+        line_of(alloc, tokens)
+    } else {
+        Ok(None)
     }
 }

@@ -1,11 +1,11 @@
 ghost use Rattle.std.specs.Prelude.{◌≡◌, [], ◌∷◌, ◌++◌, OnOk, OnErr, IfOk, codes, decimal, map, length, reverse};
 ghost use Rattle.std.specs.List.{flat_map};
 ghost use Rattle.hv_lines.specs.Spelling.{acts_fields, clause_fields, constant_field, expr_fields, literal_field, proof_text, spelling_of, state_fields, statement_fields, word_field};
-ghost use Rattle.hv_proof_text.specs.Writing.{with_fields};
+ghost use Rattle.hv_proof_text.specs.Writing.{Grows, with_fields};
 
 use hv_bytes::Text;
 use hv_lines::{Acts, Constant, Expr, Line, Statement, Table, Word};
-use hv_sets::{Clause, Clauses, Literal, StateList};
+use hv_sets::{Clauses, Literal, StateList};
 use hv_task::AtomList;
 use std::alloc::{AllocError, Global};
 
@@ -18,24 +18,35 @@ pub fn write_line(alloc: Global, line: &Line) -> Result<Text, AllocError>
     Ok(text)
 }
 
-/// Appends the lines of the table, in the order in which they were pushed, each with an LF.
+/// Appends the lines of the table, in the order in which they were pushed, each with an LF. Beside
+/// the text it takes the memory of one line.
 pub fn write_proof(alloc: Global, table: &Table, out: &mut Text) -> Result<(), AllocError>
     ensures ok { OnOk result (out.new ≡ out.old ++ proof_text (reverse table.now.lines)) }
     ensures err { OnErr result (out.new ≡ out.old) }
 {
-    let text = lines_text(alloc, table)?;
-    out.push_bytes(text.as_bytes())
+    let before = out.len();
+    match push_lines(alloc, table, out) {
+        Ok(()) => Ok(()),
+        Err(error) => {
+            out.truncate(before);
+            Err(error)
+        }
+    }
 }
 
-fn lines_text(alloc: Global, table: &Table) -> Result<Text, AllocError>
-    ensures { IfOk result (λ text. text ≡ proof_text (reverse table.now.lines)) }
+/// Appends the lines; where memory runs out, some of them.
+fn push_lines(alloc: Global, table: &Table, out: &mut Text) -> Result<(), AllocError>
+    ensures ok { OnOk result (out.new ≡ out.old ++ proof_text (reverse table.now.lines)) }
+    ensures err { OnErr result (Grows out.old out.new) }
 {
-    let mut text = Text::new(alloc);
+    let mut line = Text::new(alloc);
     for place in 0..table.len() {
-        push_line(&mut text, table.line(place))?;
-        text.push_bytes(b"\n")?;
+        line.truncate(0);
+        push_line(&mut line, table.line(place))?;
+        line.push_bytes(b"\n")?;
+        out.push_bytes(line.as_bytes())?;
     }
-    Ok(text)
+    Ok(())
 }
 
 /// Appends the spelling of the line.
@@ -128,18 +139,16 @@ fn push_statement(text: &mut Text, statement: &Statement) -> Result<(), AllocErr
 fn push_clauses(text: &mut Text, clauses: &Clauses) -> Result<(), AllocError>
     ensures { OnOk result (text.new ≡ with_fields text.old (flat_map clause_fields clauses.now)) }
 {
-    let items = clauses.as_slice();
-    for clause in items {
-        push_clause(text, clause)?;
+    for place in 0..clauses.len() {
+        push_clause(text, clauses.get(place))?;
     }
     Ok(())
 }
 
-fn push_clause(text: &mut Text, clause: &Clause) -> Result<(), AllocError>
+fn push_clause(text: &mut Text, clause: &[Literal]) -> Result<(), AllocError>
     ensures { OnOk result (text.new ≡ with_fields text.old (clause_fields clause.now)) }
 {
-    let items = clause.as_slice();
-    for literal in items {
+    for literal in clause {
         push_literal(text, literal)?;
     }
     push_field(text, b"0")

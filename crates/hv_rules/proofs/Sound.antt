@@ -6,7 +6,7 @@ use Rattle.hv_task.specs.Strips.{Strips, start_state}
 use Rattle.hv_task.specs.Deadness.{Leads, LeadsBack}
 use Rattle.hv_task.proofs.Places.{IsState-successor, IsState-start_state}
 use Rattle.hv_task.proofs.Deadness.{progress, regress, progress_initial, regress_initial, none_from_start, none_to_goal}
-use Rattle.hv_lines.specs.declared.diagrams.Node.{Node}
+use Rattle.hv_bdd.specs.Nodes.{NodeList}
 use Rattle.hv_lines.specs.declared.line.Acts.TheVariants as A
 use Rattle.hv_lines.specs.declared.line.Constant.TheVariants as C
 use Rattle.hv_lines.specs.declared.line.Expr.{Expr}
@@ -42,7 +42,7 @@ after_by task S T A B s i inside among = record {
   result = i.result;
 }
 
-module _ (task : Strips) (nodes : List Node) (lines : List Line) (table : IsTable lines) where
+module _ (task : Strips) (nodes : NodeList) (lines : List Line) (table : IsTable lines) where
   -- a state of a set is what the set's line says, and the other way round
   out_of : (e : ℕ) (x : Expr) → IsExpr lines e x → (s : List Bool) → sets_of task nodes lines e s
       → holds task nodes (acts_of lines) (sets_of task nodes lines) x s

@@ -1,4 +1,4 @@
-use Rattle.std.proofs.Common.{◌∙◌, sym, subst}
+use Rattle.std.proofs.Common.{sym, subst}
 use Rattle.std.specs.List.{Contains}
 use Rattle.hv_basic.proofs.Members.{member_constant, member_listed}
 use Rattle.hv_basic.proofs.member.is_in.Goals as goal

@@ -1,12 +1,12 @@
 use Rattle.std.proofs.Common.{◌∙◌, length, rules, tests, eqb}
 use Rattle.std.proofs.lemmas.Iterator.Consumers.{YieldsList-at, YieldsList-turn, YieldsList-end}
 use Rattle.std.proofs.lemmas.Iterator.Splits.{YieldsList-from_slice_split}
-use Rattle.hv_proof_text.specs.Tokens.{cut_fields}
+use Rattle.hv_bytes.specs.Fields.{cut_fields}
 use Rattle.hv_proof_text.proofs.Decoding.{no_tokens}
 use Rattle.hv_proof_text.proofs.fields.tokens_in.Goals as goal
 
-pub returns-in-None-token_of : goal.returns-in-None-token_of
-returns-in-None-token_of c = λ tokens are.
+pub returns-in-None-token_of-clause-none : goal.returns-in-None-token_of-clause-none
+returns-in-None-token_of-clause-none c = λ is tokens are.
     let split = c.split-field-items.ensures in
     let turn =
     YieldsList-turn
@@ -16,8 +16,8 @@ returns-in-None-token_of c = λ tokens are.
     no_tokens (cut_fields c.args.bytes.now) (length c.loop-field.yielded) c.in-Some.field.now turn.0 turn.1 c.in-None-token_of.ensures
     tokens are
 
-pub returns : goal.returns
-returns c =
+pub returns-clause-some : goal.returns-clause-some
+returns-clause-some c = λ is.
     let split = c.split-field-items.ensures in
     let end =
     YieldsList-end

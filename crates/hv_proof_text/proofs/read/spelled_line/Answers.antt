@@ -6,16 +6,15 @@ use Rattle.hv_proof_text.specs.Tokens.{SpellsTokens, tokens_of}
 use Rattle.hv_proof_text.proofs.LineFields.{found_in_bytes, tokens_from_bytes}
 use Rattle.hv_proof_text.proofs.read.spelled_line.Goals as goal
 
-pub returns-in-Some : goal.returns-in-Some
-returns-in-Some c =
-    let are = rw c.in-Some.is at c.in_ok-tokens.ensures in
+pub returns-then-branch : goal.returns-then-branch
+returns-then-branch c =
+    let are = c.in_ok-tokens_in.ensures.some (cc) in
     let shown = c.deref.result.now in
     IfOk-weaker c.line_of.result
     (λ found. MatchOption found ((line : Line) → SpellsTokens line shown → ⊥) (λ line. SpellsTokens line shown))
     (λ found. MatchOption found ((line : Line) → Spells line c.args.bytes.now → ⊥) (λ line. Spells line c.args.bytes.now))
-    (λ found. found_in_bytes c.in-Some.tokens.items shown c.args.bytes.now c.deref.ensures.value are found) c.line_of.ensures
+    (λ found. found_in_bytes c.tokens_in.new.tokens.items shown c.args.bytes.now c.deref.ensures.value are found) c.line_of.ensures
 
-pub returns-in-None : goal.returns-in-None
-returns-in-None c = λ line spells.
-    let never = rw c.in-None.is at c.in_ok-tokens.ensures in
-    never (tokens_of line) (tokens_from_bytes line c.args.bytes.now spells)
+pub returns-else-branch : goal.returns-else-branch
+returns-else-branch c = λ line spells.
+    c.in_ok-tokens_in.ensures.none (cc) (tokens_of line) (tokens_from_bytes line c.args.bytes.now spells)

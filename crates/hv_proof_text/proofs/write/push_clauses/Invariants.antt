@@ -4,5 +4,5 @@ use Rattle.hv_lines.specs.Spelling.{clause_fields}
 use Rattle.hv_proof_text.specs.Writing.{with_fields}
 use Rattle.hv_proof_text.proofs.write.push_clauses.Given as goal
 
-abbrev pub invariant-loop-clause : goal.invariant-loop-clause
-invariant-loop-clause l = l.text ≡ with_fields l.fn.text (flat_map clause_fields (take l.clause-index l.items))
+abbrev pub invariant-loop-place : goal.invariant-loop-place
+invariant-loop-place l = l.text ≡ with_fields l.fn.text (flat_map clause_fields (take l.place l.clauses))

@@ -1,4 +1,4 @@
-use Rattle.std.proofs.Common.{List, arith, refl}
+use Rattle.std.proofs.Common.{arith, refl}
 use Rattle.hv_task.specs.State.{state_of}
 use Rattle.hv_task.specs.Strips.{atoms}
 use Rattle.hv_basic.specs.Clash.{StaysIn}

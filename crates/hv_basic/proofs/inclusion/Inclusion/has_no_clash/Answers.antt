@@ -1,7 +1,6 @@
-use Rattle.std.proofs.Common.{Bool, List, refl, subst, sym}
+use Rattle.std.proofs.Common.{refl, subst, sym}
 use Rattle.hv_task.specs.State.{state_of}
 use Rattle.hv_task.specs.Strips.{atoms}
-use Rattle.hv_lines.specs.declared.diagrams.Node.{Node}
 use Rattle.hv_basic.specs.Clash.{StaysIn}
 use Rattle.hv_basic.specs.Parts.{parts_of}
 use Rattle.hv_basic.proofs.Kept.{each_empty, each_listed, each_start}

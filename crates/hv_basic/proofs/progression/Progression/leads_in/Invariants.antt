@@ -1,7 +1,7 @@
-use Rattle.std.proofs.Common.{◌≡◌, List}
+use Rattle.std.proofs.Common.{◌≡◌}
 use Rattle.hv_task.specs.State.{state_of}
 use Rattle.hv_task.specs.Strips.{atoms}
-use Rattle.hv_lines.specs.declared.diagrams.Node.{Node}
+use Rattle.hv_bdd.specs.Nodes.{NodeList}
 use Rattle.hv_basic.specs.Clash.{LeadsBelow}
 use Rattle.hv_basic.specs.Parts.{parts_of}
 use Rattle.hv_basic.specs.Progression.{HasRoom}
@@ -11,6 +11,6 @@ abbrev pub invariant-loop-action : goal.invariant-loop-action
 invariant-loop-action l = record {
   room : HasRoom l.self.task.now l.steps;
   state : l.steps.state ≡ state_of (atoms l.self.task.now) l.held;
-  led : (nodes : List Node)
+  led : (nodes : NodeList)
       → LeadsBelow l.self.task.now nodes l.self.table.now.lines l.self.flags.now (parts_of l.self.others) l.action (state_of (atoms l.self.task.now) l.held);
 }

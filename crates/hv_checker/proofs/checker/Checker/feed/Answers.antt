@@ -1,5 +1,5 @@
-use Rattle.std.proofs.Common.{◌≡◌, ◌∙◌, ap, true}
-use Rattle.hv_checker.proofs.Standing.{stands_stopped}
+use Rattle.std.proofs.Common.{◌≡◌, ◌+◌, ◌∙◌, ap, sym, true}
+use Rattle.hv_checker.proofs.Standing.{stands_fed, stands_stopped}
 use Rattle.hv_checker.specs.Stands.{CheckerState}
 use Rattle.hv_checker.specs.Texts.{text_of}
 use Rattle.hv_checker.proofs.checker.Checker.feed.Goals as goal
@@ -11,3 +11,14 @@ returns-then-not-is_going-clause-stands c = λ pieces stands.
     let yes : c.is_going.result ≡ true = c.is_going.ensures.1 (ap (λ (s : CheckerState). s.stop) c.self.view_is ∙ going) in
     absurd (cc))
     stands
+
+pub returns-in-Ok-clause-answers : goal.returns-in-Ok-clause-answers
+returns-in-Ok-clause-answers c = λ going. rw (← c.self.view_is) c.in-Ok.ensures.accepted
+
+pub returns-in-Ok-clause-stands : goal.returns-in-Ok-clause-stands
+returns-in-Ok-clause-stands c = λ pieces stands.
+    stands_fed c.args.self.now _ pieces (text_of c.args.piece) c.in-Ok.outcome.fed
+    (sym (ap (λ (s : CheckerState). s.stop) c.self.view_is)
+    ∙ c.is_going.ensures.0 c.if-not-is_going.false)
+    (ap (λ (s : CheckerState). s.setting) c.self.view_is) (ap (λ (s : CheckerState). s.fed + 1) c.self.view_is) c.in-Ok.ensures.stop
+    (rw (← c.self.view_is) c.in-Ok.ensures.accepted) stands

@@ -1,0 +1,30 @@
+use Rattle.hv_lines.specs.Good.{IsBuilt, IsKnown}
+use Rattle.hv_lines.specs.Numbering.{IsNumbered}
+use Rattle.hv_lines.proofs.Reasons.{for_form, for_number, for_reference}
+use Rattle.hv_checker.specs.Heard.{setting_on}
+use Rattle.hv_checker.proofs.Told.{untold}
+use Rattle.hv_checker.proofs.judge.fault.Goals as goal
+
+pub returns-then-not-is_built : goal.returns-then-not-is_built
+returns-then-not-is_built c =
+    let line = c.args.line.now in
+    for_form (setting_on c.args.bench.now) c.args.table.now.lines line c.requires.spelled
+    (untold c.is_built.result (IsBuilt line) c.is_built.ensures c.if-not-is_built.true)
+
+pub returns-then-not-is_numbered : goal.returns-then-not-is_numbered
+returns-then-not-is_numbered c =
+    let lines = c.args.table.now.lines in
+    let line = c.args.line.now in
+    for_number (setting_on c.args.bench.now) lines line c.requires.spelled
+    (c.is_built.ensures.0 c.if-not-is_built.false)
+    (untold c.is_numbered.result (IsNumbered lines line) c.is_numbered.ensures c.if-not-is_numbered.true)
+
+pub returns-then-not-is_known : goal.returns-then-not-is_known
+returns-then-not-is_known c =
+    let lines = c.args.table.now.lines in
+    let line = c.args.line.now in
+    for_reference (setting_on c.args.bench.now) lines line c.requires.spelled
+    (c.is_built.ensures.0 c.if-not-is_built.false)
+    (c.is_numbered.ensures.0 c.if-not-is_numbered.false)
+    (untold c.is_known.result (IsKnown c.args.bench.now.task.now c.args.bench.now.diagrams.now lines line) c.is_known.ensures
+    c.if-not-is_known.true)
