@@ -1,3 +1,6 @@
+ghost use Rattle.std.specs.Prelude.{◌≤◌};
+ghost use Rattle.hv_bytes.specs.Devices.{Rose};
+
 use hv_bytes::{Failed, Shelf};
 use std::fs::File;
 use std::io::Read;
@@ -19,6 +22,15 @@ impl<'a> FileShelf<'a> {
             faults: 0,
         }
     }
+
+    /// Counts a fault. The count stays at its greatest value once there.
+    fn fault(&mut self) -> Failed
+        ensures rose { Rose self.old.faults self.new.faults }
+        ensures later { self.old.faults ≤ self.new.faults }
+    {
+        self.faults = self.faults.saturating_add(1);
+        Failed
+    }
 }
 
 impl Shelf for FileShelf<'_> {
@@ -33,16 +45,11 @@ impl Shelf for FileShelf<'_> {
     ghost faults = { λ s. s.faults };
 
     fn open(&mut self, name: &str) -> Result<(), Failed> {
-        match File::open(self.rt, name) {
-            Ok(file) => {
-                self.file = Some(file);
-                Ok(())
-            }
-            Err(_) => {
-                self.faults = self.faults.saturating_add(1);
-                Err(Failed)
-            }
-        }
+        let Ok(file) = File::open(self.rt, name) else {
+            return Err(self.fault());
+        };
+        self.file = Some(file);
+        Ok(())
     }
 
     fn read(&mut self, into: &mut [u8]) -> Result<usize, Failed> {
@@ -51,10 +58,7 @@ impl Shelf for FileShelf<'_> {
         };
         match file.read(into) {
             Ok(count) => Ok(count),
-            Err(_) => {
-                self.faults = self.faults.saturating_add(1);
-                Err(Failed)
-            }
+            Err(_) => Err(self.fault()),
         }
     }
 }

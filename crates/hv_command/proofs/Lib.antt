@@ -1,2 +1,6 @@
-mod Feeding
-mod SoundAnswers
+pub mod AtomTexts
+pub mod Budgets
+pub mod Checked
+pub mod FedFiles
+pub mod OneAnswer
+pub mod SoundAnswers

@@ -1,5 +1,9 @@
 -- The texts that the program prints, and its exit statuses.
-use Rattle.std.specs.Prelude.{ℕ, List, [], ◌∷◌, ◌++◌, codes, decimal}
+use Rattle.std.specs.Prelude.{◌≡◌, ◌⊎◌, ◌↔◌, ℕ, Bool, List, [], ◌∷◌, ◌++◌, Option, Some, None, IsSome, codes, cond, decimal, flat_map, length}
+use Rattle.std.specs.List.{range_with_len}
+use Rattle.hv_task.specs.State.{has_atom}
+use Rattle.hv_lines.specs.Judged.{Judgement, Unsolvable, Refused, NoConclusion}
+use Rattle.hv_lines.specs.declared.reason.Clash.{Clash}
 use Rattle.hv_lines.specs.declared.reason.Reason.{Reason}
 use Rattle.hv_lines.specs.declared.reason.Reason.TheVariants as R
 use Rattle.hv_task_text.specs.declared.fault.TaskFault.{TaskFault}
@@ -49,23 +53,50 @@ unsolvable_text = line_of (codes "unsolvable")
 abbrev pub no_conclusion_text : List ℕ
 no_conclusion_text = line_of (codes "no conclusion")
 
--- the proof has more bytes than are read so far
-abbrev pub unbuilt_proof_text : List ℕ
-unbuilt_proof_text = line_of (codes "proof: unbuilt")
+-- the action of a counterexample, where it has one
+abbrev pub action_text : Option ℕ → List ℕ
+action_text None = []
+action_text (Some action) = codes " action " ++ decimal action
 
--- the printed word of a reason
+-- an atom, where the state holds it
+abbrev pub atom_text : List Bool → ℕ → List ℕ
+atom_text state atom = cond (has_atom state atom) (codes " " ++ decimal atom) []
+
+-- the state of a counterexample, where it has one: the atoms that it holds, rising
+abbrev pub state_text : Option (List Bool) → List ℕ
+state_text None = []
+state_text (Some state) = codes " state" ++ flat_map (atom_text state) (range_with_len 0 (length state)) ++ codes " ;"
+
+-- the printed word of a reason, and the counterexample where there is one
 abbrev pub reason_text : Reason → List ℕ
 reason_text R.Long = codes "long"
 reason_text R.Grammar = codes "grammar"
 reason_text R.Number = codes "number"
 reason_text R.Unknown = codes "unknown"
+reason_text R.Family = codes "family"
 reason_text R.Rule = codes "rule"
+reason_text R.Shape = codes "shape"
+reason_text R.NotOffered = codes "not offered"
+reason_text R.Budget = codes "budget"
+reason_text (R.False clash) = codes "false" ++ action_text clash.action ++ state_text clash.state
 reason_text R.Unbuilt = codes "unbuilt"
 reason_text R.NotGood = codes "not good"
 
 -- the first line that isn't good, and why
 abbrev pub refused_text : ℕ → Reason → List ℕ
 refused_text line reason = line_of (codes "line " ++ decimal line ++ codes ": " ++ reason_text reason)
+
+-- the status of what a proof is judged
+abbrev pub judgement_status : Judgement → Status
+judgement_status Unsolvable = S.Done
+judgement_status (Refused line reason) = S.Refused
+judgement_status NoConclusion = S.Refused
+
+-- the text of what a proof is judged
+abbrev pub judgement_text : Judgement → List ℕ
+judgement_text Unsolvable = unsolvable_text
+judgement_text (Refused line reason) = refused_text line reason
+judgement_text NoConclusion = no_conclusion_text
 
 -- a fault of the text itself, and not of the device or of memory
 abbrev pub IsTextFault : TaskFault → Type 0
@@ -80,3 +111,10 @@ task_fault_text (F.Place line kind) = line_of (codes "task line " ++ decimal lin
 task_fault_text (F.Limit line limit) = line_of (codes "task line " ++ decimal line ++ codes ": limit " ++ limit_word limit)
 task_fault_text F.ReadFault = []
 task_fault_text F.Memory = []
+
+-- two texts are one, but for which state a counterexample names
+abbrev pub AreOneText : List ℕ → List ℕ → Type 0
+AreOneText text other =
+    (text ≡ other)
+    ⊎ ((line : ℕ) × (a : Clash) × (b : Clash) × (a.action ≡ b.action) × (IsSome a.state ↔ IsSome b.state)
+    × (text ≡ refused_text line (R.False a)) × (other ≡ refused_text line (R.False b)))

@@ -1,14 +1,17 @@
 //! The texts of the answers.
 
-ghost use Rattle.std.specs.Prelude.{◌≡◌, ◌++◌, codes, decimal, IfOk};
-ghost use Rattle.hv_command.specs.Replies.{line_of, reason_text, refused_text, task_fault_text};
+ghost use Rattle.std.specs.Prelude.{◌≡◌, ◌<◌, ◌++◌, codes, decimal, flat_map, length, IfOk, OnOk};
+ghost use Rattle.std.specs.List.{range_with_len};
+ghost use Rattle.hv_command.specs.Replies.{action_text, atom_text, line_of, reason_text, refused_text, state_text, task_fault_text};
 ghost use Rattle.hv_command.specs.Reply.{IsReply};
 ghost use Rattle.hv_task_text.specs.declared.fault.TaskFault.TheVariants as F;
 ghost use Rattle.hv_command.specs.declared.status.Status.TheVariants as S;
+ghost use Rattle.hv_lines.specs.declared.reason.Reason.TheVariants as R;
 
 use crate::status::Status;
 use hv_bytes::Text;
-use hv_checker::Reason;
+use hv_lines::{Clash, Reason};
+use hv_task::State;
 use hv_task_text::{TaskKind, TaskLimit};
 use std::alloc::{AllocError, Global};
 
@@ -30,14 +33,14 @@ pub(crate) fn fixed(alloc: Global, status: Status, line: &[u8]) -> Result<Reply,
 }
 
 /// `line L: REASON`
-pub(crate) fn refusal(alloc: Global, line: u64, reason: Reason) -> Result<Reply, AllocError>
-    ensures { IfOk result (λ r. IsReply r S.Refused (refused_text line reason)) }
+pub(crate) fn refusal(alloc: Global, line: u64, reason: &Reason) -> Result<Reply, AllocError>
+    ensures { IfOk result (λ r. IsReply r S.Refused (refused_text line reason.now)) }
 {
     let mut text = Text::new(alloc);
     text.push_bytes(b"line ")?;
     text.push_number(line)?;
     text.push_bytes(b": ")?;
-    text.push_bytes(reason_bytes(reason))?;
+    push_reason(&mut text, reason)?;
     text.push_bytes(b"\n")?;
     Ok(Reply {
         status: Status::Refused,
@@ -45,23 +48,85 @@ pub(crate) fn refusal(alloc: Global, line: u64, reason: Reason) -> Result<Reply,
     })
 }
 
-fn reason_bytes(reason: Reason) -> &'static [u8]
-    ensures { result.now ≡ reason_text reason }
+/// Appends the word of a reason, and the counterexample where there is one.
+fn push_reason(text: &mut Text, reason: &Reason) -> Result<(), AllocError>
+    ensures { OnOk result (text.new ≡ text.old ++ reason_text reason.now) }
 {
     match reason {
-        Reason::Long => b"long",
-        Reason::Grammar => b"grammar",
-        Reason::Number => b"number",
-        Reason::Unknown => b"unknown",
-        Reason::Rule => b"rule",
-        Reason::Unbuilt => b"unbuilt",
-        Reason::NotGood => b"not good",
+        Reason::Long => text.push_bytes(b"long"),
+        Reason::Grammar => text.push_bytes(b"grammar"),
+        Reason::Number => text.push_bytes(b"number"),
+        Reason::Unknown => text.push_bytes(b"unknown"),
+        Reason::Family => text.push_bytes(b"family"),
+        Reason::Rule => text.push_bytes(b"rule"),
+        Reason::Shape => text.push_bytes(b"shape"),
+        Reason::NotOffered => text.push_bytes(b"not offered"),
+        Reason::Budget => text.push_bytes(b"budget"),
+        Reason::False(clash) => push_clash(text, clash),
+        Reason::Unbuilt => text.push_bytes(b"unbuilt"),
+        Reason::NotGood => text.push_bytes(b"not good"),
     }
+}
+
+/// `false`, ` action A` where there is one, and ` state`, the atoms and ` ;` where there is a state.
+fn push_clash(text: &mut Text, clash: &Clash) -> Result<(), AllocError>
+    ensures { OnOk result (text.new ≡ text.old ++ reason_text (R.False clash.now)) }
+{
+    text.push_bytes(b"false")?;
+    push_action(text, clash.action)?;
+    push_state(text, &clash.state)?;
+    Ok(())
+}
+
+fn push_action(text: &mut Text, action: Option<u32>) -> Result<(), AllocError>
+    ensures { OnOk result (text.new ≡ text.old ++ action_text action) }
+{
+    if let Some(number) = action {
+        text.push_bytes(b" action ")?;
+        text.push_number(u64::from(number))?;
+    }
+    Ok(())
+}
+
+fn push_state(text: &mut Text, state: &Option<State>) -> Result<(), AllocError>
+    ensures { OnOk result (text.new ≡ text.old ++ state_text state.now) }
+{
+    if let Some(state) = state {
+        text.push_bytes(b" state")?;
+        push_atoms(text, state)?;
+        text.push_bytes(b" ;")?;
+    }
+    Ok(())
+}
+
+/// Appends the atoms that the state holds, rising, each behind a space.
+#[tactic(auto, using(crate::proofs::AtomTexts::text_more))]
+fn push_atoms(text: &mut Text, state: &State) -> Result<(), AllocError>
+    ensures { OnOk result (text.new ≡
+        text.old ++ flat_map (atom_text state.now) (range_with_len 0 (length state.now))) }
+{
+    for atom in 0..state.atoms() {
+        push_atom(text, state, atom)?;
+    }
+    Ok(())
+}
+
+/// Appends the atom behind a space, where the state holds it.
+fn push_atom(text: &mut Text, state: &State, atom: u32) -> Result<(), AllocError>
+    requires { atom < length state.now }
+    ensures { OnOk result (text.new ≡ text.old ++ atom_text state.now atom) }
+{
+    if state.has(atom) {
+        text.push_bytes(b" ")?;
+        text.push_number(u64::from(atom))?;
+    }
+    Ok(())
 }
 
 /// `task line L: WHAT WORD`
 fn task_fault(alloc: Global, line: u64, what: &[u8], word: &str) -> Result<Reply, AllocError>
-    ensures { IfOk result (λ r. IsReply r S.BadInput (line_of (codes "task line " ++ decimal line ++ what.now ++ word.now))) }
+    ensures { IfOk result (λ r. IsReply r S.BadInput
+        (line_of (codes "task line " ++ decimal line ++ what.now ++ word.now))) }
 {
     let mut text = Text::new(alloc);
     text.push_bytes(b"task line ")?;

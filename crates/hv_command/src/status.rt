@@ -10,11 +10,11 @@ pub enum Status {
     Refused,
     /// The words are no job.
     Usage,
-    /// A text isn't in its grammar, or passes a limit.
+    /// The task text isn't in its grammar, or passes a limit.
     BadInput,
     /// A file can't be opened or read.
     ReadFault,
-    /// The sink takes no more.
+    /// The sink failed before it had taken the whole answer.
     WriteFault,
     /// Memory was refused.
     Memory,

@@ -1,3 +1,4 @@
+use hv_bytes::Failed;
 use std::alloc::AllocError;
 
 /// Why there is no answer.
@@ -17,5 +18,16 @@ impl From<AllocError> for Stop {
 
     fn from(_error: AllocError) -> Stop {
         Stop::Memory
+    }
+}
+
+impl From<Failed> for Stop {
+    ghost use Rattle.std.specs.Prelude.{◌≡◌};
+    ghost use Rattle.hv_command.specs.declared.stop.Stop.TheVariants as T;
+
+    ghost from_gives = { λ _ stop. stop ≡ T.ReadFault };
+
+    fn from(_error: Failed) -> Stop {
+        Stop::ReadFault
     }
 }

@@ -1,7 +1,11 @@
 //! The worked examples of the formats, through the whole product in memory. Every expected text is derived from the formats by
 //! hand.
+use crate::reply::refusal;
 use crate::{Status, Words, run};
-use hv_bytes::{MemoryShelf, MemorySink};
+use hv_bytes::{Limits, MemoryShelf, MemorySink};
+use hv_lines::{Clash, Reason};
+use hv_task::State;
+use hv_task_text::read_task;
 use std::alloc::{AllocError, Global};
 use std::process::Abort;
 use std::test::Fail;
@@ -694,11 +698,24 @@ fn tells_words_that_are_no_job(rt: HostRuntime) -> Result<(), Fail> {
         "check task -p",
         "check  proof",
         "check task ",
+        "check task proof --budget",
+        "check task proof --budget 0",
+        "check task proof --budget 07",
+        "check task proof --budget 16777217",
+        "check task proof --Budget 7",
+        "check --budget 7 task proof",
+        "check task proof --budget 7 --budget 7",
     ];
     for text in no_jobs {
         assert!(rt; is_usage(rt.alloc(), text)?, "{text}");
     }
-    assert!(rt; !is_usage(rt.alloc(), "check task proof")?);
+    for text in [
+        "check task proof",
+        "check task proof --budget 1",
+        "check task proof --budget 16777216",
+    ] {
+        assert!(rt; !is_usage(rt.alloc(), text)?, "{text}");
+    }
     Ok(())
 }
 
@@ -716,4 +733,100 @@ fn numbers_the_statuses(rt: HostRuntime) {
     for (number, status) in statuses.iter().enumerate() {
         assert_eq!(rt; status.number() as usize, number);
     }
+}
+
+/// A shelf in memory of reads of 7 bytes, with the key task and a proof whose first line is refused; the rest are comments.
+fn early_shelf(alloc: Global) -> Result<MemoryShelf, AllocError> {
+    let mut proof = Vec::new(alloc);
+    proof.extend_from_slice(b"e 1 c e\n")?;
+    for _ in 0..1000 {
+        proof.extend_from_slice(b"# x\n")?;
+    }
+    let mut shelf = MemoryShelf::new(alloc, 7);
+    shelf.add("task", KEY_TASK.as_bytes())?;
+    shelf.add("proof", proof.as_slice())?;
+    Ok(shelf)
+}
+
+/// The status and the text of a run in which the shelf's call of this number fails.
+fn early_answer(alloc: Global, call: u64) -> Result<(Status, Vec<u8>), AllocError> {
+    let mut shelf = early_shelf(alloc)?;
+    shelf.fail_at(call)?;
+    let mut sink = MemorySink::new(alloc, 10, 4096)?;
+    let status = run(alloc, &check_words(alloc)?, &mut shelf, &mut sink);
+    Ok((status, Vec::from_slice(alloc, sink.bytes())?))
+}
+
+/// How many calls of the shelf it takes to read the task.
+fn task_calls(alloc: Global) -> Result<u64, AllocError> {
+    let mut last = 0;
+    for call in 1..100 {
+        let mut shelf = early_shelf(alloc)?;
+        shelf.fail_at(call)?;
+        if read_task(alloc, &mut shelf, "task", Limits::STANDARD).is_err() {
+            last = call;
+        }
+    }
+    Ok(last)
+}
+
+/// The proof is opened and read twice, which brings the eight bytes of its first line, and no further.
+#[test]
+fn reads_no_further_than_the_refused_line(rt: HostRuntime) -> Result<(), Fail> {
+    let calls = task_calls(rt.alloc())?;
+    assert_eq!(rt; calls, 38);
+    let (failed, none) = early_answer(rt.alloc(), calls + 3)?;
+    assert!(rt; failed == Status::ReadFault && none.is_empty());
+    let (refused, text) = early_answer(rt.alloc(), calls + 4)?;
+    assert!(rt; refused == Status::Refused && text.as_slice() == b"line 1: number\n".as_slice());
+    Ok(())
+}
+
+/// The state of 130 atoms that holds these.
+fn state_of(alloc: Global, atoms: &[u32]) -> Result<State, AllocError> {
+    let mut state = State::empty(alloc, 130)?;
+    for atom in atoms {
+        if *atom < state.atoms() {
+            state.set(*atom, true);
+        }
+    }
+    Ok(state)
+}
+
+/// Whether a refused line with this counterexample is told by this text.
+fn tells(
+    alloc: Global,
+    action: Option<u32>,
+    state: Option<State>,
+    text: &str,
+) -> Result<bool, AllocError> {
+    let reply = refusal(alloc, 12, &Reason::False(Clash { action, state }))?;
+    Ok(reply.status == Status::Refused && reply.text.as_bytes() == text.as_bytes())
+}
+
+#[test]
+fn tells_counterexamples(rt: HostRuntime) -> Result<(), Fail> {
+    let alloc = rt.alloc();
+    let one = state_of(alloc, &[0])?;
+    assert!(rt;
+        tells(
+            alloc,
+            Some(0),
+            Some(one),
+            "line 12: false action 0 state 0 ;\n"
+        )?
+    );
+    let none = state_of(alloc, &[])?;
+    assert!(rt; tells(alloc, None, Some(none), "line 12: false state ;\n")?);
+    let more = state_of(alloc, &[129, 63, 64])?;
+    assert!(rt;
+        tells(
+            alloc,
+            None,
+            Some(more),
+            "line 12: false state 63 64 129 ;\n"
+        )?
+    );
+    assert!(rt; tells(alloc, Some(70), None, "line 12: false action 70\n")?);
+    Ok(())
 }

@@ -1,11 +1,11 @@
 //! The whole product as one call.
 
 ghost use Rattle.std.specs.Prelude.{◌≡◌, ◌≤◌, ◌⊎◌, ℕ, List, Some, None, IfOk, IsErrOf, IsTrue};
-ghost use Rattle.std.specs.Io.KnownBytes.{Appends, Keeps};
+ghost use Rattle.std.specs.Io.KnownBytes.{Appends};
 ghost use Rattle.hv_bytes.specs.Devices.{AppendsFront, Rose};
 ghost use Rattle.hv_command.specs.Answer.{AnswersTold, IsSoundTold};
 ghost use Rattle.hv_command.specs.Replies.{IsAnswered, IsJobStatus};
-ghost use Rattle.hv_command.specs.Words.{HasName, job_of};
+ghost use Rattle.hv_command.specs.Words.{HasBudget, HasName, job_of};
 ghost use Rattle.hv_command.specs.declared.status.Status.{Status as StatusOf};
 
 use crate::checking::check;
@@ -29,24 +29,29 @@ pub fn run<S: Shelf, K: Sink>(alloc: Global, words: &Words, shelf: &mut S, out: 
     ensures later_out { K.faults out.old ≤ K.faults out.new }
 
     // the answer of the job, and that it was written
-    ensures answer { IsAnswered result → (text : List ℕ) × AnswersTold (job_of words.now) (S.held shelf.old) result text × Appends (K.taken out.old) (K.taken out.new) text }
+    ensures answer { IsAnswered result → (text : List ℕ)
+        × AnswersTold (job_of words.now) (S.held shelf.old) result text
+        × Appends (K.taken out.old) (K.taken out.new) text }
     // what it says is true
     ensures sound { IsAnswered result → IsSoundTold (job_of words.now) (S.held shelf.old) result }
 
     // the usage line, exactly where the words are no job
     ensures usage { result ≡ Status.Usage → job_of words.now ≡ None }
-    ensures no_job { job_of words.now ≡ None → (result ≡ Status.Usage) ⊎ (result ≡ Status.WriteFault) ⊎ (result ≡ Status.Memory) }
+    ensures no_job { job_of words.now ≡ None →
+        (result ≡ Status.Usage) ⊎ (result ≡ Status.WriteFault) ⊎ (result ≡ Status.Memory) }
 
     // faults of the shelf
     ensures read_fault { result ≡ Status.ReadFault → Rose (S.faults shelf.old) (S.faults shelf.new) }
-    ensures read_nothing { result ≡ Status.ReadFault → Keeps (K.taken out.old) (K.taken out.new) }
+    ensures read_nothing { result ≡ Status.ReadFault → out.new ≡ out.old }
 
     // faults of the sink
     ensures write_fault { result ≡ Status.WriteFault → Rose (K.faults out.old) (K.faults out.new) }
-    ensures write_front { result ≡ Status.WriteFault → (status : StatusOf) × (text : List ℕ) × IsAnswered status × AnswersTold (job_of words.now) (S.held shelf.old) status text × AppendsFront (K.taken out.old) (K.taken out.new) text }
+    ensures write_front { result ≡ Status.WriteFault → (status : StatusOf) × (text : List ℕ)
+        × IsAnswered status × AnswersTold (job_of words.now) (S.held shelf.old) status text
+        × AppendsFront (K.taken out.old) (K.taken out.new) text }
 
     // want of memory
-    ensures memory { result ≡ Status.Memory → Keeps (K.taken out.old) (K.taken out.new) }
+    ensures memory { result ≡ Status.Memory → out.new ≡ out.old }
 {
     match answer(alloc, words, shelf) {
         Ok(reply) => match send(out, reply.text.as_bytes()) {
@@ -84,7 +89,8 @@ fn answer<S: Shelf>(alloc: Global, words: &Words, shelf: &mut S) -> Result<Reply
 }
 
 fn do_job<S: Shelf>(alloc: Global, shelf: &mut S, job: &Job) -> Result<Reply, Stop>
-    requires { (name : List ℕ) → HasName (Some job.now) name → IsTrue (S.allows shelf.old name) }
+    requires budget { HasBudget job.now }
+    requires allowed { (name : List ℕ) → HasName (Some job.now) name → IsTrue (S.allows shelf.old name) }
     ensures answer { IfOk result (λ r. AnswersTold (Some job.now) (S.held shelf.old) r.status r.text) }
     ensures job_status { IfOk result (λ r. IsJobStatus r.status) }
     ensures held { S.held shelf.new ≡ S.held shelf.old }
@@ -93,8 +99,12 @@ fn do_job<S: Shelf>(alloc: Global, shelf: &mut S, job: &Job) -> Result<Reply, St
     ensures cause { IsErrOf result Stop.ReadFault → Rose (S.faults shelf.old) (S.faults shelf.new) }
 {
     match job {
-        Job::Check { task, proof } => {
-            let reply = check(alloc, shelf, task, proof)?;
+        Job::Check {
+            task,
+            proof,
+            budget,
+        } => {
+            let reply = check(alloc, shelf, task, proof, *budget)?;
             Ok(reply)
         }
     }
