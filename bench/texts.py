@@ -1,0 +1,123 @@
+"""Texts of tasks and proofs that the benchmarks are made of."""
+import random
+
+PRELUDE = "a 0 a\ne 0 c e\ne 1 c i\ne 2 c g\nk 0 d 0 ed\n"
+NO_WAY_OUT = "e 4 p 3 0\ne 5 u 3 0\ne 6 i 3 2\nk 1 s 4 5 b2\nk 2 s 6 0 b1\nk 3 d 6 sd 2 0\nk 4 d 3 pg 1 0 3\n"
+CONCLUSION = "k 5 s 1 3 b1\nk 6 d 1 sd 5 4\nk 7 u ci 6\n"
+
+
+def task_text(atoms, start, goal, actions):
+    """A task; an action has a precondition, an add list and a delete list."""
+    lines = ["begin_atoms:%d" % atoms]
+    lines += ["atom_%d" % atom for atom in range(atoms)]
+    lines += ["end_atoms", "begin_init"] + [str(atom) for atom in start]
+    lines += ["end_init", "begin_goal"] + [str(atom) for atom in goal]
+    lines += ["end_goal", "begin_actions:%d" % len(actions)]
+    for number, (pre, add, delete) in enumerate(actions):
+        lines += ["begin_action", "action_%d" % number, "cost:1"]
+        lines += ["PRE:%d" % atom for atom in pre] + ["ADD:%d" % atom for atom in add]
+        lines += ["DEL:%d" % atom for atom in delete] + ["end_action"]
+    return "\n".join(lines + ["end_actions"]) + "\n"
+
+
+def proof_text(dead):
+    """The proof that no action leads out of a set, which is line `e 3` and holds the initial state and no goal state."""
+    return PRELUDE + dead + "\n" + NO_WAY_OUT + CONCLUSION
+
+
+def clauses_line(letter, clauses):
+    return "e 3 %s %d %s" % (letter, len(clauses), " ".join(clauses))
+
+
+def states_line(number, states):
+    return "e %d x %d %s" % (number, len(states), " ".join(" ".join(map(str, s)) + " ;" for s in states))
+
+
+def rooms(count):
+    """A robot goes from room to room, and nothing gives it the key, which is the goal: the states that it can be in, as a list."""
+    moves = [([room], [room + 1], [room]) for room in range(count - 1)]
+    states = [[room] for room in range(count)]
+    return task_text(count + 1, [0], [count], moves), proof_text(states_line(3, states))
+
+
+def chain(atoms, actions):
+    """Atoms of which each is got from the one before; the second isn't reached. The atoms that aren't reached, as clauses."""
+    numbers = random.Random(1)
+    steps = [numbers.randrange(1, atoms - 1) for _ in range(actions)]
+    task = task_text(atoms, [0], [atoms - 1], [([step], [step + 1], []) for step in steps])
+    return task, proof_text(clauses_line("h", ["-%d 0" % (atom + 1) for atom in range(1, atoms)]))
+
+
+def pairs(rooms_count, actions, letter):
+    """A robot goes between rooms, and nothing gives it the key: the pairs of atoms that aren't reached, as clauses."""
+    numbers = random.Random(1)
+    ways = []
+    for _ in range(actions):
+        left = numbers.randrange(rooms_count)
+        right = (left + numbers.randrange(1, rooms_count)) % rooms_count
+        ways.append(([left], [right], [left]))
+    task = task_text(rooms_count + 1, [0], [rooms_count], ways)
+    clauses = ["-%d -%d 0" % (left + 1, right + 1) for left in range(rooms_count) for right in range(left + 1, rooms_count)]
+    return task, proof_text(clauses_line(letter, clauses + ["-%d 0" % (rooms_count + 1)]))
+
+
+def sliding_tiles(wide, high):
+    """The sliding-tile puzzle whose goal has the wrong parity: all states that are reached, as a list."""
+    cells = wide * high
+    neighbours = [
+        [cell + step for step, fits in ((-1, cell % wide > 0), (1, cell % wide < wide - 1), (-wide, cell >= wide), (wide, cell < cells - wide)) if fits]
+        for cell in range(cells)
+    ]
+    start = tuple(range(1, cells)) + (0,)
+    goal = (2, 1) + tuple(range(3, cells)) + (0,)
+    # atom tile * cells + cell: the tile, 0 for the gap, is in the cell
+    atoms_of = lambda board: sorted(tile * cells + cell for cell, tile in enumerate(board))
+    actions = []
+    for tile in range(1, cells):
+        for cell in range(cells):
+            for gap in neighbours[cell]:
+                before = [tile * cells + cell, gap]
+                after = [tile * cells + gap, cell]
+                actions.append((sorted(before), sorted(after), sorted(before)))
+    seen, order = {start}, [start]
+    for board in order:
+        gap = board.index(0)
+        for cell in neighbours[gap]:
+            moved = list(board)
+            moved[gap], moved[cell] = moved[cell], 0
+            moved = tuple(moved)
+            if moved not in seen:
+                seen.add(moved)
+                order.append(moved)
+    task = task_text(cells * cells, atoms_of(start), atoms_of(goal), actions)
+    return task, proof_text(states_line(3, [atoms_of(board) for board in order]))
+
+
+def unions(count, atoms=1000):
+    """Many explicit sets of one state each, and the union of them all, which has the initial state: one inclusion at the end."""
+    numbers = random.Random(1)
+    lines = [PRELUDE[:-1]]
+    for place in range(count):
+        state = sorted(numbers.sample(range(1, atoms), 3)) if place + 1 < count else [0]
+        lines.append(states_line(3 + place, [state]))
+    union = 3
+    for place in range(1, count):
+        lines.append("e %d u %d %d" % (2 + count + place, union, 3 + place))
+        union = 2 + count + place
+    lines.append("k 1 s 1 %d b1" % union)
+    return task_text(atoms, [0], [1], []), "\n".join(lines) + "\n"
+
+
+def growing_unions(count, atoms=1000):
+    """Explicit sets of one state each, whose union grows by one in each step, and in each step an inclusion in it."""
+    numbers = random.Random(1)
+    lines = [PRELUDE[:-1], states_line(3, [[0]])]
+    union, known = 3, 1
+    for place in range(count):
+        state = sorted(numbers.sample(range(1, atoms), 3))
+        lines.append(states_line(4 + 2 * place, [state]))
+        lines.append("e %d u %d %d" % (5 + 2 * place, union, 4 + 2 * place))
+        union = 5 + 2 * place
+        lines.append("k %d s 1 %d b1" % (known, union))
+        known += 1
+    return task_text(atoms, [0], [1], []), "\n".join(lines) + "\n"
