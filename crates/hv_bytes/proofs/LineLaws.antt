@@ -1,10 +1,9 @@
 -- Lines, one after another.
-use Rattle.std.proofs.Common.{◌≡◌, ◌≢◌, ℕ, ◌+◌, ◌<◌, Bool, true, false, cond, List, [], ◌∷◌, ◌++◌, length, take, drop, refl, sym, ap, ◌∙◌, arith, inl, inr, ⊎_elim, length-append, take-append-drop, eqb}
+use Rattle.std.proofs.Common.{◌≡◌, ◌≢◌, ℕ, ◌<◌, Bool, true, false, cond, List, [], ◌∷◌, ◌++◌, length, refl, sym, ap, ◌∙◌, arith, inl, inr, ⊎_elim, eqb}
 use Rattle.std.specs.List.{onto_first}
 use Rattle.std.proofs.lemmas.Bool.{eqb-true, cases_eq}
-use Rattle.std.proofs.lemmas.List.{append_cancel_left}
 use Rattle.std.proofs.lemmas.List.Elements.{All-head, All-tail, All-cons, All-nil}
-use Rattle.hv_bytes.specs.LineCuts.{IsClean, IsFirstLf, lines_of}
+use Rattle.hv_bytes.specs.LineCuts.{IsClean, lines_of}
 use Rattle.hv_bytes.specs.FirstLine.{IsFirstLine}
 
 abbrev IsNoLf : ℕ → Type 0
@@ -43,33 +42,6 @@ pub length_some : (xs : List ℕ) → xs ≢ [] → 0 < length xs
 length_some [] h = absurd (h refl)
 length_some (x ∷ xs) h = omega arith
 
--- what comes after the first line is shorter
-pub length-first : (coming line rest : List ℕ) → IsFirstLine coming line rest → length rest < length coming
-length-first coming line rest h =
-    ⊎_elim
-    (λ ended. omega (arith, ap length ended, length-append line (10 ∷ rest)))
-    (λ last. omega (arith, ap length last.1, length_some coming h.some))
-    h.cut
-
--- the first line and what comes after it are determined
-pub IsFirstLine-same : (coming line rest line' rest' : List ℕ) → IsFirstLine coming line rest → IsFirstLine coming line' rest' → (line ≡ line') × (rest ≡ rest')
-IsFirstLine-same coming line rest line' rest' p q =
-    let cuts : line ∷ lines_of rest ≡ line' ∷ lines_of rest' = sym (lines_of-first coming line rest p) ∙ lines_of-first coming line' rest' q in
-    let same : line ≡ line' = cc in (
-      same,
-      ⊎_elim
-          (λ ended. ⊎_elim
-          (λ ended'. let joined : line ++ 10 ∷ rest ≡ line ++ 10 ∷ rest' = sym ended ∙ ended' ∙ ap (λ l. l ++ 10 ∷ rest') (sym same) in
-          let tails = append_cancel_left line (10 ∷ rest) (10 ∷ rest') joined in cc)
-          (λ last'. absurd (omega (arith, ap length ended, ap length last'.0, ap length same, length-append line (10 ∷ rest))))
-          q.cut)
-          (λ last. ⊎_elim
-          (λ ended'. absurd (omega (arith, ap length ended', ap length last.0, ap length same, length-append line' (10 ∷ rest'))))
-          (λ last'. last.1 ∙ sym last'.1)
-          q.cut)
-          p.cut,
-    )
-
 -- a byte that is no LF in front of bytes that have a first line
 IsFirstLine-cons : (b : ℕ) (coming line rest : List ℕ) → b ≢ 10 → IsFirstLine coming line rest → IsFirstLine (b ∷ coming) (b ∷ line) rest
 IsFirstLine-cons b coming line rest h first = record {
@@ -97,11 +69,3 @@ first_line_of (b ∷ c ∷ bytes) some =
     (λ e. ([], c ∷ bytes, record { some = λ e'. cc; clean = All-nil IsNoLf; cut = inl (ap (λ x. x ∷ c ∷ bytes) e) }))
     (λ ne. let later = first_line_of (c ∷ bytes) (λ e'. cc) in (b ∷ later.0, later.1, IsFirstLine-cons b (c ∷ bytes) later.0 later.1 ne later.2))
     (cases_eq b 10)
-
--- the line before the first LF
-pub IsFirstLine-at : (text : List ℕ) (at : ℕ) → IsFirstLf text at → IsFirstLine text (take at text) (drop (at + 1) text)
-IsFirstLine-at text at h = record {
-  some = λ e. absurd (omega (arith, h.within, ap length e));
-  clean = h.clean;
-  cut = inl (sym (take-append-drop at text) ∙ ap (λ l. take at text ++ l) h.here);
-}

@@ -2,8 +2,8 @@
 use Rattle.std.specs.Prelude.{◌≡◌, ◌≢◌, ℕ, ◌+◌, ◌<◌, ◌==◌, List, ◌∷◌, length, take, drop, All}
 use Rattle.std.specs.List.{slice_split}
 
--- the fields of a line: its bytes cut at each space, so that there is one more of them than there are
--- spaces
+-- the fields of a line: its bytes cut at each space, so that there is one more of them than there
+-- are spaces
 abbrev pub cut_fields : List ℕ → List (List ℕ)
 cut_fields line = slice_split (λ b. b == 32) line
 

@@ -6,13 +6,16 @@ use Rattle.hv_bytes.specs.LineCuts.{IsClean, IsFirstLf}
 -- the line grew by what is held before the first LF, and that LF is gone too
 abbrev pub EndsLine : List ℕ → List ℕ → List ℕ → List ℕ → Type 0
 EndsLine held held_now line line_now =
-    (at : ℕ) × IsFirstLf held at × (held_now ≡ drop (at + 1) held) × (line_now ≡ line ++ take at held)
+    (at : ℕ) × IsFirstLf held at × (held_now ≡ drop (at + 1) held)
+    × (line_now ≡ line ++ take at held)
 
 -- no LF is held, and the line grew by all that is
 abbrev pub LengthensLine : List ℕ → List ℕ → List ℕ → List ℕ → Type 0
-LengthensLine held held_now line line_now = IsClean held × (held_now ≡ []) × (line_now ≡ line ++ held)
+LengthensLine held held_now line line_now = IsClean held × (held_now ≡ [])
+    × (line_now ≡ line ++ held)
 
 -- a line of so many bytes, grown by a part of what is held before the first LF, is long
 abbrev pub IsLongPart : List ℕ → ℕ → ℕ → ℕ → ℕ → Type 0
 IsLongPart held line_limit file_limit earlier so_far =
-    (count : ℕ) × (count ≤ length held) × IsClean (take count held) × IsLong line_limit file_limit earlier (so_far + count)
+    (count : ℕ) × (count ≤ length held) × IsClean (take count held)
+    × IsLong line_limit file_limit earlier (so_far + count)

@@ -13,8 +13,8 @@ abbrev pub fits_limits : Limits → ℕ → ℕ → Bool
 fits_limits limits earlier length_of_line =
     nat_le length_of_line limits.line && nat_le (earlier + last_byte length_of_line) limits.file
 
--- the pieces that these lines are, after so many earlier bytes of the file: a file with a long line is
--- read no further
+-- the pieces that these lines are, after so many earlier bytes of the file: a file with a long line
+-- is read no further
 abbrev pub pieces_after : Limits → ℕ → List (List ℕ) → List Piece
 pieces_after limits earlier [] = []
 pieces_after limits earlier (line ∷ lines) =
@@ -38,8 +38,8 @@ pub record ComesNext
     pub cut : pieces ≡ as_pieces before ++ rest
     pub counted : number ≡ length before + 1
 
--- of a known file these lines were given, none of them long: with the pieces of the coming bytes they
--- are its pieces
+-- of a known file these lines were given, none of them long: with the pieces of the coming bytes
+-- they are its pieces
 abbrev pub GaveLines : Limits → Option (List ℕ) → List (List ℕ) → Option (List ℕ) → ℕ → Type 0
 GaveLines limits None given coming earlier = Unit {0}
 GaveLines limits (Some file) given None earlier = ⊥

@@ -72,13 +72,13 @@ no_lines limits = record {
 abbrev pub coming_of : LinesState → Option (List ℕ) → Option (List ℕ)
 coming_of state left = if state.ended then Some [] else prepend_known state.held left
 
--- how many bytes a line of this length has with its LF, which the last line of an input that ended may
--- lack
+-- how many bytes a line of this length has with its LF, which the last line of an input that ended
+-- may lack
 abbrev pub size_of : ℕ → Bool → ℕ
 size_of length_of_line ended = if ended then length_of_line else length_of_line + 1
 
--- the limits are not too great for 64 bits, the counts are within them, and no byte is held behind the
--- end
+-- the limits are not too great for 64 bits, the counts are within them, and no byte is held behind
+-- the end
 pub record IsCounted
     (limits : Limits) (earlier number : ℕ) (held : List ℕ) (ended : Bool) : Type 0
   where

@@ -306,8 +306,8 @@ impl Lines {
         self.number
     }
 
-    /// Reads the next line of the shelf's open file. A read of 0 bytes is the end of the input: after it
-    /// nothing is read any more.
+    /// Reads the next line of the shelf's open file. A read of 0 bytes is the end of the input:
+    /// after it nothing is read any more.
     ///
     /// The same shelf is to be given in each call, with nothing else read from it in between: the
     /// held bytes and those left on the shelf are together the bytes still to come.

@@ -1,11 +1,21 @@
-ghost use Rattle.std.specs.Prelude.{◌≡◌, ◌<◌, ◌≤◌, ◌^◌, ◌↔◌, [], length, drop, IsTrue, IfOk, OnOk};
+ghost use Rattle.std.specs.Prelude.{◌≡◌, ◌<◌, ◌≤◌, ◌^◌, ◌↔◌, [], length, drop, vec_len, IsTrue, IfOk, OnOk};
 ghost use Rattle.std.specs.Io.KnownBytes.{IsAtEnd, Keeps, prepend_known};
 ghost use Rattle.hv_bytes.specs.Devices.{HasCause};
 
 use crate::outside::{Failed, Shelf};
-use crate::transfer::{BLOCK, buffer};
 use std::alloc::{AllocError, Global};
 use std::marker::Model;
+
+/// How many bytes a shelf is asked for at once.
+const BLOCK: usize = 65536;
+
+/// A buffer of `size` zeros.
+fn buffer(alloc: Global, size: usize) -> Result<Vec<u8>, AllocError>
+    requires { 0 < size }
+    ensures { IfOk result (λ v. 0 < vec_len v) }
+{
+    vec![in alloc; 0u8; size]
+}
 
 /// Bytes that were read from a shelf, and not yet used.
 #[derive(Drop)]

@@ -20,6 +20,6 @@ pub use memory_shelf::MemoryShelf;
 pub use memory_sink::MemorySink;
 pub use outside::{Failed, Shelf, Sink};
 pub use spelling::{Text, read_decimal, read_short_decimal};
-pub use splitting::{split_field, split_line};
+pub use splitting::split_field;
 pub use sure::{SureShelf, SureSink};
-pub use transfer::{ReadAllFault, read_all, send};
+pub use transfer::send;

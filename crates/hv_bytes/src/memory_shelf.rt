@@ -64,16 +64,18 @@ impl MemoryShelf {
         }) }
         ensures named { OnOk result (held_of self.new.files name.now ≡ Some bytes.now) }
         ensures others { OnOk result
-            ((other : List ℕ) → other ≢ name.now → held_of self.new.files other ≡ held_of self.old.files other) }
+            ((other : List ℕ) → other ≢ name.now
+            → held_of self.new.files other ≡ held_of self.old.files other) }
         ensures err { OnErr result (self.new ≡ self.old) }
     {
         self.shelf.add(name, bytes)
     }
 
-    /// Has the call of this number fail: the calls of `open` and `read` are numbered together from 1.
-    /// The number of a call stays at its greatest value once there.
+    /// Has the call of this number fail: the calls of `open` and `read` are numbered together from
+    /// 1. The number of a call stays at its greatest value once there.
     pub fn fail_at(&mut self, call: u64) -> Result<(), AllocError>
-        ensures ok { OnOk result (self.new ≡ record self.old { failing = self.old.failing ++ call ∷ [] }) }
+        ensures ok { OnOk result (self.new
+            ≡ record self.old { failing = self.old.failing ++ call ∷ [] }) }
         ensures err { OnErr result (self.new ≡ self.old) }
     {
         self.schedule.fail_at(call)
@@ -94,7 +96,8 @@ impl Shelf for MemoryShelf {
 
     fn open(&mut self, name: &str) -> Result<(), Failed>
         ensures exactly { IsErr result
-            ↔ (Contains self.new.failing self.new.calls ⊎ (held_of self.old.files name.now ≡ None)) }
+            ↔ (Contains self.new.failing self.new.calls
+            ⊎ (held_of self.old.files name.now ≡ None)) }
         ensures ok { OnOk result (self.new ≡ record self.old {
           left = bytes_of (held_of self.old.files) name.now;
           calls = next_count self.old.calls;

@@ -31,7 +31,8 @@ impl Model for MemorySink {
       faults = s.schedule.faults;
     } };
 
-    ghost invariant = { λ s. (1 ≤ s.step) × (vec_len s.bytes ≤ s.room) × (s.room ≤ vec_capacity s.bytes) };
+    ghost invariant = { λ s. (1 ≤ s.step) × (vec_len s.bytes ≤ s.room)
+        × (s.room ≤ vec_capacity s.bytes) };
 }
 
 impl MemorySink {
@@ -59,7 +60,8 @@ impl MemorySink {
     /// Has the write of this number fail: the writes are numbered from 1. The number of a write
     /// stays at its greatest value once there.
     pub fn fail_at(&mut self, call: u64) -> Result<(), AllocError>
-        ensures ok { OnOk result (self.new ≡ record self.old { failing = self.old.failing ++ call ∷ [] }) }
+        ensures ok { OnOk result (self.new
+            ≡ record self.old { failing = self.old.failing ++ call ∷ [] }) }
         ensures err { OnErr result (self.new ≡ self.old) }
     {
         self.schedule.fail_at(call)
@@ -86,7 +88,8 @@ impl Sink for MemorySink {
             ↔ (Contains self.new.failing self.new.calls ⊎ (self.old.room ≤ length self.old.taken)) }
         ensures some { IfOk result (λ n. 0 < n) }
         ensures count { IfOk result
-            (λ n. n ≡ min (min self.old.step (length bytes.now)) (self.old.room - length self.old.taken)) }
+            (λ n. n ≡ min (min self.old.step (length bytes.now))
+            (self.old.room - length self.old.taken)) }
         ensures ok { IfOk result (λ n. self.new ≡ record self.old {
           taken = self.old.taken ++ take n bytes.now;
           calls = next_count self.old.calls;

@@ -13,10 +13,10 @@ pub struct Failed;
 
 /// A place that files are read from, one at a time.
 ///
-/// `held` tells what stands under each name, nothing where the name isn't held, and `left` the bytes
-/// that are still to be read of the open file; a shelf over real files tells neither. `allows` says
-/// which names may be opened. `faults` counts the failed calls: it never falls, and it stays at its
-/// greatest value once there.
+/// `held` tells what stands under each name, nothing where the name isn't held, and `left` the
+/// bytes that are still to be read of the open file; a shelf over real files tells neither.
+/// `allows` says which names may be opened. `faults` counts the failed calls: it never falls, and
+/// it stays at its greatest value once there.
 pub trait Shelf {
     ghost held: { Self → Option Names };
 
@@ -55,8 +55,8 @@ pub trait Sink {
 
     ghost faults: { Self → ℕ };
 
-    /// Takes some of the bytes from their front, and says how many. A device that takes none of them
-    /// counts as a fault.
+    /// Takes some of the bytes from their front, and says how many. A device that takes none of
+    /// them counts as a fault.
     fn write(&mut self, bytes: &[u8]) -> Result<usize, Failed>
         requires { 0 < length bytes.now }
         ensures some { IfOk result (λ n. 0 < n) }

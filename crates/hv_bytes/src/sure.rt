@@ -92,9 +92,13 @@ impl Model for SureShelf {
 
     ghost Value = { SureState };
 
-    ghost view = { λ s. record { files = s.entries.items; left = drop s.at (bytes_at s.entries.items s.place) } };
+    ghost view = { λ s. record {
+      files = s.entries.items;
+      left = drop s.at (bytes_at s.entries.items s.place);
+    } };
 
-    ghost invariant = { λ s. (s.place ≤ vec_len s.entries) × (s.at ≤ length (bytes_at s.entries.items s.place)) };
+    ghost invariant = { λ s. (s.place ≤ vec_len s.entries)
+        × (s.at ≤ length (bytes_at s.entries.items s.place)) };
 }
 
 impl SureShelf {
@@ -118,7 +122,8 @@ impl SureShelf {
         ensures left { self.new.left ≡ self.old.left }
         ensures named { OnOk result (held_of self.new.files name.now ≡ Some bytes.now) }
         ensures others { OnOk result
-            ((other : List ℕ) → other ≢ name.now → held_of self.new.files other ≡ held_of self.old.files other) }
+            ((other : List ℕ) → other ≢ name.now
+            → held_of self.new.files other ≡ held_of self.old.files other) }
         ensures err { OnErr result (self.new ≡ self.old) }
     {
         let entry = Entry::new(self.alloc, name, bytes)?;
@@ -162,7 +167,10 @@ impl Shelf for SureShelf {
 
     fn open(&mut self, name: &str) -> Result<(), Failed>
         ensures ok { IsOk result }
-        ensures left { self.new ≡ record self.old { left = bytes_of (held_of self.old.files) name.now } }
+        ensures left { self.new ≡ record self.old {
+          left = bytes_of
+              (held_of self.old.files) name.now;
+        } }
         ensures cause { HasCause 0 0 result }
     {
         self.place = place_of(&self.entries, name);

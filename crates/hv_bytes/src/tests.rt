@@ -3,9 +3,8 @@ ghost use Rattle.std.specs.Prelude.{None, true, ◌≡◌, ◌≤◌, ◌^◌, [
 ghost use Rattle.hv_bytes.specs.Pieces.{as_pieces, pieces_of};
 
 use crate::{
-    Failed, Limits, LineFault, Lines, MemoryShelf, MemorySink, Next, ReadAllFault, Shelf, Sink,
-    SureShelf, SureSink, Text, read_all, read_decimal, read_short_decimal, send, split_field,
-    split_line,
+    Failed, Limits, LineFault, Lines, MemoryShelf, MemorySink, Next, Shelf, Sink, SureShelf,
+    SureSink, Text, read_decimal, read_short_decimal, send, split_field,
 };
 use std::alloc::{AllocError, Global};
 use std::test::Fail;
@@ -75,18 +74,6 @@ fn lines_read(alloc: Global, text: &str, step: usize, limits: Limits) -> Result<
     Ok(joined)
 }
 
-/// The lines of the text, each ended by `|`.
-fn lines_split(alloc: Global, text: &str) -> Result<Vec<u8>, Fail> {
-    let mut all = Vec::new(alloc);
-    let mut rest = text.as_bytes();
-    'splitting: while let Some((line, later)) = split_line(rest) {
-        all.extend_from_slice(line)?;
-        all.push(b'|')?;
-        rest = later;
-    }
-    Ok(all)
-}
-
 #[test]
 fn cuts_lines(rt: HostRuntime) -> Result<(), Fail> {
     let cases = [
@@ -105,8 +92,6 @@ fn cuts_lines(rt: HostRuntime) -> Result<(), Fail> {
             let got = lines_read(rt.alloc(), text, step, Limits::STANDARD)?;
             assert_eq!(rt; got.as_slice(), want.as_bytes(), "{text:?} by {step}");
         }
-        let got = lines_split(rt.alloc(), text)?;
-        assert_eq!(rt; got.as_slice(), want.as_bytes(), "{text:?}");
     }
     Ok(())
 }
@@ -205,30 +190,23 @@ fn refuses_long_lines(rt: HostRuntime) -> Result<(), Fail> {
 }
 
 #[test]
-fn reads_files_whole(rt: HostRuntime) -> Result<(), Fail> {
-    for step in [1, 7, 4096] {
-        assert!(rt; 1 <= step);
-        let mut shelf = shelf_of(rt.alloc(), TEXT, step)?;
-        let all = read_all(rt.alloc(), &mut shelf, "file", TEXT.len())?;
-        assert_eq!(rt; all.as_slice(), TEXT.as_bytes());
-        let short = read_all(rt.alloc(), &mut shelf, "file", TEXT.len() - 1);
-        assert_eq!(rt; short.err(), Some(ReadAllFault::TooLong));
-        let missing = read_all(rt.alloc(), &mut shelf, "other", 9);
-        assert_eq!(rt; missing.err(), Some(ReadAllFault::Failed));
-    }
+fn shelves_fail_where_told(rt: HostRuntime) -> Result<(), Fail> {
     // the open, two reads of seven bytes, and the read of no bytes
     for call in 1..6 {
         let mut shelf = shelf_of(rt.alloc(), TEXT, 7)?;
         shelf.fail_at(call)?;
-        let all = read_all(rt.alloc(), &mut shelf, "file", 100);
-        assert_eq!(rt; all.is_ok(), 4 < call, "at call {call}");
+        let is_read = shelf.open("file").is_ok()
+            && all_lines(rt.alloc(), &mut shelf, Limits::STANDARD).is_ok();
+        assert_eq!(rt; is_read, 4 < call, "at call {call}");
+        assert!(rt; shelf.open("other").is_err());
     }
     let mut sure = SureShelf::new(rt.alloc());
     sure.add("file", TEXT.as_bytes())?;
-    let all = read_all(rt.alloc(), &mut sure, "file", 100)?;
-    assert_eq!(rt; all.as_slice(), TEXT.as_bytes());
-    let none = read_all(rt.alloc(), &mut sure, "other", 100)?;
-    assert_eq!(rt; none.len(), 0);
+    for (name, count) in [("file", 2), ("other", 0)] {
+        sure.open(name)?;
+        let lines = all_lines(rt.alloc(), &mut sure, Limits::STANDARD)?;
+        assert_eq!(rt; lines.len(), count);
+    }
     Ok(())
 }
 
