@@ -13,7 +13,7 @@ use Rattle.hv_task.proofs.Places.{has_atom_past, has_atom-state_of, length-state
 use Rattle.hv_task.proofs.Rising.{same_rising}
 
 -- a greater atom at the end keeps a list rising
-rises-push : (xs : List ℕ) (i : ℕ) → IsStrictlyIncreasing xs → ((k : ℕ) → k < length xs → get_or xs k 0 < i)
+pub rises-push : (xs : List ℕ) (i : ℕ) → IsStrictlyIncreasing xs → ((k : ℕ) → k < length xs → get_or xs k 0 < i)
     → IsStrictlyIncreasing (xs ++ i ∷ [])
 rises-push xs i rises below k within =
     let size = length_push xs i in

@@ -5,12 +5,14 @@ use Rattle.std.specs.List.Sorted.{IsStrictlyIncreasing}
 use Rattle.hv_task.specs.State.{has_atom}
 use Rattle.hv_task.specs.Atoms.{Lists}
 
--- the new list is the old one with this atom put in: it rises, and it has the atoms of the old one and this atom
+-- the new list is the old one with this atom put in: it rises, and it has the atoms of the old one
+-- and this atom
 pub record Inserts (old : List ℕ) (atom : ℕ) (new : List ℕ) : Type 0 where
   pub rises : IsStrictlyIncreasing new
   pub has : (a : ℕ) → Contains new a ↔ (Contains old a ⊎ (a ≡ atom))
 
--- the place of an atom in a rising list, or else the place where it belongs: what stands before it is less, and the rest greater
+-- the place of an atom in a rising list, or else the place where it belongs: what stands before it
+-- is less, and the rest greater
 abbrev pub IsPlaceOf : List ℕ → ℕ → Result ℕ ℕ → Type 0
 IsPlaceOf atoms atom place =
     MatchResult place

@@ -17,16 +17,19 @@ go_on more (Some state) = more state
 -- the state that the list of action numbers leads to from this state, each applicable in turn
 abbrev pub run_of : Strips → List ℕ → List Bool → Option (List Bool)
 run_of task [] state = Some state
-run_of task (number ∷ numbers) state = go_on (run_of task numbers) (step_of (slice_get task.actions number) state)
+run_of task (number ∷ numbers) state = go_on (run_of task numbers)
+    (step_of (slice_get task.actions number) state)
 
 -- the list is a plan: it leads from the initial state to a state that holds the whole goal
 abbrev pub Solves : Strips → List ℕ → Type 0
-Solves task list = (last : List Bool) × (run_of task list (start_state task) ≡ Some last) × (is_goal task last ≡ true)
+Solves task list = (last : List Bool) × (run_of task list (start_state task) ≡ Some last)
+    × (is_goal task last ≡ true)
 
 -- the run of some beginning of the list from the initial state ends in this state
 abbrev pub Traverses : Strips → List ℕ → List Bool → Type 0
 Traverses task list state =
-    (front : List ℕ) × (rest : List ℕ) × (front ++ rest ≡ list) × (run_of task front (start_state task) ≡ Some state)
+    (front : List ℕ) × (rest : List ℕ) × (front ++ rest ≡ list)
+    × (run_of task front (start_state task) ≡ Some state)
 
 -- no plan traverses the state
 abbrev pub Dead : Strips → List Bool → Type 0

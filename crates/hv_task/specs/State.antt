@@ -1,10 +1,11 @@
--- States as sets of atoms, and what an action does to them: STRIPS, as in Eriksson, Röger and Helmert (2018).
+-- States as sets of atoms, and what an action does to them: STRIPS, as in Eriksson, Röger and
+-- Helmert (2018).
 use Rattle.std.specs.Prelude.{◌<◌, ◌==◌, ℕ, Bool, true, false, List, [], ◌∷◌, replicate, slice_index_or, slice_set}
 use Rattle.std.specs.List.{list_all, list_any, All}
 use Rattle.hv_task.specs.declared.action.Action.{Action}
 
--- A state of a task with n atoms is a list of n flags: the flag at place p says whether atom p is in the state.
--- An atom past the end is in no state.
+-- A state of a task with n atoms is a list of n flags: the flag at place p says whether atom p is
+-- in the state. An atom past the end is in no state.
 abbrev pub has_atom : List Bool → ℕ → Bool
 has_atom state atom = slice_index_or state atom false
 
@@ -33,6 +34,7 @@ state_of atoms held = put_all true held (replicate atoms false)
 abbrev pub applicable : Action → List Bool → Bool
 applicable action state = has_all action.pre state
 
--- the successor: the state without the delete set, and then with the add set, so an atom in both sets is in it
+-- the successor: the state without the delete set, and then with the add set, so an atom in both
+-- sets is in it
 abbrev pub successor : Action → List Bool → List Bool
 successor action state = put_all true action.add (put_all false action.del state)

@@ -30,7 +30,8 @@ pub record IsOver (bound : ℕ) (action : Action) : Type 0 where
   pub add : AreBelow bound action.add
   pub del : AreBelow bound action.del
 
--- what every task keeps: its lists name its own atoms, those of the start and the goal rise, and it is within the limits
+-- what every task keeps: its lists name its own atoms, those of the start and the goal rise, and it
+-- is within the limits
 pub record IsTask (task : Strips) : Type 0 where
   pub start : AreBelow (length task.names) task.start
   pub start_rises : IsStrictlyIncreasing task.start

@@ -4,8 +4,8 @@ use crate::atom_list::AtomList;
 use crate::name::Name;
 use crate::state::State;
 
-/// An action of a planning task: it is applicable where its whole precondition holds, and its result is the state without
-/// the delete set, and then with the add set.
+/// An action of a planning task: it is applicable where its whole precondition holds, and its
+/// result is the state without the delete set, and then with the add set.
 #[derive(Drop)]
 pub struct Action {
     /// For people: no answer of the checker depends on it.

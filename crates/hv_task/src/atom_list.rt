@@ -6,13 +6,14 @@ ghost use Rattle.hv_task.specs.Atoms.{IsNext};
 ghost use Rattle.hv_task.specs.State.{names_atom};
 
 use crate::atoms::{Atoms, Hint};
+use smallvec::SmallVec;
 use std::alloc::{AllocError, Global};
 use std::marker::Model;
 
-/// A set of atoms, as a list that rises.
+/// A set of atoms, as a list that rises. Up to four atoms take no allocation.
 #[derive(Drop)]
 pub struct AtomList {
-    atoms: Vec<u32>,
+    atoms: SmallVec<u32, 4>,
 }
 
 impl Model for AtomList {
@@ -32,7 +33,7 @@ impl AtomList {
         ensures { result ≡ [] }
     {
         AtomList {
-            atoms: Vec::new(alloc),
+            atoms: SmallVec::new(alloc),
         }
     }
 
@@ -41,7 +42,7 @@ impl AtomList {
         ensures { IfOk result (λ list. list ≡ self.now) }
     {
         Ok(AtomList {
-            atoms: Vec::from_slice(alloc, self.atoms.as_slice())?,
+            atoms: SmallVec::from_slice(alloc, self.atoms.as_slice())?,
         })
     }
 
@@ -70,7 +71,7 @@ impl AtomList {
         requires { place < length self.now }
         ensures { slice_get self.now place ≡ Some result }
     {
-        self.atoms[place]
+        self.atoms.as_slice()[place]
     }
 
     /// Whether the atom is among them.

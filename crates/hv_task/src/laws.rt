@@ -13,14 +13,16 @@ pub fn laws_of_states()
     ensures successor { (action : Action) (state : List Bool) (p : ℕ) → p < length state
         → has_atom (successor action state) p
         ≡ (names_atom action.add p || (not (names_atom action.del p) && has_atom state p)) }
-    ensures successor_length { (action : Action) (state : List Bool) → length (successor action state) ≡ length state }
+    ensures successor_length { (action : Action) (state : List Bool)
+        → length (successor action state) ≡ length state }
 
-    ensures state_of { (n : ℕ) (held : List ℕ) (p : ℕ) → p < n → has_atom (state_of n held) p ≡ names_atom held p }
+    ensures state_of { (n : ℕ) (held : List ℕ) (p : ℕ) → p < n
+        → has_atom (state_of n held) p ≡ names_atom held p }
     ensures state_of_length { (n : ℕ) (held : List ℕ) → length (state_of n held) ≡ n }
 {}
 
-/// Does nothing: its contract states the laws of dead states, by which a proof concludes that a task has no plan (Eriksson,
-/// Röger and Helmert, 2018).
+/// Does nothing: its contract states the laws of dead states, by which a proof concludes that a
+/// task has no plan (Eriksson, Röger and Helmert, 2018).
 pub fn laws_of_dead_states(task: &Task)
     ensures progression { Progression task.now }
     ensures regression { Regression task.now }

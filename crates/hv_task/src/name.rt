@@ -1,12 +1,13 @@
 ghost use Rattle.std.specs.Prelude.{◌≡◌, IfOk};
 
+use smallvec::SmallVec;
 use std::alloc::{AllocError, Global};
 use std::marker::Model;
 
-/// The name of an atom or an action: any bytes, possibly none.
+/// The name of an atom or an action: any bytes, possibly none. Up to 16 bytes take no allocation.
 #[derive(Drop)]
 pub struct Name {
-    bytes: Vec<u8>,
+    bytes: SmallVec<u8, 16>,
 }
 
 impl Model for Name {
@@ -23,7 +24,7 @@ impl Name {
         ensures { IfOk result (λ name. name ≡ bytes.now) }
     {
         Ok(Name {
-            bytes: Vec::from_slice(alloc, bytes)?,
+            bytes: SmallVec::from_slice(alloc, bytes)?,
         })
     }
 

@@ -72,10 +72,12 @@ impl State {
         self.words.as_slice()
     }
 
-    /// Makes it a state of a task with so many atoms: each of them that it held it still holds, and no other.
+    /// Makes it a state of a task with so many atoms: each of them that it held it still holds, and
+    /// no other.
     pub fn resize(&mut self, atoms: u32) -> Result<(), AllocError>
         ensures atoms { OnOk result (length self.new ≡ atoms) }
-        ensures held { OnOk result ((p : ℕ) → p < atoms → has_atom self.new p ≡ has_atom self.old p) }
+        ensures held { OnOk result ((p : ℕ) → p < atoms
+            → has_atom self.new p ≡ has_atom self.old p) }
         ensures err { OnErr result (self.new ≡ self.old) }
     {
         resize_all(&mut self.words, atoms)?;
@@ -154,7 +156,8 @@ impl State {
         clear_all(&mut self.words);
     }
 
-    /// Writes the atoms that it holds, rising, in place of what the list has. After want of memory nothing is said of the list.
+    /// Writes the atoms that it holds, rising, in place of what the list has. After want of memory
+    /// nothing is said of the list.
     pub fn list_atoms(&self, held: &mut Vec<u32>) -> Result<(), AllocError>
         ensures listed { OnOk result (IsListOf self.now held.new.items) }
     {

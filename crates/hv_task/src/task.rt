@@ -11,8 +11,8 @@ use crate::state::State;
 use std::alloc::{AllocError, Global};
 use std::marker::Model;
 
-/// A planning task in STRIPS form (Eriksson, Röger and Helmert, 2018). Atoms and actions are numbered from 0 in the order in
-/// which they were added.
+/// A planning task in STRIPS form (Eriksson, Röger and Helmert, 2018). Atoms and actions are
+/// numbered from 0 in the order in which they were added.
 #[derive(Drop)]
 pub struct Task {
     names: Vec<Name>,
@@ -26,9 +26,19 @@ impl Model for Task {
 
     ghost Value = { Strips };
 
-    ghost view = { λ t. record { names = t.names.items; start = t.start; goal = t.goal; actions = t.actions.items } };
+    ghost view = { λ t. record {
+      names = t.names.items;
+      start = t.start;
+      goal = t.goal;
+      actions = t.actions.items;
+    } };
 
-    ghost invariant = { λ t. IsTask record { names = t.names.items; start = t.start; goal = t.goal; actions = t.actions.items } };
+    ghost invariant = { λ t. IsTask record {
+      names = t.names.items;
+      start = t.start;
+      goal = t.goal;
+      actions = t.actions.items;
+    } };
 }
 
 impl Task {
@@ -48,7 +58,8 @@ impl Task {
     pub fn add_atom(&mut self, name: Name) -> Result<u32, AllocError>
         requires { atoms self.old < 65535 }
         ensures number { IfOk result (λ number. number ≡ atoms self.old) }
-        ensures ok { IfOk result (λ _. self.new ≡ record self.old { names = self.old.names ++ name ∷ [] }) }
+        ensures ok { IfOk result (λ _. self.new
+            ≡ record self.old { names = self.old.names ++ name ∷ [] }) }
         ensures err { OnErr result (self.new ≡ self.old) }
     {
         let number = self.atoms();
@@ -79,7 +90,8 @@ impl Task {
         requires over { IsOver (atoms self.old) action }
         requires room { length self.old.actions < 1000000 }
         ensures number { IfOk result (λ number. number ≡ length self.old.actions) }
-        ensures ok { IfOk result (λ _. self.new ≡ record self.old { actions = self.old.actions ++ action ∷ [] }) }
+        ensures ok { IfOk result (λ _. self.new
+            ≡ record self.old { actions = self.old.actions ++ action ∷ [] }) }
         ensures err { OnErr result (self.new ≡ self.old) }
     {
         let number = self.actions();
@@ -150,7 +162,8 @@ impl Task {
     pub fn applicable(&self, action: u32, state: &State) -> bool
         requires action { action < length self.now.actions }
         requires state { IsState self.now state.now }
-        ensures { (a : Action) → slice_get self.now.actions action ≡ Some a → result ≡ applicable a state.now }
+        ensures { (a : Action) → slice_get self.now.actions action ≡ Some a
+            → result ≡ applicable a state.now }
     {
         state.has_all(self.action(action).pre.as_slice())
     }
@@ -160,7 +173,8 @@ impl Task {
         requires action { action < length self.now.actions }
         requires state { IsState self.now state.now }
         requires into { IsState self.now into.old }
-        ensures successor { (a : Action) → slice_get self.now.actions action ≡ Some a → into.new ≡ successor a state.now }
+        ensures successor { (a : Action) → slice_get self.now.actions action ≡ Some a
+            → into.new ≡ successor a state.now }
         ensures state { IsState self.now into.new }
     {
         into.copy_from(state);

@@ -48,11 +48,11 @@ fn add_action_of(
 #[test]
 fn a_list_rises_without_repeats(rt: HostRuntime) -> Result<(), Fail> {
     let mut list = AtomList::new(rt.alloc());
-    for atom in [2, 5, 2, 9, 0, 5] {
+    for atom in [2, 5, 2, 9, 0, 5, 7] {
         list.insert(atom)?;
     }
-    assert_eq!(rt; list.len(), 4);
-    for (place, atom) in [0, 2, 5, 9].iter().enumerate() {
+    assert_eq!(rt; list.len(), 5);
+    for (place, atom) in [0, 2, 5, 7, 9].iter().enumerate() {
         assert!(rt; place < list.len());
         assert_eq!(rt; list.get(place), *atom);
     }

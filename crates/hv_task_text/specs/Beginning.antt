@@ -6,8 +6,9 @@ use Rattle.hv_task_text.specs.declared.fault.TaskKind.{TaskKind}
 use Rattle.hv_task_text.specs.declared.fault.TaskKind.TheVariants as K
 use Rattle.hv_task_text.specs.Written.{Item, pre, add, del, Entry, Head, name_lines, atom_lines, start_lines, goal_lines, head_lines, body_lines, action_lines, text_lines}
 
--- A beginning of a text, by the kind of the place that comes next. Where names or actions are still to come, it has the
--- number that the header said. Of an action that isn't whole it has what is written of it.
+-- A beginning of a text, by the kind of the place that comes next. Where names or actions are still
+-- to come, it has the number that the header said. Of an action that isn't whole it has what is
+-- written of it.
 pub data Beginning : Type 0 where
   at_begin_atoms : Beginning
   at_atom_name : (count : ℕ) (names : List (List ℕ)) → Beginning
@@ -52,9 +53,12 @@ lines_before (at_begin_goal names start) = start_lines names start ++ codes "end
 lines_before (at_goal_atom names start goal) = goal_lines names start goal
 lines_before (at_begin_actions head) = head_lines head
 lines_before (at_begin_action count head actions) = action_lines count head actions
-lines_before (at_action_name count head actions) = action_lines count head actions ++ codes "begin_action" ∷ []
-lines_before (at_cost count head actions name) = action_lines count head actions ++ codes "begin_action" ∷ name ∷ []
-lines_before (at_action_line count head actions entry) = action_lines count head actions ++ body_lines entry
+lines_before (at_action_name count head actions) =
+    action_lines count head actions ++ codes "begin_action" ∷ []
+lines_before (at_cost count head actions name) =
+    action_lines count head actions ++ codes "begin_action" ∷ name ∷ []
+lines_before (at_action_line count head actions entry) =
+    action_lines count head actions ++ body_lines entry
 lines_before (at_end_actions head actions) = action_lines (length actions) head actions
 lines_before (at_end head actions) = text_lines head actions
 
@@ -119,9 +123,12 @@ IsLegal (at_begin_goal names start) = AreNames names × AreBelow (length names) 
 IsLegal (at_goal_atom names start goal) =
     AreNames names × AreBelow (length names) start × AreBelow (length names) goal
 IsLegal (at_begin_actions head) = IsHead head
-IsLegal (at_begin_action count head actions) = AreActions count head actions × (length actions < count)
-IsLegal (at_action_name count head actions) = AreActions count head actions × (length actions < count)
-IsLegal (at_cost count head actions name) = AreActions count head actions × (length actions < count) × IsName name
+IsLegal (at_begin_action count head actions) = AreActions count head actions
+    × (length actions < count)
+IsLegal (at_action_name count head actions) = AreActions count head actions
+    × (length actions < count)
+IsLegal (at_cost count head actions name) = AreActions count head actions × (length actions < count)
+    × IsName name
 IsLegal (at_action_line count head actions entry) =
     AreActions count head actions × (length actions < count) × IsEntry (length head.names) entry
 IsLegal (at_end_actions head actions) = AreActions (length actions) head actions

@@ -15,7 +15,8 @@ with_lf line = line ++ 10 ∷ []
 abbrev pub bytes_of_lines : List (List ℕ) → List ℕ
 bytes_of_lines lines = flat_map with_lf lines
 
--- the canonical form of an action: first the PRE lines, then the ADD lines, then the DEL lines, each in the order of its set
+-- the canonical form of an action: first the PRE lines, then the ADD lines, then the DEL lines,
+-- each in the order of its set
 abbrev pub entry_of : Action → Entry
 entry_of action = record {
   name = action.name;
@@ -33,7 +34,8 @@ canonical_lines task = text_lines (head_of task) (map entry_of task.actions)
 abbrev pub canonical_of : Strips → List ℕ
 canonical_of task = bytes_of_lines (canonical_lines task)
 
--- what every action of a task in the program keeps: its cost is a number of 32 bits, and its sets rise
+-- what every action of a task in the program keeps: its cost is a number of 32 bits, and its sets
+-- rise
 pub record IsStored (action : Action) : Type 0 where
   pub cost : action.cost ≤ 4294967295
   pub pre : IsStrictlyIncreasing action.pre

@@ -37,7 +37,8 @@ IsForm K.BeginAction atoms line = line ≡ codes "begin_action"
 IsForm K.ActionName atoms line = Unit {0}
 IsForm K.Cost atoms line = HasNumber line (codes "cost:")
 IsForm K.ActionLine atoms line =
-    IsAtomBehind atoms line (codes "PRE:") ⊎ IsAtomBehind atoms line (codes "ADD:") ⊎ IsAtomBehind atoms line (codes "DEL:")
+    IsAtomBehind atoms line (codes "PRE:") ⊎ IsAtomBehind atoms line (codes "ADD:")
+    ⊎ IsAtomBehind atoms line (codes "DEL:")
     ⊎ (line ≡ codes "end_action")
 IsForm K.EndActions atoms line = line ≡ codes "end_actions"
 IsForm K.End atoms line = ⊥
@@ -55,7 +56,8 @@ Passes K.BeginInit line limit = ⊥
 Passes K.InitAtom line limit = ⊥
 Passes K.BeginGoal line limit = ⊥
 Passes K.GoalAtom line limit = ⊥
-Passes K.BeginActions line limit = (limit ≡ W.Actions) × IsAbove 1000000 line (codes "begin_actions:")
+Passes K.BeginActions line limit = (limit ≡ W.Actions)
+    × IsAbove 1000000 line (codes "begin_actions:")
 Passes K.BeginAction line limit = ⊥
 Passes K.ActionName line limit = (limit ≡ W.Name) × (1024 < length line)
 Passes K.Cost line limit = (limit ≡ W.Cost) × IsAbove 4294967295 line (codes "cost:")

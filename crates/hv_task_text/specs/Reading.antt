@@ -114,7 +114,10 @@ Takes K.BeginActions r line new =
     × (new ≡ record r { expected = turn 0 n K.BeginAction K.EndActions; count = n })
 Takes K.BeginAction r line new = TakesWord (codes "begin_action") K.ActionName r line new
 Takes K.ActionName r line new =
-    (length line ≤ 1024) × (new ≡ record r { expected = K.Cost; action = record r.action { name = line } })
+    (length line ≤ 1024) × (new ≡ record r {
+      expected = K.Cost;
+      action = record r.action { name = line };
+    })
 Takes K.Cost r line new =
     (n : ℕ) × IsNumbered line (codes "cost:") n × (n ≤ 4294967295)
     × (new ≡ record r { expected = K.ActionLine; action = record r.action { cost = n } })
@@ -129,7 +132,8 @@ Takes K.ActionLine r line new =
 Takes K.EndActions r line new = TakesWord (codes "end_actions") K.End r line new
 Takes K.End r line new = ⊥
 
--- what the reader answers to one line: it takes it; or the form isn't there; or it is there and passes a limit
+-- what the reader answers to one line: it takes it; or the form isn't there; or it is there and
+-- passes a limit
 abbrev pub Feeds : TaskKind → Result (Unit {0}) FeedError → Reader → List ℕ → Reader → Type 0
 Feeds kind (Ok _) r line new = Takes kind r line new
 Feeds kind (Err (E.Place k)) r line new = (k ≡ kind) × (IsForm kind (length r.task.names) line → ⊥)

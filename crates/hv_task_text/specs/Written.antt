@@ -21,7 +21,8 @@ pub record Entry : Type 0 where
   pub cost : ℕ
   pub items : List Item
 
--- what is written before the actions: the names of the atoms, the numbers of the initial state and of the goal
+-- what is written before the actions: the names of the atoms, the numbers of the initial state and
+-- of the goal
 pub record Head : Type 0 where
   pub names : List (List ℕ)
   pub start : List ℕ
@@ -43,7 +44,8 @@ start_lines names start = atom_lines names ++ codes "begin_init" ∷ map decimal
 
 -- up to some number of the goal
 abbrev pub goal_lines : List (List ℕ) → List ℕ → List ℕ → List (List ℕ)
-goal_lines names start goal = start_lines names start ++ codes "end_init" ∷ codes "begin_goal" ∷ map decimal goal
+goal_lines names start goal = start_lines names start ++ codes "end_init" ∷ codes "begin_goal"
+    ∷ map decimal goal
 
 -- all that is written before the actions
 abbrev pub head_lines : Head → List (List ℕ)
@@ -52,7 +54,8 @@ head_lines head = goal_lines head.names head.start head.goal ++ codes "end_goal"
 -- an action up to some line of its lists
 abbrev pub body_lines : Entry → List (List ℕ)
 body_lines entry =
-    codes "begin_action" ∷ entry.name ∷ (codes "cost:" ++ decimal entry.cost) ∷ map item_line entry.items
+    codes "begin_action" ∷ entry.name ∷ (codes "cost:" ++ decimal entry.cost)
+    ∷ map item_line entry.items
 
 -- a whole action
 abbrev pub entry_lines : Entry → List (List ℕ)

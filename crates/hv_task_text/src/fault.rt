@@ -40,8 +40,8 @@ pub enum TaskLimit {
     Long,
 }
 
-/// Why a task text isn't read. Lines are counted from 1; at the end of the input the line is the one
-/// after the last.
+/// Why a task text isn't read. Lines are counted from 1; at the end of the input the line is the
+/// one after the last.
 #[derive(Clone, Copy, Debug, PartialEq, Eq, Error)]
 pub enum TaskFault {
     /// The form that this place expects isn't there.

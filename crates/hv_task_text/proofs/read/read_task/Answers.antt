@@ -1,4 +1,4 @@
-use Rattle.std.proofs.Common.{◌+◌, ap, sym, subst, ◌∙◌, length, Err, arith, rules}
+use Rattle.std.proofs.Common.{◌+◌, ap, sym, subst, ◌∙◌, length, Ok, Err, arith, rules}
 use Rattle.hv_bytes.specs.Files.{file_of}
 use Rattle.hv_bytes.specs.FirstLine.{BeginsLong, FitsLimits, TakesLine}
 use Rattle.hv_bytes.specs.States.{coming_of}
@@ -33,13 +33,14 @@ returns-in-Err-feed-clause-read g c =
     let after = coming_of c.next.new.self (g.S.Shelf.left c.next.new.shelf) in
     let b = c.reading.invariant.0 in
     let line = c.line.result.now in
+    let is_line = ap (λ next. Ok next) c.in-Ok-Line.field-0-is in
     known (g.S.Shelf.held c.args.shelf.now) c.args.name.now (λ bytes. IsReadFrom c.args.limits bytes (Err c.at.result))
     (feed_fault c.args.limits (file_of (g.S.Shelf.held c.args.shelf.now) c.args.name.now) c.reading.reader c.reading.lines.number c.reading.lines.earlier before b.0 b.1
     c.feed.new.self c.number.result after line c.in-Err-feed.error c.at.result
-    (subst (λ l. TakesLine before after l) (sym c.line.ensures) (c.in-Ok-Line.ensures.line (cc)))
+    (subst (λ l. TakesLine before after l) (sym c.line.ensures) (c.in-Ok-Line.ensures.line is_line))
     (subst (λ (limits : Limits). FitsLimits limits.line limits.file c.reading.lines.earlier (length line)) c.reading.invariant.2
-    (subst (λ l. FitsLimits c.reading.lines.limits.line c.reading.lines.limits.file c.reading.lines.earlier (length l)) (sym c.line.ensures) (c.in-Ok-Line.ensures.fits (cc))))
-    (c.number.ensures ∙ c.in-Ok-Line.ensures.number (cc))
+    (subst (λ l. FitsLimits c.reading.lines.limits.line c.reading.lines.limits.file c.reading.lines.earlier (length l)) (sym c.line.ensures) (c.in-Ok-Line.ensures.fits is_line)))
+    (c.number.ensures ∙ c.in-Ok-Line.ensures.number is_line)
     c.in-Err-feed.ensures
     c.at.ensures)
 
