@@ -8,8 +8,8 @@ use Rattle.hv_sets.specs.declared.literal.Literal.{Literal}
 use Rattle.hv_explicit.specs.Codes.{IsSame, code_of}
 use Rattle.hv_explicit.specs.Places.{code_at}
 
--- what an explicit set is: how many atoms the task has, and the listed states, each by the atoms that
--- it holds
+-- what an explicit set is: how many atoms the task has, and the listed states, each by the atoms
+-- that it holds
 pub record Listing : Type 0 where
   pub atoms : ℕ
   pub states : List (List ℕ)

@@ -80,8 +80,8 @@ impl Explicits {
     }
 
     /// Whether one of the operands, asked about after the action (true) or before it, is a set that
-    /// lists the state of these atoms; or none, which says nothing, where more sets list it than there
-    /// are operands.
+    /// lists the state of these atoms; or none, which says nothing, where more sets list it than
+    /// there are operands.
     pub(crate) fn find_owner<A: Atoms>(
         &self,
         operands: &Operands,

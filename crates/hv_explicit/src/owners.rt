@@ -42,8 +42,8 @@ impl Owners {
     }
 }
 
-/// Enters the states of a set, by the places of the first ones. After want of memory some of them may
-/// be entered.
+/// Enters the states of a set, by the places of the first ones. After want of memory some of them
+/// may be entered.
 pub(crate) fn enter_set(
     codes: &mut Places,
     entries: &mut Vec<Entry>,
@@ -88,9 +88,9 @@ fn enter_one(
     Ok(())
 }
 
-/// Whether one of the operands, asked about after the action (true) or before it, is a set that lists
-/// the state of these atoms; or none, which says nothing, where more sets list it than there are
-/// operands.
+/// Whether one of the operands, asked about after the action (true) or before it, is a set that
+/// lists the state of these atoms; or none, which says nothing, where more sets list it than there
+/// are operands.
 pub(crate) fn find_owner<A: Atoms>(
     owners: &Owners,
     sets: &[Explicit],

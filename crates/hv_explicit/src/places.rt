@@ -13,8 +13,8 @@ const LONG: usize = 64;
 const TURNS: u32 = 16;
 
 /// A list of codes, in which the places of a code are found without a walk over the list. Each slot
-/// has a chain of the places whose codes fall into it. Codes that were made to fall into one slot are
-/// linked again by another factor.
+/// has a chain of the places whose codes fall into it. Codes that were made to fall into one slot
+/// are linked again by another factor.
 #[derive(Drop)]
 pub(crate) struct Places {
     codes: Vec<u64>,

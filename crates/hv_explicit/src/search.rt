@@ -114,8 +114,8 @@ impl Search<'_> {
         }
     }
 
-    // Whether the states before and after the action are in each positive operand and in no negative
-    // one.
+    // Whether the states before and after the action are in each positive operand and in no
+    // negative one.
     fn fits<B: Atoms, A: Atoms>(&self, before: &B, after: &A) -> bool
         requires search { IsSearch self.now }
         requires before { IsBelow (atoms self.now.task.now) (B.has before.now) }
@@ -155,9 +155,9 @@ impl Search<'_> {
         !self.is_hit(before, false) && (self.query.action.is_none() || !self.is_hit(after, true))
     }
 
-    // Whether a negative operand that is asked about after the action (true) or before it (false) has
-    // the state. Few operands are gone through. Of many only those are asked about that name a set that
-    // lists the state, if such sets are fewer.
+    // Whether a negative operand that is asked about after the action (true) or before it (false)
+    // has the state. Few operands are gone through. Of many only those are asked about that name a
+    // set that lists the state, if such sets are fewer.
     fn is_hit<A: Atoms>(&self, held: &A, after: bool) -> bool
         requires search { IsSearch self.now }
         requires below { IsBelow (atoms self.now.task.now) (A.has held.now) }

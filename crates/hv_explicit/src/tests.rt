@@ -7,8 +7,7 @@ ghost use Rattle.hv_explicit.specs.Listing.{AreOver, AreStates};
 
 use crate::{Explicit, Explicits};
 use hv_sets::{
-    Cube, Cursor, Family, Finding, Inside, Literal, Operand, Operands, Query, Scratch, StateList,
-    StateSet, Step, Which,
+    Family, Finding, Inside, Operand, Operands, Query, Scratch, StateList, StateSet, Which,
 };
 use hv_task::{Action, AtomList, Name, State, Task};
 use std::alloc::{AllocError, Global};
@@ -205,24 +204,6 @@ fn a_repeated_state_is_listed_and_counted(rt: HostRuntime) -> Result<(), Fail> {
     assert_eq!(rt; set.inside_count(rt.alloc(), 9)?, 3);
     assert!(rt; set.holds(&state_from(rt.alloc(), 2)?));
     assert!(rt; !set.holds(&state_from(rt.alloc(), 3)?));
-    Ok(())
-}
-
-#[test]
-fn a_set_is_walked_and_met(rt: HostRuntime) -> Result<(), Fail> {
-    let task = task_of_two(rt.alloc())?;
-    let set = set_from(rt.alloc(), &task, 2)?;
-    let mut cube = Cube::new(rt.alloc());
-    cube.add(Literal {
-        atom: 1,
-        positive: true,
-    })?;
-    let mut scratch = Scratch::new(rt.alloc())?;
-    assert!(rt; !set.meets(rt.alloc(), &cube, &mut scratch)?);
-    let mut cursor = Cursor::new(rt.alloc());
-    assert_eq!(rt; set.inside_next(&mut cursor, &mut cube)?, Step::Cube);
-    assert_eq!(rt; cube.len(), 2);
-    assert_eq!(rt; set.inside_next(&mut cursor, &mut cube)?, Step::End);
     Ok(())
 }
 

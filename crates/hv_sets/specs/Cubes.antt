@@ -16,7 +16,8 @@ SpeakBelow bound literals = All (λ l. l.atom < bound) literals
 abbrev pub opposite : Literal → Literal
 opposite literal = record { atom = literal.atom; positive = not literal.positive }
 
--- the new cube is the old one with this literal put in: its atoms rise, and it has the literals of the old one and this one
+-- the new cube is the old one with this literal put in: its atoms rise, and it has the literals of
+-- the old one and this one
 pub record Adds (old : List Literal) (literal : Literal) (new : List Literal) : Type 0 where
   pub rises : IsStrictlyIncreasing (atoms_of new)
   pub has : (l : Literal) → Contains new l ↔ (Contains old l ⊎ (l ≡ literal))
@@ -27,11 +28,13 @@ IsFirstUpto atoms atom place =
     (place ≤ length atoms) × ((k : ℕ) → k < place → slice_index atoms k < atom)
     × ((k : ℕ) → place ≤ k → k < length atoms → atom ≤ slice_index atoms k)
 
--- the cube with one literal more, by rising atoms; where a literal of its atom stands, the cube stays as it is
+-- the cube with one literal more, by rising atoms; where a literal of its atom stands, the cube
+-- stays as it is
 abbrev pub put_in : Literal → List Literal → List Literal
 put_in literal [] = literal ∷ []
 put_in literal (l ∷ ls) =
-    cond (nat_lt l.atom literal.atom) (l ∷ put_in literal ls) (cond (nat_eq l.atom literal.atom) (l ∷ ls) (literal ∷ l ∷ ls))
+    cond (nat_lt l.atom literal.atom) (l ∷ put_in literal ls)
+    (cond (nat_eq l.atom literal.atom) (l ∷ ls) (literal ∷ l ∷ ls))
 
 -- the cube of these literals, put in one after the other
 abbrev pub cube_of : List Literal → List Literal

@@ -8,7 +8,8 @@ use Rattle.hv_sets.specs.declared.literal.Literal.{Literal}
 
 -- the literal is true in the state: it holds the atom, or for a negated one it doesn't
 abbrev pub in_literal : Literal → List Bool → Bool
-in_literal literal state = cond literal.positive (has_atom state literal.atom) (not (has_atom state literal.atom))
+in_literal literal state = cond literal.positive (has_atom state literal.atom)
+    (not (has_atom state literal.atom))
 
 -- the clause has a literal that is true in the state
 abbrev pub in_clause : List Literal → List Bool → Bool

@@ -25,9 +25,10 @@ in_cubes cubes state = list_any (λ cube. in_cube cube state) cubes
 abbrev pub IsNew : Cursor → Type 0
 IsNew cursor = (cursor.place ≡ 0) × (cursor.path.items ≡ [])
 
--- what a call that takes the next step of a walk answers: that step, with its cube if it has one, and the rest is left; or that
--- no step was left
-abbrev pub TakesStep : Step → List Literal → List (Option (List Literal)) → List (Option (List Literal)) → Type 0
+-- what a call that takes the next step of a walk answers: that step, with its cube if it has one,
+-- and the rest is left; or that no step was left
+abbrev pub TakesStep : Step → List Literal → List (Option (List Literal))
+    → List (Option (List Literal)) → Type 0
 TakesStep T.Cube cube before after = before ≡ Some cube ∷ after
 TakesStep T.Void cube before after = before ≡ None ∷ after
 TakesStep T.End cube before after = (before ≡ []) × (after ≡ [])
@@ -43,7 +44,8 @@ abbrev pub IsStateOf : ℕ → List Bool → Type 0
 IsStateOf atoms state = length state ≡ atoms
 
 -- a state of the cube, in the set or outside it
-pub record IsAmong (atoms : ℕ) (has : List Bool → Bool) (cube : List Literal) (inside : Bool) (found : List Bool) : Type 0 where
+pub record IsAmong (atoms : ℕ) (has : List Bool → Bool) (cube : List Literal) (inside : Bool)
+    (found : List Bool) : Type 0 where
   pub of_task : IsStateOf atoms found
   pub of_cube : in_cube cube found ≡ true
   pub of_set : has found ≡ inside
@@ -53,13 +55,15 @@ abbrev pub SpeaksBelow : ℕ → Step → List Literal → Type 0
 SpeaksBelow atoms T.Cube cube = SpeakBelow atoms cube
 SpeaksBelow atoms step cube = ⊤
 
--- some state of a task with so many atoms is in the cube and in the set, and this state is one; or there is none
+-- some state of a task with so many atoms is in the cube and in the set, and this state is one; or
+-- there is none
 abbrev pub Meets : Bool → ℕ → (List Bool → Bool) → List Literal → List Bool → Type 0
 Meets true atoms has cube found = IsAmong atoms has cube true found
 Meets false atoms has cube found =
     (state : List Bool) → IsStateOf atoms state → in_cube cube state ≡ true → has state ≡ false
 
--- each state of a task with so many atoms that is in the cube is in the set; or this state is in the cube and outside the set
+-- each state of a task with so many atoms that is in the cube is in the set; or this state is in
+-- the cube and outside the set
 abbrev pub Covers : Bool → ℕ → (List Bool → Bool) → List Literal → List Bool → Type 0
 Covers true atoms has cube found =
     (state : List Bool) → IsStateOf atoms state → in_cube cube state ≡ true → has state ≡ true

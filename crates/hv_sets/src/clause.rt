@@ -4,7 +4,8 @@ use crate::literal::Literal;
 use std::alloc::{AllocError, Global};
 use std::marker::Model;
 
-/// A clause: it is true in a state where one of its literals is. The clause without literals is false.
+/// A clause: it is true in a state where one of its literals is. The clause without literals is
+/// false.
 #[derive(Drop)]
 pub struct Clause {
     items: Vec<Literal>,

@@ -28,8 +28,8 @@ pub trait Family {
     // The query costs more than the budget.
     ghost passes: { Self → Strips → Query → ℕ → Type 0 };
 
-    /// The exact answer to a query: Over exactly where it costs more than the budget; else Clash exactly where some state is a
-    /// counterexample, which then stands in the scratch; else Empty.
+    /// The exact answer to a query: Over exactly where it costs more than the budget; else Clash
+    /// exactly where some state is a counterexample, which then stands in the scratch; else Empty.
     fn find(
         &self,
         alloc: Global,
@@ -42,6 +42,8 @@ pub trait Family {
         requires anchor { wants_anchor self.now → HasAnchor query.now }
         requires task { is_over self.now (atoms task.now) }
         requires action { IfSome query.now.action (λ a. a < length task.now.actions) }
-        ensures answer { IfOk result (λ found. IsAnswer found (passes self.now task.now query.now budget) (atoms task.now) (is_clash task.now (has self.now) query.now) scratch.new.state) }
+        ensures answer { IfOk result (λ found.
+            IsAnswer found (passes self.now task.now query.now budget) (atoms task.now)
+            (is_clash task.now (has self.now) query.now) scratch.new.state) }
         ensures lengths { KeepsLengths scratch.old scratch.new };
 }

@@ -1,4 +1,5 @@
-//! What families of state sets share: literals, clauses, listed states, cubes, queries, and the traits with their laws.
+//! What families of state sets share: literals, clauses, listed states, cubes, queries, and the
+//! traits with their laws.
 #![tactic(auto)]
 
 pub mod clause;
@@ -29,4 +30,4 @@ pub use operands::Operands;
 pub use query::Query;
 pub use scratch::Scratch;
 pub use state_list::StateList;
-pub use state_set::{Covering, Inside, Outside, StateSet};
+pub use state_set::{Covering, Inside, MOST_COUNTED, Outside, StateSet};

@@ -70,7 +70,8 @@ impl Operands {
         &self.items[place]
     }
 
-    /// Whether some operand is this set, asked about after the action (true) or before it: one look-up.
+    /// Whether some operand is this set, asked about after the action (true) or before it: one
+    /// look-up.
     pub fn names(&self, which: Which, after: bool) -> bool
         ensures { IsTrue result ↔ Names self.now which after }
     {

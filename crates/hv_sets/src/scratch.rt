@@ -5,8 +5,9 @@ ghost use Rattle.hv_sets.specs.Room.{HasRoom, KeepsLengths};
 use hv_task::State;
 use std::alloc::{AllocError, Global};
 
-/// Room for the work of a call, so that the next call needs no new memory. A call that takes a scratch says nothing of what
-/// stands in it afterwards, but for the state that it names, and that none of its four lengths fell.
+/// Room for the work of a call, so that the next call needs no new memory. A call that takes a
+/// scratch says nothing of what stands in it afterwards, but for the state that it names, and that
+/// none of its four lengths fell.
 #[derive(Drop)]
 pub struct Scratch {
     /// A state of the task.
