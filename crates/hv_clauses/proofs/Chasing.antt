@@ -130,7 +130,8 @@ has_or clause l = by (names_literal clause l.atom l.positive) refl
     by true e = inl ((names_literal-Decides clause l.atom l.positive).0 e)
     by false e = inr (λ has. let is = (names_literal-Decides clause l.atom l.positive).1 has in never (sym is ∙ e))
 
--- once each clause with the opposite of the next literal of the trail was looked at, what is left begins behind it
+-- once each clause with the opposite of the next literal of the trail was looked at, what is left
+-- begins behind it
 pub kept_next : (e : List ℕ) (clauses : List (List Literal)) (occurs listed : List Occurrence) (m : Knowledge) (from : ℕ) (literal : Literal)
     → from < length m.trail → get_or m.trail from literal ≡ literal → AreKept e clauses m from → ListsAll (not literal.positive) clauses occurs
     → ((o : Occurrence) → Contains occurs o → o.atom ≡ literal.atom → Contains listed o)

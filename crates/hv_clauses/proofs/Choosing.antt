@@ -1,4 +1,5 @@
--- Choices of one clause of each negative operand, as numbers: which there are, what they break, and what marks tell of one.
+-- Choices of one clause of each negative operand, as numbers: which there are, what they break, and
+-- what marks tell of one.
 use Rattle.std.proofs.Common.{◌≡◌, ℕ, zero, suc, ◌<◌, ◌≤◌, ◌+◌, ◌*◌, ◌%◌, ◌/◌, ◌∙◌, Bool, true, false, not, List, [], ◌∷◌, ◌++◌, length, Some, refl, sym, ap, subst, arith, inl, inr, get_or, take, drop}
 use Rattle.std.proofs.Math.Nat.{le-mul_of_pos_right, mul_assoc, mul-one}
 use Rattle.std.proofs.lemmas.Bool.{and_parts, and_from, and_cases, cases_lt, not-true, not_from_false}
@@ -36,7 +37,8 @@ clauses_broken : (clauses : List (List Literal)) (state : List Bool) (place : �
 clauses_broken clauses state place within e = list_all_at (λ clause. in_clause clause state) clauses place [] within e
 
 module _ (task : Strips) (formulas : ℕ → List (List Literal)) (effect : List ℕ) where
-  -- a state, seen through the effect, that is in no negative operand breaks the clauses of some choice
+  -- a state, seen through the effect, that is in no negative operand breaks the clauses of some
+  -- choice
   pub choose : (operands : List Operand) (state : List Bool) → length state ≡ atoms task
       → list_all (λ o. not (in_which task (sets_of formulas) o.which (over (late effect o.after) state))) operands ≡ true
       → (number : ℕ) × (number < choices_of task (sizes_of formulas) operands) × Breaks task formulas effect operands number state
@@ -91,7 +93,8 @@ value_within effect marks l bound value effect_size size e =
       | inr both ↦ let less = known_within marks l.atom parts.0 both.1 in omega arith
     ]
 
--- a clause each literal of which is known to be false is false in each state that agrees with the marks
+-- a clause each literal of which is known to be false is false in each state that agrees with the
+-- marks
 pub clause_known : (effect marks : List ℕ) (clause : List Literal) (state : List Bool) → length effect ≤ length state
     → length marks ≡ length state → Agrees marks state → AreFalse effect clause marks → in_clause clause (over effect state) ≡ false
 clause_known effect marks clause state effect_size size agrees known =
@@ -112,7 +115,8 @@ length-late effect true = omega arith
 length-late effect false = omega arith
 
 module _ (task : Strips) (formulas : ℕ → List (List Literal)) (effect : List ℕ) where
-  -- where the clauses of a choice are known to be false, each state that agrees with the marks breaks them
+  -- where the clauses of a choice are known to be false, each state that agrees with the marks
+  -- breaks them
   pub breaks_known : (operands : List Operand) (number : ℕ) (marks : List ℕ) (state : List Bool) → length effect ≤ length state
       → length marks ≡ length state → Agrees marks state → AreChosenFalse task formulas effect operands number marks
       → Breaks task formulas effect operands number state

@@ -50,8 +50,8 @@ module _ (Holds : List Bool → Type 0) (Settled : List ℕ → Type 0) where
           refuted = λ e. absurd (let f : true ≡ false = e in cc);
         }
 
-  -- a value was refuted and the other one tried: a state that meets the condition can be made to agree with the marks, and has
-  -- one of the two values
+  -- a value was refuted and the other one tried: a state that meets the condition can be made to
+  -- agree with the marks, and has one of the two values
   pub tried_both : (atom : ℕ) (old mid new : List ℕ) (result : Bool) → Completes C.Try Holds Settled (length old) → Settled old
       → IsAssumed Holds Settled atom false old mid false → IsAssumed Holds Settled atom true mid new result
       → IsTried Holds Settled (λ marks. known marks atom ≡ None → ⊥) old new result

@@ -78,7 +78,8 @@ module _ (cube : List Literal) (clear firm : List ℕ) (result : Bool) (none : (
       let less = speaks k d within in
       ap (in_literal l) (sym (over-nil state)) ∙ value_true [] firm l state (forced.done done k d within) agrees (omega arith))
 
--- the state of the atoms that are marked as in is outside clauses, one of which has only literals that are known to be false
+-- the state of the atoms that are marked as in is outside clauses, one of which has only literals
+-- that are known to be false
 pub outside_low : (clauses : List (List Literal)) (place : ℕ) (clause : List Literal) (marks : List ℕ) → place < length clauses
     → clause ≡ get_or clauses place clause → SpeakBelow (length marks) clause → AreFalse [] clause marks
     → in_clauses clauses (low marks) ≡ false

@@ -1,17 +1,16 @@
 -- Literals that are listed by rising atoms say what was known.
-use Rattle.std.proofs.Common.{◌≡◌, ℕ, ◌+◌, ◌<◌, ◌≤◌, ◌∙◌, ◌⊎◌, Bool, true, not, cond, List, [], ◌∷◌, ◌++◌, Some, None, length, replicate, get_or, refl, sym, ap, arith, inl, inr, subst}
+use Rattle.std.proofs.Common.{◌≡◌, ℕ, ◌+◌, ◌<◌, ◌≤◌, ◌∙◌, Bool, true, not, cond, List, [], ◌∷◌, ◌++◌, Some, None, length, replicate, get_or, sym, ap, arith, inl, inr, subst}
 use Rattle.std.proofs.lemmas.Bool.{cases_lt}
 use Rattle.std.proofs.lemmas.List.{get_or_push, get_or_append_left, length-map, length_push, map-append}
 use Rattle.std.proofs.lemmas.List.Elements.{All-push, All-weaker}
-use Rattle.std.specs.List.{All, Contains}
 use Rattle.std.specs.List.Sorted.{IsStrictlyIncreasing}
 use Rattle.std.specs.Option.{option_map}
 use Rattle.hv_sets.specs.declared.literal.Literal.{Literal}
-use Rattle.hv_sets.specs.Cubes.{SpeakBelow, atoms_of}
+use Rattle.hv_sets.specs.Cubes.{atoms_of}
 use Rattle.hv_sets.specs.Truth.{in_clauses}
 use Rattle.hv_sets.proofs.Cubes.{atom_at}
 use Rattle.hv_clauses.specs.Closure.{AreForced, ListsBelow}
-use Rattle.hv_clauses.specs.Marks.{Agrees, known, mark_for}
+use Rattle.hv_clauses.specs.Marks.{Agrees, known}
 use Rattle.hv_clauses.specs.Trail.{Knowledge, marked, marks_of}
 use Rattle.hv_clauses.specs.Units.{AreSettled, IsSettled, first_of, value_of}
 use Rattle.hv_clauses.proofs.Marked.{known_past}

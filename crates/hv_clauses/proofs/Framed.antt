@@ -1,4 +1,5 @@
--- Why a chosen clause that is known to be true, or of which the effect turns no literal, refutes its choice.
+-- Why a chosen clause that is known to be true, or of which the effect turns no literal, refutes
+-- its choice.
 use Rattle.std.proofs.Common.{◌⊎◌, Option, inl, inr, ◌≡◌, ℕ, zero, suc, ◌<◌, ◌%◌, ◌/◌, ◌∙◌, Bool, true, false, not, cond, ap₂, List, [], ◌∷◌, None, Some, length, get_or, take, refl, sym, ap, arith, subst}
 use Rattle.std.proofs.lemmas.List.{get_or_default}
 use Rattle.std.proofs.lemmas.List.Elements.{All-contains}
@@ -42,8 +43,9 @@ known_true effect marks clause n state below size found agrees broken =
     not_both (in_clause clause (over effect state))
     (true_in clause (over effect state) found.0 found.1 (value_true effect marks found.0 state found.2 agrees (omega arith))) broken
 
--- A sharper test: a clause that is true before is true after, unless the effect makes a literal of it false; and one that is true after
--- is true before, unless the effect makes a literal of it true.
+-- A sharper test: a clause that is true before is true after, unless the effect makes a literal of
+-- it false; and one that is true after is true before, unless the effect makes a literal of it
+-- true.
 value_alone : (e : List ℕ) (l : Literal) (v : Bool) → known e l.atom ≡ Some v → value_of e [] l ≡ Some (cond l.positive v (not v))
 value_alone e l v h = ap (λ o. option_map (λ value. cond l.positive value (not value)) (first_of o (known [] l.atom))) h
 
@@ -104,7 +106,8 @@ clause_held e false clause s all holds =
     ∙ (ap (in_literal some.1) (over-nil s)
     ∙ literal_before e some.1 s (All-contains (λ l. value_of e [] l ≡ Some true → ⊥) clause some.1 all at) some.4))
 
--- so where its set is a positive operand at the other time, no state of the positive operands breaks it
+-- so where its set is a positive operand at the other time, no state of the positive operands
+-- breaks it
 pub framed_true : (task : Strips) (formulas : ℕ → List (List Literal)) (effect : List ℕ) (positive : List Operand) (number : ℕ) (after : Bool)
     (place : ℕ) (state : List Bool) → place < length (formulas number) → Names positive (W.Set number) (not after)
     → All (λ l. value_of effect [] l ≡ Some (not after) → ⊥) (clause_at (formulas number) place) → InAll task formulas effect positive state

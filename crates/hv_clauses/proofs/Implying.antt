@@ -1,5 +1,5 @@
 -- What literals imply by clauses of two.
-use Rattle.std.proofs.Common.{◌≡◌, ℕ, ◌+◌, ◌*◌, ◌<◌, ◌≤◌, ◌∙◌, ◌↔◌, ◌⊎◌, Bool, true, false, cond, List, [], length, get_or, map, refl, sym, ap, ap₂, subst, arith, inl, inr}
+use Rattle.std.proofs.Common.{◌≡◌, ℕ, ◌+◌, ◌*◌, ◌<◌, ◌∙◌, ◌↔◌, ◌⊎◌, Bool, true, false, cond, List, [], length, get_or, map, refl, sym, ap, ap₂, subst, arith, inl, inr}
 use Rattle.std.proofs.Math.Bool.{not-not}
 use Rattle.std.proofs.lemmas.List.Elements.{All-contains, Contains-get_or}
 use Rattle.std.specs.List.{All, Contains}

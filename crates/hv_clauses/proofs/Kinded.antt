@@ -1,5 +1,5 @@
--- Settled clauses of one kind: they are true where the open atoms are left out, or where the marks are put over a state in which
--- they are true.
+-- Settled clauses of one kind: they are true where the open atoms are left out, or where the marks
+-- are put over a state in which they are true.
 use Rattle.std.proofs.Common.{◌≡◌, ℕ, zero, suc, ◌<◌, ◌≤◌, ◌∙◌, Bool, true, false, not, cond, List, [], ◌∷◌, length, get_or, None, Some, refl, sym, ap, subst, arith, inl, inr}
 use Rattle.std.proofs.lemmas.Bool.{and_from, and_parts}
 use Rattle.std.proofs.lemmas.List.Elements.{All-contains, All-cons, All-from_get_or, All-head, All-map, All-nil, All-push, All-tail, Contains-get_or}
@@ -270,7 +270,8 @@ module _ (how : Completion) (IsOf : List Literal → Type 0) (law : CompletesCla
       (constants_below task formulas count o.which goal below_all named)
       (constants_kind IsOf short task formulas count o.which of_kind named))
 
-  -- settled marks can be completed for the operands of a query together, each seen through the effect where that is meant
+  -- settled marks can be completed for the operands of a query together, each seen through the
+  -- effect where that is meant
   pub operands_complete : (operands : List Operand) → All (λ o. IsNamed count o.which) operands
       → Completes how (InAll task formulas effect operands)
       (λ marks. All (λ o. AreSettled (late effect o.after) (clauses_in task formulas o.which) marks) operands) (atoms task)

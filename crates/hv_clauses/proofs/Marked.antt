@@ -1,4 +1,5 @@
--- Laws of marks: marks put over a state, what agrees with them, and what is known through an effect.
+-- Laws of marks: marks put over a state, what agrees with them, and what is known through an
+-- effect.
 use Rattle.std.proofs.Common.{◌≡◌, ℕ, zero, suc, ◌<◌, ◌≤◌, ◌∙◌, ◌⊎◌, Bool, true, false, not, cond, List, [], ◌∷◌, length, replicate, Option, None, Some, refl, sym, ap, arith, inl, inr}
 use Rattle.std.proofs.lemmas.Bool.{cases_eq, cases_lt}
 use Rattle.std.proofs.lemmas.List.{get_or_past, get_or-replicate, length-replicate}
@@ -165,7 +166,8 @@ value_some e m l b h = turned (known_through e m l.atom) l.positive b h
 pub value_none : (e m : List ℕ) (l : Literal) → value_of e m l ≡ None → (known e l.atom ≡ None) × (known m l.atom ≡ None)
 value_none e m l h = through_none e m l.atom (turned_none (known_through e m l.atom) l.positive h)
 
--- a literal of which a value is known has it in each state that agrees with the marks, seen through the effect
+-- a literal of which a value is known has it in each state that agrees with the marks, seen through
+-- the effect
 pub value_is : (e m : List ℕ) (l : Literal) (s : List Bool) (b : Bool) → value_of e m l ≡ Some b → Agrees m s
     → l.atom < length s → in_literal l (over e s) ≡ b
 value_is e m l s b h agrees within =

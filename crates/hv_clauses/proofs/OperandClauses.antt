@@ -1,4 +1,5 @@
--- The clauses of what operands name: how many there are, when they are true, of which atoms they speak, and which stands where.
+-- The clauses of what operands name: how many there are, when they are true, of which atoms they
+-- speak, and which stands where.
 use Rattle.std.proofs.Common.{◌≡◌, ℕ, zero, suc, ◌<◌, ◌≤◌, ◌∙◌, Bool, true, false, not, ◌&&◌, ◌||◌, cond, List, [], ◌∷◌, length, map, refl, sym, ap, ap₂, subst, arith, inl, inr, length-append, get_or}
 use Rattle.std.proofs.lemmas.Bool.{and_parts, and_from, cases_lt}
 use Rattle.std.proofs.lemmas.Bool.Decides.{same_from_decides}

@@ -1,18 +1,13 @@
 -- Conclusions over the clauses of operands, one after the other.
-use Rattle.std.proofs.Common.{◌≡◌, ℕ, ◌<◌, ◌≤◌, ◌+◌, ◌%◌, ◌/◌, ◌∙◌, Bool, true, false, ◌&&◌, List, [], ◌∷◌, ◌++◌, length, refl, sym, ap, ap₂, subst, get_or, take, drop}
-use Rattle.std.proofs.lemmas.Bool.{and_parts}
-use Rattle.std.proofs.lemmas.List.{take-append-drop, take_all, take_more}
-use Rattle.std.proofs.lemmas.List.Elements.{All-more, All-nil}
-use Rattle.std.proofs.lemmas.List.Folds.{list_all-append}
+use Rattle.std.proofs.Common.{◌≡◌, ℕ, ◌<◌, ◌+◌, ◌%◌, ◌/◌, ◌∙◌, Bool, true, false, List, [], ◌∷◌, ◌++◌, length, refl, sym, ap, ap₂, subst, get_or, take, drop}
+use Rattle.std.proofs.lemmas.List.{take-append-drop, take_more}
 use Rattle.hv_task.specs.Strips.{Strips}
 use Rattle.hv_sets.specs.declared.literal.Literal.{Literal}
 use Rattle.hv_sets.specs.declared.operand.Operand.{Operand}
-use Rattle.hv_sets.specs.declared.operand.Which.{Which}
 use Rattle.hv_sets.specs.Cost.{clauses_of}
-use Rattle.hv_sets.specs.Query.{in_which}
-use Rattle.hv_sets.specs.Truth.{in_clause, in_clauses}
+use Rattle.hv_sets.specs.Truth.{in_clause}
 use Rattle.hv_clauses.specs.Choices.{AreChosenFalse, Breaks, clause_at}
-use Rattle.hv_clauses.specs.Clausal.{clauses_in, late, sets_of, sizes_of}
+use Rattle.hv_clauses.specs.Clausal.{clauses_in, late, sizes_of}
 use Rattle.hv_clauses.specs.Marks.{over}
 use Rattle.hv_clauses.specs.Units.{AreFalse, IsConcluded}
 use Rattle.hv_clauses.proofs.Rounds.{conclude_stop, conclude_then}

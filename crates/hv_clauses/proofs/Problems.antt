@@ -1,9 +1,9 @@
 -- The positive operands of a query, one after the other.
-use Rattle.std.proofs.Common.{◌≡◌, ℕ, ◌+◌, ◌<◌, ◌≤◌, ◌-◌, ◌∙◌, ◌||◌, Bool, true, false, List, [], ◌∷◌, ◌++◌, Some, length, get_or, drop, refl, sym, ap, arith, below_more, inl, inr, subst}
+use Rattle.std.proofs.Common.{◌≡◌, ℕ, ◌+◌, ◌<◌, ◌≤◌, ◌-◌, ◌∙◌, ◌||◌, Bool, true, false, List, [], ◌∷◌, Some, length, get_or, drop, refl, sym, ap, arith, below_more, inl, inr, subst}
 use Rattle.std.proofs.lemmas.List.{append-nil, get_or_default, get_or-drop, length-drop}
 use Rattle.std.specs.List.{All, Contains}
-use Rattle.hv_task.specs.State.{has_all, has_atom, names_atom, state_of}
-use Rattle.hv_task.specs.Strips.{Strips, atoms, is_goal, start_state}
+use Rattle.hv_task.specs.State.{names_atom, state_of}
+use Rattle.hv_task.specs.Strips.{Strips}
 use Rattle.hv_sets.specs.declared.literal.Literal.{Literal}
 use Rattle.hv_sets.specs.declared.operand.Operand.{Operand}
 use Rattle.hv_sets.specs.declared.operand.Which.{Which}
@@ -12,14 +12,13 @@ use Rattle.hv_sets.specs.Query.{in_which}
 use Rattle.hv_sets.specs.Truth.{in_clause, in_literal, is_same}
 use Rattle.hv_clauses.specs.Chase.{AreKept, IsFollowed}
 use Rattle.hv_clauses.specs.Choices.{clause_at}
-use Rattle.hv_clauses.specs.Clausal.{InAll, clauses_in, clauses_of_state, late, sets_of, unit}
+use Rattle.hv_clauses.specs.Clausal.{InAll, clauses_in, clauses_of_state, late, sets_of}
 use Rattle.hv_clauses.specs.Kinded.{IsShort}
 use Rattle.hv_clauses.specs.Marks.{Extends, over}
 use Rattle.hv_clauses.specs.Problem.{AreAllLeft, AreAllSettled, IsLeft}
 use Rattle.hv_clauses.specs.Trail.{Grows, Knowledge, marks_of}
 use Rattle.hv_clauses.specs.Units.{AreSettled, IsConcluded, IsSettled, value_of}
 use Rattle.hv_clauses.proofs.Chasing.{followed_then, kept_grown, kept_on, kept_settled, settled_end, true_at}
-use Rattle.hv_clauses.proofs.Effects.{list_all_get}
 use Rattle.hv_clauses.proofs.Kinded.{constants_kind}
 use Rattle.hv_clauses.proofs.Marked.{extends_same, value_extends}
 use Rattle.hv_clauses.proofs.OperandClauses.{clause_of_state_at, length-clauses_of_state, start_holds}

@@ -1,12 +1,12 @@
--- Conclusions joined one after the other. The whole condition R says both that of the first part, P, and that of the second, Q; what
--- the parts settle settles the whole.
+-- Conclusions joined one after the other. The whole condition R says both that of the first part,
+-- P, and that of the second, Q; what the parts settle settles the whole.
 use Rattle.std.proofs.Common.{◌≡◌, ℕ, ◌+◌, ◌<◌, ◌≤◌, ◌∙◌, Bool, true, false, List, length, get_or, refl, sym, ap, arith, subst, inl, inr}
 use Rattle.std.proofs.lemmas.Bool.{cases_lt}
 use Rattle.std.proofs.lemmas.List.{get_or_default}
 use Rattle.std.specs.List.{All}
 use Rattle.hv_clauses.specs.Marks.{Extends}
 use Rattle.hv_clauses.specs.Units.{IsConcluded}
-use Rattle.hv_clauses.proofs.Marked.{extends_same, extends_then}
+use Rattle.hv_clauses.proofs.Marked.{extends_then}
 
 -- no answer is both
 pub never : {P : Type 0} → true ≡ false → P
@@ -38,7 +38,8 @@ module _ (P Q R : List Bool → Type 0) (S T U : List ℕ → Type 0) (m k : Lis
   }
 
   module _ (n : List ℕ) where
-    -- the first part answered true, and then the second was done; what the first part did stays done when more is marked
+    -- the first part answered true, and then the second was done; what the first part did stays
+    -- done when more is marked
     pub conclude_then : (r : Bool)
         → ((state : List Bool) → length state ≡ length m → R state → P state)
         → ((state : List Bool) → length state ≡ length m → R state → Q state)

@@ -1,4 +1,5 @@
--- Why a choice of clauses that can be broken gives a counterexample to a query, and each counterexample such a choice.
+-- Why a choice of clauses that can be broken gives a counterexample to a query, and each
+-- counterexample such a choice.
 use Rattle.std.proofs.Common.{◌≡◌, ℕ, ◌<◌, ◌∙◌, ◌&&◌, Bool, true, false, not, List, [], ◌∷◌, Option, Some, None, length, get_or, refl, sym, ap, ap₂, arith, subst}
 use Rattle.std.proofs.lemmas.List.Sums.{AllPass-from_list_all}
 use Rattle.std.specs.List.{list_all}

@@ -1,14 +1,15 @@
--- Single steps: what a literal that is forced and what a clause that was looked through make of the marks.
+-- Single steps: what a literal that is forced and what a clause that was looked through make of the
+-- marks.
 use Rattle.std.proofs.Common.{◌≡◌, ℕ, ◌+◌, ◌<◌, ◌∙◌, ◌⊎◌, Bool, true, false, not, ◌&&◌, eqb, List, length, get_or, Option, None, Some, refl, sym, ap, arith, inl, inr, subst}
 use Rattle.std.proofs.lemmas.Bool.{and_parts, eq-eqb, eqb-true, false_from_ne_true}
 use Rattle.std.proofs.Math.Bool.{beq}
-use Rattle.std.proofs.lemmas.List.Elements.{All-contains, Contains-get_or}
-use Rattle.std.proofs.lemmas.List.Folds.{Any-from_list_any, list_any_at, list_any_none}
+use Rattle.std.proofs.lemmas.List.Elements.{Contains-get_or}
+use Rattle.std.proofs.lemmas.List.Folds.{list_any_at}
 use Rattle.std.specs.List.{All, Contains}
 use Rattle.hv_sets.specs.declared.literal.Literal.{Literal}
-use Rattle.hv_sets.specs.Cubes.{SpeakBelow, opposite}
+use Rattle.hv_sets.specs.Cubes.{opposite}
 use Rattle.hv_sets.specs.Truth.{in_clause, in_literal}
-use Rattle.hv_clauses.specs.Marks.{Agrees, Extends, known, over, unknown_in}
+use Rattle.hv_clauses.specs.Marks.{Agrees, Extends, known, over}
 use Rattle.hv_clauses.specs.Units.{IsConcluded, IsSettled, value_of}
 use Rattle.hv_clauses.proofs.Marked.{agrees_write, extends_same, extends_write, has_atom-literal, in_literal-opposite, value_false, value_from_opposite, value_marked, value_none, value_open}
 use Rattle.hv_clauses.proofs.Rounds.{Upto, conclude_same, never, read_at, upto_more}
@@ -54,8 +55,8 @@ module _ (e m : List ℕ) (l : Literal) where
       done = λ is. value_marked e k l (value_none e m l nothing).0 marks.here;
     }
 
--- what a look through the literals of a clause knows at a place: all before are false; or this literal is open, and the others
--- are false
+-- what a look through the literals of a clause knows at a place: all before are false; or this
+-- literal is open, and the others are false
 abbrev pub Seen : Option Literal → List ℕ → List ℕ → List Literal → ℕ → Type 0
 Seen None e m clause i = Upto (λ l. value_of e m l ≡ Some false) clause i
 Seen (Some u) e m clause i =

@@ -1,5 +1,6 @@
--- Why the choices of which the effect turns a literal are enough, where the set is a positive operand at the other time.
-use Rattle.std.proofs.Common.{◌≡◌, ℕ, zero, suc, ◌+◌, ◌*◌, ◌/◌, ◌%◌, ◌<◌, ◌∙◌, ◌⊎◌, Bool, true, false, not, cond, List, [], ◌∷◌, Option, None, Some, length, get_or, slice_get, refl, sym, ap, arith, inl, inr, subst}
+-- Why the choices of which the effect turns a literal are enough, where the set is a positive
+-- operand at the other time.
+use Rattle.std.proofs.Common.{◌≡◌, ℕ, zero, suc, ◌*◌, ◌/◌, ◌%◌, ◌<◌, ◌∙◌, ◌⊎◌, Bool, true, false, not, cond, List, [], ◌∷◌, Option, None, Some, length, slice_get, refl, sym, ap, arith, inl, inr, subst}
 use Rattle.std.proofs.Math.Nat.{mod-eq_of_lt}
 use Rattle.std.proofs.lemmas.List.Elements.{All-cons, All-nil}
 use Rattle.std.proofs.lemmas.Option.{slice_get_within}

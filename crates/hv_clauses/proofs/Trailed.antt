@@ -1,9 +1,9 @@
--- Laws of trails: what is known of an atom is what the one literal of it on the trail says, and a trail that says nothing of an atom
--- is shorter than there are atoms.
+-- Laws of trails: what is known of an atom is what the one literal of it on the trail says, and a
+-- trail that says nothing of an atom is shorter than there are atoms.
 use Rattle.std.proofs.Common.{◌≡◌, ℕ, zero, suc, ◌+◌, ◌*◌, ◌/◌, ◌%◌, ◌^◌, ◌==◌, ◌<◌, ◌≤◌, ◌∙◌, Bool, true, false, not, cond, List, [], ◌∷◌, ◌++◌, length, replicate, map, take, get_or, None, Some, refl, sym, ap, ap₂, arith, inl, inr, below_more}
 use Rattle.std.specs.Prelude.{slice_set}
 use Rattle.std.proofs.lemmas.Bool.{cases_lt, cases_order}
-use Rattle.std.proofs.lemmas.List.{get_or-replicate, get_or_past, length-replicate, length-set, length-map, length-take-le, get_or-set_same, get_or-set_other, get_or-map, get_or-take, take_more_set, map_more, map-append, take-map, take-take, get_or_default, ext_get_or}
+use Rattle.std.proofs.lemmas.List.{get_or-replicate, length-replicate, length-set, length-map, length-take-le, get_or-set_same, get_or-set_other, get_or-map, get_or-take, take_more_set, map_more, map-append, take-map, take-take, get_or_default}
 use Rattle.std.proofs.lemmas.Nat.{div-mul-add, mod-mul-add}
 use mir.Val.{bool_byte}
 use Rattle.std.proofs.lemmas.List.Sums.{count_by-le-length, sum_by-set}

@@ -10,9 +10,11 @@ use Rattle.hv_clauses.specs.Overwriting.{overwrite}
 abbrev pub effect_of : ℕ → List ℕ → List ℕ → List ℕ
 effect_of atoms add del = overwrite true add (overwrite false del (replicate atoms 0))
 
--- the marks are the effect of the action, if there is one: put over a state of as many atoms they make its successor
+-- the marks are the effect of the action, if there is one: put over a state of as many atoms they
+-- make its successor
 abbrev pub IsEffect : Option Action → List ℕ → Type 0
-IsEffect action effect = (state : List Bool) → length state ≡ length effect → over effect state ≡ asked action true state
+IsEffect action effect =
+    (state : List Bool) → length state ≡ length effect → over effect state ≡ asked action true state
 
 -- each of these atoms is known to be in
 abbrev pub AreIn : List ℕ → List ℕ → Type 0

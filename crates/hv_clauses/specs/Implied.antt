@@ -1,5 +1,6 @@
 -- What a literal implies at once.
-use Rattle.std.specs.Prelude.{◌≡◌, ◌<◌, ◌+◌, ◌*◌, ◌⊎◌, ◌↔◌, ℕ, List, [], cond, length, slice_index_or}
+use Rattle.std.specs.Prelude.{◌≡◌, ◌<◌, ◌+◌, ◌*◌, ◌⊎◌, ◌↔◌, ℕ, List, [], cond, length}
+use Rattle.std.specs.Prelude.{slice_index_or}
 use Rattle.std.specs.List.{All, Contains}
 use Rattle.std.specs.List.Sorted.{IsStrictlyIncreasing}
 use Rattle.hv_sets.specs.declared.literal.Literal.{Literal}
@@ -23,19 +24,22 @@ pub record IsPair (clause : List Literal) (first second : Literal) : Type 0 wher
 -- some clause has the opposite of the first literal, has the second one, and has no other
 abbrev pub Implies : List (List Literal) → Literal → Literal → Type 0
 Implies clauses literal other =
-    (place : ℕ) × (place < length clauses) × IsPair (slice_index_or clauses place []) (opposite literal) other
+    (place : ℕ) × (place < length clauses)
+    × IsPair (slice_index_or clauses place []) (opposite literal) other
 
 -- the same of the numbers of two literals
 abbrev pub ImpliesNumber : List (List Literal) → ℕ → ℕ → Type 0
 ImpliesNumber clauses key number =
-    (literal : Literal) × (other : Literal) × (key ≡ literal_number literal) × (number ≡ literal_number other)
-    × Implies clauses literal other
+    (literal : Literal) × (other : Literal) × (key ≡ literal_number literal)
+    × (number ≡ literal_number other) × Implies clauses literal other
 
 -- the numbers, rising, of all literals that the literal implies at once
-pub record AreImplied (clauses : List (List Literal)) (literal : Literal) (numbers : List ℕ) : Type 0 where
+pub record AreImplied (clauses : List (List Literal)) (literal : Literal)
+    (numbers : List ℕ) : Type 0 where
   pub rises : IsStrictlyIncreasing numbers
   pub has : (number : ℕ)
-      → Contains numbers number ↔ ((other : Literal) × (number ≡ literal_number other) × Implies clauses literal other)
+      → Contains numbers number ↔ ((other : Literal) × (number ≡ literal_number other)
+      × Implies clauses literal other)
 
 -- the code of what a literal implies by this clause
 abbrev pub IsImpliedCode : List Literal → ℕ → Type 0

@@ -14,13 +14,18 @@ use Rattle.hv_clauses.specs.Units.{IsSettled}
 abbrev pub IsShort : List Literal → Type 0
 IsShort clause = (l k : Literal) → Contains clause l → Contains clause k → l ≡ k
 
--- settled clauses of the kind are true once the open atoms have this value; or they stay true when the marks are put over a state
+-- settled clauses of the kind are true once the open atoms have this value; or they stay true when
+-- the marks are put over a state
 abbrev pub CompletesClauses : Completion → (List Literal → Type 0) → Type 0
-CompletesClauses (C.Fill value) IsOf = (effect marks : List ℕ) (clause : List Literal) → SpeakBelow (length marks) clause
-    → IsOf clause → IsSettled effect marks clause → in_clause clause (over effect (filled value marks)) ≡ true
-CompletesClauses C.Try IsOf = (effect marks : List ℕ) (clause : List Literal) → SpeakBelow (length marks) clause
-    → (state : List Bool) → length marks ≡ length state → IsOf clause → IsSettled effect marks clause
-    → in_clause clause (over effect state) ≡ true → in_clause clause (over effect (over marks state)) ≡ true
+CompletesClauses (C.Fill value) IsOf =
+    (effect marks : List ℕ) (clause : List Literal) → SpeakBelow (length marks) clause
+    → IsOf clause → IsSettled effect marks clause
+    → in_clause clause (over effect (filled value marks)) ≡ true
+CompletesClauses C.Try IsOf =
+    (effect marks : List ℕ) (clause : List Literal) → SpeakBelow (length marks) clause
+    → (state : List Bool) → length marks ≡ length state → IsOf clause
+    → IsSettled effect marks clause → in_clause clause (over effect state) ≡ true
+    → in_clause clause (over effect (over marks state)) ≡ true
 
 -- each clause is of the kind and over the atoms of the task
 pub record IsKinded (IsOf : List Literal → Type 0) (formula : Formula) : Type 0 where

@@ -10,5 +10,7 @@ use Rattle.hv_clauses.specs.Rows.{AreRows}
 
 -- these are the lists of the clauses that are kept in this way
 abbrev pub AreListsOf : Listing → List (List Literal) → Lists → Type 0
-AreListsOf L.Negative clauses lists = AreRows (StandsNegatively clauses) lists.codes.items lists.places.items
-AreListsOf L.Implied clauses lists = AreRows (ImpliesNumber clauses) lists.codes.items lists.numbers.items
+AreListsOf L.Negative clauses lists =
+    AreRows (StandsNegatively clauses) lists.codes.items lists.places.items
+AreListsOf L.Implied clauses lists =
+    AreRows (ImpliesNumber clauses) lists.codes.items lists.numbers.items

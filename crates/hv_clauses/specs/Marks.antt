@@ -1,6 +1,7 @@
--- Marks: what is known of the atoms of a state, by place. A mark of 0 says nothing, 1 that the atom isn't in the state, and any
--- other that it is.
-use Rattle.std.specs.Prelude.{◌≡◌, ◌<◌, ◌==◌, ℕ, Bool, false, not, if◌then◌else◌, List, [], ◌∷◌, length, replicate, Option, None, Some, slice_index_or}
+-- Marks: what is known of the atoms of a state, by place. A mark of 0 says nothing, 1 that the atom
+-- isn't in the state, and any other that it is.
+use Rattle.std.specs.Prelude.{◌≡◌, ◌<◌, ◌==◌, ℕ, Bool, false, not, if◌then◌else◌, List, [], ◌∷◌}
+use Rattle.std.specs.Prelude.{length, replicate, Option, None, Some, slice_index_or}
 use Rattle.std.specs.List.{count_by}
 use Rattle.hv_task.specs.State.{has_atom}
 
@@ -22,11 +23,13 @@ unknown_in marks = count_by (λ mark. mark == 0) marks
 
 -- the state is as the marks say
 abbrev pub Agrees : List ℕ → List Bool → Type 0
-Agrees marks state = (atom : ℕ) (value : Bool) → known marks atom ≡ Some value → has_atom state atom ≡ value
+Agrees marks state =
+    (atom : ℕ) (value : Bool) → known marks atom ≡ Some value → has_atom state atom ≡ value
 
 -- what was known stays known
 abbrev pub Extends : List ℕ → List ℕ → Type 0
-Extends old new = (atom : ℕ) (value : Bool) → known old atom ≡ Some value → known new atom ≡ Some value
+Extends old new =
+    (atom : ℕ) (value : Bool) → known old atom ≡ Some value → known new atom ≡ Some value
 
 -- something is known of each atom below this number
 abbrev pub AllKnown : ℕ → List ℕ → Type 0
@@ -37,7 +40,8 @@ abbrev pub or_else : Option Bool → Bool → Bool
 or_else None value = value
 or_else (Some found) value = found
 
--- the state with the marks put over it: an atom of which something is known is as the marks say, and each other stays
+-- the state with the marks put over it: an atom of which something is known is as the marks say,
+-- and each other stays
 abbrev pub over : List ℕ → List Bool → List Bool
 over marks [] = []
 over [] (flag ∷ flags) = flag ∷ flags

@@ -11,4 +11,5 @@ pub record StandsNegatively (clauses : List (List Literal)) (atom number : ℕ) 
 
 -- the code of an atom that stands negatively in the clause of this number
 abbrev pub IsNegativeCode : List Literal → ℕ → ℕ → Type 0
-IsNegativeCode clause number c = (atom : ℕ) × Contains clause (record { atom = atom; positive = false }) × (c ≡ code atom number)
+IsNegativeCode clause number c =
+    (atom : ℕ) × Contains clause (record { atom = atom; positive = false }) × (c ≡ code atom number)

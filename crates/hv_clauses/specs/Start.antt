@@ -1,5 +1,5 @@
 -- Where the search for a counterexample starts.
-use Rattle.std.specs.Prelude.{◌≡◌, ℕ, Bool, true, List, [], Option, None, Some, length, ⊤}
+use Rattle.std.specs.Prelude.{◌≡◌, ℕ, Bool, List, [], Option, None, Some, length, ⊤}
 use Rattle.std.specs.List.Sorted.{IsStrictlyIncreasing}
 use Rattle.hv_task.specs.Strips.{Strips, atoms}
 use Rattle.hv_sets.specs.declared.literal.Literal.{Literal}
@@ -17,8 +17,10 @@ IsBasedOn formulas None base = ⊤
 IsBasedOn formulas (Some number) base = AreSettled [] (formulas number) base
 
 -- the literals are true in each state that is in each positive operand
-pub record IsStart (task : Strips) (formulas : ℕ → List (List Literal)) (effect : List ℕ) (query : Query) (start : Start) : Type 0 where
+pub record IsStart (task : Strips) (formulas : ℕ → List (List Literal)) (effect : List ℕ)
+    (query : Query) (start : Start) : Type 0 where
   pub rises : IsStrictlyIncreasing (atoms_of start.forced.now)
   pub based : IsBasedOn formulas start.set (marked (atoms task) start.forced.now)
-  pub follows : (state : List Bool) → length state ≡ atoms task → InAll task formulas effect query.positive state
+  pub follows : (state : List Bool) → length state ≡ atoms task
+      → InAll task formulas effect query.positive state
       → Agrees (marked (atoms task) start.forced.now) state

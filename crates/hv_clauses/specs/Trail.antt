@@ -1,9 +1,12 @@
--- A trail: what was found out about atoms, in order, as literals that are true, on top of what was known before.
-use Rattle.std.specs.Prelude.{◌≡◌, ◌<◌, ◌≤◌, ◌==◌, ◌/◌, ◌%◌, ◌++◌, ℕ, List, [], ◌∷◌, None, length, replicate, map, take, slice_set, slice_index_or}
+-- A trail: what was found out about atoms, in order, as literals that are true, on top of what was
+-- known before.
+use Rattle.std.specs.Prelude.{◌≡◌, ◌<◌, ◌≤◌, ◌==◌, ◌/◌, ◌%◌, ◌++◌, ℕ, List, [], ◌∷◌, None, length}
+use Rattle.std.specs.Prelude.{replicate, map, take, slice_set, slice_index_or}
 use Rattle.hv_sets.specs.declared.literal.Literal.{Literal}
 use Rattle.hv_clauses.specs.Marks.{Extends, known, mark_for}
 
--- what was known before, as marks by atom, and the literals that were found true since, oldest first
+-- what was known before, as marks by atom, and the literals that were found true since, oldest
+-- first
 pub record Knowledge : Type 0 where
   pub base : List ℕ
   pub trail : List Literal
@@ -35,8 +38,9 @@ literal_of entry = record { atom = entry / 2; positive = entry % 2 == 1 }
 abbrev pub trail_of : List ℕ → ℕ → List Literal
 trail_of queue len = map literal_of (take len queue)
 
--- The places and the entries confirm each other: the place of the atom of each of the first so many entries is that entry's, and of
--- none of these atoms something was known before. Nothing is said of other places and entries.
+-- The places and the entries confirm each other: the place of the atom of each of the first so many
+-- entries is that entry's, and of none of these atoms something was known before. Nothing is said
+-- of other places and entries.
 pub record AreJoined (base : List ℕ) (places queue : List ℕ) (len : ℕ) : Type 0 where
   pub places_room : length base ≤ length places
   pub queue_room : length base ≤ length queue

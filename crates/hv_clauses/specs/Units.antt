@@ -1,8 +1,10 @@
 -- Unit propagation: what follows for the atoms of a state from clauses, step by step.
 --
--- A clause can be asked about a state through an effect: marks that are put over the state before. The effect of an action has the
--- atoms that it adds marked as in and the others that it deletes marked as out; without marks it leaves each state as it is.
-use Rattle.std.specs.Prelude.{◌≡◌, ◌⊎◌, ℕ, Bool, true, false, not, cond, List, length, Option, None, Some, option_map}
+-- A clause can be asked about a state through an effect: marks that are put over the state before.
+-- The effect of an action has the atoms that it adds marked as in and the others that it deletes
+-- marked as out; without marks it leaves each state as it is.
+use Rattle.std.specs.Prelude.{◌≡◌, ◌⊎◌, ℕ, Bool, true, false, not, cond, List, length, Option, None}
+use Rattle.std.specs.Prelude.{Some, option_map}
 use Rattle.std.specs.List.{All, Contains}
 use Rattle.hv_sets.specs.declared.literal.Literal.{Literal}
 use Rattle.hv_clauses.specs.Marks.{Agrees, Extends, known}
@@ -18,13 +20,17 @@ known_through effect marks atom = first_of (known effect atom) (known marks atom
 
 -- whether a literal is true, as far as that is known
 abbrev pub value_of : List ℕ → List ℕ → Literal → Option Bool
-value_of effect marks literal = option_map (λ value. cond literal.positive value (not value)) (known_through effect marks literal.atom)
+value_of effect marks literal =
+    option_map (λ value. cond literal.positive value (not value))
+    (known_through effect marks literal.atom)
 
--- the clause has a literal that is known to be true, or two different ones of which nothing is known: it tells nothing more
+-- the clause has a literal that is known to be true, or two different ones of which nothing is
+-- known: it tells nothing more
 abbrev pub IsSettled : List ℕ → List ℕ → List Literal → Type 0
 IsSettled effect marks clause =
     ((l : Literal) × Contains clause l × (value_of effect marks l ≡ Some true))
-    ⊎ ((l k : Literal) × Contains clause l × Contains clause k × (l ≡ k → ⊥) × (value_of effect marks l ≡ None) × (value_of effect marks k ≡ None))
+    ⊎ ((l k : Literal) × Contains clause l × Contains clause k × (l ≡ k → ⊥)
+    × (value_of effect marks l ≡ None) × (value_of effect marks k ≡ None))
 
 -- each clause is settled
 abbrev pub AreSettled : List ℕ → List (List Literal) → List ℕ → Type 0
@@ -38,10 +44,14 @@ AreFalse effect literals marks = All (λ l. value_of effect marks l ≡ Some fal
 abbrev pub AreTrue : List ℕ → List Literal → List ℕ → Type 0
 AreTrue effect literals marks = All (λ l. value_of effect marks l ≡ Some true) literals
 
--- all that follows from a condition was marked, so that this is done; or no state that agrees with the marks meets the condition
-pub record IsConcluded (Holds : List Bool → Type 0) (Done : List ℕ → Type 0) (old new : List ℕ) (result : Bool) : Type 0 where
+-- all that follows from a condition was marked, so that this is done; or no state that agrees with
+-- the marks meets the condition
+pub record IsConcluded (Holds : List Bool → Type 0) (Done : List ℕ → Type 0) (old new : List ℕ)
+    (result : Bool) : Type 0 where
   pub size : length new ≡ length old
   pub grows : Extends old new
-  pub follows : (state : List Bool) → length state ≡ length old → Holds state → Agrees old state → Agrees new state
-  pub broken : result ≡ false → (state : List Bool) → length state ≡ length old → Holds state → Agrees old state → ⊥
+  pub follows : (state : List Bool) → length state ≡ length old → Holds state → Agrees old state
+      → Agrees new state
+  pub broken : result ≡ false → (state : List Bool) → length state ≡ length old → Holds state
+      → Agrees old state → ⊥
   pub done : result ≡ true → Done new

@@ -13,7 +13,8 @@ ghost use Rattle.hv_clauses.specs.Marks.{known};
 use hv_task::Task;
 use std::marker::Model;
 
-/// The effect of an action: the atoms that it adds, and those that it deletes unless it adds them, rising.
+/// The effect of an action: the atoms that it adds, and those that it deletes unless it adds them,
+/// rising.
 #[derive(Drop)]
 pub(crate) struct Effect<'a> {
     atoms: usize,

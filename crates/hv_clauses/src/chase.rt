@@ -75,7 +75,8 @@ pub(crate) fn start(clauses: &Clauses, effect: &Effect<'_>, marks: &mut Marks<'_
     requires { AreClauses (length marks.old.base) clauses.now }
     ensures followed { IsFollowed (λ state. in_clauses clauses.now (over effect.now state) ≡ true)
         marks.old marks.new result }
-    ensures kept { result ≡ true → AreKept effect.now clauses.now marks.new (length marks.old.trail) }
+    ensures kept { result ≡ true
+        → AreKept effect.now clauses.now marks.new (length marks.old.trail) }
 {
     for place in 0..clauses.len() {
         if !step(clauses.get(place), effect, marks) {

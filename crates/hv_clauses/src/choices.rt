@@ -82,7 +82,8 @@ fn times(left: u64, right: u64, budget: u64) -> Option<u64>
     left.checked_mul(right).filter(|product| *product <= budget)
 }
 
-// Marks each literal of the clause at this place of an operand as false. The answer is false if one is known to be true.
+// Marks each literal of the clause at this place of an operand as false. The answer is false if one
+// is known to be true.
 pub(crate) fn deny_which<K: ClauseKind>(
     task: &Task,
     store: &Formulas<K>,
@@ -119,7 +120,8 @@ pub(crate) fn deny_which<K: ClauseKind>(
     }
 }
 
-// Marks the clauses that the number chooses as false. The answer is false if a literal of one is known to be true.
+// Marks the clauses that the number chooses as false. The answer is false if a literal of one is
+// known to be true.
 pub(crate) fn deny_all<K: ClauseKind>(
     task: &Task,
     store: &Formulas<K>,

@@ -42,10 +42,12 @@ pub trait ClauseKind {
 
     /// The fault of clauses of which the one at this place is the first that is of another kind.
     fn other(place: usize) -> Self::Fault
-        ensures { (clauses : List (List Literal)) → IsFirstOther is_of clauses place → is_fault clauses result };
+        ensures { (clauses : List (List Literal)) → IsFirstOther is_of clauses place
+            → is_fault clauses result };
 
     // Want of memory may come at any time.
-    ghost memory_is_fault: { (clauses : List (List Literal)) (error : AllocError) (fault : Self.Fault) → Self.Fault.from_gives error fault → is_fault clauses fault };
+    ghost memory_is_fault: { (clauses : List (List Literal)) (error : AllocError)
+        (fault : Self.Fault) → Self.Fault.from_gives error fault → is_fault clauses fault };
 
     // A clause of at most one literal is of the kind.
     ghost short_are_of: { (clause : List Literal) → IsShort clause → is_of clause };

@@ -1,6 +1,7 @@
 //! What follows from clauses alone, worked out once.
 
-ghost use Rattle.std.specs.Prelude.{◌≡◌, ◌<◌, ◌≤◌, ◌+◌, ◌^◌, ℕ, IfOk, None, true, false, length, [], List, Bool};
+ghost use Rattle.std.specs.Prelude.{◌≡◌, ◌<◌, ◌≤◌, ◌+◌, ◌^◌, ℕ, IfOk, None, true, false, length};
+ghost use Rattle.std.specs.Prelude.{[], List, Bool};
 ghost use Rattle.std.specs.List.Sorted.{IsStrictlyIncreasing};
 ghost use Rattle.hv_sets.specs.Cubes.{atoms_of};
 ghost use Rattle.hv_sets.specs.Truth.{in_clauses};
@@ -19,8 +20,8 @@ use crate::{chase, complete};
 use hv_sets::{Clauses, Literal};
 use std::alloc::{AllocError, Global};
 
-/// Where the literals of clauses stand, and what follows from the clauses alone: that they are true in no state, or literals that are
-/// true in each state in which they are, by rising atoms.
+/// Where the literals of clauses stand, and what follows from the clauses alone: that they are true
+/// in no state, or literals that are true in each state in which they are, by rising atoms.
 #[derive(Drop)]
 pub(crate) struct Closure {
     pub occurs: Occurrences,
@@ -29,7 +30,8 @@ pub(crate) struct Closure {
 }
 
 impl Closure {
-    /// What follows from these clauses, which speak of so many atoms. More than 2^32 clauses are taken as want of memory.
+    /// What follows from these clauses, which speak of so many atoms. More than 2^32 clauses are
+    /// taken as want of memory.
     pub(crate) fn of(alloc: Global, atoms: usize, clauses: &Clauses) -> Result<Closure, AllocError>
         requires few { atoms ≤ 2 ^ 31 }
         requires clauses { AreClauses atoms clauses.now }

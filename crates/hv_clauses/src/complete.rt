@@ -4,7 +4,7 @@ ghost use Rattle.std.specs.Prelude.{◌≡◌, ◌<◌, ◌≤◌, ℕ, Bool, Li
 ghost use Rattle.hv_task.specs.State.{has_atom};
 ghost use Rattle.hv_clauses.specs.Chase.{IsFollowed};
 ghost use Rattle.hv_clauses.specs.Clausal.{Completes};
-ghost use Rattle.hv_clauses.specs.declared.completion.Completion.TheVariants as C2;
+ghost use Rattle.hv_clauses.specs.declared.completion.Completion.TheVariants as Ways;
 ghost use Rattle.hv_clauses.specs.Completion.{IsAssumed, IsCompleted, IsTried};
 ghost use Rattle.hv_clauses.specs.Marks.{AllKnown, known};
 ghost use Rattle.hv_clauses.specs.Trail.{Grows, marks_of};
@@ -15,8 +15,8 @@ use crate::trail::Marks;
 use hv_sets::Literal;
 use hv_task::State;
 
-// Follows up what the trail has from a place on, until nothing more follows. The answer is false only if no state that agrees with what
-// was known meets the condition.
+// Follows up what the trail has from a place on, until nothing more follows. The answer is false
+// only if no state that agrees with what was known meets the condition.
 pub(crate) fn close<C: Constraint>(constraint: &C, marks: &mut Marks<'_>, from: usize) -> bool
     requires over { C.is_over constraint.now (length marks.old.base) }
     requires from { from ≤ length marks.old.trail }
@@ -36,8 +36,8 @@ pub(crate) fn close<C: Constraint>(constraint: &C, marks: &mut Marks<'_>, from: 
     true
 }
 
-// Tries a value of an open atom: puts it on the trail with all that follows, or leaves all as it was if no state that agrees with what is
-// known has it.
+// Tries a value of an open atom: puts it on the trail with all that follows, or leaves all as it
+// was if no state that agrees with what is known has it.
 pub(crate) fn assume<C: Constraint>(constraint: &C, marks: &mut Marks<'_>, literal: Literal) -> bool
     requires over { C.is_over constraint.now (length marks.old.base) }
     requires atom { literal.atom < length marks.old.base }
@@ -63,7 +63,7 @@ pub(crate) fn settle<C: Constraint>(constraint: &C, marks: &mut Marks<'_>, atom:
     requires over { C.is_over constraint.now (length marks.old.base) }
     requires atom { atom < length marks.old.base }
     requires left { C.left constraint.now marks.old (length marks.old.trail) }
-    requires completes { Completes C2.Try (C.admits constraint.now) (C.settled constraint.now)
+    requires completes { Completes Ways.Try (C.admits constraint.now) (C.settled constraint.now)
         (length marks.old.base) }
     ensures tried { IsTried (C.admits constraint.now) (C.settled constraint.now)
         (λ marks. known marks atom ≡ None → ⊥) (marks_of marks.old) (marks_of marks.new) result }
@@ -92,7 +92,7 @@ pub(crate) fn settle<C: Constraint>(constraint: &C, marks: &mut Marks<'_>, atom:
 pub(crate) fn settle_all<C: Constraint>(constraint: &C, marks: &mut Marks<'_>) -> bool
     requires over { C.is_over constraint.now (length marks.old.base) }
     requires left { C.left constraint.now marks.old (length marks.old.trail) }
-    requires completes { Completes C2.Try (C.admits constraint.now) (C.settled constraint.now)
+    requires completes { Completes Ways.Try (C.admits constraint.now) (C.settled constraint.now)
         (length marks.old.base) }
     ensures tried { IsTried (C.admits constraint.now) (C.settled constraint.now)
         (AllKnown (length marks.old.base)) (marks_of marks.old) (marks_of marks.new) result }
@@ -107,7 +107,8 @@ pub(crate) fn settle_all<C: Constraint>(constraint: &C, marks: &mut Marks<'_>) -
     true
 }
 
-// Completes what is known to a state that meets the condition. The answer is false only if no state meets it.
+// Completes what is known to a state that meets the condition. The answer is false only if no state
+// meets it.
 pub(crate) fn complete<C: Constraint>(
     how: Completion,
     constraint: &C,
@@ -119,7 +120,8 @@ pub(crate) fn complete<C: Constraint>(
     requires left { C.left constraint.now marks.old (length marks.old.trail) }
     requires completes { Completes how (C.admits constraint.now) (C.settled constraint.now)
         (length marks.old.base) }
-    ensures completed { IsCompleted (C.admits constraint.now) (marks_of marks.old) state.new result }
+    ensures completed { IsCompleted (C.admits constraint.now) (marks_of marks.old) state.new
+        result }
     ensures grown { Grows marks.old marks.new }
     ensures state { length state.new ≡ length state.old }
 {

@@ -29,8 +29,8 @@ pub(crate) trait Constraint {
     // It tells nothing more than what comes from the trail from this place on.
     ghost left: { Self → Knowledge → ℕ → Type 0 };
 
-    // Follows up the literal at this place of the trail. The answer is false only if no state that agrees with what was known meets the
-    // condition.
+    // Follows up the literal at this place of the trail. The answer is false only if no state that
+    // agrees with what was known meets the condition.
     fn visit(&self, marks: &mut Marks<'_>, from: usize) -> bool
         requires over { is_over self.now (length marks.old.base) }
         requires from { from < length marks.old.trail }

@@ -15,7 +15,8 @@ use crate::trail::Marks;
 use hv_sets::{Clauses, Literal};
 use hv_task::State;
 
-// Looks for a state of the cube in which a clause is false, in room for each atom. The answer is false if there is one.
+// Looks for a state of the cube in which a clause is false, in room for each atom. The answer is
+// false if there is one.
 pub(crate) fn cover(
     clauses: &Clauses,
     cube: &[Literal],
@@ -60,8 +61,8 @@ fn cover_from(clauses: &Clauses, cube: &[Literal], marks: &mut Marks<'_>, state:
     true
 }
 
-// Marks the literals of the clause as false. The answer is false if the clause is true in each state that agrees with what is known: that
-// is then as it was.
+// Marks the literals of the clause as false. The answer is false if the clause is true in each
+// state that agrees with what is known: that is then as it was.
 fn breaks(clause: &[Literal], marks: &mut Marks<'_>) -> bool
     requires { SpeakBelow (length marks.old.base) clause.now }
     ensures broken { result ≡ true → AreFalse [] clause.now (marks_of marks.new) × Grows marks.old

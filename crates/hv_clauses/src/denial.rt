@@ -6,7 +6,8 @@ ghost use Rattle.hv_clauses.specs.Denial.{is_tautology, step_of};
 use hv_sets::{Cube, Literal};
 use std::alloc::AllocError;
 
-// Makes the cube that of the states in which the clause is false. The answer is false if it is a tautology.
+// Makes the cube that of the states in which the clause is false. The answer is false if it is a
+// tautology.
 pub(crate) fn fill(clause: &[Literal], cube: &mut Cube) -> Result<bool, AllocError>
     ensures some { IfOk result (λ some. some ≡ true → step_of clause.now ≡ Some cube.new) }
     ensures none { IfOk result (λ some. some ≡ false → is_tautology clause.now ≡ true) }

@@ -14,7 +14,8 @@ use crate::trail::Marks;
 use hv_sets::Literal;
 use hv_task::Task;
 
-// Marks what an action asks for. The answer is false if it is applicable in no state that agrees with the marks.
+// Marks what an action asks for. The answer is false if it is applicable in no state that agrees
+// with the marks.
 pub(crate) fn mark_pre(task: &Task, action: Option<u32>, marks: &mut Marks<'_>) -> bool
     requires action { IfSome action (λ a. a < length task.now.actions) }
     requires size { length marks.old.base ≡ atoms task.now }

@@ -24,9 +24,10 @@ use crate::{choices, complete, effect, frame, start, touched};
 use hv_sets::{Finding, Query, Scratch};
 use hv_task::{State, Task};
 
-/// The exact answer to a query over a store of clauses of one kind: Over exactly where there are more choices of one clause of
-/// each negative operand than the budget; else Clash exactly where some state is a counterexample, and such a state then stands
-/// in the scratch; else Empty. It takes no memory.
+/// The exact answer to a query over a store of clauses of one kind: Over exactly where there are
+/// more choices of one clause of each negative operand than the budget; else Clash exactly where
+/// some state is a counterexample, and such a state then stands in the scratch; else Empty. It
+/// takes no memory.
 pub(crate) fn find_in<K: ClauseKind>(
     store: &Formulas<K>,
     task: &Task,
@@ -132,7 +133,8 @@ fn search_from<K: ClauseKind>(
     choose(problem, cost, marks, state)
 }
 
-// Marks what follows from the precondition and the positive operands. The answer is false only if no state meets these.
+// Marks what follows from the precondition and the positive operands. The answer is false only if
+// no state meets these.
 fn mark_base<K: ClauseKind>(
     problem: &Problem<'_, K>,
     based: Option<usize>,
@@ -164,7 +166,8 @@ fn mark_base<K: ClauseKind>(
     complete::close(problem, marks, 0)
 }
 
-// Tries choices of one clause of each negative operand. The answer is true once one fits some state, which is then written.
+// Tries choices of one clause of each negative operand. The answer is true once one fits some
+// state, which is then written.
 fn choose<K: ClauseKind>(
     problem: &Problem<'_, K>,
     cost: u64,
@@ -217,7 +220,8 @@ fn choose_each<K: ClauseKind>(
     false
 }
 
-// Looks for a state that fits this choice: one in which each of the chosen clauses is false. What is known stays as it was.
+// Looks for a state that fits this choice: one in which each of the chosen clauses is false. What
+// is known stays as it was.
 pub(crate) fn decide<K: ClauseKind>(
     problem: &Problem<'_, K>,
     number: u64,

@@ -1,4 +1,5 @@
-ghost use Rattle.std.specs.Prelude.{◌≡◌, ◌<◌, ◌≤◌, ◌+◌, ⊤, length, min, drop, IfOk, IfErr, MatchOption};
+ghost use Rattle.std.specs.Prelude.{◌≡◌, ◌<◌, ◌≤◌, ◌+◌, ⊤, length, min, drop, IfOk, IfErr};
+ghost use Rattle.std.specs.Prelude.{MatchOption};
 ghost use Rattle.std.specs.List.{All};
 ghost use Rattle.hv_task.specs.Strips.{atoms};
 ghost use Rattle.hv_sets.specs.Cubes.{SpeakBelow};
@@ -48,14 +49,17 @@ impl<K: ClauseKind> Model for Formula<K> {
 
     ghost view = { λ s. record { atoms = s.atoms; clauses = s.clauses } };
 
-    ghost invariant = { λ s. (s.atoms ≤ 2 ^ 31) × IsKinded K.is_of (record { atoms = s.atoms; clauses = s.clauses }) × IsClosure s.atoms s.clauses s.closure × AreListsOf K.listed_by s.clauses s.lists };
+    ghost invariant = { λ s. (s.atoms ≤ 2 ^ 31)
+        × IsKinded K.is_of (record { atoms = s.atoms; clauses = s.clauses })
+        × IsClosure s.atoms s.clauses s.closure × AreListsOf K.listed_by s.clauses s.lists };
 }
 
 impl<K: ClauseKind> Formula<K> {
     /// The formula of these clauses over the states of the task.
     pub fn new(alloc: Global, task: &Task, clauses: &Clauses) -> Result<Formula<K>, K::Fault>
         requires { AreClauses (atoms task.now) clauses.now }
-        ensures ok { IfOk result (λ set. set ≡ record { atoms = atoms task.now; clauses = clauses.now }) }
+        ensures ok { IfOk result
+            (λ set. set ≡ record { atoms = atoms task.now; clauses = clauses.now }) }
         ensures kind { IfOk result (λ _. All K.is_of clauses.now) }
         ensures err { IfErr result (K.is_fault clauses.now) }
     {
@@ -91,7 +95,8 @@ impl<K: ClauseKind> Formula<K> {
         &self.clauses
     }
 
-    /// The numbers of the clauses in which the atom stands negatively: they rise, and each stands there once. It takes no memory.
+    /// The numbers of the clauses in which the atom stands negatively: they rise, and each stands
+    /// there once. It takes no memory.
     pub fn occurrences(&self, atom: u32) -> &[usize]
         requires { K.listed_by ≡ L.Negative }
         ensures { IsRow (StandsNegatively self.now.clauses) atom result.now }
@@ -99,7 +104,8 @@ impl<K: ClauseKind> Formula<K> {
         rows::places_at(&self.lists.codes, &self.lists.places, atom)
     }
 
-    /// The numbers of the literals that the literal implies at once: they rise, and each stands there once. It takes no memory.
+    /// The numbers of the literals that the literal implies at once: they rise, and each stands
+    /// there once. It takes no memory.
     pub fn implied(&self, literal: Literal) -> &[u32]
         requires listed { K.listed_by ≡ L.Implied }
         requires atom { literal.atom < self.now.atoms }
@@ -117,9 +123,11 @@ impl<K: ClauseKind> Formula<K> {
         &self.closure.occurs
     }
 
-    // The literals that follow from the clauses alone, by rising atoms. The answer is None only if no state is in the set.
+    // The literals that follow from the clauses alone, by rising atoms. The answer is None only if
+    // no state is in the set.
     pub(crate) fn forced(&self) -> Option<&[Literal]>
-        ensures { MatchOption result (AreNever self.now.atoms self.now.clauses) (λ literals. AreForced self.now.atoms self.now.clauses literals.now) }
+        ensures { MatchOption result (AreNever self.now.atoms self.now.clauses)
+            (λ literals. AreForced self.now.atoms self.now.clauses literals.now) }
     {
         if self.closure.broken {
             return None;
@@ -127,11 +135,13 @@ impl<K: ClauseKind> Formula<K> {
         Some(self.closure.forced.as_slice())
     }
 
-    /// Whether some state is in the cube and in the set. One such state then stands in the scratch. It takes no memory.
+    /// Whether some state is in the cube and in the set. One such state then stands in the scratch.
+    /// It takes no memory.
     pub fn meets_in(&self, cube: &Cube, scratch: &mut Scratch) -> bool
         requires cube { SpeakBelow self.now.atoms cube.now }
         requires room { HasRoom self.now.atoms 0 (length self.now.clauses) scratch.old }
-        ensures meets { Meets result self.now.atoms (in_formula self.now) cube.now scratch.new.state }
+        ensures meets { Meets result self.now.atoms (in_formula self.now) cube.now
+            scratch.new.state }
         ensures state { length scratch.new.state ≡ length scratch.old.state }
         ensures lengths { KeepsLengths scratch.old scratch.new }
     {
@@ -147,12 +157,13 @@ impl<K: ClauseKind> Formula<K> {
         )
     }
 
-    /// Whether each state of the cube is in the set. Otherwise a state of the cube outside the set stands in the scratch. It takes no
-    /// memory.
+    /// Whether each state of the cube is in the set. Otherwise a state of the cube outside the set
+    /// stands in the scratch. It takes no memory.
     pub fn covers_in(&self, cube: &Cube, scratch: &mut Scratch) -> bool
         requires cube { SpeakBelow self.now.atoms cube.now }
         requires room { HasRoom self.now.atoms 0 (length self.now.clauses) scratch.old }
-        ensures covers { Covers result self.now.atoms (in_formula self.now) cube.now scratch.new.state }
+        ensures covers { Covers result self.now.atoms (in_formula self.now) cube.now
+            scratch.new.state }
         ensures state { length scratch.new.state ≡ length scratch.old.state }
         ensures lengths { KeepsLengths scratch.old scratch.new }
     {
@@ -202,7 +213,8 @@ impl<K: ClauseKind> Covering for Formula<K> {
     }
 }
 
-// The walk takes the clauses in order: the cube of the states in which a clause is false, or a step without a cube for a tautology.
+// The walk takes the clauses in order: the cube of the states in which a clause is false, or a step
+// without a cube for a tautology.
 impl<K: ClauseKind> Outside for Formula<K> {
     ghost outside = { steps_of };
 

@@ -1,4 +1,5 @@
-ghost use Rattle.std.specs.Prelude.{◌≡◌, ◌<◌, ◌+◌, ◌++◌, ◌∷◌, [], ℕ, length, slice_get, Some, IfOk, IfSome, OnErr};
+ghost use Rattle.std.specs.Prelude.{◌≡◌, ◌<◌, ◌+◌, ◌++◌, ◌∷◌, [], ℕ, length, slice_get, Some, IfOk};
+ghost use Rattle.std.specs.Prelude.{IfSome, OnErr};
 ghost use Rattle.std.specs.List.{All};
 ghost use Rattle.hv_task.specs.Strips.{atoms};
 ghost use Rattle.hv_sets.specs.Cost.{ClausesPass, IsAnswer, clauses_among};
@@ -97,8 +98,15 @@ impl<K: ClauseKind> Formulas<K> {
         requires ready { IsReady (length self.now) query.now }
         requires task { AreOver self.now (atoms task.now) }
         requires action { IfSome query.now.action (λ a. a < length task.now.actions) }
-        requires room { HasRoom (atoms task.now) (length query.now.positive + length query.now.negative) (clauses_among task.now (sizes_of (formula_at self.now)) query.now.positive + clauses_among task.now (sizes_of (formula_at self.now)) query.now.negative) scratch.old }
-        ensures answer { IsAnswer result (ClausesPass task.now (sizes_of (formula_at self.now)) query.now budget) (atoms task.now) (is_clash task.now (sets_of (formula_at self.now)) query.now) scratch.new.state }
+        requires room { HasRoom (atoms task.now)
+            (length query.now.positive + length query.now.negative)
+            (clauses_among task.now (sizes_of (formula_at self.now)) query.now.positive
+            + clauses_among task.now (sizes_of (formula_at self.now)) query.now.negative)
+            scratch.old }
+        ensures answer { IsAnswer result
+            (ClausesPass task.now (sizes_of (formula_at self.now)) query.now budget)
+            (atoms task.now) (is_clash task.now (sets_of (formula_at self.now)) query.now)
+            scratch.new.state }
         ensures state { length scratch.new.state ≡ length scratch.old.state }
         ensures lengths { KeepsLengths scratch.old scratch.new }
     {
@@ -115,7 +123,8 @@ impl<K: ClauseKind> Family for Formulas<K> {
 
     ghost wants_anchor = { λ _. ⊥ };
 
-    ghost passes = { λ sets task query budget. ClausesPass task (sizes_of (formula_at sets)) query budget };
+    ghost passes = { λ sets task query budget.
+        ClausesPass task (sizes_of (formula_at sets)) query budget };
 
     fn find(
         &self,

@@ -1,6 +1,7 @@
 //! Choices of clauses of which it can be told at once that no state fits them.
 
-ghost use Rattle.std.specs.Prelude.{◌≡◌, ◌<◌, ◌≤◌, [], ℕ, Some, true, false, not, length, slice_get, List, Bool, IfSome};
+ghost use Rattle.std.specs.Prelude.{◌≡◌, ◌<◌, ◌≤◌, [], ℕ, Some, true, false, not, length};
+ghost use Rattle.std.specs.Prelude.{slice_get, List, Bool, IfSome};
 ghost use Rattle.std.specs.List.{All};
 ghost use Rattle.hv_task.specs.Strips.{atoms};
 ghost use Rattle.hv_sets.specs.Cost.{clauses_of};
@@ -23,8 +24,8 @@ use crate::trail::Marks;
 use crate::{choices, literals};
 use hv_sets::{Literal, Operand, Query, Which};
 
-// Whether a chosen clause is true in each state that agrees with what is known and is in each positive operand, as far as that shows
-// without propagation.
+// Whether a chosen clause is true in each state that agrees with what is known and is in each
+// positive operand, as far as that shows without propagation.
 pub(crate) fn is_refuted<K: ClauseKind>(
     problem: &Problem<'_, K>,
     number: u64,
@@ -53,8 +54,9 @@ pub(crate) fn is_refuted<K: ClauseKind>(
     false
 }
 
-// The same for the clause at a place of an operand: a literal of it is known to be true, or its set is a positive operand at the other
-// time and the effect turns no literal of it against the operand.
+// The same for the clause at a place of an operand: a literal of it is known to be true, or its set
+// is a positive operand at the other time and the effect turns no literal of it against the
+// operand.
 fn is_clause_true<K: ClauseKind>(
     problem: &Problem<'_, K>,
     operand: Operand,
@@ -84,10 +86,11 @@ fn is_clause_true<K: ClauseKind>(
         && is_held(clause, problem.effect, operand.after)
 }
 
-// Whether the effect turns no literal of the clause: none is made false by it where the clause is asked about after the action, and
-// none true where it is asked about before.
+// Whether the effect turns no literal of the clause: none is made false by it where the clause is
+// asked about after the action, and none true where it is asked about before.
 fn is_held(clause: &[Literal], effect: &Effect<'_>, after: bool) -> bool
-    ensures { result ≡ true → All (λ l. value_of effect.now [] l ≡ Some (not after) → ⊥) clause.now }
+    ensures { result ≡ true → All (λ l. value_of effect.now [] l ≡ Some (not after) → ⊥)
+        clause.now }
 {
     for literal in clause {
         if is_made(*literal, effect, !after) {
@@ -107,7 +110,8 @@ fn is_made(literal: Literal, effect: &Effect<'_>, to: bool) -> bool
     }
 }
 
-// The one negative operand, but for the empty set, if it is a set of the store that is a positive operand at the other time.
+// The one negative operand, but for the empty set, if it is a set of the store that is a positive
+// operand at the other time.
 pub(crate) fn framed(query: &Query) -> Option<Operand>
     ensures { IfSome result (IsFramed query.now) }
 {
@@ -137,7 +141,8 @@ fn alone(operands: &[Operand]) -> Option<Operand>
 fn first_filled(operands: &[Operand], from: usize) -> usize
     requires { from ≤ length operands.now }
     ensures within { result ≤ length operands.now }
-    ensures empty { (k : ℕ) (o : OperandOf) → from ≤ k → k < result → slice_get operands.now k ≡ Some o → o.which ≡ W.Empty }
+    ensures empty { (k : ℕ) (o : OperandOf) → from ≤ k → k < result
+        → slice_get operands.now k ≡ Some o → o.which ≡ W.Empty }
 {
     for place in from..operands.len() {
         match operands[place].which {

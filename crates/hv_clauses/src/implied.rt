@@ -1,6 +1,7 @@
 //! The codes of the literals that literals imply at once.
 
-ghost use Rattle.std.specs.Prelude.{◌≡◌, ◌≤◌, ◌<◌, ◌⊎◌, ◌↔◌, ◌^◌, ℕ, [], length, slice_index_or, IfOk, IsTrue, MatchOption, OnOk};
+ghost use Rattle.std.specs.Prelude.{◌≡◌, ◌≤◌, ◌<◌, ◌⊎◌, ◌↔◌, ◌^◌, ℕ, [], length, slice_index_or};
+ghost use Rattle.std.specs.Prelude.{IfOk, IsTrue, MatchOption, OnOk};
 ghost use Rattle.std.specs.List.{All, Contains};
 ghost use Rattle.hv_sets.specs.declared.literal.Literal.{Literal};
 ghost use Rattle.hv_sets.specs.Cubes.{SpeakBelow, opposite};
@@ -26,7 +27,8 @@ pub(crate) fn number_of(literal: Literal) -> u32
 // The codes of what the clauses of one or two literals imply.
 pub(crate) fn codes_of(alloc: Global, clauses: &Clauses) -> Result<Vec<u64>, AllocError>
     requires { All (SpeakBelow (2 ^ 31)) clauses.now }
-    ensures { IfOk result (λ codes. ListsCodes (λ k. IsImpliedCode (slice_index_or clauses.now k [])) (length clauses.now) codes.items) }
+    ensures { IfOk result (λ codes. ListsCodes
+        (λ k. IsImpliedCode (slice_index_or clauses.now k [])) (length clauses.now) codes.items) }
 {
     let mut codes = Vec::new(alloc);
     for place in 0..clauses.len() {
@@ -54,7 +56,9 @@ fn put_clause(codes: &mut Vec<u64>, clause: &[Literal]) -> Result<(), AllocError
 fn put(codes: &mut Vec<u64>, first: Literal, second: Literal) -> Result<(), AllocError>
     requires first { first.atom < 2 ^ 31 }
     requires second { second.atom < 2 ^ 31 }
-    ensures { OnOk result (PutsCodes (λ c. c ≡ code (literal_number (opposite first)) (literal_number second)) codes.old.items codes.new.items) }
+    ensures { OnOk result (PutsCodes
+        (λ c. c ≡ code (literal_number (opposite first)) (literal_number second))
+        codes.old.items codes.new.items) }
 {
     let opposite = Literal {
         atom: first.atom,
@@ -66,7 +70,8 @@ fn put(codes: &mut Vec<u64>, first: Literal, second: Literal) -> Result<(), Allo
 
 // The two literals of a clause, which may be one, if it has no other.
 fn pair_of(clause: &[Literal]) -> Option<(Literal, Literal)>
-    ensures { MatchOption result ((first second : Literal) → IsPair clause.now first second → ⊥) (λ pair. IsPair clause.now pair.0 pair.1) }
+    ensures { MatchOption result ((first second : Literal) → IsPair clause.now first second → ⊥)
+        (λ pair. IsPair clause.now pair.0 pair.1) }
 {
     let Some(first) = clause.first() else {
         return None;

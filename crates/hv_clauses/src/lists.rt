@@ -13,7 +13,8 @@ use crate::{implied, negative, rows};
 use hv_sets::Clauses;
 use std::alloc::{AllocError, Global};
 
-// The lists that a formula keeps: codes, and beside each its number, as a place of a clause or as the number of a literal.
+// The lists that a formula keeps: codes, and beside each its number, as a place of a clause or as
+// the number of a literal.
 #[derive(Drop)]
 pub(crate) struct Lists {
     pub codes: Vec<u64>,
@@ -43,7 +44,8 @@ impl Lists {
 
 fn negative_lists(alloc: Global, clauses: &Clauses) -> Result<Lists, AllocError>
     requires { length clauses.now ≤ 2 ^ 32 }
-    ensures { IfOk result (λ l. AreRows (StandsNegatively clauses.now) l.codes.items l.places.items) }
+    ensures { IfOk result
+        (λ l. AreRows (StandsNegatively clauses.now) l.codes.items l.places.items) }
 {
     let mut codes = negative::codes_of(alloc, clauses)?;
     rows::sort(&mut codes);

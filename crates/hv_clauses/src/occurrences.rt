@@ -42,7 +42,8 @@ impl Occurrences {
     /// The occurrences of literals of this sign of an atom.
     pub(crate) fn of(&self, atom: u32, sign: bool) -> &[Occurrence]
         requires { IsNonDecreasingBy (λ o. o.atom) (signed self.now sign) }
-        ensures only { (o : Occurrence) → Contains result.now o → Contains (signed self.now sign) o }
+        ensures only { (o : Occurrence) → Contains result.now o
+            → Contains (signed self.now sign) o }
         ensures all { (o : Occurrence) → Contains (signed self.now sign) o → o.atom ≡ atom →
             Contains result.now o }
     {

@@ -125,7 +125,8 @@ fn start_operand<K: ClauseKind>(
     requires based { IsBasedOn (formula_at problem.now.store.now) based marks.old.base }
     ensures followed { IsFollowed (λ state. in_which problem.now.task.now
         (sets_of (formula_at problem.now.store.now)) operand.which
-        (over (late problem.now.effect.now operand.after) state) ≡ true) marks.old marks.new result }
+        (over (late problem.now.effect.now operand.after) state) ≡ true) marks.old marks.new
+        result }
     ensures left { result ≡ true → IsLeft problem.now.task.now (formula_at problem.now.store.now)
         (late problem.now.effect.now operand.after) operand.which marks.new 0 }
 {

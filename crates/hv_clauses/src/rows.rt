@@ -1,6 +1,8 @@
-//! Numbers by key, kept as one rising list of codes: of a key and a number the code is the key times 2^32 plus the number.
+//! Numbers by key, kept as one rising list of codes: of a key and a number the code is the key
+//! times 2^32 plus the number.
 
-ghost use Rattle.std.specs.Prelude.{◌≡◌, ◌<◌, ◌≤◌, ◌/◌, ◌↔◌, ℕ, length, map, slice_index, slice_range, IfOk};
+ghost use Rattle.std.specs.Prelude.{◌≡◌, ◌<◌, ◌≤◌, ◌/◌, ◌↔◌, ℕ, length, map, slice_index};
+ghost use Rattle.std.specs.Prelude.{slice_range, IfOk};
 ghost use Rattle.std.specs.List.{Contains};
 ghost use Rattle.std.specs.List.Sorted.{IsStrictlyIncreasing};
 ghost use Rattle.hv_clauses.specs.Rows.{IsEndBefore, IsEndWith, IsPartOf, code, key_of, number_of};

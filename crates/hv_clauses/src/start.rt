@@ -20,8 +20,8 @@ pub(crate) struct Start<'a> {
     pub forced: &'a [Literal],
 }
 
-// What follows from the first positive operand that is a set and is asked about before the action. The answer is None only if no state is
-// in it.
+// What follows from the first positive operand that is a set and is asked about before the action.
+// The answer is None only if no state is in it.
 pub(crate) fn start_of<'a, K: ClauseKind>(problem: &Problem<'a, K>) -> Option<Start<'a>>
     requires named { All (λ o. IsNamed (length problem.now.store.now) o.which)
         problem.now.query.now.positive }

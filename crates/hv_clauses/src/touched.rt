@@ -1,4 +1,5 @@
-//! The choices that an effect can make false, where the set of the one negative operand is a positive operand at the other time.
+//! The choices that an effect can make false, where the set of the one negative operand is a
+//! positive operand at the other time.
 
 ghost use Rattle.std.specs.Prelude.{◌≡◌, ◌<◌, Bool, Some, ⊤, length};
 ghost use Rattle.std.specs.List.{All};
@@ -50,7 +51,8 @@ pub(crate) fn choose_touched<K: ClauseKind>(
     try_value(problem, occurs, operand.after, true, marks, state)
 }
 
-// Tries each choice of a clause of which a literal is turned by an atom that the effect makes this value.
+// Tries each choice of a clause of which a literal is turned by an atom that the effect makes this
+// value.
 fn try_value<K: ClauseKind>(
     problem: &Problem<'_, K>,
     occurs: &Occurrences,
@@ -88,8 +90,8 @@ fn try_value<K: ClauseKind>(
     false
 }
 
-// The sign of the literals that are turned against an operand where their atoms are made this value: false, if the operand is asked about
-// after the action, and else true.
+// The sign of the literals that are turned against an operand where their atoms are made this
+// value: false, if the operand is asked about after the action, and else true.
 fn turning_sign(after: bool, value: bool) -> bool
     ensures { result ≡ turning_sign after value }
 {

@@ -1,6 +1,7 @@
 //! What is known of the atoms of a task, and in which order it was found out.
 
-ghost use Rattle.std.specs.Prelude.{◌≡◌, ◌<◌, ◌≤◌, ◌++◌, ◌^◌, [], ◌∷◌, None, Some, length, take, slice_get};
+ghost use Rattle.std.specs.Prelude.{◌≡◌, ◌<◌, ◌≤◌, ◌++◌, ◌^◌, [], ◌∷◌, None, Some, length, take};
+ghost use Rattle.std.specs.Prelude.{slice_get};
 ghost use Rattle.std.specs.List.Sorted.{IsStrictlyIncreasing};
 ghost use Rattle.hv_sets.specs.Cubes.{IsFirstUpto, atoms_of};
 ghost use Rattle.hv_clauses.specs.Marks.{filled, known};
@@ -10,8 +11,9 @@ use hv_sets::Literal;
 use hv_task::State;
 use std::marker::Model;
 
-/// What is known of the atoms of a task: literals that were known before, which stay as they are, and those that were found true
-/// since, in room that others lend, whatever stands there. To forget the latest of these costs nothing.
+/// What is known of the atoms of a task: literals that were known before, which stay as they are,
+/// and those that were found true since, in room that others lend, whatever stands there. To forget
+/// the latest of these costs nothing.
 #[derive(Drop)]
 pub(crate) struct Marks<'a> {
     atoms: usize,
@@ -110,7 +112,8 @@ impl<'a> Marks<'a> {
     pub(crate) fn write(&mut self, literal: Literal)
         requires atom { literal.atom < length self.old.base }
         requires unknown { known (marks_of self.old) literal.atom ≡ None }
-        ensures { self.new ≡ record { base = self.old.base; trail = self.old.trail ++ literal ∷ [] } }
+        ensures { self.new
+            ≡ record { base = self.old.base; trail = self.old.trail ++ literal ∷ [] } }
     {
         self.places[literal.atom as usize] = self.len as u32;
         self.queue[self.len] = literal.atom * 2 + literal.positive as u32;
@@ -131,7 +134,8 @@ impl<'a> Marks<'a> {
         }
     }
 
-    /// Makes it the state with what is known put over it, in which each atom of which nothing is known has this value.
+    /// Makes it the state with what is known put over it, in which each atom of which nothing is
+    /// known has this value.
     pub(crate) fn fill(&self, value: bool, state: &mut State)
         requires { length state.old ≡ length self.now.base }
         ensures { state.new ≡ filled value (marks_of self.now) }

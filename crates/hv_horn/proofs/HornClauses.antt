@@ -1,9 +1,9 @@
 -- Horn clauses, by a look for a positive literal, and then at each other one.
-use Rattle.std.proofs.Common.{◌≡◌, ◌<◌, ◌∙◌, ℕ, Bool, true, false, not, ◌||◌, List, length, get_or, refl, sym, subst, eqb}
-use Rattle.std.proofs.Common.{IsTrue, ◌↔◌, [], Option, None, Some, MatchOption, arith}
+use Rattle.std.proofs.Common.{◌≡◌, ◌∙◌, Bool, true, false, not, ◌||◌, List, length, get_or, refl, sym, subst, eqb}
+use Rattle.std.proofs.Common.{IsTrue, ◌↔◌}
 use Rattle.std.proofs.lemmas.List.Elements.{All-contains, All-from_all_within, Contains-get_or}
 use Rattle.std.proofs.lemmas.Bool.{eqb-true, eq-eqb}
-use Rattle.std.specs.List.{All, AllWithin, Contains, HoldsAt, list_all}
+use Rattle.std.specs.List.{AllWithin, Contains, list_all}
 use Rattle.std.proofs.lemmas.List.Sums.{AllPass-from_list_all}
 use Rattle.hv_sets.specs.declared.literal.Literal.{Literal}
 use Rattle.hv_sets.specs.Kinds.{IsHornClause}

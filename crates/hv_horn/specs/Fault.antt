@@ -13,5 +13,6 @@ IsFault clauses (H.NotHorn place) = IsFirstOther IsHornClause clauses place
 IsFault clauses H.Memory = ⊤
 
 -- want of memory is always right
-pub memory_is_fault : (clauses : List (List Literal)) (error : NoMemory) (fault : HornFault) → fault ≡ H.Memory → IsFault clauses fault
+pub memory_is_fault : (clauses : List (List Literal)) (error : NoMemory) (fault : HornFault)
+    → fault ≡ H.Memory → IsFault clauses fault
 memory_is_fault clauses error fault is = subst (IsFault clauses) (sym is) tt

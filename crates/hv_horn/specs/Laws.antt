@@ -1,6 +1,7 @@
--- The laws of Horn clauses: the short ones are Horn clauses, and of two different open literals of one one is negative, so that it is
--- true where open atoms are left out.
-use Rattle.std.proofs.Common.{◌≡◌, ◌∙◌, ℕ, Bool, true, false, List, length, None, refl, sym, ap, inl, inr}
+-- The laws of Horn clauses: the short ones are Horn clauses, and of two different open literals of
+-- one one is negative, so that it is true where open atoms are left out.
+use Rattle.std.proofs.Common.{◌≡◌, ◌∙◌, ℕ, Bool, true, false, List, length, None, refl, sym, ap}
+use Rattle.std.proofs.Common.{inl, inr}
 use Rattle.std.specs.List.{Contains}
 use Rattle.hv_sets.specs.declared.literal.Literal.{Literal}
 use Rattle.hv_sets.specs.Cubes.{SpeakBelow}
@@ -14,15 +15,18 @@ use Rattle.hv_clauses.proofs.Kinded.{below, clause_true, known_filled, open_fill
 pub short_are_horn : (clause : List Literal) → IsShort clause → IsHornClause clause
 short_are_horn clause short l k cl ck pl pk = ap (λ x. x.atom) (short l k cl ck)
 
-pub horn_completes : (effect marks : List ℕ) (clause : List Literal) → SpeakBelow (length marks) clause → IsHornClause clause
+pub horn_completes : (effect marks : List ℕ) (clause : List Literal)
+    → SpeakBelow (length marks) clause → IsHornClause clause
     → IsSettled effect marks clause → in_clause clause (over effect (filled false marks)) ≡ true
 horn_completes effect marks clause speaks horn settled =
     elim settled [
       | inl it ↦ known_filled effect marks clause speaks false it.0 it.1 it.2
-      | inr two ↦ split two.0 two.1 two.2 two.3 two.4 two.5 two.6 two.0.positive refl two.1.positive refl
+      | inr two ↦ split two.0 two.1 two.2 two.3 two.4 two.5 two.6 two.0.positive refl two.1.positive
+          refl
     ]
   where
-    split : (l k : Literal) → Contains clause l → Contains clause k → (l ≡ k → ⊥) → value_of effect marks l ≡ None
+    split : (l k : Literal) → Contains clause l → Contains clause k → (l ≡ k → ⊥)
+        → value_of effect marks l ≡ None
         → value_of effect marks k ≡ None
         → (left : Bool) → l.positive ≡ left → (right : Bool) → k.positive ≡ right
         → in_clause clause (over effect (filled false marks)) ≡ true

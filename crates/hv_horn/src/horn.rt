@@ -14,7 +14,8 @@ use thiserror::Error;
 /// Why clauses are no Horn formula.
 #[derive(Debug, Drop, Error)]
 pub enum HornFault {
-    /// The clause at this place, from 0, is the first that has positive literals of two different atoms.
+    /// The clause at this place, from 0, is the first that has positive literals of two different
+    /// atoms.
     #[error("clause {0} is no Horn clause")]
     NotHorn(usize),
     /// There is no memory.
@@ -30,7 +31,8 @@ impl From<AllocError> for HornFault {
     }
 }
 
-/// Horn clauses: the positive literals of a clause are of one atom at most. Atoms of which nothing is known can be left out.
+/// Horn clauses: the positive literals of a clause are of one atom at most. Atoms of which nothing
+/// is known can be left out.
 pub enum HornKind {}
 
 /// A Horn formula: the set of the states of a task in which each of its clauses is true.

@@ -1,4 +1,5 @@
-//! Horn formulas: sets of states that are given by clauses whose positive literals are of one atom at most.
+//! Horn formulas: sets of states that are given by clauses whose positive literals are of one atom
+//! at most.
 #![tactic(auto)]
 
 pub mod horn;

@@ -32,7 +32,8 @@ impl From<AllocError> for TwoCnfFault {
     }
 }
 
-/// Clauses of at most two different literals. Values are tried for the atoms of which nothing is known.
+/// Clauses of at most two different literals. Values are tried for the atoms of which nothing is
+/// known.
 pub enum TwoKind {}
 
 /// A 2CNF formula: the set of the states of a task in which each of its clauses is true.

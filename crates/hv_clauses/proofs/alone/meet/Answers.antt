@@ -1,4 +1,4 @@
-use Rattle.std.proofs.Common.{◌≡◌, ◌∙◌, [], length, refl, sym, ap, arith, subst}
+use Rattle.std.proofs.Common.{◌∙◌, [], length, sym, ap, subst}
 use Rattle.hv_clauses.specs.Closure.{AreForced}
 use Rattle.hv_clauses.specs.Marks.{Agrees}
 use Rattle.hv_clauses.specs.Trail.{Knowledge, marks_of}

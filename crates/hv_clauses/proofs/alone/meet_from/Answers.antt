@@ -1,7 +1,6 @@
-use Rattle.std.proofs.Common.{◌≡◌, ◌∙◌, [], length, refl, sym, ap, arith, subst}
+use Rattle.std.proofs.Common.{◌∙◌, [], length, sym, ap, arith, subst}
 use Rattle.hv_clauses.specs.Clausal.{AreClauses}
 use Rattle.hv_clauses.specs.Kinded.{CompletesClauses}
-use Rattle.hv_clauses.specs.Trail.{marks_of}
 use Rattle.hv_clauses.proofs.Chasing.{kept_grown, kept_settled}
 use Rattle.hv_clauses.proofs.Covered.{forced_cube}
 use Rattle.hv_clauses.proofs.Kinded.{completes}

@@ -1,4 +1,4 @@
-use Rattle.std.proofs.Common.{◌≡◌, ◌+◌, ◌<◌, not, length, get_or, refl, ap, arith, below_more, subst}
+use Rattle.std.proofs.Common.{◌+◌, ◌<◌, not, length, get_or, refl, ap, arith, below_more, subst}
 use Rattle.std.proofs.lemmas.List.{get_or_default}
 use Rattle.std.proofs.lemmas.List.Elements.{All-contains, Contains-get_or}
 use Rattle.hv_clauses.specs.declared.occurrences.Occurrence.{Occurrence}

@@ -1,7 +1,7 @@
-use Rattle.std.proofs.Common.{◌≡◌, ◌∙◌, [], true, false, Bool, List, ℕ, None, length, refl, sym, ap, arith, subst}
+use Rattle.std.proofs.Common.{◌≡◌, ◌∙◌, [], true, Bool, List, ℕ, None, length, refl, sym, ap, arith, subst}
 use Rattle.hv_sets.specs.declared.literal.Literal.{Literal}
 use Rattle.hv_sets.specs.Truth.{in_clauses}
-use Rattle.hv_clauses.specs.Chase.{AreKept, IsFollowed}
+use Rattle.hv_clauses.specs.Chase.{AreKept}
 use Rattle.hv_clauses.specs.Marks.{Agrees, known, over}
 use Rattle.hv_clauses.specs.Trail.{Knowledge, marks_of}
 use Rattle.hv_clauses.proofs.Chasing.{longer}

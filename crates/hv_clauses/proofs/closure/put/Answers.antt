@@ -1,9 +1,8 @@
-use Rattle.std.proofs.Common.{◌≡◌, ◌∙◌, ◌<◌, ◌+◌, ◌++◌, ◌∷◌, [], Some, None, ℕ, List, refl, sym, ap, arith, subst}
-use Rattle.hv_sets.specs.declared.literal.Literal.{Literal}
+use Rattle.std.proofs.Common.{◌∙◌, ◌+◌, refl, sym, ap, arith, subst}
 use Rattle.hv_clauses.specs.Closure.{ListsBelow}
 use Rattle.hv_clauses.specs.Marks.{known}
 use Rattle.hv_clauses.specs.Trail.{marked}
-use Rattle.hv_clauses.proofs.Forced.{listed_more, listed_on, none_from, said_more, said_others}
+use Rattle.hv_clauses.proofs.Forced.{listed_more, none_from, said_more, said_others}
 use Rattle.hv_clauses.proofs.closure.put.Goals as goal
 
 pub returns-in_default-clause-here : goal.returns-in_default-clause-here

@@ -1,4 +1,4 @@
-use Rattle.std.proofs.Common.{◌≡◌, ◌∙◌, true, false, length, sym, ap, arith, refl, subst}
+use Rattle.std.proofs.Common.{◌∙◌, true, false, length, sym, ap, arith, refl, subst}
 use Rattle.hv_clauses.specs.Clausal.{Completes}
 use Rattle.hv_clauses.specs.Completion.{IsTried}
 use Rattle.hv_clauses.specs.Marks.{AllKnown}

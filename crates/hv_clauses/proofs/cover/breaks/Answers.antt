@@ -1,14 +1,13 @@
-use Rattle.std.proofs.Common.{◌≡◌, ◌∙◌, [], true, false, List, Bool, Some, ℕ, length, take, refl, sym, ap, arith, subst}
+use Rattle.std.proofs.Common.{◌≡◌, ◌∙◌, true, Some, take, refl, sym, ap, subst}
 use Rattle.std.specs.List.{Contains}
 use Rattle.hv_sets.specs.declared.literal.Literal.{Literal}
 use Rattle.hv_sets.specs.Cubes.{SpeakBelow}
 use Rattle.hv_sets.specs.Truth.{in_clause}
-use Rattle.hv_clauses.specs.Marks.{Agrees, over}
+use Rattle.hv_clauses.specs.Marks.{over}
 use Rattle.hv_clauses.specs.Trail.{Knowledge, marks_of}
 use Rattle.hv_clauses.specs.Units.{AreFalse, value_of}
 use Rattle.hv_clauses.proofs.Chasing.{undone_same}
 use Rattle.hv_clauses.proofs.Covered.{true_where_known, true_where_undenied}
-use Rattle.hv_clauses.proofs.Marked.{over-nil}
 use Rattle.hv_clauses.proofs.Trailed.{length-marks}
 use Rattle.hv_clauses.proofs.cover.breaks.Goals as goal
 

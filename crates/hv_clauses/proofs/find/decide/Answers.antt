@@ -1,4 +1,4 @@
-use Rattle.std.proofs.Common.{◌≡◌, ◌∙◌, length, take, refl, sym, ap}
+use Rattle.std.proofs.Common.{◌∙◌, length, take, refl, sym, ap}
 use Rattle.hv_clauses.specs.Store.{formula_at}
 use Rattle.hv_clauses.specs.Trail.{Knowledge}
 use Rattle.hv_clauses.proofs.Chasing.{undone_same}

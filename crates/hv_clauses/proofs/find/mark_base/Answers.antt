@@ -1,4 +1,4 @@
-use Rattle.std.proofs.Common.{◌≡◌, ◌∙◌, length, refl, sym, ap, arith, subst}
+use Rattle.std.proofs.Common.{◌∙◌, length, refl, sym, ap, subst}
 use Rattle.hv_clauses.specs.Start.{IsBasedOn}
 use Rattle.hv_clauses.specs.Store.{formula_at}
 use Rattle.hv_clauses.specs.Trail.{marks_of}

@@ -1,4 +1,4 @@
-use Rattle.std.proofs.Common.{◌≡◌, ◌∙◌, Option, None, Some, length, ap, subst}
+use Rattle.std.proofs.Common.{◌≡◌, ◌∙◌, Option, None, length, ap, subst}
 use Rattle.std.specs.Option.{MatchOption}
 use Rattle.hv_clauses.specs.declared.start.Start.{Start}
 use Rattle.hv_clauses.specs.Store.{formula_at}

@@ -1,4 +1,4 @@
-use Rattle.std.proofs.Common.{◌≡◌, ◌∙◌, true, false, length, refl, sym, ap, arith, subst}
+use Rattle.std.proofs.Common.{◌∙◌, true, false, length, refl, sym, ap, arith, subst}
 use Rattle.hv_clauses.specs.Chase.{IsFollowed}
 use Rattle.hv_clauses.specs.Clausal.{InAll}
 use Rattle.hv_clauses.specs.Problem.{AreAllLeft}

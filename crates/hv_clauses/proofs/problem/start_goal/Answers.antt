@@ -1,10 +1,9 @@
 use Rattle.std.proofs.Common.{◌≡◌, ℕ, ◌<◌, ◌∙◌, List, Some, true, length, get_or, refl, sym, ap, arith, below_more, subst}
 use Rattle.std.proofs.lemmas.List.{length-map}
 use Rattle.hv_task.specs.State.{AreBelow, has_atom}
-use Rattle.hv_task.specs.Strips.{atoms, is_goal}
+use Rattle.hv_task.specs.Strips.{atoms}
 use Rattle.hv_sets.specs.declared.literal.Literal.{Literal}
 use Rattle.hv_sets.specs.Truth.{in_literal}
-use Rattle.hv_clauses.specs.Chase.{IsFollowed}
 use Rattle.hv_clauses.specs.Clausal.{unit}
 use Rattle.hv_clauses.specs.Marks.{over}
 use Rattle.hv_clauses.specs.Trail.{marks_of}

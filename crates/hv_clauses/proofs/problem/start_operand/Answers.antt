@@ -1,4 +1,4 @@
-use Rattle.std.proofs.Common.{◌≡◌, ◌∙◌, true, false, ℕ, Some, [], refl, sym, ap, subst}
+use Rattle.std.proofs.Common.{◌≡◌, true, sym, subst}
 use Rattle.hv_sets.specs.declared.operand.Which.TheVariants as W
 use Rattle.hv_sets.specs.Query.{in_which}
 use Rattle.hv_clauses.specs.Chase.{IsFollowed}

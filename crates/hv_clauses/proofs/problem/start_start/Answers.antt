@@ -1,9 +1,8 @@
-use Rattle.std.proofs.Common.{◌≡◌, ℕ, ◌<◌, ◌∙◌, ◌∷◌, Some, true, length, refl, sym, ap, arith, below_more, subst}
+use Rattle.std.proofs.Common.{◌≡◌, ◌<◌, ◌∙◌, Some, true, length, refl, ap, arith, below_more, subst}
 use Rattle.hv_task.specs.State.{names_atom}
-use Rattle.hv_task.specs.Strips.{atoms, start_state}
+use Rattle.hv_task.specs.Strips.{atoms}
 use Rattle.hv_sets.specs.declared.literal.Literal.{Literal}
-use Rattle.hv_sets.specs.Truth.{in_literal, is_same}
-use Rattle.hv_clauses.specs.Chase.{IsFollowed}
+use Rattle.hv_sets.specs.Truth.{in_literal}
 use Rattle.hv_clauses.specs.Clausal.{clauses_of_state}
 use Rattle.hv_clauses.specs.Marks.{over}
 use Rattle.hv_clauses.specs.Trail.{marks_of}

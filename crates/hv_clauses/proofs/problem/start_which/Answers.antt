@@ -1,5 +1,4 @@
 use Rattle.std.proofs.Common.{◌≡◌, ◌∙◌, true, false, length, sym, arith, subst}
-use Rattle.hv_sets.specs.declared.operand.Which.TheVariants as W
 use Rattle.hv_sets.specs.Query.{in_which}
 use Rattle.hv_sets.specs.Truth.{in_clauses}
 use Rattle.hv_clauses.specs.Chase.{AreKept, IsFollowed}

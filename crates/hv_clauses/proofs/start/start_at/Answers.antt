@@ -1,4 +1,4 @@
-use Rattle.std.proofs.Common.{◌≡◌, ◌∙◌, [], sym, subst}
+use Rattle.std.proofs.Common.{subst}
 use Rattle.hv_clauses.specs.Closure.{AreForced}
 use Rattle.hv_task.specs.Strips.{atoms}
 use Rattle.hv_clauses.specs.Store.{formula_at}

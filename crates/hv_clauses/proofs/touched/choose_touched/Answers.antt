@@ -1,4 +1,4 @@
-use Rattle.std.proofs.Common.{length, arith, subst}
+use Rattle.std.proofs.Common.{arith, subst}
 use Rattle.hv_clauses.specs.Occurrences.{IsIndexOf}
 use Rattle.hv_clauses.specs.Store.{formula_at}
 use Rattle.hv_clauses.proofs.Touching.{choices_are, met_from_touched}

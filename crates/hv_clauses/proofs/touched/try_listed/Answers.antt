@@ -1,9 +1,7 @@
 use Rattle.std.proofs.Common.{◌≡◌, ◌<◌, ◌∙◌, Bool, List, length, get_or, sym, arith, below_more, subst}
 use Rattle.std.proofs.lemmas.List.{get_or_default}
 use Rattle.hv_task.specs.Strips.{atoms}
-use Rattle.hv_sets.specs.Cost.{choices_of}
 use Rattle.hv_clauses.specs.declared.occurrences.Occurrence.{Occurrence}
-use Rattle.hv_clauses.specs.Clausal.{sizes_of}
 use Rattle.hv_clauses.specs.Found.{IsBased}
 use Rattle.hv_clauses.specs.Problem.{Fits}
 use Rattle.hv_clauses.specs.Store.{formula_at}

@@ -1,4 +1,4 @@
-use Rattle.std.proofs.Common.{◌∙◌, List, ℕ, length, replicate, false, refl, sym, ap}
+use Rattle.std.proofs.Common.{◌∙◌, replicate, false, refl}
 use Rattle.hv_clauses.specs.Overwriting.{overwrite}
 use Rattle.hv_clauses.proofs.Changes.{length-effect}
 use Rattle.hv_clauses.proofs.Effects.{effect_of_none, effect_of_some}

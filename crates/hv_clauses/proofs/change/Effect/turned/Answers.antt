@@ -1,5 +1,4 @@
-use Rattle.std.proofs.Common.{◌∙◌, Bool, Some, ap, subst}
-use Rattle.std.specs.List.{Contains}
+use Rattle.std.proofs.Common.{◌∙◌, Bool, Some, ap}
 use Rattle.hv_clauses.specs.Marks.{known}
 use Rattle.hv_clauses.proofs.Changes.{added_from, deleted_from}
 use Rattle.hv_clauses.proofs.change.Effect.turned.Goals as goal

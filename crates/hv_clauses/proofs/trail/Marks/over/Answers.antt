@@ -1,4 +1,4 @@
-use Rattle.std.proofs.Common.{length, arith}
+use Rattle.std.proofs.Common.{arith}
 use Rattle.hv_clauses.specs.Trail.{marked}
 use Rattle.hv_clauses.proofs.Trailed.{joined_none, length-marked}
 use Rattle.hv_clauses.proofs.trail.Marks.over.Goals as goal

@@ -1,6 +1,6 @@
 use Rattle.std.proofs.Common.{◌∙◌, List, length, take, ap, arith}
 use Rattle.hv_sets.specs.declared.literal.Literal.{Literal}
-use Rattle.hv_clauses.specs.Trail.{Knowledge, marked, marks_of, trail_of}
+use Rattle.hv_clauses.specs.Trail.{Knowledge, marked}
 use Rattle.hv_clauses.proofs.Trailed.{length-trail, trail_front}
 use Rattle.hv_clauses.proofs.trail.Marks.undo.Goals as goal
 

@@ -1,5 +1,0 @@
-use Rattle.hv_clauses.specs.Clausal.{AreClauses}
-use Rattle.hv_horn.proofs.tests.clauses_from.Given as goal
-
-abbrev pub invariant-loop-code : goal.invariant-loop-code
-invariant-loop-code l = AreClauses 3 l.clauses

@@ -1,5 +1,0 @@
-use Rattle.hv_sets.specs.Cubes.{SpeakBelow}
-use Rattle.hv_twocnf.proofs.tests.clause_of.Given as goal
-
-abbrev pub invariant-loop-number : goal.invariant-loop-number
-invariant-loop-number l = SpeakBelow l.atoms l.clause
