@@ -1,0 +1,42 @@
+ghost use Rattle.std.specs.Prelude.{◌≡◌, ◌<◌, ◌≤◌, length, IfOk};
+ghost use Rattle.hv_sets.specs.Cost.{IsAnswer};
+ghost use Rattle.hv_sets.specs.Room.{KeepsLengths};
+ghost use Rattle.hv_mixed.specs.Inclusion.{difference};
+
+use hv_sets::{Cube, Cursor, Finding, Outside, Scratch, StateSet, Step};
+use std::alloc::{AllocError, Global};
+
+/// Whether the left set is within the right one: Over exactly where the walk over the states
+/// outside the right set has more steps than the budget; else Clash exactly where a state is in the
+/// left set and outside the right one, and such a state then stands in the scratch; else Empty.
+pub fn within<L: StateSet, R: Outside>(
+    alloc: Global,
+    left: &L,
+    right: &R,
+    budget: u64,
+    scratch: &mut Scratch,
+) -> Result<Finding, AllocError>
+    requires atoms { L.atoms left.now ≡ R.atoms right.now }
+    requires budget { budget ≤ 16777216 }
+    ensures answer { IfOk result
+        (λ found. IsAnswer found (budget < length (R.outside right.now)) (L.atoms left.now)
+        (difference (L.has left.now) (R.has right.now)) scratch.new.state) }
+    ensures lengths { KeepsLengths scratch.old scratch.new }
+{
+    if right.outside_count(alloc, budget)? > budget {
+        return Ok(Finding::Over);
+    }
+    let mut cursor = Cursor::new(alloc);
+    let mut cube = Cube::new(alloc);
+    loop {
+        match right.outside_next(&mut cursor, &mut cube)? {
+            Step::End => return Ok(Finding::Empty),
+            Step::Void => {}
+            Step::Cube => {
+                if left.meets(alloc, &cube, scratch)? {
+                    return Ok(Finding::Clash);
+                }
+            }
+        }
+    }
+}
