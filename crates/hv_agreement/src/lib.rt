@@ -2,4 +2,12 @@
 #![tactic(auto)]
 
 #[cfg(test)]
+mod cubes;
+#[cfg(test)]
+mod inclusions;
+#[cfg(test)]
+mod queries;
+#[cfg(test)]
 mod tests;
+#[cfg(test)]
+mod three;

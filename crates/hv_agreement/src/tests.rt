@@ -1,4 +1,5 @@
-ghost use Rattle.std.specs.Prelude.{◌≡◌, ◌<◌, ◌≤◌, ◌∷◌, [], false, None, IfOk, IfSome, OnOk, length};
+ghost use Rattle.std.specs.Prelude.{◌≡◌, ◌<◌, ◌≤◌, ◌∷◌, [], false, None, IfOk, IfSome, OnOk};
+ghost use Rattle.std.specs.Prelude.{length};
 ghost use Rattle.hv_task.specs.Strips.{atoms};
 ghost use Rattle.hv_sets.specs.Cubes.{SpeakBelow};
 ghost use Rattle.hv_sets.specs.Query.{HasAnchor, IsReady};
@@ -247,7 +248,8 @@ fn room_of<K: ClauseKind>(sets: &Formulas<K>, number: usize) -> usize
     sets.get(number).clauses().len()
 }
 
-// Whether it is the wanted answer. A state that is found has the atoms up to the missing link, and no others.
+// Whether it is the wanted answer. A state that is found has the atoms up to the missing link, and
+// no others.
 fn fits(found: Finding, state: &State, missing: u32) -> bool {
     if missing >= ATOMS {
         return found == Finding::Empty;

@@ -1,0 +1,578 @@
+//! Whether the families of sets answer queries as going through all states says.
+
+ghost use Rattle.std.specs.Prelude.{◌≡◌, ◌<◌, ◌∷◌, [], false, true, None, IfOk, IfSome, length};
+ghost use Rattle.hv_task.specs.Strips.{atoms};
+ghost use Rattle.hv_sets.specs.Cost.{clauses_of};
+ghost use Rattle.hv_sets.specs.Query.{HasAnchor, IsNamed, IsReady};
+ghost use Rattle.hv_sets.specs.declared.operand.Which.TheVariants as W;
+ghost use Rattle.hv_clauses.specs.Clausal.{sizes_of};
+ghost use Rattle.hv_clauses.specs.Store.{AreOver, formula_at};
+ghost use Rattle.hv_explicit.specs.Listing as listing;
+
+use crate::three::{
+    ALL, GOAL_STATES, START_STATES, explicit_of, fits, formula_of, holding, is_horn_code,
+    is_two_code, leading_to, states_of_clauses, states_of_list, task_of,
+};
+use hv_clauses::{ClauseKind, Formulas};
+use hv_explicit::Explicits;
+use hv_horn::HornKind;
+use hv_sets::{Family, Finding, Operand, Operands, Query, Scratch, Which};
+use hv_task::Task;
+use hv_twocnf::TwoKind;
+use std::alloc::{AllocError, Global};
+use std::test::Fail;
+
+// What a query asks: of one positive operand or two, and of one negative one or two. The last
+// positive operand and the first negative one may be asked about after the action.
+#[derive(Clone, Copy)]
+struct Case {
+    positive: Which,
+    joined: Option<Which>,
+    negative: Which,
+    other: Option<Which>,
+    acts: bool,
+    positive_after: bool,
+    negative_after: bool,
+}
+
+// What is asked of a store of two sets: the states of each, how many clauses or states each has,
+// and what the action asks for. A query costs what its anchor does, or else what its negative
+// operands do together.
+#[derive(Clone, Copy)]
+struct Wanted {
+    sets: [u32; 2],
+    sizes: [u64; 2],
+    pre: u32,
+    by_anchor: bool,
+}
+
+const CASES: u32 = 1375;
+
+// The first so many have one positive and one negative operand.
+const PLAIN_CASES: u32 = 125;
+
+// The constants and the two sets of a store, by a number below 5.
+fn which_of(number: u32) -> Which
+    ensures { IsNamed 2 result }
+{
+    match number {
+        0 => Which::Empty,
+        1 => Which::Start,
+        2 => Which::Set(0),
+        3 => Which::Set(1),
+        _ => Which::Goal,
+    }
+}
+
+// Whether there is an action, and what is asked after it.
+fn times_of(number: u32) -> [bool; 3] {
+    match number {
+        0 => [false, false, false],
+        1 => [true, false, false],
+        2 => [true, true, false],
+        3 => [true, false, true],
+        _ => [true, true, true],
+    }
+}
+
+fn joined_of(number: u32) -> Option<Which>
+    ensures { IfSome result (IsNamed 2) }
+{
+    if number < 6 {
+        return None;
+    }
+    Some(which_of(number - 6))
+}
+
+fn other_of(number: u32) -> Option<Which>
+    ensures { IfSome result (IsNamed 2) }
+{
+    if number == 0 || number > 5 {
+        return None;
+    }
+    Some(which_of(number - 1))
+}
+
+fn case_of(number: u32) -> Case
+    ensures positive { IsNamed 2 result.positive }
+    ensures joined { IfSome result.joined (IsNamed 2) }
+    ensures negative { IsNamed 2 result.negative }
+    ensures other { IfSome result.other (IsNamed 2) }
+    ensures positive_after { result.acts ≡ false → result.positive_after ≡ false }
+    ensures negative_after { result.acts ≡ false → result.negative_after ≡ false }
+{
+    let [acts, positive_after, negative_after] = times_of(number / 25 % 5);
+    Case {
+        positive: which_of(number % 5),
+        joined: joined_of(number / 125),
+        negative: which_of(number / 5 % 5),
+        other: other_of(number / 125),
+        acts,
+        positive_after: acts && positive_after,
+        negative_after: acts && negative_after,
+    }
+}
+
+// Whether the first positive operand is the anchor, where the family wants one.
+fn is_askable(by_anchor: bool, case: Case) -> bool
+    ensures anchor { result ≡ true → by_anchor ≡ true → case.positive ≡ W.Goal → ⊥ }
+    ensures before { result ≡ true → by_anchor ≡ true → case.joined ≡ None
+        → case.positive_after ≡ false }
+{
+    if !by_anchor {
+        return true;
+    }
+    if case.positive == Which::Goal {
+        return false;
+    }
+    case.joined.is_some() || !case.positive_after
+}
+
+fn operand(which: Which, id: usize, after: bool) -> Operand
+    ensures { result ≡ record { which = which; id = id; after = after } }
+{
+    Operand { which, id, after }
+}
+
+// A query of one positive operand.
+fn plain_query(alloc: Global, case: Case) -> Result<Query, AllocError>
+    requires positive { IsNamed 2 case.positive }
+    requires negative { IsNamed 2 case.negative }
+    requires other { IfSome case.other (IsNamed 2) }
+    requires positive_after { case.acts ≡ false → case.positive_after ≡ false }
+    requires negative_after { case.acts ≡ false → case.negative_after ≡ false }
+    ensures ready { IfOk result (IsReady 2) }
+    ensures anchor { (case.positive ≡ W.Goal → ⊥) → case.positive_after ≡ false
+        → IfOk result HasAnchor }
+    ensures action { IfOk result (λ query. IfSome query.action (λ action. action ≡ 0)) }
+    ensures one { IfOk result (λ query. query.positive
+        ≡ record { which = case.positive; id = 0; after = case.positive_after } ∷ []) }
+    ensures alone { case.other ≡ None → IfOk result (λ query. query.negative
+        ≡ record { which = case.negative; id = 1; after = case.negative_after } ∷ []) }
+{
+    let mut query = Query {
+        positive: Operands::new(alloc),
+        negative: Operands::new(alloc),
+        action: if case.acts { Some(0) } else { None },
+    };
+    query
+        .positive
+        .push(operand(case.positive, 0, case.positive_after))?;
+    query
+        .negative
+        .push(operand(case.negative, 1, case.negative_after))?;
+    if let Some(which) = case.other {
+        query.negative.push(operand(which, 2, false))?;
+    }
+    Ok(query)
+}
+
+// A query of two positive operands.
+fn joined_query(alloc: Global, case: Case, joined: Which) -> Result<Query, AllocError>
+    requires positive { IsNamed 2 case.positive }
+    requires joined { IsNamed 2 joined }
+    requires negative { IsNamed 2 case.negative }
+    requires positive_after { case.acts ≡ false → case.positive_after ≡ false }
+    requires negative_after { case.acts ≡ false → case.negative_after ≡ false }
+    ensures ready { IfOk result (IsReady 2) }
+    ensures anchor { (case.positive ≡ W.Goal → ⊥) → IfOk result HasAnchor }
+    ensures action { IfOk result (λ query. IfSome query.action (λ action. action ≡ 0)) }
+{
+    let mut query = Query {
+        positive: Operands::new(alloc),
+        negative: Operands::new(alloc),
+        action: if case.acts { Some(0) } else { None },
+    };
+    query.positive.push(operand(case.positive, 0, false))?;
+    query
+        .positive
+        .push(operand(joined, 1, case.positive_after))?;
+    query
+        .negative
+        .push(operand(case.negative, 2, case.negative_after))?;
+    Ok(query)
+}
+
+fn query_of(alloc: Global, case: Case) -> Result<Query, AllocError>
+    requires positive { IsNamed 2 case.positive }
+    requires joined { IfSome case.joined (IsNamed 2) }
+    requires negative { IsNamed 2 case.negative }
+    requires other { IfSome case.other (IsNamed 2) }
+    requires positive_after { case.acts ≡ false → case.positive_after ≡ false }
+    requires negative_after { case.acts ≡ false → case.negative_after ≡ false }
+    ensures ready { IfOk result (IsReady 2) }
+    ensures anchor { (case.positive ≡ W.Goal → ⊥)
+        → (case.joined ≡ None → case.positive_after ≡ false) → IfOk result HasAnchor }
+    ensures action { IfOk result (λ query. IfSome query.action (λ action. action ≡ 0)) }
+{
+    match case.joined {
+        None => plain_query(alloc, case),
+        Some(joined) => joined_query(alloc, case, joined),
+    }
+}
+
+// The states of an operand, or those of which the result of the action is one.
+fn states_of(which: Which, after: bool, wanted: Wanted) -> u32 {
+    let mask = match which {
+        Which::Empty => 0,
+        Which::Start => START_STATES,
+        Which::Goal => GOAL_STATES,
+        Which::Set(0) => wanted.sets[0],
+        Which::Set(_) => wanted.sets[1],
+    };
+    if after { leading_to(mask) } else { mask }
+}
+
+// The states that are counterexamples.
+fn clashes_of(case: Case, wanted: Wanted) -> u32 {
+    let mut mask = if case.acts { holding(wanted.pre) } else { ALL };
+    let first_after = case.positive_after && case.joined.is_none();
+    mask &= states_of(case.positive, first_after, wanted);
+    if let Some(joined) = case.joined {
+        mask &= states_of(joined, case.positive_after, wanted);
+    }
+    if let Some(other) = case.other {
+        mask &= !states_of(other, false, wanted);
+    }
+    mask & !states_of(case.negative, case.negative_after, wanted)
+}
+
+fn clauses_in(which: Which, wanted: Wanted) -> u64 {
+    match which {
+        Which::Empty => 1,
+        Which::Start => 3,
+        Which::Goal => 2,
+        Which::Set(0) => wanted.sizes[0],
+        Which::Set(_) => wanted.sizes[1],
+    }
+}
+
+fn listed_in(which: Which, wanted: Wanted) -> u64 {
+    match which {
+        Which::Empty | Which::Goal => 0,
+        Which::Start => 1,
+        Which::Set(0) => wanted.sizes[0],
+        Which::Set(_) => wanted.sizes[1],
+    }
+}
+
+// No set of these tests is so large that the product wraps.
+fn cost_of(case: Case, wanted: Wanted) -> u64 {
+    if wanted.by_anchor {
+        return listed_in(case.positive, wanted);
+    }
+    let one = clauses_in(case.negative, wanted);
+    match case.other {
+        None => one,
+        Some(other) => one.wrapping_mul(clauses_in(other, wanted)),
+    }
+}
+
+fn ask<F: Family>(
+    sets: &F,
+    alloc: Global,
+    task: &Task,
+    query: &Query,
+    budget: u64,
+    scratch: &mut Scratch,
+) -> Result<Finding, AllocError>
+    requires ready { IsReady (F.count sets.now) query.now }
+    requires anchor { F.wants_anchor sets.now → HasAnchor query.now }
+    requires task { F.is_over sets.now (atoms task.now) }
+    requires action { IfSome query.now.action (λ action. action < length task.now.actions) }
+{
+    sets.find(alloc, task, query, budget, scratch)
+}
+
+// Whether the query is answered as all states say, within each budget.
+fn is_answered<F: Family>(
+    alloc: Global,
+    task: &Task,
+    sets: &F,
+    wanted: Wanted,
+    number: u32,
+    scratch: &mut Scratch,
+) -> Result<bool, AllocError>
+    requires actions { length task.now.actions ≡ 1 }
+    requires count { F.count sets.now ≡ 2 }
+    requires over { F.is_over sets.now (atoms task.now) }
+    requires anchor { F.wants_anchor sets.now → wanted.by_anchor ≡ true }
+{
+    let case = case_of(number);
+    if !is_askable(wanted.by_anchor, case) {
+        return Ok(true);
+    }
+    let query = query_of(alloc, case)?;
+    let clashes = clashes_of(case, wanted);
+    for budget in [0, 1, 2, 3, 4, u64::MAX] {
+        let found = ask(sets, alloc, task, &query, budget, scratch)?;
+        let is_over = cost_of(case, wanted) > budget;
+        if !fits(found, scratch.state(), clashes, is_over) {
+            return Ok(false);
+        }
+    }
+    Ok(true)
+}
+
+// The number of the first query that is answered wrongly.
+fn first_wrong<F: Family>(
+    alloc: Global,
+    task: &Task,
+    sets: &F,
+    wanted: Wanted,
+) -> Result<Option<u32>, AllocError>
+    requires actions { length task.now.actions ≡ 1 }
+    requires count { F.count sets.now ≡ 2 }
+    requires over { F.is_over sets.now (atoms task.now) }
+    requires anchor { F.wants_anchor sets.now → wanted.by_anchor ≡ true }
+{
+    let mut scratch = Scratch::new(alloc)?;
+    for number in 0..CASES {
+        if !is_answered(alloc, task, sets, wanted, number, &mut scratch)? {
+            return Ok(Some(number));
+        }
+    }
+    Ok(None)
+}
+
+// How many clauses the operand has.
+fn room_of<K: ClauseKind>(task: &Task, sets: &Formulas<K>, which: Which) -> usize
+    requires { IsNamed (length sets.now) which }
+    ensures { result ≡ clauses_of task.now (sizes_of (formula_at sets.now)) which }
+{
+    match which {
+        Which::Empty => 1,
+        Which::Start => task.atoms() as usize,
+        Which::Goal => task.goal().len(),
+        Which::Set(number) => sets.get(number).clauses().len(),
+    }
+}
+
+// Asks a query of one positive and one negative operand, with the room that it wants.
+fn ask_in<K: ClauseKind>(
+    alloc: Global,
+    task: &Task,
+    sets: &Formulas<K>,
+    case: Case,
+    budget: u64,
+    scratch: &mut Scratch,
+) -> Result<Finding, AllocError>
+    requires actions { length task.now.actions ≡ 1 }
+    requires count { length sets.now ≡ 2 }
+    requires over { AreOver sets.now (atoms task.now) }
+    requires positive { IsNamed 2 case.positive }
+    requires negative { IsNamed 2 case.negative }
+    requires other { case.other ≡ None }
+    requires positive_after { case.acts ≡ false → case.positive_after ≡ false }
+    requires negative_after { case.acts ≡ false → case.negative_after ≡ false }
+{
+    let query = plain_query(alloc, case)?;
+    let positive = room_of(task, sets, case.positive);
+    let negative = room_of(task, sets, case.negative);
+    if positive > 1000 || negative > 1000 {
+        return Err(AllocError);
+    }
+    scratch.reserve(task.atoms(), 2, positive + negative)?;
+    Ok(sets.find_in(task, &query, budget, scratch))
+}
+
+// Whether a query of one positive and one negative operand is answered as all states say.
+fn is_answered_in<K: ClauseKind>(
+    alloc: Global,
+    task: &Task,
+    sets: &Formulas<K>,
+    wanted: Wanted,
+    number: u32,
+    budget: u64,
+    scratch: &mut Scratch,
+) -> Result<bool, AllocError>
+    requires actions { length task.now.actions ≡ 1 }
+    requires count { length sets.now ≡ 2 }
+    requires over { AreOver sets.now (atoms task.now) }
+{
+    let case = Case {
+        joined: None,
+        other: None,
+        ..case_of(number)
+    };
+    let found = ask_in(alloc, task, sets, case, budget, scratch)?;
+    let is_over = cost_of(case, wanted) > budget;
+    Ok(fits(found, scratch.state(), clashes_of(case, wanted), is_over))
+}
+
+fn first_wrong_in<K: ClauseKind>(
+    alloc: Global,
+    task: &Task,
+    sets: &Formulas<K>,
+    wanted: Wanted,
+    budget: u64,
+) -> Result<Option<u32>, AllocError>
+    requires actions { length task.now.actions ≡ 1 }
+    requires count { length sets.now ≡ 2 }
+    requires over { AreOver sets.now (atoms task.now) }
+{
+    let mut scratch = Scratch::new(alloc)?;
+    for number in 0..PLAIN_CASES {
+        if !is_answered_in(alloc, task, sets, wanted, number, budget, &mut scratch)? {
+            return Ok(Some(number));
+        }
+    }
+    Ok(None)
+}
+
+fn store_of<K: ClauseKind>(
+    alloc: Global,
+    task: &Task,
+    first: &[u32],
+    second: &[u32],
+) -> Result<Formulas<K>, K::Fault>
+    requires { atoms task.now ≡ 3 }
+    ensures len { IfOk result (λ sets. length sets ≡ 2) }
+    ensures over { IfOk result (λ sets. AreOver sets 3) }
+{
+    let mut sets = Formulas::<K>::new(alloc);
+    sets.add(formula_of::<K>(alloc, task, first)?)?;
+    sets.add(formula_of::<K>(alloc, task, second)?)?;
+    Ok(sets)
+}
+
+fn clauses_wanted(pre: u32, first: &[u32], second: &[u32]) -> Wanted
+    ensures { result.by_anchor ≡ false }
+{
+    Wanted {
+        sets: [states_of_clauses(first), states_of_clauses(second)],
+        sizes: [first.len() as u64, second.len() as u64],
+        pre,
+        by_anchor: false,
+    }
+}
+
+// Whether the queries of the sets of these clauses are answered rightly, where the action asks for
+// these atoms.
+fn clauses_are_right<K: ClauseKind>(
+    alloc: Global,
+    pre: u32,
+    first: &[u32],
+    second: &[u32],
+) -> Result<bool, K::Fault> {
+    let task = task_of(alloc, pre)?;
+    let sets = store_of::<K>(alloc, &task, first, second)?;
+    let wanted = clauses_wanted(pre, first, second);
+    for budget in [0, 1, 2, 3, 4, u64::MAX] {
+        if first_wrong_in(alloc, &task, &sets, wanted, budget)?.is_some() {
+            return Ok(false);
+        }
+    }
+    Ok(first_wrong(alloc, &task, &sets, wanted)?.is_none())
+}
+
+// The same of those of one positive and one negative operand alone.
+fn pair_is_right<K: ClauseKind>(
+    alloc: Global,
+    first: &[u32],
+    second: &[u32],
+) -> Result<bool, K::Fault> {
+    let task = task_of(alloc, 1)?;
+    let sets = store_of::<K>(alloc, &task, first, second)?;
+    let wanted = clauses_wanted(1, first, second);
+    Ok(first_wrong_in(alloc, &task, &sets, wanted, 4)?.is_none())
+}
+
+fn listings_of(
+    alloc: Global,
+    task: &Task,
+    first: &[u32],
+    second: &[u32],
+) -> Result<Explicits, AllocError>
+    requires { atoms task.now ≡ 3 }
+    ensures len { IfOk result (λ sets. length sets ≡ 2) }
+    ensures over { IfOk result (λ sets. listing.AreOver sets 3) }
+{
+    let mut sets = Explicits::new(alloc);
+    sets.add(explicit_of(alloc, task, first)?)?;
+    sets.add(explicit_of(alloc, task, second)?)?;
+    Ok(sets)
+}
+
+// The same for the sets of these states.
+fn listings_are_right(
+    alloc: Global,
+    pre: u32,
+    first: &[u32],
+    second: &[u32],
+) -> Result<bool, AllocError> {
+    let task = task_of(alloc, pre)?;
+    let sets = listings_of(alloc, &task, first, second)?;
+    let wanted = Wanted {
+        sets: [states_of_list(first), states_of_list(second)],
+        sizes: [first.len() as u64, second.len() as u64],
+        pre,
+        by_anchor: true,
+    };
+    Ok(first_wrong(alloc, &task, &sets, wanted)?.is_none())
+}
+
+// A clause to stand beside another: the empty one, one that is true in all states, implications,
+// and a denial of two atoms.
+fn beside(code: u32) -> u32 {
+    [0, 3, 18, 24, 34, 40][code as usize % 6]
+}
+
+// Without a precondition first, and then with one and each literal twice.
+#[test]
+fn horn_formulas_answer_as_all_states_say(rt: HostRuntime) -> Result<(), Fail> {
+    let alloc = rt.alloc();
+    for code in 0..128 {
+        if is_horn_code(code) {
+            let sets = [code, beside(code)];
+            assert!(rt; clauses_are_right::<HornKind>(alloc, code / 64, &sets, &sets[1..])?);
+        }
+    }
+    assert!(rt; clauses_are_right::<HornKind>(alloc, 1, &[18, 9, 40], &[])?);
+    Ok(())
+}
+
+#[test]
+fn all_pairs_of_horn_clauses_answer_as_all_states_say(rt: HostRuntime) -> Result<(), Fail> {
+    let alloc = rt.alloc();
+    for one in 0..64 {
+        for other in 0..64 {
+            if is_horn_code(one) && is_horn_code(other) {
+                assert!(rt; pair_is_right::<HornKind>(alloc, &[one, other], &[other])?);
+            }
+        }
+    }
+    Ok(())
+}
+
+// The first formula has no state, which no clause of one literal shows.
+#[test]
+fn two_cnf_formulas_answer_as_all_states_say(rt: HostRuntime) -> Result<(), Fail> {
+    let alloc = rt.alloc();
+    let none = [5, 9, 6, 10];
+    assert!(rt; clauses_are_right::<TwoKind>(alloc, 0, &none, &[5])?);
+    assert!(rt; clauses_are_right::<TwoKind>(alloc, 1, &[9, 24, 6], &none)?);
+    assert!(rt; clauses_are_right::<TwoKind>(alloc, 1, &[], &[5, 34])?);
+    for code in 0..128 {
+        if is_two_code(code) {
+            let sets = [code, beside(code)];
+            assert!(rt; clauses_are_right::<TwoKind>(alloc, code / 64, &sets, &sets[1..])?);
+        }
+    }
+    Ok(())
+}
+
+#[test]
+fn listed_states_answer_as_all_states_say(rt: HostRuntime) -> Result<(), Fail> {
+    let alloc = rt.alloc();
+    let all = [0, 1, 2, 3, 4, 5, 6, 7];
+    for pre in 0..2 {
+        assert!(rt; listings_are_right(alloc, pre, &[], &all)?);
+        assert!(rt; listings_are_right(alloc, pre, &[5], &[6])?);
+        assert!(rt; listings_are_right(alloc, pre, &[7, 5, 3, 1], &[2, 3, 6, 7])?);
+        assert!(rt; listings_are_right(alloc, pre, &[1, 4, 5, 7], &[5, 4, 2, 1, 5])?);
+        assert!(rt; listings_are_right(alloc, pre, &all, &[0, 7])?);
+        assert!(rt; listings_are_right(alloc, pre, &[2, 3], &[2, 3])?);
+    }
+    Ok(())
+}

@@ -1,0 +1,249 @@
+//! A task of three atoms, its states, and sets of states, all as numbers.
+//!
+//! A state is a code below 8, with a bit for each atom. A clause is a code below 128, with a bit
+//! for each literal: the place of a literal is twice its atom, and one more if it is negative. With
+//! 64 each of them stands there twice. Several states are a mask, with a bit for the code of each.
+
+ghost use Rattle.std.specs.Prelude.{◌≡◌, ◌<◌, IfOk, OnOk, length};
+ghost use Rattle.hv_task.specs.State.{AreBelow};
+ghost use Rattle.hv_task.specs.Strips.{atoms};
+ghost use Rattle.hv_sets.specs.Cubes.{SpeakBelow};
+ghost use Rattle.hv_clauses.specs.Clausal.{AreClauses};
+
+use hv_clauses::{ClauseKind, Formula};
+use hv_explicit::Explicit;
+use hv_sets::{Clause, Clauses, Finding, Literal, StateList};
+use hv_task::{Action, AtomList, Name, State, Task};
+use std::alloc::{AllocError, Global};
+
+const START: u32 = 5;
+
+const GOAL: u32 = 6;
+
+const ADD: u32 = 2;
+
+const DEL: u32 = 3;
+
+// The start alone.
+pub(crate) const START_STATES: u32 = 32;
+
+// The states with the atoms 1 and 2.
+pub(crate) const GOAL_STATES: u32 = 192;
+
+// All states.
+pub(crate) const ALL: u32 = 255;
+
+pub(crate) fn has_bit(bits: u32, place: u32) -> bool
+    requires { place < 32 }
+{
+    (bits >> place) & 1 == 1
+}
+
+fn put_atom(list: &mut AtomList, code: u32, atom: u32) -> Result<(), AllocError>
+    requires atom { atom < 3 }
+    requires list { AreBelow 3 list.old }
+    ensures { OnOk result (AreBelow 3 list.new) }
+{
+    if !has_bit(code, atom) {
+        return Ok(());
+    }
+    list.insert(atom)?;
+    Ok(())
+}
+
+fn atoms_of(alloc: Global, code: u32) -> Result<AtomList, AllocError>
+    ensures { IfOk result (λ list. AreBelow 3 list) }
+{
+    let mut list = AtomList::new(alloc);
+    put_atom(&mut list, code, 0)?;
+    put_atom(&mut list, code, 1)?;
+    put_atom(&mut list, code, 2)?;
+    Ok(list)
+}
+
+pub(crate) fn state_from(alloc: Global, code: u32) -> Result<State, AllocError>
+    ensures { IfOk result (λ state. length state ≡ 3) }
+{
+    let mut state = State::empty(alloc, 3)?;
+    state.hold(&atoms_of(alloc, code)?);
+    Ok(state)
+}
+
+// Whether it is one of the states of the mask.
+fn is_one_of(state: &State, mask: u32) -> bool {
+    if state.atoms() != 3 {
+        return false;
+    }
+    let code = state.has(0) as u32 + 2 * (state.has(1) as u32) + 4 * (state.has(2) as u32);
+    code < 8 && has_bit(mask, code)
+}
+
+// Whether it is right that a state of the mask was found, or not, and what was found is one.
+pub(crate) fn is_found(found: bool, mask: u32, state: &State) -> bool {
+    if found {
+        is_one_of(state, mask)
+    } else {
+        mask == 0
+    }
+}
+
+// Whether this is the answer where those of the mask are the counterexamples.
+pub(crate) fn fits(found: Finding, state: &State, mask: u32, is_over: bool) -> bool {
+    match found {
+        Finding::Over => is_over,
+        Finding::Clash => !is_over && is_found(true, mask, state),
+        Finding::Empty => !is_over && is_found(false, mask, state),
+    }
+}
+
+// The action asks for these atoms; it deletes and adds atom 1, and deletes atom 0.
+pub(crate) fn task_of(alloc: Global, pre: u32) -> Result<Task, AllocError>
+    ensures atoms { IfOk result (λ task. atoms task ≡ 3) }
+    ensures actions { IfOk result (λ task. length task.actions ≡ 1) }
+{
+    let mut task = Task::new(alloc);
+    task.add_atom(Name::new(alloc, b"p")?)?;
+    task.add_atom(Name::new(alloc, b"q")?)?;
+    task.add_atom(Name::new(alloc, b"r")?)?;
+    task.set_start(atoms_of(alloc, START)?);
+    task.set_goal(atoms_of(alloc, GOAL)?);
+    let action = Action {
+        name: Name::new(alloc, b"go")?,
+        cost: 1,
+        pre: atoms_of(alloc, pre)?,
+        add: atoms_of(alloc, ADD)?,
+        del: atoms_of(alloc, DEL)?,
+    };
+    task.add_action(action)?;
+    Ok(task)
+}
+
+// The states in which all these atoms are.
+pub(crate) fn holding(atoms: u32) -> u32 {
+    let mut mask = 0;
+    for code in 0..8 {
+        if code & atoms == atoms {
+            mask |= 1 << code;
+        }
+    }
+    mask
+}
+
+// The states of which the result of the action is one of these.
+pub(crate) fn leading_to(mask: u32) -> u32 {
+    let mut before = 0;
+    for code in 0..8 {
+        if has_bit(mask, ((code & 4) | ADD) % 8) {
+            before |= 1 << code;
+        }
+    }
+    before
+}
+
+fn literal_at(place: u32) -> Literal
+    requires { place < 6 }
+    ensures { result.atom < 3 }
+{
+    Literal {
+        atom: place / 2,
+        positive: place % 2 == 0,
+    }
+}
+
+fn put_literal(clause: &mut Clause, code: u32, place: u32) -> Result<(), AllocError>
+    requires place { place < 6 }
+    requires clause { SpeakBelow 3 clause.old }
+    ensures { OnOk result (SpeakBelow 3 clause.new) }
+{
+    if !has_bit(code, place) {
+        return Ok(());
+    }
+    clause.push(literal_at(place))?;
+    if !has_bit(code, 6) {
+        return Ok(());
+    }
+    clause.push(literal_at(place))?;
+    Ok(())
+}
+
+fn clause_from(alloc: Global, code: u32) -> Result<Clause, AllocError>
+    ensures { IfOk result (SpeakBelow 3) }
+{
+    let mut clause = Clause::new(alloc);
+    for place in 0..6 {
+        put_literal(&mut clause, code, place)?;
+    }
+    Ok(clause)
+}
+
+fn clauses_from(alloc: Global, codes: &[u32]) -> Result<Clauses, AllocError>
+    ensures { IfOk result (AreClauses 3) }
+{
+    let mut clauses = Clauses::new(alloc);
+    for code in codes {
+        clauses.push(clause_from(alloc, *code)?)?;
+    }
+    Ok(clauses)
+}
+
+// The set of these clauses.
+pub(crate) fn formula_of<K: ClauseKind>(
+    alloc: Global,
+    task: &Task,
+    codes: &[u32],
+) -> Result<Formula<K>, K::Fault>
+    requires { atoms task.now ≡ 3 }
+    ensures { IfOk result (λ set. set.atoms ≡ 3) }
+{
+    let set = Formula::<K>::new(alloc, task, &clauses_from(alloc, codes)?)?;
+    Ok(set)
+}
+
+// The set of these states, each as often as it is listed.
+pub(crate) fn explicit_of(alloc: Global, task: &Task, codes: &[u32]) -> Result<Explicit, AllocError>
+    requires { atoms task.now ≡ 3 }
+    ensures { IfOk result (λ set. set.atoms ≡ 3) }
+{
+    let mut states = StateList::new(alloc);
+    for code in codes {
+        states.push(atoms_of(alloc, *code)?)?;
+    }
+    let set = Explicit::new(alloc, task, &states)?;
+    Ok(set)
+}
+
+fn is_clause_true(clause: u32, code: u32) -> bool {
+    (0..6).any(|place| has_bit(clause, place) && has_bit(code, place / 2) == (place % 2 == 0))
+}
+
+// The states in which each clause is true.
+pub(crate) fn states_of_clauses(clauses: &[u32]) -> u32 {
+    let mut mask = 0;
+    for code in 0..8 {
+        if clauses.iter().all(|clause| is_clause_true(*clause, code)) {
+            mask |= 1 << code;
+        }
+    }
+    mask
+}
+
+// The listed states.
+pub(crate) fn states_of_list(codes: &[u32]) -> u32 {
+    let mut mask = 0;
+    for code in 0..8 {
+        if codes.contains(&code) {
+            mask |= 1 << code;
+        }
+    }
+    mask
+}
+
+// Whether a clause has positive literals of one atom at most.
+pub(crate) fn is_horn_code(clause: u32) -> bool {
+    (clause & 21).count_ones() <= 1
+}
+
+// Whether a clause has at most two different literals.
+pub(crate) fn is_two_code(clause: u32) -> bool {
+    (clause & 63).count_ones() <= 2
+}
