@@ -23,7 +23,7 @@ use Rattle.hv_bdd.specs.Live.{Setting, asked_of, asks_goal, changed_by, is_marke
 use Rattle.hv_bdd.specs.Graphs.{Agrees, Suits, in_asked, in_graph, matches, over}
 use Rattle.hv_bdd.proofs.Chained.{first_is, match_at, match_from}
 use Rattle.hv_bdd.proofs.Marked.{mark_of-needed, mark_of-no_marks, over_action, over_none}
-use Rattle.hv_bdd.proofs.Ordered.{order_of}
+use Rattle.hv_bdd.specs.Ordered.{order_of}
 
 module _ (list : NodeList) (task : Strips) (query : Query) (size : list.atoms ≡ atoms task) where
   abbrev pub S : Setting

@@ -5,13 +5,13 @@ use Rattle.std.proofs.lemmas.List.{get_or_append_left, get_or_at, length-append}
 use Rattle.std.proofs.lemmas.List.Folds.{list_any_at}
 use Rattle.std.specs.List.{list_any}
 use Rattle.hv_bdd.specs.declared.node.Node.{Node}
-use Rattle.hv_bdd.specs.declared.node.NodeFault.{NodeFault}
-use Rattle.hv_bdd.specs.declared.node.NodeFault.TheVariants as N
+use Rattle.hv_bdd.specs.declared.fault.NodeKind.{NodeKind}
+use Rattle.hv_bdd.specs.declared.fault.NodeKind.TheVariants as N
 use Rattle.hv_bdd.specs.Building.{fault_of, is_later, or_twin, same_node, with_node}
 use Rattle.hv_bdd.specs.Nodes.{NodeList, node_count}
 use Rattle.hv_bdd.specs.Order.{place}
 use Rattle.hv_bdd.specs.Reduced.{IsReduced, node_at, top}
-use Rattle.hv_bdd.proofs.Walking.{top_inner}
+use Rattle.hv_bdd.specs.Walking.{top_inner}
 
 -- what a node without faults passes
 pub record Passes (list : NodeList) (node : Node) : Type 0 where
@@ -23,7 +23,7 @@ pub record Passes (list : NodeList) (node : Node) : Type 0 where
   pub apart : node.low ≡ node.high → ⊥
   pub new : list_any (same_node node) list.nodes ≡ false
 
-none_some : (f : NodeFault) → ◌≡◌ {A = Option NodeFault} (Some f) None → ⊥
+none_some : (f : NodeKind) → ◌≡◌ {A = Option NodeKind} (Some f) None → ⊥
 none_some f e = absurd cc
 
 module _ (list : NodeList) (node : Node) where

@@ -14,7 +14,7 @@ use Rattle.hv_bdd.specs.Search.{IsEnd, IsExplored, IsSearch, IsTuple, link_at, s
 use Rattle.hv_bdd.specs.Tuples.{IsReached, TuplesPass, is_live, least, move_all, next}
 use Rattle.hv_bdd.proofs.Explored.{all_there, item_at, items, passes, within_budget}
 use Rattle.hv_bdd.proofs.Moved.{back, back_fits, complete_from, ended, next_is}
-use Rattle.hv_bdd.proofs.Ordered.{order_of}
+use Rattle.hv_bdd.specs.Ordered.{order_of}
 use Rattle.hv_bdd.proofs.Steps.{least_below}
 use Rattle.hv_bdd.proofs.Tupled.{lim, nodes_of, reached_live, reached_tuple, roots_nodes, truths}
 

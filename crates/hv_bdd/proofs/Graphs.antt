@@ -15,8 +15,8 @@ use Rattle.hv_bdd.specs.Live.{Setting, asks_goal, child, mark_of, moves, or_else
 use Rattle.hv_bdd.proofs.Chained.{chain_end, chain_free, chain_later, chain_step, chain_within, top_end as chain_top_end, top_inner as chain_top_inner}
 use Rattle.hv_bdd.proofs.Marked.{has_atom-over, length-over}
 use Rattle.hv_bdd.proofs.Moved.{IsTrueTo}
-use Rattle.hv_bdd.proofs.Ordered.{order_of}
-use Rattle.hv_bdd.proofs.Walking.{atom_at_top, child_later, child_less, free, in_end, in_inner, top_end, top_less}
+use Rattle.hv_bdd.specs.Ordered.{order_of}
+use Rattle.hv_bdd.specs.Walking.{atom_at_top, child_later, child_less, free, in_end, in_inner, top_end, top_less}
 
 module _ (S : Setting) where
   abbrev pub limit : Which → ℕ

@@ -1,5 +1,3 @@
-pub mod Ordered
-pub mod Walking
 pub mod Canonical
 pub mod Moved
 pub mod Chained
@@ -13,3 +11,9 @@ pub mod Found
 pub mod Queried
 pub mod Within
 pub mod Built
+pub mod Stacked
+pub mod Counted
+pub mod Tripled
+pub mod Turned
+pub mod Prefixed
+pub mod OneAnswer

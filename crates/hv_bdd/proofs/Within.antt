@@ -27,7 +27,7 @@ use Rattle.hv_bdd.specs.Search.{IsSearch, IsWithin, setting}
 use Rattle.hv_bdd.specs.Sets.{Finds, mark_literals}
 use Rattle.hv_bdd.specs.Tuples.{IsReached, TuplesPass}
 use Rattle.hv_bdd.proofs.Marked.{length-no_marks, mark_of-no_marks}
-use Rattle.hv_bdd.proofs.Ordered.{order_of}
+use Rattle.hv_bdd.specs.Ordered.{order_of}
 use Rattle.hv_bdd.proofs.Tupled.{reached_tuple}
 
 pub length-mark_literals : (ls : List Literal) (marks : List (Option Bool)) → length (mark_literals ls marks) ≡ length marks

@@ -2,8 +2,9 @@
 use Rattle.std.specs.Prelude.{◌++◌, ◌&&◌, ℕ, Bool, [], ◌∷◌, Option, None, Some, cond, nat_eq, nat_lt}
 use Rattle.std.specs.List.{list_any}
 use Rattle.hv_bdd.specs.declared.node.Node.{Node}
-use Rattle.hv_bdd.specs.declared.node.NodeFault.{NodeFault}
-use Rattle.hv_bdd.specs.declared.node.NodeFault.TheVariants as N
+use Rattle.hv_bdd.specs.declared.numbers.Triple.{Triple}
+use Rattle.hv_bdd.specs.declared.fault.NodeKind.{NodeKind}
+use Rattle.hv_bdd.specs.declared.fault.NodeKind.TheVariants as N
 use Rattle.hv_bdd.specs.Nodes.{NodeList, node_count}
 use Rattle.hv_bdd.specs.Order.{place}
 use Rattle.hv_bdd.specs.Reduced.{top}
@@ -17,7 +18,7 @@ abbrev pub is_later : NodeList → ℕ → ℕ → Bool
 is_later list atom child = nat_lt (place list atom) (top list child)
 
 -- the first of the faults of a further node that can be seen from it alone, if it has one
-abbrev pub plain_fault : NodeList → Node → Option NodeFault
+abbrev pub plain_fault : NodeList → Node → Option NodeKind
 plain_fault list node =
     cond (nat_lt node.atom list.atoms)
     (cond (nat_lt node.low (node_count list) && nat_lt node.high (node_count list))
@@ -28,13 +29,17 @@ plain_fault list node =
     (Some N.Atom)
 
 -- without another fault, a node may be one that is listed
-abbrev pub or_twin : NodeList → Node → Option NodeFault → Option NodeFault
+abbrev pub or_twin : NodeList → Node → Option NodeKind → Option NodeKind
 or_twin list node None = cond (list_any (same_node node) list.nodes) (Some N.Twin) None
 or_twin list node (Some fault) = Some fault
 
 -- the first of the faults that a further node has, if it has one
-abbrev pub fault_of : NodeList → Node → Option NodeFault
+abbrev pub fault_of : NodeList → Node → Option NodeKind
 fault_of list node = or_twin list node (plain_fault list node)
+
+-- the node of these numbers
+abbrev pub as_node : Triple → Node
+as_node triple = record { atom = triple.atom; low = triple.low; high = triple.high }
 
 -- the list with one node more
 abbrev pub with_node : NodeList → Node → NodeList

@@ -12,16 +12,19 @@ use Rattle.hv_bdd.specs.Order.{atom_at}
 use Rattle.hv_bdd.specs.Live.{Setting, asks_goal, moves, or_else, roots, start_bit}
 use Rattle.hv_bdd.specs.Tuples.{Moves, TuplesPass}
 
--- In a chain over so many places with these atoms, some places are asked for, each with the bit that is wanted there.
+-- In a chain over so many places with these atoms, some places are asked for, each with the bit
+-- that is wanted there.
 module _ (n : ℕ) (atom_at : ℕ → ℕ) (asks bits : ℕ → Bool) where
   -- the state has the wanted bit at each place that is asked for, of so many from one on
   abbrev pub matches : List Bool → ℕ → ℕ → Bool
   matches s zero v = true
-  matches s (suc more) v = (not (asks v) || beq (has_atom s (atom_at v)) (bits v)) && matches s more (v + 1)
+  matches s (suc more) v =
+      (not (asks v) || beq (has_atom s (atom_at v)) (bits v)) && matches s more (v + 1)
 
   -- the state is in a node of the chain
   abbrev pub in_chain : List Bool → ℕ → Bool
-  in_chain s i = cond (nat_lt i 2) (nat_eq i 1) (beq (has_atom s (atom_at (i - 2))) (bits (i - 2)) && matches s (n - (i - 1)) (i - 1))
+  in_chain s i = cond (nat_lt i 2) (nat_eq i 1)
+      (beq (has_atom s (atom_at (i - 2))) (bits (i - 2)) && matches s (n - (i - 1)) (i - 1))
 
 -- the state with the marked bits
 abbrev pub over : List (Option Bool) → List Bool → List Bool
@@ -65,7 +68,8 @@ module _ {O : Type 0} (truth : O → List Bool → ℕ → Bool) (wants : O → 
 
 -- the state is one of the task and has the bits that are needed
 abbrev pub Fits : {O : Type 0} → Moves O → List Bool → Type 0
-Fits m s = (length s ≡ m.atoms) × ((v : ℕ) → v < m.atoms → m.allows v (has_atom s (m.atom_at v)) ≡ true)
+Fits m s =
+    (length s ≡ m.atoms) × ((v : ℕ) → v < m.atoms → m.allows v (has_atom s (m.atom_at v)) ≡ true)
 
 -- the state has the bits that are needed, and is in each positive operand and in no negative one
 abbrev pub Suits : Setting → List Asked → List Bool → Type 0
@@ -74,6 +78,7 @@ Suits S os s = Fits (moves S) s × Agrees (in_asked S) (λ o. o.positive) s os (
 -- the exact answer of a search through live tuples
 abbrev pub IsLiveAnswer : Finding → Setting → List Asked → ℕ → List Bool → Type 0
 IsLiveAnswer F.Over S os budget found = TuplesPass (moves S) os (roots S os) budget
-IsLiveAnswer F.Clash S os budget found = (TuplesPass (moves S) os (roots S os) budget → ⊥) × Suits S os found
+IsLiveAnswer F.Clash S os budget found =
+    (TuplesPass (moves S) os (roots S os) budget → ⊥) × Suits S os found
 IsLiveAnswer F.Empty S os budget found =
     (TuplesPass (moves S) os (roots S os) budget → ⊥) × ((s : List Bool) → Suits S os s → ⊥)

@@ -7,3 +7,11 @@ pub mod Graphs
 pub mod Sets
 pub mod Search
 pub mod Building
+pub mod Paths
+pub mod NodeText
+pub mod Reading
+pub mod Words
+pub mod Ordered
+pub mod Walking
+pub mod Cubed
+pub mod Laws

@@ -48,11 +48,14 @@ needed_by atoms (Some action) = mark_all true action.pre (no_marks atoms)
 -- what it changes: the bit is 0 where it deletes an atom, and 1 where it adds one
 abbrev pub changed_by : ℕ → Option Action → List (Option Bool)
 changed_by atoms None = no_marks atoms
-changed_by atoms (Some action) = mark_all true action.add (mark_all false action.del (no_marks atoms))
+changed_by atoms (Some action) =
+    mark_all true action.add (mark_all false action.del (no_marks atoms))
 
--- Chains: graphs that ask for some places in their order and want a bit at each. Node v + 2 asks for place v.
+-- Chains: graphs that ask for some places in their order and want a bit at each. Node v + 2 asks
+-- for place v.
 
--- the first place that is asked for, of so many places from this one on, as a node; 1 where there is none
+-- the first place that is asked for, of so many places from this one on, as a node; 1 where there
+-- is none
 abbrev pub first_asked : (ℕ → Bool) → ℕ → ℕ → ℕ
 first_asked asks zero v = 1
 first_asked asks (suc more) v = cond (asks v) (v + 2) (first_asked asks more (v + 1))
@@ -62,10 +65,11 @@ chain_top atoms node = cond (nat_lt node 2) atoms (node - 2)
 
 -- with the wanted bit it goes on to the next place, and else to node 0
 abbrev pub chain_child : ℕ → (ℕ → Bool) → (ℕ → Bool) → ℕ → Bool → ℕ
-chain_child atoms asks bits node bit = cond (beq bit (bits (node - 2))) (first_asked asks (atoms - (node - 1)) (node - 1)) 0
+chain_child atoms asks bits node bit =
+    cond (beq bit (bits (node - 2))) (first_asked asks (atoms - (node - 1)) (node - 1)) 0
 
--- what tuples move through: the nodes, the initial state and the goal as flags by atom, what the state before the action needs, and
--- what the action changes
+-- what tuples move through: the nodes, the initial state and the goal as flags by atom, what the
+-- state before the action needs, and what the action changes
 pub record Setting : Type 0 where
   pub list : NodeList
   pub start : List Bool
@@ -134,4 +138,5 @@ setting_of list task query = record {
 -- the cost of a query is the number of live tuples: more than the budget are reached
 abbrev pub LivePass : NodeList → Strips → Query → ℕ → Type 0
 LivePass list task query budget =
-    TuplesPass (moves (setting_of list task query)) (operands_of query) (roots (setting_of list task query) (operands_of query)) budget
+    TuplesPass (moves (setting_of list task query)) (operands_of query)
+    (roots (setting_of list task query) (operands_of query)) budget

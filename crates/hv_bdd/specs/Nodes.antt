@@ -36,7 +36,7 @@ abbrev pub walk : NodeList → List Bool → ℕ → ℕ → ℕ
 walk list state zero node = node
 walk list state (suc steps) node = walk list state steps (next_node list state node)
 
--- the walk ends at node 1: since each step leads to a lower number, it takes no more steps than there
--- are nodes
+-- the walk ends at node 1: since each step leads to a lower number, it takes no more steps than
+-- there are nodes
 abbrev pub in_node : NodeList → ℕ → List Bool → Bool
 in_node list node state = nat_eq (walk list state (length list.nodes) node) 1

@@ -1,4 +1,5 @@
--- The order in which diagrams ask for atoms: each atom has a place in it, and whatever is said of diagrams is said by places.
+-- The order in which diagrams ask for atoms: each atom has a place in it, and whatever is said of
+-- diagrams is said by places.
 use Rattle.std.specs.Prelude.{◌≡◌, ◌<◌, ℕ}
 use Rattle.hv_bdd.specs.Nodes.{NodeList}
 

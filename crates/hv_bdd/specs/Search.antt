@@ -38,7 +38,8 @@ goal_setting list goal = record { list = list; start = []; goal = goal; needed =
 -- the table has the first goal node from each place on
 pub record IsGoalTable (S : Setting) (table : List ℕ) : Type 0 where
   pub size : length table ≡ S.list.atoms + 1
-  pub each : (v : ℕ) → v ≤ S.list.atoms → slice_index_or table v 0 ≡ first_asked (asks_goal S) (S.list.atoms - v) v
+  pub each : (v : ℕ) → v ≤ S.list.atoms
+      → slice_index_or table v 0 ≡ first_asked (asks_goal S) (S.list.atoms - v) v
 
 -- what is at hand suffices for this operand
 abbrev pub IsAskable : Search → Which → Type 0
@@ -57,7 +58,8 @@ pub record IsSearch (s : Search) : Type 0 where
 -- the tuple has a node of each operand
 pub record IsTuple (s : Search) (nodes : List ℕ) : Type 0 where
   pub size : length nodes ≡ length s.asked.now
-  pub each : (k : ℕ) (o : Asked) → k < length nodes → slice_index_or nodes k 0 < limit (setting s) (slice_index_or s.asked.now k o).which
+  pub each : (k : ℕ) (o : Asked) → k < length nodes
+      → slice_index_or nodes k 0 < limit (setting s) (slice_index_or s.asked.now k o).which
 
 -- the tuples of a set, in order
 abbrev pub tuples_of : {H : Type 0} → IndexSet (SmallVec ℕ) H → List (List ℕ)
@@ -67,11 +69,14 @@ tuples_of set = map (λ v. v.items) set.keys
 abbrev pub IsPut : List (List ℕ) → List Link → List ℕ → Link → List (List ℕ) → List Link → Type 0
 IsPut tuples links tuple link tuples' links' =
     (Contains tuples tuple × (tuples' ≡ tuples) × (links' ≡ links))
-    ⊎ ((Contains tuples tuple → ⊥) × (tuples' ≡ tuples ++ tuple ∷ []) × (links' ≡ links ++ link ∷ []))
+    ⊎ ((Contains tuples tuple → ⊥) × (tuples' ≡ tuples ++ tuple ∷ [])
+    × (links' ≡ links ++ link ∷ []))
 
-abbrev pub IsPutSome : List (List ℕ) → List Link → Option (List ℕ) → Link → List (List ℕ) → List Link → Type 0
+abbrev pub IsPutSome : List (List ℕ) → List Link → Option (List ℕ) → Link → List (List ℕ)
+    → List Link → Type 0
 IsPutSome tuples links None link tuples' links' = (tuples' ≡ tuples) × (links' ≡ links)
-IsPutSome tuples links (Some tuple) link tuples' links' = IsPut tuples links tuple link tuples' links'
+IsPutSome tuples links (Some tuple) link tuples' links' =
+    IsPut tuples links tuple link tuples' links'
 
 -- the tuple at a place, and the link to it
 abbrev pub tuple_at : List (List ℕ) → ℕ → List ℕ
@@ -81,7 +86,8 @@ abbrev pub link_at : List Link → ℕ → Link
 link_at links k = slice_index_or links k record { parent = 0; bit = false }
 
 -- what was found after the moves of so many tuples
-pub record IsExplored {O : Type 0} (m : Moves O) (os : List O) (root : List ℕ) (done : ℕ) (tuples : List (List ℕ)) (links : List Link) : Type 0 where
+pub record IsExplored {O : Type 0} (m : Moves O) (os : List O) (root : List ℕ) (done : ℕ)
+    (tuples : List (List ℕ)) (links : List Link) : Type 0 where
   pub size : length links ≡ length tuples
   pub upto : done ≤ length tuples
   -- each tuple is reached, and none stands twice
@@ -91,21 +97,25 @@ pub record IsExplored {O : Type 0} (m : Moves O) (os : List O) (root : List ℕ)
   pub roots : (u : List ℕ) → if_live m os root ≡ Some u → Contains tuples u
   pub first : 0 < length tuples → if_live m os root ≡ Some (tuple_at tuples 0)
   -- the moves of the first so many lead to tuples among them
-  pub closed : (k : ℕ) (bit : Bool) (u : List ℕ) → k < done → next m os (tuple_at tuples k) bit ≡ Some u → Contains tuples u
+  pub closed : (k : ℕ) (bit : Bool) (u : List ℕ) → k < done
+      → next m os (tuple_at tuples k) bit ≡ Some u → Contains tuples u
   -- each other tuple is led to from an earlier one by its bit
   pub parent : (k : ℕ) → 0 < k → k < length tuples → (link_at links k).parent < k
   pub linked : (k : ℕ) → 0 < k → k < length tuples
-      → next m os (tuple_at tuples (link_at links k).parent) (link_at links k).bit ≡ Some (tuple_at tuples k)
+      → next m os (tuple_at tuples (link_at links k).parent) (link_at links k).bit
+      ≡ Some (tuple_at tuples k)
 
 -- the same of a search
 abbrev pub Explored : Search → ℕ → Reached → Type 0
 Explored s done reached =
-    IsExplored (moves (setting s)) s.asked.now (roots (setting s) s.asked.now) done (tuples_of reached.tuples) reached.links.items
+    IsExplored (moves (setting s)) s.asked.now (roots (setting s) s.asked.now) done
+    (tuples_of reached.tuples) reached.links.items
 
 -- all tuples that are reached were found, or more of them than the budget
 abbrev pub IsDone : Search → ℕ → Reached → Type 0
 IsDone s budget reached =
-    (done : ℕ) × Explored s done reached × ((budget < length reached.tuples.keys) ⊎ (length reached.tuples.keys ≤ done))
+    (done : ℕ) × Explored s done reached
+    × ((budget < length reached.tuples.keys) ⊎ (length reached.tuples.keys ≤ done))
 
 -- a tuple of ends
 abbrev pub IsEnd : Search → List ℕ → Type 0

@@ -7,7 +7,8 @@ pub record Moves (O : Type 0) : Type 0 where
   pub atoms : ℕ
   -- the atom at a place
   pub atom_at : ℕ → ℕ
-  -- the place for which a node of an operand asks; an end asks for none, and has the place past all others
+  -- the place for which a node of an operand asks; an end asks for none, and has the place past all
+  -- others
   pub top : O → ℕ → ℕ
   -- the node to which a bit leads
   pub child : O → ℕ → Bool → ℕ
@@ -25,7 +26,8 @@ module _ {O : Type 0} (m : Moves O) where
   least (o ∷ os) [] = m.atoms
   least (o ∷ os) (i ∷ nodes) = min (m.top o i) (least os nodes)
 
-  -- no place of the tuple is the end that rules its operand out: 0 for a positive one, 1 for a negative one
+  -- no place of the tuple is the end that rules its operand out: 0 for a positive one, 1 for a
+  -- negative one
   abbrev pub is_live : List O → List ℕ → Bool
   is_live [] nodes = true
   is_live (o ∷ os) [] = true
@@ -46,7 +48,8 @@ module _ {O : Type 0} (m : Moves O) where
 
   -- the live tuple to which a bit at this place leads, if there is one
   abbrev pub move_at : List O → List ℕ → ℕ → Bool → Option (List ℕ)
-  move_at os nodes v bit = cond (nat_lt v m.atoms && m.allows v bit) (if_live os (move_all v bit os nodes)) None
+  move_at os nodes v bit =
+      cond (nat_lt v m.atoms && m.allows v bit) (if_live os (move_all v bit os nodes)) None
 
   -- the same at its least place
   abbrev pub next : List O → List ℕ → Bool → Option (List ℕ)
@@ -58,7 +61,8 @@ module _ {O : Type 0} (m : Moves O) where
   follow os (bit ∷ bits) None = None
   follow os (bit ∷ bits) (Some nodes) = follow os bits (next os nodes bit)
 
-  -- the tuple is reached: some list of bits leads to it from the tuple of roots, which, like it and each one on the way, is live
+  -- the tuple is reached: some list of bits leads to it from the tuple of roots, which, like it and
+  -- each one on the way, is live
   abbrev pub IsReached : List O → List ℕ → List ℕ → Type 0
   IsReached os roots nodes = (bits : List Bool) × (follow os bits (if_live os roots) ≡ Some nodes)
 
@@ -66,4 +70,5 @@ module _ {O : Type 0} (m : Moves O) where
   abbrev pub TuplesPass : List O → List ℕ → ℕ → Type 0
   TuplesPass os roots budget =
       (tuples : List (List ℕ)) × (length tuples ≡ budget + 1) × All (IsReached os roots) tuples
-      × ((i j : ℕ) → i < j → j < length tuples → slice_index_or tuples i [] ≡ slice_index_or tuples j [] → ⊥)
+      × ((i j : ℕ) → i < j → j < length tuples
+      → slice_index_or tuples i [] ≡ slice_index_or tuples j [] → ⊥)

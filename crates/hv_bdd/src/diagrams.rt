@@ -1,17 +1,20 @@
-ghost use Rattle.std.specs.Prelude.{◌≡◌, ◌<◌, ◌≤◌, ◌↔◌, ◌&&◌, None, IsTrue, OnErr, OnOk, length, nat_lt};
-ghost use Rattle.hv_bdd.specs.Building.{fault_of, is_later, plain_fault, with_node};
+ghost use Rattle.std.specs.Prelude.{◌≡◌, ◌<◌, ◌≤◌, ◌↔◌, ◌&&◌, None, Some, IsTrue, MatchResult, OnErr, OnOk, length, nat_lt};
+ghost use Rattle.hv_bdd.specs.Building.{as_node, fault_of, is_later, plain_fault, with_node};
 ghost use Rattle.hv_bdd.specs.Nodes.{IsNode, in_node, no_nodes, node_count};
 ghost use Rattle.hv_bdd.specs.Order.{atom_at, place};
 ghost use Rattle.hv_bdd.specs.Reduced.{AreOneSet, IsReduced, child, node_at, top};
 
-use crate::node::{Node, NodeFault};
+use crate::fault::NodeKind;
+use crate::node::Node;
+use crate::numbers::Triple;
 use crate::set::DiagramSet;
 use hv_task::State;
 use std::alloc::{AllocError, Global};
 use std::marker::Model;
 
-/// The decision diagrams of a node file. Node 0 is false, node 1 is true, and the listed nodes have the numbers from 2 on. The list
-/// is reduced and ordered, so different nodes stand for different sets.
+/// The decision diagrams of a node file. Node 0 is false, node 1 is true, and the listed nodes have
+/// the numbers from 2 on. The list is reduced and ordered, so different nodes stand for different
+/// sets.
 #[derive(Drop)]
 pub struct Diagrams {
     atoms: u32,
@@ -45,6 +48,13 @@ impl Diagrams {
         ensures { result ≡ node_count self.now }
     {
         self.nodes.len() + 2
+    }
+
+    // How many nodes are listed.
+    pub(crate) fn listed(&self) -> usize
+        ensures { result ≡ length self.now.nodes }
+    {
+        self.nodes.len()
     }
 
     /// Whether the state is in the node.
@@ -136,37 +146,48 @@ impl Diagrams {
         place
     }
 
-    // What is wrong with a further node, but for a twin.
-    pub(crate) fn plain_fault(&self, node: &Node) -> Option<NodeFault>
-        ensures { result ≡ plain_fault self.now node.now }
+    // The node of these numbers, or the first of its faults that can be seen from it alone.
+    pub(crate) fn plain_node(&self, triple: &Triple) -> Result<Node, NodeKind>
+        ensures { MatchResult result
+            (λ node. (node ≡ as_node triple.now) × (plain_fault self.now node ≡ None))
+            (λ kind. plain_fault self.now (as_node triple.now) ≡ Some kind) }
     {
-        if node.atom >= self.atoms() {
-            return Some(NodeFault::Atom);
+        if triple.atom >= u64::from(self.atoms()) {
+            return Err(NodeKind::Atom);
         }
-        if !self.are_listed(node) {
-            return Some(NodeFault::Child);
+        if !self.are_listed(triple) {
+            return Err(NodeKind::Child);
         }
-        if !self.are_later(node) {
-            return Some(NodeFault::Order);
+        let node = Node {
+            atom: triple.atom as u32,
+            low: triple.low as u32,
+            high: triple.high as u32,
+        };
+        if !self.are_later(&node) {
+            return Err(NodeKind::Order);
         }
         if node.low == node.high {
-            return Some(NodeFault::SameChildren);
+            return Err(NodeKind::SameChildren);
         }
-        None
+        Ok(node)
     }
 
     // Whether its children are listed.
-    fn are_listed(&self, node: &Node) -> bool
-        ensures { result ≡ (nat_lt node.now.low (node_count self.now) && nat_lt node.now.high (node_count self.now)) }
+    fn are_listed(&self, triple: &Triple) -> bool
+        ensures { result ≡ (nat_lt triple.now.low (node_count self.now)
+            && nat_lt triple.now.high (node_count self.now)) }
     {
-        (node.low as usize) < self.count() && (node.high as usize) < self.count()
+        let count = self.count() as u64;
+        triple.low < count && triple.high < count
     }
 
     // Whether its children ask for later atoms.
     fn are_later(&self, node: &Node) -> bool
         requires low { IsNode self.now node.now.low }
         requires high { IsNode self.now node.now.high }
-        ensures { result ≡ (is_later self.now node.now.atom node.now.low && is_later self.now node.now.atom node.now.high) }
+        ensures { result
+            ≡ (is_later self.now node.now.atom node.now.low
+            && is_later self.now node.now.atom node.now.high) }
     {
         let place = self.place(node.atom);
         place < self.top(node.low) && place < self.top(node.high)

@@ -74,14 +74,17 @@ impl Search<'_> {
         requires query { IsFor self.now.nodes.now task.now query.now self.now }
         requires task { self.now.nodes.now.atoms ≡ atoms task.now }
         requires state { length state.old ≡ atoms task.now }
-        ensures { IfOk result (λ found. IsAnswer found (LivePass self.now.nodes.now task.now query.now budget) (atoms task.now) (is_clash task.now (in_node self.now.nodes.now) query.now) state.new) }
+        ensures { IfOk result (λ found.
+            IsAnswer found (LivePass self.now.nodes.now task.now query.now budget) (atoms task.now)
+            (is_clash task.now (in_node self.now.nodes.now) query.now) state.new) }
     {
         let _atoms = task.atoms();
         self.find(alloc, budget, state)
     }
 }
 
-// The operands of a query as the places of its tuples: the positive ones, and then the negative ones.
+// The operands of a query as the places of its tuples: the positive ones, and then the negative
+// ones.
 fn operands_of(alloc: Global, query: &Query) -> Result<Vec<Asked>, AllocError>
     ensures { IfOk result (λ asked. asked.items ≡ operands_of query.now) }
 {
@@ -112,7 +115,8 @@ fn needed_by(
     action: Option<u32>,
 ) -> Result<Vec<Option<bool>>, AllocError>
     requires { IfSome action (λ a. a < length task.now.actions) }
-    ensures { IfOk result (λ marks. marks.items ≡ needed_by (atoms task.now) (action_of task.now action)) }
+    ensures { IfOk result (λ marks.
+        marks.items ≡ needed_by (atoms task.now) (action_of task.now action)) }
 {
     let mut marks = vec![in alloc; None; task.atoms() as usize]?;
     if let Some(number) = action {
@@ -132,7 +136,8 @@ fn changed_by(
     action: Option<u32>,
 ) -> Result<Vec<Option<bool>>, AllocError>
     requires { IfSome action (λ a. a < length task.now.actions) }
-    ensures { IfOk result (λ marks. marks.items ≡ changed_by (atoms task.now) (action_of task.now action)) }
+    ensures { IfOk result (λ marks.
+        marks.items ≡ changed_by (atoms task.now) (action_of task.now action)) }
 {
     let mut marks = vec![in alloc; None; task.atoms() as usize]?;
     if let Some(number) = action {

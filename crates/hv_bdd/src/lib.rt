@@ -3,15 +3,25 @@
 
 pub mod asked;
 mod building;
+mod counts;
 pub mod diagrams;
 mod family;
+mod fault;
+mod laws;
 pub mod node;
+mod numbers;
 mod reach;
+mod read;
+mod reader;
 mod search;
 pub mod set;
+mod walk;
 
 pub use diagrams::Diagrams;
-pub use node::{Node, NodeFault};
+pub use fault::{NodeKind, NodeLimit, NodesFault};
+pub use laws::one_answer;
+pub use node::Node;
+pub use read::read_nodes;
 pub use set::DiagramSet;
 
 #[cfg(test)]

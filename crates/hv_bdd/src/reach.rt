@@ -1,4 +1,5 @@
-//! The search through live tuples: all that are reached, up to the budget, and the state of one that ends.
+//! The search through live tuples: all that are reached, up to the budget, and the state of one
+//! that ends.
 
 ghost use Rattle.std.specs.Prelude.{◌≡◌, ◌<◌, ◌+◌, ℕ, List, length, map, option_map, slice_index_or, [], IfOk, MatchOption, OnOk};
 ghost use Rattle.std.specs.List.{All};
@@ -24,7 +25,10 @@ impl Reached {
 
     // Puts the tuple last, if there is one and it isn't there.
     fn put(&mut self, tuple: Option<Tuple>, parent: usize, bit: bool) -> Result<(), AllocError>
-        ensures { OnOk result (IsPutSome (tuples_of self.old.tuples) self.old.links.items (option_map (λ t. t.items) tuple) record { parent = parent; bit = bit } (tuples_of self.new.tuples) self.new.links.items) }
+        ensures { OnOk result
+            (IsPutSome (tuples_of self.old.tuples) self.old.links.items
+            (option_map (λ t. t.items) tuple) record { parent = parent; bit = bit }
+            (tuples_of self.new.tuples) self.new.links.items) }
     {
         if let Some(tuple) = tuple {
             if self.tuples.insert(tuple)? {
@@ -47,7 +51,8 @@ impl Search<'_> {
     ) -> Result<Finding, AllocError>
         requires search { IsSearch self.now }
         requires state { length state.old ≡ self.now.nodes.now.atoms }
-        ensures { IfOk result (λ found. IsLiveAnswer found (setting self.now) self.now.asked.now budget state.new) }
+        ensures { IfOk result (λ found.
+            IsLiveAnswer found (setting self.now) self.now.asked.now budget state.new) }
     {
         let reached = self.reach(alloc, budget)?;
         if reached.tuples.len() as u64 > budget {
@@ -85,7 +90,10 @@ impl Search<'_> {
     // The tuple of the roots, if it is live.
     fn live_root(&self, alloc: Global) -> Result<Option<Tuple>, AllocError>
         requires { IsSearch self.now }
-        ensures { IfOk result (λ root. option_map (λ t. t.items) root ≡ if_live (moves (setting self.now)) self.now.asked.now (roots (setting self.now) self.now.asked.now)) }
+        ensures { IfOk result (λ root.
+            option_map (λ t. t.items) root
+            ≡ if_live (moves (setting self.now)) self.now.asked.now
+            (roots (setting self.now) self.now.asked.now)) }
     {
         let root = self.roots(alloc)?;
         if !self.is_live(root.as_slice()) {
@@ -114,7 +122,8 @@ impl Search<'_> {
     fn first_end(&self, tuples: &[Tuple]) -> Option<usize>
         requires search { IsSearch self.now }
         requires tuples { All (λ t. IsTuple self.now t.items) tuples.now }
-        ensures { MatchOption result (All (λ t. IsEnd self.now t.items → ⊥) tuples.now) (λ k. (k < length tuples.now) × IsEnd self.now (tuple_at (map (λ t. t.items) tuples.now) k)) }
+        ensures { MatchOption result (All (λ t. IsEnd self.now t.items → ⊥) tuples.now) (λ k.
+            (k < length tuples.now) × IsEnd self.now (tuple_at (map (λ t. t.items) tuples.now) k)) }
     {
         for (k, tuple) in tuples.iter().enumerate() {
             if self.least(tuple.as_slice()) == self.nodes.atoms() {
@@ -141,7 +150,8 @@ impl Search<'_> {
         requires explored { (done : ℕ) × Explored self.now done reached.now }
         requires end { end < length reached.now.tuples.keys }
         requires fits { Fits (moves (setting self.now)) state.old }
-        requires agrees { Agrees (in_asked (setting self.now)) (λ o. o.positive) state.old self.now.asked.now (tuple_at (tuples_of reached.now.tuples) end) }
+        requires agrees { Agrees (in_asked (setting self.now)) (λ o. o.positive) state.old
+            self.now.asked.now (tuple_at (tuples_of reached.now.tuples) end) }
         ensures { Suits (setting self.now) self.now.asked.now state.new }
     {
         let mut at = end;

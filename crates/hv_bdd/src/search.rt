@@ -104,7 +104,8 @@ impl Search<'_> {
     fn goal_from(&self, place: u32) -> u32
         requires askable { IsAskable self.now W.Goal }
         requires place { place ≤ self.now.nodes.now.atoms }
-        ensures { result ≡ first_asked (asks_goal (setting self.now)) (self.now.nodes.now.atoms - place) place }
+        ensures { result
+            ≡ first_asked (asks_goal (setting self.now)) (self.now.nodes.now.atoms - place) place }
     {
         self.first_goal[place as usize]
     }
@@ -135,7 +136,9 @@ impl Search<'_> {
     fn seen(&self, after: bool, place: u32, bit: bool) -> bool
         requires search { IsSearch self.now }
         requires place { place < self.now.nodes.now.atoms }
-        ensures { result ≡ cond after (or_else (mark_of self.now.changed.now (atom_at self.now.nodes.now place)) bit) bit }
+        ensures { result
+            ≡ cond after
+            (or_else (mark_of self.now.changed.now (atom_at self.now.nodes.now place)) bit) bit }
     {
         if after {
             or_else(self.changed[self.nodes.atom_at(place) as usize], bit)
@@ -148,7 +151,8 @@ impl Search<'_> {
     fn allows(&self, place: u32, bit: bool) -> bool
         requires search { IsSearch self.now }
         requires place { place < self.now.nodes.now.atoms }
-        ensures { result ≡ is_marked (mark_of self.now.needed.now (atom_at self.now.nodes.now place)) bit }
+        ensures { result
+            ≡ is_marked (mark_of self.now.needed.now (atom_at self.now.nodes.now place)) bit }
     {
         is_marked(self.needed[self.nodes.atom_at(place) as usize], bit)
     }
@@ -191,7 +195,9 @@ impl Search<'_> {
         requires search { IsSearch self.now }
         requires tuple { IsTuple self.now tuple.now }
         requires place { place < self.now.nodes.now.atoms }
-        ensures { IfOk result (λ moved. moved.items ≡ move_all (moves (setting self.now)) place bit self.now.asked.now tuple.now) }
+        ensures { IfOk result (λ moved.
+            moved.items
+            ≡ move_all (moves (setting self.now)) place bit self.now.asked.now tuple.now) }
     {
         let mut moved = SmallVec::new(alloc);
         for (k, node) in tuple.iter().enumerate() {
@@ -226,7 +232,9 @@ impl Search<'_> {
         requires search { IsSearch self.now }
         requires tuple { IsTuple self.now tuple.now }
         requires least { place ≡ least (moves (setting self.now)) self.now.asked.now tuple.now }
-        ensures { IfOk result (λ to. option_map (λ t. t.items) to ≡ next (moves (setting self.now)) self.now.asked.now tuple.now bit) }
+        ensures { IfOk result (λ to.
+            option_map (λ t. t.items) to
+            ≡ next (moves (setting self.now)) self.now.asked.now tuple.now bit) }
     {
         if place >= self.nodes.atoms() || !self.allows(place, bit) {
             return Ok(None);

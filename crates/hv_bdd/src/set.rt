@@ -1,13 +1,20 @@
-ghost use Rattle.std.specs.Prelude.{◌≡◌, length, IfOk};
-ghost use Rattle.hv_sets.specs.Cubes.{SpeakBelow};
+ghost use Rattle.std.specs.Prelude.{◌≡◌, length, map, Some, IfOk};
+ghost use Rattle.std.proofs.Common.{ap};
+ghost use Rattle.hv_sets.specs.Cubes.{SpeakBelow, cube_of};
 ghost use Rattle.hv_bdd.specs.Nodes.{IsNode, in_node};
+ghost use Rattle.hv_bdd.specs.Paths.{Stands, left_at, path_cubes};
 ghost use Rattle.hv_bdd.specs.Reduced.{IsReduced};
 ghost use Rattle.hv_bdd.specs.Sets.{Finds, mark_literals};
+ghost use Rattle.hv_bdd.specs.Laws as laws;
 
 use crate::asked::Asked;
+use crate::counts::path_count;
 use crate::diagrams::Diagrams;
 use crate::search::Search;
-use hv_sets::{Covering, Cube, Finding, Literal, Scratch, StateSet, Which};
+use crate::walk::next;
+use hv_sets::{
+    Covering, Cube, Cursor, Finding, Inside, Literal, Outside, Scratch, StateSet, Step, Which,
+};
 use hv_task::State;
 use std::alloc::{AllocError, Global};
 use std::slice;
@@ -38,6 +45,56 @@ impl StateSet for DiagramSet<'_> {
     }
 }
 
+impl Outside for DiagramSet<'_> {
+    ghost outside = { λ set. map (λ cube. Some cube) (path_cubes set.nodes.now 0 set.node) };
+
+    ghost stands_outside = { λ set cursor. Stands set.nodes.now 0 cursor };
+
+    ghost outside_left = { λ set cursor.
+        map (λ cube. Some cube) (map cube_of (left_at set.nodes.now 0 set.node cursor)) };
+
+    fn outside_next(&self, cursor: &mut Cursor, cube: &mut Cube) -> Result<Step, AllocError> {
+        next(self.nodes, self.node, 0, cursor, cube)
+    }
+
+    fn outside_count(&self, alloc: Global, cap: u64) -> Result<u64, AllocError> {
+        path_count(alloc, self.nodes, self.node, 0, cap)
+    }
+
+    ghost starts_outside = { λ set cursor new. laws.stands_first set.nodes.now 0 cursor new };
+
+    ghost starts_with_outside = { λ set cursor new.
+        ap (λ ps. map (λ cube. Some cube) (map cube_of ps))
+        (laws.left_first set.nodes.now 0 set.node cursor new) };
+
+    ghost outside_is = { λ set state _.
+        laws.outside_is set.nodes.now set.node set.reduced set.within state };
+}
+
+impl Inside for DiagramSet<'_> {
+    ghost inside = { λ set. path_cubes set.nodes.now 1 set.node };
+
+    ghost stands_inside = { λ set cursor. Stands set.nodes.now 1 cursor };
+
+    ghost inside_left = { λ set cursor. map cube_of (left_at set.nodes.now 1 set.node cursor) };
+
+    fn inside_next(&self, cursor: &mut Cursor, cube: &mut Cube) -> Result<Step, AllocError> {
+        next(self.nodes, self.node, 1, cursor, cube)
+    }
+
+    fn inside_count(&self, alloc: Global, cap: u64) -> Result<u64, AllocError> {
+        path_count(alloc, self.nodes, self.node, 1, cap)
+    }
+
+    ghost starts_inside = { λ set cursor new. laws.stands_first set.nodes.now 1 cursor new };
+
+    ghost starts_with_inside = { λ set cursor new.
+        ap (map cube_of) (laws.left_first set.nodes.now 1 set.node cursor new) };
+
+    ghost inside_is = { λ set state _.
+        laws.inside_is set.nodes.now set.node set.reduced set.within state };
+}
+
 impl Covering for DiagramSet<'_> {
     fn covers(
         &self,
@@ -58,7 +115,8 @@ impl Covering for DiagramSet<'_> {
     }
 }
 
-// Whether some state of the cube is in the node (true) or outside it (false). One such state is then left in the state.
+// Whether some state of the cube is in the node (true) or outside it (false). One such state is
+// then left in the state.
 fn find(
     alloc: Global,
     nodes: &Diagrams,
@@ -70,7 +128,8 @@ fn find(
     requires node { IsNode nodes.now node }
     requires cube { SpeakBelow nodes.now.atoms cube.now }
     requires state { length state.old ≡ nodes.now.atoms }
-    ensures { IfOk result (λ yes. Finds inside yes nodes.now.atoms (in_node nodes.now node) cube.now state.new) }
+    ensures { IfOk result (λ yes.
+        Finds inside yes nodes.now.atoms (in_node nodes.now node) cube.now state.new) }
 {
     let none = State::empty(alloc, 0)?;
     let atoms = nodes.atoms() as usize;
@@ -110,7 +169,9 @@ impl Search<'_> {
         requires within { IsWithin node inside cube.now self.now }
         requires cube { SpeakBelow self.now.nodes.now.atoms cube.now }
         requires state { length state.old ≡ self.now.nodes.now.atoms }
-        ensures { IfOk result (λ yes. Finds inside yes self.now.nodes.now.atoms (in_node self.now.nodes.now node) cube.now state.new) }
+        ensures { IfOk result (λ yes.
+            Finds inside yes self.now.nodes.now.atoms (in_node self.now.nodes.now node) cube.now
+            state.new) }
     {
         let _literals = cube.as_slice();
         match self.find(alloc, self.nodes.count() as u64, state)? {

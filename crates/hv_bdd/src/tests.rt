@@ -1,5 +1,532 @@
-use crate::Diagrams;
+ghost use Rattle.std.specs.Prelude.{◌≡◌, ◌<◌, ◌≤◌, ◌^◌, false, None, IfOk, length};
+ghost use Rattle.hv_task.specs.State.{AreBelow};
+ghost use Rattle.hv_task.specs.Strips.{atoms};
+ghost use Rattle.hv_sets.specs.Query.{IsNamed, IsReady};
+ghost use Rattle.hv_sets.specs.declared.finding.Finding.TheVariants as F;
+ghost use Rattle.hv_bdd.specs.Nodes.{node_count};
+
+use crate::{Diagrams, NodesFault, read_nodes};
+use hv_bytes::{Limits, MemoryShelf, SureShelf};
+use hv_sets::{
+    Cube, Cursor, Family, Finding, Inside, Operand, Operands, Outside, Query, Scratch, Step, Which,
+};
+use hv_task::{Action, AtomList, Name, State, Task};
+use std::alloc::{AllocError, Global};
 use std::test::Fail;
+
+const NAME: &str = "nodes";
+
+/// Node files over two atoms, and what is answered.
+const FILES: &[(&str, &str)] = &[
+    ("nodes 0", "read"),
+    ("nodes 0\n", "read"),
+    ("nodes 2\n1 1 0\n0 2 0\n", "read"),
+    ("", "place 1 header"),
+    ("\n", "place 1 header"),
+    ("nodes", "place 1 header"),
+    ("nodes ", "place 1 header"),
+    ("nodes 01", "place 1 header"),
+    ("nodes  1", "place 1 header"),
+    ("nodes 1 ", "place 1 header"),
+    ("nodes 1\r", "place 1 header"),
+    ("Nodes 1", "place 1 header"),
+    ("\nnodes 0", "place 1 header"),
+    ("nodes 1000000000000000000", "place 1 header"),
+    ("nodes 999999999999999999", "limit 1 nodes"),
+    ("nodes 16777217", "limit 1 nodes"),
+    ("nodes 16777216", "place 2 node"),
+    ("nodes 1", "place 2 node"),
+    ("nodes 1\n", "place 2 node"),
+    ("nodes 1\n\n", "place 2 node"),
+    ("nodes 1\n0 0", "place 2 node"),
+    ("nodes 1\n0 0 ", "place 2 node"),
+    ("nodes 1\n0 0 1 ", "place 2 node"),
+    ("nodes 1\n 0 0 1", "place 2 node"),
+    ("nodes 1\n0  0 1", "place 2 node"),
+    ("nodes 1\n0 0 1 0", "place 2 node"),
+    ("nodes 1\n00 0 1", "place 2 node"),
+    ("nodes 1\n0 00 1", "place 2 node"),
+    ("nodes 1\n0 0 01", "place 2 node"),
+    ("nodes 1\n9 9 x", "place 2 node"),
+    ("nodes 1\n2 0 1", "place 2 atom"),
+    ("nodes 1\n2 9 9", "place 2 atom"),
+    ("nodes 1\n4294967296 0 1", "place 2 atom"),
+    ("nodes 1\n0 0 2", "place 2 child"),
+    ("nodes 1\n0 2 2", "place 2 child"),
+    ("nodes 1\n0 4294967296 1", "place 2 child"),
+    ("nodes 2\n1 0 1\n1 1 4294967298", "place 3 child"),
+    ("nodes 2\n0 0 1\n1 2 1", "place 3 order"),
+    ("nodes 2\n0 0 1\n0 1 2", "place 3 order"),
+    ("nodes 2\n0 0 1\n0 2 2", "place 3 order"),
+    ("nodes 2\n1 0 1\n0 2 1", "read"),
+    ("nodes 1\n0 1 1", "place 2 same_children"),
+    ("nodes 2\n1 0 1\n0 2 2", "place 3 same_children"),
+    ("nodes 2\n0 0 1\n0 0 1", "place 3 twin"),
+    ("nodes 2\n0 0 1\n0 1 0", "read"),
+    ("nodes 2\n0 0 1\n1 0 1", "read"),
+    ("nodes 3\n1 0 1\n0 2 1\n1 0 1", "place 4 twin"),
+    ("nodes 0\n0 0 1", "place 2 end"),
+    ("nodes 1\n0 0 1\n\n", "place 3 end"),
+    ("nodes 1\n0 0 1\n0 0 1", "place 3 end"),
+];
+
+fn read(alloc: Global, text: &[u8], atoms: u32, limits: Limits) -> Result<Diagrams, NodesFault>
+    requires line { limits.line ≤ 2 ^ 62 }
+    requires file { limits.file ≤ 2 ^ 62 }
+    ensures { IfOk result (λ list. list.atoms ≡ atoms) }
+{
+    let mut shelf = SureShelf::new(alloc);
+    shelf.add(NAME, text)?;
+    read_nodes(alloc, &mut shelf, NAME, atoms, limits)
+}
+
+// The answer to a file over two atoms, in the words of the program.
+fn answer(alloc: Global, text: &[u8], limits: Limits) -> Result<String, AllocError>
+    requires line { limits.line ≤ 2 ^ 62 }
+    requires file { limits.file ≤ 2 ^ 62 }
+{
+    match read(alloc, text, 2, limits) {
+        Ok(_list) => format!(in alloc; "read"),
+        Err(NodesFault::Place(line, kind)) => format!(in alloc; "place {line} {}", kind.word()),
+        Err(NodesFault::Limit(line, limit)) => format!(in alloc; "limit {line} {}", limit.word()),
+        Err(NodesFault::ReadFault) => format!(in alloc; "read fault"),
+        Err(NodesFault::Memory) => Err(AllocError),
+    }
+}
+
+#[test]
+fn node_files_and_their_first_faults(rt: HostRuntime) -> Result<(), Fail> {
+    for (text, want) in FILES {
+        let told = answer(rt.alloc(), text.as_bytes(), Limits::STANDARD)?;
+        assert_eq!(rt; told.as_str(), *want, "{text:?}");
+    }
+    Ok(())
+}
+
+#[test]
+fn each_beginning_of_a_file_is_refused_where_it_ends(rt: HostRuntime) -> Result<(), Fail> {
+    let text = b"nodes 2\n1 1 0\n0 2 0\n";
+    // Up to how many bytes this is answered.
+    let rows: [(usize, &str); 4] = [
+        (6, "place 1 header"),
+        (12, "place 2 node"),
+        (18, "place 3 node"),
+        (20, "read"),
+    ];
+    let mut from = 0;
+    for (last, want) in rows {
+        for end in from..last + 1 {
+            assert!(rt; end <= text.len());
+            let told = answer(rt.alloc(), &text[..end], Limits::STANDARD)?;
+            assert_eq!(rt; told.as_str(), want, "cut at {end}");
+        }
+        from = last + 1;
+    }
+    Ok(())
+}
+
+#[test]
+fn long_lines_and_failing_reads(rt: HostRuntime) -> Result<(), Fail> {
+    let text = b"nodes 1\n0 0 1\n";
+    for (line, file, want) in [
+        (7, 13, "read"),
+        (6, 13, "limit 1 long"),
+        (7, 12, "limit 2 long"),
+        (7, 6, "limit 1 long"),
+        (4, 99, "limit 1 long"),
+    ] {
+        let told = answer(rt.alloc(), text, Limits { line, file })?;
+        assert_eq!(rt; told.as_str(), want, "line {line} file {file}");
+    }
+    // The open, two reads of seven bytes, and the read of no bytes.
+    for (call, fails) in [(1, true), (2, true), (3, true), (4, true), (5, false)] {
+        let mut shelf = MemoryShelf::new(rt.alloc(), 7);
+        shelf.add(NAME, text)?;
+        shelf.fail_at(call)?;
+        let failed = match read_nodes(rt.alloc(), &mut shelf, NAME, 2, Limits::STANDARD) {
+            Err(NodesFault::ReadFault) => true,
+            outcome => {
+                let _list = outcome?;
+                false
+            }
+        };
+        assert_eq!(rt; failed, fails, "call {call}");
+    }
+    Ok(())
+}
+
+/// Six nodes over three atoms: the last atom and its negation, the last two different and alike, an
+/// odd number of atoms, and the first atom with the last two different.
+const SIX: &[u8] = b"nodes 6\n2 0 1\n2 1 0\n1 2 3\n1 3 2\n0 4 5\n0 0 4\n";
+
+/// For each of the nodes 0 to 7, the initial state, the goal and the empty set, which states are in
+/// it: the eight states in the order of their numbers, whose bits are the atoms.
+const SETS: [&[u8; 8]; 11] = [
+    b"00000000",
+    b"11111111",
+    b"00001111",
+    b"11110000",
+    b"00111100",
+    b"11000011",
+    b"01101001",
+    b"00010100",
+    b"01000000",
+    b"00001111",
+    b"00000000",
+];
+
+// Whether the state of this number is in the set of this one.
+fn is_in(set: usize, number: usize) -> bool
+    requires set { set < 11 }
+    requires number { number < 8 }
+{
+    SETS[set][number] == b'1'
+}
+
+fn operand_of(set: usize) -> Which
+    requires { set < 11 }
+    ensures { IsNamed 8 result }
+{
+    match set {
+        8 => Which::Start,
+        9 => Which::Goal,
+        10 => Which::Empty,
+        _ => Which::Set(set),
+    }
+}
+
+// The state of this number.
+fn state_of(alloc: Global, number: usize) -> Result<State, AllocError>
+    ensures { IfOk result (λ state. length state ≡ 3) }
+{
+    let mut state = State::empty(alloc, 3)?;
+    state.set(0, number % 2 == 1);
+    state.set(1, number / 2 % 2 == 1);
+    state.set(2, number / 4 % 2 == 1);
+    Ok(state)
+}
+
+// The number of the state.
+fn number_of(state: &State) -> usize
+    requires { length state.now ≡ 3 }
+    ensures { result < 8 }
+{
+    let mut number = 0;
+    if state.has(0) {
+        number += 1;
+    }
+    if state.has(1) {
+        number += 2;
+    }
+    if state.has(2) {
+        number += 4;
+    }
+    number
+}
+
+fn one_atom(alloc: Global, atom: u32) -> Result<AtomList, AllocError>
+    requires { atom < 3 }
+    ensures { IfOk result (λ list. AreBelow 3 list) }
+{
+    let mut list = AtomList::new(alloc);
+    list.insert(atom)?;
+    Ok(list)
+}
+
+// Three atoms; the action leads from atom 0 to atom 1, the initial state has atom 0 alone, and the
+// goal is atom 2.
+fn task_of_three(alloc: Global) -> Result<Task, AllocError>
+    ensures atoms { IfOk result (λ task. atoms task ≡ 3) }
+    ensures actions { IfOk result (λ task. length task.actions ≡ 1) }
+{
+    let mut task = Task::new(alloc);
+    task.add_atom(Name::new(alloc, b"p")?)?;
+    task.add_atom(Name::new(alloc, b"q")?)?;
+    task.add_atom(Name::new(alloc, b"r")?)?;
+    task.set_start(one_atom(alloc, 0)?);
+    task.set_goal(one_atom(alloc, 2)?);
+    let action = Action {
+        name: Name::new(alloc, b"go")?,
+        cost: 1,
+        pre: one_atom(alloc, 0)?,
+        add: one_atom(alloc, 1)?,
+        del: one_atom(alloc, 0)?,
+    };
+    task.add_action(action)?;
+    Ok(task)
+}
+
+/// How a query asks: about the state alone, with the negative operand asked after the action, or
+/// with the positive one.
+#[derive(Clone, Copy, Debug, PartialEq, Eq)]
+enum Mode {
+    Before,
+    NegativeAfter,
+    PositiveAfter,
+}
+
+// The query for a state in the one set and not in the other, each asked about the state before the
+// action or after it.
+fn query_of(
+    alloc: Global,
+    positive: Operand,
+    negative: Operand,
+    action: Option<u32>,
+) -> Result<Query, AllocError>
+    requires positive { IsNamed 8 positive.which }
+    requires negative { IsNamed 8 negative.which }
+    requires ids { positive.id < negative.id }
+    requires before { action ≡ None → positive.after ≡ false }
+    requires before_too { action ≡ None → negative.after ≡ false }
+    ensures ready { IfOk result (IsReady 8) }
+    ensures action { IfOk result (λ query. query.action ≡ action) }
+{
+    let mut query = Query {
+        positive: Operands::new(alloc),
+        negative: Operands::new(alloc),
+        action,
+    };
+    query.positive.push(positive)?;
+    query.negative.push(negative)?;
+    Ok(query)
+}
+
+// The answer to the query in this mode, and the state that is found.
+fn ask(
+    alloc: Global,
+    task: &Task,
+    list: &Diagrams,
+    positive: Which,
+    negative: Which,
+    mode: Mode,
+    budget: u64,
+    scratch: &mut Scratch,
+) -> Result<Finding, AllocError>
+    requires atoms { list.now.atoms ≡ atoms task.now }
+    requires nodes { node_count list.now ≡ 8 }
+    requires actions { length task.now.actions ≡ 1 }
+    requires positive { IsNamed 8 positive }
+    requires negative { IsNamed 8 negative }
+    ensures { IfOk result (λ found. found ≡ F.Clash → length scratch.new.state ≡ atoms task.now) }
+{
+    let action = if mode == Mode::Before { None } else { Some(0) };
+    let first = Operand {
+        which: positive,
+        id: 0,
+        after: mode == Mode::PositiveAfter,
+    };
+    let second = Operand {
+        which: negative,
+        id: 1,
+        after: mode == Mode::NegativeAfter,
+    };
+    let query = query_of(alloc, first, second, action)?;
+    list.find(alloc, task, &query, budget, scratch)
+}
+
+// Whether the state of this number is in the one set and not in the other, each asked about as the
+// mode says.
+fn is_clash(positive: usize, negative: usize, mode: Mode, number: usize) -> bool
+    requires positive { positive < 11 }
+    requires negative { negative < 11 }
+    requires number { number < 8 }
+{
+    // The action takes the first atom away and adds the second.
+    let after = number / 4 * 4 + 2;
+    let applies = number % 2 == 1;
+    match mode {
+        Mode::Before => is_in(positive, number) && !is_in(negative, number),
+        Mode::NegativeAfter => applies && is_in(positive, number) && !is_in(negative, after),
+        Mode::PositiveAfter => applies && is_in(positive, after) && !is_in(negative, number),
+    }
+}
+
+// Whether some state is one.
+fn has_clash(positive: usize, negative: usize, mode: Mode) -> bool
+    requires positive { positive < 11 }
+    requires negative { negative < 11 }
+{
+    for number in 0..8 {
+        if is_clash(positive, negative, mode, number) {
+            return true;
+        }
+    }
+    false
+}
+
+// Whether the answer to the query is the one that a look at all states gives.
+fn is_answered(
+    alloc: Global,
+    task: &Task,
+    list: &Diagrams,
+    positive: usize,
+    negative: usize,
+    mode: Mode,
+) -> Result<bool, AllocError>
+    requires atoms { list.now.atoms ≡ atoms task.now }
+    requires three { list.now.atoms ≡ 3 }
+    requires nodes { node_count list.now ≡ 8 }
+    requires actions { length task.now.actions ≡ 1 }
+    requires positive { positive < 11 }
+    requires negative { negative < 11 }
+{
+    let mut scratch = Scratch::new(alloc)?;
+    let found = ask(
+        alloc,
+        task,
+        list,
+        operand_of(positive),
+        operand_of(negative),
+        mode,
+        1000,
+        &mut scratch,
+    )?;
+    match found {
+        Finding::Clash => Ok(is_clash(positive, negative, mode, number_of(scratch.state()))),
+        Finding::Empty => Ok(!has_clash(positive, negative, mode)),
+        Finding::Over => Ok(false),
+    }
+}
+
+#[test]
+fn queries_are_answered_as_all_states_say(rt: HostRuntime) -> Result<(), Fail> {
+    let task = task_of_three(rt.alloc())?;
+    let list = read(rt.alloc(), SIX, 3, Limits::STANDARD)?;
+    assert_eq!(rt; list.count(), 8);
+    for positive in 0..11 {
+        for negative in 0..11 {
+            for mode in [Mode::Before, Mode::NegativeAfter, Mode::PositiveAfter] {
+                let right = is_answered(rt.alloc(), &task, &list, positive, negative, mode)?;
+                assert!(rt; right, "{positive} without {negative}, {mode:?}");
+            }
+        }
+    }
+    Ok(())
+}
+
+#[test]
+fn live_tuples_are_counted_before_a_state_is_answered(rt: HostRuntime) -> Result<(), Fail> {
+    let task = task_of_three(rt.alloc())?;
+    // Node 2 has the states without atom 1, and node 3 those of them without atom 0. The others
+    // only fill the list.
+    let text = b"nodes 6\n1 1 0\n0 2 0\n0 0 1\n0 1 0\n1 0 1\n2 0 1\n";
+    let list = read(rt.alloc(), text, 3, Limits::STANDARD)?;
+    assert_eq!(rt; list.count(), 8);
+    let two = Which::Set(2);
+    let three = Which::Set(3);
+    for (positive, negative, mode, budget, want) in [
+        (three, two, Mode::Before, 2, Finding::Empty),
+        (three, two, Mode::Before, 1, Finding::Over),
+        (two, three, Mode::Before, 4, Finding::Clash),
+        (two, three, Mode::Before, 3, Finding::Over),
+        (two, two, Mode::NegativeAfter, 2, Finding::Clash),
+        (two, two, Mode::NegativeAfter, 1, Finding::Over),
+        (Which::Empty, two, Mode::Before, 0, Finding::Empty),
+    ] {
+        let mut scratch = Scratch::new(rt.alloc())?;
+        let found = ask(
+            rt.alloc(),
+            &task,
+            &list,
+            positive,
+            negative,
+            mode,
+            budget,
+            &mut scratch,
+        )?;
+        assert_eq!(rt; found, want, "{positive:?} {negative:?} {budget}");
+    }
+    Ok(())
+}
+
+#[test]
+fn nodes_are_held_and_told_apart(rt: HostRuntime) -> Result<(), Fail> {
+    let list = read(rt.alloc(), SIX, 3, Limits::STANDARD)?;
+    assert_eq!(rt; list.count(), 8);
+    for node in 0..8 {
+        for number in 0..8 {
+            let state = state_of(rt.alloc(), number)?;
+            let held = list.holds(node as u32, &state);
+            assert_eq!(rt; held, is_in(node, number), "{number} in {node}");
+        }
+        for other in 0..8 {
+            assert_eq!(rt; list.same(node as u32, other as u32), node == other);
+        }
+    }
+    Ok(())
+}
+
+/// How many paths lead from each node to 0, and to 1.
+const PATHS: [(u64, u64); 8] = [
+    (1, 0),
+    (0, 1),
+    (1, 1),
+    (1, 1),
+    (2, 2),
+    (2, 2),
+    (4, 4),
+    (3, 2),
+];
+
+fn one_if(yes: bool) -> u64 {
+    if yes { 1 } else { 0 }
+}
+
+// How many cubes of the walk over the complement have the state, and how many there are. No walk
+// here has more than twenty.
+fn outside_walk<S: Outside>(alloc: Global, set: &S, state: &State) -> Result<(u64, u64), AllocError>
+    requires { S.atoms set.now ≡ length state.now }
+{
+    let mut cursor = Cursor::new(alloc);
+    let mut cube = Cube::new(alloc);
+    let mut having: u64 = 0;
+    for turn in 0..20_u64 {
+        match set.outside_next(&mut cursor, &mut cube)? {
+            Step::Cube => having = having.saturating_add(one_if(cube.has(state))),
+            _ => return Ok((having, turn)),
+        }
+    }
+    Ok((having, 20))
+}
+
+// The same of the walk over the set.
+fn inside_walk<S: Inside>(alloc: Global, set: &S, state: &State) -> Result<(u64, u64), AllocError>
+    requires { S.atoms set.now ≡ length state.now }
+{
+    let mut cursor = Cursor::new(alloc);
+    let mut cube = Cube::new(alloc);
+    let mut having: u64 = 0;
+    for turn in 0..20_u64 {
+        match set.inside_next(&mut cursor, &mut cube)? {
+            Step::Cube => having = having.saturating_add(one_if(cube.has(state))),
+            _ => return Ok((having, turn)),
+        }
+    }
+    Ok((having, 20))
+}
+
+#[test]
+fn walks_part_the_states(rt: HostRuntime) -> Result<(), Fail> {
+    let list = read(rt.alloc(), SIX, 3, Limits::STANDARD)?;
+    assert_eq!(rt; list.count(), 8);
+    for node in 0..8 {
+        let set = list.set(node as u32);
+        let (outside, inside) = PATHS[node];
+        for cap in [0, 1, 3, 100] {
+            assert_eq!(rt; set.outside_count(rt.alloc(), cap)?, outside.min(cap + 1));
+            assert_eq!(rt; set.inside_count(rt.alloc(), cap)?, inside.min(cap + 1));
+        }
+        for number in 0..8 {
+            let state = state_of(rt.alloc(), number)?;
+            let held = is_in(node, number);
+            let within = inside_walk(rt.alloc(), &set, &state)?;
+            assert_eq!(rt; within, (one_if(held), inside));
+            let without = outside_walk(rt.alloc(), &set, &state)?;
+            assert_eq!(rt; without, (one_if(!held), outside));
+        }
+    }
+    Ok(())
+}
 
 #[test]
 fn has_two_nodes_without_a_file(rt: HostRuntime) -> Result<(), Fail> {

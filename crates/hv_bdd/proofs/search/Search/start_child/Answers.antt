@@ -1,5 +1,5 @@
 use Rattle.std.proofs.Common.{◌-◌, arith}
-use Rattle.hv_bdd.proofs.Ordered.{order_of}
+use Rattle.hv_bdd.specs.Ordered.{order_of}
 use Rattle.hv_bdd.proofs.search.Search.start_child.Goals as goal
 
 pub has-requires : goal.has-requires

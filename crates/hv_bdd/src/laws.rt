@@ -1,0 +1,16 @@
+ghost use Rattle.std.specs.Prelude.{◌≡◌, ◌<◌, ◌^◌, ℕ, List};
+ghost use Rattle.hv_bytes.specs.Pieces.{Piece};
+ghost use Rattle.hv_bdd.specs.NodeText.{AreTextOf, IsFirstFault};
+ghost use Rattle.hv_bdd.specs.Nodes.{NodeList};
+ghost use Rattle.hv_bdd.specs.declared.fault.NodesFault.{NodesFault};
+
+/// The pieces of a node file have one answer: they are the text of one list at most, a text has no
+/// fault, and the first fault is one.
+pub fn one_answer()
+    ensures one_list { (atoms : ℕ) (pieces : List Piece) (s t : NodeList)
+        → atoms < 2 ^ 32 → AreTextOf atoms pieces s → AreTextOf atoms pieces t → s ≡ t }
+    ensures text_or_fault { (atoms : ℕ) (pieces : List Piece) (list : NodeList) (fault : NodesFault)
+        → atoms < 2 ^ 32 → AreTextOf atoms pieces list → IsFirstFault atoms pieces fault → ⊥ }
+    ensures one_fault { (atoms : ℕ) (pieces : List Piece) (f g : NodesFault)
+        → atoms < 2 ^ 32 → IsFirstFault atoms pieces f → IsFirstFault atoms pieces g → f ≡ g }
+{}
