@@ -3,3 +3,15 @@ pub mod Kept
 pub mod Reasons
 pub mod Decided
 pub mod Indexed
+pub mod Shaped
+pub mod Rising
+pub mod Questions
+pub mod Verdicts
+pub mod Named
+pub mod Truth
+pub mod Ready
+pub mod Judging
+pub mod Lengths
+pub mod Carried
+pub mod Basics
+pub mod Drafting

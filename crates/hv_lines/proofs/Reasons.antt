@@ -2,15 +2,20 @@
 use Rattle.std.proofs.Common.{◌≡◌, ℕ, zero, suc, ◌+◌, ◌<◌, ◌∙◌, List, inl, inr, refl, sym, ap, subst, arith, lit<}
 use Rattle.std.proofs.Math.Nat.{eq-or-lt_of_le}
 use Rattle.std.proofs.lemmas.Bool.Decides.{leb_tells}
-use Rattle.hv_lines.specs.Good.{IsBuilt, IsGood, IsKnown, IsReasonOf, LinePasses, RuleHolds, SidesAreBuilt, StatementHolds}
+use Rattle.hv_lines.specs.Good.{FamilyFits, HasNotVerdict, HasVerdictTrue, IsBuilt, IsFormed, IsGood, IsKnown, IsReasonOf, IsRefutedBy, LinePasses, RuleHolds, WhereBasic}
 use Rattle.hv_lines.specs.Numbering.{IsNext, IsNumbered}
-use Rattle.hv_lines.specs.Order.{Test, IsReasonBy, rank, reason_of}
+use Rattle.hv_lines.specs.Order.{Test, Gives, IsReasonBy, rank, without_state}
 use Rattle.hv_lines.specs.Order as O
 use Rattle.hv_lines.specs.Setting.{Setting}
+use Rattle.hv_lines.specs.Shapes.{HasShape}
 use Rattle.hv_lines.specs.Spelling.{IsSpelled}
 use Rattle.hv_lines.specs.declared.line.Line.{Line}
+use Rattle.hv_lines.specs.declared.line.Line.TheVariants as L
+use Rattle.hv_lines.specs.declared.reason.Clash.{Clash}
 use Rattle.hv_lines.specs.declared.reason.Reason.{Reason}
 use Rattle.hv_lines.specs.declared.reason.Reason.TheVariants as R
+use Rattle.hv_lines.specs.declared.verdict.Verdict.TheVariants as V
+use Rattle.hv_lines.proofs.Verdicts.{clash_once}
 
 -- the test of a rank
 test_at : ℕ → Test
@@ -19,9 +24,12 @@ test_at (suc zero) = O.Spelling
 test_at (suc (suc zero)) = O.Form
 test_at (suc (suc (suc zero))) = O.Number
 test_at (suc (suc (suc (suc zero)))) = O.Reference
-test_at (suc (suc (suc (suc (suc zero))))) = O.Sides
+test_at (suc (suc (suc (suc (suc zero))))) = O.Family
 test_at (suc (suc (suc (suc (suc (suc zero)))))) = O.Rule
-test_at (suc (suc (suc (suc (suc (suc (suc rest))))))) = O.Holding
+test_at (suc (suc (suc (suc (suc (suc (suc zero))))))) = O.Shape
+test_at (suc (suc (suc (suc (suc (suc (suc (suc zero)))))))) = O.Offered
+test_at (suc (suc (suc (suc (suc (suc (suc (suc (suc zero))))))))) = O.Budget
+test_at (suc (suc (suc (suc (suc (suc (suc (suc (suc (suc rest)))))))))) = O.Truth
 
 test_at-rank : (test : Test) → test_at (rank test) ≡ test
 unfolding test_at
@@ -30,24 +38,50 @@ test_at-rank O.Spelling = refl
 test_at-rank O.Form = refl
 test_at-rank O.Number = refl
 test_at-rank O.Reference = refl
-test_at-rank O.Sides = refl
+test_at-rank O.Family = refl
 test_at-rank O.Rule = refl
-test_at-rank O.Holding = refl
+test_at-rank O.Shape = refl
+test_at-rank O.Offered = refl
+test_at-rank O.Budget = refl
+test_at-rank O.Truth = refl
 
 -- no two tests have one rank
 rank_once : (a b : Test) → rank a ≡ rank b → a ≡ b
 rank_once a b e = sym (test_at-rank a) ∙ (ap test_at e ∙ test_at-rank b)
 
 -- the last test is the one of greatest rank
-rank_small : (test : Test) → rank test < rank O.Holding + 1
+rank_small : (test : Test) → rank test < rank O.Truth + 1
 rank_small O.Length = lit< tt
 rank_small O.Spelling = lit< tt
 rank_small O.Form = lit< tt
 rank_small O.Number = lit< tt
 rank_small O.Reference = lit< tt
-rank_small O.Sides = lit< tt
+rank_small O.Family = lit< tt
 rank_small O.Rule = lit< tt
-rank_small O.Holding = lit< tt
+rank_small O.Shape = lit< tt
+rank_small O.Offered = lit< tt
+rank_small O.Budget = lit< tt
+rank_small O.Truth = lit< tt
+
+-- a test gives one reason, but for the state of a counterexample
+module _ (IsShown : Clash → Type 0)
+    (once : (a b : Clash) → IsShown a → IsShown b → without_state (R.False a) ≡ without_state (R.False b)) where
+  alike : (r q reason : Reason) → r ≡ reason → q ≡ reason → without_state r ≡ without_state q
+  alike r q reason x y = ap without_state (x ∙ sym y)
+
+  gives_once : (test : Test) (r q : Reason) → Gives IsShown test r → Gives IsShown test q → without_state r ≡ without_state q
+  gives_once O.Length r q x y = alike r q R.Long x y
+  gives_once O.Spelling r q x y = alike r q R.Grammar x y
+  gives_once O.Form r q x y = alike r q R.Unbuilt x y
+  gives_once O.Number r q x y = alike r q R.Number x y
+  gives_once O.Reference r q x y = alike r q R.Unknown x y
+  gives_once O.Family r q x y = alike r q R.Family x y
+  gives_once O.Rule r q x y = alike r q R.Rule x y
+  gives_once O.Shape r q x y = alike r q R.Shape x y
+  gives_once O.Offered r q x y = alike r q R.NotOffered x y
+  gives_once O.Budget r q x y = alike r q R.Budget x y
+  gives_once O.Truth r q x y =
+      ap without_state x.1 ∙ (once x.0 y.0 x.2 y.2 ∙ sym (ap without_state y.1))
 
 module _ (Passes : Test → Type 0) where
   -- each test of lower rank than this number is passed
@@ -64,23 +98,26 @@ module _ (Passes : Test → Type 0) where
         | inr lower_yet ↦ before lower lower_yet
       ]
 
-  pub passes_all : PassesBelow (rank O.Holding + 1) → (test : Test) → Passes test
+  pub passes_all : PassesBelow (rank O.Truth + 1) → (test : Test) → Passes test
   passes_all before test = before test (rank_small test)
 
-  -- what passes each test has no reason
-  pub no_reason : (reason : Reason) → IsReasonBy Passes reason → ((test : Test) → Passes test) → ⊥
-  no_reason reason why all = why.2 (all why.0)
+  module _ (IsShown : Clash → Type 0) where
+    -- what passes each test has no reason
+    pub no_reason : (reason : Reason) → IsReasonBy Passes IsShown reason → ((test : Test) → Passes test) → ⊥
+    no_reason reason why all = why.2 (all why.0)
 
-  -- one reason alone
-  pub reason_once : (r q : Reason) → IsReasonBy Passes r → IsReasonBy Passes q → r ≡ q
-  reason_once r q x y =
-      elim (leb_tells (rank x.0) (rank y.0)) [
-        | inl w ↦ elim (eq-or-lt_of_le w.1) [
-          | inl same ↦ x.1 ∙ (ap reason_of (rank_once x.0 y.0 same) ∙ sym y.1)
-          | inr less ↦ absurd (x.2 (y.3 x.0 less))
+    -- one reason alone, but for the state of a counterexample
+    pub reason_once : ((a b : Clash) → IsShown a → IsShown b → without_state (R.False a) ≡ without_state (R.False b))
+        → (r q : Reason) → IsReasonBy Passes IsShown r → IsReasonBy Passes IsShown q → without_state r ≡ without_state q
+    reason_once once r q x y =
+        elim (leb_tells (rank x.0) (rank y.0)) [
+          | inl w ↦ elim (eq-or-lt_of_le w.1) [
+            | inl same ↦
+                gives_once IsShown once y.0 r q (subst (λ t. Gives IsShown t r) (rank_once x.0 y.0 same) x.1) y.1
+            | inr less ↦ absurd (x.2 (y.3 x.0 less))
+          ]
+          | inr w ↦ absurd (y.2 (x.3 y.0 w.1))
         ]
-        | inr w ↦ absurd (y.2 (x.3 y.0 w.1))
-      ]
 
 module _ (setting : Setting) (lines : List Line) (line : Line) where
   abbrev pub Upto : ℕ → Type 0
@@ -98,17 +135,26 @@ module _ (setting : Setting) (lines : List Line) (line : Line) where
   upto_reference : IsSpelled line → IsBuilt line → IsNumbered lines line → Upto 4
   upto_reference spelled built numbered = next_test O.Number (upto_number spelled built) numbered
 
-  upto_sides : IsSpelled line → IsBuilt line → IsNumbered lines line → IsKnown setting.task setting.nodes lines line → Upto 5
-  upto_sides spelled built numbered known = next_test O.Reference (upto_reference spelled built numbered) known
+  upto_family : IsSpelled line → IsBuilt line → IsNumbered lines line → IsKnown setting.task setting.nodes lines line → Upto 5
+  upto_family spelled built numbered known = next_test O.Reference (upto_reference spelled built numbered) known
 
-  upto_rule : IsSpelled line → IsBuilt line → IsNumbered lines line → IsKnown setting.task setting.nodes lines line
-      → SidesAreBuilt lines line → Upto 6
-  upto_rule spelled built numbered known sides = next_test O.Sides (upto_sides spelled built numbered known) sides
+  upto_rule : IsFormed setting lines line → Upto 6
+  upto_rule formed =
+      next_test O.Family (upto_family formed.spelled formed.built formed.numbered formed.known) formed.family
 
-  upto_holding : IsSpelled line → IsBuilt line → IsNumbered lines line → IsKnown setting.task setting.nodes lines line
-      → SidesAreBuilt lines line → RuleHolds lines line → Upto 7
-  upto_holding spelled built numbered known sides rule =
-      next_test O.Rule (upto_rule spelled built numbered known sides) rule
+  upto_shape : IsFormed setting lines line → RuleHolds lines line → Upto 7
+  upto_shape formed rule = next_test O.Rule (upto_rule formed) rule
+
+  pub upto_offered : IsFormed setting lines line → RuleHolds lines line → WhereBasic (HasShape lines) line → Upto 8
+  upto_offered formed rule shape = next_test O.Shape (upto_shape formed rule) shape
+
+  pub upto_budget : IsFormed setting lines line → RuleHolds lines line → WhereBasic (HasShape lines) line
+      → WhereBasic (HasNotVerdict setting lines V.NotOffered) line → Upto 9
+  upto_budget formed rule shape offered = next_test O.Offered (upto_offered formed rule shape) offered
+
+  pub upto_truth : IsFormed setting lines line → RuleHolds lines line → WhereBasic (HasShape lines) line
+      → WhereBasic (HasNotVerdict setting lines V.NotOffered) line → WhereBasic (HasNotVerdict setting lines V.Over) line → Upto 10
+  upto_truth formed rule shape offered within = next_test O.Budget (upto_budget formed rule shape offered) within
 
   -- the reason of a line, by the first test that it fails
   pub for_form : IsSpelled line → (IsBuilt line → ⊥) → IsReasonOf setting lines line R.Unbuilt
@@ -121,29 +167,35 @@ module _ (setting : Setting) (lines : List Line) (line : Line) where
       → (IsKnown setting.task setting.nodes lines line → ⊥) → IsReasonOf setting lines line R.Unknown
   for_reference spelled built numbered failed = (O.Reference, refl, failed, upto_reference spelled built numbered)
 
-  pub for_sides : IsSpelled line → IsBuilt line → IsNumbered lines line → IsKnown setting.task setting.nodes lines line
-      → (SidesAreBuilt lines line → ⊥) → IsReasonOf setting lines line R.Unbuilt
-  for_sides spelled built numbered known failed = (O.Sides, refl, failed, upto_sides spelled built numbered known)
+  pub for_family : IsSpelled line → IsBuilt line → IsNumbered lines line → IsKnown setting.task setting.nodes lines line
+      → (FamilyFits line → ⊥) → IsReasonOf setting lines line R.Family
+  for_family spelled built numbered known failed = (O.Family, refl, failed, upto_family spelled built numbered known)
 
-  pub for_rule : IsSpelled line → IsBuilt line → IsNumbered lines line → IsKnown setting.task setting.nodes lines line
-      → SidesAreBuilt lines line → (RuleHolds lines line → ⊥) → IsReasonOf setting lines line R.Rule
-  for_rule spelled built numbered known sides failed =
-      (O.Rule, refl, failed, upto_rule spelled built numbered known sides)
+  pub for_rule : IsFormed setting lines line → (RuleHolds lines line → ⊥) → IsReasonOf setting lines line R.Rule
+  for_rule formed failed = (O.Rule, refl, failed, upto_rule formed)
 
-  pub for_holding : IsSpelled line → IsBuilt line → IsNumbered lines line → IsKnown setting.task setting.nodes lines line
-      → SidesAreBuilt lines line → RuleHolds lines line → (StatementHolds setting lines line → ⊥)
-      → IsReasonOf setting lines line R.NotGood
-  for_holding spelled built numbered known sides rule failed =
-      (O.Holding, refl, failed, upto_holding spelled built numbered known sides rule)
+  pub for_shape : IsFormed setting lines line → RuleHolds lines line → (WhereBasic (HasShape lines) line → ⊥) → IsReasonOf setting lines line R.Shape
+  for_shape formed rule failed = (O.Shape, refl, failed, upto_shape formed rule)
 
   -- a line that passes each test
-  pub good_line : IsSpelled line → IsBuilt line → IsNumbered lines line → IsKnown setting.task setting.nodes lines line
-      → SidesAreBuilt lines line → RuleHolds lines line → StatementHolds setting lines line → IsGood setting lines line
-  good_line spelled built numbered known sides rule here =
-      passes_all (LinePasses setting lines line)
-      (next_test O.Holding (upto_holding spelled built numbered known sides rule) here)
+  pub good_line : IsFormed setting lines line → RuleHolds lines line → WhereBasic (HasShape lines) line
+      → WhereBasic (HasNotVerdict setting lines V.NotOffered) line → WhereBasic (HasNotVerdict setting lines V.Over) line
+      → WhereBasic (HasVerdictTrue setting lines) line → IsGood setting lines line
+  good_line formed rule shape offered within true =
+      passes_all (LinePasses setting lines line) (next_test O.Truth (upto_truth formed rule shape offered within) true)
 
   -- a good line may stand after the lines before it
   pub good_next : IsGood setting lines line → IsNext lines line
   good_next good = let known : IsKnown setting.task setting.nodes lines line = good O.Reference in
       record { numbered = good O.Number; back = known.0 }
+
+  -- one reason of a line alone, but for the state of a counterexample
+  refuted_once : (l : Line) (a b : Clash) → IsRefutedBy setting lines l a → IsRefutedBy setting lines l b
+      → without_state (R.False a) ≡ without_state (R.False b)
+  refuted_once (L.Acts id acts) a b x y = absurd x
+  refuted_once (L.Expr id expr) a b x y = absurd x
+  refuted_once (L.Known id statement word premises) a b x y = clash_once setting lines a b statement word x y
+
+  pub clash_of_line_once : (a b : Clash) → IsRefutedBy setting lines line a → IsRefutedBy setting lines line b
+      → without_state (R.False a) ≡ without_state (R.False b)
+  clash_of_line_once a b x y = refuted_once line a b x y

@@ -3,14 +3,16 @@ use Rattle.std.specs.Prelude.{◌<◌, ℕ, List, [], ◌∷◌, length}
 use Rattle.std.specs.List.{All}
 use Rattle.hv_task.specs.State.{AreBelow}
 use Rattle.hv_task.specs.Strips.{Strips, atoms}
+use Rattle.hv_sets.specs.Kinds.{IsHornClause, IsTwoClause}
 use Rattle.hv_sets.specs.declared.literal.Literal.{Literal}
 use Rattle.hv_lines.specs.Spelling.{IsSpelled}
 use Rattle.hv_lines.specs.Numbering.{IsNumbered, RefersBack}
 use Rattle.hv_lines.specs.Rules.{Fits}
-use Rattle.hv_lines.specs.Basic.{HasBuiltSides, BasicHolds}
 use Rattle.hv_lines.specs.Order.{Test, IsReasonBy}
 use Rattle.hv_lines.specs.Order as O
 use Rattle.hv_lines.specs.Setting.{Setting}
+use Rattle.hv_lines.specs.Shapes.{HasShape}
+use Rattle.hv_lines.specs.Verdicts.{IsVerdict}
 use Rattle.hv_bdd.specs.Nodes.{NodeList, IsNode}
 use Rattle.hv_lines.specs.declared.line.Acts.{Acts}
 use Rattle.hv_lines.specs.declared.line.Acts.TheVariants as A
@@ -18,28 +20,23 @@ use Rattle.hv_lines.specs.declared.line.Expr.{Expr}
 use Rattle.hv_lines.specs.declared.line.Expr.TheVariants as E
 use Rattle.hv_lines.specs.declared.line.Line.{Line}
 use Rattle.hv_lines.specs.declared.line.Line.TheVariants as L
+use Rattle.hv_lines.specs.declared.line.Statement.{Statement}
 use Rattle.hv_lines.specs.declared.line.Word.{Word}
 use Rattle.hv_lines.specs.declared.line.Word.TheVariants as W
+use Rattle.hv_lines.specs.declared.reason.Clash.{Clash}
 use Rattle.hv_lines.specs.declared.reason.Reason.{Reason}
-
--- the set is of a form that is checked so far
-abbrev pub IsBuiltExpr : Expr → Type 0
-IsBuiltExpr (E.Horn clauses) = ⊥
-IsBuiltExpr (E.Two clauses) = ⊥
-IsBuiltExpr (E.Node node) = ⊥
-IsBuiltExpr _ = Unit {0}
+use Rattle.hv_lines.specs.declared.verdict.Verdict.{Verdict}
+use Rattle.hv_lines.specs.declared.verdict.Verdict.TheVariants as V
 
 -- the word is one that is checked so far
 abbrev pub IsBuiltWord : Word → Type 0
-IsBuiltWord W.B3 = ⊥
 IsBuiltWord W.B4 = ⊥
-IsBuiltWord W.B5 = ⊥
 IsBuiltWord _ = Unit {0}
 
 -- the line is of a form that is checked so far
 abbrev pub IsBuilt : Line → Type 0
 IsBuilt (L.Acts id acts) = Unit {0}
-IsBuilt (L.Expr id expr) = IsBuiltExpr expr
+IsBuilt (L.Expr id expr) = Unit {0}
 IsBuilt (L.Known id statement word premises) = IsBuiltWord word
 
 -- the action set names actions of the task alone
@@ -83,21 +80,45 @@ IsRuleWord _ = Unit {0}
 abbrev pub RuleHolds : List Line → Line → Type 0
 RuleHolds lines (L.Acts id acts) = Unit {0}
 RuleHolds lines (L.Expr id expr) = Unit {0}
-RuleHolds lines (L.Known id statement word premises) = IsRuleWord word → Fits lines statement word premises
+RuleHolds lines (L.Known id statement word premises) = IsRuleWord word
+    → Fits lines statement word premises
 
--- where the line is justified by a basic statement, its sides are of a form that is checked so far
-abbrev pub SidesAreBuilt : List Line → Line → Type 0
-SidesAreBuilt lines (L.Acts id acts) = Unit {0}
-SidesAreBuilt lines (L.Expr id expr) = Unit {0}
-SidesAreBuilt lines (L.Known id statement word premises) = HasBuiltSides lines statement word
+-- the word is that of a basic statement
+abbrev pub IsBasicWord : Word → Type 0
+IsBasicWord W.B1 = Unit {0}
+IsBasicWord W.B2 = Unit {0}
+IsBasicWord W.B3 = Unit {0}
+IsBasicWord W.B4 = Unit {0}
+IsBasicWord W.B5 = Unit {0}
+IsBasicWord _ = ⊥
 
--- where the line is justified by a basic statement, the statement is offered, within the budget, and
--- true
-abbrev pub StatementHolds : Setting → List Line → Line → Type 0
-StatementHolds setting lines (L.Acts id acts) = Unit {0}
-StatementHolds setting lines (L.Expr id expr) = Unit {0}
-StatementHolds setting lines (L.Known id statement word premises) =
-    BasicHolds setting lines statement word
+-- the clauses of a Horn formula are Horn clauses, and those of a 2CNF formula have at most two
+-- different literals
+abbrev pub IsOfItsFamily : Expr → Type 0
+IsOfItsFamily (E.Horn clauses) = All IsHornClause clauses
+IsOfItsFamily (E.Two clauses) = All IsTwoClause clauses
+IsOfItsFamily _ = Unit {0}
+
+-- where the line has a formula, its clauses are of the family
+abbrev pub FamilyFits : Line → Type 0
+FamilyFits (L.Acts id acts) = Unit {0}
+FamilyFits (L.Expr id expr) = IsOfItsFamily expr
+FamilyFits (L.Known id statement word premises) = Unit {0}
+
+-- where the line is justified by a basic statement, this holds of the statement and its word
+abbrev pub WhereBasic : (Statement → Word → Type 0) → Line → Type 0
+WhereBasic Holds (L.Acts id acts) = Unit {0}
+WhereBasic Holds (L.Expr id expr) = Unit {0}
+WhereBasic Holds (L.Known id statement word premises) = IsBasicWord word → Holds statement word
+
+-- the statement with its word hasn't this verdict
+abbrev pub HasNotVerdict : Setting → List Line → Verdict → Statement → Word → Type 0
+HasNotVerdict setting lines verdict statement word =
+    IsVerdict setting lines statement word verdict → ⊥
+
+-- the statement with its word is true, so far as it is decided
+abbrev pub HasVerdictTrue : Setting → List Line → Statement → Word → Type 0
+HasVerdictTrue setting lines statement word = IsVerdict setting lines statement word V.True
 
 -- the line passes the test, after these lines, of which the newest is the first; whether it is too
 -- long is seen at the piece that spells it
@@ -107,9 +128,28 @@ LinePasses setting lines line O.Spelling = IsSpelled line
 LinePasses setting lines line O.Form = IsBuilt line
 LinePasses setting lines line O.Number = IsNumbered lines line
 LinePasses setting lines line O.Reference = IsKnown setting.task setting.nodes lines line
-LinePasses setting lines line O.Sides = SidesAreBuilt lines line
+LinePasses setting lines line O.Family = FamilyFits line
 LinePasses setting lines line O.Rule = RuleHolds lines line
-LinePasses setting lines line O.Holding = StatementHolds setting lines line
+LinePasses setting lines line O.Shape = WhereBasic (HasShape lines) line
+LinePasses setting lines line O.Offered =
+    WhereBasic (HasNotVerdict setting lines V.NotOffered) line
+LinePasses setting lines line O.Budget = WhereBasic (HasNotVerdict setting lines V.Over) line
+LinePasses setting lines line O.Truth = WhereBasic (HasVerdictTrue setting lines) line
+
+-- the line passes the tests that look at its form and its numbers alone
+pub record IsFormed (setting : Setting) (lines : List Line) (line : Line) : Type 0 where
+  pub spelled : IsSpelled line
+  pub built : IsBuilt line
+  pub numbered : IsNumbered lines line
+  pub known : IsKnown setting.task setting.nodes lines line
+  pub family : FamilyFits line
+
+-- the counterexample is one to the basic statement by which the line is justified
+abbrev pub IsRefutedBy : Setting → List Line → Line → Clash → Type 0
+IsRefutedBy setting lines (L.Acts id acts) clash = ⊥
+IsRefutedBy setting lines (L.Expr id expr) clash = ⊥
+IsRefutedBy setting lines (L.Known id statement word premises) clash =
+    IsVerdict setting lines statement word (V.False clash)
 
 -- the line is good after these lines: it passes each test
 abbrev pub IsGood : Setting → List Line → Line → Type 0
@@ -122,4 +162,5 @@ AreGood setting (line ∷ older) = IsGood setting older line × AreGood setting 
 
 -- the reason why a line that has a spelling isn't good after these lines
 abbrev pub IsReasonOf : Setting → List Line → Line → Reason → Type 0
-IsReasonOf setting lines line reason = IsReasonBy (LinePasses setting lines line) reason
+IsReasonOf setting lines line reason =
+    IsReasonBy (LinePasses setting lines line) (IsRefutedBy setting lines line) reason

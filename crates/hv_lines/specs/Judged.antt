@@ -4,12 +4,13 @@ use Rattle.hv_bytes.specs.Pieces.{Piece, pieces_of}
 use Rattle.hv_bytes.specs.declared.cutting.Limits.{Limits}
 use Rattle.hv_lines.specs.Spelling.{Spells, IsSkipped}
 use Rattle.hv_lines.specs.Rules.{Says}
-use Rattle.hv_lines.specs.Good.{IsGood, LinePasses}
+use Rattle.hv_lines.specs.Good.{IsGood, IsRefutedBy, LinePasses}
 use Rattle.hv_lines.specs.Order.{Test, IsReasonBy, without_state}
 use Rattle.hv_lines.specs.Order as O
 use Rattle.hv_lines.specs.Setting.{Setting}
 use Rattle.hv_lines.specs.declared.line.Line.{Line}
 use Rattle.hv_lines.specs.declared.line.Statement.TheVariants as T
+use Rattle.hv_lines.specs.declared.reason.Clash.{Clash}
 use Rattle.hv_lines.specs.declared.reason.Reason.{Reason}
 
 -- a piece of a proof: the bytes of a line without its LF, or none where the line is too long
@@ -39,9 +40,16 @@ Passes setting lines (Some bytes) O.Length = Unit {0}
 Passes setting lines (Some bytes) test =
     IsSkipped bytes ⊎ ((line : Line) × Spells line bytes × LinePasses setting lines line test)
 
+-- the counterexample is one to the basic statement of the line that the piece spells
+abbrev pub IsShownBy : Setting → List Line → LineText → Clash → Type 0
+IsShownBy setting lines None clash = ⊥
+IsShownBy setting lines (Some bytes) clash =
+    (line : Line) × Spells line bytes × IsRefutedBy setting lines line clash
+
 -- the reason why this piece is refused after these lines
 abbrev pub IsReason : Setting → List Line → LineText → Reason → Type 0
-IsReason setting lines piece reason = IsReasonBy (Passes setting lines piece) reason
+IsReason setting lines piece reason =
+    IsReasonBy (Passes setting lines piece) (IsShownBy setting lines piece) reason
 
 -- some line says that the task is unsolvable
 abbrev pub Concludes : List Line → Type 0

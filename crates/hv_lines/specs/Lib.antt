@@ -5,7 +5,10 @@ pub mod Literals
 pub mod TableState
 pub mod Meaning
 pub mod Rules
-pub mod Basic
+pub mod Shapes
+pub mod Queries
+pub mod Verdicts
 pub mod Order
 pub mod Good
 pub mod Judged
+pub mod Drafts

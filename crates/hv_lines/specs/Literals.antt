@@ -41,7 +41,8 @@ IsPlainSet lines set = (expr : Expr) × (expr_at lines set ≡ Some expr) × IsP
 
 -- the set is the negation of a formula or of a constant
 abbrev pub IsNegatedSet : List Line → ℕ → Type 0
-IsNegatedSet lines set = (inner : ℕ) × (expr_at lines set ≡ Some (E.Not inner)) × IsPlainSet lines inner
+IsNegatedSet lines set = (inner : ℕ) × (expr_at lines set ≡ Some (E.Not inner))
+    × IsPlainSet lines inner
 
 -- the set is a literal: a formula or a constant, or the negation of one
 abbrev pub IsLiteral : List Line → ℕ → Type 0

@@ -33,7 +33,8 @@ has_action acts (A.List actions) number = list_any (λ n. nat_eq n number) actio
 has_action acts (A.Both left right) number = acts left number || acts right number
 
 -- progression: the state is the result of one of the actions, applied in a state of the set
-pub record IsAfter (task : Strips) (set : StateSet) (acts : ActionSet) (state : List Bool) : Type 0 where
+pub record IsAfter (task : Strips) (set : StateSet) (acts : ActionSet) (state : List Bool)
+    : Type 0 where
   pub before : List Bool
   pub is_state : IsState task before
   pub inside : set before
@@ -45,7 +46,8 @@ pub record IsAfter (task : Strips) (set : StateSet) (acts : ActionSet) (state : 
   pub result : successor action before ≡ state
 
 -- regression: one of the actions is applicable in the state, with its result in the set
-pub record IsBefore (task : Strips) (set : StateSet) (acts : ActionSet) (state : List Bool) : Type 0 where
+pub record IsBefore (task : Strips) (set : StateSet) (acts : ActionSet) (state : List Bool)
+    : Type 0 where
   pub number : ℕ
   pub action : Action
   pub among : acts number ≡ true
@@ -93,14 +95,17 @@ sets_of task nodes (L.Acts id acts ∷ older) wanted = sets_of task nodes older 
 sets_of task nodes (L.Expr id expr ∷ older) wanted =
     pick_set (nat_eq wanted id) (holds task nodes (acts_of older) (sets_of task nodes older) expr)
     (sets_of task nodes older wanted)
-sets_of task nodes (L.Known id statement word premises ∷ older) wanted = sets_of task nodes older wanted
+sets_of task nodes (L.Known id statement word premises ∷ older) wanted =
+    sets_of task nodes older wanted
 
 -- the statement is true: of the sets that these lines name
 abbrev pub IsTrueStatement : Strips → NodeList → List Line → Statement → Type 0
 IsTrueStatement task nodes lines (T.Sub left right) =
-    (state : List Bool) → IsState task state → sets_of task nodes lines left state → sets_of task nodes lines right state
+    (state : List Bool) → IsState task state → sets_of task nodes lines left state
+    → sets_of task nodes lines right state
 IsTrueStatement task nodes lines (T.ActSub left right) =
-    (number : ℕ) → number < length task.actions → acts_of lines left number ≡ true → acts_of lines right number ≡ true
+    (number : ℕ) → number < length task.actions → acts_of lines left number ≡ true
+    → acts_of lines right number ≡ true
 IsTrueStatement task nodes lines (T.Dead set) =
     (state : List Bool) → IsState task state → sets_of task nodes lines set state → Dead task state
 IsTrueStatement task nodes lines T.Unsolvable = IsUnsolvable task

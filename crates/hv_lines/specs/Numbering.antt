@@ -59,7 +59,8 @@ abbrev pub word_at : List Line → ℕ → Option Word
 word_at [] wanted = None
 word_at (L.Acts id acts ∷ older) wanted = word_at older wanted
 word_at (L.Expr id expr ∷ older) wanted = word_at older wanted
-word_at (L.Known id statement word premises ∷ older) wanted = cond (nat_eq wanted id) (Some word) (word_at older wanted)
+word_at (L.Known id statement word premises ∷ older) wanted =
+    cond (nat_eq wanted id) (Some word) (word_at older wanted)
 
 -- the premises of the `k` line with this identifier
 abbrev pub premises_at : List Line → ℕ → Option (List ℕ)
@@ -106,7 +107,8 @@ abbrev pub RefersBack : List Line → Line → Type 0
 RefersBack older (L.Acts id acts) = ActsReferBelow (acts_count older) acts
 RefersBack older (L.Expr id expr) = ExprRefersBelow (acts_count older) (expr_count older) expr
 RefersBack older (L.Known id statement word premises) =
-    SpeaksBelow (acts_count older) (expr_count older) statement × AreBelow (known_count older) premises
+    SpeaksBelow (acts_count older) (expr_count older) statement
+    × AreBelow (known_count older) premises
 
 -- the line may stand after these
 pub record IsNext (older : List Line) (line : Line) : Type 0 where

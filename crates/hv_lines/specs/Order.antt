@@ -1,5 +1,6 @@
 -- The tests of a line of a proof, in their order, and the reason that the first failed one gives.
 use Rattle.std.specs.Prelude.{◌≡◌, ◌<◌, ℕ, [], option_map}
+use Rattle.hv_lines.specs.declared.reason.Clash.{Clash}
 use Rattle.hv_lines.specs.declared.reason.Reason.{Reason}
 use Rattle.hv_lines.specs.declared.reason.Reason.TheVariants as R
 
@@ -15,12 +16,18 @@ pub data Test : Type 0 where
   Number : Test
   -- all that it refers to is there
   Reference : Test
-  -- the sides of its basic statement are of a form that is checked so far
-  Sides : Test
+  -- its clauses are of the family of its formula
+  Family : Test
   -- its derivation rule fits
   Rule : Test
-  -- its basic statement is offered, within the budget, and true
-  Holding : Test
+  -- its basic statement has the shape of its word
+  Shape : Test
+  -- its basic statement is offered
+  Offered : Test
+  -- its basic statement is within the budget
+  Budget : Test
+  -- its basic statement is true
+  Truth : Test
 
 -- the place of a test in the order: the tests are made by rising rank
 abbrev pub rank : Test → ℕ
@@ -29,26 +36,32 @@ rank Spelling = 1
 rank Form = 2
 rank Number = 3
 rank Reference = 4
-rank Sides = 5
+rank Family = 5
 rank Rule = 6
-rank Holding = 7
+rank Shape = 7
+rank Offered = 8
+rank Budget = 9
+rank Truth = 10
 
--- The reason that a failed test gives. No test gives `Family`, `Shape`, `NotOffered`, `Budget` or
--- `False` so far.
-abbrev pub reason_of : Test → Reason
-reason_of Length = R.Long
-reason_of Spelling = R.Grammar
-reason_of Form = R.Unbuilt
-reason_of Number = R.Number
-reason_of Reference = R.Unknown
-reason_of Sides = R.Unbuilt
-reason_of Rule = R.Rule
-reason_of Holding = R.NotGood
+-- the reason that a failed test gives; that of the last one names one of these counterexamples
+abbrev pub Gives : (Clash → Type 0) → Test → Reason → Type 0
+Gives IsShown Length reason = reason ≡ R.Long
+Gives IsShown Spelling reason = reason ≡ R.Grammar
+Gives IsShown Form reason = reason ≡ R.Unbuilt
+Gives IsShown Number reason = reason ≡ R.Number
+Gives IsShown Reference reason = reason ≡ R.Unknown
+Gives IsShown Family reason = reason ≡ R.Family
+Gives IsShown Rule reason = reason ≡ R.Rule
+Gives IsShown Shape reason = reason ≡ R.Shape
+Gives IsShown Offered reason = reason ≡ R.NotOffered
+Gives IsShown Budget reason = reason ≡ R.Budget
+Gives IsShown Truth reason = (clash : Clash) × (reason ≡ R.False clash) × IsShown clash
 
--- a reason, where these tests are passed: its test fails, and each test of lower rank is passed
-abbrev pub IsReasonBy : (Test → Type 0) → Reason → Type 0
-IsReasonBy Passes reason =
-    (test : Test) × (reason ≡ reason_of test) × (Passes test → ⊥)
+-- a reason, where these tests are passed and these counterexamples are shown: its test fails, and
+-- each test of lower rank is passed
+abbrev pub IsReasonBy : (Test → Type 0) → (Clash → Type 0) → Reason → Type 0
+IsReasonBy Passes IsShown reason =
+    (test : Test) × Gives IsShown test reason × (Passes test → ⊥)
     × ((lower : Test) → rank lower < rank test → Passes lower)
 
 -- the reason without the state of its counterexample: its word, its action, and whether a state is
@@ -63,6 +76,8 @@ without_state R.Rule = R.Rule
 without_state R.Shape = R.Shape
 without_state R.NotOffered = R.NotOffered
 without_state R.Budget = R.Budget
-without_state (R.False clash) = R.False (record { action = clash.action; state = option_map (λ _. []) clash.state })
+without_state (R.False clash) = R.False (record {
+  action = clash.action;
+  state = option_map (λ _. []) clash.state;
+})
 without_state R.Unbuilt = R.Unbuilt
-without_state R.NotGood = R.NotGood

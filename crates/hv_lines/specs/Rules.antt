@@ -1,5 +1,6 @@
--- The 23 derivation rules. A rule speaks of the forms of lines and of identifiers alone: "X is `u E F`" says that the line of
--- set X has just this form. A premise says a statement where its line claims just that.
+-- The 23 derivation rules. A rule speaks of the forms of lines and of identifiers alone: "X is `u E
+-- F`" says that the line of set X has just this form. A premise says a statement where its line
+-- claims just that.
 use Rattle.std.specs.Prelude.{◌≡◌, ℕ, List, [], ◌∷◌, Some}
 use Rattle.hv_lines.specs.Numbering.{acts_at, expr_at, statement_at}
 use Rattle.hv_lines.specs.declared.line.Acts.TheVariants as A
@@ -32,54 +33,69 @@ FitsEd lines _ _ = ⊥
 -- `ud`: the union of two dead sets is dead
 abbrev pub FitsUd : List Line → Statement → List ℕ → Type 0
 FitsUd lines (T.Dead e) (k1 ∷ k2 ∷ []) =
-    (x : ℕ) × (y : ℕ) × IsExpr lines e (E.Or x y) × Says lines k1 (T.Dead x) × Says lines k2 (T.Dead y)
+    (x : ℕ) × (y : ℕ) × IsExpr lines e (E.Or x y) × Says lines k1 (T.Dead x)
+    × Says lines k2 (T.Dead y)
 FitsUd lines _ _ = ⊥
 
 -- `sd`: a set within a dead set is dead
 abbrev pub FitsSd : List Line → Statement → List ℕ → Type 0
-FitsSd lines (T.Dead e) (k1 ∷ k2 ∷ []) = (x : ℕ) × Says lines k1 (T.Sub e x) × Says lines k2 (T.Dead x)
+FitsSd lines (T.Dead e) (k1 ∷ k2 ∷ []) = (x : ℕ) × Says lines k1 (T.Sub e x)
+    × Says lines k2 (T.Dead x)
 FitsSd lines _ _ = ⊥
 
 -- `pg`: what leads only into itself or a dead set, and whose goal states are dead, is dead
 abbrev pub FitsPg : List Line → Statement → List ℕ → Type 0
 FitsPg lines (T.Dead e) (k1 ∷ k2 ∷ k3 ∷ []) =
-    (p : ℕ) × (a : ℕ) × (u : ℕ) × (x : ℕ) × (n : ℕ) × (g : ℕ) × Says lines k1 (T.Sub p u) × IsExpr lines p (E.After e a)
-    × IsAll lines a × IsExpr lines u (E.Or e x) × Says lines k2 (T.Dead x) × Says lines k3 (T.Dead n)
+    (p : ℕ) × (a : ℕ) × (u : ℕ) × (x : ℕ) × (n : ℕ) × (g : ℕ) × Says lines k1 (T.Sub p u)
+    × IsExpr lines p (E.After e a)
+    × IsAll lines a × IsExpr lines u (E.Or e x) × Says lines k2 (T.Dead x)
+    × Says lines k3 (T.Dead n)
     × IsExpr lines n (E.And e g) × IsExpr lines g (E.Constant C.Goal)
 FitsPg lines _ _ = ⊥
 
--- `pi`: what is outside a set that holds the initial state and leads only into itself or a dead set is dead
+-- `pi`: what is outside a set that holds the initial state and leads only into itself or a dead set
+-- is dead
 abbrev pub FitsPi : List Line → Statement → List ℕ → Type 0
 FitsPi lines (T.Dead e) (k1 ∷ k2 ∷ k3 ∷ []) =
-    (s : ℕ) × (p : ℕ) × (a : ℕ) × (u : ℕ) × (x : ℕ) × (c : ℕ) × IsExpr lines e (E.Not s) × Says lines k1 (T.Sub p u)
-    × IsExpr lines p (E.After s a) × IsAll lines a × IsExpr lines u (E.Or s x) × Says lines k2 (T.Dead x)
+    (s : ℕ) × (p : ℕ) × (a : ℕ) × (u : ℕ) × (x : ℕ) × (c : ℕ) × IsExpr lines e (E.Not s)
+    × Says lines k1 (T.Sub p u)
+    × IsExpr lines p (E.After s a) × IsAll lines a × IsExpr lines u (E.Or s x)
+    × Says lines k2 (T.Dead x)
     × Says lines k3 (T.Sub c s) × IsExpr lines c (E.Constant C.Start)
 FitsPi lines _ _ = ⊥
 
--- `rg`: what is outside a set that is led into only from itself or a dead set, the goal states out there being dead, is dead
+-- `rg`: what is outside a set that is led into only from itself or a dead set, the goal states out
+-- there being dead, is dead
 abbrev pub FitsRg : List Line → Statement → List ℕ → Type 0
 FitsRg lines (T.Dead e) (k1 ∷ k2 ∷ k3 ∷ []) =
     (s : ℕ) × (r : ℕ) × (a : ℕ) × (u : ℕ) × (x : ℕ) × (n : ℕ) × (g : ℕ) × IsExpr lines e (E.Not s)
-    × Says lines k1 (T.Sub r u) × IsExpr lines r (E.Before s a) × IsAll lines a × IsExpr lines u (E.Or s x)
-    × Says lines k2 (T.Dead x) × Says lines k3 (T.Dead n) × IsExpr lines n (E.And e g) × IsExpr lines g (E.Constant C.Goal)
+    × Says lines k1 (T.Sub r u) × IsExpr lines r (E.Before s a) × IsAll lines a
+    × IsExpr lines u (E.Or s x)
+    × Says lines k2 (T.Dead x) × Says lines k3 (T.Dead n) × IsExpr lines n (E.And e g)
+    × IsExpr lines g (E.Constant C.Goal)
 FitsRg lines _ _ = ⊥
 
--- `ri`: what is led into only from itself or a dead set, and doesn't hold the initial state, is dead
+-- `ri`: what is led into only from itself or a dead set, and doesn't hold the initial state, is
+-- dead
 abbrev pub FitsRi : List Line → Statement → List ℕ → Type 0
 FitsRi lines (T.Dead e) (k1 ∷ k2 ∷ k3 ∷ []) =
-    (r : ℕ) × (a : ℕ) × (u : ℕ) × (x : ℕ) × (c : ℕ) × (n : ℕ) × Says lines k1 (T.Sub r u) × IsExpr lines r (E.Before e a)
-    × IsAll lines a × IsExpr lines u (E.Or e x) × Says lines k2 (T.Dead x) × Says lines k3 (T.Sub c n)
+    (r : ℕ) × (a : ℕ) × (u : ℕ) × (x : ℕ) × (c : ℕ) × (n : ℕ) × Says lines k1 (T.Sub r u)
+    × IsExpr lines r (E.Before e a)
+    × IsAll lines a × IsExpr lines u (E.Or e x) × Says lines k2 (T.Dead x)
+    × Says lines k3 (T.Sub c n)
     × IsExpr lines c (E.Constant C.Start) × IsExpr lines n (E.Not e)
 FitsRi lines _ _ = ⊥
 
 -- `ci`: where the initial state is dead, there is no plan
 abbrev pub FitsCi : List Line → Statement → List ℕ → Type 0
-FitsCi lines T.Unsolvable (k1 ∷ []) = (c : ℕ) × Says lines k1 (T.Dead c) × IsExpr lines c (E.Constant C.Start)
+FitsCi lines T.Unsolvable (k1 ∷ []) = (c : ℕ) × Says lines k1 (T.Dead c)
+    × IsExpr lines c (E.Constant C.Start)
 FitsCi lines _ _ = ⊥
 
 -- `cg`: where the goal states are dead, there is no plan
 abbrev pub FitsCg : List Line → Statement → List ℕ → Type 0
-FitsCg lines T.Unsolvable (k1 ∷ []) = (g : ℕ) × Says lines k1 (T.Dead g) × IsExpr lines g (E.Constant C.Goal)
+FitsCg lines T.Unsolvable (k1 ∷ []) = (g : ℕ) × Says lines k1 (T.Dead g)
+    × IsExpr lines g (E.Constant C.Goal)
 FitsCg lines _ _ = ⊥
 
 -- `ur`: a set is within its union with another on the right
@@ -105,25 +121,29 @@ FitsIl lines _ _ = ⊥
 -- `di`: intersection distributes over union
 abbrev pub FitsDi : List Line → Statement → List ℕ → Type 0
 FitsDi lines (T.Sub e f) [] =
-    (u : ℕ) × (w : ℕ) × (x : ℕ) × (y : ℕ) × (p : ℕ) × (q : ℕ) × IsExpr lines e (E.And u w) × IsExpr lines u (E.Or x y)
+    (u : ℕ) × (w : ℕ) × (x : ℕ) × (y : ℕ) × (p : ℕ) × (q : ℕ) × IsExpr lines e (E.And u w)
+    × IsExpr lines u (E.Or x y)
     × IsExpr lines f (E.Or p q) × IsExpr lines p (E.And x w) × IsExpr lines q (E.And y w)
 FitsDi lines _ _ = ⊥
 
 -- `su`: a union is within what both its parts are within
 abbrev pub FitsSu : List Line → Statement → List ℕ → Type 0
 FitsSu lines (T.Sub e f) (k1 ∷ k2 ∷ []) =
-    (x : ℕ) × (y : ℕ) × IsExpr lines e (E.Or x y) × Says lines k1 (T.Sub x f) × Says lines k2 (T.Sub y f)
+    (x : ℕ) × (y : ℕ) × IsExpr lines e (E.Or x y) × Says lines k1 (T.Sub x f)
+    × Says lines k2 (T.Sub y f)
 FitsSu lines _ _ = ⊥
 
 -- `si`: what is within two sets is within their intersection
 abbrev pub FitsSi : List Line → Statement → List ℕ → Type 0
 FitsSi lines (T.Sub e f) (k1 ∷ k2 ∷ []) =
-    (x : ℕ) × (y : ℕ) × IsExpr lines f (E.And x y) × Says lines k1 (T.Sub e x) × Says lines k2 (T.Sub e y)
+    (x : ℕ) × (y : ℕ) × IsExpr lines f (E.And x y) × Says lines k1 (T.Sub e x)
+    × Says lines k2 (T.Sub e y)
 FitsSi lines _ _ = ⊥
 
 -- `st`: inclusion is transitive
 abbrev pub FitsSt : List Line → Statement → List ℕ → Type 0
-FitsSt lines (T.Sub e f) (k1 ∷ k2 ∷ []) = (x : ℕ) × Says lines k1 (T.Sub e x) × Says lines k2 (T.Sub x f)
+FitsSt lines (T.Sub e f) (k1 ∷ k2 ∷ []) = (x : ℕ) × Says lines k1 (T.Sub e x)
+    × Says lines k2 (T.Sub x f)
 FitsSt lines _ _ = ⊥
 
 -- `at`: fewer actions have fewer results
@@ -137,7 +157,8 @@ FitsAt lines _ _ = ⊥
 abbrev pub FitsAu : List Line → Statement → List ℕ → Type 0
 FitsAu lines (T.Sub e f) (k1 ∷ k2 ∷ []) =
     (s : ℕ) × (u : ℕ) × (a : ℕ) × (b : ℕ) × (p : ℕ) × (q : ℕ) × IsExpr lines e (E.After s u)
-    × (acts_at lines u ≡ Some (A.Both a b)) × Says lines k1 (T.Sub p f) × IsExpr lines p (E.After s a)
+    × (acts_at lines u ≡ Some (A.Both a b)) × Says lines k1 (T.Sub p f)
+    × IsExpr lines p (E.After s a)
     × Says lines k2 (T.Sub q f) × IsExpr lines q (E.After s b)
 FitsAu lines _ _ = ⊥
 
@@ -151,25 +172,32 @@ FitsPt lines _ _ = ⊥
 -- `pu`: the results in a union are those in its parts
 abbrev pub FitsPu : List Line → Statement → List ℕ → Type 0
 FitsPu lines (T.Sub e f) (k1 ∷ k2 ∷ []) =
-    (u : ℕ) × (a : ℕ) × (x : ℕ) × (y : ℕ) × (p : ℕ) × (q : ℕ) × IsExpr lines e (E.After u a) × IsExpr lines u (E.Or x y)
-    × Says lines k1 (T.Sub p f) × IsExpr lines p (E.After x a) × Says lines k2 (T.Sub q f) × IsExpr lines q (E.After y a)
+    (u : ℕ) × (a : ℕ) × (x : ℕ) × (y : ℕ) × (p : ℕ) × (q : ℕ) × IsExpr lines e (E.After u a)
+    × IsExpr lines u (E.Or x y)
+    × Says lines k1 (T.Sub p f) × IsExpr lines p (E.After x a) × Says lines k2 (T.Sub q f)
+    × IsExpr lines q (E.After y a)
 FitsPu lines _ _ = ⊥
 
--- `pr`: where all results of a set are within another, the states with a result outside the other are outside the set
+-- `pr`: where all results of a set are within another, the states with a result outside the other
+-- are outside the set
 abbrev pub FitsPr : List Line → Statement → List ℕ → Type 0
 FitsPr lines (T.Sub e f) (k1 ∷ []) =
-    (m : ℕ) × (a : ℕ) × (x : ℕ) × (s : ℕ) × (p : ℕ) × IsExpr lines e (E.Before m a) × IsExpr lines m (E.Not x)
+    (m : ℕ) × (a : ℕ) × (x : ℕ) × (s : ℕ) × (p : ℕ) × IsExpr lines e (E.Before m a)
+    × IsExpr lines m (E.Not x)
     × IsExpr lines f (E.Not s) × Says lines k1 (T.Sub p x) × IsExpr lines p (E.After s a)
 FitsPr lines _ _ = ⊥
 
--- `rp`: where the states with a result outside one set are outside another, all results of the other are within the one
+-- `rp`: where the states with a result outside one set are outside another, all results of the
+-- other are within the one
 abbrev pub FitsRp : List Line → Statement → List ℕ → Type 0
 FitsRp lines (T.Sub e f) (k1 ∷ []) =
-    (s : ℕ) × (a : ℕ) × (r : ℕ) × (n : ℕ) × (m : ℕ) × IsExpr lines e (E.After s a) × Says lines k1 (T.Sub r n)
+    (s : ℕ) × (a : ℕ) × (r : ℕ) × (n : ℕ) × (m : ℕ) × IsExpr lines e (E.After s a)
+    × Says lines k1 (T.Sub r n)
     × IsExpr lines r (E.Before m a) × IsExpr lines m (E.Not f) × IsExpr lines n (E.Not s)
 FitsRp lines _ _ = ⊥
 
--- the rule of this word fits: with this statement and these premises, after these lines (the newest first)
+-- the rule of this word fits: with this statement and these premises, after these lines (the newest
+-- first)
 abbrev pub Fits : List Line → Statement → Word → List ℕ → Type 0
 Fits lines statement W.B1 premises = ⊥
 Fits lines statement W.B2 premises = ⊥

@@ -30,7 +30,8 @@ constant_field C.Goal = codes "g"
 
 -- the number n stands for the atom n - 1; a dash before it negates it
 abbrev pub literal_field : Literal → List ℕ
-literal_field literal = cond literal.positive (decimal (literal.atom + 1)) (45 ∷ decimal (literal.atom + 1))
+literal_field literal =
+    cond literal.positive (decimal (literal.atom + 1)) (45 ∷ decimal (literal.atom + 1))
 
 -- a clause ends with the field 0
 abbrev pub clause_fields : List Literal → List (List ℕ)
@@ -53,7 +54,8 @@ expr_fields (E.Or left right) = codes "u" ∷ decimal left ∷ decimal right ∷
 expr_fields (E.After set acts) = codes "p" ∷ decimal set ∷ decimal acts ∷ []
 expr_fields (E.Before set acts) = codes "r" ∷ decimal set ∷ decimal acts ∷ []
 
--- a statement: a set within another, an action set within another, a dead set, or that there is no plan
+-- a statement: a set within another, an action set within another, a dead set, or that there is no
+-- plan
 abbrev pub statement_fields : Statement → List (List ℕ)
 statement_fields (T.Sub left right) = codes "s" ∷ decimal left ∷ decimal right ∷ []
 statement_fields (T.ActSub left right) = codes "a" ∷ decimal left ∷ decimal right ∷ []
@@ -192,13 +194,14 @@ premises_of T.Unsolvable W.Ci = Some 1
 premises_of T.Unsolvable W.Cg = Some 1
 premises_of T.Unsolvable _ = None
 
--- the line has a spelling: its numbers are short enough, lists rise where they must, and the word may stand there with
--- as many premises
+-- the line has a spelling: its numbers are short enough, lists rise where they must, and the word
+-- may stand there with as many premises
 abbrev pub IsSpelled : Line → Type 0
 IsSpelled (L.Acts id acts) = FitsDecimal id × ActsFit acts
 IsSpelled (L.Expr id expr) = FitsDecimal id × ExprFits expr
 IsSpelled (L.Known id statement word premises) =
-    FitsDecimal id × StatementFits statement × All FitsDecimal premises × (premises_of statement word ≡ Some (length premises))
+    FitsDecimal id × StatementFits statement × All FitsDecimal premises
+    × (premises_of statement word ≡ Some (length premises))
 
 -- the bytes are the spelling of this line
 pub record Spells (line : Line) (bytes : List ℕ) : Type 0 where

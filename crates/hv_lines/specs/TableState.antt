@@ -30,15 +30,20 @@ IsExprLine lines id line = (expr : Expr) × (line ≡ L.Expr id expr) × (expr_a
 -- the line is the `k` line with this identifier
 abbrev pub IsKnownLine : List Line → ℕ → Line → Type 0
 IsKnownLine lines id line =
-    (statement : Statement) × (word : Word) × (premises : List ℕ) × (line ≡ L.Known id statement word premises)
-    × (statement_at lines id ≡ Some statement) × (word_at lines id ≡ Some word) × (premises_at lines id ≡ Some premises)
+    (statement : Statement) × (word : Word) × (premises : List ℕ)
+    × (line ≡ L.Known id statement word premises)
+    × (statement_at lines id ≡ Some statement) × (word_at lines id ≡ Some word)
+    × (premises_at lines id ≡ Some premises)
 
--- the list of places leads from each identifier to its line among the lines in the order in which they were pushed
+-- the list of places leads from each identifier to its line among the lines in the order in which
+-- they were pushed
 abbrev pub LeadsToLines : List Line → List ℕ → (ℕ → Line → Type 0) → Type 0
 LeadsToLines pushed places IsLine =
-    (id : ℕ) → id < length places → (line : Line) × (slice_get pushed (slice_index places id) ≡ Some line) × IsLine id line
+    (id : ℕ) → id < length places → (line : Line)
+    × (slice_get pushed (slice_index places id) ≡ Some line) × IsLine id line
 
--- the lines in the order in which they were pushed and with the newest first, and the places of each letter's lines
+-- the lines in the order in which they were pushed and with the newest first, and the places of
+-- each letter's lines
 pub record IsIndexed (pushed lines : List Line) (acts exprs knowns : List ℕ) : Type 0 where
   pub table : IsTable lines
   pub acts_length : length acts ≡ acts_count lines

@@ -13,8 +13,8 @@ pub enum Constant {
     Goal,
 }
 
-/// What an `e` line says: a set of states. A `usize` is the identifier of an earlier `e` line, and in `After` and `Before` the
-/// second one that of an earlier `a` line.
+/// What an `e` line says: a set of states. A `usize` is the identifier of an earlier `e` line, and
+/// in `After` and `Before` the second one that of an earlier `a` line.
 #[derive(Drop)]
 pub enum Expr {
     /// A set that every task has.
@@ -63,8 +63,9 @@ pub enum Statement {
     Unsolvable,
 }
 
-/// How a `k` line is justified: the five kinds of basic statement, and the 23 derivation rules (after the proof system of
-/// Eriksson, Röger and Helmert, 2018, and Eriksson, 2019; the letters are this project's own).
+/// How a `k` line is justified: the five kinds of basic statement, and the 23 derivation rules
+/// (after the proof system of Eriksson, Röger and Helmert, 2018, and Eriksson, 2019; the letters
+/// are this project's own).
 #[derive(Clone, Copy, Debug, PartialEq, Eq)]
 pub enum Word {
     /// A basic inclusion between sets as they stand.
@@ -85,11 +86,14 @@ pub enum Word {
     Sd,
     /// A set that leads only into itself or a dead set, and whose goal states are dead, is dead.
     Pg,
-    /// What is outside a set that holds the initial state and leads only into itself or a dead set is dead.
+    /// What is outside a set that holds the initial state and leads only into itself or a dead set
+    /// is dead.
     Pi,
-    /// What is outside a set that is led into only from itself or a dead set is dead, where the goal states out there are.
+    /// What is outside a set that is led into only from itself or a dead set is dead, where the
+    /// goal states out there are.
     Rg,
-    /// A set that is led into only from itself or a dead set, and doesn't hold the initial state, is dead.
+    /// A set that is led into only from itself or a dead set, and doesn't hold the initial state,
+    /// is dead.
     Ri,
     /// There is no plan where the initial state is dead.
     Ci,
@@ -119,9 +123,11 @@ pub enum Word {
     Pt,
     /// Where the results in each of two sets are within a set, so are those in their union.
     Pu,
-    /// Where all results of a set are within another, the states with a result outside the other are outside the set.
+    /// Where all results of a set are within another, the states with a result outside the other
+    /// are outside the set.
     Pr,
-    /// Where the states with a result outside one set are outside another, all results of the other are within the one.
+    /// Where the states with a result outside one set are outside another, all results of the other
+    /// are within the one.
     Rp,
 }
 

@@ -2,7 +2,8 @@ ghost use Rattle.std.specs.Prelude.{◌≡◌, ◌<◌, ◌≤◌, ◌==◌, [],
 
 use std::marker::Model;
 
-/// The premises of a line: the identifiers of at most three earlier lines, in the order of the rule. They are kept inline.
+/// The premises of a line: the identifiers of at most three earlier lines, in the order of the
+/// rule. They are kept inline.
 #[derive(Drop)]
 pub struct Premises {
     ids: [usize; 3],

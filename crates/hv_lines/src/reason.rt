@@ -6,8 +6,8 @@ use std::alloc::{AllocError, Global};
 /// A counterexample to a basic statement.
 #[derive(Drop, PartialEq, Eq)]
 pub struct Clash {
-    /// The action of the query that decides, where it has one; for an inclusion of action sets the action that isn't in the
-    /// right one.
+    /// The action of the query that decides, where it has one; for an inclusion of action sets the
+    /// action that isn't in the right one.
     pub action: Option<u32>,
     /// A state that shows that the statement is false, where the statement is of states.
     pub state: Option<State>,
@@ -35,12 +35,12 @@ impl Clash {
     }
 }
 
-/// Why a line is refused: the first test that it fails. The tests come in the order of the variants, but for `Unbuilt`, whose
-/// place is between `Grammar` and `Number`, and for the sides of `b1` and `b2` between `Unknown` and `Rule`. `Family`, `Shape`,
-/// `NotOffered`, `Budget` and `False` aren't given so far.
+/// Why a line is refused: the first test that it fails. The tests come in the order of the
+/// variants, but for `Unbuilt`, whose place is between `Grammar` and `Number`.
 #[derive(Drop, PartialEq, Eq)]
 pub enum Reason {
-    /// The line has more bytes than a line may have, or its last byte lies past what a file may have.
+    /// The line has more bytes than a line may have, or its last byte lies past what a file may
+    /// have.
     Long,
     /// The bytes are no line of the proof text.
     Grammar,
@@ -60,11 +60,9 @@ pub enum Reason {
     Budget,
     /// The basic statement is false, as the counterexample shows.
     False(Clash),
-    /// The line is in the proof text, and isn't checked yet: a formula in clauses, a diagram node, a basic statement other than
-    /// `b1` and `b2` over listed states.
+    /// The line is in the proof text, and isn't checked yet: a diagram node, or a basic statement
+    /// by `b4`.
     Unbuilt,
-    /// The basic statement isn't offered, passes the budget, or is false.
-    NotGood,
 }
 
 impl Reason {
@@ -87,7 +85,6 @@ impl Reason {
                 Ok(Reason::False(copy))
             }
             Reason::Unbuilt => Ok(Reason::Unbuilt),
-            Reason::NotGood => Ok(Reason::NotGood),
         }
     }
 }

@@ -32,7 +32,8 @@ impl Model for Table {
       room = min (room_of t.lines) (min (room_of t.acts) (min (room_of t.exprs) (room_of t.knowns)));
     } };
 
-    ghost invariant = { λ t. IsIndexed t.lines.items (reverse t.lines.items) t.acts.items t.exprs.items t.knowns.items };
+    ghost invariant = { λ t.
+        IsIndexed t.lines.items (reverse t.lines.items) t.acts.items t.exprs.items t.knowns.items };
 }
 
 impl Table {
@@ -61,8 +62,9 @@ impl Table {
         Ok(())
     }
 
-    /// Puts the line last. Its identifier is the number of earlier lines of its letter, and it refers to earlier lines alone.
-    /// Where room was reserved it takes no memory, and uses up room for one line at most.
+    /// Puts the line last. Its identifier is the number of earlier lines of its letter, and it
+    /// refers to earlier lines alone. Where room was reserved it takes no memory, and uses up room
+    /// for one line at most.
     pub fn push(&mut self, line: Line) -> Result<(), AllocError>
         requires { IsNext self.old.lines line }
         ensures ok { OnOk result (self.new.lines ≡ line ∷ self.old.lines) }
@@ -155,7 +157,8 @@ impl Table {
         requires { id < expr_count self.now.lines }
         ensures says { expr_at self.now.lines id ≡ Some result.now }
         ensures before { ExprRefersBelow (acts_count self.now.lines) id result.now }
-        ensures below { ExprRefersBelow (acts_count self.now.lines) (expr_count self.now.lines) result.now }
+        ensures below { ExprRefersBelow (acts_count self.now.lines)
+            (expr_count self.now.lines) result.now }
     {
         match &self.lines[self.exprs[id]] {
             Line::Expr { expr, .. } => expr,
@@ -167,7 +170,8 @@ impl Table {
     pub fn statement(&self, id: usize) -> &Statement
         requires { id < known_count self.now.lines }
         ensures says { statement_at self.now.lines id ≡ Some result.now }
-        ensures below { SpeaksBelow (acts_count self.now.lines) (expr_count self.now.lines) result.now }
+        ensures below { SpeaksBelow (acts_count self.now.lines)
+            (expr_count self.now.lines) result.now }
     {
         self.known(id).statement
     }
@@ -194,7 +198,8 @@ impl Table {
         ensures statement { statement_at self.now.lines id ≡ Some result.statement.now }
         ensures word { word_at self.now.lines id ≡ Some result.word }
         ensures premises { premises_at self.now.lines id ≡ Some result.premises.now }
-        ensures below { SpeaksBelow (acts_count self.now.lines) (expr_count self.now.lines) result.statement.now }
+        ensures below { SpeaksBelow (acts_count self.now.lines)
+            (expr_count self.now.lines) result.statement.now }
         ensures before { AreBelow id result.premises.now }
     {
         match &self.lines[self.knowns[id]] {

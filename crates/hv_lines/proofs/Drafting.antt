@@ -1,0 +1,220 @@
+-- Good lines by their letter and word, and the lines with which drafts begin and end.
+use Rattle.std.proofs.Common.{◌≡◌, ℕ, ◌+◌, ◌<◌, ◌^◌, List, [], ◌∷◌, Some, length, refl, arith}
+use Rattle.std.proofs.lemmas.List.Elements.{All-cons, All-nil}
+use Rattle.std.specs.List.{All}
+use Rattle.hv_task.specs.State.{AreBelow}
+use Rattle.hv_task.specs.Strips.{Strips}
+use Rattle.hv_lines.specs.Drafts.{IsGoodNext, IsGoodTable, conclusion, draft_setting, onto, prelude}
+use Rattle.hv_lines.specs.Good.{AreGood, ExprIsWithin, IsBasicWord, IsBuiltWord, IsFormed, IsGood, IsOfItsFamily}
+use Rattle.hv_lines.specs.Judged.{Concludes}
+use Rattle.hv_lines.specs.Numbering.{ExprRefersBelow, IsTable, SpeaksBelow, acts_count, expr_at, expr_count, known_count, statement_at}
+use Rattle.hv_lines.specs.Rules.{Fits}
+use Rattle.hv_lines.specs.Setting.{Setting}
+use Rattle.hv_lines.specs.Spelling.{ExprFits, FitsDecimal, StatementFits, premises_of}
+use Rattle.hv_lines.specs.declared.line.Acts.{Acts}
+use Rattle.hv_lines.specs.declared.line.Acts.TheVariants as A
+use Rattle.hv_lines.specs.declared.line.Constant.{Constant}
+use Rattle.hv_lines.specs.declared.line.Constant.TheVariants as C
+use Rattle.hv_lines.specs.declared.line.Expr.{Expr}
+use Rattle.hv_lines.specs.declared.line.Expr.TheVariants as E
+use Rattle.hv_lines.specs.declared.line.Line.{Line}
+use Rattle.hv_lines.specs.declared.line.Line.TheVariants as L
+use Rattle.hv_lines.specs.declared.line.Statement.{Statement}
+use Rattle.hv_lines.specs.declared.line.Statement.TheVariants as T
+use Rattle.hv_lines.specs.declared.line.Word.{Word}
+use Rattle.hv_lines.specs.declared.line.Word.TheVariants as W
+use Rattle.hv_lines.proofs.Laws.{expr_below, known_below, statement_at_here}
+use Rattle.hv_lines.proofs.Carried.{known_onto}
+use Rattle.hv_lines.proofs.Lengths.{decimal_short, short_by, short_constant, short_known}
+use Rattle.hv_lines.proofs.Reasons.{good_line, good_next}
+
+-- the lines of a good draft are a table
+pub table_of : (task : Strips) (lines : List Line) → IsGoodTable task lines → IsTable lines
+table_of task [] good = tt
+table_of task (line ∷ older) good = (good_next (draft_setting task) older line good.0.good, table_of task older good.1)
+
+-- they are good by the setting of drafts
+pub good_of : (task : Strips) (lines : List Line) → IsGoodTable task lines → AreGood (draft_setting task) lines
+good_of task [] good = tt
+good_of task (line ∷ older) good = (good.0.good, good_of task older good.1)
+
+-- the lines before the further ones of a good draft are those of a good draft
+pub good_before : (task : Strips) (more lines : List Line) → IsGoodTable task (onto more lines) → IsGoodTable task lines
+good_before task [] lines good = good
+good_before task (line ∷ more) lines good = (good_before task more (line ∷ lines) good).1
+
+-- lists of premises
+
+pub below_one : (n a : ℕ) → a < n → AreBelow n (a ∷ [])
+below_one n a at = All-cons (λ x. x < n) a [] at (All-nil (λ x. x < n))
+
+pub below_two : (n a b : ℕ) → a < n → b < n → AreBelow n (a ∷ b ∷ [])
+below_two n a b at also = All-cons (λ x. x < n) a (b ∷ []) at (below_one n b also)
+
+pub below_three : (n a b c : ℕ) → a < n → b < n → c < n → AreBelow n (a ∷ b ∷ c ∷ [])
+below_three n a b c at also more = All-cons (λ x. x < n) a (b ∷ c ∷ []) at (below_two n b c also more)
+
+module _ (setting : Setting) (lines : List Line) where
+  pub formed_expr : (id : ℕ) (expr : Expr) → FitsDecimal id → ExprFits expr → id ≡ expr_count lines
+      → ExprRefersBelow (acts_count lines) (expr_count lines) expr → ExprIsWithin setting.task setting.nodes expr
+      → IsOfItsFamily expr → IsFormed setting lines (L.Expr id expr)
+  formed_expr id expr at fits is refers within family =
+      record { spelled = (at, fits); built = tt; numbered = is; known = (refers, within); family = family }
+
+  pub formed_known : (id : ℕ) (statement : Statement) (word : Word) (premises : List ℕ) → FitsDecimal id → StatementFits statement
+      → All FitsDecimal premises → premises_of statement word ≡ Some (length premises) → IsBuiltWord word → id ≡ known_count lines
+      → SpeaksBelow (acts_count lines) (expr_count lines) statement → AreBelow (known_count lines) premises
+      → IsFormed setting lines (L.Known id statement word premises)
+  formed_known id statement word premises at says fit many built is speaks below = record {
+    spelled = (at, says, fit, many);
+    built = built;
+    numbered = is;
+    known = ((speaks, below), tt);
+    family = tt;
+  }
+
+  pub good_acts : (id : ℕ) (acts : Acts) → IsFormed setting lines (L.Acts id acts) → IsGood setting lines (L.Acts id acts)
+  good_acts id acts formed = good_line setting lines (L.Acts id acts) formed tt tt tt tt tt
+
+  pub good_expr : (id : ℕ) (expr : Expr) → IsFormed setting lines (L.Expr id expr) → IsGood setting lines (L.Expr id expr)
+  good_expr id expr formed = good_line setting lines (L.Expr id expr) formed tt tt tt tt tt
+
+  -- a line that is justified by a derivation rule
+  pub good_rule : (id : ℕ) (statement : Statement) (word : Word) (premises : List ℕ) → (IsBasicWord word → ⊥)
+      → IsFormed setting lines (L.Known id statement word premises) → Fits lines statement word premises
+      → IsGood setting lines (L.Known id statement word premises)
+  good_rule id statement word premises out formed fits =
+      good_line setting lines (L.Known id statement word premises) formed (λ on. fits) (λ on. absurd (out on)) (λ on. absurd (out on))
+      (λ on. absurd (out on)) (λ on. absurd (out on))
+
+small_number : (n : ℕ) → n < 10 → FitsDecimal n
+small_number n small = omega (arith, small)
+
+module _ (task : Strips) where
+  abbrev P1 : List Line
+  P1 = L.Acts 0 A.All ∷ []
+
+  abbrev P2 : List Line
+  P2 = L.Expr 0 (E.Constant C.Empty) ∷ P1
+
+  abbrev P3 : List Line
+  P3 = L.Expr 1 (E.Constant C.Start) ∷ P2
+
+  abbrev P4 : List Line
+  P4 = L.Expr 2 (E.Constant C.Goal) ∷ P3
+
+  constant_next : (lines : List Line) (id : ℕ) (constant : Constant) → id < 10
+      → id ≡ expr_count lines → IsGoodNext task lines (L.Expr id (E.Constant constant))
+  constant_next lines id constant small is = record {
+    good = good_expr (draft_setting task) lines id (E.Constant constant)
+        (formed_expr (draft_setting task) lines id (E.Constant constant) (small_number id small) tt is tt tt tt);
+    short = short_constant id constant (small_number id small);
+  }
+
+  -- the lines with which every draft begins are good
+  pub good_prelude : IsGoodTable task (onto prelude [])
+  good_prelude = (
+    record {
+      good = good_rule (draft_setting task) P4 0 (T.Dead 0) W.Ed [] (λ basic. basic)
+          (formed_known (draft_setting task) P4 0 (T.Dead 0) W.Ed [] (small_number 0 (omega arith)) (small_number 0 (omega arith))
+          (All-nil FitsDecimal) refl tt refl (omega arith) (All-nil (λ x. x < 0)))
+          refl;
+      short = short_known 0 (T.Dead 0) W.Ed [] (small_number 0 (omega arith)) (small_number 0 (omega arith)) (All-nil FitsDecimal)
+          (omega arith) (omega arith);
+    },
+    (
+      constant_next P3 2 C.Goal (omega arith) refl,
+      (
+        constant_next P2 1 C.Start (omega arith) refl,
+        (
+          constant_next P1 0 C.Empty (omega arith) refl,
+          (
+            record {
+              good = good_acts (draft_setting task) [] 0 A.All record {
+                spelled = (small_number 0 (omega arith), tt);
+                built = tt;
+                numbered = refl;
+                known = (tt, tt);
+                family = tt;
+              };
+              short = short_by (L.Acts 0 A.All)
+                  (omega (arith, decimal_short 0 (small_number 0 (omega arith))));
+            },
+            tt,
+          ),
+        ),
+      ),
+    ),
+  )
+
+  -- The lines with which a proof ends are good: what is dead holds the initial state, and the first line, which says so, is good.
+  module _ (old : List Line) (good : IsGoodTable task old) (k dead by : ℕ) (is : k ≡ known_count old) (few : k + 2 < 10 ^ 18)
+      (dead_fits : FitsDecimal dead) (start : expr_at old 1 ≡ Some (E.Constant C.Start)) (there : dead < expr_count old)
+      (says : statement_at old by ≡ Some (T.Dead dead))
+      (first : IsGood (draft_setting task) old (L.Known k (T.Sub 1 dead) W.B1 [])) where
+    abbrev L1 : List Line
+    L1 = L.Known k (T.Sub 1 dead) W.B1 [] ∷ old
+
+    abbrev L2 : List Line
+    L2 = L.Known (k + 1) (T.Dead 1) W.Sd (k ∷ by ∷ []) ∷ L1
+
+    table : IsTable old
+    table = table_of task old good
+
+    by_below : by < k
+    by_below = omega (arith, known_below old by (T.Dead dead) table says, is)
+
+    start_below : 1 < expr_count old
+    start_below = expr_below old 1 (E.Constant C.Start) table start
+
+    good1 : IsGoodTable task L1
+    good1 = (
+      record {
+        good = first;
+        short = short_known k (T.Sub 1 dead) W.B1 [] (omega (arith, few)) (small_number 1 (omega arith), dead_fits)
+            (All-nil FitsDecimal) (omega arith) (omega arith);
+      },
+      good,
+    )
+
+    says1 : statement_at L1 by ≡ Some (T.Dead dead)
+    says1 = known_onto (L.Known k (T.Sub 1 dead) W.B1 [] ∷ []) old by (T.Dead dead) (table_of task L1 good1) says
+
+    good2 : IsGoodTable task L2
+    good2 = (
+      record {
+        good = good_rule (draft_setting task) L1 (k + 1) (T.Dead 1) W.Sd (k ∷ by ∷ []) (λ basic. basic)
+            (formed_known (draft_setting task) L1 (k + 1) (T.Dead 1) W.Sd (k ∷ by ∷ []) (omega (arith, few)) (small_number 1 (omega arith))
+            (All-cons FitsDecimal k (by ∷ []) (omega (arith, few)) (All-cons FitsDecimal by [] (omega (arith, few, by_below)) (All-nil FitsDecimal)))
+            refl tt (omega (arith, is)) start_below (below_two (known_count L1) k by (omega (arith, is)) (omega (arith, is, by_below))))
+            (dead, statement_at_here k (T.Sub 1 dead) W.B1 [] old, says1);
+        short = short_known (k + 1) (T.Dead 1) W.Sd (k ∷ by ∷ []) (omega (arith, few)) (small_number 1 (omega arith))
+            (All-cons FitsDecimal k (by ∷ []) (omega (arith, few)) (All-cons FitsDecimal by [] (omega (arith, few, by_below)) (All-nil FitsDecimal)))
+            (omega arith) (omega arith);
+      },
+      good1,
+    )
+
+    start2 : expr_at L2 1 ≡ Some (E.Constant C.Start)
+    start2 = start
+
+    pub good_conclusion : IsGoodTable task (onto (conclusion k dead by) old)
+    good_conclusion = (
+      record {
+        good = good_rule (draft_setting task) L2 (k + 2) T.Unsolvable W.Ci ((k + 1) ∷ []) (λ basic. basic)
+            (formed_known (draft_setting task) L2 (k + 2) T.Unsolvable W.Ci ((k + 1) ∷ []) (omega (arith, few)) tt
+            (All-cons FitsDecimal (k + 1) [] (omega (arith, few)) (All-nil FitsDecimal))
+            refl tt (omega (arith, is)) tt (below_one (known_count L2) (k + 1) (omega (arith, is))))
+            (1, statement_at_here (k + 1) (T.Dead 1) W.Sd (k ∷ by ∷ []) L1, start2);
+        short = short_known (k + 2) T.Unsolvable W.Ci ((k + 1) ∷ []) (omega (arith, few)) tt
+            (All-cons FitsDecimal (k + 1) [] (omega (arith, few)) (All-nil FitsDecimal)) (omega arith) (omega arith);
+      },
+      good2,
+    )
+
+  pub concludes : (old : List Line) (k dead by : ℕ) → Concludes (onto (conclusion k dead by) old)
+  concludes old k dead by = (
+    k + 2,
+    statement_at_here (k + 2) T.Unsolvable W.Ci ((k + 1) ∷ [])
+        (L.Known (k + 1) (T.Dead 1) W.Sd (k ∷ by ∷ []) ∷ L.Known k (T.Sub 1 dead) W.B1 [] ∷ old),
+  )

@@ -1,0 +1,203 @@
+-- The shapes of basic statements: leaves, literals and families.
+use Rattle.std.specs.Prelude.{◌≡◌, ◌≤◌, ◌<◌, ◌⊎◌, ◌+◌, ◌↔◌, ℕ, Bool, true, false, not, List, Option, Some, None, length, slice_get}
+use Rattle.std.specs.List.{Contains}
+use Rattle.hv_lines.specs.Literals.{IsPlainSet, IsLiteral}
+use Rattle.hv_lines.specs.Numbering.{expr_at}
+use Rattle.hv_lines.specs.declared.family.FormulaFamily.{FormulaFamily}
+use Rattle.hv_lines.specs.declared.family.FormulaFamily.TheVariants as F
+use Rattle.hv_lines.specs.declared.line.Expr.{Expr}
+use Rattle.hv_lines.specs.declared.line.Expr.TheVariants as E
+use Rattle.hv_lines.specs.declared.line.Line.{Line}
+use Rattle.hv_lines.specs.declared.line.Statement.{Statement}
+use Rattle.hv_lines.specs.declared.line.Statement.TheVariants as T
+use Rattle.hv_lines.specs.declared.line.Word.{Word}
+use Rattle.hv_lines.specs.declared.line.Word.TheVariants as W
+
+-- the two parts of an intersection
+abbrev pub and_parts : Expr → Option (ℕ × ℕ)
+and_parts (E.And left right) = Some (left, right)
+and_parts _ = None
+
+-- the two parts of a union
+abbrev pub or_parts : Expr → Option (ℕ × ℕ)
+or_parts (E.Or left right) = Some (left, right)
+or_parts _ = None
+
+-- The leaves of a set: those of both its parts where it has two, and otherwise it alone.
+pub data IsLeaf (parts : Expr → Option (ℕ × ℕ)) (lines : List Line) : ℕ → ℕ → Type 0 where
+  alone : (set : ℕ) (expr : Expr) → expr_at lines set ≡ Some expr → parts expr ≡ None
+      → IsLeaf parts lines set set
+  of_left : (set left right leaf : ℕ) (expr : Expr) → expr_at lines set ≡ Some expr
+      → parts expr ≡ Some (left, right) → IsLeaf parts lines left leaf → IsLeaf parts lines set leaf
+  of_right : (set left right leaf : ℕ) (expr : Expr) → expr_at lines set ≡ Some expr
+      → parts expr ≡ Some (left, right) → IsLeaf parts lines right leaf
+      → IsLeaf parts lines set leaf
+
+-- an intersection leaf of the set
+abbrev pub IsAndLeaf : List Line → ℕ → ℕ → Type 0
+IsAndLeaf lines set leaf = IsLeaf and_parts lines set leaf
+
+-- a union leaf of the set
+abbrev pub IsOrLeaf : List Line → ℕ → ℕ → Type 0
+IsOrLeaf lines set leaf = IsLeaf or_parts lines set leaf
+
+-- the set and the action set of a progression
+abbrev pub after_parts : Expr → Option (ℕ × ℕ)
+after_parts (E.After set acts) = Some (set, acts)
+after_parts _ = None
+
+-- the set and the action set of a regression
+abbrev pub before_parts : Expr → Option (ℕ × ℕ)
+before_parts (E.Before set acts) = Some (set, acts)
+before_parts _ = None
+
+-- the step that the word asks for on the left: a progression for `b2`, a regression for `b3`; its
+-- set and its action set
+abbrev pub step_of : Word → Expr → Option (ℕ × ℕ)
+step_of W.B2 expr = after_parts expr
+step_of W.B3 expr = before_parts expr
+step_of _ expr = None
+
+-- the leaf is the progression or regression that the word asks for
+abbrev pub IsStep : List Line → Word → ℕ → ℕ → ℕ → Type 0
+IsStep lines word leaf set acts =
+    (expr : Expr) × (expr_at lines leaf ≡ Some expr) × (step_of word expr ≡ Some (set, acts))
+
+-- The sides of a statement have the shape of the word, with the action set of its step if it has
+-- one: every leaf is a literal, but for one on the left, the step, of whose set every intersection
+-- leaf is a literal.
+abbrev pub HasSides : List Line → Word → ℕ → ℕ → Option ℕ → Type 0
+HasSides lines word left right None =
+    (word ≡ W.B1)
+    × ((leaf : ℕ) → IsAndLeaf lines left leaf → IsLiteral lines leaf)
+    × ((leaf : ℕ) → IsOrLeaf lines right leaf → IsLiteral lines leaf)
+HasSides lines word left right (Some acts) =
+    (step : ℕ) × (set : ℕ) × IsAndLeaf lines left step × IsStep lines word step set acts
+    × ((leaf : ℕ) → IsAndLeaf lines left leaf → IsLiteral lines leaf ⊎ (leaf ≡ step))
+    × ((leaf : ℕ) → IsAndLeaf lines set leaf → IsLiteral lines leaf)
+    × ((leaf : ℕ) → IsOrLeaf lines right leaf → IsLiteral lines leaf)
+
+-- the literal is the formula or constant itself (true), or its negation (false)
+abbrev pub IsLiteralOf : List Line → ℕ → ℕ → Bool → Type 0
+IsLiteralOf lines leaf set true = (leaf ≡ set) × IsPlainSet lines set
+IsLiteralOf lines leaf set false = (expr_at lines leaf ≡ Some (E.Not set)) × IsPlainSet lines set
+
+-- whether the literals beside the step and those on the right are asked about after the action
+abbrev pub asks_sides_after : Word → Bool
+asks_sides_after W.B2 = true
+asks_sides_after _ = false
+
+-- whether the literals of the step are asked about after the action
+abbrev pub asks_step_after : Word → Bool
+asks_step_after W.B3 = true
+asks_step_after _ = false
+
+-- the leaf stands on the left, beside the step or in its set, and is asked about after the action
+-- or before it
+abbrev pub IsLeftLeaf : List Line → Word → ℕ → ℕ → Bool → Type 0
+IsLeftLeaf lines word left leaf after =
+    (IsAndLeaf lines left leaf × (after ≡ asks_sides_after word))
+    ⊎ ((step : ℕ) × (set : ℕ) × (acts : ℕ) × IsAndLeaf lines left step
+    × IsStep lines word step set acts × IsAndLeaf lines set leaf × (after ≡ asks_step_after word))
+
+-- the leaf stands on the right, and is asked about after the action or before it
+abbrev pub IsRightLeaf : List Line → Word → ℕ → ℕ → Bool → Type 0
+IsRightLeaf lines word right leaf after =
+    IsOrLeaf lines right leaf × (after ≡ asks_sides_after word)
+
+-- The formula or constant is asked about, after the action or before it, with this sign: a literal
+-- on the left gives a positive operand and its negation a negative one, and on the right it is the
+-- other way round.
+abbrev pub IsAsked : List Line → Word → ℕ → ℕ → Bool → ℕ × Bool → Type 0
+IsAsked lines word left right positive (set, after) =
+    (leaf : ℕ)
+    × ((IsLeftLeaf lines word left leaf after × IsLiteralOf lines leaf set positive)
+    ⊎ (IsRightLeaf lines word right leaf after × IsLiteralOf lines leaf set (not positive)))
+
+-- the family of a formula; nothing else has one
+abbrev pub family_of : Expr → Option FormulaFamily
+family_of (E.Horn clauses) = Some F.Horn
+family_of (E.Two clauses) = Some F.Two
+family_of (E.States states) = Some F.States
+family_of (E.Node node) = Some F.Node
+family_of _ = None
+
+-- the set is a formula of the family
+abbrev pub IsOfFamily : List Line → FormulaFamily → ℕ → Type 0
+IsOfFamily lines family set =
+    (expr : Expr) × (expr_at lines set ≡ Some expr) × (family_of expr ≡ Some family)
+
+-- the set is a constant, or a formula of the family
+abbrev pub IsWithinFamily : List Line → FormulaFamily → ℕ → Type 0
+IsWithinFamily lines family set =
+    (expr : Expr) × (expr_at lines set ≡ Some expr)
+    × ((family_of expr ≡ None) ⊎ (family_of expr ≡ Some family))
+
+-- what is asked about: the identifiers of formulas and constants, each before the action (false) or
+-- after it (true)
+abbrev pub Askings : Type 0
+Askings = List (ℕ × Bool)
+
+-- the one comes before the other: its identifier is less, or the two have one identifier and only
+-- the other is asked about after the action
+abbrev pub AskedBefore : ℕ × Bool → ℕ × Bool → Type 0
+AskedBefore first second =
+    (first.0 < second.0) ⊎ ((first.0 ≡ second.0) × (first.1 ≡ false) × (second.1 ≡ true))
+
+-- each comes before those that follow it, so none stands twice
+abbrev pub AskingsRise : Askings → Type 0
+AskingsRise askings =
+    (i j : ℕ) (first second : ℕ × Bool) → i < j → slice_get askings i ≡ Some first
+    → slice_get askings j ≡ Some second → AskedBefore first second
+
+-- how many operands a statement can have
+abbrev pub most_operands : ℕ
+most_operands = 65536
+
+-- All formulas that are asked about are of the family; where all are constants it is Horn.
+pub record IsFamilyOf (lines : List Line) (word : Word) (left right : ℕ) (family : FormulaFamily)
+    : Type 0 where
+  pub within : (positive : Bool) (asked : ℕ × Bool) → IsAsked lines word left right positive asked
+      → IsWithinFamily lines family asked.0
+  pub some : (family ≡ F.Horn)
+      ⊎ ((positive : Bool) × (asked : ℕ × Bool) × IsAsked lines word left right positive asked
+      × IsOfFamily lines family asked.0)
+
+-- a basic statement of sets by what it asks: its family, what is asked about with each sign, and
+-- the action set of its step
+pub record Question : Type 0 where
+  pub family : FormulaFamily
+  pub positive : Askings
+  pub negative : Askings
+  pub acts : Option ℕ
+
+-- the question is that of the statement that the left set is within the right one, which has the
+-- shape of the word
+pub record IsQuestion (lines : List Line) (word : Word) (left right : ℕ) (question : Question)
+    : Type 0 where
+  pub sides : HasSides lines word left right question.acts
+  -- what is asked about, in order
+  pub positive : (asked : ℕ × Bool)
+      → Contains question.positive asked ↔ IsAsked lines word left right true asked
+  pub negative : (asked : ℕ × Bool)
+      → Contains question.negative asked ↔ IsAsked lines word left right false asked
+  pub positive_rises : AskingsRise question.positive
+  pub negative_rises : AskingsRise question.negative
+  pub few : length question.positive + length question.negative ≤ most_operands
+  pub family : IsFamilyOf lines word left right question.family
+
+-- a basic statement: of sets, with its word, or of two action sets
+pub data Basic : Type 0 where
+  OfSets : Word → Question → Basic
+  OfActs : ℕ → ℕ → Basic
+
+-- the statement with the word has its shape, and asks this
+abbrev pub IsShaped : List Line → Statement → Word → Basic → Type 0
+IsShaped lines (T.Sub left right) word (OfSets asked question) =
+    (asked ≡ word) × IsQuestion lines word left right question
+IsShaped lines (T.ActSub left right) W.B5 (OfActs first second) = (first ≡ left) × (second ≡ right)
+IsShaped lines _ _ _ = ⊥
+
+-- the statement has the shape of the word
+abbrev pub HasShape : List Line → Statement → Word → Type 0
+HasShape lines statement word = (basic : Basic) × IsShaped lines statement word basic

@@ -1,0 +1,84 @@
+-- The verdict of a basic statement.
+use Rattle.std.specs.Prelude.{◌≡◌, ◌<◌, ℕ, Bool, true, false, List, Some, None, length, slice_get}
+use Rattle.hv_task.specs.Strips.{Strips, atoms}
+use Rattle.hv_sets.specs.Query.{is_clash}
+use Rattle.hv_sets.specs.declared.query.Query.{Query}
+use Rattle.hv_lines.specs.Meaning.{acts_of}
+use Rattle.hv_lines.specs.Queries.{IsOffered, PassesBudget, has_of, queries_of}
+use Rattle.hv_lines.specs.Setting.{Setting}
+use Rattle.hv_lines.specs.Shapes.{Basic, OfSets, OfActs, Question, IsShaped}
+use Rattle.hv_lines.specs.declared.line.Line.{Line}
+use Rattle.hv_lines.specs.declared.line.Statement.{Statement}
+use Rattle.hv_lines.specs.declared.line.Word.{Word}
+use Rattle.hv_lines.specs.declared.reason.Clash.{Clash}
+use Rattle.hv_lines.specs.declared.verdict.Verdict.{Verdict}
+use Rattle.hv_lines.specs.declared.verdict.Verdict.TheVariants as V
+
+module _ (Passes : Query → Type 0) (clash : Query → List Bool → Bool) (atoms : ℕ) where
+  -- the query decides nothing: it is within the budget, and no state is a counterexample to it
+  abbrev pub IsSettled : Query → Type 0
+  IsSettled query =
+      (Passes query → ⊥) × ((state : List Bool) → length state ≡ atoms → clash query state ≡ false)
+
+  -- the query is in the list, and each one before it decides nothing
+  abbrev pub IsFirst : List Query → Query → Type 0
+  IsFirst queries query =
+      (place : ℕ) × (slice_get queries place ≡ Some query)
+      × ((lower : ℕ) (earlier : Query) → lower < place → slice_get queries lower ≡ Some earlier
+      → IsSettled earlier)
+
+  -- the counterexample is the query's: it has the query's action, and a state that is one
+  abbrev pub IsClashOf : Query → Clash → Type 0
+  IsClashOf query found =
+      (found.action ≡ query.action)
+      × ((state : List Bool) × (found.state ≡ Some state) × (length state ≡ atoms)
+      × (clash query state ≡ true))
+
+  -- The verdict of a list of queries: the first that passes the budget or has a counterexample
+  -- decides.
+  abbrev pub IsDecided : List Query → Verdict → Type 0
+  IsDecided queries V.True =
+      (place : ℕ) (query : Query) → slice_get queries place ≡ Some query → IsSettled query
+  IsDecided queries (V.False found) =
+      (query : Query) × IsFirst queries query × (Passes query → ⊥) × IsClashOf query found
+  IsDecided queries V.Over = (query : Query) × IsFirst queries query × Passes query
+  IsDecided queries V.NotOffered = ⊥
+
+-- the verdict of a question
+abbrev pub IsVerdictOfSets : Setting → List Line → Question → Verdict → Type 0
+IsVerdictOfSets setting lines question V.NotOffered = IsOffered lines question → ⊥
+IsVerdictOfSets setting lines question verdict =
+    IsOffered lines question
+    × IsDecided (PassesBudget setting lines question.family)
+    (is_clash setting.task (has_of setting lines question.family)) (atoms setting.task)
+    (queries_of setting.task lines question) verdict
+
+-- the action is in the first action set and not in the second
+abbrev pub IsOutside : Strips → List Line → ℕ → ℕ → ℕ → Type 0
+IsOutside task lines first second number =
+    (number < length task.actions) × (acts_of lines first number ≡ true)
+    × (acts_of lines second number ≡ false)
+
+-- the verdict on two action sets: a counterexample is the least action of the first that isn't in
+-- the second
+abbrev pub IsVerdictOfActs : Strips → List Line → ℕ → ℕ → Verdict → Type 0
+IsVerdictOfActs task lines first second V.True =
+    (number : ℕ) → IsOutside task lines first second number → ⊥
+IsVerdictOfActs task lines first second (V.False found) =
+    (number : ℕ) × (found.action ≡ Some number) × (found.state ≡ None)
+    × IsOutside task lines first second number
+    × ((lower : ℕ) → lower < number → IsOutside task lines first second lower → ⊥)
+IsVerdictOfActs task lines first second V.Over = ⊥
+IsVerdictOfActs task lines first second V.NotOffered = ⊥
+
+-- the verdict of a basic statement
+abbrev pub IsVerdictOf : Setting → List Line → Basic → Verdict → Type 0
+IsVerdictOf setting lines (OfSets word question) verdict =
+    IsVerdictOfSets setting lines question verdict
+IsVerdictOf setting lines (OfActs first second) verdict =
+    IsVerdictOfActs setting.task lines first second verdict
+
+-- the verdict of a statement with its word, where it has the shape
+abbrev pub IsVerdict : Setting → List Line → Statement → Word → Verdict → Type 0
+IsVerdict setting lines statement word verdict =
+    (basic : Basic) × IsShaped lines statement word basic × IsVerdictOf setting lines basic verdict

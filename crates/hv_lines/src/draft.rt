@@ -1,0 +1,208 @@
+//! Drafts of proofs.
+
+ghost use Rattle.std.specs.Prelude.{◌≡◌, ◌<◌, ◌≤◌, ◌+◌, ◌^◌, ◌∷◌, [], length, IfOk, OnOk, OnErr};
+ghost use Rattle.hv_lines.specs.Drafts.{IsGoodNext, IsGoodTable, conclusion, id_of, onto, prelude};
+
+use crate::line::{Acts, Constant, Expr, Line, Statement, Word};
+use crate::premises::Premises;
+use crate::table::Table;
+use hv_task::Task;
+use std::alloc::{AllocError, Global};
+use std::marker::Model;
+
+// The most lines that a draft has, the spare ones included.
+const MOST_LINES: usize = 576460752303423488;
+
+/// A proof that is written line by line: each line is good after those before it, without a node
+/// file and with the budget 1,000,000. It begins with all actions, the three sets that every task
+/// has, and that the empty set is dead.
+#[derive(Drop)]
+pub struct Draft {
+    table: Table,
+    // How many lines `push` takes without memory: those for which room was reserved.
+    spare: usize,
+}
+
+impl Model for Draft {
+    ghost use Rattle.std.specs.Prelude.{◌≤◌, ◌+◌, length};
+    ghost use Rattle.hv_lines.specs.Drafts.{DraftState, most_lines};
+
+    ghost Value = { DraftState };
+
+    ghost view = { λ d. record { lines = d.table.lines; spare = d.spare } };
+
+    ghost invariant = { λ d. (d.spare ≤ d.table.room)
+        × (length d.table.lines + d.spare ≤ most_lines) };
+}
+
+impl Draft {
+    /// The draft that begins a proof for the task.
+    pub fn new(alloc: Global, task: &Task) -> Result<Draft, AllocError>
+        ensures lines { IfOk result (λ draft. draft.lines ≡ onto prelude []) }
+        ensures good { IfOk result (λ draft. IsGoodTable task.now draft.lines) }
+    {
+        let lines = prelude(alloc)?;
+        let mut draft = Draft {
+            table: Table::new(alloc),
+            spare: 0,
+        };
+        draft.reserve(5)?;
+        draft.push_all(task, lines);
+        Ok(draft)
+    }
+
+    /// Takes the memory for so many further lines. Where the lines and these would be more than
+    /// 2^59, it answers want of memory.
+    pub fn reserve(&mut self, lines: usize) -> Result<(), AllocError>
+        ensures spare { OnOk result (lines ≤ self.new.spare) }
+        ensures more { self.old.spare ≤ self.new.spare }
+        ensures lines { self.new.lines ≡ self.old.lines }
+        ensures err { OnErr result (self.new ≡ self.old) }
+    {
+        if lines <= self.spare {
+            return Ok(());
+        }
+        if lines > MOST_LINES || self.table.len() > MOST_LINES - lines {
+            return Err(AllocError);
+        }
+        self.table.reserve(lines)?;
+        self.spare = lines;
+        Ok(())
+    }
+
+    /// How many further lines `push` takes.
+    pub fn spare(&self) -> usize
+        ensures { result ≡ self.now.spare }
+    {
+        self.spare
+    }
+
+    /// Puts the line last, and gives its identifier. It takes no memory.
+    pub fn push(&mut self, task: &Task, line: Line) -> usize
+        requires draft { IsGoodTable task.now self.old.lines }
+        requires line { IsGoodNext task.now self.old.lines line }
+        requires spare { 0 < self.old.spare }
+        ensures id { result ≡ id_of line }
+        ensures lines { self.new.lines ≡ line ∷ self.old.lines }
+        ensures spare { self.new.spare + 1 ≡ self.old.spare }
+        ensures good { IsGoodTable task.now self.new.lines }
+    {
+        let _atoms = task.atoms();
+        let id = id_of(&line);
+        match self.table.push(line) {
+            Ok(()) => {}
+            Err(_) => unreachable!(),
+        }
+        self.spare -= 1;
+        id
+    }
+
+    /// Puts these lines last, in their order. It takes no memory.
+    pub fn push_all(&mut self, task: &Task, lines: Vec<Line>)
+        requires spare { length lines.items ≤ self.old.spare }
+        requires good { IsGoodTable task.now (onto lines.items self.old.lines) }
+        ensures lines { self.new.lines ≡ onto lines.items self.old.lines }
+        ensures spare { self.new.spare + length lines.items ≡ self.old.spare }
+    {
+        for line in lines {
+            let _ = self.push(task, line);
+        }
+    }
+
+    /// The lines.
+    pub fn table(&self) -> &Table
+        ensures { result.now.lines ≡ self.now.lines }
+    {
+        &self.table
+    }
+}
+
+/// The three lines with which a proof ends: line `by` says that a set is dead which holds the
+/// initial state. The first of the three has the identifier `id`.
+pub fn conclusion(alloc: Global, id: usize, dead: usize, by: usize) -> Result<Vec<Line>, AllocError>
+    requires { id + 2 < 2 ^ 64 }
+    ensures { IfOk result (λ lines. lines.items ≡ conclusion id dead by) }
+{
+    Ok(vec![in alloc;
+        Line::Known {
+            id,
+            statement: Statement::Sub(1, dead),
+            word: Word::B1,
+            premises: Premises::none(),
+        },
+        Line::Known {
+            id: id + 1,
+            statement: Statement::Dead(1),
+            word: Word::Sd,
+            premises: Premises::two(id, by),
+        },
+        Line::Known {
+            id: id + 2,
+            statement: Statement::Unsolvable,
+            word: Word::Ci,
+            premises: Premises::one(id + 1),
+        },
+    ]?)
+}
+
+// The lines with which every draft begins.
+fn prelude(alloc: Global) -> Result<Vec<Line>, AllocError>
+    ensures { IfOk result (λ lines. lines.items ≡ prelude) }
+{
+    Ok(vec![in alloc;
+        Line::Acts {
+            id: 0,
+            acts: Acts::All,
+        },
+        Line::Expr {
+            id: 0,
+            expr: Expr::Constant(Constant::Empty),
+        },
+        Line::Expr {
+            id: 1,
+            expr: Expr::Constant(Constant::Start),
+        },
+        Line::Expr {
+            id: 2,
+            expr: Expr::Constant(Constant::Goal),
+        },
+        Line::Known {
+            id: 0,
+            statement: Statement::Dead(0),
+            word: Word::Ed,
+            premises: Premises::none(),
+        },
+    ]?)
+}
+
+// The identifier of the line.
+fn id_of(line: &Line) -> usize
+    ensures { result ≡ id_of line.now }
+{
+    match line {
+        Line::Acts { id, .. } | Line::Expr { id, .. } | Line::Known { id, .. } => *id,
+    }
+}
+
+#[cfg(test)]
+mod tests {
+    use super::*;
+    use std::test::Fail;
+
+    #[test]
+    fn begins_with_five_lines(rt: HostRuntime) -> Result<(), Fail> {
+        let task = Task::new(rt.alloc());
+        let mut draft = Draft::new(rt.alloc(), &task)?;
+        assert_eq!(rt; draft.table().len(), 5);
+        assert_eq!(rt; draft.table().acts_count(), 1);
+        assert_eq!(rt; draft.table().expr_count(), 3);
+        assert_eq!(rt; draft.table().known_count(), 1);
+        assert_eq!(rt; *draft.table().statement(0), Statement::Dead(0));
+        assert_eq!(rt; draft.table().word(0), Word::Ed);
+        draft.reserve(7)?;
+        assert!(rt; draft.spare() >= 7);
+        assert!(rt; draft.reserve(MOST_LINES).is_err());
+        assert!(rt; draft.spare() >= 7);
+        Ok(())
+    }
+}

@@ -1,0 +1,12 @@
+/// A family of formulas.
+#[derive(Clone, Copy, Debug, PartialEq, Eq)]
+pub enum FormulaFamily {
+    /// Horn formulas.
+    Horn,
+    /// 2CNF formulas.
+    Two,
+    /// Explicit sets.
+    States,
+    /// Nodes of decision diagrams.
+    Node,
+}
