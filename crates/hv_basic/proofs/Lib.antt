@@ -1,6 +1,10 @@
-mod Anchors
-mod Members
 mod Marked
-mod Kept
-mod Led
-mod Decided
+pub mod Leafing
+pub mod Gathering
+pub mod Membership
+pub mod Ordering
+pub mod Siding
+pub mod Walking
+pub mod Storing
+pub mod Querying
+pub mod Growing

@@ -15,12 +15,9 @@ pub record AreFlagsOf (lines : List Line) (acts actions : ℕ) (flags : List Boo
   pub each : length flags ≡ actions
   pub true_for : (number : ℕ) → number < actions → flag_at flags number ≡ acts_of lines acts number
 
--- some flag is set
-abbrev pub HasFlag : List Bool → Type 0
-HasFlag flags = (place : ℕ) × (flag_at flags place ≡ true)
-
--- flags and wanted action sets after an action set was looked at: where it is all actions every flag is set, where it lists some
--- those are set, and where it is made of two others these are wanted besides
+-- flags and wanted action sets after an action set was looked at: where it is all actions every
+-- flag is set, where it lists some those are set, and where it is made of two others these are
+-- wanted besides
 abbrev pub Marks : Acts → List Bool → List Bool → List Bool → List Bool → Type 0
 Marks A.All flags wanted new_flags new_wanted =
     (new_flags ≡ replicate (length flags) true) × (new_wanted ≡ wanted)

@@ -1,6 +1,8 @@
-pub mod Parts
 pub mod Flags
-pub mod Listing
-pub mod Clash
-pub mod Inclusion
-pub mod Progression
+pub mod Views
+pub mod Work
+pub mod Faults
+pub mod Gathered
+pub mod Stores
+pub mod Asked
+pub mod Deciding

@@ -1,15 +1,15 @@
 //! Which actions an action set has.
 
-ghost use Rattle.std.specs.Prelude.{◌≡◌, ◌<◌, ◌||◌, ◌↔◌, ℕ, length, nat_eq, IsTrue, IfOk};
+ghost use Rattle.std.specs.Prelude.{◌≡◌, ◌<◌, ◌||◌, ℕ, length, nat_eq, IfOk};
 ghost use Rattle.std.specs.List.{list_any};
 ghost use Rattle.hv_lines.specs.Numbering.{ActsReferBelow, acts_at, acts_count};
-ghost use Rattle.hv_basic.specs.Flags.{AreFlagsOf, HasFlag, Marks, flag_at};
+ghost use Rattle.hv_basic.specs.Flags.{AreFlagsOf, Marks, flag_at};
 
 use hv_lines::{Acts, Table};
 use std::alloc::{AllocError, Global};
 
-/// A flag for each of so many actions, true for those of the action set. Each action set that it is made of is looked at once,
-/// however often it is shared.
+/// A flag for each of so many actions, true for those of the action set. Each action set that it is
+/// made of is looked at once, however often it is shared.
 pub(crate) fn flags_of(
     alloc: Global,
     table: &Table,
@@ -50,7 +50,9 @@ fn mark(acts: &Acts, flags: &mut Vec<bool>, wanted: &mut Vec<bool>)
 
 fn set_listed(flags: &mut Vec<bool>, listed: &[u32])
     ensures length { length flags.new.items ≡ length flags.old.items }
-    ensures set { (number : ℕ) → number < length flags.old.items → flag_at flags.new.items number ≡ flag_at flags.old.items number || list_any (λ n. nat_eq n number) listed.now }
+    ensures set { (number : ℕ) → number < length flags.old.items
+        → flag_at flags.new.items number ≡ flag_at flags.old.items number
+        || list_any (λ n. nat_eq n number) listed.now }
 {
     for action in listed {
         let place = *action as usize;
@@ -58,11 +60,4 @@ fn set_listed(flags: &mut Vec<bool>, listed: &[u32])
             flags[place] = true;
         }
     }
-}
-
-/// Whether some flag is set.
-pub(crate) fn has_flag(flags: &[bool]) -> bool
-    ensures { IsTrue result ↔ HasFlag flags.now }
-{
-    flags.iter().any(|flag| *flag)
 }

@@ -1,13 +1,23 @@
-//! Basic statements, which are decided without premises: so far inclusions between a few listed sets.
+//! Basic statements, which are decided without premises: their shapes, the stores of formulas, and
+//! their verdicts.
 #![tactic(auto)]
 
+mod actions;
 mod acts;
-mod anchor;
-mod inclusion;
-mod member;
-mod progression;
+pub mod basic;
+mod families;
+pub mod kinds;
+mod leaves;
+mod literals;
+mod order;
+pub mod shapes;
 mod sides;
-mod statement;
+pub mod store;
+pub mod verdicts;
+mod walk;
 
-pub use sides::has_built_sides;
-pub use statement::holds;
+pub use basic::Basic;
+pub use kinds::is_of_its_family;
+pub use shapes::{ShapeFault, shape};
+pub use store::Store;
+pub use verdicts::decide;

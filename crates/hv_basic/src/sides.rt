@@ -1,141 +1,104 @@
-//! The sides of a statement: a plain set, or two of them.
+//! The two sides of a statement: whether they have the shape of its word, and what they ask about.
 
-ghost use Rattle.std.specs.Prelude.{◌≡◌, ◌<◌, ◌↔◌, ℕ, List, IsTrue, IfSome, MatchOption};
-ghost use Rattle.hv_task.specs.State.{AreBelow};
-ghost use Rattle.hv_lines.specs.Basic.{HasBuiltSides, IsLeftSide, IsListed, IsPlain, IsRightSide, SomeListed};
-ghost use Rattle.hv_lines.specs.Numbering.{SpeaksBelow, acts_count, expr_count};
-ghost use Rattle.hv_basic.specs.Parts.{parts_of};
+ghost use Rattle.std.specs.Prelude.{◌≡◌, ◌<◌, ℕ, Option, IfOk, IfErr};
+ghost use Rattle.std.specs.List.{All};
+ghost use Rattle.hv_lines.specs.Numbering.{expr_count};
+ghost use Rattle.hv_lines.specs.Shapes.{HasSides, asks_sides_after, asks_step_after};
+ghost use Rattle.hv_basic.specs.Faults.{IsShapeFault};
+ghost use Rattle.hv_basic.specs.Gathered.{AreAskings, HasLeft, IsStepAdded};
 
-use hv_lines::{Expr, Statement, Table, Word};
+use crate::leaves::{Side, leaves};
+use crate::literals::{Asking, are_literals, gather, only_step};
+use crate::shapes::ShapeFault;
+use hv_lines::{Table, Word};
+use std::alloc::Global;
 
-/// The parts of a side.
-#[derive(Clone, Copy, Debug, PartialEq, Eq)]
-pub enum Side {
-    One(usize),
-    Two(usize, usize),
+/// What the two sides ask about, and the action set of the step.
+#[derive(Drop)]
+pub(crate) struct Sides {
+    pub askings: Vec<Asking>,
+    pub acts: Option<usize>,
 }
 
-/// Whether the sides of a statement with the word `b1` or `b2` are of the form that is checked so far, and one of their parts is
-/// an explicit set. With another word the answer is yes.
-pub fn has_built_sides(table: &Table, statement: &Statement, word: Word) -> bool
-    requires { SpeaksBelow (acts_count table.now.lines) (expr_count table.now.lines) statement.now }
-    ensures { IsTrue result ↔ HasBuiltSides table.now.lines statement.now word }
-{
-    match statement {
-        Statement::Sub(left, right) => match word {
-            Word::B1 => has_built_inclusion(table, *left, *right),
-            Word::B2 => has_built_progression(table, *left, *right),
-            _ => true,
-        },
-        _ => true,
-    }
-}
-
-fn has_built_inclusion(table: &Table, left: usize, right: usize) -> bool
+/// What the two sides of the statement ask about, where they have the shape of the word.
+pub(crate) fn sides_of(
+    alloc: Global,
+    table: &Table,
+    word: Word,
+    left: usize,
+    right: usize,
+) -> Result<Sides, ShapeFault>
     requires left { left < expr_count table.now.lines }
     requires right { right < expr_count table.now.lines }
-    ensures { IsTrue result ↔ HasBuiltSides table.now.lines (Statement.Sub left right) Word.B1 }
+    ensures sides { IfOk result (λ sides. HasSides table.now.lines word left right sides.acts) }
+    ensures askings { IfOk result (λ sides.
+        AreAskings table.now.lines word left right sides.askings.items) }
+    ensures below { IfOk result (λ sides.
+        All (λ asking. asking.set < expr_count table.now.lines) sides.askings.items) }
+    ensures err { IfErr result (IsShapeFault ((acts : Option ℕ)
+        → HasSides table.now.lines word left right acts → ⊥)) }
 {
-    let Some(parts) = left_side(table, left) else {
-        return false;
+    let _count = table.expr_count();
+    let lefts = leaves(alloc, table, Side::Left, left)?;
+    let rights = leaves(alloc, table, Side::Right, right)?;
+    if !are_literals(table, &rights) {
+        return Err(ShapeFault::Shape);
+    }
+    let mut askings = Vec::new(alloc);
+    gather(table, &lefts, true, asks_sides_after(word), &mut askings)?;
+    gather(table, &rights, false, asks_sides_after(word), &mut askings)?;
+    match add_step(alloc, table, word, &lefts, &mut askings) {
+        Ok(acts) => Ok(Sides { askings, acts }),
+        Err(fault) => Err(fault),
+    }
+}
+
+/// Adds what the literals of the step ask about, where the left side, which has these leaves, has
+/// the shape of the word; the action set of the step.
+fn add_step(
+    alloc: Global,
+    table: &Table,
+    word: Word,
+    lefts: &[usize],
+    into: &mut Vec<Asking>,
+) -> Result<Option<usize>, ShapeFault>
+    requires { All (λ leaf. leaf < expr_count table.now.lines) lefts.now }
+    ensures ok { IfOk result (λ acts.
+        IsStepAdded table.now.lines word lefts.now acts into.old.items into.new.items) }
+    ensures err { IfErr result (IsShapeFault ((acts : Option ℕ)
+        → HasLeft table.now.lines word lefts.now acts → ⊥)) }
+{
+    if let Word::B1 = word {
+        if are_literals(table, lefts) {
+            return Ok(None);
+        }
+        return Err(ShapeFault::Shape);
+    }
+    let Some(step) = only_step(table, lefts, word) else {
+        return Err(ShapeFault::Shape);
     };
-    let Some(others) = right_side(table, right) else {
-        return false;
-    };
-    has_listed(table, parts) || has_listed(table, others)
-}
-
-fn has_built_progression(table: &Table, left: usize, right: usize) -> bool
-    requires left { left < expr_count table.now.lines }
-    requires right { right < expr_count table.now.lines }
-    ensures { IsTrue result ↔ HasBuiltSides table.now.lines (Statement.Sub left right) Word.B2 }
-{
-    let Expr::After(set, _) = table.expr(left) else {
-        return false;
-    };
-    if !is_plain(table, *set) {
-        return false;
+    let inner = leaves(alloc, table, Side::Left, step.set)?;
+    if !are_literals(table, &inner) {
+        return Err(ShapeFault::Shape);
     }
-    let Some(others) = right_side(table, right) else {
-        return false;
-    };
-    is_listed(table, *set) || has_listed(table, others)
+    gather(table, &inner, true, asks_step_after(word), into)?;
+    Ok(Some(step.acts))
 }
 
-/// The parts of a left side: a plain set, or the intersection of two.
-pub(crate) fn left_side(table: &Table, set: usize) -> Option<Side>
-    requires { set < expr_count table.now.lines }
-    ensures side { MatchOption result ((parts : List ℕ) → IsLeftSide table.now.lines set parts → ⊥) (λ side. IsLeftSide table.now.lines set (parts_of side)) }
-    ensures within { IfSome result (λ side. AreBelow (expr_count table.now.lines) (parts_of side)) }
+fn asks_sides_after(word: Word) -> bool
+    ensures { result ≡ asks_sides_after word }
 {
-    match table.expr(set) {
-        Expr::And(left, right) => plain_pair(table, *left, *right),
-        _ => plain_one(table, set),
-    }
-}
-
-/// The parts of a right side: a plain set, or the union of two.
-pub(crate) fn right_side(table: &Table, set: usize) -> Option<Side>
-    requires { set < expr_count table.now.lines }
-    ensures side { MatchOption result ((parts : List ℕ) → IsRightSide table.now.lines set parts → ⊥) (λ side. IsRightSide table.now.lines set (parts_of side)) }
-    ensures within { IfSome result (λ side. AreBelow (expr_count table.now.lines) (parts_of side)) }
-{
-    match table.expr(set) {
-        Expr::Or(left, right) => plain_pair(table, *left, *right),
-        _ => plain_one(table, set),
-    }
-}
-
-/// Whether one of the parts is an explicit set.
-fn has_listed(table: &Table, side: Side) -> bool
-    requires { AreBelow (expr_count table.now.lines) (parts_of side) }
-    ensures { IsTrue result ↔ SomeListed table.now.lines (parts_of side) }
-{
-    match side {
-        Side::One(set) => is_listed(table, set),
-        Side::Two(left, right) => is_listed(table, left) || is_listed(table, right),
-    }
-}
-
-fn plain_one(table: &Table, set: usize) -> Option<Side>
-    requires { set < expr_count table.now.lines }
-    ensures { MatchOption result (IsPlain table.now.lines set → ⊥) (λ side. (side ≡ Side.One set) × IsPlain table.now.lines set) }
-{
-    if is_plain(table, set) {
-        Some(Side::One(set))
-    } else {
-        None
-    }
-}
-
-fn plain_pair(table: &Table, left: usize, right: usize) -> Option<Side>
-    requires left { left < expr_count table.now.lines }
-    requires right { right < expr_count table.now.lines }
-    ensures { MatchOption result (IsPlain table.now.lines left × IsPlain table.now.lines right → ⊥) (λ side. (side ≡ Side.Two left right) × IsPlain table.now.lines left × IsPlain table.now.lines right) }
-{
-    if is_plain(table, left) && is_plain(table, right) {
-        Some(Side::Two(left, right))
-    } else {
-        None
-    }
-}
-
-fn is_plain(table: &Table, set: usize) -> bool
-    requires { set < expr_count table.now.lines }
-    ensures { IsTrue result ↔ IsPlain table.now.lines set }
-{
-    match table.expr(set) {
-        Expr::Constant(_) | Expr::States(_) => true,
+    match word {
+        Word::B2 => true,
         _ => false,
     }
 }
 
-fn is_listed(table: &Table, set: usize) -> bool
-    requires { set < expr_count table.now.lines }
-    ensures { IsTrue result ↔ IsListed table.now.lines set }
+fn asks_step_after(word: Word) -> bool
+    ensures { result ≡ asks_step_after word }
 {
-    match table.expr(set) {
-        Expr::States(_) => true,
+    match word {
+        Word::B3 => true,
         _ => false,
     }
 }

@@ -1,0 +1,29 @@
+use Rattle.std.proofs.Common.{IsTrue, false, [], arith, below_more, get_or, refl, subst, sym}
+use Rattle.std.proofs.lemmas.List.{get_or_default}
+use Rattle.hv_sets.specs.Kinds.{IsHornClause}
+use Rattle.hv_basic.proofs.Membership.{at_place}
+use Rattle.hv_basic.proofs.kinds.are_horn.Goals as goal
+
+no : {P : Type 0} → IsTrue false → P
+no is = absurd cc
+
+pub returns-then-not-is_horn : goal.returns-then-not-is_horn
+returns-then-not-is_horn c = (
+  λ is. no is,
+  λ all.
+      c.if-not-is_horn.ensures.1
+      (subst IsHornClause (sym (at_place c.args.clauses.now c.loop-place.place [] c.get.result.now c.get.ensures)) (all c.loop-place.place [] (omega (arith, c.loop-place-test.true, c.len-place-end.ensures)))),
+)
+
+pub loop-place-preserved : goal.loop-place-preserved
+loop-place-preserved c =
+    below_more (λ k. IsHornClause (get_or c.args.clauses.now k [])) c.loop-place.place c.loop-place.invariant
+    (subst IsHornClause (at_place c.args.clauses.now c.loop-place.place [] c.get.result.now c.get.ensures) (c.if-not-is_horn.ensures.0 refl))
+
+pub returns : goal.returns
+returns c = (
+  λ _ k d within.
+      subst IsHornClause (get_or_default c.args.clauses.now k [] d within)
+      (c.loop-place.invariant k (omega (arith, within, c.loop-place-test.false, c.len-place-end.ensures))),
+  λ _. refl,
+)

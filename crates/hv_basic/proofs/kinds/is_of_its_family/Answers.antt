@@ -1,0 +1,11 @@
+use Rattle.std.proofs.Common.{◌↔◌, IsTrue, subst, sym}
+use Rattle.hv_lines.specs.Good.{IsOfItsFamily}
+use Rattle.hv_basic.proofs.kinds.is_of_its_family.Goals as goal
+
+pub returns-in-Horn : goal.returns-in-Horn
+returns-in-Horn c =
+    subst (λ expr. IsTrue c.are_horn.result ↔ IsOfItsFamily expr) (sym c.in-Horn.is) c.are_horn.ensures
+
+pub returns-in-Two : goal.returns-in-Two
+returns-in-Two c =
+    subst (λ expr. IsTrue c.are_two.result ↔ IsOfItsFamily expr) (sym c.in-Two.is) c.are_two.ensures

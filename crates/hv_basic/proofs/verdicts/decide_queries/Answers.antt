@@ -1,0 +1,62 @@
+use Rattle.std.proofs.Common.{None, length, map, subst}
+use Rattle.std.proofs.lemmas.Bool.{iff_false}
+use Rattle.hv_bdd.specs.Nodes.{node_count}
+use Rattle.hv_lines.specs.Queries.{count_of}
+use Rattle.hv_lines.specs.Setting.{setting_of}
+use Rattle.hv_lines.specs.declared.family.FormulaFamily.{FormulaFamily}
+use Rattle.hv_lines.specs.declared.family.FormulaFamily.TheVariants as F
+use Rattle.hv_basic.specs.Asked.{with_action}
+use Rattle.hv_basic.specs.Deciding.{AreReady}
+use Rattle.hv_basic.specs.Views.{question_of}
+use Rattle.hv_basic.proofs.Querying.{offered_horn, offered_listed, offered_two, offered_node, unoffered_listed, verdict_in}
+use Rattle.hv_basic.proofs.verdicts.decide_queries.Goals as goal
+
+pub decide_horns-requires-clause-ready : goal.decide_horns-requires-clause-ready
+decide_horns-requires-clause-ready c =
+    subst (λ (f : FormulaFamily). AreReady (count_of c.args.table.now.lines f (node_count c.args.diagrams.now)) (length c.args.task.now.actions) c.args.query.now c.args.actions.now) c.in-Horn.is
+    c.requires.query.ready
+
+pub decide_twos-requires-clause-ready : goal.decide_twos-requires-clause-ready
+decide_twos-requires-clause-ready c =
+    subst (λ (f : FormulaFamily). AreReady (count_of c.args.table.now.lines f (node_count c.args.diagrams.now)) (length c.args.task.now.actions) c.args.query.now c.args.actions.now) c.in-Two.is
+    c.requires.query.ready
+
+pub decide_listed-requires-clause-ready : goal.decide_listed-requires-clause-ready
+decide_listed-requires-clause-ready c =
+    subst (λ (f : FormulaFamily). AreReady (count_of c.args.table.now.lines f (node_count c.args.diagrams.now)) (length c.args.task.now.actions) c.args.query.now c.args.actions.now) c.in-States.is
+    c.requires.query.ready
+
+pub returns-in_ok-verdict-in-Horn : goal.returns-in_ok-verdict-in-Horn
+returns-in_ok-verdict-in-Horn c =
+    verdict_in (setting_of c.args.task.now c.args.diagrams.now c.args.budget) c.args.table.now.lines (question_of c.args.question.now) F.Horn
+    (map (with_action c.args.query.now) c.args.actions.now) c.in_ok-verdict-in-Horn.verdict c.in-Horn.is
+    (offered_horn c.args.table.now.lines (question_of c.args.question.now) c.in-Horn.is) c.requires.query.all c.in_ok-verdict-in-Horn.ensures
+
+pub returns-in_ok-verdict-in-Two : goal.returns-in_ok-verdict-in-Two
+returns-in_ok-verdict-in-Two c =
+    verdict_in (setting_of c.args.task.now c.args.diagrams.now c.args.budget) c.args.table.now.lines (question_of c.args.question.now) F.Two
+    (map (with_action c.args.query.now) c.args.actions.now) c.in_ok-verdict-in-Two.verdict c.in-Two.is
+    (offered_two c.args.table.now.lines (question_of c.args.question.now) c.in-Two.is) c.requires.query.all c.in_ok-verdict-in-Two.ensures
+
+pub returns-in_ok-verdict-in-States : goal.returns-in_ok-verdict-in-States
+returns-in_ok-verdict-in-States c =
+    verdict_in (setting_of c.args.task.now c.args.diagrams.now c.args.budget) c.args.table.now.lines (question_of c.args.question.now) F.States
+    (map (with_action c.args.query.now) c.args.actions.now) c.in_ok-verdict-in-States.verdict c.in-States.is
+    (offered_listed c.args.table.now.lines (question_of c.args.question.now) c.args.query.now (c.requires.query.is None) c.in-States.is
+    (c.has_anchor.ensures.0 c.if-not-has_anchor.false)) c.requires.query.all c.in_ok-verdict-in-States.ensures
+
+pub returns-then-not-has_anchor : goal.returns-then-not-has_anchor
+returns-then-not-has_anchor c =
+    unoffered_listed c.args.table.now.lines (question_of c.args.question.now) c.args.query.now (c.requires.query.is None) c.in-States.is
+    (iff_false c.has_anchor.ensures c.if-not-has_anchor.true)
+
+pub decide_nodes-requires-clause-ready : goal.decide_nodes-requires-clause-ready
+decide_nodes-requires-clause-ready c =
+    subst (λ (f : FormulaFamily). AreReady (count_of c.args.table.now.lines f (node_count c.args.diagrams.now)) (length c.args.task.now.actions) c.args.query.now c.args.actions.now) c.in-Node.is
+    c.requires.query.ready
+
+pub returns-in_ok-verdict-in-Node : goal.returns-in_ok-verdict-in-Node
+returns-in_ok-verdict-in-Node c =
+    verdict_in (setting_of c.args.task.now c.args.diagrams.now c.args.budget) c.args.table.now.lines (question_of c.args.question.now) F.Node
+    (map (with_action c.args.query.now) c.args.actions.now) c.in_ok-verdict-in-Node.verdict c.in-Node.is
+    (offered_node c.args.table.now.lines (question_of c.args.question.now) c.in-Node.is) c.requires.query.all c.in_ok-verdict-in-Node.ensures

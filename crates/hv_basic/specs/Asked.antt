@@ -1,0 +1,45 @@
+-- What is asked about with one sign, and the operands and queries that ask it.
+use Rattle.std.specs.Prelude.{◌≡◌, ◌↔◌, ℕ, Bool, true, List, Option, slice_index_or}
+use Rattle.std.specs.BTreeSet.{BTreeSet, contains}
+use Rattle.std.specs.List.{Contains}
+use Rattle.std.specs.Ordering.{bool_cmp, nat_cmp, ordering_then}
+use Rattle.std.specs.declared.cmp.Ordering.{Ordering}
+use Rattle.hv_sets.specs.declared.operand.Operand.{Operand}
+use Rattle.hv_sets.specs.declared.operand.Which.{Which}
+use Rattle.hv_sets.specs.declared.operand.Which.TheVariants as S
+use Rattle.hv_sets.specs.declared.query.Query.{Query}
+use Rattle.hv_basic.specs.declared.literals.Asking.{Asking}
+
+-- these are all that is asked about with the sign
+abbrev pub AreChosen : List Asking → Bool → List (ℕ × Bool) → Type 0
+AreChosen askings positive chosen =
+    (asked : ℕ × Bool) → Contains chosen asked
+    ↔ Contains askings (record { set = asked.0; after = asked.1; positive = positive })
+
+-- how what is asked about is put in order: by identifier, and of one identifier first before the
+-- action
+abbrev pub order : ℕ × Bool → ℕ × Bool → Ordering
+order first second = ordering_then (nat_cmp first.0 second.0) (bool_cmp first.1 second.1)
+
+-- the keys are all that is asked about with the sign
+abbrev pub AreKeys : List Asking → Bool → BTreeSet (ℕ × Bool) → Type 0
+AreKeys askings positive keys =
+    (asked : ℕ × Bool)
+    → (contains order keys asked ≡ true)
+    ↔ Contains askings (record { set = asked.0; after = asked.1; positive = positive })
+
+-- the operand that asks this, where the sets are named so by their identifiers
+abbrev pub named_operand : List Which → ℕ × Bool → Operand
+named_operand names asked = record {
+  which = slice_index_or names asked.0 S.Empty;
+  id = asked.0;
+  after = asked.1;
+}
+
+-- the query with another action
+abbrev pub with_action : Query → Option ℕ → Query
+with_action query action = record {
+  positive = query.positive;
+  negative = query.negative;
+  action = action;
+}

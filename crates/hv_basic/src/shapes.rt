@@ -1,0 +1,125 @@
+ghost use Rattle.std.specs.Prelude.{◌≡◌, ◌<◌, ℕ, IfOk, IfErr};
+ghost use Rattle.std.specs.List.{All};
+ghost use Rattle.hv_lines.specs.Numbering.{SpeaksBelow, acts_count, expr_count};
+ghost use Rattle.hv_lines.specs.Shapes.{HasShape, HasSides, IsQuestion, IsShaped, Question as AskedQuestion};
+ghost use Rattle.hv_basic.specs.Deciding.{IsBasicOver, IsQuestionOver};
+ghost use Rattle.hv_basic.specs.Faults.{IsShapeFault};
+ghost use Rattle.hv_basic.specs.Gathered.{AreAskings};
+ghost use Rattle.hv_basic.specs.Views.{question_of};
+ghost use Rattle.hv_basic.specs.declared.shapes.ShapeFault.TheVariants as F;
+
+use crate::basic::{Basic, Kind, Question};
+use crate::families::one_family;
+use crate::order::in_order;
+use crate::sides::{Sides, sides_of};
+use hv_lines::{Statement, Table, Word};
+use std::alloc::{AllocError, Global};
+use thiserror::Error;
+
+/// Why a statement has no shape.
+#[derive(Debug, Drop, Error)]
+pub enum ShapeFault {
+    /// The statement hasn't the shape of its word.
+    #[error("the statement has another shape")]
+    Shape,
+    /// There is no memory.
+    #[error("out of memory")]
+    Memory,
+}
+
+impl From<AllocError> for ShapeFault {
+    ghost from_gives = { λ _ fault. fault ≡ F.Memory };
+
+    fn from(_: AllocError) -> ShapeFault {
+        ShapeFault::Memory
+    }
+}
+
+/// How many operands a statement can have.
+const MOST_OPERANDS: usize = 65536;
+
+/// What the statement asks, where it has the shape of the word.
+pub fn shape(
+    alloc: Global,
+    table: &Table,
+    statement: &Statement,
+    word: Word,
+) -> Result<Basic, ShapeFault>
+    requires { SpeaksBelow (acts_count table.now.lines) (expr_count table.now.lines) statement.now }
+    ensures ok { IfOk result (IsShaped table.now.lines statement.now word) }
+    ensures over { IfOk result (IsBasicOver table.now.lines) }
+    ensures err { IfErr result (IsShapeFault (HasShape table.now.lines statement.now word → ⊥)) }
+{
+    match statement {
+        Statement::Sub(left, right) => match question_of(alloc, table, word, *left, *right) {
+            Ok(question) => Ok(Basic {
+                kind: Kind::Sets(word, question),
+            }),
+            Err(fault) => Err(fault),
+        },
+        Statement::ActSub(first, second) => match word {
+            Word::B5 => Ok(Basic {
+                kind: Kind::Acts(*first, *second),
+            }),
+            _ => Err(ShapeFault::Shape),
+        },
+        Statement::Dead(_) | Statement::Unsolvable => Err(ShapeFault::Shape),
+    }
+}
+
+/// What the inclusion asks, where it has the shape of the word.
+fn question_of(
+    alloc: Global,
+    table: &Table,
+    word: Word,
+    left: usize,
+    right: usize,
+) -> Result<Question, ShapeFault>
+    requires left { left < expr_count table.now.lines }
+    requires right { right < expr_count table.now.lines }
+    ensures ok { IfOk result (λ question.
+        IsQuestion table.now.lines word left right (question_of question)) }
+    ensures over { IfOk result (λ question. IsQuestionOver table.now.lines (question_of question)) }
+    ensures err { IfErr result (IsShapeFault ((question : AskedQuestion)
+        → IsQuestion table.now.lines word left right question → ⊥)) }
+{
+    match sides_of(alloc, table, word, left, right) {
+        Ok(sides) => question_from(alloc, table, word, left, right, sides),
+        Err(fault) => Err(fault),
+    }
+}
+
+/// What the inclusion asks, where its sides have the shape.
+fn question_from(
+    alloc: Global,
+    table: &Table,
+    word: Word,
+    left: usize,
+    right: usize,
+    sides: Sides,
+) -> Result<Question, ShapeFault>
+    requires sides { HasSides table.now.lines word left right sides.acts }
+    requires askings { AreAskings table.now.lines word left right sides.askings.items }
+    requires below { All (λ asking. asking.set < expr_count table.now.lines) sides.askings.items }
+    ensures ok { IfOk result (λ question.
+        IsQuestion table.now.lines word left right (question_of question)) }
+    ensures over { IfOk result (λ question. IsQuestionOver table.now.lines (question_of question)) }
+    ensures err { IfErr result (IsShapeFault ((question : AskedQuestion)
+        → IsQuestion table.now.lines word left right question → ⊥)) }
+{
+    let _ = (word, left, right);
+    let Some(family) = one_family(table, &sides.askings) else {
+        return Err(ShapeFault::Shape);
+    };
+    let positive = in_order(alloc, &sides.askings, true)?;
+    let negative = in_order(alloc, &sides.askings, false)?;
+    if positive.len() + negative.len() > MOST_OPERANDS {
+        return Err(ShapeFault::Shape);
+    }
+    Ok(Question {
+        family,
+        positive,
+        negative,
+        acts: sides.acts,
+    })
+}

@@ -1,0 +1,161 @@
+ghost use Rattle.std.specs.Prelude.{◌≡◌, ℕ, List, [], ◌∷◌, IfOk, OnOk, OnErr};
+ghost use Rattle.std.specs.List.{All};
+ghost use Rattle.hv_task.specs.Strips.{Strips, atoms};
+ghost use Rattle.hv_sets.specs.Kinds.{IsHornClause, IsTwoClause};
+ghost use Rattle.hv_clauses.specs.Clausal.{AreClauses};
+ghost use Rattle.hv_lines.specs.Numbering.{IsNumbered};
+ghost use Rattle.hv_lines.specs.Queries.{named_by};
+ghost use Rattle.hv_lines.specs.declared.line.Expr.TheVariants as E;
+ghost use Rattle.hv_lines.specs.declared.line.Line.{Line};
+ghost use Rattle.hv_basic.specs.Stores.{CanBeStored, IsStoreOf, IsUnstored, LineCanBeStored, formula, with_expr, with_line};
+
+use hv_explicit::{Explicit, Explicits};
+use hv_horn::{Horn, HornFault, Horns};
+use hv_lines::{Constant, Expr, Line};
+use hv_sets::{Clauses, Which};
+use hv_task::Task;
+use hv_twocnf::{TwoCnf, TwoCnfFault, TwoCnfs};
+use std::alloc::{AllocError, Global};
+use std::marker::Model;
+
+/// The formulas of a proof, in the store of their family.
+#[derive(Drop)]
+pub struct Store {
+    alloc: Global,
+    pub(crate) horns: Horns,
+    pub(crate) twos: TwoCnfs,
+    pub(crate) listed: Explicits,
+    /// What the set of each `e` line is named by in the store of its family.
+    pub(crate) names: Vec<Which>,
+}
+
+impl Model for Store {
+    ghost use Rattle.hv_basic.specs.Stores.{StoreState};
+
+    ghost Value = { StoreState };
+
+    ghost view = { λ s. record {
+      horns = s.horns;
+      twos = s.twos;
+      listed = s.listed;
+      names = s.names.items;
+    } };
+}
+
+impl Store {
+    /// A store without formulas.
+    pub fn new(alloc: Global) -> Store
+        ensures horns { result.horns ≡ [] }
+        ensures twos { result.twos ≡ [] }
+        ensures listed { result.listed ≡ [] }
+        ensures names { result.names ≡ [] }
+        ensures none { (task : Strips) → IsStoreOf task [] result }
+    {
+        Store {
+            alloc,
+            horns: Horns::new(alloc),
+            twos: TwoCnfs::new(alloc),
+            listed: Explicits::new(alloc),
+            names: Vec::new(alloc),
+        }
+    }
+
+    /// Adds what the next line says: the formula of an `e` line goes to the store of its family,
+    /// and nothing else is added. Stores that have the formulas of the lines before have those of
+    /// all lines then.
+    pub fn add_line(&mut self, task: &Task, line: &Line) -> Result<(), AllocError>
+        requires { LineCanBeStored (atoms task.now) line.now }
+        ensures ok { OnOk result (self.new ≡ with_line (atoms task.now) self.old line.now) }
+        ensures err { OnErr result (self.new ≡ self.old) }
+        ensures stands { OnOk result ((lines : List Line) → IsStoreOf task.now lines self.old
+            → IsNumbered lines line.now → IsStoreOf task.now (line.now ∷ lines) self.new) }
+    {
+        match line {
+            Line::Expr { expr, .. } => {
+                self.add(task, expr)?;
+                Ok(())
+            }
+            Line::Acts { .. } => Ok(()),
+            Line::Known { .. } => Ok(()),
+        }
+    }
+
+    /// Adds what the next `e` line says: its formula goes to the store of its family.
+    fn add(&mut self, task: &Task, expr: &Expr) -> Result<(), AllocError>
+        requires { CanBeStored (atoms task.now) expr.now }
+        ensures ok { OnOk result (self.new ≡ with_expr (atoms task.now) self.old expr.now) }
+        ensures err { OnErr result (self.new ≡ self.old) }
+    {
+        self.names.reserve(1)?;
+        match expr {
+            Expr::Horn(clauses) => {
+                let set = horn_of(self.alloc, task, clauses)?;
+                let number = self.horns.add(set)?;
+                self.names.push_reserved(Which::Set(number));
+                Ok(())
+            }
+            Expr::Two(clauses) => {
+                let set = two_of(self.alloc, task, clauses)?;
+                let number = self.twos.add(set)?;
+                self.names.push_reserved(Which::Set(number));
+                Ok(())
+            }
+            Expr::States(states) => {
+                let set = Explicit::new(self.alloc, task, states)?;
+                let number = self.listed.add(set)?;
+                self.names.push_reserved(Which::Set(number));
+                Ok(())
+            }
+            _ => {
+                self.names.push_reserved(name_of(expr));
+                Ok(())
+            }
+        }
+    }
+}
+
+/// What the set is named by that isn't put into a store.
+fn name_of(expr: &Expr) -> Which
+    requires { IsUnstored expr.now }
+    ensures { (horns twos listed : ℕ) → result ≡ named_by horns twos listed expr.now }
+{
+    match expr {
+        Expr::Node(node) => Which::Set(*node as usize),
+        Expr::Constant(constant) => constant_of(*constant),
+        _ => Which::Empty,
+    }
+}
+
+fn constant_of(constant: Constant) -> Which
+    ensures { (horns twos listed : ℕ) → result ≡ named_by horns twos listed (E.Constant constant) }
+{
+    match constant {
+        Constant::Empty => Which::Empty,
+        Constant::Start => Which::Start,
+        Constant::Goal => Which::Goal,
+    }
+}
+
+fn horn_of(alloc: Global, task: &Task, clauses: &Clauses) -> Result<Horn, AllocError>
+    requires below { AreClauses (atoms task.now) clauses.now }
+    requires horn { All IsHornClause clauses.now }
+    ensures { IfOk result (λ set. set ≡ formula (atoms task.now) clauses.now) }
+{
+    match Horn::new(alloc, task, clauses) {
+        Ok(set) => Ok(set),
+        Err(HornFault::Memory) => Err(AllocError),
+        Err(HornFault::NotHorn(_)) => unreachable!(),
+    }
+}
+
+fn two_of(alloc: Global, task: &Task, clauses: &Clauses) -> Result<TwoCnf, AllocError>
+    requires below { AreClauses (atoms task.now) clauses.now }
+    requires two { All IsTwoClause clauses.now }
+    ensures { IfOk result (λ set. set ≡ formula (atoms task.now) clauses.now) }
+{
+    match TwoCnf::new(alloc, task, clauses) {
+        Ok(set) => Ok(set),
+        Err(TwoCnfFault::Memory) => Err(AllocError),
+        Err(TwoCnfFault::NotTwo(_)) => unreachable!(),
+    }
+}

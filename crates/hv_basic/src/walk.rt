@@ -1,0 +1,56 @@
+//! The queries of a statement, one after the other.
+
+ghost use Rattle.std.specs.Prelude.{◌≡◌, IfOk, length, map};
+ghost use Rattle.hv_task.specs.Strips.{atoms};
+ghost use Rattle.hv_sets.specs.Query.{HasAnchor, is_clash};
+ghost use Rattle.hv_lines.specs.Verdicts.{IsDecided};
+ghost use Rattle.hv_basic.specs.Asked.{with_action};
+ghost use Rattle.hv_basic.specs.Deciding.{AreReady};
+
+use hv_lines::{Clash, Verdict};
+use hv_sets::{Family, Finding, Query, Scratch};
+use hv_task::{State, Task};
+use std::alloc::{AllocError, Global};
+
+/// The verdict of the queries for these actions: the first that passes the budget or has a
+/// counterexample decides.
+pub(crate) fn walk<F: Family>(
+    alloc: Global,
+    task: &Task,
+    sets: &F,
+    query: &mut Query,
+    actions: &[Option<u32>],
+    budget: u64,
+    scratch: &mut Scratch,
+) -> Result<Verdict, AllocError>
+    requires ready { AreReady (F.count sets.now) (length task.now.actions) query.old actions.now }
+    requires anchor { F.wants_anchor sets.now → HasAnchor query.old }
+    requires task { F.is_over sets.now (atoms task.now) }
+    ensures { IfOk result (IsDecided (λ q. F.passes sets.now task.now q budget)
+        (is_clash task.now (F.has sets.now)) (atoms task.now)
+        (map (with_action query.old) actions.now)) }
+{
+    for action in actions {
+        query.action = *action;
+        match sets.find(alloc, task, query, budget, scratch)? {
+            Finding::Empty => {}
+            Finding::Over => return Ok(Verdict::Over),
+            Finding::Clash => {
+                let state = copy_of(alloc, scratch.state())?;
+                return Ok(Verdict::False(Clash {
+                    action: *action,
+                    state: Some(state),
+                }));
+            }
+        }
+    }
+    Ok(Verdict::True)
+}
+
+fn copy_of(alloc: Global, state: &State) -> Result<State, AllocError>
+    ensures { IfOk result (λ copy. copy ≡ state.now) }
+{
+    let mut copy = State::empty(alloc, state.atoms())?;
+    copy.copy_from(state);
+    Ok(copy)
+}
