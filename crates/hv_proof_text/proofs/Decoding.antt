@@ -1,5 +1,5 @@
 -- A field stands for one token: tokens are read back from their fields.
-use Rattle.std.proofs.Common.{◌≡◌, ℕ, ◌+◌, ◌*◌, ◌<◌, ◌≤◌, ◌^◌, ◌∙◌, true, false, cond, eqb, ltb, List, [], ◌∷◌, length, map, drop, get_or, refl, sym, ap, arith, decimal}
+use Rattle.std.proofs.Common.{◌≡◌, ℕ, ◌+◌, ◌*◌, ◌<◌, ◌≤◌, ◌^◌, ◌∙◌, true, false, cond, eqb, ltb, List, [], ◌∷◌, length, map, drop, get_or, refl, sym, ap, arith, decimal, lit<}
 use Rattle.std.proofs.lemmas.Bool.{lt-ltb, ne_eqb}
 use Rattle.std.proofs.lemmas.Fmt.{decimal_is_IsNumeral}
 use Rattle.std.proofs.lemmas.List.{get_or-map, length-map}
@@ -136,77 +136,81 @@ decode_all (token ∷ tokens) short =
 pub same_tokens : (xs ys : List Token) → All IsToken xs → All IsToken ys → map field_of xs ≡ map field_of ys → xs ≡ ys
 same_tokens xs ys left right e = sym (decode_all xs left) ∙ ap (map decode) e ∙ decode_all ys right
 
--- no field has a space
+-- a field has visible bytes alone: no space, and no LF
 
-abbrev IsClear : List ℕ → Type 0
-IsClear field = All (λ b. eqb b 32 ≡ false) field
+abbrev pub IsVisible : List ℕ → Type 0
+IsVisible field = All (λ b. 32 < b) field
 
-clear_digits : (n : ℕ) → n < 10 ^ 18 → IsClear (decimal n)
-clear_digits n short =
+visible_digits : (n : ℕ) → n < 10 ^ 18 → IsVisible (decimal n)
+visible_digits n short =
     let is = decimal_is_IsNumeral n (omega arith) in
-    All-from_get_or (λ b. eqb b 32 ≡ false) (decimal n) 0
-    (λ i within. let digit = digit_at (decimal n) i is.0.1 within in ne_eqb (get_or (decimal n) i 0) 32 (λ e. omega arith))
+    All-from_get_or (λ b. 32 < b) (decimal n) 0 (λ i within. let digit = digit_at (decimal n) i is.0.1 within in omega (arith, digit.0))
 
-one_byte : (b : ℕ) → eqb b 32 ≡ false → IsClear (b ∷ [])
-one_byte b e = All-cons (λ b. eqb b 32 ≡ false) b [] e (All-nil (λ b. eqb b 32 ≡ false))
+one_byte : (b : ℕ) → 32 < b → IsVisible (b ∷ [])
+one_byte b e = All-cons (λ b. 32 < b) b [] e (All-nil (λ b. 32 < b))
 
-two_bytes : (b c : ℕ) → eqb b 32 ≡ false → eqb c 32 ≡ false → IsClear (b ∷ c ∷ [])
-two_bytes b c e f = All-cons (λ b. eqb b 32 ≡ false) b (c ∷ []) e (one_byte c f)
+two_bytes : (b c : ℕ) → 32 < b → 32 < c → IsVisible (b ∷ c ∷ [])
+two_bytes b c e f = All-cons (λ b. 32 < b) b (c ∷ []) e (one_byte c f)
 
-clear_letter : (letter : Letter) → IsClear (letter_field letter)
-clear_letter L.A = one_byte 97 refl
-clear_letter L.B = one_byte 98 refl
-clear_letter L.C = one_byte 99 refl
-clear_letter L.D = one_byte 100 refl
-clear_letter L.E = one_byte 101 refl
-clear_letter L.G = one_byte 103 refl
-clear_letter L.H = one_byte 104 refl
-clear_letter L.I = one_byte 105 refl
-clear_letter L.K = one_byte 107 refl
-clear_letter L.N = one_byte 110 refl
-clear_letter L.P = one_byte 112 refl
-clear_letter L.R = one_byte 114 refl
-clear_letter L.S = one_byte 115 refl
-clear_letter L.T = one_byte 116 refl
-clear_letter L.U = one_byte 117 refl
-clear_letter L.X = one_byte 120 refl
+visible_letter : (letter : Letter) → IsVisible (letter_field letter)
+visible_letter L.A = one_byte 97 (lit< tt)
+visible_letter L.B = one_byte 98 (lit< tt)
+visible_letter L.C = one_byte 99 (lit< tt)
+visible_letter L.D = one_byte 100 (lit< tt)
+visible_letter L.E = one_byte 101 (lit< tt)
+visible_letter L.G = one_byte 103 (lit< tt)
+visible_letter L.H = one_byte 104 (lit< tt)
+visible_letter L.I = one_byte 105 (lit< tt)
+visible_letter L.K = one_byte 107 (lit< tt)
+visible_letter L.N = one_byte 110 (lit< tt)
+visible_letter L.P = one_byte 112 (lit< tt)
+visible_letter L.R = one_byte 114 (lit< tt)
+visible_letter L.S = one_byte 115 (lit< tt)
+visible_letter L.T = one_byte 116 (lit< tt)
+visible_letter L.U = one_byte 117 (lit< tt)
+visible_letter L.X = one_byte 120 (lit< tt)
 
-clear_word : (word : Word) → IsClear (word_field word)
-clear_word W.B1 = two_bytes 98 49 refl refl
-clear_word W.B2 = two_bytes 98 50 refl refl
-clear_word W.B3 = two_bytes 98 51 refl refl
-clear_word W.B4 = two_bytes 98 52 refl refl
-clear_word W.B5 = two_bytes 98 53 refl refl
-clear_word W.Ed = two_bytes 101 100 refl refl
-clear_word W.Ud = two_bytes 117 100 refl refl
-clear_word W.Sd = two_bytes 115 100 refl refl
-clear_word W.Pg = two_bytes 112 103 refl refl
-clear_word W.Pi = two_bytes 112 105 refl refl
-clear_word W.Rg = two_bytes 114 103 refl refl
-clear_word W.Ri = two_bytes 114 105 refl refl
-clear_word W.Ci = two_bytes 99 105 refl refl
-clear_word W.Cg = two_bytes 99 103 refl refl
-clear_word W.Ur = two_bytes 117 114 refl refl
-clear_word W.Ul = two_bytes 117 108 refl refl
-clear_word W.Ir = two_bytes 105 114 refl refl
-clear_word W.Il = two_bytes 105 108 refl refl
-clear_word W.Di = two_bytes 100 105 refl refl
-clear_word W.Su = two_bytes 115 117 refl refl
-clear_word W.Si = two_bytes 115 105 refl refl
-clear_word W.St = two_bytes 115 116 refl refl
-clear_word W.At = two_bytes 97 116 refl refl
-clear_word W.Au = two_bytes 97 117 refl refl
-clear_word W.Pt = two_bytes 112 116 refl refl
-clear_word W.Pu = two_bytes 112 117 refl refl
-clear_word W.Pr = two_bytes 112 114 refl refl
-clear_word W.Rp = two_bytes 114 112 refl refl
+visible_word : (word : Word) → IsVisible (word_field word)
+visible_word W.B1 = two_bytes 98 49 (lit< tt) (lit< tt)
+visible_word W.B2 = two_bytes 98 50 (lit< tt) (lit< tt)
+visible_word W.B3 = two_bytes 98 51 (lit< tt) (lit< tt)
+visible_word W.B4 = two_bytes 98 52 (lit< tt) (lit< tt)
+visible_word W.B5 = two_bytes 98 53 (lit< tt) (lit< tt)
+visible_word W.Ed = two_bytes 101 100 (lit< tt) (lit< tt)
+visible_word W.Ud = two_bytes 117 100 (lit< tt) (lit< tt)
+visible_word W.Sd = two_bytes 115 100 (lit< tt) (lit< tt)
+visible_word W.Pg = two_bytes 112 103 (lit< tt) (lit< tt)
+visible_word W.Pi = two_bytes 112 105 (lit< tt) (lit< tt)
+visible_word W.Rg = two_bytes 114 103 (lit< tt) (lit< tt)
+visible_word W.Ri = two_bytes 114 105 (lit< tt) (lit< tt)
+visible_word W.Ci = two_bytes 99 105 (lit< tt) (lit< tt)
+visible_word W.Cg = two_bytes 99 103 (lit< tt) (lit< tt)
+visible_word W.Ur = two_bytes 117 114 (lit< tt) (lit< tt)
+visible_word W.Ul = two_bytes 117 108 (lit< tt) (lit< tt)
+visible_word W.Ir = two_bytes 105 114 (lit< tt) (lit< tt)
+visible_word W.Il = two_bytes 105 108 (lit< tt) (lit< tt)
+visible_word W.Di = two_bytes 100 105 (lit< tt) (lit< tt)
+visible_word W.Su = two_bytes 115 117 (lit< tt) (lit< tt)
+visible_word W.Si = two_bytes 115 105 (lit< tt) (lit< tt)
+visible_word W.St = two_bytes 115 116 (lit< tt) (lit< tt)
+visible_word W.At = two_bytes 97 116 (lit< tt) (lit< tt)
+visible_word W.Au = two_bytes 97 117 (lit< tt) (lit< tt)
+visible_word W.Pt = two_bytes 112 116 (lit< tt) (lit< tt)
+visible_word W.Pu = two_bytes 112 117 (lit< tt) (lit< tt)
+visible_word W.Pr = two_bytes 112 114 (lit< tt) (lit< tt)
+visible_word W.Rp = two_bytes 114 112 (lit< tt) (lit< tt)
 
-clear_field : (token : Token) → IsToken token → IsClear (field_of token)
-clear_field (T.Letter letter) short = clear_letter letter
-clear_field (T.Word word) short = clear_word word
-clear_field (T.Number n) short = clear_digits n short
-clear_field (T.Minus n) short = All-cons (λ b. eqb b 32 ≡ false) 45 (decimal n) refl (clear_digits n short)
-clear_field T.End short = one_byte 59 refl
+pub visible_field : (token : Token) → IsToken token → IsVisible (field_of token)
+visible_field (T.Letter letter) short = visible_letter letter
+visible_field (T.Word word) short = visible_word word
+visible_field (T.Number n) short = visible_digits n short
+visible_field (T.Minus n) short = All-cons (λ b. 32 < b) 45 (decimal n) (lit< tt) (visible_digits n short)
+visible_field T.End short = one_byte 59 (lit< tt)
+
+clear_field : (token : Token) → IsToken token → All (λ b. eqb b 32 ≡ false) (field_of token)
+clear_field token short = λ i d within.
+    let visible = visible_field token short i d within in
+    ne_eqb (get_or (field_of token) i d) 32 (λ e. omega (arith, visible, e))
 
 -- the joined fields of tokens, cut again
 pub cut_joined : (token : Token) (tokens : List Token) → All IsToken (token ∷ tokens)

@@ -22,51 +22,69 @@ use Rattle.hv_proof_text.specs.Tokens.{AreRisingNumbers, AreClauses, AreStates, 
 abbrev pub ActsForm : Letter → List Token → Acts → Type 0
 ActsForm L.A tokens acts = (tokens ≡ []) × (acts ≡ A.All)
 ActsForm L.B tokens acts =
-    (actions : List ℕ) × (items : List Token) × (tokens ≡ number (length actions) ∷ items) × AreRisingNumbers actions items
+    (actions : List ℕ) × (items : List Token) × (tokens ≡ number (length actions) ∷ items)
+    × AreRisingNumbers actions items
     × (acts ≡ A.List actions)
-ActsForm L.U tokens acts = (left : ℕ) × (right : ℕ) × (tokens ≡ number left ∷ number right ∷ []) × (acts ≡ A.Both left right)
+ActsForm L.U tokens acts = (left : ℕ) × (right : ℕ) × (tokens ≡ number left ∷ number right ∷ [])
+    × (acts ≡ A.Both left right)
 ActsForm _ tokens acts = ⊥
 
 -- behind `e ID` and this letter
 abbrev pub ExprForm : Letter → List Token → Expr → Type 0
-ExprForm L.C tokens expr = (constant : Constant) × (tokens ≡ letter (constant_letter constant) ∷ []) × (expr ≡ E.Constant constant)
+ExprForm L.C tokens expr = (constant : Constant) × (tokens ≡ letter (constant_letter constant) ∷ [])
+    × (expr ≡ E.Constant constant)
 ExprForm L.H tokens expr =
-    (clauses : List (List Literal)) × (items : List Token) × (tokens ≡ number (length clauses) ∷ items) × AreClauses clauses items
+    (clauses : List (List Literal)) × (items : List Token)
+    × (tokens ≡ number (length clauses) ∷ items) × AreClauses clauses items
     × (expr ≡ E.Horn clauses)
 ExprForm L.T tokens expr =
-    (clauses : List (List Literal)) × (items : List Token) × (tokens ≡ number (length clauses) ∷ items) × AreClauses clauses items
+    (clauses : List (List Literal)) × (items : List Token)
+    × (tokens ≡ number (length clauses) ∷ items) × AreClauses clauses items
     × (expr ≡ E.Two clauses)
 ExprForm L.X tokens expr =
-    (states : List (List ℕ)) × (items : List Token) × (tokens ≡ number (length states) ∷ items) × AreStates states items
+    (states : List (List ℕ)) × (items : List Token) × (tokens ≡ number (length states) ∷ items)
+    × AreStates states items
     × (expr ≡ E.States states)
-ExprForm L.B tokens expr = (node : ℕ) × (tokens ≡ number node ∷ []) × FitsShortDecimal node × (expr ≡ E.Node node)
+ExprForm L.B tokens expr = (node : ℕ) × (tokens ≡ number node ∷ []) × FitsShortDecimal node
+    × (expr ≡ E.Node node)
 ExprForm L.N tokens expr = (set : ℕ) × (tokens ≡ number set ∷ []) × (expr ≡ E.Not set)
-ExprForm L.I tokens expr = (left : ℕ) × (right : ℕ) × (tokens ≡ number left ∷ number right ∷ []) × (expr ≡ E.And left right)
-ExprForm L.U tokens expr = (left : ℕ) × (right : ℕ) × (tokens ≡ number left ∷ number right ∷ []) × (expr ≡ E.Or left right)
-ExprForm L.P tokens expr = (set : ℕ) × (acts : ℕ) × (tokens ≡ number set ∷ number acts ∷ []) × (expr ≡ E.After set acts)
-ExprForm L.R tokens expr = (set : ℕ) × (acts : ℕ) × (tokens ≡ number set ∷ number acts ∷ []) × (expr ≡ E.Before set acts)
+ExprForm L.I tokens expr = (left : ℕ) × (right : ℕ) × (tokens ≡ number left ∷ number right ∷ [])
+    × (expr ≡ E.And left right)
+ExprForm L.U tokens expr = (left : ℕ) × (right : ℕ) × (tokens ≡ number left ∷ number right ∷ [])
+    × (expr ≡ E.Or left right)
+ExprForm L.P tokens expr = (set : ℕ) × (acts : ℕ) × (tokens ≡ number set ∷ number acts ∷ [])
+    × (expr ≡ E.After set acts)
+ExprForm L.R tokens expr = (set : ℕ) × (acts : ℕ) × (tokens ≡ number set ∷ number acts ∷ [])
+    × (expr ≡ E.Before set acts)
 ExprForm _ tokens expr = ⊥
 
 -- behind `k ID` and this letter: the statement, and what follows it
 abbrev pub ClaimForm : Letter → List Token → Statement → List Token → Type 0
 ClaimForm L.S tokens statement rest =
-    (left : ℕ) × (right : ℕ) × (tokens ≡ number left ∷ number right ∷ rest) × (statement ≡ S.Sub left right)
+    (left : ℕ) × (right : ℕ) × (tokens ≡ number left ∷ number right ∷ rest)
+    × (statement ≡ S.Sub left right)
 ClaimForm L.A tokens statement rest =
-    (left : ℕ) × (right : ℕ) × (tokens ≡ number left ∷ number right ∷ rest) × (statement ≡ S.ActSub left right)
-ClaimForm L.D tokens statement rest = (set : ℕ) × (tokens ≡ number set ∷ rest) × (statement ≡ S.Dead set)
+    (left : ℕ) × (right : ℕ) × (tokens ≡ number left ∷ number right ∷ rest)
+    × (statement ≡ S.ActSub left right)
+ClaimForm L.D tokens statement rest = (set : ℕ) × (tokens ≡ number set ∷ rest)
+    × (statement ≡ S.Dead set)
 ClaimForm L.U tokens statement rest = (tokens ≡ rest) × (statement ≡ S.Unsolvable)
 ClaimForm _ tokens statement rest = ⊥
 
 -- behind a statement: a word that may stand there, with as many premises as it has there
 abbrev pub SupportForm : Statement → List Token → Word → List ℕ → Type 0
 SupportForm statement tokens word premises =
-    (tokens ≡ T.Word word ∷ map number premises) × (premises_of statement word ≡ Some (length premises))
+    (tokens ≡ T.Word word ∷ map number premises)
+    × (premises_of statement word ≡ Some (length premises))
 
 -- a whole line, by its letter, its identifier and the letter behind it
 abbrev pub LineForm : Letter → ℕ → Letter → List Token → Line → Type 0
-LineForm L.A id kind tokens line = (acts : Acts) × ActsForm kind tokens acts × (line ≡ N.Acts id acts)
-LineForm L.E id kind tokens line = (expr : Expr) × ExprForm kind tokens expr × (line ≡ N.Expr id expr)
+LineForm L.A id kind tokens line = (acts : Acts) × ActsForm kind tokens acts
+    × (line ≡ N.Acts id acts)
+LineForm L.E id kind tokens line = (expr : Expr) × ExprForm kind tokens expr
+    × (line ≡ N.Expr id expr)
 LineForm L.K id kind tokens line =
-    (statement : Statement) × (rest : List Token) × (word : Word) × (premises : List ℕ) × ClaimForm kind tokens statement rest
+    (statement : Statement) × (rest : List Token) × (word : Word) × (premises : List ℕ)
+    × ClaimForm kind tokens statement rest
     × SupportForm statement rest word premises × (line ≡ N.Known id statement word premises)
 LineForm _ id kind tokens line = ⊥

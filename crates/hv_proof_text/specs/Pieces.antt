@@ -16,7 +16,9 @@ state_piece least _ = Q.Other
 -- in a clause: the decimal 0 is the end, another short one a literal
 abbrev pub clause_piece : Token → ClausePiece
 clause_piece (T.Number n) =
-    cond (n == 0) P.End (cond (nat_lt n (10 ^ 9)) (P.Literal (record { atom = n - 1; positive = true })) P.Other)
+    cond (n == 0) P.End (cond (nat_lt n (10 ^ 9))
+    (P.Literal (record { atom = n - 1; positive = true })) P.Other)
 clause_piece (T.Minus n) =
-    cond (n == 0) P.Other (cond (nat_lt n (10 ^ 9)) (P.Literal (record { atom = n - 1; positive = false })) P.Other)
+    cond (n == 0) P.Other (cond (nat_lt n (10 ^ 9))
+    (P.Literal (record { atom = n - 1; positive = false })) P.Other)
 clause_piece _ = P.Other

@@ -74,7 +74,8 @@ constant_letter C.Start = L.I
 constant_letter C.Goal = L.G
 
 abbrev pub literal_token : Literal → Token
-literal_token literal = cond literal.positive (T.Number (literal.atom + 1)) (T.Minus (literal.atom + 1))
+literal_token literal = cond literal.positive (T.Number (literal.atom + 1))
+    (T.Minus (literal.atom + 1))
 
 abbrev pub clause_tokens : List Literal → List Token
 clause_tokens clause = map literal_token clause ++ number 0 ∷ []

@@ -6,9 +6,9 @@ ghost use Rattle.hv_proof_text.specs.declared.token.Token.{Token};
 use crate::token::{Token, token_of};
 use std::alloc::AllocError;
 
-/// Puts the tokens of the fields in place of what was there, and says whether each field is one: the
-/// bytes are cut at each space. The memory grows with the fields before the first one that is no
-/// token.
+/// Puts the tokens of the fields in place of what was there, and says whether each field is one:
+/// the bytes are cut at each space. The memory grows with the fields before the first one that is
+/// no token.
 pub(crate) fn tokens_in(tokens: &mut Vec<Token>, bytes: &[u8]) -> Result<bool, AllocError>
     ensures some { result ≡ Ok true → AreTokens tokens.new.items (cut_fields bytes.now) }
     ensures none { result ≡ Ok false

@@ -216,7 +216,8 @@ fn counted_clauses(alloc: Global, tokens: &[Token]) -> Result<Option<Clauses>, A
     ensures { IfOk result (λ found. MatchOption found
         ((clauses : List (List Literal)) (items : List Token)
         → tokens.now ≡ number (length clauses) ∷ items → AreClauses clauses items → ⊥)
-        (λ clauses. (items : List Token) × (tokens.now ≡ number (length clauses) ∷ items) × AreClauses clauses items)) }
+        (λ clauses. (items : List Token) × (tokens.now ≡ number (length clauses) ∷ items)
+        × AreClauses clauses items)) }
 {
     let Some(counted) = shapes::counted(tokens) else {
         return Ok(None);
@@ -235,7 +236,8 @@ fn counted_states(alloc: Global, tokens: &[Token]) -> Result<Option<StateList>, 
     ensures { IfOk result (λ found. MatchOption found
         ((states : List (List ℕ)) (items : List Token)
         → tokens.now ≡ number (length states) ∷ items → AreStates states items → ⊥)
-        (λ states. (items : List Token) × (tokens.now ≡ number (length states) ∷ items) × AreStates states items)) }
+        (λ states. (items : List Token) × (tokens.now ≡ number (length states) ∷ items)
+        × AreStates states items)) }
 {
     let Some(counted) = shapes::counted(tokens) else {
         return Ok(None);

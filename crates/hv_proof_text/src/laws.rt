@@ -1,9 +1,30 @@
-ghost use Rattle.std.specs.Prelude.{◌≡◌, ℕ, List};
-ghost use Rattle.hv_lines.specs.Spelling.{IsSkipped, Spells};
+ghost use Rattle.std.specs.Prelude.{◌≡◌, ◌≤◌, ℕ, List, length, reverse};
+ghost use Rattle.hv_bytes.specs.Pieces.{pieces_of};
+ghost use Rattle.hv_bytes.specs.Standard.{most_file_bytes, standard};
+ghost use Rattle.hv_task.specs.Strips.{Strips};
+ghost use Rattle.hv_lines.specs.Drafts.{IsGoodTable, draft_setting};
+ghost use Rattle.hv_lines.specs.Judged.{Accepts, Concludes, JudgedBytes, Unsolvable};
+ghost use Rattle.hv_lines.specs.Spelling.{IsSkipped, Spells, proof_text};
 ghost use Rattle.hv_lines.specs.declared.line.Line.{Line};
 
 /// No bytes spell two lines, and a line that is skipped spells none.
 pub fn one_line()
-    ensures once { (first second : Line) (bytes : List ℕ) → Spells first bytes → Spells second bytes → first ≡ second }
+    ensures once { (first second : Line) (bytes : List ℕ) → Spells first bytes → Spells second bytes
+        → first ≡ second }
     ensures apart { (line : Line) (bytes : List ℕ) → Spells line bytes → IsSkipped bytes → ⊥ }
+{}
+
+/// The text of a good draft is accepted line by line, as the lines of the draft; so where a line
+/// says that there is no plan, the text is judged by it. A draft of at most 65,535 lines is within
+/// a file.
+pub fn read_back()
+    ensures accepted { (task : Strips) (lines : List Line) → IsGoodTable task lines
+        → length (proof_text (reverse lines)) ≤ most_file_bytes
+        → Accepts (draft_setting task)
+        (reverse (pieces_of standard (proof_text (reverse lines)))) lines }
+    ensures judged { (task : Strips) (lines : List Line) → IsGoodTable task lines
+        → Concludes lines → length (proof_text (reverse lines)) ≤ most_file_bytes
+        → JudgedBytes (draft_setting task) standard (proof_text (reverse lines)) Unsolvable }
+    ensures small { (task : Strips) (lines : List Line) → IsGoodTable task lines
+        → length lines ≤ 65535 → length (proof_text (reverse lines)) ≤ most_file_bytes }
 {}

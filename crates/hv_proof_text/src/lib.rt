@@ -12,6 +12,6 @@ mod tests;
 mod token;
 mod write;
 
-pub use laws::one_line;
+pub use laws::{one_line, read_back};
 pub use read::{LineError, LineReader, read_line};
 pub use write::{write_line, write_proof};

@@ -26,7 +26,8 @@ pub(crate) fn head_of(tokens: &[Token]) -> Option<Head<'_>>
     ensures { MatchOption result
         ((first : Letter) (id : ℕ) (kind : Letter) (rest : List Token)
         → tokens.now ≡ letter first ∷ number id ∷ letter kind ∷ rest → ⊥)
-        (λ head. tokens.now ≡ letter head.letter ∷ number head.id ∷ letter head.kind ∷ head.rest.now) }
+        (λ head. tokens.now ≡ letter head.letter ∷ number head.id ∷ letter head.kind
+        ∷ head.rest.now) }
 {
     match tokens {
         [
@@ -161,7 +162,8 @@ pub(crate) fn premises_in(count: usize, tokens: &[Token]) -> Option<Premises>
 }
 
 fn no_premises(tokens: &[Token]) -> Option<Premises>
-    ensures { MatchOption result (tokens.now ≡ [] → ⊥) (λ premises. (premises ≡ []) × (tokens.now ≡ [])) }
+    ensures { MatchOption result (tokens.now ≡ [] → ⊥) (λ premises. (premises ≡ [])
+        × (tokens.now ≡ [])) }
 {
     match tokens {
         [] => Some(Premises::none()),

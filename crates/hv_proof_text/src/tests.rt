@@ -1,6 +1,7 @@
 use crate::{LineError, LineReader, read_line, write_line, write_proof};
 use hv_bytes::Text;
-use hv_lines::{Acts, Constant, Expr, Line, Premises, Statement, Table, Word};
+use hv_lines::{Acts, Constant, Draft, Expr, Line, Premises, Statement, Table, Word};
+use hv_task::Task;
 use std::alloc::{AllocError, Global};
 use std::test::Fail;
 
@@ -165,5 +166,16 @@ fn writes_lines_in_order(rt: HostRuntime) -> Result<(), Fail> {
         out.as_bytes(),
         b"# proof\na 0 a\ne 0 c e\nk 0 d 0 ed\n".as_slice()
     );
+    Ok(())
+}
+
+#[test]
+fn writes_the_lines_that_begin_a_draft(rt: HostRuntime) -> Result<(), Fail> {
+    let task = Task::new(rt.alloc());
+    let draft = Draft::new(rt.alloc(), &task)?;
+    let mut out = Text::new(rt.alloc());
+    write_proof(rt.alloc(), draft.table(), &mut out)?;
+    let want = "a 0 a\ne 0 c e\ne 1 c i\ne 2 c g\nk 0 d 0 ed\n";
+    assert_eq!(rt; out.as_bytes(), want.as_bytes());
     Ok(())
 }

@@ -213,7 +213,8 @@ fn push_one(text: &mut Text, letter: &[u8], id: usize) -> Result<(), AllocError>
 
 /// A letter and two identifiers.
 fn push_pair(text: &mut Text, letter: &[u8], left: usize, right: usize) -> Result<(), AllocError>
-    ensures { OnOk result (text.new ≡ with_fields text.old (letter.now ∷ decimal left ∷ decimal right ∷ [])) }
+    ensures { OnOk result (text.new ≡ with_fields text.old (letter.now ∷ decimal left
+        ∷ decimal right ∷ [])) }
 {
     push_field(text, letter)?;
     push_number(text, left as u64)?;

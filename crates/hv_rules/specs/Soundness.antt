@@ -16,7 +16,8 @@ PremisesAreTrue task nodes lines premises =
     (premise : ℕ) (statement : Statement) → Contains premises premise → Says lines premise statement
     → IsTrueStatement task nodes lines statement
 
--- in a table of lines: where the rule of some word fits and its premises are true, the statement is true
+-- in a table of lines: where the rule of some word fits and its premises are true, the statement is
+-- true
 abbrev pub RulesAreSound : Strips → NodeList → Type 0
 RulesAreSound task nodes =
     (lines : List Line) → IsTable lines → (statement : Statement) (word : Word) (premises : List ℕ)

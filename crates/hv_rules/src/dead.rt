@@ -8,7 +8,8 @@ use hv_lines::{Constant, Expr, Statement, Table};
 
 /// The empty set is dead.
 pub fn fits_ed(table: &Table, statement: Statement, premises: &[usize]) -> bool
-    requires statement { SpeaksBelow (acts_count table.now.lines) (expr_count table.now.lines) statement }
+    requires statement { SpeaksBelow (acts_count table.now.lines)
+        (expr_count table.now.lines) statement }
     requires premises { AreBelow (known_count table.now.lines) premises.now }
     ensures { IsTrue result ↔ FitsEd table.now.lines statement premises.now }
 {
@@ -23,7 +24,8 @@ pub fn fits_ed(table: &Table, statement: Statement, premises: &[usize]) -> bool
 
 /// The union of two dead sets is dead.
 pub fn fits_ud(table: &Table, statement: Statement, premises: &[usize]) -> bool
-    requires statement { SpeaksBelow (acts_count table.now.lines) (expr_count table.now.lines) statement }
+    requires statement { SpeaksBelow (acts_count table.now.lines)
+        (expr_count table.now.lines) statement }
     requires premises { AreBelow (known_count table.now.lines) premises.now }
     ensures { IsTrue result ↔ FitsUd table.now.lines statement premises.now }
 {
@@ -41,7 +43,8 @@ pub fn fits_ud(table: &Table, statement: Statement, premises: &[usize]) -> bool
 
 /// A set within a dead set is dead.
 pub fn fits_sd(table: &Table, statement: Statement, premises: &[usize]) -> bool
-    requires statement { SpeaksBelow (acts_count table.now.lines) (expr_count table.now.lines) statement }
+    requires statement { SpeaksBelow (acts_count table.now.lines)
+        (expr_count table.now.lines) statement }
     requires premises { AreBelow (known_count table.now.lines) premises.now }
     ensures { IsTrue result ↔ FitsSd table.now.lines statement premises.now }
 {
@@ -59,7 +62,8 @@ pub fn fits_sd(table: &Table, statement: Statement, premises: &[usize]) -> bool
 
 /// What leads only into itself or a dead set, and whose goal states are dead, is dead.
 pub fn fits_pg(table: &Table, statement: Statement, premises: &[usize]) -> bool
-    requires statement { SpeaksBelow (acts_count table.now.lines) (expr_count table.now.lines) statement }
+    requires statement { SpeaksBelow (acts_count table.now.lines)
+        (expr_count table.now.lines) statement }
     requires premises { AreBelow (known_count table.now.lines) premises.now }
     ensures { IsTrue result ↔ FitsPg table.now.lines statement premises.now }
 {
@@ -92,9 +96,11 @@ pub fn fits_pg(table: &Table, statement: Statement, premises: &[usize]) -> bool
         && says(table, second, Statement::Dead(*others))
 }
 
-/// What is outside a set that holds the initial state and leads only into itself or a dead set is dead.
+/// What is outside a set that holds the initial state and leads only into itself or a dead set is
+/// dead.
 pub fn fits_pi(table: &Table, statement: Statement, premises: &[usize]) -> bool
-    requires statement { SpeaksBelow (acts_count table.now.lines) (expr_count table.now.lines) statement }
+    requires statement { SpeaksBelow (acts_count table.now.lines)
+        (expr_count table.now.lines) statement }
     requires premises { AreBelow (known_count table.now.lines) premises.now }
     ensures { IsTrue result ↔ FitsPi table.now.lines statement premises.now }
 {
@@ -127,9 +133,11 @@ pub fn fits_pi(table: &Table, statement: Statement, premises: &[usize]) -> bool
         && says(table, second, Statement::Dead(*others))
 }
 
-/// What is outside a set that is led into only from itself or a dead set is dead, where the goal states out there are.
+/// What is outside a set that is led into only from itself or a dead set is dead, where the goal
+/// states out there are.
 pub fn fits_rg(table: &Table, statement: Statement, premises: &[usize]) -> bool
-    requires statement { SpeaksBelow (acts_count table.now.lines) (expr_count table.now.lines) statement }
+    requires statement { SpeaksBelow (acts_count table.now.lines)
+        (expr_count table.now.lines) statement }
     requires premises { AreBelow (known_count table.now.lines) premises.now }
     ensures { IsTrue result ↔ FitsRg table.now.lines statement premises.now }
 {
@@ -167,7 +175,8 @@ pub fn fits_rg(table: &Table, statement: Statement, premises: &[usize]) -> bool
 
 /// What is led into only from itself or a dead set, and doesn't hold the initial state, is dead.
 pub fn fits_ri(table: &Table, statement: Statement, premises: &[usize]) -> bool
-    requires statement { SpeaksBelow (acts_count table.now.lines) (expr_count table.now.lines) statement }
+    requires statement { SpeaksBelow (acts_count table.now.lines)
+        (expr_count table.now.lines) statement }
     requires premises { AreBelow (known_count table.now.lines) premises.now }
     ensures { IsTrue result ↔ FitsRi table.now.lines statement premises.now }
 {

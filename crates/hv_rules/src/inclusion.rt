@@ -8,7 +8,8 @@ use hv_lines::{Expr, Statement, Table};
 
 /// A set is within its union with another on the right.
 pub fn fits_ur(table: &Table, statement: Statement, premises: &[usize]) -> bool
-    requires statement { SpeaksBelow (acts_count table.now.lines) (expr_count table.now.lines) statement }
+    requires statement { SpeaksBelow (acts_count table.now.lines)
+        (expr_count table.now.lines) statement }
     requires premises { AreBelow (known_count table.now.lines) premises.now }
     ensures { IsTrue result ↔ FitsUr table.now.lines statement premises.now }
 {
@@ -26,7 +27,8 @@ pub fn fits_ur(table: &Table, statement: Statement, premises: &[usize]) -> bool
 
 /// A set is within its union with another on the left.
 pub fn fits_ul(table: &Table, statement: Statement, premises: &[usize]) -> bool
-    requires statement { SpeaksBelow (acts_count table.now.lines) (expr_count table.now.lines) statement }
+    requires statement { SpeaksBelow (acts_count table.now.lines)
+        (expr_count table.now.lines) statement }
     requires premises { AreBelow (known_count table.now.lines) premises.now }
     ensures { IsTrue result ↔ FitsUl table.now.lines statement premises.now }
 {
@@ -44,7 +46,8 @@ pub fn fits_ul(table: &Table, statement: Statement, premises: &[usize]) -> bool
 
 /// An intersection is within its left part.
 pub fn fits_ir(table: &Table, statement: Statement, premises: &[usize]) -> bool
-    requires statement { SpeaksBelow (acts_count table.now.lines) (expr_count table.now.lines) statement }
+    requires statement { SpeaksBelow (acts_count table.now.lines)
+        (expr_count table.now.lines) statement }
     requires premises { AreBelow (known_count table.now.lines) premises.now }
     ensures { IsTrue result ↔ FitsIr table.now.lines statement premises.now }
 {
@@ -62,7 +65,8 @@ pub fn fits_ir(table: &Table, statement: Statement, premises: &[usize]) -> bool
 
 /// An intersection is within its right part.
 pub fn fits_il(table: &Table, statement: Statement, premises: &[usize]) -> bool
-    requires statement { SpeaksBelow (acts_count table.now.lines) (expr_count table.now.lines) statement }
+    requires statement { SpeaksBelow (acts_count table.now.lines)
+        (expr_count table.now.lines) statement }
     requires premises { AreBelow (known_count table.now.lines) premises.now }
     ensures { IsTrue result ↔ FitsIl table.now.lines statement premises.now }
 {
@@ -80,7 +84,8 @@ pub fn fits_il(table: &Table, statement: Statement, premises: &[usize]) -> bool
 
 /// Intersection distributes over union.
 pub fn fits_di(table: &Table, statement: Statement, premises: &[usize]) -> bool
-    requires statement { SpeaksBelow (acts_count table.now.lines) (expr_count table.now.lines) statement }
+    requires statement { SpeaksBelow (acts_count table.now.lines)
+        (expr_count table.now.lines) statement }
     requires premises { AreBelow (known_count table.now.lines) premises.now }
     ensures { IsTrue result ↔ FitsDi table.now.lines statement premises.now }
 {
@@ -110,7 +115,8 @@ pub fn fits_di(table: &Table, statement: Statement, premises: &[usize]) -> bool
 
 /// A union is within what both its parts are within.
 pub fn fits_su(table: &Table, statement: Statement, premises: &[usize]) -> bool
-    requires statement { SpeaksBelow (acts_count table.now.lines) (expr_count table.now.lines) statement }
+    requires statement { SpeaksBelow (acts_count table.now.lines)
+        (expr_count table.now.lines) statement }
     requires premises { AreBelow (known_count table.now.lines) premises.now }
     ensures { IsTrue result ↔ FitsSu table.now.lines statement premises.now }
 {
@@ -129,7 +135,8 @@ pub fn fits_su(table: &Table, statement: Statement, premises: &[usize]) -> bool
 
 /// What is within two sets is within their intersection.
 pub fn fits_si(table: &Table, statement: Statement, premises: &[usize]) -> bool
-    requires statement { SpeaksBelow (acts_count table.now.lines) (expr_count table.now.lines) statement }
+    requires statement { SpeaksBelow (acts_count table.now.lines)
+        (expr_count table.now.lines) statement }
     requires premises { AreBelow (known_count table.now.lines) premises.now }
     ensures { IsTrue result ↔ FitsSi table.now.lines statement premises.now }
 {
@@ -148,7 +155,8 @@ pub fn fits_si(table: &Table, statement: Statement, premises: &[usize]) -> bool
 
 /// Inclusion is transitive.
 pub fn fits_st(table: &Table, statement: Statement, premises: &[usize]) -> bool
-    requires statement { SpeaksBelow (acts_count table.now.lines) (expr_count table.now.lines) statement }
+    requires statement { SpeaksBelow (acts_count table.now.lines)
+        (expr_count table.now.lines) statement }
     requires premises { AreBelow (known_count table.now.lines) premises.now }
     ensures { IsTrue result ↔ FitsSt table.now.lines statement premises.now }
 {

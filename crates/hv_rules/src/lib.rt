@@ -1,4 +1,5 @@
-//! The 23 derivation rules of a proof (after the proof system of Eriksson, Röger and Helmert, 2018).
+//! The 23 derivation rules of a proof (after the proof system of Eriksson, Röger and Helmert,
+//! 2018).
 #![tactic(auto)]
 
 ghost use Rattle.std.specs.Prelude.{◌↔◌, IsTrue};
@@ -30,10 +31,12 @@ pub fn is_rule(word: Word) -> bool
     !matches!(word, Word::B1 | Word::B2 | Word::B3 | Word::B4 | Word::B5)
 }
 
-/// Whether the rule of the word allows to conclude the statement from the premises, after the lines of the table.
+/// Whether the rule of the word allows to conclude the statement from the premises, after the lines
+/// of the table.
 pub fn rule_fits(table: &Table, statement: &Statement, word: Word, premises: &Premises) -> bool
     requires word { IsRuleWord word }
-    requires statement { SpeaksBelow (acts_count table.now.lines) (expr_count table.now.lines) statement.now }
+    requires statement { SpeaksBelow (acts_count table.now.lines)
+        (expr_count table.now.lines) statement.now }
     requires premises { AreBelow (known_count table.now.lines) premises.now }
     ensures { IsTrue result ↔ Fits table.now.lines statement.now word premises.now }
 {

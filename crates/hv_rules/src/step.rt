@@ -8,7 +8,8 @@ use hv_lines::{Acts, Expr, Statement, Table};
 
 /// Fewer actions have fewer results.
 pub fn fits_at(table: &Table, statement: Statement, premises: &[usize]) -> bool
-    requires statement { SpeaksBelow (acts_count table.now.lines) (expr_count table.now.lines) statement }
+    requires statement { SpeaksBelow (acts_count table.now.lines)
+        (expr_count table.now.lines) statement }
     requires premises { AreBelow (known_count table.now.lines) premises.now }
     ensures { IsTrue result ↔ FitsAt table.now.lines statement premises.now }
 {
@@ -32,7 +33,8 @@ pub fn fits_at(table: &Table, statement: Statement, premises: &[usize]) -> bool
 
 /// Where the results of each of two action sets are within a set, so are those of their union.
 pub fn fits_au(table: &Table, statement: Statement, premises: &[usize]) -> bool
-    requires statement { SpeaksBelow (acts_count table.now.lines) (expr_count table.now.lines) statement }
+    requires statement { SpeaksBelow (acts_count table.now.lines)
+        (expr_count table.now.lines) statement }
     requires premises { AreBelow (known_count table.now.lines) premises.now }
     ensures { IsTrue result ↔ FitsAu table.now.lines statement premises.now }
 {
@@ -45,13 +47,14 @@ pub fn fits_au(table: &Table, statement: Statement, premises: &[usize]) -> bool
     unites_results(table, left, right, first, second)
 }
 
-/// Whether the set is the results of the union of two action sets, and the premises say that the results of each are within
-/// the other set.
+/// Whether the set is the results of the union of two action sets, and the premises say that the
+/// results of each are within the other set.
 fn unites_results(table: &Table, left: usize, right: usize, first: usize, second: usize) -> bool
     requires left { left < expr_count table.now.lines }
     requires first { first < known_count table.now.lines }
     requires second { second < known_count table.now.lines }
-    ensures { IsTrue result ↔ FitsAu table.now.lines (Statement.Sub left right) (first ∷ second ∷ []) }
+    ensures { IsTrue result ↔ FitsAu table.now.lines (Statement.Sub left right) (first ∷ second
+        ∷ []) }
 {
     let Expr::After(set, union) = table.expr(left) else {
         return false;
@@ -65,7 +68,8 @@ fn unites_results(table: &Table, left: usize, right: usize, first: usize, second
 
 /// A smaller set has fewer results.
 pub fn fits_pt(table: &Table, statement: Statement, premises: &[usize]) -> bool
-    requires statement { SpeaksBelow (acts_count table.now.lines) (expr_count table.now.lines) statement }
+    requires statement { SpeaksBelow (acts_count table.now.lines)
+        (expr_count table.now.lines) statement }
     requires premises { AreBelow (known_count table.now.lines) premises.now }
     ensures { IsTrue result ↔ FitsPt table.now.lines statement premises.now }
 {
@@ -89,7 +93,8 @@ pub fn fits_pt(table: &Table, statement: Statement, premises: &[usize]) -> bool
 
 /// The results in a union are where those in both its parts are.
 pub fn fits_pu(table: &Table, statement: Statement, premises: &[usize]) -> bool
-    requires statement { SpeaksBelow (acts_count table.now.lines) (expr_count table.now.lines) statement }
+    requires statement { SpeaksBelow (acts_count table.now.lines)
+        (expr_count table.now.lines) statement }
     requires premises { AreBelow (known_count table.now.lines) premises.now }
     ensures { IsTrue result ↔ FitsPu table.now.lines statement premises.now }
 {
@@ -109,9 +114,11 @@ pub fn fits_pu(table: &Table, statement: Statement, premises: &[usize]) -> bool
         && says_results(table, second, *other, *acts, right)
 }
 
-/// Where all results of a set are within another, the states with a result outside the other are outside the set.
+/// Where all results of a set are within another, the states with a result outside the other are
+/// outside the set.
 pub fn fits_pr(table: &Table, statement: Statement, premises: &[usize]) -> bool
-    requires statement { SpeaksBelow (acts_count table.now.lines) (expr_count table.now.lines) statement }
+    requires statement { SpeaksBelow (acts_count table.now.lines)
+        (expr_count table.now.lines) statement }
     requires premises { AreBelow (known_count table.now.lines) premises.now }
     ensures { IsTrue result ↔ FitsPr table.now.lines statement premises.now }
 {
@@ -133,9 +140,11 @@ pub fn fits_pr(table: &Table, statement: Statement, premises: &[usize]) -> bool
     says_results(table, first, *set, *acts, *around)
 }
 
-/// Where the states with a result outside one set are outside another, all results of the other are within the one.
+/// Where the states with a result outside one set are outside another, all results of the other are
+/// within the one.
 pub fn fits_rp(table: &Table, statement: Statement, premises: &[usize]) -> bool
-    requires statement { SpeaksBelow (acts_count table.now.lines) (expr_count table.now.lines) statement }
+    requires statement { SpeaksBelow (acts_count table.now.lines)
+        (expr_count table.now.lines) statement }
     requires premises { AreBelow (known_count table.now.lines) premises.now }
     ensures { IsTrue result ↔ FitsRp table.now.lines statement premises.now }
 {

@@ -8,7 +8,8 @@ use hv_lines::{Constant, Statement, Table};
 
 /// There is no plan where the initial state is dead.
 pub fn fits_ci(table: &Table, statement: Statement, premises: &[usize]) -> bool
-    requires statement { SpeaksBelow (acts_count table.now.lines) (expr_count table.now.lines) statement }
+    requires statement { SpeaksBelow (acts_count table.now.lines)
+        (expr_count table.now.lines) statement }
     requires premises { AreBelow (known_count table.now.lines) premises.now }
     ensures { IsTrue result ↔ FitsCi table.now.lines statement premises.now }
 {
@@ -26,7 +27,8 @@ pub fn fits_ci(table: &Table, statement: Statement, premises: &[usize]) -> bool
 
 /// There is no plan where the goal states are dead.
 pub fn fits_cg(table: &Table, statement: Statement, premises: &[usize]) -> bool
-    requires statement { SpeaksBelow (acts_count table.now.lines) (expr_count table.now.lines) statement }
+    requires statement { SpeaksBelow (acts_count table.now.lines)
+        (expr_count table.now.lines) statement }
     requires premises { AreBelow (known_count table.now.lines) premises.now }
     ensures { IsTrue result ↔ FitsCg table.now.lines statement premises.now }
 {
