@@ -2,3 +2,4 @@ pub mod Reached
 pub mod Index
 pub mod Waiting
 pub mod Table
+pub mod Written

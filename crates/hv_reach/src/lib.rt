@@ -1,14 +1,26 @@
-//! The atoms, and the pairs of atoms, that can be reached in a task from a state.
+//! The atoms, and the pairs of atoms, that can be reached in a task from a state; and the proofs that
+//! there is no plan where the goal isn't reached.
 #![tactic(auto)]
 
 pub mod atoms;
+pub mod fault;
+mod horn_proof;
 mod index;
+pub mod laws;
 mod mask;
+pub mod paired;
 pub mod pairs;
+#[cfg(test)]
+mod proof_tests;
+pub mod relaxed;
 mod search;
 mod table;
 #[cfg(test)]
 mod tests;
 
 pub use atoms::reached_atoms;
+pub use fault::ReachFault;
+pub use laws::{laws_of_pair_proofs, laws_of_relaxed_proofs};
+pub use paired::prove_pairs;
 pub use pairs::{Pairs, reached_pairs};
+pub use relaxed::prove_relaxed;

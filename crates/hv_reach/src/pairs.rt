@@ -1,11 +1,13 @@
 //! The pairs of atoms that are reached from a state.
 
-ghost use Rattle.std.specs.Prelude.{◌≡◌, ◌<◌, ◌≤◌, ◌↔◌, ℕ, true, length, IfOk};
+ghost use Rattle.std.specs.Prelude.{◌≡◌, ◌<◌, ◌≤◌, ◌↔◌, ℕ, true, false, length, IfOk};
 ghost use Rattle.hv_task.specs.Strips.{IsState, atoms};
-ghost use Rattle.hv_reach.specs.Reached.{ReachedPair, has_pair};
+ghost use Rattle.hv_task.specs.State.{AreBelow};
+ghost use Rattle.hv_reach.specs.Reached.{HasPairsOf, ReachedPair, has_pair};
 ghost use Rattle.hv_reach.specs.Table.{IsTable};
 
 use crate::index::{index, range};
+use crate::mask::has_pairs;
 use crate::search::{close, wake};
 use crate::table::{mark_all, table};
 use hv_task::{State, Task};
@@ -38,6 +40,16 @@ impl Pairs {
         ensures even { result ≡ has_pair self.now second first }
     {
         self.rows[first as usize].has(second)
+    }
+
+    // Whether all pairs of these atoms are in the set, which is over so many atoms.
+    pub(crate) fn has_all(&self, atoms: u32, list: &[u32]) -> bool
+        requires size { length self.now ≡ atoms }
+        requires below { AreBelow atoms list.now }
+        ensures yes { result ≡ true → HasPairsOf (has_pair self.now) list.now }
+        ensures no { result ≡ false → HasPairsOf (has_pair self.now) list.now → ⊥ }
+    {
+        has_pairs(atoms, &self.rows, list)
     }
 }
 

@@ -19,7 +19,7 @@ fn put(list: &mut AtomList, bound: u32, atom: u32) -> Result<(), AllocError>
     Ok(())
 }
 
-fn list_of(alloc: Global, bound: u32, atoms: &[u32]) -> Result<AtomList, AllocError>
+pub(crate) fn list_of(alloc: Global, bound: u32, atoms: &[u32]) -> Result<AtomList, AllocError>
     ensures { IfOk result (λ list. AreBelow bound list) }
 {
     let mut list = AtomList::new(alloc);
@@ -30,8 +30,8 @@ fn list_of(alloc: Global, bound: u32, atoms: &[u32]) -> Result<AtomList, AllocEr
 }
 
 // A task of so many atoms without actions.
-fn task_of(alloc: Global, count: u32, start: &[u32]) -> Result<Task, AllocError>
-    requires { count ≤ 1000 }
+pub(crate) fn task_of(alloc: Global, count: u32, start: &[u32]) -> Result<Task, AllocError>
+    requires { count ≤ 2000 }
     ensures { IfOk result (λ task. atoms task ≡ count) }
 {
     let mut task = Task::new(alloc);
@@ -44,7 +44,7 @@ fn task_of(alloc: Global, count: u32, start: &[u32]) -> Result<Task, AllocError>
     Ok(task)
 }
 
-fn add(
+pub(crate) fn add(
     alloc: Global,
     task: &mut Task,
     pre: &[u32],

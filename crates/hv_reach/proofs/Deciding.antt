@@ -1,0 +1,62 @@
+-- The goal is excluded exactly where the search finds an unreached atom, or an unreached pair, of it.
+use Rattle.std.proofs.Common.{◌≡◌, ℕ, suc, ◌⊎◌, ◌↔◌, Bool, true, false, List, [], ◌∷◌, refl, inl, inr, arith}
+use Rattle.std.proofs.lemmas.List.Elements.{All-cons, All-contains, All-nil}
+use Rattle.std.specs.List.{All, Contains}
+use Rattle.hv_task.specs.State.{names_atom}
+use Rattle.hv_task.specs.Strips.{Strips, start_state}
+use Rattle.hv_task.proofs.Places.{names_atom-Decides}
+use Rattle.hv_reach.specs.Reached.{HasPairsOf, ReachedAtom, ReachedPair}
+use Rattle.hv_reach.specs.Written.{PairsExclude, RelaxedExcludes}
+use Rattle.hv_reach.proofs.Denials.{bool_dec, false_true, lacks_one}
+
+module _ (task : Strips) (list : List ℕ) (each : (p : ℕ) → Contains list p ↔ ReachedAtom task (start_state task) p) where
+  pub named_reached : (p : ℕ) → (names_atom list p ≡ true) ↔ ReachedAtom task (start_state task) p
+  named_reached p =
+      let tells = names_atom-Decides list p in
+      (λ is. (each p).0 (tells.0 is), λ reached. tells.1 ((each p).1 reached))
+
+  pub relaxed_excludes : (All (λ p. Contains list p) task.goal → ⊥) → RelaxedExcludes task
+  relaxed_excludes out =
+      let w = lacks_one list task.goal out in
+      (w.0, w.1, λ reached. w.2 ((each w.0).1 reached))
+
+  pub relaxed_reached : All (λ p. Contains list p) task.goal → RelaxedExcludes task → ⊥
+  relaxed_reached all (p, at, out) = out ((each p).0 (All-contains (λ x. Contains list x) task.goal p all at))
+
+-- all of a row, or one that isn't in it
+row_cases : (r : ℕ → ℕ → Bool) (p : ℕ) (qs : List ℕ) → All (λ q. r p q ≡ true) qs ⊎ ((q : ℕ) × Contains qs q × (r p q ≡ false))
+row_cases r p [] = inl (All-nil (λ q. r p q ≡ true))
+row_cases r p (q ∷ qs) =
+    elim (bool_dec (r p q)) [
+      | inl is ↦ elim (row_cases r p qs) [
+        | inl all ↦ inl (All-cons (λ x. r p x ≡ true) q qs is all)
+        | inr w ↦ inr (w.0, (suc w.1.0, omega (arith, w.1.1), w.1.2), w.2)
+      ]
+      | inr fails ↦ inr (q, (0, omega arith, refl), fails)
+    ]
+
+-- all pairs, or one that isn't there
+pair_cases : (r : ℕ → ℕ → Bool) (ps qs : List ℕ)
+    → All (λ p. All (λ q. r p q ≡ true) qs) ps ⊎ ((p : ℕ) × (q : ℕ) × Contains ps p × Contains qs q × (r p q ≡ false))
+pair_cases r [] qs = inl (All-nil (λ p. All (λ q. r p q ≡ true) qs))
+pair_cases r (p ∷ ps) qs =
+    elim (row_cases r p qs) [
+      | inl row ↦ elim (pair_cases r ps qs) [
+        | inl all ↦ inl (All-cons (λ x. All (λ q. r x q ≡ true) qs) p ps row all)
+        | inr w ↦ inr (w.0, w.1, (suc w.2.0, omega (arith, w.2.1), w.2.2), w.3, w.4)
+      ]
+      | inr w ↦ inr (p, w.0, (0, omega arith, refl), w.1, w.2)
+    ]
+
+module _ (task : Strips) (r : ℕ → ℕ → Bool) (each : (p q : ℕ) → (r p q ≡ true) ↔ ReachedPair task (start_state task) p q) where
+  pub pairs_exclude : (HasPairsOf r task.goal → ⊥) → PairsExclude task
+  pairs_exclude out =
+      elim (pair_cases r task.goal task.goal) [
+        | inl all ↦ absurd (out all)
+        | inr w ↦ (w.0, w.1, w.2, w.3, λ reached. false_true (r w.0 w.1) w.4 ((each w.0 w.1).1 reached))
+      ]
+
+  pub pairs_reached : HasPairsOf r task.goal → PairsExclude task → ⊥
+  pairs_reached all (p, q, at, also, out) =
+      out ((each p q).0
+      (All-contains (λ y. r p y ≡ true) task.goal q (All-contains (λ x. All (λ y. r x y ≡ true) task.goal) task.goal p all at) also))

@@ -1,0 +1,34 @@
+//! What is true of the proofs, whatever program writes them.
+
+ghost use Rattle.std.specs.Prelude.{◌≡◌, ◌≤◌, List, length};
+ghost use Rattle.hv_task.specs.Strips.{Strips, IsTask, atoms};
+ghost use Rattle.hv_lines.specs.Drafts.{IsGoodTable};
+ghost use Rattle.hv_lines.specs.Judged.{Concludes};
+ghost use Rattle.hv_lines.specs.declared.line.Line.{Line};
+ghost use Rattle.hv_reach.specs.Written.{IsPairsProof, IsRelaxedProof, PairsExclude, RelaxedExcludes};
+
+/// Does nothing: its contract states that a task has one proof by its reached atoms, of sixteen
+/// lines, which is good and concludes where these exclude the goal.
+pub fn laws_of_relaxed_proofs()
+    ensures once { (task : Strips) (x y : List Line)
+        → IsRelaxedProof task x → IsRelaxedProof task y → x ≡ y }
+    ensures size { (task : Strips) (lines : List Line)
+        → IsRelaxedProof task lines → length lines ≡ 16 }
+    ensures good { (task : Strips) (lines : List Line) → IsTask task
+        → RelaxedExcludes task → IsRelaxedProof task lines → IsGoodTable task lines }
+    ensures concludes { (task : Strips) (lines : List Line) → IsTask task
+        → RelaxedExcludes task → IsRelaxedProof task lines → Concludes lines }
+{}
+
+/// Does nothing: its contract states the same of the proof by reached pairs, in a task of at most
+/// 1,024 atoms.
+pub fn laws_of_pair_proofs()
+    ensures once { (task : Strips) (x y : List Line)
+        → IsPairsProof task x → IsPairsProof task y → x ≡ y }
+    ensures size { (task : Strips) (lines : List Line)
+        → IsPairsProof task lines → length lines ≡ 16 }
+    ensures good { (task : Strips) (lines : List Line) → IsTask task → atoms task ≤ 1024
+        → PairsExclude task → IsPairsProof task lines → IsGoodTable task lines }
+    ensures concludes { (task : Strips) (lines : List Line) → IsTask task → atoms task ≤ 1024
+        → PairsExclude task → IsPairsProof task lines → Concludes lines }
+{}
