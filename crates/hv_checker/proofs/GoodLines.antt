@@ -1,14 +1,15 @@
--- What good lines are: a table, true statements, and explicit sets that list states of the task.
-use Rattle.std.proofs.Common.{◌≡◌, ℕ, List, [], ◌∷◌, Some, None, inl, inr, subst, sym}
-use Rattle.std.specs.List.{All}
+-- What good lines are: a table, true statements, and formulas that can be stored.
+use Rattle.std.proofs.Common.{◌≡◌, ◌<◌, ℕ, Bool, true, false, List, [], ◌∷◌, Some, None, cond, inl, inr, nat_eq, subst, sym}
+use Rattle.std.proofs.lemmas.Option.{same_Some}
+use Rattle.hv_bdd.specs.Nodes.{node_count}
 use Rattle.hv_task.specs.Plan.{IsUnsolvable}
 use Rattle.hv_task.specs.Strips.{atoms}
-use Rattle.hv_lines.specs.Good.{AreGood, ExprIsWithin, IsGood}
+use Rattle.hv_lines.specs.Good.{AreGood, ExprIsWithin, IsGood, IsKnown, IsOfItsFamily}
 use Rattle.hv_lines.specs.Meaning.{AllTrue, AreTrue, IsTrueStatement}
 use Rattle.hv_lines.specs.Numbering.{IsTable, expr_at}
+use Rattle.hv_lines.specs.Queries.{NamesNodes}
 use Rattle.hv_lines.specs.Order as O
 use Rattle.hv_lines.specs.Setting.{Setting}
-use Rattle.hv_lines.specs.Spelling.{ExprFits}
 use Rattle.hv_lines.specs.declared.line.Expr.{Expr}
 use Rattle.hv_lines.specs.declared.line.Expr.TheVariants as E
 use Rattle.hv_lines.specs.declared.line.Line.{Line}
@@ -19,33 +20,20 @@ use Rattle.hv_lines.specs.declared.line.Word.{Word}
 use Rattle.hv_lines.specs.declared.line.Word.TheVariants as W
 use Rattle.hv_lines.specs.Judged.{Accepts, Concludes, LineText}
 use Rattle.hv_lines.proofs.Kept.{all_true_at}
-use Rattle.hv_lines.proofs.Laws.{found_cases}
 use Rattle.hv_lines.proofs.Reasons.{good_next}
+use Rattle.hv_lines.proofs.Truth.{verdict_true}
 use Rattle.hv_rules.proofs.Sound.{sound}
-use Rattle.hv_basic.specs.Parts.{IsAtomsOf, ListsStates}
+use Rattle.hv_basic.specs.Stores.{CanBeStored, LineCanBeStored}
 
--- an accepted `b1` or `b2` line claims what is true
+-- an accepted `k` line claims what is true
 module _ (setting : Setting) (older : List Line) (id : ℕ) (ps : List ℕ) where
-  b1_true : (st : Statement) → IsGood setting older (L.Known id st W.B1 ps) → IsTrueStatement setting.task setting.nodes older st
-  b1_true (T.Sub left right) good = (good O.Holding).5
-  b1_true (T.ActSub left right) good = absurd (cc ((good O.Spelling).3))
-  b1_true (T.Dead set) good = absurd (cc ((good O.Spelling).3))
-  b1_true T.Unsolvable good = absurd (cc ((good O.Spelling).3))
-
-  b2_true : (st : Statement) → IsGood setting older (L.Known id st W.B2 ps) → IsTrueStatement setting.task setting.nodes older st
-  b2_true (T.Sub left right) good = (good O.Holding).5
-  b2_true (T.ActSub left right) good = absurd (cc ((good O.Spelling).3))
-  b2_true (T.Dead set) good = absurd (cc ((good O.Spelling).3))
-  b2_true T.Unsolvable good = absurd (cc ((good O.Spelling).3))
-
-  -- an accepted `k` line claims what is true
   claim_true : IsTable older → AllTrue setting.task setting.nodes older → (st : Statement) (w : Word)
       → IsGood setting older (L.Known id st w ps) → IsTrueStatement setting.task setting.nodes older st
-  claim_true table all st W.B1 good = b1_true st good
-  claim_true table all st W.B2 good = b2_true st good
-  claim_true table all st W.B3 good = absurd (good O.Form)
+  claim_true table all st W.B1 good = verdict_true setting older table st W.B1 (good O.Truth tt)
+  claim_true table all st W.B2 good = verdict_true setting older table st W.B2 (good O.Truth tt)
+  claim_true table all st W.B3 good = verdict_true setting older table st W.B3 (good O.Truth tt)
   claim_true table all st W.B4 good = absurd (good O.Form)
-  claim_true table all st W.B5 good = absurd (good O.Form)
+  claim_true table all st W.B5 good = verdict_true setting older table st W.B5 (good O.Truth tt)
   claim_true table all st w good = sound setting.task setting.nodes older table st w ps (λ k said among says. all_true_at setting.task setting.nodes older k said table all says) (good O.Rule tt)
 
 module _ (setting : Setting) where
@@ -67,23 +55,45 @@ module _ (setting : Setting) where
   good_each lines good id statement says =
       all_true_at setting.task setting.nodes lines id statement (good_table lines good) (good_true lines good) says
 
-  -- explicit sets list states of the task
-  expr_lists : (x : Expr) (states : List (List ℕ)) → x ≡ E.States states → ExprFits x → ExprIsWithin setting.task setting.nodes x
-      → All (IsAtomsOf (atoms setting.task)) states
-  expr_lists x states e fits within =
-      let f = subst (λ y. ExprFits y) e fits in
-      let w = subst (λ y. ExprIsWithin setting.task setting.nodes y) e within in
-      λ k d below. record { below = w k d below; rising = (f.1 k d below).rising }
+  -- the nodes that good lines name are there
+  node_named : (older : List Line) (id node : ℕ) (x : Expr) → IsGood setting older (L.Expr id x) → x ≡ E.Node node
+      → node < node_count setting.nodes
+  node_named older id node x good is =
+      let known : IsKnown setting.task setting.nodes older (L.Expr id x) = good O.Reference in
+      subst (ExprIsWithin setting.task setting.nodes) is known.1
 
-  pub good_lists : (lines : List Line) → AreGood setting lines → ListsStates setting.task lines
-  good_lists [] good set states line = absurd (cc)
-  good_lists (L.Acts id x ∷ older) good set states line = good_lists older good.1 set states line
-  good_lists (L.Expr id x ∷ older) good set states line =
-      elim (found_cases set id x (E.States states) (expr_at older set) line) [
-        | inl here ↦ expr_lists x states here.1 (good.0 O.Spelling).1 (good.0 O.Reference).1
-        | inr there ↦ good_lists older good.1 set states there.1
-      ]
-  good_lists (L.Known id st w ps ∷ older) good set states line = good_lists older good.1 set states line
+  named_here : (older : List Line) (k : ℕ) (x : Expr) (id node : ℕ) → IsGood setting older (L.Expr k x)
+      → (expr_at older id ≡ Some (E.Node node) → node < node_count setting.nodes) → (here : Bool)
+      → cond here (Some x) (expr_at older id) ≡ Some (E.Node node) → node < node_count setting.nodes
+  named_here older k x id node good before true at = node_named older k node x good (same_Some x (E.Node node) at)
+  named_here older k x id node good before false at = before at
+
+  pub good_nodes : (lines : List Line) → AreGood setting lines → NamesNodes (node_count setting.nodes) lines
+  good_nodes [] good id node at = absurd cc
+  good_nodes (L.Acts k x ∷ older) good id node at = good_nodes older good.1 id node at
+  good_nodes (L.Expr k x ∷ older) good id node at =
+      named_here older k x id node good.0 (good_nodes older good.1 id node) (nat_eq id k) at
+  good_nodes (L.Known k st w ps ∷ older) good id node at = good_nodes older good.1 id node at
+
+  -- what a good line says can be stored
+  expr_stored : (x : Expr) → ExprIsWithin setting.task setting.nodes x → IsOfItsFamily x → CanBeStored (atoms setting.task) x
+  expr_stored (E.Horn clauses) within family = (within, family)
+  expr_stored (E.Two clauses) within family = (within, family)
+  expr_stored (E.States states) within family = within
+  expr_stored (E.Constant constant) within family = tt
+  expr_stored (E.Node node) within family = tt
+  expr_stored (E.Not set) within family = tt
+  expr_stored (E.And left right) within family = tt
+  expr_stored (E.Or left right) within family = tt
+  expr_stored (E.After set by) within family = tt
+  expr_stored (E.Before set by) within family = tt
+
+  pub line_stored : (older : List Line) (line : Line) → IsGood setting older line → LineCanBeStored (atoms setting.task) line
+  line_stored older (L.Acts id x) good = tt
+  line_stored older (L.Expr id x) good =
+      let known : IsKnown setting.task setting.nodes older (L.Expr id x) = good O.Reference in
+      expr_stored x known.1 (good O.Family)
+  line_stored older (L.Known id st w ps) good = tt
 
   -- where good lines conclude, no list of actions is a plan
   pub good_concludes : (lines : List Line) → AreGood setting lines → Concludes lines → IsUnsolvable setting.task

@@ -3,3 +3,4 @@ pub mod OneJudgement
 mod PieceReasons
 mod Standing
 mod Told
+mod Faults

@@ -2,15 +2,17 @@
 use Rattle.std.proofs.Common.{◌≡◌, ℕ, ◌+◌, ◌∙◌, ◌⊎◌, List, [], ◌∷◌, ◌++◌, Some, None, append_assoc, inl, inr, length, refl, reverse, sym, ap, subst}
 use Rattle.std.proofs.lemmas.List.{reverse-append}
 use Rattle.hv_lines.specs.Spelling.{Spells, IsSkipped}
-use Rattle.hv_lines.specs.Good.{IsGood}
-use Rattle.hv_lines.specs.Judged.{Accepts, Concludes, IsReason, IsRefused, IsJudgedUnsolvable, IsInconclusive, Judged, Judgement, LineText, Passes, outline_of}
+use Rattle.hv_lines.specs.Good.{IsGood, IsRefutedBy}
+use Rattle.hv_lines.specs.Judged.{Accepts, Concludes, IsReason, IsRefused, IsShownBy, IsJudgedUnsolvable, IsInconclusive, Judged, Judgement, LineText, Passes, outline_of}
 use Rattle.hv_lines.specs.Judged as J
 use Rattle.hv_lines.specs.Order.{Test, without_state}
 use Rattle.hv_lines.specs.Order as O
 use Rattle.hv_lines.specs.Setting.{Setting}
 use Rattle.hv_lines.specs.declared.line.Line.{Line}
+use Rattle.hv_lines.specs.declared.reason.Clash.{Clash}
 use Rattle.hv_lines.specs.declared.reason.Reason.{Reason}
-use Rattle.hv_lines.proofs.Reasons.{no_reason, reason_once}
+use Rattle.hv_lines.specs.declared.reason.Reason.TheVariants as R
+use Rattle.hv_lines.proofs.Reasons.{clash_of_line_once, no_reason, reason_once}
 use Rattle.hv_proof_text.proofs.LineFields.{one_line, skipped_apart}
 
 -- the first item, or this one; the others
@@ -68,9 +70,9 @@ module _ (setting : Setting) where
       → IsReason setting lines bad r → Accepts setting (bad ∷ older) all → ⊥
   not_accepted older None lines all r accepts reason takes = takes
   not_accepted older (Some bytes) lines all r accepts reason (inl skipped) =
-      no_reason (Passes setting lines (Some bytes)) r reason (skipped_passes lines bytes skipped.0)
+      no_reason (Passes setting lines (Some bytes)) (IsShownBy setting lines (Some bytes)) r reason (skipped_passes lines bytes skipped.0)
   not_accepted older (Some bytes) lines all r accepts reason (inr (line, before, added, spells, good, takes)) =
-      no_reason (Passes setting lines (Some bytes)) r reason
+      no_reason (Passes setting lines (Some bytes)) (IsShownBy setting lines (Some bytes)) r reason
       (good_passes lines bytes line spells (subst (λ ls. IsGood setting ls line) (accepts_once older before lines takes accepts) good))
 
   -- what is accepted of a list is begun by what is accepted of a beginning
@@ -102,15 +104,23 @@ module _ (setting : Setting) where
       never refused.front refused.rest refused.bad refused.lines all r refused.accepted refused.reason_is
       (subst (λ ps. Accepts setting (reverse ps) all) refused.cut takes)
 
-  -- a list has one first refused piece, with one reason
+  -- the counterexamples to what a piece spells are one, but for the state
+  shown_once : (lines : List Line) (piece : LineText) (a b : Clash) → IsShownBy setting lines piece a → IsShownBy setting lines piece b
+      → without_state (R.False a) ≡ without_state (R.False b)
+  shown_once lines None a b x y = absurd x
+  shown_once lines (Some bytes) a b x y =
+      clash_of_line_once setting lines y.0 a b
+      (subst (λ l. IsRefutedBy setting lines l a) (one_line x.0 y.0 bytes x.1 y.1) x.2) y.2
+
+  -- a list has one first refused piece, with one reason but for the state of a counterexample
   refused_once : (pieces : List LineText) (p q : ℕ) (r s : Reason) → IsRefused setting pieces p r → IsRefused setting pieces q s
-      → (p ≡ q) × (r ≡ s)
+      → (p ≡ q) × (without_state r ≡ without_state s)
   unfolding Cuts
   refused_once pieces p q r s x y =
       elim (cut_cases x.front y.front x.bad y.bad x.rest y.rest (sym x.cut ∙ y.cut)) [
         | inl same ↦ (
           x.counted ∙ (ap (λ ps. length ps + 1) same.0 ∙ sym y.counted),
-          reason_once (Passes setting y.lines y.bad) r s
+          reason_once (Passes setting y.lines y.bad) (IsShownBy setting y.lines y.bad) (shown_once y.lines y.bad) r s
               (subst (λ b. IsReason setting y.lines b r) same.1
               (subst (λ ls. IsReason setting ls x.bad r)
               (accepts_once (reverse y.front) x.lines y.lines
@@ -136,7 +146,7 @@ module _ (setting : Setting) where
   judged_once pieces (J.Refused p r) J.Unsolvable x y = absurd (refused_alone pieces p r y.lines x y.accepted)
   judged_once pieces (J.Refused p r) (J.Refused q s) x y =
       let same = refused_once pieces p q r s x y in
-      ap (λ n. J.Refused n (without_state r)) same.0 ∙ ap (λ t. J.Refused q (without_state t)) same.1
+      ap (λ n. J.Refused n (without_state r)) same.0 ∙ ap (λ t. J.Refused q t) same.1
   judged_once pieces (J.Refused p r) J.NoConclusion x y = absurd (refused_alone pieces p r y.lines x y.accepted)
   judged_once pieces J.NoConclusion J.Unsolvable x y = absurd (yes_or_open pieces y x)
   judged_once pieces J.NoConclusion (J.Refused q s) x y = absurd (refused_alone pieces q s x.lines y x.accepted)

@@ -1,9 +1,9 @@
 -- How a piece comes by its reason: by what it spells.
 use Rattle.std.proofs.Common.{ℕ, List, Some, None, inl, inr, refl, subst, sym}
 use Rattle.hv_lines.specs.Spelling.{Spells, IsSkipped}
-use Rattle.hv_lines.specs.Good.{IsGood, IsReasonOf, LinePasses}
-use Rattle.hv_lines.specs.Judged.{IsReason, Passes}
-use Rattle.hv_lines.specs.Order.{Test}
+use Rattle.hv_lines.specs.Good.{IsGood, IsReasonOf, IsRefutedBy, LinePasses}
+use Rattle.hv_lines.specs.Judged.{IsReason, IsShownBy, Passes}
+use Rattle.hv_lines.specs.Order.{Gives, Test}
 use Rattle.hv_lines.specs.Order as O
 use Rattle.hv_lines.specs.Setting.{Setting}
 use Rattle.hv_lines.specs.declared.line.Line.{Line}
@@ -41,11 +41,17 @@ module _ (setting : Setting) (lines : List Line) where
       passes_out test (inl skipped) = absurd (skipped_apart line bytes spells skipped)
       passes_out test (inr w) = subst (λ l. LinePasses setting lines l test) (one_line w.0 line bytes w.1 spells) w.2
 
+      -- a counterexample to the line is one to the piece
+      gives_in : (test : Test) (reason : Reason) → Gives (IsRefutedBy setting lines line) test reason
+          → Gives (IsShownBy setting lines (Some bytes)) test reason
+      gives_in O.Truth reason gives = (gives.0, gives.1, (line, spells, gives.2))
+      gives_in test reason gives = gives
+
       -- so its reason is that of the line
       line_reason : (reason : Reason) → IsReasonOf setting lines line reason → IsReason setting lines (Some bytes) reason
       line_reason reason why = (
         why.0,
-        why.1,
+        gives_in why.0 reason why.1,
         λ passed. why.2 (passes_out why.0 passed),
         λ lower less. passes_in lower (why.3 lower less),
       )

@@ -2,13 +2,14 @@
 use Rattle.std.proofs.Common.{◌≡◌, ◌+◌, ◌∙◌, List, [], ◌∷◌, ◌++◌, Some, None, append_assoc, inl, inr, refl, reverse, sym, ap, subst}
 use Rattle.std.proofs.lemmas.List.{length_push, reverse-append}
 use Rattle.hv_lines.specs.Good.{IsGood}
-use Rattle.hv_lines.specs.Judged.{Accepts, IsPassedOver, IsReason, LineText}
+use Rattle.hv_lines.specs.Judged.{Accepts, Concludes, IsPassedOver, IsReason, LineText}
 use Rattle.hv_lines.specs.Setting.{Setting}
 use Rattle.hv_lines.specs.declared.line.Line.{Line}
 use Rattle.hv_lines.specs.declared.reason.Reason.{Reason}
 use Rattle.hv_checker.specs.Heard.{IsAccepted, IsSpelledBy}
-use Rattle.hv_checker.specs.Stands.{CheckerState, Stands, StandsAt}
+use Rattle.hv_checker.specs.Stands.{CheckerState, SaysAtEnd, Stands, StandsAt, refusal_at}
 use Rattle.hv_checker.specs.Stopping.{stop_after}
+use Rattle.hv_checker.specs.declared.piece.End.TheVariants as E
 use Rattle.hv_checker.specs.declared.piece.Fed.{Fed}
 use Rattle.hv_checker.specs.declared.piece.Fed.TheVariants as F
 use Rattle.hv_checker.specs.declared.stop.Stop.{Stop}
@@ -81,3 +82,11 @@ pub stands_fed : (old new : CheckerState) (pieces : List LineText) (piece : Line
 stands_fed old new pieces piece fed going same counted stop accepted stands =
     subst (λ s. StandsAt new s (pieces ++ piece ∷ [])) (sym stop)
     (stands_next old new pieces piece fed same (subst (λ s. StandsAt old s pieces) going stands) counted accepted)
+
+-- a checker that goes on, and whose lines conclude, says yes
+pub says_yes : (checker : CheckerState) → checker.stop ≡ S.Going → Concludes checker.lines → SaysAtEnd checker E.Unsolvable
+says_yes checker going concludes =
+    (ap (refusal_at checker.fed) going, (λ memory. other (sym going ∙ memory)), concludes)
+  where
+    other : S.Going ≡ S.Memory → ⊥
+    other same = absurd cc

@@ -43,7 +43,8 @@ StandsAt checker S.Going pieces =
     (checker.fed ≡ length pieces) × Accepts checker.setting (reverse pieces) checker.lines
 StandsAt checker (S.Refused reason) pieces =
     (front : List LineText) × (bad : LineText) × (rest : List LineText)
-    × (pieces ≡ front ++ bad ∷ rest) × (checker.fed ≡ length front + 1) × Accepts checker.setting (reverse front) checker.lines
+    × (pieces ≡ front ++ bad ∷ rest) × (checker.fed ≡ length front + 1)
+    × Accepts checker.setting (reverse front) checker.lines
     × IsReason checker.setting checker.lines bad reason
 StandsAt checker S.Memory pieces = ⊥
 

@@ -11,15 +11,18 @@ ghost use Rattle.hv_checker.specs.declared.stop.Stop.TheVariants as S;
 use crate::judge::{Bench, accept};
 use crate::piece::{End, Fed, Piece};
 use crate::stop::Stop;
+use hv_basic::Store;
 use hv_bdd::Diagrams;
 use hv_lines::{Reason, Statement, Table};
 use hv_proof_text::LineReader;
+use hv_sets::Scratch;
 use hv_task::Task;
 use std::alloc::{AllocError, Global};
 use std::marker::Model;
 
-/// Judges the lines of a proof one after another, for a task, the nodes of a node file and a budget. It keeps the accepted
-/// lines, the number of pieces that it was fed, and the refusal or want of memory that it met.
+/// Judges the lines of a proof one after another, for a task, the nodes of a node file and a
+/// budget. It keeps the accepted lines, the number of pieces that it was fed, and the refusal or
+/// want of memory that it met.
 #[derive(Drop)]
 pub struct Checker<'a> {
     alloc: Global,
@@ -28,6 +31,8 @@ pub struct Checker<'a> {
     budget: u64,
     reader: LineReader,
     table: Table,
+    store: Store,
+    scratch: Scratch,
     fed: u64,
     stop: Stop,
 }
@@ -35,6 +40,7 @@ pub struct Checker<'a> {
 impl<'a> Model for Checker<'a> {
     ghost use Rattle.hv_lines.specs.Good.{AreGood};
     ghost use Rattle.hv_lines.specs.Setting.{IsSetting, setting_of};
+    ghost use Rattle.hv_basic.specs.Stores.{IsStoreOf};
     ghost use Rattle.hv_checker.specs.Stands.{CheckerState};
 
     ghost Value = { CheckerState };
@@ -48,7 +54,8 @@ impl<'a> Model for Checker<'a> {
 
     ghost invariant = { λ c.
         let setting = setting_of c.task.now c.diagrams.now c.budget in
-        IsSetting setting × AreGood setting c.table.lines };
+        IsSetting setting × AreGood setting c.table.lines
+        × IsStoreOf c.task.now c.table.lines c.store };
 }
 
 impl<'a> Checker<'a> {
@@ -56,8 +63,8 @@ impl<'a> Checker<'a> {
     ghost use Rattle.hv_checker.specs.Stands.{IsEnd, SaysAtEnd, Stands, refusal_of};
     ghost use Rattle.hv_checker.specs.Texts.{text_of};
 
-    /// A checker that was fed nothing. The diagrams are over the atoms of the task. The budget bounds the cost of each query of a
-    /// basic statement; it is from 1 to 16,777,216.
+    /// A checker that was fed nothing. The diagrams are over the atoms of the task. The budget
+    /// bounds the cost of each query of a basic statement; it is from 1 to 16,777,216.
     pub fn new(
         alloc: Global,
         task: &'a Task,
@@ -80,27 +87,31 @@ impl<'a> Checker<'a> {
             budget,
             reader: LineReader::new(alloc),
             table: Table::new(alloc),
+            store: Store::new(alloc),
+            scratch: Scratch::new(alloc)?,
             fed: 0,
             stop: Stop::Going,
         })
     }
 
-    /// How many pieces were fed, up to and including the first that was refused or met want of memory.
+    /// How many pieces were fed, up to and including the first that was refused or met want of
+    /// memory.
     pub fn fed(&self) -> u64
         ensures { result ≡ self.now.fed }
     {
         self.fed
     }
 
-    /// Judges one more piece. After a refusal and after want of memory the accepted lines are as before the call, and every
-    /// later piece is answered by `Stopped`.
+    /// Judges one more piece. After a refusal and after want of memory the accepted lines are as
+    /// before the call, and every later piece is answered by `Stopped`.
     pub fn feed(&mut self, piece: Piece<'_>) -> Result<Fed, AllocError>
         requires { self.old.fed < 2 ^ 62 }
         ensures same { self.new.setting ≡ self.old.setting }
         ensures answers { self.old.stop ≡ S.Going → IfOk result (λ fed.
             IsAccepted self.old.setting self.old.lines self.new.lines (text_of piece.entry) fed) }
         ensures stop { IfOk result (λ fed. self.new.stop ≡ stop_after self.old.stop fed) }
-        ensures stopped { self.old.stop ≢ S.Going → (result ≡ Ok Fed.Stopped) × (self.new ≡ self.old) }
+        ensures stopped { self.old.stop ≢ S.Going → (result ≡ Ok Fed.Stopped)
+            × (self.new ≡ self.old) }
         ensures counted { self.old.stop ≡ S.Going → self.new.fed ≡ self.old.fed + 1 }
         ensures few { self.new.fed ≤ self.old.fed + 1 }
         ensures memory { OnErr result (self.new.stop ≡ S.Memory) }
@@ -118,7 +129,14 @@ impl<'a> Checker<'a> {
             diagrams: self.diagrams,
             budget: self.budget,
         };
-        match accept(&bench, &mut self.reader, &mut self.table, piece) {
+        match accept(
+            &bench,
+            &mut self.reader,
+            &mut self.table,
+            &mut self.store,
+            &mut self.scratch,
+            piece,
+        ) {
             Ok(outcome) => {
                 self.stop = outcome.stop;
                 Ok(outcome.fed)
@@ -132,7 +150,8 @@ impl<'a> Checker<'a> {
 
     /// What is said of the pieces fed so far as a whole proof.
     pub fn end(&self) -> End
-        ensures judged { (pieces : List LineText) → Stands self.now pieces → IsEnd self.now pieces result }
+        ensures judged { (pieces : List LineText) → Stands self.now pieces
+            → IsEnd self.now pieces result }
         ensures says { SaysAtEnd self.now result }
         ensures sound { result ≡ End.Unsolvable → IsUnsolvable self.now.setting.task }
     {

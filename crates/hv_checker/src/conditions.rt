@@ -4,8 +4,9 @@ ghost use Rattle.std.specs.Prelude.{◌≡◌, ◌<◌, ◌↔◌, length, IsTru
 ghost use Rattle.std.specs.List.{All};
 ghost use Rattle.hv_task.specs.State.{AreBelow};
 ghost use Rattle.hv_lines.specs.Numbering.{ActsReferBelow, ExprRefersBelow, IsNumbered, RefersBack, SpeaksBelow, acts_count, expr_count, known_count};
-ghost use Rattle.hv_lines.specs.Good.{ActsAreWithin, ClausesAreBelow, ExprIsWithin, IsBuilt, IsBuiltExpr, IsBuiltWord, IsKnown, IsWithin};
+ghost use Rattle.hv_lines.specs.Good.{ActsAreWithin, ClausesAreBelow, ExprIsWithin, FamilyFits, IsBuilt, IsBuiltWord, IsKnown, IsWithin};
 
+use hv_basic::is_of_its_family;
 use hv_bdd::Diagrams;
 use hv_lines::{Acts, Expr, Line, Statement, Table, Word};
 use hv_sets::{Clauses, Literal};
@@ -16,18 +17,8 @@ pub(crate) fn is_built(line: &Line) -> bool
     ensures { IsTrue result ↔ IsBuilt line.now }
 {
     match line {
-        Line::Acts { .. } => true,
-        Line::Expr { expr, .. } => is_built_expr(expr),
+        Line::Acts { .. } | Line::Expr { .. } => true,
         Line::Known { word, .. } => is_built_word(*word),
-    }
-}
-
-fn is_built_expr(expr: &Expr) -> bool
-    ensures { IsTrue result ↔ IsBuiltExpr expr.now }
-{
-    match expr {
-        Expr::Horn(_) | Expr::Two(_) | Expr::Node(_) => false,
-        _ => true,
     }
 }
 
@@ -35,7 +26,7 @@ fn is_built_word(word: Word) -> bool
     ensures { IsTrue result ↔ IsBuiltWord word }
 {
     match word {
-        Word::B3 | Word::B4 | Word::B5 => false,
+        Word::B4 => false,
         _ => true,
     }
 }
@@ -56,6 +47,16 @@ pub(crate) fn is_known(task: &Task, diagrams: &Diagrams, table: &Table, line: &L
     ensures { IsTrue result ↔ IsKnown task.now diagrams.now table.now.lines line.now }
 {
     refers_back(table, line) && is_within(task, diagrams, line)
+}
+
+/// Whether the clauses of the line's formula are of its family.
+pub(crate) fn family_fits(line: &Line) -> bool
+    ensures { IsTrue result ↔ FamilyFits line.now }
+{
+    match line {
+        Line::Expr { expr, .. } => is_of_its_family(expr),
+        Line::Acts { .. } | Line::Known { .. } => true,
+    }
 }
 
 fn refers_back(table: &Table, line: &Line) -> bool

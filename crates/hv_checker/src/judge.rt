@@ -1,22 +1,27 @@
 //! One piece of a proof: read, and tested after the lines accepted before it.
 
-ghost use Rattle.std.specs.Prelude.{◌≡◌, ◌≤◌, ◌↔◌, Some, IfOk, OnErr, IsTrue};
+ghost use Rattle.std.specs.Prelude.{◌≡◌, ◌∷◌, ◌≤◌, Some, IfOk, OnErr, OnOk};
 ghost use Rattle.hv_lines.specs.Spelling.{IsSpelled};
-ghost use Rattle.hv_lines.specs.Numbering.{IsNumbered, RefersBack};
-ghost use Rattle.hv_lines.specs.Good.{AreGood, IsBuilt, IsKnown, RuleHolds, SidesAreBuilt, StatementHolds};
-ghost use Rattle.hv_checker.specs.Heard.{IsAccepted, IsFault, IsHeard, IsJudgedLine, setting_on};
+ghost use Rattle.hv_lines.specs.Numbering.{RefersBack, SpeaksBelow, acts_count, expr_count};
+ghost use Rattle.hv_lines.specs.Good.{AreGood, IsFormed, IsGood};
+ghost use Rattle.hv_lines.specs.Queries.{NamesNodes};
+ghost use Rattle.hv_lines.specs.Setting.{IsSetting};
+ghost use Rattle.hv_bdd.specs.Nodes.{node_count};
+ghost use Rattle.hv_basic.specs.Stores.{IsStoreOf};
+ghost use Rattle.hv_checker.specs.Heard.{IsAccepted, IsBasicFault, IsFault, IsHeard, IsJudgedLine, fault_by, setting_on};
 ghost use Rattle.hv_checker.specs.Stopping.{stop_after};
 ghost use Rattle.hv_checker.specs.Texts.{text_of};
 ghost use Rattle.hv_checker.specs.declared.stop.Stop.TheVariants as S;
 
-use crate::conditions::{is_built, is_known, is_numbered};
+use crate::conditions::{family_fits, is_built, is_known, is_numbered};
 use crate::piece::{Fed, Piece};
 use crate::stop::Stop;
-use hv_basic::{has_built_sides, holds};
+use hv_basic::{ShapeFault, Store, decide, shape};
 use hv_bdd::Diagrams;
-use hv_lines::{Line, Reason, Table};
+use hv_lines::{Line, Reason, Statement, Table, Verdict, Word};
 use hv_proof_text::{LineError, LineReader};
 use hv_rules::{is_rule, rule_fits};
+use hv_sets::Scratch;
 use hv_task::Task;
 use std::alloc::{AllocError, Global};
 
@@ -47,21 +52,26 @@ pub(crate) struct Outcome {
     pub stop: Stop,
 }
 
-/// Judges the piece, and puts a good line into the table.
+/// Judges the piece. A good line is put into the table, and its formula into the store.
 pub(crate) fn accept(
     bench: &Bench<'_>,
     reader: &mut LineReader,
     table: &mut Table,
+    store: &mut Store,
+    scratch: &mut Scratch,
     piece: Piece<'_>,
 ) -> Result<Outcome, AllocError>
-    requires { AreGood (setting_on bench.now) table.old.lines }
+    requires good { AreGood (setting_on bench.now) table.old.lines }
+    requires setting { IsSetting (setting_on bench.now) }
+    requires store { IsStoreOf bench.now.task.now table.old.lines store.old }
     ensures good { AreGood (setting_on bench.now) table.new.lines }
+    ensures store { IsStoreOf bench.now.task.now table.new.lines store.new }
     ensures accepted { IfOk result (λ o.
         IsAccepted (setting_on bench.now) table.old.lines table.new.lines (text_of piece.entry) o.fed) }
     ensures stop { IfOk result (λ o. o.stop ≡ stop_after S.Going o.fed) }
     ensures kept { OnErr result (table.new.lines ≡ table.old.lines) }
 {
-    match hear(bench, reader, table, piece)? {
+    match hear(bench, reader, table, store, scratch, piece)? {
         Heard::Skipped => Ok(Outcome {
             fed: Fed::Skipped,
             stop: Stop::Going,
@@ -74,7 +84,7 @@ pub(crate) fn accept(
             })
         }
         Heard::Good(line) => {
-            table.push(line)?;
+            keep(bench, table, store, line)?;
             Ok(Outcome {
                 fed: Fed::Good,
                 stop: Stop::Going,
@@ -83,19 +93,43 @@ pub(crate) fn accept(
     }
 }
 
+/// Puts a good line into the table, and its formula into the store. Want of memory leaves the table
+/// as it was.
+fn keep(
+    bench: &Bench<'_>,
+    table: &mut Table,
+    store: &mut Store,
+    line: Line,
+) -> Result<(), AllocError>
+    requires good { IsGood (setting_on bench.now) table.old.lines line }
+    requires store { IsStoreOf bench.now.task.now table.old.lines store.old }
+    ensures ok { OnOk result (table.new.lines ≡ line ∷ table.old.lines) }
+    ensures err { OnErr result (table.new.lines ≡ table.old.lines) }
+    ensures store { IsStoreOf bench.now.task.now table.new.lines store.new }
+{
+    table.reserve(1)?;
+    store.add_line(bench.task, &line)?;
+    table.push(line)?;
+    Ok(())
+}
+
 pub(crate) fn hear(
     bench: &Bench<'_>,
     reader: &mut LineReader,
     table: &Table,
+    store: &Store,
+    scratch: &mut Scratch,
     piece: Piece<'_>,
 ) -> Result<Heard, AllocError>
-    requires good { AreGood (setting_on bench.now) table.now.lines }
+    requires setting { IsSetting (setting_on bench.now) }
+    requires nodes { NamesNodes (node_count bench.now.diagrams.now) table.now.lines }
+    requires store { IsStoreOf bench.now.task.now table.now.lines store.now }
     ensures { IfOk result (λ heard.
         IsHeard (setting_on bench.now) table.now.lines (text_of piece.entry) heard) }
 {
     match piece {
         Piece::Long => Ok(Heard::Refused(Reason::Long)),
-        Piece::Line(bytes) => hear_line(bench, reader, table, bytes),
+        Piece::Line(bytes) => hear_line(bench, reader, table, store, scratch, bytes),
     }
 }
 
@@ -103,15 +137,20 @@ fn hear_line(
     bench: &Bench<'_>,
     reader: &mut LineReader,
     table: &Table,
+    store: &Store,
+    scratch: &mut Scratch,
     bytes: &[u8],
 ) -> Result<Heard, AllocError>
-    requires good { AreGood (setting_on bench.now) table.now.lines }
-    ensures { IfOk result (λ heard. IsHeard (setting_on bench.now) table.now.lines (Some bytes.now) heard) }
+    requires setting { IsSetting (setting_on bench.now) }
+    requires nodes { NamesNodes (node_count bench.now.diagrams.now) table.now.lines }
+    requires store { IsStoreOf bench.now.task.now table.now.lines store.now }
+    ensures { IfOk result (λ heard. IsHeard (setting_on bench.now) table.now.lines
+        (Some bytes.now) heard) }
 {
     match reader.read(bench.alloc, bytes) {
         Ok(None) => Ok(Heard::Skipped),
         Ok(Some(line)) => {
-            let heard = hear_spelled(bench, table, line)?;
+            let heard = hear_spelled(bench, table, store, scratch, line)?;
             Ok(heard)
         }
         Err(LineError::Grammar) => Ok(Heard::Refused(Reason::Grammar)),
@@ -119,20 +158,37 @@ fn hear_line(
     }
 }
 
-fn hear_spelled(bench: &Bench<'_>, table: &Table, line: Line) -> Result<Heard, AllocError>
-    requires good { AreGood (setting_on bench.now) table.now.lines }
+fn hear_spelled(
+    bench: &Bench<'_>,
+    table: &Table,
+    store: &Store,
+    scratch: &mut Scratch,
+    line: Line,
+) -> Result<Heard, AllocError>
+    requires setting { IsSetting (setting_on bench.now) }
+    requires nodes { NamesNodes (node_count bench.now.diagrams.now) table.now.lines }
+    requires store { IsStoreOf bench.now.task.now table.now.lines store.now }
     requires spelled { IsSpelled line }
-    ensures { IfOk result (λ heard. IsJudgedLine (setting_on bench.now) table.now.lines line heard) }
+    ensures { IfOk result (λ heard. IsJudgedLine
+        (setting_on bench.now) table.now.lines line heard) }
 {
-    match fault(bench, table, &line)? {
+    match fault(bench, table, store, scratch, &line)? {
         None => Ok(Heard::Good(line)),
         Some(reason) => Ok(Heard::Refused(reason)),
     }
 }
 
 /// The first test that the line fails.
-fn fault(bench: &Bench<'_>, table: &Table, line: &Line) -> Result<Option<Reason>, AllocError>
-    requires good { AreGood (setting_on bench.now) table.now.lines }
+fn fault(
+    bench: &Bench<'_>,
+    table: &Table,
+    store: &Store,
+    scratch: &mut Scratch,
+    line: &Line,
+) -> Result<Option<Reason>, AllocError>
+    requires setting { IsSetting (setting_on bench.now) }
+    requires nodes { NamesNodes (node_count bench.now.diagrams.now) table.now.lines }
+    requires store { IsStoreOf bench.now.task.now table.now.lines store.now }
     requires spelled { IsSpelled line.now }
     ensures { IfOk result (λ f. IsFault (setting_on bench.now) table.now.lines line.now f) }
 {
@@ -145,87 +201,93 @@ fn fault(bench: &Bench<'_>, table: &Table, line: &Line) -> Result<Option<Reason>
     if !is_known(bench.task, bench.diagrams, table, line) {
         return Ok(Some(Reason::Unknown));
     }
-    fault_in_meaning(bench, table, line)
+    if !family_fits(line) {
+        return Ok(Some(Reason::Family));
+    }
+    fault_in_meaning(bench, table, store, scratch, line)
 }
 
 /// The first test that the line fails, of those that look at the lines that it refers to.
 fn fault_in_meaning(
     bench: &Bench<'_>,
     table: &Table,
+    store: &Store,
+    scratch: &mut Scratch,
     line: &Line,
 ) -> Result<Option<Reason>, AllocError>
-    requires good { AreGood (setting_on bench.now) table.now.lines }
+    requires setting { IsSetting (setting_on bench.now) }
+    requires nodes { NamesNodes (node_count bench.now.diagrams.now) table.now.lines }
+    requires store { IsStoreOf bench.now.task.now table.now.lines store.now }
+    requires formed { IsFormed (setting_on bench.now) table.now.lines line.now }
     requires spelled { IsSpelled line.now }
-    requires built { IsBuilt line.now }
-    requires numbered { IsNumbered table.now.lines line.now }
-    requires known { IsKnown bench.now.task.now bench.now.diagrams.now table.now.lines line.now }
+    requires back { RefersBack table.now.lines line.now }
     ensures { IfOk result (λ f. IsFault (setting_on bench.now) table.now.lines line.now f) }
 {
-    if !sides_are_built(table, line) {
-        return Ok(Some(Reason::Unbuilt));
-    }
-    if !rule_holds(table, line) {
-        return Ok(Some(Reason::Rule));
-    }
-    if !statement_holds(bench, table, line)? {
-        return Ok(Some(Reason::NotGood));
-    }
-    Ok(None)
-}
-
-fn rule_holds(table: &Table, line: &Line) -> bool
-    requires spelled { IsSpelled line.now }
-    requires known { RefersBack table.now.lines line.now }
-    ensures { IsTrue result ↔ RuleHolds table.now.lines line.now }
-{
     match line {
+        Line::Acts { .. } => Ok(None),
+        Line::Expr { .. } => Ok(None),
         Line::Known {
             statement,
             word,
             premises,
             ..
-        } => !is_rule(*word) || rule_fits(table, statement, *word, premises),
-        _ => true,
-    }
-}
-
-fn sides_are_built(table: &Table, line: &Line) -> bool
-    requires { RefersBack table.now.lines line.now }
-    ensures { IsTrue result ↔ SidesAreBuilt table.now.lines line.now }
-{
-    match line {
-        Line::Known {
-            statement,
-            word,
-            ..
-        } => has_built_sides(table, statement, *word),
-        _ => true,
-    }
-}
-
-fn statement_holds(bench: &Bench<'_>, table: &Table, line: &Line) -> Result<bool, AllocError>
-    requires good { AreGood (setting_on bench.now) table.now.lines }
-    requires known { RefersBack table.now.lines line.now }
-    requires sides { SidesAreBuilt table.now.lines line.now }
-    ensures { IfOk result (λ yes.
-        IsTrue yes ↔ StatementHolds (setting_on bench.now) table.now.lines line.now) }
-{
-    match line {
-        Line::Known {
-            statement,
-            word,
-            ..
         } => {
-            let yes = holds(
+            if !is_rule(*word) {
+                let fault = fault_of_basic(bench, table, store, scratch, statement, *word)?;
+                return Ok(fault);
+            }
+            if !rule_fits(table, statement, *word, premises) {
+                return Ok(Some(Reason::Rule));
+            }
+            Ok(None)
+        }
+    }
+}
+
+/// The first test that a basic statement with its word fails.
+fn fault_of_basic(
+    bench: &Bench<'_>,
+    table: &Table,
+    store: &Store,
+    scratch: &mut Scratch,
+    statement: &Statement,
+    word: Word,
+) -> Result<Option<Reason>, AllocError>
+    requires setting { IsSetting (setting_on bench.now) }
+    requires nodes { NamesNodes (node_count bench.now.diagrams.now) table.now.lines }
+    requires store { IsStoreOf bench.now.task.now table.now.lines store.now }
+    requires speaks { SpeaksBelow (acts_count table.now.lines)
+        (expr_count table.now.lines) statement.now }
+    ensures { IfOk result (λ f. IsBasicFault
+        (setting_on bench.now) table.now.lines statement.now word f) }
+{
+    match shape(bench.alloc, table, statement, word) {
+        Err(ShapeFault::Shape) => Ok(Some(Reason::Shape)),
+        Err(ShapeFault::Memory) => Err(AllocError),
+        Ok(basic) => {
+            let verdict = decide(
                 bench.alloc,
                 bench.task,
                 table,
-                statement,
-                *word,
+                bench.diagrams,
+                store,
+                &basic,
                 bench.budget,
+                scratch,
             )?;
-            Ok(yes)
+            Ok(reason_by(verdict))
         }
-        _ => Ok(true),
+    }
+}
+
+/// The reason that a verdict gives, if it gives one.
+fn reason_by(verdict: Verdict) -> Option<Reason>
+    ensures { result ≡ fault_by verdict }
+{
+    match verdict {
+        Verdict::True => None,
+        Verdict::False(clash) => Some(Reason::False(clash)),
+        Verdict::Over => Some(Reason::Budget),
+        Verdict::NotOffered => Some(Reason::NotOffered),
     }
 }

@@ -5,7 +5,8 @@ use hv_lines::Reason;
 pub enum Piece<'b> {
     /// The bytes of the line without its LF.
     Line(&'b [u8]),
-    /// A line with more bytes than a line may have, or whose last byte lies past what a file may have.
+    /// A line with more bytes than a line may have, or whose last byte lies past what a file may
+    /// have.
     Long,
 }
 
@@ -27,7 +28,8 @@ pub enum Fed {
 pub enum End {
     /// Every line is good, and one says that the task is unsolvable.
     Unsolvable,
-    /// The piece with this number, counted from 1, is the first that isn't good; `Checker::reason` says why.
+    /// The piece with this number, counted from 1, is the first that isn't good; `Checker::reason`
+    /// says why.
     Refused(u64),
     /// Every line is good, and none says that the task is unsolvable.
     NoConclusion,

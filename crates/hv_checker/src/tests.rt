@@ -1,10 +1,12 @@
-//! Proofs for a task with a key that is out of reach: a robot goes between two places, and the key is wanted.
+//! Proofs for a task with a key that is out of reach: a robot goes between two places, and the key
+//! is wanted.
 ghost use Rattle.std.specs.Prelude.{ℕ, ◌<◌, ◌≤◌, ◌≡◌, ◌+◌, length, IfOk, OnOk};
 ghost use Rattle.hv_task.specs.State.{AreBelow};
 ghost use Rattle.hv_task.specs.Strips.{atoms};
 
 use crate::{Checker, End, Fed, Piece, Reason};
 use hv_bdd::Diagrams;
+use hv_lines::Clash;
 use hv_task::{Action, AtomList, Name, Task};
 use std::alloc::{AllocError, Global};
 use std::process::Abort;
@@ -78,22 +80,55 @@ fn feed_good(rt: &impl Abort, checker: &mut Checker<'_>, lines: &[&str]) -> Resu
     Ok(())
 }
 
-#[test]
-fn accepts_the_listed_proof(rt: HostRuntime) -> Result<(), Fail> {
-    let task = key_task(rt.alloc())?;
-    let diagrams = Diagrams::none(rt.alloc(), task.atoms());
-    let mut checker = Checker::new(rt.alloc(), &task, &diagrams, 2)?;
-    feed_good(&rt, &mut checker, &PROOF[..15])?;
+/// The proof is good up to its last line, and then concludes.
+fn accept(rt: &impl Abort, checker: &mut Checker<'_>) -> Result<(), AllocError> {
+    feed_good(rt, checker, &PROOF[..15])?;
     assert_eq!(rt; checker.end(), End::NoConclusion);
     assert!(rt; checker.fed() < 100);
     let comment = checker.feed(Piece::Line(b"# the end"))?;
     assert!(rt; comment == Fed::Skipped);
-    feed_good(&rt, &mut checker, &PROOF[15..])?;
+    feed_good(rt, checker, &PROOF[15..])?;
     assert_eq!(rt; checker.end(), End::Unsolvable);
     assert_eq!(rt; checker.fed(), 17);
     assert!(rt; checker.reason().is_none());
     assert_eq!(rt; checker.table().known_count(), 8);
     Ok(())
+}
+
+#[test]
+fn accepts_the_listed_proof(rt: HostRuntime) -> Result<(), Fail> {
+    let task = key_task(rt.alloc())?;
+    let diagrams = Diagrams::none(rt.alloc(), task.atoms());
+    let mut checker = Checker::new(rt.alloc(), &task, &diagrams, 2)?;
+    accept(&rt, &mut checker)?;
+    Ok(())
+}
+
+/// After these good lines the checker refuses the bad one, for this reason, and stops.
+fn stop(
+    rt: &impl Abort,
+    checker: &mut Checker<'_>,
+    front: &[&str],
+    bad: Piece<'_>,
+    reason: &Reason,
+) -> Result<(), AllocError> {
+    feed_good(rt, checker, front)?;
+    assert!(rt; checker.fed() < 100);
+    let fed = checker.feed(bad)?;
+    assert!(rt; is_refusal(&fed, reason));
+    let later = checker.feed(Piece::Line(b""))?;
+    assert!(rt; later == Fed::Stopped);
+    assert_eq!(rt; checker.end(), End::Refused(front.len() as u64 + 1));
+    let kept = checker.reason() == Some(reason);
+    assert!(rt; kept);
+    Ok(())
+}
+
+fn is_refusal(fed: &Fed, reason: &Reason) -> bool {
+    match fed {
+        Fed::Refused(told) => told == reason,
+        Fed::Skipped | Fed::Good | Fed::Stopped => false,
+    }
 }
 
 /// After these good lines a fresh checker refuses the bad one, for this reason, and stops.
@@ -103,7 +138,7 @@ fn refuse(
     budget: u64,
     front: &[&str],
     bad: Piece<'_>,
-    reason: Reason,
+    reason: &Reason,
 ) -> Result<(), AllocError>
     requires some { 0 < budget }
     requires small { budget ≤ 16777216 }
@@ -111,16 +146,7 @@ fn refuse(
     let task = key_task(alloc)?;
     let diagrams = Diagrams::none(alloc, task.atoms());
     let mut checker = Checker::new(alloc, &task, &diagrams, budget)?;
-    feed_good(rt, &mut checker, front)?;
-    assert!(rt; checker.fed() < 100);
-    let fed = checker.feed(bad)?;
-    let later = checker.feed(Piece::Line(b""))?;
-    assert!(rt; later == Fed::Stopped);
-    assert_eq!(rt; checker.end(), End::Refused(front.len() as u64 + 1));
-    let kept = checker.reason() == Some(&reason);
-    assert!(rt; kept);
-    assert!(rt; fed == Fed::Refused(reason));
-    Ok(())
+    stop(rt, &mut checker, front, bad, reason)
 }
 
 #[test]
@@ -131,14 +157,15 @@ fn tells_the_first_bad_line(rt: HostRuntime) -> Result<(), Fail> {
         (2, "k 0 d 0 sd 0 0", Reason::Unknown),
         (0, "a 0 b 1 2", Reason::Unknown),
         (3, "k 0 d 1 ed", Reason::Rule),
-        (0, "e 0 h 0", Reason::Unbuilt),
+        (0, "e 0 b 2", Reason::Unknown),
+        (0, "e 0 h 1 1 2 0", Reason::Family),
     ];
     for (good, bad, reason) in rows {
         assert!(rt; good < PROOF.len());
         let bad = Piece::Line(bad.as_bytes());
-        refuse(&rt, rt.alloc(), 2, &PROOF[..good], bad, reason)?;
+        refuse(&rt, rt.alloc(), 2, &PROOF[..good], bad, &reason)?;
     }
-    refuse(&rt, rt.alloc(), 2, &[], Piece::Long, Reason::Long)?;
+    refuse(&rt, rt.alloc(), 2, &[], Piece::Long, &Reason::Long)?;
     Ok(())
 }
 
@@ -156,7 +183,12 @@ fn tells_what_is_not_good(rt: HostRuntime) -> Result<(), Fail> {
         "e 6 i 3 2",
     ];
     let bad = Piece::Line(b"k 1 s 4 5 b2");
-    refuse(&rt, rt.alloc(), 2, &missing, bad, Reason::NotGood)?;
-    refuse(&rt, rt.alloc(), 1, &PROOF[..9], bad, Reason::NotGood)?;
+    let task = key_task(rt.alloc())?;
+    let clash = Clash {
+        action: Some(0),
+        state: Some(task.start_state(rt.alloc())?),
+    };
+    refuse(&rt, rt.alloc(), 2, &missing, bad, &Reason::False(clash))?;
+    refuse(&rt, rt.alloc(), 1, &PROOF[..9], bad, &Reason::Budget)?;
     Ok(())
 }

@@ -1,40 +1,32 @@
-use Rattle.hv_lines.specs.Good.{RuleHolds, SidesAreBuilt, StatementHolds}
-use Rattle.hv_lines.proofs.Reasons.{for_holding, for_rule, for_sides, good_line}
+use Rattle.hv_lines.specs.Good.{IsRuleWord}
+use Rattle.hv_lines.specs.Rules.{Fits}
 use Rattle.hv_checker.specs.Heard.{setting_on}
+use Rattle.hv_checker.proofs.Faults.{fault_of_basic, fault_of_rule, good_acts, good_expr, good_rule}
 use Rattle.hv_checker.proofs.Told.{untold}
 use Rattle.hv_checker.proofs.judge.fault_in_meaning.Goals as goal
 
-pub returns-then-not-sides_are_built : goal.returns-then-not-sides_are_built
-returns-then-not-sides_are_built c =
-    let lines = c.args.table.now.lines in
-    let line = c.args.line.now in
-    for_sides (setting_on c.args.bench.now) lines line c.requires.spelled c.requires.built c.requires.numbered c.requires.known
-    (untold c.sides_are_built.result (SidesAreBuilt lines line) c.sides_are_built.ensures c.if-not-sides_are_built.true)
+pub returns-in-Acts : goal.returns-in-Acts
+returns-in-Acts c =
+    good_acts (setting_on c.args.bench.now) c.args.table.now.lines c.args.line.now _ _ c.in-Acts.is c.requires.formed
 
-pub returns-then-not-rule_holds : goal.returns-then-not-rule_holds
-returns-then-not-rule_holds c =
-    let lines = c.args.table.now.lines in
-    let line = c.args.line.now in
-    for_rule (setting_on c.args.bench.now) lines line c.requires.spelled c.requires.built c.requires.numbered c.requires.known
-    (c.sides_are_built.ensures.0 c.if-not-sides_are_built.false)
-    (untold c.rule_holds.result (RuleHolds lines line) c.rule_holds.ensures c.if-not-rule_holds.true)
+pub returns-in-Expr : goal.returns-in-Expr
+returns-in-Expr c =
+    good_expr (setting_on c.args.bench.now) c.args.table.now.lines c.args.line.now _ _ c.in-Expr.is c.requires.formed
 
-pub returns-then-not-branch : goal.returns-then-not-branch
-returns-then-not-branch c =
-    let setting = setting_on c.args.bench.now in
-    let lines = c.args.table.now.lines in
-    let line = c.args.line.now in
-    for_holding setting lines line c.requires.spelled c.requires.built c.requires.numbered c.requires.known
-    (c.sides_are_built.ensures.0 c.if-not-sides_are_built.false)
-    (c.rule_holds.ensures.0 c.if-not-rule_holds.false)
-    (untold c.in_ok-statement_holds.field-0 (StatementHolds setting lines line) c.in_ok-statement_holds.ensures c.if-not-branch.true)
+pub returns-then-not-is_rule : goal.returns-then-not-is_rule
+returns-then-not-is_rule c =
+    fault_of_basic (setting_on c.args.bench.now) c.args.table.now.lines c.args.line.now _ _ c.in-Known.word _ c.in-Known.is c.requires.formed
+    (untold c.is_rule.result (IsRuleWord c.in-Known.word) c.is_rule.ensures c.if-not-is_rule.true) c.in_ok-fault-in-Known.fault c.in_ok-fault-in-Known.ensures
 
-pub returns : goal.returns
-returns c =
-    let setting = setting_on c.args.bench.now in
-    let lines = c.args.table.now.lines in
-    let line = c.args.line.now in
-    good_line setting lines line c.requires.spelled c.requires.built c.requires.numbered c.requires.known
-    (c.sides_are_built.ensures.0 c.if-not-sides_are_built.false)
-    (c.rule_holds.ensures.0 c.if-not-rule_holds.false)
-    (c.in_ok-statement_holds.ensures.0 c.if-not-branch.false)
+pub returns-then-not-rule_fits : goal.returns-then-not-rule_fits
+returns-then-not-rule_fits c =
+    fault_of_rule (setting_on c.args.bench.now) c.args.table.now.lines c.args.line.now _ c.in-Known.statement c.in-Known.word
+    c.in-Known.premises c.in-Known.is c.requires.formed (c.is_rule.ensures.0 c.if-not-is_rule.false)
+    (untold c.rule_fits.result (Fits c.args.table.now.lines c.in-Known.statement c.in-Known.word c.in-Known.premises)
+    c.rule_fits.ensures c.if-not-rule_fits.true)
+
+pub returns-else-not-rule_fits : goal.returns-else-not-rule_fits
+returns-else-not-rule_fits c =
+    good_rule (setting_on c.args.bench.now) c.args.table.now.lines c.args.line.now _ c.in-Known.statement c.in-Known.word
+    c.in-Known.premises c.in-Known.is c.requires.formed (c.is_rule.ensures.0 c.if-not-is_rule.false)
+    (c.rule_fits.ensures.0 c.if-not-rule_fits.false)
