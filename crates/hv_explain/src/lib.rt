@@ -1,0 +1,11 @@
+//! Which lines of a proof its conclusion rests on.
+#![tactic(auto)]
+
+pub mod explained;
+pub mod laws;
+mod needed;
+#[cfg(test)]
+mod tests;
+
+pub use explained::explain;
+pub use laws::one_explanation;
