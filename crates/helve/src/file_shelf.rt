@@ -5,7 +5,8 @@ use hv_bytes::{Failed, Shelf};
 use std::fs::File;
 use std::io::Read;
 
-/// The files of the system. Each error of the system, whatever its cause, counts as a fault; nothing is told of what files hold.
+/// The files of the system. Each error of the system, whatever its cause, counts as a fault;
+/// nothing is told of what files hold.
 #[derive(Drop)]
 pub(crate) struct FileShelf<'a> {
     rt: &'a HostRuntime,

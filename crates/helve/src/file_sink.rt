@@ -1,6 +1,7 @@
 use hv_bytes::{Failed, Sink};
 
-/// Standard output. Each error of the system, whatever its cause, counts as a fault, and so does a write that takes nothing.
+/// Standard output. Each error of the system, whatever its cause, counts as a fault, and so does a
+/// write that takes nothing.
 #[derive(Drop)]
 pub(crate) struct FileSink<'a> {
     rt: &'a HostRuntime,

@@ -24,7 +24,8 @@ fn main(rt: HostRuntime) -> ExitCode {
     ExitCode::from(status.number())
 }
 
-/// The words after the program's name. Words that aren't text are no job; want of memory is told as such.
+/// The words after the program's name. Words that aren't text are no job; want of memory is told as
+/// such.
 fn words(rt: &HostRuntime) -> Result<Words, Status> {
     let mut words = Words::new(rt.alloc());
     match env::args(rt) {

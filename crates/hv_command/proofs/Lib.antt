@@ -1,6 +1,10 @@
+pub mod AcceptedLines
 pub mod AtomTexts
 pub mod Budgets
 pub mod Checked
 pub mod FedFiles
 pub mod OneAnswer
 pub mod SoundAnswers
+mod Options
+pub mod TaskTexts
+pub mod Produced

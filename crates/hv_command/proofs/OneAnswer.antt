@@ -1,22 +1,33 @@
 -- A job has one answer.
-use Rattle.std.proofs.Common.{◌≡◌, ◌⊎◌, ◌↔◌, ℕ, ◌∙◌, Bool, List, [], Option, Some, None, IsSome, inl, inr, ap, refl, subst, sym}
+use Rattle.std.proofs.Common.{◌≡◌, ◌⊎◌, ◌↔◌, ◌<◌, ◌^◌, ℕ, ◌∙◌, Bool, List, [], Option, Some, None, IsSome, inl, inr, ap, arith, refl, reverse, subst, sym}
 use Rattle.std.specs.Option.{option_map}
 use Rattle.hv_bytes.specs.Files.{Names, bytes_of}
-use Rattle.hv_bytes.specs.Pieces.{pieces_of}
+use Rattle.hv_bytes.specs.Pieces.{Piece, pieces_of}
 use Rattle.hv_bytes.specs.Standard.{standard}
-use Rattle.hv_task.specs.Strips.{Strips}
+use Rattle.hv_task.specs.Strips.{Strips, atoms}
+use Rattle.hv_task_text.specs.TaskText.{AreTextOf}
+use Rattle.hv_bdd.specs.Nodes.{NodeList, no_nodes}
 use Rattle.hv_task_text.proofs.OneAnswer.{one_fault, one_task, text_or_fault}
+use Rattle.hv_bdd.proofs.OneAnswer.{one_fault as one_nodes_fault, one_list, text_or_fault as list_or_fault}
 use Rattle.hv_lines.specs.Judged.{Judgement, LineText, Unsolvable, Refused, NoConclusion, outline_of}
 use Rattle.hv_lines.specs.Order.{without_state}
-use Rattle.hv_lines.specs.Setting.{Setting}
+use Rattle.hv_lines.specs.Setting.{Setting, setting_of}
 use Rattle.hv_lines.specs.declared.reason.Clash.{Clash}
 use Rattle.hv_lines.specs.declared.reason.Reason.{Reason}
 use Rattle.hv_lines.specs.declared.reason.Reason.TheVariants as R
 use Rattle.hv_checker.proofs.OneJudgement.{judged_once}
-use Rattle.hv_command.specs.Answer.{Answer, AnswersCheck, AnswersPieces, plain_setting}
-use Rattle.hv_command.specs.Replies.{AreOneText, judgement_status, judgement_text, refused_text, task_fault_text}
+use Rattle.hv_explain.proofs.OneText.{one_explanation}
+use Rattle.hv_explain.specs.Explained.{IsExplanation}
+use Rattle.hv_lines.specs.declared.line.Line.{Line}
+use Rattle.hv_command.proofs.AcceptedLines.{accepts_once}
+use Rattle.hv_command.specs.Answer.{Answer, AnswersCheck, AnswersPieces, AnswersProduce, AnswersTask, IsTold}
+use Rattle.hv_command.specs.Replies.{AreOneText, judgement_status, judgement_text, nodes_fault_text, refused_text, task_fault_text}
 use Rattle.hv_command.specs.declared.job.Job.{Job}
 use Rattle.hv_command.specs.declared.job.Job.TheVariants as J
+use Rattle.hv_command.specs.declared.job.Kind.{Kind}
+use Rattle.hv_command.specs.declared.job.Report.{Report}
+use Rattle.hv_command.specs.declared.job.Report.TheVariants as P
+use Rattle.hv_command.proofs.Produced.{one_produced}
 use Rattle.hv_command.specs.declared.status.Status.{Status}
 
 -- a reason has no counterexample, or is one
@@ -32,7 +43,6 @@ plain_or_false R.NotOffered = inl refl
 plain_or_false R.Budget = inl refl
 plain_or_false (R.False a) = inr (a, refl)
 plain_or_false R.Unbuilt = inl refl
-plain_or_false R.NotGood = inl refl
 
 -- reasons that agree but for which state is named
 abbrev AreOneReason : Reason → Reason → Type 0
@@ -104,29 +114,87 @@ one_text NoConclusion Unsolvable e = absurd (cc)
 one_text NoConclusion (Refused q s) e = absurd (cc)
 one_text NoConclusion NoConclusion e = (refl, inl refl)
 
-one_proof : (setting : Setting) (pieces : List LineText) (s u : Status) (t v : List ℕ) → AnswersPieces setting pieces s t
-    → AnswersPieces setting pieces u v → (s ≡ u) × AreOneText t v
-one_proof setting pieces s u t v (a, judged, s_is, t_is) (b, other, u_is, v_is) =
-    let same = one_text a b (judged_once setting pieces a b judged other) in (
-      s_is ∙ (same.0 ∙ sym u_is),
-      subst (λ w. AreOneText w v) (sym t_is) (subst (λ w. AreOneText (judgement_text a) w) (sym v_is) same.1),
-    )
+-- what is told of one judgement is one text
+one_told : (setting : Setting) (pieces : List LineText) (a b : Judgement) (report : Report) (t v : List ℕ) → outline_of a ≡ outline_of b
+    → IsTold setting pieces a report t → IsTold setting pieces b report v → AreOneText t v
+one_told setting pieces Unsolvable Unsolvable P.Verdict t v e x y = inl (x ∙ sym y)
+one_told setting pieces Unsolvable Unsolvable P.Explanation t v e x y =
+    inl (one_explanation y.0 t v
+    (subst (λ (ls : List Line). IsExplanation ls t) (accepts_once setting (reverse pieces) x.0 y.0 x.1 y.1) x.2) y.2)
+one_told setting pieces Unsolvable (Refused q r) report t v e x y = absurd (cc)
+one_told setting pieces Unsolvable NoConclusion report t v e x y = absurd (cc)
+one_told setting pieces (Refused p r) Unsolvable report t v e x y = absurd (cc)
+one_told setting pieces (Refused p r) (Refused q s) report t v e x y =
+    subst (λ w. AreOneText w v) (sym x)
+    (subst (λ w. AreOneText (refused_text p r) w) (sym y) (one_text (Refused p r) (Refused q s) e).1)
+one_told setting pieces (Refused p r) NoConclusion report t v e x y = absurd (cc)
+one_told setting pieces NoConclusion Unsolvable report t v e x y = absurd (cc)
+one_told setting pieces NoConclusion (Refused q s) report t v e x y = absurd (cc)
+one_told setting pieces NoConclusion NoConclusion report t v e x y = inl (x ∙ sym y)
 
-one_check : (task_bytes proof_bytes : List ℕ) (budget : ℕ) (s u : Status) (t v : List ℕ)
-    → AnswersCheck task_bytes proof_bytes budget s t → AnswersCheck task_bytes proof_bytes budget u v → (s ≡ u) × AreOneText t v
-one_check task_bytes proof_bytes budget s u t v (inl (f, first, bad, said)) (inl (g, other, wrong, told)) =
-    (bad ∙ sym wrong, inl (said ∙ (ap task_fault_text (one_fault (pieces_of standard task_bytes) f g first other) ∙ sym told)))
-one_check task_bytes proof_bytes budget s u t v (inl (f, first, bad, said)) (inr (task, is_text, answers)) =
-    absurd (text_or_fault (pieces_of standard task_bytes) task f is_text first)
-one_check task_bytes proof_bytes budget s u t v (inr (task, is_text, answers)) (inl (f, first, bad, said)) =
-    absurd (text_or_fault (pieces_of standard task_bytes) task f is_text first)
-one_check task_bytes proof_bytes budget s u t v (inr (task, is_text, answers)) (inr (other, reads, says)) =
-    one_proof (plain_setting other budget) (pieces_of standard proof_bytes) s u t v
-    (subst (λ (x : Strips). AnswersPieces (plain_setting x budget) (pieces_of standard proof_bytes) s t)
-    (one_task (pieces_of standard task_bytes) task other is_text reads) answers) says
+one_proof : (report : Report) (setting : Setting) (pieces : List LineText) (s u : Status) (t v : List ℕ)
+    → AnswersPieces report setting pieces s t → AnswersPieces report setting pieces u v → (s ≡ u) × AreOneText t v
+one_proof report setting pieces s u t v (a, judged, s_is, told) (b, other, u_is, says) =
+    let e = judged_once setting pieces a b judged other in
+    (s_is ∙ ((one_text a b e).0 ∙ sym u_is), one_told setting pieces a b report t v e told says)
+
+-- a task text names few atoms
+few_atoms : (pieces : List Piece) (task : Strips) → AreTextOf pieces task → atoms task < 10 ^ 18
+few_atoms pieces task text =
+    let few = text.2.legal.is_head.names.few in
+    let same = ap (λ (t : Strips). atoms t) text.2.says in
+    omega (arith, few, same)
+
+module _ (report : Report) (task : Strips) (few : atoms task < 10 ^ 18) (proof_name : List ℕ) (budget : ℕ) (held : Names) where
+  one_task_answer : (nodes_name : Option (List ℕ)) (s u : Status) (t v : List ℕ)
+      → AnswersTask report task proof_name nodes_name budget held s t → AnswersTask report task proof_name nodes_name budget held u v
+      → (s ≡ u) × AreOneText t v
+  one_task_answer None s u t v x y =
+      one_proof report (setting_of task (no_nodes (atoms task)) budget) (pieces_of standard (bytes_of held proof_name)) s u t v x y
+  one_task_answer (Some name) s u t v (inl (f, first, bad, said)) (inl (g, other, wrong, told)) =
+      let pieces = pieces_of standard (bytes_of held name) in
+      (bad ∙ sym wrong, inl (said ∙ (ap nodes_fault_text (one_nodes_fault (atoms task) few pieces f g first other) ∙ sym told)))
+  one_task_answer (Some name) s u t v (inl (f, first, bad, said)) (inr (list, is_text, answers)) =
+      absurd (list_or_fault (atoms task) few (pieces_of standard (bytes_of held name)) list f is_text first)
+  one_task_answer (Some name) s u t v (inr (list, is_text, answers)) (inl (f, first, bad, said)) =
+      absurd (list_or_fault (atoms task) few (pieces_of standard (bytes_of held name)) list f is_text first)
+  one_task_answer (Some name) s u t v (inr (list, is_text, answers)) (inr (other, reads, says)) =
+      one_proof report (setting_of task other budget) (pieces_of standard (bytes_of held proof_name)) s u t v
+      (subst (λ (x : NodeList). AnswersPieces report (setting_of task x budget) (pieces_of standard (bytes_of held proof_name)) s t)
+      (one_list (atoms task) few (pieces_of standard (bytes_of held name)) list other is_text reads) answers) says
+
+module _ (report : Report) (task_name proof_name : List ℕ) (nodes_name : Option (List ℕ)) (budget : ℕ) (held : Names) where
+  one_check : (s u : Status) (t v : List ℕ) → AnswersCheck report task_name proof_name nodes_name budget held s t
+      → AnswersCheck report task_name proof_name nodes_name budget held u v → (s ≡ u) × AreOneText t v
+  one_check s u t v (inl (f, first, bad, said)) (inl (g, other, wrong, told)) =
+      (bad ∙ sym wrong, inl (said ∙ (ap task_fault_text (one_fault (pieces_of standard (bytes_of held task_name)) f g first other) ∙ sym told)))
+  one_check s u t v (inl (f, first, bad, said)) (inr (task, is_text, answers)) =
+      absurd (text_or_fault (pieces_of standard (bytes_of held task_name)) task f is_text first)
+  one_check s u t v (inr (task, is_text, answers)) (inl (f, first, bad, said)) =
+      absurd (text_or_fault (pieces_of standard (bytes_of held task_name)) task f is_text first)
+  one_check s u t v (inr (task, is_text, answers)) (inr (other, reads, says)) =
+      one_task_answer report other (few_atoms (pieces_of standard (bytes_of held task_name)) other reads) proof_name budget held nodes_name s u t v
+      (subst (λ (x : Strips). AnswersTask report x proof_name nodes_name budget held s t)
+      (one_task (pieces_of standard (bytes_of held task_name)) task other is_text reads) answers) says
+
+one_proof_answer : (kind : Kind) (name : List ℕ) (held : Names) (s u : Status) (t v : List ℕ)
+    → Answer (Some (J.Produce kind name)) held s t → Answer (Some (J.Produce kind name)) held u v → (s ≡ u) × AreOneText t v
+one_proof_answer kind name held s u t v (inl (f, first, bad, said)) (inl (g, other, wrong, told)) =
+    (bad ∙ sym wrong, inl (said ∙ (ap task_fault_text (one_fault (pieces_of standard (bytes_of held name)) f g first other) ∙ sym told)))
+one_proof_answer kind name held s u t v (inl (f, first, bad, said)) (inr (task, is_text, answers)) =
+    absurd (text_or_fault (pieces_of standard (bytes_of held name)) task f is_text first)
+one_proof_answer kind name held s u t v (inr (task, is_text, answers)) (inl (f, first, bad, said)) =
+    absurd (text_or_fault (pieces_of standard (bytes_of held name)) task f is_text first)
+one_proof_answer kind name held s u t v (inr (task, is_text, answers)) (inr (other, reads, says)) =
+    let one = one_produced kind other s u t v
+    (subst (λ x. AnswersProduce kind x s t) (one_task (pieces_of standard (bytes_of held name)) task other is_text reads) answers) says in
+    (one.0, inl one.1)
 
 pub one_answer : (job : Option Job) (held : Names) (s u : Status) (t v : List ℕ) → Answer job held s t → Answer job held u v
     → (s ≡ u) × AreOneText t v
 one_answer None held s u t v x y = (x.0 ∙ sym y.0, inl (x.1 ∙ sym y.1))
-one_answer (Some (J.Check task proof budget)) held s u t v x y =
-    one_check (bytes_of held task) (bytes_of held proof) budget s u t v x y
+one_answer (Some (J.Check task proof nodes budget)) held s u t v x y =
+    one_check P.Verdict task proof nodes budget held s u t v x y
+one_answer (Some (J.Explain task proof nodes budget)) held s u t v x y =
+    one_check P.Explanation task proof nodes budget held s u t v x y
+one_answer (Some (J.Produce kind task)) held s u t v x y = one_proof_answer kind task held s u t v x y

@@ -4,16 +4,22 @@ use Rattle.hv_bytes.specs.Files.{Names, bytes_of}
 use Rattle.hv_bytes.specs.Pieces.{pieces_of}
 use Rattle.hv_bytes.specs.Standard.{standard}
 use Rattle.hv_task.specs.Plan.{IsUnsolvable}
-use Rattle.hv_task.specs.Strips.{Strips}
+use Rattle.hv_task.specs.Strips.{Strips, atoms}
+use Rattle.hv_bdd.specs.Nodes.{no_nodes}
 use Rattle.hv_task_text.specs.TaskText.{TaskText}
 use Rattle.hv_task_text.proofs.OneAnswer.{one_task}
 use Rattle.hv_lines.specs.Judged.{Judged, Judgement, LineText, Unsolvable, Refused, NoConclusion}
-use Rattle.hv_lines.specs.Setting.{Setting}
+use Rattle.hv_lines.specs.Setting.{Setting, setting_of}
 use Rattle.hv_checker.proofs.GoodLines.{accepts_good, good_concludes, good_true}
-use Rattle.hv_command.specs.Answer.{AnswersCheck, AnswersTold, IsSoundCheck, IsSoundTold, plain_setting}
+use Rattle.hv_command.specs.Answer.{Answer, AnswersCheck, AnswersTask, AnswersTold, IsSoundCheck, IsSoundProduce, IsSoundTold}
 use Rattle.hv_command.specs.Replies.{judgement_status}
 use Rattle.hv_command.specs.declared.job.Job.{Job}
 use Rattle.hv_command.specs.declared.job.Job.TheVariants as J
+use Rattle.hv_command.specs.declared.job.Kind.{Kind}
+use Rattle.hv_command.specs.declared.job.Report.{Report}
+use Rattle.hv_command.specs.declared.job.Report.TheVariants as P
+use Rattle.hv_command.proofs.Produced.{answer_unsolvable}
+use Rattle.hv_command.proofs.TaskTexts.{is_task}
 use Rattle.hv_command.specs.declared.status.Status.{Status}
 use Rattle.hv_command.specs.declared.status.Status.TheVariants as S
 
@@ -25,26 +31,45 @@ yes_unsolvable setting pieces Unsolvable judged done =
 yes_unsolvable setting pieces (Refused line reason) judged done = absurd (cc)
 yes_unsolvable setting pieces NoConclusion judged done = absurd (cc)
 
-done_unsolvable : (task_bytes proof_bytes : List ℕ) (budget : ℕ) (status : Status) (text : List ℕ)
-    → AnswersCheck task_bytes proof_bytes budget status text
-    → (task : Strips) → TaskText standard task_bytes task → status ≡ S.Done → IsUnsolvable task
-done_unsolvable task_bytes proof_bytes budget status text (inl (fault, first, bad, said)) task is_text done = absurd (cc)
-done_unsolvable task_bytes proof_bytes budget status text (inr (other, other_text, answers)) task is_text done =
-    subst IsUnsolvable (one_task (pieces_of standard task_bytes) other task other_text is_text)
-    (yes_unsolvable (plain_setting other budget) (pieces_of standard proof_bytes) answers.0 answers.1 (sym answers.2 ∙ done))
+-- the same after a node file, or without one
+yes_task : (report : Report) (task : Strips) (proof_name : List ℕ) (nodes_name : Option (List ℕ)) (budget : ℕ) (held : Names) (status : Status) (text : List ℕ)
+    → AnswersTask report task proof_name nodes_name budget held status text → status ≡ S.Done → IsUnsolvable task
+yes_task report task proof_name None budget held status text answers done =
+    yes_unsolvable (setting_of task (no_nodes (atoms task)) budget) (pieces_of standard (bytes_of held proof_name)) answers.0 answers.1 (sym answers.2 ∙ done)
+yes_task report task proof_name (Some name) budget held status text (inl (fault, first, bad, said)) done = absurd (cc)
+yes_task report task proof_name (Some name) budget held status text (inr (list, is_text, answers)) done =
+    yes_unsolvable (setting_of task list budget) (pieces_of standard (bytes_of held proof_name)) answers.0 answers.1 (sym answers.2 ∙ done)
 
-sound_check : (task_bytes proof_bytes : List ℕ) (budget : ℕ) (status : Status) (text : List ℕ) → AnswersCheck task_bytes proof_bytes budget status text
-    → IsSoundCheck task_bytes proof_bytes budget status
-sound_check task_bytes proof_bytes budget status text answers task is_text = (
-  λ done. done_unsolvable task_bytes proof_bytes budget status text answers task is_text done,
-  λ front rest lines cut accepts.
-      good_true (plain_setting task budget) lines (accepts_good (plain_setting task budget) (reverse front) lines accepts),
-)
+module _ (report : Report) (task_name proof_name : List ℕ) (nodes_name : Option (List ℕ)) (budget : ℕ) (held : Names) (status : Status) (text : List ℕ) where
+  done_unsolvable : AnswersCheck report task_name proof_name nodes_name budget held status text
+      → (task : Strips) → TaskText standard (bytes_of held task_name) task → status ≡ S.Done → IsUnsolvable task
+  done_unsolvable (inl (fault, first, bad, said)) task is_text done = absurd (cc)
+  done_unsolvable (inr (other, other_text, answers)) task is_text done =
+      subst IsUnsolvable (one_task (pieces_of standard (bytes_of held task_name)) other task other_text is_text)
+      (yes_task report other proof_name nodes_name budget held status text answers done)
+
+  sound_check : AnswersCheck report task_name proof_name nodes_name budget held status text
+      → IsSoundCheck task_name proof_name nodes_name budget held status
+  sound_check answers task is_text = (
+    λ done. done_unsolvable answers task is_text done,
+    λ nodes front rest lines has cut accepts.
+        good_true (setting_of task nodes budget) lines (accepts_good (setting_of task nodes budget) (reverse front) lines accepts),
+  )
+
+sound_produce : (kind : Kind) (name : List ℕ) (held : Names) (status : Status) (text : List ℕ)
+    → Answer (Some (J.Produce kind name)) held status text → IsSoundProduce name held status
+sound_produce kind name held status text (inl (fault, first, bad, said)) task is_text done = absurd (cc)
+sound_produce kind name held status text (inr (other, other_text, answers)) task is_text done =
+    subst IsUnsolvable (one_task (pieces_of standard (bytes_of held name)) other task other_text is_text)
+    (answer_unsolvable other (is_task (pieces_of standard (bytes_of held name)) other other_text) kind status text answers done)
 
 -- an answer says what is true
 pub sound_told : (job : Option Job) (held : Option Names) (status : Status) (text : List ℕ) → AnswersTold job held status text
     → IsSoundTold job held status
 sound_told job None status text answers = tt
 sound_told None (Some held) status text answers = tt
-sound_told (Some (J.Check task proof budget)) (Some held) status text answers =
-    sound_check (bytes_of held task) (bytes_of held proof) budget status text answers
+sound_told (Some (J.Check task proof nodes budget)) (Some held) status text answers =
+    sound_check P.Verdict task proof nodes budget held status text answers
+sound_told (Some (J.Explain task proof nodes budget)) (Some held) status text answers =
+    sound_check P.Explanation task proof nodes budget held status text answers
+sound_told (Some (J.Produce kind task)) (Some held) status text answers = sound_produce kind task held status text answers

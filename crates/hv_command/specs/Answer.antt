@@ -1,29 +1,36 @@
 -- What the program answers to a job, by the bytes of the files that it reads.
-use Rattle.std.specs.Prelude.{◌≡◌, ◌⊎◌, ◌++◌, ℕ, List, Option, Some, None, reverse}
+use Rattle.std.specs.Prelude.{◌≡◌, ◌<◌, ◌⊎◌, ◌++◌, ℕ, List, Option, Some, None, reverse}
 use Rattle.hv_bytes.specs.Files.{Names, bytes_of}
 use Rattle.hv_bytes.specs.Pieces.{pieces_of}
 use Rattle.hv_bytes.specs.Standard.{standard}
 use Rattle.hv_task.specs.Plan.{IsUnsolvable}
 use Rattle.hv_task.specs.Strips.{Strips, atoms}
 use Rattle.hv_task_text.specs.TaskText.{TaskText, IsFirstFault}
-use Rattle.hv_bdd.specs.Nodes.{no_nodes}
-use Rattle.hv_lines.specs.Judged.{LineText, Accepts, Judged, JudgedBytes, Judgement}
+use Rattle.hv_bdd.specs.NodeText.{AreTextOf, IsFirstFault as IsFirstNodesFault}
+use Rattle.hv_bdd.specs.Nodes.{NodeList, no_nodes}
+use Rattle.hv_lines.specs.Judged.{LineText, Accepts, Judged, JudgedBytes, Judgement, Unsolvable, Refused, NoConclusion}
 use Rattle.hv_lines.specs.Meaning.{AllTrue}
 use Rattle.hv_lines.specs.Setting.{Setting, setting_of}
 use Rattle.hv_lines.specs.declared.line.Line.{Line}
-use Rattle.hv_command.specs.Replies.{usage_text, judgement_status, judgement_text, task_fault_text}
+use Rattle.hv_lines.specs.Drafts.{draft_setting}
+use Rattle.hv_lines.specs.Spelling.{proof_text}
+use Rattle.hv_explain.specs.Explained.{IsExplanation}
+use Rattle.hv_reach.specs.Written.{IsPairsProof, IsRelaxedProof, PairsExclude, RelaxedExcludes}
+use Rattle.hv_command.specs.Replies.{usage_text, judgement_status, judgement_text, no_proof_text, nodes_fault_text, task_fault_text, too_many_atoms_text}
 use Rattle.hv_command.specs.Words.{HasName}
 use Rattle.hv_command.specs.declared.job.Job.{Job}
 use Rattle.hv_command.specs.declared.job.Job.TheVariants as J
+use Rattle.hv_command.specs.declared.job.Kind.{Kind}
+use Rattle.hv_command.specs.declared.job.Report.{Report}
+use Rattle.hv_command.specs.declared.job.Report.TheVariants as P
+use Rattle.hv_command.specs.declared.job.Kind.TheVariants as K
 use Rattle.hv_command.specs.declared.status.Status.{Status}
 use Rattle.hv_command.specs.declared.status.Status.TheVariants as S
 
--- what a proof of this task is judged by: the nodes 0 and 1 alone, and this budget
-abbrev pub plain_setting : Strips → ℕ → Setting
-plain_setting task budget = setting_of task (no_nodes (atoms task)) budget
-
--- the answer after a text that stands for a value or has a fault: its fault, or else what is answered to the value
-abbrev pub AfterText : {A F : Type 0} → (A → Type 0) → (F → Type 0) → (F → List ℕ) → (A → Status → List ℕ → Type 0)
+-- the answer after a text that stands for a value or has a fault: its fault, or else what is
+-- answered to the value
+abbrev pub AfterText : {A F : Type 0} → (A → Type 0) → (F → Type 0) → (F → List ℕ)
+    → (A → Status → List ℕ → Type 0)
     → Status → List ℕ → Type 0
 AfterText {A} {F} StandsFor HasFault fault_text Answers status text =
     ((fault : F) × HasFault fault × (status ≡ S.BadInput) × (text ≡ fault_text fault))
@@ -32,54 +39,154 @@ AfterText {A} {F} StandsFor HasFault fault_text Answers status text =
 -- the answer after the bytes of a task
 abbrev pub AfterTask : List ℕ → (Strips → Status → List ℕ → Type 0) → Status → List ℕ → Type 0
 AfterTask bytes Answers status text =
-    AfterText (TaskText standard bytes) (IsFirstFault (pieces_of standard bytes)) task_fault_text Answers status text
+    AfterText (TaskText standard bytes) (IsFirstFault (pieces_of standard bytes)) task_fault_text
+    Answers status text
+
+-- the answer after the node file of a task: where none is named, the nodes are 0 and 1 alone
+abbrev pub AfterNodes : Strips → Option (List ℕ) → Names → (NodeList → Status → List ℕ → Type 0)
+    → Status → List ℕ → Type 0
+AfterNodes task None held Answers status text = Answers (no_nodes (atoms task)) status text
+AfterNodes task (Some name) held Answers status text =
+    AfterText (AreTextOf (atoms task) (pieces_of standard (bytes_of held name)))
+    (IsFirstNodesFault (atoms task) (pieces_of standard (bytes_of held name))) nodes_fault_text
+    Answers status text
+
+-- the text tells which of the lines that are accepted of the pieces are needed
+abbrev pub IsExplained : Setting → List LineText → List ℕ → Type 0
+IsExplained setting pieces text =
+    (lines : List Line) × Accepts setting (reverse pieces) lines × IsExplanation lines text
+
+-- the text that tells what the pieces are judged: where they show that the task has no plan, that
+-- they do, or which lines are needed
+abbrev pub IsTold : Setting → List LineText → Judgement → Report → List ℕ → Type 0
+IsTold setting pieces Unsolvable P.Verdict text = text ≡ judgement_text Unsolvable
+IsTold setting pieces Unsolvable P.Explanation text = IsExplained setting pieces text
+IsTold setting pieces (Refused line reason) report text =
+    text ≡ judgement_text (Refused line reason)
+IsTold setting pieces NoConclusion report text = text ≡ judgement_text NoConclusion
 
 -- the answer to the pieces of a proof: what they are judged
-abbrev pub AnswersPieces : Setting → List LineText → Status → List ℕ → Type 0
-AnswersPieces setting pieces status text =
+abbrev pub AnswersPieces : Report → Setting → List LineText → Status → List ℕ → Type 0
+AnswersPieces report setting pieces status text =
     (judgement : Judgement) × Judged setting pieces judgement
-    × (status ≡ judgement_status judgement) × (text ≡ judgement_text judgement)
+    × (status ≡ judgement_status judgement) × IsTold setting pieces judgement report text
 
 -- the answer to the bytes of a proof
-abbrev pub AnswersProof : Setting → List ℕ → Status → List ℕ → Type 0
-AnswersProof setting bytes status text =
-    (judgement : Judgement) × JudgedBytes setting standard bytes judgement
-    × (status ≡ judgement_status judgement) × (text ≡ judgement_text judgement)
+abbrev pub AnswersProof : Report → Setting → List ℕ → Status → List ℕ → Type 0
+AnswersProof report setting bytes status text =
+    AnswersPieces report setting (pieces_of standard bytes) status text
 
--- the answer to the bytes of a task and of a proof, with this budget
-abbrev pub AnswersCheck : List ℕ → List ℕ → ℕ → Status → List ℕ → Type 0
-AnswersCheck task_bytes proof_bytes budget status text =
-    AfterTask task_bytes (λ task. AnswersProof (plain_setting task budget) proof_bytes) status text
+-- the answer to a check of a task by the files of these names, with this budget
+abbrev pub AnswersTask : Report → Strips → List ℕ → Option (List ℕ) → ℕ → Names
+    → Status → List ℕ → Type 0
+AnswersTask report task proof_name nodes_name budget held status text =
+    AfterNodes task nodes_name held
+    (λ nodes. AnswersProof report (setting_of task nodes budget) (bytes_of held proof_name))
+    status text
 
--- the answer to a job, by the bytes that are held under its names; words that are no job get the usage line
+-- the answer to a check by the files of these names, with this budget
+abbrev pub AnswersCheck : Report → List ℕ → List ℕ → Option (List ℕ) → ℕ → Names
+    → Status → List ℕ → Type 0
+AnswersCheck report task_name proof_name nodes_name budget held status text =
+    AfterTask (bytes_of held task_name)
+    (λ task. AnswersTask report task proof_name nodes_name budget held) status text
+
+-- what is reached from the initial state excludes the goal
+abbrev pub Excludes : Kind → Strips → Type 0
+Excludes K.Relaxed task = RelaxedExcludes task
+Excludes K.Pairs task = PairsExclude task
+
+-- the task has too many atoms for a proof of the kind
+abbrev pub HasTooMany : Kind → Strips → Type 0
+HasTooMany K.Relaxed task = ⊥
+HasTooMany K.Pairs task = 1024 < atoms task
+
+-- the lines, of which the newest is the first, are the proof of the kind
+abbrev pub IsProofBy : Kind → Strips → List Line → Type 0
+IsProofBy K.Relaxed task lines = IsRelaxedProof task lines
+IsProofBy K.Pairs task lines = IsPairsProof task lines
+
+-- what is written of a task that hasn't too many atoms: its proof, exactly where the goal is excluded
+abbrev pub IsWritten : Kind → Strips → Status → List ℕ → Type 0
+IsWritten kind task status text =
+    (Excludes kind task × (status ≡ S.Done)
+    × ((lines : List Line) × IsProofBy kind task lines × (text ≡ proof_text (reverse lines))))
+    ⊎ ((Excludes kind task → ⊥) × (status ≡ S.Refused) × (text ≡ no_proof_text))
+
+-- the answer to a task of which a proof is wanted
+abbrev pub AnswersProduce : Kind → Strips → Status → List ℕ → Type 0
+AnswersProduce kind task status text =
+    (HasTooMany kind task × (status ≡ S.Refused) × (text ≡ too_many_atoms_text))
+    ⊎ ((HasTooMany kind task → ⊥) × IsWritten kind task status text)
+
+-- the answer to a job, by the bytes that are held under its names; words that are no job get the
+-- usage line
 abbrev pub Answer : Option Job → Names → Status → List ℕ → Type 0
 Answer None held status text = (status ≡ S.Usage) × (text ≡ usage_text)
-Answer (Some (J.Check task proof budget)) held status text =
-    AnswersCheck (bytes_of held task) (bytes_of held proof) budget status text
+Answer (Some (J.Check task proof nodes budget)) held status text =
+    AnswersCheck P.Verdict task proof nodes budget held status text
+Answer (Some (J.Explain task proof nodes budget)) held status text =
+    AnswersCheck P.Explanation task proof nodes budget held status text
+Answer (Some (J.Produce kind task)) held status text =
+    AfterTask (bytes_of held task) (AnswersProduce kind) status text
 
--- The same where the shelf tells its bytes. Otherwise it is the answer of a job that reads no file, whatever the files hold, and
--- nothing is said of other jobs.
+-- The same where the shelf tells its bytes. Otherwise it is the answer of a job that reads no file,
+-- whatever the files hold, and nothing is said of other jobs.
 abbrev pub AnswersTold : Option Job → Option Names → Status → List ℕ → Type 0
 AnswersTold job None status text =
     ((name : List ℕ) → HasName job name → ⊥) → (held : Names) → Answer job held status text
 AnswersTold job (Some held) status text = Answer job held status text
 
--- What the program says is true: where it answers yes to a task, no list of actions leads from the initial state to the goal,
--- and every `k` line that is accepted, also before a line that is refused, claims what is true.
-abbrev pub IsSoundCheck : List ℕ → List ℕ → ℕ → Status → Type 0
-IsSoundCheck task_bytes proof_bytes budget status =
-    (task : Strips) → TaskText standard task_bytes task
+-- the nodes of a check: 0 and 1 alone where no node file is named, or else those of the file
+abbrev pub HasNodes : Strips → Option (List ℕ) → Names → NodeList → Type 0
+HasNodes task None held nodes = nodes ≡ no_nodes (atoms task)
+HasNodes task (Some name) held nodes =
+    AreTextOf (atoms task) (pieces_of standard (bytes_of held name)) nodes
+
+-- What the program says is true: where it answers yes to a task, no list of actions leads from the
+-- initial state to the goal, and every `k` line that is accepted, also before a line that is
+-- refused, claims what is true.
+abbrev pub IsSoundCheck : List ℕ → List ℕ → Option (List ℕ) → ℕ → Names → Status → Type 0
+IsSoundCheck task_name proof_name nodes_name budget held status =
+    (task : Strips) → TaskText standard (bytes_of held task_name) task
     → (status ≡ S.Done → IsUnsolvable task)
-    × ((front rest : List LineText) (lines : List Line) → front ++ rest ≡ pieces_of standard proof_bytes
-    → Accepts (plain_setting task budget) (reverse front) lines → AllTrue task (no_nodes (atoms task)) lines)
+    × ((nodes : NodeList) (front rest : List LineText) (lines : List Line)
+    → HasNodes task nodes_name held nodes
+    → front ++ rest ≡ pieces_of standard (bytes_of held proof_name)
+    → Accepts (setting_of task nodes budget) (reverse front) lines
+    → AllTrue task nodes lines)
+
+-- the same of a proof that is written: no list of actions is a plan of the task
+abbrev pub IsSoundProduce : List ℕ → Names → Status → Type 0
+IsSoundProduce task_name held status =
+    (task : Strips) → TaskText standard (bytes_of held task_name) task
+    → status ≡ S.Done → IsUnsolvable task
 
 -- what is said of a job, by the bytes that are held under its names, is true
 abbrev pub IsSound : Option Job → Names → Status → Type 0
 IsSound None held status = Unit {0}
-IsSound (Some (J.Check task proof budget)) held status =
-    IsSoundCheck (bytes_of held task) (bytes_of held proof) budget status
+IsSound (Some (J.Check task proof nodes budget)) held status =
+    IsSoundCheck task proof nodes budget held status
+IsSound (Some (J.Explain task proof nodes budget)) held status =
+    IsSoundCheck task proof nodes budget held status
+IsSound (Some (J.Produce kind task)) held status = IsSoundProduce task held status
 
 -- the same where the shelf tells its bytes
 abbrev pub IsSoundTold : Option Job → Option Names → Status → Type 0
 IsSoundTold job None status = Unit {0}
 IsSoundTold job (Some held) status = IsSound job held status
+
+-- a proof that is written is judged to show that the task has no plan, without a node file and within
+-- the default budget; nothing is said of other jobs
+abbrev pub IsAccepted : Option Job → Names → Status → List ℕ → Type 0
+IsAccepted None held status text = Unit {0}
+IsAccepted (Some (J.Check task proof nodes budget)) held status text = Unit {0}
+IsAccepted (Some (J.Explain task proof nodes budget)) held status text = Unit {0}
+IsAccepted (Some (J.Produce kind task_name)) held status text =
+    status ≡ S.Done → (task : Strips) → TaskText standard (bytes_of held task_name) task
+    → JudgedBytes (draft_setting task) standard text Unsolvable
+
+-- the same where the shelf tells its bytes
+abbrev pub IsAcceptedTold : Option Job → Option Names → Status → List ℕ → Type 0
+IsAcceptedTold job None status text = Unit {0}
+IsAcceptedTold job (Some held) status text = IsAccepted job held status text

@@ -9,6 +9,9 @@ use Rattle.hv_lines.specs.declared.reason.Reason.TheVariants as R
 use Rattle.hv_task_text.specs.declared.fault.TaskFault.{TaskFault}
 use Rattle.hv_task_text.specs.declared.fault.TaskFault.TheVariants as F
 use Rattle.hv_task_text.specs.Words.{kind_word, limit_word}
+use Rattle.hv_bdd.specs.declared.fault.NodesFault.{NodesFault}
+use Rattle.hv_bdd.specs.declared.fault.NodesFault.TheVariants as N
+use Rattle.hv_bdd.specs.Words.{kind_word as node_kind_word, limit_word as node_limit_word}
 use Rattle.hv_command.specs.declared.status.Status.{Status}
 use Rattle.hv_command.specs.declared.status.Status.TheVariants as S
 
@@ -53,6 +56,14 @@ unsolvable_text = line_of (codes "unsolvable")
 abbrev pub no_conclusion_text : List ℕ
 no_conclusion_text = line_of (codes "no conclusion")
 
+-- no proof is written
+abbrev pub no_proof_text : List ℕ
+no_proof_text = line_of (codes "no proof")
+
+-- the task has too many atoms for the kind of proof
+abbrev pub too_many_atoms_text : List ℕ
+too_many_atoms_text = line_of (codes "too many atoms")
+
 -- the action of a counterexample, where it has one
 abbrev pub action_text : Option ℕ → List ℕ
 action_text None = []
@@ -65,7 +76,8 @@ atom_text state atom = cond (has_atom state atom) (codes " " ++ decimal atom) []
 -- the state of a counterexample, where it has one: the atoms that it holds, rising
 abbrev pub state_text : Option (List Bool) → List ℕ
 state_text None = []
-state_text (Some state) = codes " state" ++ flat_map (atom_text state) (range_with_len 0 (length state)) ++ codes " ;"
+state_text (Some state) = codes " state"
+    ++ flat_map (atom_text state) (range_with_len 0 (length state)) ++ codes " ;"
 
 -- the printed word of a reason, and the counterexample where there is one
 abbrev pub reason_text : Reason → List ℕ
@@ -80,11 +92,11 @@ reason_text R.NotOffered = codes "not offered"
 reason_text R.Budget = codes "budget"
 reason_text (R.False clash) = codes "false" ++ action_text clash.action ++ state_text clash.state
 reason_text R.Unbuilt = codes "unbuilt"
-reason_text R.NotGood = codes "not good"
 
 -- the first line that isn't good, and why
 abbrev pub refused_text : ℕ → Reason → List ℕ
-refused_text line reason = line_of (codes "line " ++ decimal line ++ codes ": " ++ reason_text reason)
+refused_text line reason = line_of (codes "line " ++ decimal line ++ codes ": "
+    ++ reason_text reason)
 
 -- the status of what a proof is judged
 abbrev pub judgement_status : Judgement → Status
@@ -107,14 +119,33 @@ IsTextFault F.Memory = ⊥
 
 -- the first fault of the task text
 abbrev pub task_fault_text : TaskFault → List ℕ
-task_fault_text (F.Place line kind) = line_of (codes "task line " ++ decimal line ++ codes ": place " ++ kind_word kind)
-task_fault_text (F.Limit line limit) = line_of (codes "task line " ++ decimal line ++ codes ": limit " ++ limit_word limit)
+task_fault_text (F.Place line kind) = line_of (codes "task line " ++ decimal line
+    ++ codes ": place " ++ kind_word kind)
+task_fault_text (F.Limit line limit) = line_of (codes "task line " ++ decimal line
+    ++ codes ": limit " ++ limit_word limit)
 task_fault_text F.ReadFault = []
 task_fault_text F.Memory = []
+
+-- the same of a node file
+abbrev pub IsNodesFault : NodesFault → Type 0
+IsNodesFault (N.Place line kind) = Unit {0}
+IsNodesFault (N.Limit line limit) = Unit {0}
+IsNodesFault N.ReadFault = ⊥
+IsNodesFault N.Memory = ⊥
+
+-- the first fault of the node file
+abbrev pub nodes_fault_text : NodesFault → List ℕ
+nodes_fault_text (N.Place line kind) =
+    line_of (codes "nodes line " ++ decimal line ++ codes ": place " ++ node_kind_word kind)
+nodes_fault_text (N.Limit line limit) =
+    line_of (codes "nodes line " ++ decimal line ++ codes ": limit " ++ node_limit_word limit)
+nodes_fault_text N.ReadFault = []
+nodes_fault_text N.Memory = []
 
 -- two texts are one, but for which state a counterexample names
 abbrev pub AreOneText : List ℕ → List ℕ → Type 0
 AreOneText text other =
     (text ≡ other)
-    ⊎ ((line : ℕ) × (a : Clash) × (b : Clash) × (a.action ≡ b.action) × (IsSome a.state ↔ IsSome b.state)
+    ⊎ ((line : ℕ) × (a : Clash) × (b : Clash) × (a.action ≡ b.action)
+    × (IsSome a.state ↔ IsSome b.state)
     × (text ≡ refused_text line (R.False a)) × (other ≡ refused_text line (R.False b)))

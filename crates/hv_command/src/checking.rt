@@ -1,46 +1,54 @@
-//! The job `check`: a task, then a proof of it.
+//! The jobs `check` and `explain`: a task, then a proof of it.
 
-ghost use Rattle.std.specs.Prelude.{◌≡◌, ◌≢◌, ◌<◌, ◌≤◌, List, Some, IfOk, IfSome, IsErrOf, IsSome, IsTrue, MatchResult, option_map};
+ghost use Rattle.std.specs.Prelude.{◌≡◌, ◌≢◌, ◌<◌, ◌≤◌, List, [], None, Some, IfOk, IfSome, IsErrOf, IsSome, IsTrue, MatchResult, option_map};
 ghost use Rattle.hv_bytes.specs.Devices.{Rose};
 ghost use Rattle.hv_bytes.specs.Files.{bytes_of};
 ghost use Rattle.hv_task_text.specs.declared.fault.TaskFault.TheVariants as F;
-ghost use Rattle.hv_lines.specs.Judged.{LineText};
-ghost use Rattle.hv_lines.specs.Setting.{most_budget};
+ghost use Rattle.hv_lines.specs.Judged.{LineText, Unsolvable};
+ghost use Rattle.hv_bdd.specs.declared.fault.NodesFault.TheVariants as N;
+ghost use Rattle.hv_task.specs.Strips.{atoms};
+ghost use Rattle.hv_lines.specs.Setting.{most_budget, setting_of};
 ghost use Rattle.hv_checker.specs.Stands.{Stands, refusal_of};
 ghost use Rattle.hv_checker.specs.declared.stop.Stop.TheVariants as C;
-ghost use Rattle.hv_command.specs.Answer.{AnswersPieces, AnswersProof, AnswersTold, plain_setting};
-ghost use Rattle.hv_command.specs.Replies.{IsJobStatus, IsTextFault, task_fault_text};
+ghost use Rattle.hv_command.specs.Answer.{AnswersPieces, AnswersProof, AnswersTask, AnswersTold, IsTold};
+ghost use Rattle.hv_command.specs.Replies.{IsJobStatus, IsNodesFault, IsTextFault, nodes_fault_text, task_fault_text};
 ghost use Rattle.hv_command.specs.Reply.{IsReply};
-ghost use Rattle.hv_command.specs.declared.job.Job.TheVariants as J;
+ghost use Rattle.hv_command.specs.Words.{checking};
 ghost use Rattle.hv_command.specs.declared.status.Status.TheVariants as S;
 
 use crate::feeding::feed_file;
-use crate::job::FileName;
-use crate::reply::{Reply, fixed, misplaced, passed, refusal};
+use crate::job::{FileName, Report};
+use crate::reply::{Reply, fixed, misplaced, misplaced_node, passed, passed_by_nodes, refusal};
 use crate::status::Status;
 use crate::stop::Stop;
-use hv_bdd::Diagrams;
+use crate::task_fault::fault_reply;
+use hv_bdd::{Diagrams, NodesFault, read_nodes};
 use hv_bytes::{Limits, Shelf};
 use hv_checker::{Checker, End};
+use hv_explain::explain;
 use hv_lines::Reason;
 use hv_task::Task;
-use hv_task_text::{TaskFault, read_task};
+use hv_task_text::read_task;
 use std::alloc::{AllocError, Global};
 
-/// The answer to `check TASK PROOF` with this budget.
+/// The answer to `check TASK PROOF`, or to `explain TASK PROOF`, with a node file, or with none, and
+/// this budget.
 pub(crate) fn check<S: Shelf>(
     alloc: Global,
     shelf: &mut S,
+    report: Report,
     task: &FileName,
     proof: &FileName,
+    nodes: &Option<FileName>,
     budget: u64,
 ) -> Result<Reply, Stop>
     requires task { IsTrue (S.allows shelf.old task.now) }
     requires proof { IsTrue (S.allows shelf.old proof.now) }
+    requires nodes { IfSome nodes.now (λ name. IsTrue (S.allows shelf.old name)) }
     requires some { 0 < budget }
     requires small { budget ≤ most_budget }
     ensures answer { IfOk result (λ r. AnswersTold
-        (Some (J.Check task.now proof.now budget)) (S.held shelf.old) r.status r.text) }
+        (Some (checking report task.now proof.now nodes.now budget)) (S.held shelf.old) r.status r.text) }
     ensures answered { IfOk result (λ r. IsJobStatus r.status) }
     ensures held { S.held shelf.new ≡ S.held shelf.old }
     ensures allows { S.allows shelf.new ≡ S.allows shelf.old }
@@ -49,7 +57,7 @@ pub(crate) fn check<S: Shelf>(
 {
     match read_task(alloc, shelf, task.as_str(), Limits::STANDARD) {
         Ok(task) => {
-            let answer = check_proof(alloc, shelf, &task, proof, budget)?;
+            let answer = check_task(alloc, shelf, report, &task, proof, nodes, budget)?;
             Ok(answer)
         }
         Err(fault) => {
@@ -59,62 +67,160 @@ pub(crate) fn check<S: Shelf>(
     }
 }
 
-/// What is answered to a task text that isn't read.
-fn fault_reply(alloc: Global, fault: TaskFault) -> Result<Reply, Stop>
+/// What is answered to a node file that isn't read.
+fn nodes_fault_reply(alloc: Global, fault: NodesFault) -> Result<Reply, Stop>
     ensures { MatchResult result
-        (λ r. IsReply r S.BadInput (task_fault_text fault) × IsTextFault fault)
-        (λ stop. stop ≡ Stop.ReadFault → fault ≡ F.ReadFault) }
+        (λ r. IsReply r S.BadInput (nodes_fault_text fault) × IsNodesFault fault)
+        (λ stop. stop ≡ Stop.ReadFault → fault ≡ N.ReadFault) }
 {
     match fault {
-        TaskFault::Place(line, kind) => {
-            let answer = misplaced(alloc, line, kind)?;
+        NodesFault::Place(line, kind) => {
+            let answer = misplaced_node(alloc, line, kind)?;
             Ok(answer)
         }
-        TaskFault::Limit(line, limit) => {
-            let answer = passed(alloc, line, limit)?;
+        NodesFault::Limit(line, limit) => {
+            let answer = passed_by_nodes(alloc, line, limit)?;
             Ok(answer)
         }
-        TaskFault::ReadFault => Err(Stop::ReadFault),
-        TaskFault::Memory => Err(Stop::Memory),
+        NodesFault::ReadFault => Err(Stop::ReadFault),
+        NodesFault::Memory => Err(Stop::Memory),
     }
 }
 
-/// The answer to the proof file, of a task.
-fn check_proof<S: Shelf>(
+/// The answer to the node file, if one is named, and then to the proof file, of a task.
+fn check_task<S: Shelf>(
     alloc: Global,
     shelf: &mut S,
+    report: Report,
     task: &Task,
     proof: &FileName,
+    nodes: &Option<FileName>,
     budget: u64,
 ) -> Result<Reply, Stop>
-    requires allowed { IsTrue (S.allows shelf.old proof.now) }
+    requires proof { IsTrue (S.allows shelf.old proof.now) }
+    requires nodes { IfSome nodes.now (λ name. IsTrue (S.allows shelf.old name)) }
     requires some { 0 < budget }
     requires small { budget ≤ most_budget }
     ensures answer { IfSome (S.held shelf.old) (λ held. IfOk result (λ r.
-        AnswersProof (plain_setting task.now budget) (bytes_of held proof.now) r.status r.text)) }
+        AnswersTask report task.now proof.now nodes.now budget held r.status r.text)) }
     ensures answered { IfOk result (λ r. IsJobStatus r.status) }
     ensures held { S.held shelf.new ≡ S.held shelf.old }
     ensures allows { S.allows shelf.new ≡ S.allows shelf.old }
     ensures later { S.faults shelf.old ≤ S.faults shelf.new }
     ensures cause { IsErrOf result Stop.ReadFault → Rose (S.faults shelf.old) (S.faults shelf.new) }
 {
-    let diagrams = Diagrams::none(alloc, task.atoms());
-    let mut checker = Checker::new(alloc, task, &diagrams, budget)?;
-    feed_file(alloc, shelf, proof.as_str(), &mut checker)?;
-    let answer = judgement_reply(alloc, &checker)?;
+    match nodes {
+        None => {
+            let diagrams = Diagrams::none(alloc, task.atoms());
+            let answer = check_proof(alloc, shelf, report, task, &diagrams, proof, budget)?;
+            Ok(answer)
+        }
+        Some(name) => {
+            let answer = check_with_nodes(alloc, shelf, report, task, proof, name, budget)?;
+            Ok(answer)
+        }
+    }
+}
+
+/// The answer to the node file and then to the proof file, of a task.
+fn check_with_nodes<S: Shelf>(
+    alloc: Global,
+    shelf: &mut S,
+    report: Report,
+    task: &Task,
+    proof: &FileName,
+    nodes: &FileName,
+    budget: u64,
+) -> Result<Reply, Stop>
+    requires proof { IsTrue (S.allows shelf.old proof.now) }
+    requires nodes { IsTrue (S.allows shelf.old nodes.now) }
+    requires some { 0 < budget }
+    requires small { budget ≤ most_budget }
+    ensures answer { IfSome (S.held shelf.old) (λ held. IfOk result (λ r.
+        AnswersTask report task.now proof.now (Some nodes.now) budget held r.status r.text)) }
+    ensures answered { IfOk result (λ r. IsJobStatus r.status) }
+    ensures held { S.held shelf.new ≡ S.held shelf.old }
+    ensures allows { S.allows shelf.new ≡ S.allows shelf.old }
+    ensures later { S.faults shelf.old ≤ S.faults shelf.new }
+    ensures cause { IsErrOf result Stop.ReadFault → Rose (S.faults shelf.old) (S.faults shelf.new) }
+{
+    match read_nodes(alloc, shelf, nodes.as_str(), task.atoms(), Limits::STANDARD) {
+        Ok(diagrams) => {
+            let answer = check_proof(alloc, shelf, report, task, &diagrams, proof, budget)?;
+            Ok(answer)
+        }
+        Err(fault) => {
+            let answer = nodes_fault_reply(alloc, fault)?;
+            Ok(answer)
+        }
+    }
+}
+
+/// The answer to the proof file, of a task and over these diagrams.
+fn check_proof<S: Shelf>(
+    alloc: Global,
+    shelf: &mut S,
+    report: Report,
+    task: &Task,
+    diagrams: &Diagrams,
+    proof: &FileName,
+    budget: u64,
+) -> Result<Reply, Stop>
+    requires over { diagrams.now.atoms ≡ atoms task.now }
+    requires allowed { IsTrue (S.allows shelf.old proof.now) }
+    requires some { 0 < budget }
+    requires small { budget ≤ most_budget }
+    ensures answer { IfSome (S.held shelf.old) (λ held. IfOk result (λ r. AnswersProof report
+        (setting_of task.now diagrams.now budget) (bytes_of held proof.now) r.status r.text)) }
+    ensures answered { IfOk result (λ r. IsJobStatus r.status) }
+    ensures held { S.held shelf.new ≡ S.held shelf.old }
+    ensures allows { S.allows shelf.new ≡ S.allows shelf.old }
+    ensures later { S.faults shelf.old ≤ S.faults shelf.new }
+    ensures cause { IsErrOf result Stop.ReadFault → Rose (S.faults shelf.old) (S.faults shelf.new) }
+{
+    let mut checker = Checker::new(alloc, task, diagrams, budget)?;
+    judge_file(alloc, shelf, report, proof, &mut checker)
+}
+
+/// The answer to the proof file, by a checker that was fed nothing.
+fn judge_file<S: Shelf>(
+    alloc: Global,
+    shelf: &mut S,
+    report: Report,
+    proof: &FileName,
+    checker: &mut Checker<'_>,
+) -> Result<Reply, Stop>
+    requires allowed { IsTrue (S.allows shelf.old proof.now) }
+    requires unfed { checker.old.fed ≡ 0 }
+    requires going { checker.old.stop ≡ C.Going }
+    requires stands { Stands checker.old [] }
+    ensures answer { IfSome (S.held shelf.old) (λ held. IfOk result (λ r.
+        AnswersProof report checker.old.setting (bytes_of held proof.now) r.status r.text)) }
+    ensures answered { IfOk result (λ r. IsJobStatus r.status) }
+    ensures held { S.held shelf.new ≡ S.held shelf.old }
+    ensures allows { S.allows shelf.new ≡ S.allows shelf.old }
+    ensures later { S.faults shelf.old ≤ S.faults shelf.new }
+    ensures cause { IsErrOf result Stop.ReadFault → Rose (S.faults shelf.old) (S.faults shelf.new) }
+{
+    feed_file(alloc, shelf, proof.as_str(), checker)?;
+    let answer = judgement_reply(alloc, report, checker)?;
     Ok(answer)
 }
 
 /// What is said of the proof that the checker was fed.
-fn judgement_reply(alloc: Global, checker: &Checker<'_>) -> Result<Reply, AllocError>
+fn judgement_reply(
+    alloc: Global,
+    report: Report,
+    checker: &Checker<'_>,
+) -> Result<Reply, AllocError>
     requires { checker.now.stop ≢ C.Memory }
     ensures answer { IfOk result (λ r. (pieces : List LineText) → Stands checker.now pieces
-        → AnswersPieces checker.now.setting pieces r.status r.text) }
+        → AnswersPieces report checker.now.setting pieces r.status r.text) }
     ensures answered { IfOk result (λ r. IsJobStatus r.status) }
 {
     match checker.end() {
         End::Unsolvable => {
-            let answer = fixed(alloc, Status::Done, b"unsolvable")?;
+            let answer = accepted_reply(alloc, report, checker)?;
             Ok(answer)
         }
         End::Refused(line) => {
@@ -126,6 +232,29 @@ fn judgement_reply(alloc: Global, checker: &Checker<'_>) -> Result<Reply, AllocE
             Ok(answer)
         }
         End::Memory => unreachable!(),
+    }
+}
+
+/// What is said of a proof that shows that the task has no plan, which the checker was fed.
+fn accepted_reply(alloc: Global, report: Report, checker: &Checker<'_>) -> Result<Reply, AllocError>
+    requires accepted { refusal_of checker.now ≡ None }
+    requires found { checker.now.stop ≢ C.Memory }
+    ensures status { IfOk result (λ r. r.status ≡ S.Done) }
+    ensures text { IfOk result (λ r. (pieces : List LineText) → Stands checker.now pieces
+        → IsTold checker.now.setting pieces Unsolvable report r.text) }
+{
+    match report {
+        Report::Verdict => {
+            let answer = fixed(alloc, Status::Done, b"unsolvable")?;
+            Ok(answer)
+        }
+        Report::Explanation => {
+            let text = explain(alloc, checker.table())?;
+            Ok(Reply {
+                status: Status::Done,
+                text,
+            })
+        }
     }
 }
 

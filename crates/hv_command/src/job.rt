@@ -1,5 +1,6 @@
-ghost use Rattle.std.specs.Prelude.{◌≡◌, ◌↔◌, IfOk, IfSome, IsTrue};
-ghost use Rattle.hv_command.specs.Words.{HasBudget, IsBudget, budget_of, check_of, is_argument, job_of, option_of};
+ghost use Rattle.std.specs.Prelude.{◌≡◌, ◌↔◌, IfOk, IfSome, IsTrue, Some, map};
+ghost use Rattle.std.specs.String.{string_bytes};
+ghost use Rattle.hv_command.specs.Words.{HasBudget, IsBudget, budget_of, check_of, check_with, checking, is_argument, job_of, kind_of, options_of, produce_of, produce_with, with_budget, with_nodes, with_option};
 ghost use Rattle.hv_bytes.specs.Decimals.{IsDecimal};
 
 use crate::words::Words;
@@ -49,13 +50,55 @@ const MOST_BUDGET: u64 = 16_777_216;
 /// What the program is asked to do.
 #[derive(Drop)]
 pub enum Job {
-    /// `check TASK PROOF`: whether the proof shows that the task has no plan. The budget, from 1 to
-    /// 16,777,216, bounds what a query of a basic statement may cost.
+    /// `check TASK PROOF`: whether the proof shows that the task has no plan. The nodes of decision
+    /// diagrams are those of the node file, or 0 and 1 alone where none is named. The budget, from 1
+    /// to 16,777,216, bounds what a query of a basic statement may cost.
     Check {
         task: FileName,
         proof: FileName,
+        nodes: Option<FileName>,
         budget: u64,
     },
+    /// `explain TASK PROOF`: which of its lines a proof that shows it rests on. A proof that doesn't
+    /// is answered as by a check, and so are the nodes and the budget meant.
+    Explain {
+        task: FileName,
+        proof: FileName,
+        nodes: Option<FileName>,
+        budget: u64,
+    },
+    /// `produce KIND TASK`: a proof of this kind that the task has no plan.
+    Produce {
+        kind: Kind,
+        task: FileName,
+    },
+}
+
+/// By what a proof shows that the goal isn't reached.
+#[derive(Clone, Copy, Debug, PartialEq, Eq)]
+pub enum Kind {
+    /// `relaxed`: a goal atom that isn't reached, though nothing is ever deleted.
+    Relaxed,
+    /// `pairs`: a pair of goal atoms that isn't reached. It is looked for in tasks of at most 1,024
+    /// atoms.
+    Pairs,
+}
+
+/// What is told of a proof that shows that the task has no plan; of another one is told why it
+/// doesn't.
+#[derive(Clone, Copy, Debug, PartialEq, Eq)]
+pub(crate) enum Report {
+    /// That it does.
+    Verdict,
+    /// Which of its lines are needed.
+    Explanation,
+}
+
+/// What the options of a check say: the name of a node file and a budget, each where it is given.
+#[derive(Drop)]
+pub(crate) struct Options {
+    pub nodes: Option<FileName>,
+    pub budget: Option<u64>,
 }
 
 /// The job that the words name, or none where they are no job.
@@ -64,31 +107,204 @@ pub fn read_job(alloc: Global, words: &Words) -> Result<Option<Job>, AllocError>
     ensures budget { IfOk result (λ job. IfSome job HasBudget) }
 {
     match words.as_slice() {
-        [command, task, proof] => read_check(
-            alloc,
-            command.as_str(),
-            task.as_str(),
-            proof.as_str(),
-            Some(DEFAULT_BUDGET),
-        ),
-        [command, task, proof, option, value] => read_check(
-            alloc,
-            command.as_str(),
-            task.as_str(),
-            proof.as_str(),
-            read_option(option.as_str(), value.as_str()),
-        ),
-        _ => Ok(None),
+        [command, others @ ..] => {
+            if command.as_str() == "check" {
+                read_check(alloc, Report::Verdict, others)
+            } else if command.as_str() == "explain" {
+                read_check(alloc, Report::Explanation, others)
+            } else if command.as_str() == "produce" {
+                read_produce(alloc, others)
+            } else {
+                Ok(None)
+            }
+        }
+        [] => Ok(None),
     }
 }
 
-/// The budget that the option with its value names.
-fn read_option(option: &str, value: &str) -> Option<u64>
-    ensures option { result ≡ option_of option.now value.now }
-    ensures budget { IfSome result IsBudget }
+/// The proof that the words after the command ask for.
+fn read_produce(alloc: Global, words: &[String]) -> Result<Option<Job>, AllocError>
+    ensures job { IfOk result (λ job. job ≡ produce_of (map string_bytes words.now)) }
+    ensures budget { IfOk result (λ job. IfSome job HasBudget) }
 {
-    if option == "--budget" {
-        read_budget(value)
+    match words {
+        [] => Ok(None),
+        [_] => Ok(None),
+        [kind, task] => match read_kind(kind.as_str()) {
+            Some(kind) => produce_with(alloc, kind, task.as_str()),
+            None => Ok(None),
+        },
+        [_, _, _, ..] => Ok(None),
+    }
+}
+
+/// The kind of proof that the word names.
+fn read_kind(word: &str) -> Option<Kind>
+    ensures { result ≡ kind_of word.now }
+{
+    if word == "relaxed" {
+        Some(Kind::Relaxed)
+    } else if word == "pairs" {
+        Some(Kind::Pairs)
+    } else {
+        None
+    }
+}
+
+/// The proof of this kind, where the word may name the file of a task.
+fn produce_with(alloc: Global, kind: Kind, task: &str) -> Result<Option<Job>, AllocError>
+    ensures job { IfOk result (λ job. job ≡ produce_with (Some kind) task.now) }
+    ensures budget { IfOk result (λ job. IfSome job HasBudget) }
+{
+    if is_argument(task) {
+        Ok(Some(Job::Produce {
+            kind,
+            task: FileName::new(alloc, task)?,
+        }))
+    } else {
+        Ok(None)
+    }
+}
+
+/// The check that the words after the command ask for.
+fn read_check(alloc: Global, report: Report, words: &[String]) -> Result<Option<Job>, AllocError>
+    ensures job { IfOk result (λ job. job ≡ check_of report (map string_bytes words.now)) }
+    ensures budget { IfOk result (λ job. IfSome job HasBudget) }
+{
+    match words {
+        [task, proof, options @ ..] => match read_options(alloc, options)? {
+            Some(options) => check_with(alloc, report, task.as_str(), proof.as_str(), options),
+            None => Ok(None),
+        },
+        [] => Ok(None),
+        [_] => Ok(None),
+    }
+}
+
+/// The check with these options, where its arguments may name files.
+fn check_with(
+    alloc: Global,
+    report: Report,
+    task: &str,
+    proof: &str,
+    options: Options,
+) -> Result<Option<Job>, AllocError>
+    requires { IfSome options.budget IsBudget }
+    ensures job { IfOk result (λ job. job ≡ check_with report task.now proof.now (Some options)) }
+    ensures budget { IfOk result (λ job. IfSome job HasBudget) }
+{
+    if is_argument(task) && is_argument(proof) {
+        Ok(Some(checking(
+            report,
+            FileName::new(alloc, task)?,
+            FileName::new(alloc, proof)?,
+            options.nodes,
+            options.budget.unwrap_or(DEFAULT_BUDGET),
+        )))
+    } else {
+        Ok(None)
+    }
+}
+
+/// The check of a proof after which this is told.
+fn checking(
+    report: Report,
+    task: FileName,
+    proof: FileName,
+    nodes: Option<FileName>,
+    budget: u64,
+) -> Job
+    ensures { result ≡ checking report task proof nodes budget }
+{
+    match report {
+        Report::Verdict => Job::Check {
+            task,
+            proof,
+            nodes,
+            budget,
+        },
+        Report::Explanation => Job::Explain {
+            task,
+            proof,
+            nodes,
+            budget,
+        },
+    }
+}
+
+/// The options of a check: at most two, each with its value.
+fn read_options(alloc: Global, words: &[String]) -> Result<Option<Options>, AllocError>
+    ensures options { IfOk result (λ options. options ≡ options_of (map string_bytes words.now)) }
+    ensures budget { IfOk result (λ options. IfSome options (λ o. IfSome o.budget IsBudget)) }
+{
+    let none = Options {
+        nodes: None,
+        budget: None,
+    };
+    match words {
+        [] => Ok(Some(none)),
+        [option, value] => with_option(alloc, none, option.as_str(), value.as_str()),
+        [option, value, other, second] => {
+            match with_option(alloc, none, option.as_str(), value.as_str())? {
+                Some(options) => with_option(alloc, options, other.as_str(), second.as_str()),
+                None => Ok(None),
+            }
+        }
+        [_] => Ok(None),
+        [_, _, _] => Ok(None),
+        [_, _, _, _, _, ..] => Ok(None),
+    }
+}
+
+/// The options with this one and its value besides. There are none where it is no option, has no
+/// such value, or is given already.
+fn with_option(
+    alloc: Global,
+    options: Options,
+    option: &str,
+    value: &str,
+) -> Result<Option<Options>, AllocError>
+    requires { IfSome options.budget IsBudget }
+    ensures options { IfOk result (λ o. o ≡ with_option options option.now value.now) }
+    ensures budget { IfOk result (λ options. IfSome options (λ o. IfSome o.budget IsBudget)) }
+{
+    if option == "--nodes" {
+        with_nodes(alloc, options, value)
+    } else if option == "--budget" {
+        Ok(with_budget(options, read_budget(value)))
+    } else {
+        Ok(None)
+    }
+}
+
+/// The options with a node file besides, where none is given yet.
+fn with_nodes(alloc: Global, options: Options, value: &str) -> Result<Option<Options>, AllocError>
+    requires { IfSome options.budget IsBudget }
+    ensures options { IfOk result (λ o. o ≡ with_nodes options value.now) }
+    ensures budget { IfOk result (λ options. IfSome options (λ o. IfSome o.budget IsBudget)) }
+{
+    if options.nodes.is_none() && is_argument(value) {
+        Ok(Some(Options {
+            nodes: Some(FileName::new(alloc, value)?),
+            budget: options.budget,
+        }))
+    } else {
+        Ok(None)
+    }
+}
+
+/// The options with a budget besides, where none is given yet.
+fn with_budget(options: Options, budget: Option<u64>) -> Option<Options>
+    requires { IfSome budget IsBudget }
+    ensures options { result ≡ with_budget options budget }
+    ensures budget { IfSome result (λ o. IfSome o.budget IsBudget) }
+{
+    let budget = budget?;
+    if options.budget.is_none() {
+        Some(Options {
+            nodes: options.nodes,
+            budget: Some(budget),
+        })
     } else {
         None
     }
@@ -124,31 +340,6 @@ fn is_budget(number: u64) -> bool
     ensures { IsTrue result ↔ IsBudget number }
 {
     0 < number && number <= MOST_BUDGET
-}
-
-fn read_check(
-    alloc: Global,
-    command: &str,
-    task: &str,
-    proof: &str,
-    budget: Option<u64>,
-) -> Result<Option<Job>, AllocError>
-    requires { IfSome budget IsBudget }
-    ensures job { IfOk result (λ job. job ≡ check_of command.now task.now proof.now budget) }
-    ensures budget { IfOk result (λ job. IfSome job HasBudget) }
-{
-    let Some(budget) = budget else {
-        return Ok(None);
-    };
-    if command == "check" && is_argument(task) && is_argument(proof) {
-        Ok(Some(Job::Check {
-            task: FileName::new(alloc, task)?,
-            proof: FileName::new(alloc, proof)?,
-            budget,
-        }))
-    } else {
-        Ok(None)
-    }
 }
 
 fn is_argument(word: &str) -> bool

@@ -2,19 +2,27 @@
 #![tactic(auto)]
 
 mod checking;
+#[cfg(test)]
+mod explain_tests;
 mod feeding;
 pub mod job;
 pub mod laws;
+#[cfg(test)]
+mod produce_tests;
+mod producing;
 mod reply;
+#[cfg(test)]
+mod statement_tests;
 pub mod status;
 mod stop;
+mod task_fault;
 #[cfg(test)]
 mod tests;
 mod top;
 pub mod words;
 
-pub use job::{FileName, Job, read_job};
-pub use laws::one_answer;
+pub use job::{FileName, Job, Kind, read_job};
+pub use laws::{accepted, one_answer};
 pub use status::Status;
 pub use top::run;
 pub use words::Words;

@@ -2,13 +2,15 @@
 
 ghost use Rattle.std.specs.Prelude.{◌≡◌, ◌<◌, ◌++◌, codes, decimal, flat_map, length, IfOk, OnOk};
 ghost use Rattle.std.specs.List.{range_with_len};
-ghost use Rattle.hv_command.specs.Replies.{action_text, atom_text, line_of, reason_text, refused_text, state_text, task_fault_text};
+ghost use Rattle.hv_command.specs.Replies.{action_text, atom_text, line_of, nodes_fault_text, reason_text, refused_text, state_text, task_fault_text};
 ghost use Rattle.hv_command.specs.Reply.{IsReply};
+ghost use Rattle.hv_bdd.specs.declared.fault.NodesFault.TheVariants as N;
 ghost use Rattle.hv_task_text.specs.declared.fault.TaskFault.TheVariants as F;
 ghost use Rattle.hv_command.specs.declared.status.Status.TheVariants as S;
 ghost use Rattle.hv_lines.specs.declared.reason.Reason.TheVariants as R;
 
 use crate::status::Status;
+use hv_bdd::{NodeKind, NodeLimit};
 use hv_bytes::Text;
 use hv_lines::{Clash, Reason};
 use hv_task::State;
@@ -64,11 +66,11 @@ fn push_reason(text: &mut Text, reason: &Reason) -> Result<(), AllocError>
         Reason::Budget => text.push_bytes(b"budget"),
         Reason::False(clash) => push_clash(text, clash),
         Reason::Unbuilt => text.push_bytes(b"unbuilt"),
-        Reason::NotGood => text.push_bytes(b"not good"),
     }
 }
 
-/// `false`, ` action A` where there is one, and ` state`, the atoms and ` ;` where there is a state.
+/// `false`, ` action A` where there is one, and ` state`, the atoms and ` ;` where there is a
+/// state.
 fn push_clash(text: &mut Text, clash: &Clash) -> Result<(), AllocError>
     ensures { OnOk result (text.new ≡ text.old ++ reason_text (R.False clash.now)) }
 {
@@ -123,13 +125,19 @@ fn push_atom(text: &mut Text, state: &State, atom: u32) -> Result<(), AllocError
     Ok(())
 }
 
-/// `task line L: WHAT WORD`
-fn task_fault(alloc: Global, line: u64, what: &[u8], word: &str) -> Result<Reply, AllocError>
+/// `FILE line L: WHAT WORD`
+fn text_fault(
+    alloc: Global,
+    file: &[u8],
+    line: u64,
+    what: &[u8],
+    word: &str,
+) -> Result<Reply, AllocError>
     ensures { IfOk result (λ r. IsReply r S.BadInput
-        (line_of (codes "task line " ++ decimal line ++ what.now ++ word.now))) }
+        (line_of (file.now ++ decimal line ++ what.now ++ word.now))) }
 {
     let mut text = Text::new(alloc);
-    text.push_bytes(b"task line ")?;
+    text.push_bytes(file)?;
     text.push_number(line)?;
     text.push_bytes(what)?;
     text.push_bytes(word.as_bytes())?;
@@ -144,7 +152,7 @@ fn task_fault(alloc: Global, line: u64, what: &[u8], word: &str) -> Result<Reply
 pub(crate) fn misplaced(alloc: Global, line: u64, kind: TaskKind) -> Result<Reply, AllocError>
     ensures { IfOk result (λ r. IsReply r S.BadInput (task_fault_text (F.Place line kind))) }
 {
-    let answer = task_fault(alloc, line, b": place ", kind.word())?;
+    let answer = text_fault(alloc, b"task line ", line, b": place ", kind.word())?;
     Ok(answer)
 }
 
@@ -152,6 +160,26 @@ pub(crate) fn misplaced(alloc: Global, line: u64, kind: TaskKind) -> Result<Repl
 pub(crate) fn passed(alloc: Global, line: u64, limit: TaskLimit) -> Result<Reply, AllocError>
     ensures { IfOk result (λ r. IsReply r S.BadInput (task_fault_text (F.Limit line limit))) }
 {
-    let answer = task_fault(alloc, line, b": limit ", limit.word())?;
+    let answer = text_fault(alloc, b"task line ", line, b": limit ", limit.word())?;
+    Ok(answer)
+}
+
+/// `nodes line L: place KIND`
+pub(crate) fn misplaced_node(alloc: Global, line: u64, kind: NodeKind) -> Result<Reply, AllocError>
+    ensures { IfOk result (λ r. IsReply r S.BadInput (nodes_fault_text (N.Place line kind))) }
+{
+    let answer = text_fault(alloc, b"nodes line ", line, b": place ", kind.word())?;
+    Ok(answer)
+}
+
+/// `nodes line L: limit WHICH`
+pub(crate) fn passed_by_nodes(
+    alloc: Global,
+    line: u64,
+    limit: NodeLimit,
+) -> Result<Reply, AllocError>
+    ensures { IfOk result (λ r. IsReply r S.BadInput (nodes_fault_text (N.Limit line limit))) }
+{
+    let answer = text_fault(alloc, b"nodes line ", line, b": limit ", limit.word())?;
     Ok(answer)
 }

@@ -72,7 +72,7 @@ struct Row {
 }
 
 /// Proofs for the key task.
-const PROOFS: [Row; 17] = [
+const PROOFS: [Row; 20] = [
     Row {
         proof: "a 0 a\ne 0 c e\ne 1 c i\ne 2 c g\nk 0 d 0 ed\ne 3 x 2 0 ; 1 ;\ne 4 p 3 0\ne 5 u 3 0\ne 6 i 3 2\nk 1 s 4 5 b2\nk 2 s 6 0 b1\nk 3 d 6 sd 2 0\nk 4 d 3 pg 1 0 3\nk 5 s 1 3 b1\nk 6 d 1 sd 5 4\nk 7 u ci 6\n",
         status: Status::Done,
@@ -91,7 +91,7 @@ const PROOFS: [Row; 17] = [
     Row {
         proof: "a 0 a\ne 0 c e\ne 1 c i\ne 2 c g\nk 0 d 0 ed\ne 3 x 1 0 ;\ne 4 p 3 0\ne 5 u 3 0\ne 6 i 3 2\nk 1 s 4 5 b2\nk 2 s 6 0 b1\nk 3 d 6 sd 2 0\nk 4 d 3 pg 1 0 3\nk 5 s 1 3 b1\nk 6 d 1 sd 5 4\nk 7 u ci 6\n",
         status: Status::Refused,
-        text: "line 10: not good",
+        text: "line 10: false action 0 state 0 ;",
     },
     Row {
         proof: "# made by hand\n\na 0 a\ne 0 c e\ne 1 c i\ne 2 c g\nk 0 d 0 ed\ne 3 x 2 0 ; 1 ;\ne 4 p 3 0\ne 5 u 3 0\ne 6 i 3 2\nk 1 s 4 5 b2\nk 2 s 6 0 b1\nk 3 d 6 sd 2 0\nk 4 d 3 pg 1 0 3\nk 5 s 1 3 b1\nk 6 d 1 sd 5 4\nk 7 u ci 6",
@@ -100,8 +100,8 @@ const PROOFS: [Row; 17] = [
     },
     Row {
         proof: "a 0 a\ne 0 c e\ne 1 c i\ne 2 c g\nk 0 d 0 ed\ne 3 h 1 -3 0\ne 4 p 3 0\ne 5 u 3 0\ne 6 i 3 2\nk 1 s 4 5 b2\nk 2 s 6 0 b1\nk 3 d 6 sd 2 0\nk 4 d 3 pg 1 0 3\nk 5 s 1 3 b1\nk 6 d 1 sd 5 4\nk 7 u ci 6\n",
-        status: Status::Refused,
-        text: "line 6: unbuilt",
+        status: Status::Done,
+        text: "unsolvable",
     },
     Row {
         proof: "a 0 b 2 0 1\ne 0 c e\ne 1 c i\ne 2 c g\nk 0 d 0 ed\ne 3 x 2 0 ; 1 ;\ne 4 p 3 0\ne 5 u 3 0\ne 6 i 3 2\nk 1 s 4 5 b2\nk 2 s 6 0 b1\nk 3 d 6 sd 2 0\nk 4 d 3 pg 1 0 3\nk 5 s 1 3 b1\nk 6 d 1 sd 5 4\nk 7 u ci 6\n",
@@ -141,17 +141,32 @@ const PROOFS: [Row; 17] = [
     Row {
         proof: "a 0 a\ne 0 c e\ne 1 c i\ne 2 c g\nk 0 d 0 ed\ne 3 x 2 0 ; 1 ;\ne 4 p 3 0\ne 5 u 3 0\ne 6 i 3 2\nk 1 s 4 5 b2\nk 2 s 6 0 b1\nk 3 d 6 sd 2 0\nk 4 d 3 pg 1 0 3\nk 5 s 1 3 b1\nk 6 d 1 sd 5 4\nk 7 u ci 6\nk 8 s 1 0 b1\n",
         status: Status::Refused,
-        text: "line 17: unbuilt",
+        text: "line 17: false state 0 ;",
     },
     Row {
         proof: "a 0 a\ne 0 c e\ne 1 c i\ne 2 c g\nk 0 d 0 ed\ne 3 x 1 0 ;\ne 4 p 2 0\nk 1 s 4 3 b2\n",
         status: Status::Refused,
-        text: "line 8: not good",
+        text: "line 8: not offered",
     },
     Row {
         proof: "a 0 a\ne 0 c e\ne 1 c i\ne 2 c g\nk 0 d 0 ed\ne 3 x 1 3 ;\n",
         status: Status::Refused,
         text: "line 6: unknown",
+    },
+    Row {
+        proof: "a 0 a\ne 0 c e\ne 1 c i\ne 2 c g\nk 0 d 0 ed\ne 3 h 1 1 2 0\n",
+        status: Status::Refused,
+        text: "line 6: family",
+    },
+    Row {
+        proof: "a 0 a\ne 0 c e\ne 1 c i\ne 2 c g\nk 0 d 0 ed\ne 3 t 1 1 2 0\ne 4 p 3 0\nk 1 s 4 3 b1\n",
+        status: Status::Refused,
+        text: "line 8: shape",
+    },
+    Row {
+        proof: "a 0 a\na 1 b 1 1\nk 0 a 0 1 b5\n",
+        status: Status::Refused,
+        text: "line 3: false action 0",
     },
     Row {
         proof: "",
@@ -705,6 +720,19 @@ fn tells_words_that_are_no_job(rt: HostRuntime) -> Result<(), Fail> {
         "check task proof --Budget 7",
         "check --budget 7 task proof",
         "check task proof --budget 7 --budget 7",
+        "check task proof --nodes",
+        "produce",
+        "produce relaxed",
+        "produce best task",
+        "produce relaxed task more",
+        "produce relaxed -t",
+        "produce Relaxed task",
+        "relaxed produce task",
+        "check task proof --nodes -n",
+        "check task proof --nodes nodes --nodes nodes",
+        "check task proof --nodes nodes --budget",
+        "check task proof --nodes nodes --budget 0",
+        "check task proof --nodes nodes --budget 7 more",
     ];
     for text in no_jobs {
         assert!(rt; is_usage(rt.alloc(), text)?, "{text}");
@@ -713,6 +741,11 @@ fn tells_words_that_are_no_job(rt: HostRuntime) -> Result<(), Fail> {
         "check task proof",
         "check task proof --budget 1",
         "check task proof --budget 16777216",
+        "check task proof --nodes nodes",
+        "produce relaxed task",
+        "produce pairs task",
+        "check task proof --nodes nodes --budget 7",
+        "check task proof --budget 7 --nodes nodes",
     ] {
         assert!(rt; !is_usage(rt.alloc(), text)?, "{text}");
     }

@@ -3,13 +3,14 @@
 ghost use Rattle.std.specs.Prelude.{◌≡◌, ◌≤◌, ◌⊎◌, ℕ, List, Some, None, IfOk, IsErrOf, IsTrue};
 ghost use Rattle.std.specs.Io.KnownBytes.{Appends};
 ghost use Rattle.hv_bytes.specs.Devices.{AppendsFront, Rose};
-ghost use Rattle.hv_command.specs.Answer.{AnswersTold, IsSoundTold};
+ghost use Rattle.hv_command.specs.Answer.{AnswersTold, IsAcceptedTold, IsSoundTold};
 ghost use Rattle.hv_command.specs.Replies.{IsAnswered, IsJobStatus};
 ghost use Rattle.hv_command.specs.Words.{HasBudget, HasName, job_of};
 ghost use Rattle.hv_command.specs.declared.status.Status.{Status as StatusOf};
 
 use crate::checking::check;
-use crate::job::{Job, read_job};
+use crate::job::{Job, Report, read_job};
+use crate::producing::produce;
 use crate::reply::{Reply, fixed};
 use crate::status::Status;
 use crate::stop::Stop;
@@ -17,10 +18,11 @@ use crate::words::Words;
 use hv_bytes::{Shelf, Sink, send};
 use std::alloc::Global;
 
-/// Does what the words ask for: reads the files that they name from the shelf, and writes the answer to the sink. The whole
-/// answer stands in memory before its first byte is written.
+/// Does what the words ask for: reads the files that they name from the shelf, and writes the
+/// answer to the sink. The whole answer stands in memory before its first byte is written.
 pub fn run<S: Shelf, K: Sink>(alloc: Global, words: &Words, shelf: &mut S, out: &mut K) -> Status
-    requires { (name : List ℕ) → HasName (job_of words.now) name → IsTrue (S.allows shelf.old name) }
+    requires { (name : List ℕ) → HasName (job_of words.now) name
+        → IsTrue (S.allows shelf.old name) }
 
     // the shelf still holds and allows the same, and no count falls
     ensures held { S.held shelf.new ≡ S.held shelf.old }
@@ -28,9 +30,10 @@ pub fn run<S: Shelf, K: Sink>(alloc: Global, words: &Words, shelf: &mut S, out: 
     ensures later { S.faults shelf.old ≤ S.faults shelf.new }
     ensures later_out { K.faults out.old ≤ K.faults out.new }
 
-    // the answer of the job, and that it was written
+    // the answer of the job, and that it was written; a proof that is written is judged `unsolvable`
     ensures answer { IsAnswered result → (text : List ℕ)
         × AnswersTold (job_of words.now) (S.held shelf.old) result text
+        × IsAcceptedTold (job_of words.now) (S.held shelf.old) result text
         × Appends (K.taken out.old) (K.taken out.new) text }
     // what it says is true
     ensures sound { IsAnswered result → IsSoundTold (job_of words.now) (S.held shelf.old) result }
@@ -41,7 +44,8 @@ pub fn run<S: Shelf, K: Sink>(alloc: Global, words: &Words, shelf: &mut S, out: 
         (result ≡ Status.Usage) ⊎ (result ≡ Status.WriteFault) ⊎ (result ≡ Status.Memory) }
 
     // faults of the shelf
-    ensures read_fault { result ≡ Status.ReadFault → Rose (S.faults shelf.old) (S.faults shelf.new) }
+    ensures read_fault { result ≡ Status.ReadFault
+        → Rose (S.faults shelf.old) (S.faults shelf.new) }
     ensures read_nothing { result ≡ Status.ReadFault → out.new ≡ out.old }
 
     // faults of the sink
@@ -65,8 +69,10 @@ pub fn run<S: Shelf, K: Sink>(alloc: Global, words: &Words, shelf: &mut S, out: 
 
 /// The answer of the job that the words name.
 fn answer<S: Shelf>(alloc: Global, words: &Words, shelf: &mut S) -> Result<Reply, Stop>
-    requires { (name : List ℕ) → HasName (job_of words.now) name → IsTrue (S.allows shelf.old name) }
-    ensures answer { IfOk result (λ r. AnswersTold (job_of words.now) (S.held shelf.old) r.status r.text) }
+    requires { (name : List ℕ) → HasName (job_of words.now) name
+        → IsTrue (S.allows shelf.old name) }
+    ensures answer { IfOk result (λ r. AnswersTold (job_of words.now)
+        (S.held shelf.old) r.status r.text) }
     ensures answered { IfOk result (λ r. IsAnswered r.status) }
     ensures usage { IfOk result (λ r. r.status ≡ Status.Usage → job_of words.now ≡ None) }
     ensures no_job { IfOk result (λ r. job_of words.now ≡ None → r.status ≡ Status.Usage) }
@@ -90,8 +96,10 @@ fn answer<S: Shelf>(alloc: Global, words: &Words, shelf: &mut S) -> Result<Reply
 
 fn do_job<S: Shelf>(alloc: Global, shelf: &mut S, job: &Job) -> Result<Reply, Stop>
     requires budget { HasBudget job.now }
-    requires allowed { (name : List ℕ) → HasName (Some job.now) name → IsTrue (S.allows shelf.old name) }
-    ensures answer { IfOk result (λ r. AnswersTold (Some job.now) (S.held shelf.old) r.status r.text) }
+    requires allowed { (name : List ℕ) → HasName (Some job.now) name
+        → IsTrue (S.allows shelf.old name) }
+    ensures answer { IfOk result (λ r. AnswersTold (Some job.now)
+        (S.held shelf.old) r.status r.text) }
     ensures job_status { IfOk result (λ r. IsJobStatus r.status) }
     ensures held { S.held shelf.new ≡ S.held shelf.old }
     ensures allows { S.allows shelf.new ≡ S.allows shelf.old }
@@ -102,9 +110,31 @@ fn do_job<S: Shelf>(alloc: Global, shelf: &mut S, job: &Job) -> Result<Reply, St
         Job::Check {
             task,
             proof,
+            nodes,
             budget,
         } => {
-            let reply = check(alloc, shelf, task, proof, *budget)?;
+            let reply = check(alloc, shelf, Report::Verdict, task, proof, nodes, *budget)?;
+            Ok(reply)
+        }
+        Job::Explain {
+            task,
+            proof,
+            nodes,
+            budget,
+        } => {
+            let reply = check(
+                alloc,
+                shelf,
+                Report::Explanation,
+                task,
+                proof,
+                nodes,
+                *budget,
+            )?;
+            Ok(reply)
+        }
+        Job::Produce { kind, task } => {
+            let reply = produce(alloc, shelf, *kind, task)?;
             Ok(reply)
         }
     }

@@ -2,7 +2,7 @@ use Rattle.std.proofs.Common.{Err, IfSome, subst}
 use Rattle.hv_bytes.specs.Files.{Names, bytes_of}
 use Rattle.hv_bytes.specs.Standard.{standard}
 use Rattle.hv_task_text.specs.TaskText.{IsReadFrom, TaskText}
-use Rattle.hv_command.specs.Answer.{AnswersProof, plain_setting}
+use Rattle.hv_command.specs.Answer.{AnswersTask}
 use Rattle.hv_command.specs.Replies.{IsTextFault, task_fault_text}
 use Rattle.hv_command.specs.Reply.{IsReply}
 use Rattle.hv_command.specs.declared.status.Status.TheVariants as S
@@ -12,15 +12,16 @@ use Rattle.hv_command.proofs.checking.check.Goals as goal
 pub returns-in_ok-answer-in-Ok-clause-answer : goal.returns-in_ok-answer-in-Ok-clause-answer
 returns-in_ok-answer-in-Ok-clause-answer g c =
     let answer = c.in_ok-answer-in-Ok.answer in
-    told_answer c.args.task.now c.args.proof.now c.args.budget (g.S.Shelf.held c.args.shelf.now) c.in-Ok.task answer.status answer.text
+    told_answer c.args.report c.args.task.now c.args.proof.now c.args.nodes.now c.args.budget (g.S.Shelf.held c.args.shelf.now) c.in-Ok.task answer.status answer.text
     (subst (λ name. IfSome (g.S.Shelf.held c.args.shelf.now) (λ (h : Names). TaskText standard (bytes_of h name) c.in-Ok.task)) c.as_str.ensures c.in-Ok.ensures.read)
-    (subst (λ held. IfSome held (λ (h : Names). AnswersProof (plain_setting c.in-Ok.task c.args.budget) (bytes_of h c.args.proof.now) answer.status answer.text))
+    (subst
+    (λ held. IfSome held (λ (h : Names). AnswersTask c.args.report c.in-Ok.task c.args.proof.now c.args.nodes.now c.args.budget h answer.status answer.text))
     c.in-Ok.ensures.held c.in_ok-answer-in-Ok.ensures.answer)
 
 pub returns-in_ok-answer-in-Err-clause-answer : goal.returns-in_ok-answer-in-Err-clause-answer
 returns-in_ok-answer-in-Err-clause-answer g c =
     let answer = c.in_ok-answer-in-Err.answer in
     let said : IsReply answer S.BadInput (task_fault_text c.in-Err.fault) × IsTextFault c.in-Err.fault = c.in_ok-answer-in-Err.ensures in
-    told_fault c.args.task.now c.args.proof.now c.args.budget (g.S.Shelf.held c.args.shelf.now) c.in-Err.fault answer.status answer.text
+    told_fault c.args.report c.args.task.now c.args.proof.now c.args.nodes.now c.args.budget (g.S.Shelf.held c.args.shelf.now) c.in-Err.fault answer.status answer.text
     (subst (λ name. IfSome (g.S.Shelf.held c.args.shelf.now) (λ (h : Names). IsReadFrom standard (bytes_of h name) (Err c.in-Err.fault))) c.as_str.ensures c.in-Err.ensures.read)
     said.1 said.0.status_is said.0.text_is

@@ -1,0 +1,32 @@
+//! A task text that isn't read.
+
+ghost use Rattle.std.specs.Prelude.{◌≡◌, MatchResult};
+ghost use Rattle.hv_task_text.specs.declared.fault.TaskFault.TheVariants as F;
+ghost use Rattle.hv_command.specs.Replies.{IsTextFault, task_fault_text};
+ghost use Rattle.hv_command.specs.Reply.{IsReply};
+ghost use Rattle.hv_command.specs.declared.status.Status.TheVariants as S;
+
+use crate::reply::{Reply, misplaced, passed};
+use crate::stop::Stop;
+use hv_task_text::TaskFault;
+use std::alloc::Global;
+
+/// What is answered to a task text that isn't read.
+pub(crate) fn fault_reply(alloc: Global, fault: TaskFault) -> Result<Reply, Stop>
+    ensures { MatchResult result
+        (λ r. IsReply r S.BadInput (task_fault_text fault) × IsTextFault fault)
+        (λ stop. stop ≡ Stop.ReadFault → fault ≡ F.ReadFault) }
+{
+    match fault {
+        TaskFault::Place(line, kind) => {
+            let answer = misplaced(alloc, line, kind)?;
+            Ok(answer)
+        }
+        TaskFault::Limit(line, limit) => {
+            let answer = passed(alloc, line, limit)?;
+            Ok(answer)
+        }
+        TaskFault::ReadFault => Err(Stop::ReadFault),
+        TaskFault::Memory => Err(Stop::Memory),
+    }
+}
