@@ -1,13 +1,15 @@
 -- Marks: what they are after some were written, and a state with the marked bits.
-use Rattle.std.proofs.Common.{◌≡◌, ℕ, zero, suc, ◌<◌, ◌∙◌, ◌||◌, ◌&&◌, Bool, true, false, not, List, [], ◌∷◌, Option, None, Some, cond, eqb, length, set, refl, sym, ap, arith, inl, inr}
+use Rattle.std.proofs.Common.{◌≡◌, ℕ, zero, suc, ◌<◌, ◌+◌, ◌∙◌, ◌||◌, ◌&&◌, Bool, true, false, not, List, [], ◌∷◌, Option, None, Some, cond, eqb, length, set, refl, sym, ap, arith, inl, inr}
 use Rattle.std.proofs.lemmas.Bool.{cases_eq, cond-false, cond-true, eq-eqb, ne_eqb}
 use Rattle.std.proofs.lemmas.Grind.{get_or-set_at}
-use Rattle.std.proofs.lemmas.List.{get_or-replicate, get_or-set_other, length-replicate, length-set}
+use Rattle.std.proofs.lemmas.List.{get_or-replicate, get_or-set_other, get_or_default, length-replicate, length-set, same_lists}
+use Rattle.std.proofs.lemmas.List.FromFn.{get_or-map-range_with_len, length-map-range_with_len}
 use Rattle.hv_task.specs.declared.action.Action.{Action}
 use Rattle.hv_task.specs.State.{has_atom, names_atom, successor}
 use Rattle.hv_task.proofs.Places.{has_atom-successor, length-successor, same_state}
 use Rattle.hv_bdd.specs.Graphs.{over}
-use Rattle.hv_bdd.specs.Live.{changed_by, mark_all, mark_of, needed_by, no_marks, or_else}
+use Rattle.hv_bdd.specs.Live.{changed_at, changed_by, mark_of, needed_at, needed_by, no_marks, or_else}
+use Rattle.hv_bdd.specs.Search.{mark_all}
 
 pub length-over : (marks : List (Option Bool)) (s : List Bool) → length (over marks s) ≡ length s
 length-over marks [] = refl
@@ -55,18 +57,49 @@ mark_of-no_marks n p less = get_or-replicate n p None None less
 
 pub length-needed_by : (n : ℕ) (action : Option Action) → length (needed_by n action) ≡ n
 length-needed_by n None = length-no_marks n
-length-needed_by n (Some action) = length-mark_all true action.pre (no_marks n) ∙ length-no_marks n
+length-needed_by n (Some action) = length-map-range_with_len (needed_at action) 0 n
 
 pub length-changed_by : (n : ℕ) (action : Option Action) → length (changed_by n action) ≡ n
 length-changed_by n None = length-no_marks n
-length-changed_by n (Some action) =
-    length-mark_all true action.add (mark_all false action.del (no_marks n)) ∙ (length-mark_all false action.del (no_marks n) ∙ length-no_marks n)
+length-changed_by n (Some action) = length-map-range_with_len (changed_at action) 0 n
 
-pub mark_of-needed : (n p : ℕ) (action : Action) → p < n → mark_of (needed_by n (Some action)) p ≡ cond (names_atom action.pre p) (Some true) None
-mark_of-needed n p action less =
-    let size = length-no_marks n in
-    mark_of-mark_all true action.pre (no_marks n) p (omega arith)
-    ∙ ap (λ x. cond (names_atom action.pre p) (Some true) x) (mark_of-no_marks n p less)
+pub mark_of-needed : (n p : ℕ) (action : Action) → p < n → mark_of (needed_by n (Some action)) p ≡ needed_at action p
+mark_of-needed n p action less = get_or-map-range_with_len (needed_at action) 0 n p p None less (let f : 0 + p ≡ p = omega arith in f)
+
+pub mark_of-changed : (n p : ℕ) (action : Action) → p < n → mark_of (changed_by n (Some action)) p ≡ changed_at action p
+mark_of-changed n p action less = get_or-map-range_with_len (changed_at action) 0 n p p None less (let f : 0 + p ≡ p = omega arith in f)
+
+-- the marks that are written one after the other are those of the action
+pub needed_marked : (n : ℕ) (action : Action) → mark_all true action.pre (no_marks n) ≡ needed_by n (Some action)
+needed_marked n action =
+    let none = length-no_marks n in
+    let size = length-mark_all true action.pre (no_marks n) in
+    let same = length-needed_by n (Some action) in
+    same_lists (mark_all true action.pre (no_marks n)) (needed_by n (Some action)) (omega (arith, none, size, same))
+    (λ p d less.
+    get_or_default (mark_all true action.pre (no_marks n)) p d None less
+    ∙ (mark_of-mark_all true action.pre (no_marks n) p (omega (arith, less, size))
+    ∙ (ap (λ m. cond (names_atom action.pre p) (Some true) m) (mark_of-no_marks n p (omega (arith, less, size, none)))
+    ∙ (sym (mark_of-needed n p action (omega (arith, less, size, none)))
+    ∙ get_or_default (needed_by n (Some action)) p None d (omega (arith, less, size, none, same))))))
+
+pub changed_marked : (n : ℕ) (action : Action)
+    → mark_all true action.add (mark_all false action.del (no_marks n)) ≡ changed_by n (Some action)
+changed_marked n action =
+    let none = length-no_marks n in
+    let dels = length-mark_all false action.del (no_marks n) in
+    let size = length-mark_all true action.add (mark_all false action.del (no_marks n)) in
+    let same = length-changed_by n (Some action) in
+    same_lists (mark_all true action.add (mark_all false action.del (no_marks n))) (changed_by n (Some action))
+    (omega (arith, none, dels, size, same))
+    (λ p d less.
+    get_or_default (mark_all true action.add (mark_all false action.del (no_marks n))) p d None less
+    ∙ (mark_of-mark_all true action.add (mark_all false action.del (no_marks n)) p (omega (arith, less, size))
+    ∙ (ap (λ m. cond (names_atom action.add p) (Some true) m)
+    (mark_of-mark_all false action.del (no_marks n) p (omega (arith, less, size, dels))
+    ∙ ap (λ m. cond (names_atom action.del p) (Some false) m) (mark_of-no_marks n p (omega (arith, less, size, dels, none))))
+    ∙ (sym (mark_of-changed n p action (omega (arith, less, size, dels, none)))
+    ∙ get_or_default (changed_by n (Some action)) p None d (omega (arith, less, size, dels, none, same))))))
 
 effect : (a d h : Bool) → or_else (cond a (Some true) (cond d (Some false) None)) h ≡ (a || (not d && h))
 effect true d h = refl
@@ -80,14 +113,8 @@ over_action n action s size =
     (length-over (changed_by n (Some action)) s ∙ sym (length-successor action s))
     (λ p less.
     let len = length-over (changed_by n (Some action)) s in
-    let none = length-no_marks n in
-    let dels = length-mark_all false action.del (no_marks n) in
     has_atom-over (changed_by n (Some action)) s p (omega arith)
-    ∙ (ap (λ m. or_else m (has_atom s p))
-    (mark_of-mark_all true action.add (mark_all false action.del (no_marks n)) p (omega arith)
-    ∙ ap (λ m. cond (names_atom action.add p) (Some true) m)
-    (mark_of-mark_all false action.del (no_marks n) p (omega arith)
-    ∙ ap (λ m. cond (names_atom action.del p) (Some false) m) (mark_of-no_marks n p (omega arith))))
+    ∙ (ap (λ m. or_else m (has_atom s p)) (mark_of-changed n p action (omega arith))
     ∙ (effect (names_atom action.add p) (names_atom action.del p) (has_atom s p)
     ∙ sym (has_atom-successor action s p (omega arith)))))
 

@@ -1,11 +1,11 @@
--- What a reduced ordered list says of its first nodes: the next one has no fault, and all numbers are short.
-use Rattle.std.proofs.Common.{◌≡◌, ℕ, zero, suc, ◌<◌, ◌≤◌, ◌+◌, ◌-◌, ◌^◌, ◌∙◌, ◌&&◌, Bool, true, false, List, [], ◌∷◌, ◌++◌, Option, None, Some, cond, eqb, get_or, ltb, length, map, refl, sym, ap, arith, inl, inr, subst}
+-- What a reduced ordered list says of its first nodes: the next one has no fault, and all numbers
+-- are short.
+use Rattle.std.proofs.Common.{◌≡◌, ℕ, zero, suc, ◌<◌, ◌≤◌, ◌+◌, ◌-◌, ◌^◌, ◌∙◌, ◌&&◌, Bool, true, false, List, [], ◌∷◌, ◌++◌, None, Some, cond, eqb, get_or, ltb, length, map, refl, sym, ap, arith, inl, inr, subst}
 use Rattle.std.proofs.lemmas.Bool.{and_from, and_parts, cases_lt, eqb-true, lt-ltb, ne_eqb}
 use Rattle.std.proofs.lemmas.List.{get_or_append_left, get_or_at, get_or_default, length-append}
 use Rattle.std.proofs.lemmas.List.Elements.{All-head, All-tail}
 use Rattle.std.proofs.lemmas.List.Folds.{Any-from_list_any}
 use Rattle.std.specs.List.{All, list_any}
-use Rattle.hv_bdd.specs.declared.fault.NodeKind.{NodeKind}
 use Rattle.hv_bdd.specs.declared.fault.NodeKind.TheVariants as N
 use Rattle.hv_bdd.specs.declared.node.Node.{Node}
 use Rattle.hv_bdd.specs.Building.{fault_of, is_later, or_twin, same_node}
@@ -34,12 +34,17 @@ none_from list node good =
     (cond (eqb node.low node.high) (Some N.SameChildren) None)
     (Some N.Order))
     (Some N.Child)))
-    (and_from (ltb node.low (node_count list)) (ltb node.high (node_count list)) (lt-ltb node.low (node_count list) good.low)
+    (and_from (ltb node.low (node_count list)) (ltb node.high (node_count list))
+    (lt-ltb node.low (node_count list) good.low)
     (lt-ltb node.high (node_count list) good.high))
-    ∙ (ap (λ l. or_twin list node (cond l (cond (eqb node.low node.high) (Some N.SameChildren) None) (Some N.Order)))
+    ∙ (ap (λ l.
+    or_twin list node
+    (cond l (cond (eqb node.low node.high) (Some N.SameChildren) None) (Some N.Order)))
     (and_from (is_later list node.atom node.low) (is_later list node.atom node.high)
-    (lt-ltb (place list node.atom) (top list node.low) good.low_later) (lt-ltb (place list node.atom) (top list node.high) good.high_later))
-    ∙ (ap (λ s. or_twin list node (cond s (Some N.SameChildren) None)) (ne_eqb node.low node.high good.apart)
+    (lt-ltb (place list node.atom) (top list node.low) good.low_later)
+    (lt-ltb (place list node.atom) (top list node.high) good.high_later))
+    ∙ (ap (λ s. or_twin list node (cond s (Some N.SameChildren) None))
+    (ne_eqb node.low node.high good.apart)
     ∙ ap (λ t. cond t (Some N.Twin) None) good.new)))
 
 module _ (atoms : ℕ) (nodes more : List Node) (n : Node) where
@@ -53,10 +58,12 @@ module _ (atoms : ℕ) (nodes more : List Node) (n : Node) where
   size = length-append nodes (n ∷ more)
 
   old : (i : ℕ) → 2 ≤ i → i < node_count short → node_at long i ≡ node_at short i
-  old i le within = get_or_append_left nodes (n ∷ more) (record { atom = 0; low = 0; high = 0 }) (i - 2) (omega arith)
+  old i le within = get_or_append_left nodes (n ∷ more) (record { atom = 0; low = 0; high = 0 })
+      (i - 2) (omega arith)
 
   this : node_at long (node_count short) ≡ n
-  this = get_or_at nodes n more (record { atom = 0; low = 0; high = 0 }) (node_count short - 2) (omega arith)
+  this = get_or_at nodes n more (record { atom = 0; low = 0; high = 0 }) (node_count short - 2)
+      (omega arith)
 
   same_place : (a : ℕ) → place long a ≡ place short a
   unfolding place
@@ -68,7 +75,8 @@ module _ (atoms : ℕ) (nodes more : List Node) (n : Node) where
         | inl end ↦ ends i end
         | inr inner ↦
             top_inner long i inner
-            ∙ (ap (λ (m : Node). place long m.atom) (old i inner within) ∙ (same_place (node_at short i).atom ∙ sym (top_inner short i inner)))
+            ∙ (ap (λ (m : Node). place long m.atom) (old i inner within)
+            ∙ (same_place (node_at short i).atom ∙ sym (top_inner short i inner)))
       ]
     where
       ends : (i : ℕ) → i < 2 → top long i ≡ top short i
@@ -97,10 +105,13 @@ module _ (atoms : ℕ) (nodes more : List Node) (n : Node) where
         let atom = and_parts (eqb n.atom x.atom) (eqb n.low x.low && eqb n.high x.high) found.4 in
         let children = and_parts (eqb n.low x.low) (eqb n.high x.high) atom.1 in
         let same : n ≡ x =
-        node_by_parts n x (eqb-true n.atom x.atom atom.0) (eqb-true n.low x.low children.0) (eqb-true n.high x.high children.1) in
+        node_by_parts n x (eqb-true n.atom x.atom atom.0) (eqb-true n.low x.low children.0)
+        (eqb-true n.high x.high children.1) in
         let there : node_at short (k + 2) ≡ x =
-        ap (λ j. get_or nodes j d) (let f : (k + 2) - 2 ≡ k = omega arith in f) ∙ (get_or_default nodes k d x less ∙ found.3) in
-        let e2 = reduced.twinless (k + 2) (node_count short) (omega arith) (omega arith) (omega arith) within
+        ap (λ j. get_or nodes j d) (let f : (k + 2) - 2 ≡ k = omega arith in f)
+        ∙ (get_or_default nodes k d x less ∙ found.3) in
+        let e2 = reduced.twinless (k + 2) (node_count short) (omega arith) (omega arith)
+        (omega arith) within
         (old (k + 2) (omega arith) (omega arith) ∙ (there ∙ (sym same ∙ sym this))) in
         absurd (omega arith)
 
@@ -111,9 +122,14 @@ module _ (atoms : ℕ) (nodes more : List Node) (n : Node) where
         let s = size in
         let inner : 2 ≤ i = omega arith in
         let low : n.low < i = subst (λ (m : Node). m.low < i) this (reduced.low i inner within) in
-        let high : n.high < i = subst (λ (m : Node). m.high < i) this (reduced.high i inner within) in
-        let low_later : top long i < top long n.low = subst (λ (m : Node). top long i < top long m.low) this (reduced.low_later i inner within) in
-        let high_later : top long i < top long n.high = subst (λ (m : Node). top long i < top long m.high) this (reduced.high_later i inner within) in
+        let high : n.high
+        < i = subst (λ (m : Node). m.high < i) this (reduced.high i inner within) in
+        let low_later : top long i
+        < top long n.low = subst (λ (m : Node). top long i < top long m.low) this
+        (reduced.low_later i inner within) in
+        let high_later : top long i
+        < top long n.high = subst (λ (m : Node). top long i < top long m.high) this
+        (reduced.high_later i inner within) in
         let here = this_top in
         let below_low = old_top n.low low in
         let below_high = old_top n.high high in
@@ -133,11 +149,13 @@ pub record IsShort (node : Node) : Type 0 where
   pub low : node.low < 10 ^ 18
   pub high : node.high < 10 ^ 18
 
-pub are_short : (atoms : ℕ) (nodes : List Node) → atoms < 10 ^ 18 → IsReduced (list_over atoms nodes) → All IsShort nodes
+pub are_short : (atoms : ℕ) (nodes : List Node) → atoms < 10 ^ 18
+    → IsReduced (list_over atoms nodes) → All IsShort nodes
 are_short atoms nodes few reduced = λ k d less.
     let i = k + 2 in
     let e : node_at (list_over atoms nodes) i ≡ get_or nodes k d =
-    ap (λ j. get_or nodes j (record { atom = 0; low = 0; high = 0 })) (let f : (k + 2) - 2 ≡ k = omega arith in f)
+    ap (λ j. get_or nodes j (record { atom = 0; low = 0; high = 0 }))
+    (let f : (k + 2) - 2 ≡ k = omega arith in f)
     ∙ get_or_default nodes k (record { atom = 0; low = 0; high = 0 }) d less in
     let most = reduced.few in
     let atom = reduced.atom i (omega arith) (omega arith) in
@@ -145,11 +163,14 @@ are_short atoms nodes few reduced = λ k d less.
     let high = reduced.high i (omega arith) (omega arith) in
     subst IsShort e record { atom = omega arith; low = omega arith; high = omega arith }
 
-as_triple : (node : Node) (line : List ℕ) → IsShort node → line ≡ node_line node → IsTriple line node
-as_triple node line short e = record { spelled = e; atom = short.atom; low = short.low; high = short.high }
+as_triple : (node : Node) (line : List ℕ) → IsShort node → line ≡ node_line node
+    → IsTriple line node
+as_triple node line short e =
+    record { spelled = e; atom = short.atom; low = short.low; high = short.high }
 
 -- the same lines are the same nodes
-pub same_nodes : (xs ys : List Node) → All IsShort xs → All IsShort ys → map node_line xs ≡ map node_line ys → xs ≡ ys
+pub same_nodes : (xs ys : List Node) → All IsShort xs → All IsShort ys
+    → map node_line xs ≡ map node_line ys → xs ≡ ys
 same_nodes [] [] p q e = refl
 same_nodes [] (y ∷ ys) p q e = absurd cc
 same_nodes (x ∷ xs) [] p q e = absurd cc
@@ -157,13 +178,16 @@ same_nodes (x ∷ xs) (y ∷ ys) p q e =
     let line : node_line x ≡ node_line y = cc in
     let rest : map node_line xs ≡ map node_line ys = cc in
     let first : x ≡ y =
-    one_triple (node_line x) x y (as_triple x (node_line x) (All-head IsShort x xs p) refl) (as_triple y (node_line x) (All-head IsShort y ys q) line) in
+    one_triple (node_line x) x y (as_triple x (node_line x) (All-head IsShort x xs p) refl)
+    (as_triple y (node_line x) (All-head IsShort y ys q) line) in
     let others = same_nodes xs ys (All-tail IsShort x xs p) (All-tail IsShort y ys q) rest in
     cc
 
 -- where the lines of a longer list go on with this one, it is that of its next node
-pub next_node_of : (xs ys : List Node) (line : List ℕ) (mid : List (List ℕ)) → All IsShort xs → All IsShort ys
-    → map node_line ys ≡ map node_line xs ++ line ∷ mid → (n : Node) × (more : List Node) × (ys ≡ xs ++ n ∷ more) × IsTriple line n
+pub next_node_of : (xs ys : List Node) (line : List ℕ) (mid : List (List ℕ)) → All IsShort xs
+    → All IsShort ys
+    → map node_line ys ≡ map node_line xs ++ line ∷ mid
+    → (n : Node) × (more : List Node) × (ys ≡ xs ++ n ∷ more) × IsTriple line n
 next_node_of xs [] line mid p q e = absurd (none xs e)
   where
     none : (xs : List Node) → [] ≡ map node_line xs ++ line ∷ mid → ⊥
@@ -176,6 +200,7 @@ next_node_of (x ∷ xs) (y ∷ ys) line mid p q e =
     let same : node_line y ≡ node_line x = cc in
     let rest : map node_line ys ≡ map node_line xs ++ line ∷ mid = cc in
     let first : x ≡ y =
-    one_triple (node_line x) x y (as_triple x (node_line x) (All-head IsShort x xs p) refl) (as_triple y (node_line x) (All-head IsShort y ys q) (sym same)) in
+    one_triple (node_line x) x y (as_triple x (node_line x) (All-head IsShort x xs p) refl)
+    (as_triple y (node_line x) (All-head IsShort y ys q) (sym same)) in
     let w = next_node_of xs ys line mid (All-tail IsShort x xs p) (All-tail IsShort y ys q) rest in
     (w.0, w.1, (let tail = w.2 in cc), w.3)

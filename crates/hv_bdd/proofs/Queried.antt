@@ -1,6 +1,6 @@
 -- Why the search through live tuples answers a query.
-use Rattle.std.proofs.Common.{◌≡◌, ℕ, suc, ◌<◌, ◌+◌, ◌-◌, ◌∙◌, Bool, true, false, List, Result, Ok, Err, IfOk, cond, length, map, refl, sym, ap, arith, subst}
-use Rattle.std.proofs.lemmas.List.Elements.{All-append, All-map, All-weaker}
+use Rattle.std.proofs.Common.{◌≡◌, ℕ, suc, ◌<◌, ◌+◌, ◌-◌, ◌∙◌, Bool, true, false, List, Result, Ok, Err, IfOk, cond, get_or, length, map, refl, sym, ap, arith, subst}
+use Rattle.std.proofs.lemmas.List.Elements.{All-append, All-map}
 use Rattle.std.specs.List.{All}
 use Rattle.std.specs.declared.alloc.AllocError.{AllocError}
 use Rattle.hv_task.specs.Strips.{IsTask, Strips, atoms}
@@ -25,47 +25,66 @@ use Rattle.hv_bdd.proofs.Marked.{length-changed_by, length-needed_by}
 use Rattle.hv_bdd.proofs.Explored.{first_and_second}
 
 -- one place more of a chain
-pub first_more : (asks : ℕ → Bool) (n v : ℕ) → v < n → first_asked asks (n - v) v ≡ cond (asks v) (v + 2) (first_asked asks (n - (v + 1)) (v + 1))
-first_more asks n v less = let e : n - v ≡ suc (n - (v + 1)) = omega arith in ap (λ k. first_asked asks k v) e
+pub first_more : (asks : ℕ → Bool) (n v : ℕ) → v < n
+    → first_asked asks (n - v) v ≡ cond (asks v) (v + 2) (first_asked asks (n - (v + 1)) (v + 1))
+first_more asks n v less =
+    let e : n - v ≡ suc (n - (v + 1)) = omega arith in ap (λ k. first_asked asks k v) e
 
 -- the table is one in the whole setting
-pub table_for : (s : Search) (table : List ℕ) → IsGoalTable (goal_setting s.nodes.now s.goal.now) table → s.first_goal.now ≡ table
+pub table_for : (s : Search) (table : List ℕ)
+    → IsGoalTable (goal_setting s.nodes.now s.goal.now) table → s.first_goal.now ≡ table
     → IsGoalTable (setting s) s.first_goal.now
-table_for s table is same = subst (IsGoalTable (setting s)) (sym same) (record { size = is.size; each = is.each })
+table_for s table is same =
+    subst (IsGoalTable (setting s)) (sym same) (record { size = is.size; each = is.each })
 
-module _ (list : NodeList) (task : Strips) (query : Query) (s : Search) (for : IsFor list task query s) (t : IsTask task) (size : list.atoms ≡ atoms task) where
+module _ (list : NodeList) (task : Strips) (query : Query) (s : Search)
+    (for : IsFor list task query s) (t : IsTask task) (size : list.atoms ≡ atoms task) where
   size_now : s.nodes.now.atoms ≡ atoms task
   size_now = ap (λ (l : NodeList). l.atoms) for.nodes ∙ size
 
-  askable : IsGoalTable (setting s) s.first_goal.now → (w : Which) → IsNamed (node_count list) w → IsAskable s w
-  askable table W.Empty named = tt
-  askable table W.Start named =
+  askable : (w : Which) → (w ≡ W.Goal → IsGoalTable (setting s) s.first_goal.now)
+      → IsNamed (node_count list) w → IsAskable s w
+  askable W.Empty table named = tt
+  askable W.Start table named =
       let few = t.few_atoms in
       let same = size_now in
       (ap length for.start ∙ (IsState-start_state task ∙ sym size_now), omega arith)
-  askable table W.Goal named = table
-  askable table (W.Set number) named = subst (λ l. number < node_count l) (sym for.nodes) named
+  askable W.Goal table named = table refl
+  askable (W.Set number) table named =
+      subst (λ l. number < node_count l) (sym for.nodes) named
 
-  all_askable : IsGoalTable (setting s) s.first_goal.now → (b : Bool) (os : List Operand) → All (λ (o : Operand). IsNamed (node_count list) o.which) os
-      → All (λ (o : Asked). IsAskable s o.which) (map (asked_of b) os)
-  all_askable table b os named =
-      All-map (λ (o : Asked). IsAskable s o.which) (asked_of b) os
-      (All-weaker (λ (o : Operand). IsNamed (node_count list) o.which) (λ (o : Operand). IsAskable s o.which) (λ o n. askable table o.which n) os named)
+  all_named : (b : Bool) (os : List Operand)
+      → All (λ (o : Operand). IsNamed (node_count list) o.which) os
+      → All (λ (o : Asked). IsNamed (node_count list) o.which) (map (asked_of b) os)
+  all_named b os named =
+      All-map (λ (o : Asked). IsNamed (node_count list) o.which) (asked_of b) os named
 
   -- the search can be made
-  pub can_search : (goals : List ℕ) → IsReduced s.nodes.now → IsGoalTable (goal_setting s.nodes.now s.goal.now) goals → s.first_goal.now ≡ goals
-      → IsReady (node_count list) query → IsSearch s
+  pub can_search : (goals : List ℕ) → IsReduced s.nodes.now
+      → All (λ (o : Asked). o.which ≡ W.Goal
+      → IsGoalTable (goal_setting s.nodes.now s.goal.now) goals)
+      s.asked.now
+      → s.first_goal.now ≡ goals → IsReady (node_count list) query → IsSearch s
   can_search goals reduced is same ready =
-      let table = table_for s goals is same in
-      let parts = first_and_second (λ (o : Operand). IsNamed (node_count list) o.which) query.positive query.negative ready.named in
+      let parts =
+      first_and_second (λ (o : Operand). IsNamed (node_count list) o.which) query.positive
+      query.negative ready.named in
+      let named : All (λ (o : Asked). IsNamed (node_count list) o.which) s.asked.now =
+      subst (All (λ (o : Asked). IsNamed (node_count list) o.which)) (sym for.asked)
+      (All-append (λ (o : Asked). IsNamed (node_count list) o.which)
+      (map (asked_of true) query.positive) (map (asked_of false) query.negative)
+      (all_named true query.positive parts.0) (all_named false query.negative parts.1)) in
       record {
         reduced = reduced;
-        needed = ap length for.needed ∙ (length-needed_by (atoms task) (action_of task query.action) ∙ sym size_now);
-        changed = ap length for.changed ∙ (length-changed_by (atoms task) (action_of task query.action) ∙ sym size_now);
-        asked =
-            subst (All (λ (o : Asked). IsAskable s o.which)) (sym for.asked)
-            (All-append (λ (o : Asked). IsAskable s o.which) (map (asked_of true) query.positive) (map (asked_of false) query.negative)
-            (all_askable table true query.positive parts.0) (all_askable table false query.negative parts.1));
+        needed =
+            ap length for.needed
+            ∙ (length-needed_by (atoms task) (action_of task query.action) ∙ sym size_now);
+        changed =
+            ap length for.changed
+            ∙ (length-changed_by (atoms task) (action_of task query.action) ∙ sym size_now);
+        asked = λ k d less.
+            askable (get_or s.asked.now k d).which
+            (λ goal. table_for s goals (is k d less goal) same) (named k d less);
       }
 
   setting_is : setting s ≡ setting_of list task query
@@ -81,19 +100,26 @@ module _ (list : NodeList) (task : Strips) (query : Query) (s : Search) (for : I
   unless true f = absurd (f refl)
   unless false f = refl
 
-  by_answer : (found : Finding) (budget : ℕ) (state : List Bool) → IsLiveAnswer found (setting_of list task query) (operands_of query) budget state
-      → IsAnswer found (LivePass list task query budget) (atoms task) (is_clash task (in_node list) query) state
+  by_answer : (found : Finding) (budget : ℕ) (state : List Bool)
+      → IsLiveAnswer found (setting_of list task query) (operands_of query) budget state
+      → IsAnswer found (LivePass list task query budget) (atoms task)
+      (is_clash task (in_node list) query) state
   by_answer F.Over budget state says = says
-  by_answer F.Clash budget state says = (says.0, says.1.0.0 ∙ size, clash_from list task query size state t says.1)
+  by_answer F.Clash budget state says =
+      (says.0, says.1.0.0 ∙ size, clash_from list task query size state t says.1)
   by_answer F.Empty budget state says = (
     says.0,
-    λ x in_x. unless (is_clash task (in_node list) query x) (λ clash. says.1 x (suits_from list task query size x t (in_x ∙ sym size) clash)),
+    λ x in_x.
+        unless (is_clash task (in_node list) query x) (λ clash.
+        says.1 x (suits_from list task query size x t (in_x ∙ sym size) clash)),
   )
 
   -- so its answer is that of the query
   pub answer_is : (found : Result Finding AllocError) (budget : ℕ) (state : List Bool)
       → IfOk found (λ f. IsLiveAnswer f (setting s) s.asked.now budget state)
-      → IfOk found (λ f. IsAnswer f (LivePass list task query budget) (atoms task) (is_clash task (in_node list) query) state)
+      → IfOk found (λ f.
+      IsAnswer f (LivePass list task query budget) (atoms task)
+      (is_clash task (in_node list) query) state)
   answer_is (Ok found) budget state says =
       by_answer found budget state
       (subst (λ os. IsLiveAnswer found (setting_of list task query) os budget state) for.asked

@@ -1,7 +1,7 @@
 -- The cube of literals whose atoms differ is what they say together.
-use Rattle.std.proofs.Common.{◌≡◌, ℕ, zero, suc, ◌<◌, ◌≤◌, ◌+◌, ◌∙◌, ◌&&◌, Bool, true, false, not, List, [], ◌∷◌, cond, eqb, ltb, length, map, refl, sym, ap, ap₂, arith, inl, inr, subst}
+use Rattle.std.proofs.Common.{◌≡◌, ℕ, ◌<◌, ◌≤◌, ◌+◌, ◌∙◌, ◌&&◌, Bool, true, false, List, [], ◌∷◌, cond, eqb, ltb, refl, ap, arith}
 use Rattle.std.specs.Prelude.{⊤}
-use Rattle.std.proofs.lemmas.Bool.{cases_Bool, cases_lt, cond-false, cond-true, eqb-true, ltb-false, ltb-true}
+use Rattle.std.proofs.lemmas.Bool.{eqb-true}
 use Rattle.std.proofs.lemmas.List.Elements.{All-cons, All-head, All-nil, All-tail, All-weaker}
 use Rattle.std.specs.List.{All, fold}
 use Rattle.hv_sets.specs.Cubes.{cube_of, put_in}

@@ -1,8 +1,7 @@
 -- The laws of paths of a reduced ordered list: as many as the children have together, and their
 -- cubes are the set or its complement.
-use Rattle.std.proofs.Common.{◌≡◌, ℕ, zero, suc, ◌<◌, ◌≤◌, ◌+◌, ◌-◌, ◌∙◌, ◌&&◌, ◌||◌, Bool, true, false, not, List, [], ◌∷◌, ◌++◌, Option, Some, cond, eqb, ltb, length, map, min, refl, sym, ap, ap₂, arith, inl, inr, subst}
-use Rattle.std.specs.Prelude.{⊤}
-use Rattle.std.proofs.lemmas.Bool.{cases_lt, cond-false, cond-true, eq-eqb, le-ltb, lt-ltb, ne_eqb}
+use Rattle.std.proofs.Common.{◌≡◌, ℕ, zero, suc, ◌<◌, ◌≤◌, ◌+◌, ◌-◌, ◌∙◌, ◌&&◌, ◌||◌, Bool, true, false, not, List, [], ◌∷◌, ◌++◌, Some, cond, eqb, ltb, length, map, refl, sym, ap, ap₂, arith, inl, inr, subst}
+use Rattle.std.proofs.lemmas.Bool.{cases_lt, cond-false, cond-true, eq-eqb, le-ltb, lt-ltb}
 use Rattle.std.proofs.lemmas.List.{length-append, length-map}
 use Rattle.std.proofs.lemmas.List.Elements.{All-append, All-cons, All-head, All-map, All-nil, All-tail, All-weaker}
 use Rattle.std.proofs.lemmas.List.Folds.{list_any-append}
@@ -19,7 +18,7 @@ use Rattle.hv_bdd.specs.Order.{place}
 use Rattle.hv_bdd.specs.Paths.{Stands, at_end, left_at, left_of, path_cubes, paths, paths_in, with_bit}
 use Rattle.hv_bdd.specs.Reduced.{IsReduced, child, node_at, top}
 use Rattle.hv_bdd.specs.Cubed.{Rises, in_cube_of}
-use Rattle.hv_bdd.specs.Walking.{child_later, child_less, in_end, in_inner, top_end, top_inner}
+use Rattle.hv_bdd.specs.Walking.{in_end, in_inner, top_inner}
 
 -- a node's paths, by those of its children
 abbrev pub both : NodeList → (ℕ → List (List Literal)) → ℕ → List (List Literal)

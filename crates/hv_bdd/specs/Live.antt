@@ -2,7 +2,8 @@
 use Rattle.std.specs.Prelude.{◌+◌, ◌-◌, ◌++◌, ℕ, zero, suc, Bool, true, false, List, [], ◌∷◌, Option, None, Some, cond, map, nat_lt, replicate, slice_index_or, slice_set}
 use Rattle.std.proofs.Math.Bool.{beq}
 use Rattle.hv_task.specs.declared.action.Action.{Action}
-use Rattle.hv_task.specs.State.{has_atom, state_of}
+use Rattle.std.specs.List.{range_with_len}
+use Rattle.hv_task.specs.State.{has_atom, names_atom, state_of}
 use Rattle.hv_task.specs.Strips.{Strips, atoms, start_state}
 use Rattle.hv_sets.specs.declared.operand.Operand.{Operand}
 use Rattle.hv_sets.specs.declared.operand.Which.{Which}
@@ -16,11 +17,6 @@ use Rattle.hv_bdd.specs.Reduced as diagram
 use Rattle.hv_bdd.specs.Tuples.{Moves, TuplesPass}
 
 -- Marks: for each atom a bit, or none.
-
--- the marks with this one at each of these atoms
-abbrev pub mark_all : Bool → List ℕ → List (Option Bool) → List (Option Bool)
-mark_all bit [] marks = marks
-mark_all bit (atom ∷ atoms) marks = mark_all bit atoms (slice_set marks atom (Some bit))
 
 -- no marks for so many atoms
 abbrev pub no_marks : ℕ → List (Option Bool)
@@ -40,16 +36,25 @@ abbrev pub is_marked : Option Bool → Bool → Bool
 is_marked None bit = true
 is_marked (Some marked) bit = beq marked bit
 
--- what an action needs: the bit 1 at each atom of its precondition
+-- what an action needs of an atom: the bit 1 where the atom is in its precondition
+abbrev pub needed_at : Action → ℕ → Option Bool
+needed_at action atom = cond (names_atom action.pre atom) (Some true) None
+
+-- what it makes of an atom: the bit 1 where it adds the atom, and 0 where it deletes it and doesn't
+-- add it
+abbrev pub changed_at : Action → ℕ → Option Bool
+changed_at action atom =
+    cond (names_atom action.add atom) (Some true)
+    (cond (names_atom action.del atom) (Some false) None)
+
+-- the marks of all atoms: what an action needs, and what it changes
 abbrev pub needed_by : ℕ → Option Action → List (Option Bool)
 needed_by atoms None = no_marks atoms
-needed_by atoms (Some action) = mark_all true action.pre (no_marks atoms)
+needed_by atoms (Some action) = map (needed_at action) (range_with_len 0 atoms)
 
--- what it changes: the bit is 0 where it deletes an atom, and 1 where it adds one
 abbrev pub changed_by : ℕ → Option Action → List (Option Bool)
 changed_by atoms None = no_marks atoms
-changed_by atoms (Some action) =
-    mark_all true action.add (mark_all false action.del (no_marks atoms))
+changed_by atoms (Some action) = map (changed_at action) (range_with_len 0 atoms)
 
 -- Chains: graphs that ask for some places in their order and want a bit at each. Node v + 2 asks
 -- for place v.

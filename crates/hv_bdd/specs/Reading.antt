@@ -1,5 +1,5 @@
 -- What the reader of node files does with one line, and at the end.
-use Rattle.std.specs.Prelude.{◌≡◌, ◌<◌, ◌++◌, ℕ, List, [], ◌∷◌, Option, None, Some, Result, Ok, Err, length}
+use Rattle.std.specs.Prelude.{◌≡◌, ◌++◌, ℕ, List, [], ◌∷◌, Option, None, Some, Result, Ok, Err, length}
 use Rattle.hv_bytes.specs.declared.cutting.LineFault.{LineFault}
 use Rattle.hv_bytes.specs.declared.cutting.LineFault.TheVariants as L
 use Rattle.hv_bdd.specs.declared.fault.NodeKind.{NodeKind}
@@ -7,7 +7,6 @@ use Rattle.hv_bdd.specs.declared.fault.NodeLimit.TheVariants as W
 use Rattle.hv_bdd.specs.declared.fault.NodesFault.{NodesFault}
 use Rattle.hv_bdd.specs.declared.fault.NodesFault.TheVariants as F
 use Rattle.hv_bdd.specs.declared.node.Node.{Node}
-use Rattle.hv_bdd.specs.declared.numbers.Triple.{Triple}
 use Rattle.hv_bdd.specs.declared.reader.FeedError.{FeedError}
 use Rattle.hv_bdd.specs.declared.reader.FeedError.TheVariants as E
 use Rattle.hv_bdd.specs.declared.reader.Reader.{Reader}

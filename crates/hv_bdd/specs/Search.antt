@@ -1,5 +1,5 @@
 -- The search through live tuples.
-use Rattle.std.specs.Prelude.{◌≡◌, ◌<◌, ◌≤◌, ◌+◌, ◌-◌, ◌++◌, ◌⊎◌, ℕ, Bool, false, List, [], ◌∷◌, Option, None, Some, length, map, slice_index_or, ⊤}
+use Rattle.std.specs.Prelude.{◌≡◌, ◌<◌, ◌≤◌, ◌+◌, ◌-◌, ◌++◌, ◌⊎◌, ℕ, Bool, false, List, [], ◌∷◌, Option, None, Some, length, map, slice_index_or, slice_set, ⊤}
 use Rattle.std.specs.List.{All, Contains}
 use Rattle.indexmap.specs.IndexSet.{IndexSet}
 use Rattle.smallvec.specs.SmallVec.{SmallVec}
@@ -20,6 +20,11 @@ use Rattle.hv_bdd.specs.Live.{Setting, asks_goal, changed_by, first_asked, moves
 use Rattle.hv_bdd.specs.Graphs.{limit}
 use Rattle.hv_bdd.specs.Sets.{mark_literals}
 use Rattle.hv_bdd.specs.Tuples.{IsReached, Moves, if_live, least, next}
+
+-- the marks with this one at each of these atoms
+abbrev pub mark_all : Bool → List ℕ → List (Option Bool) → List (Option Bool)
+mark_all bit [] marks = marks
+mark_all bit (atom ∷ atoms) marks = mark_all bit atoms (slice_set marks atom (Some bit))
 
 -- what the tuples of the search move through
 abbrev pub setting : Search → Setting

@@ -1,20 +1,21 @@
 //! Queries about nodes.
 
-ghost use Rattle.std.specs.Prelude.{◌≡◌, ◌≤◌, ◌<◌, ◌+◌, ◌++◌, ◌∷◌, [], cond, map, length, IfOk, IfSome, None};
+ghost use Rattle.std.specs.Prelude.{true, false, ◌≡◌, ◌≤◌, ◌<◌, ◌+◌, ◌++◌, ◌∷◌, [], cond, map, length, IfOk, IfSome, IsTrue, None, false, ◌↔◌};
 ghost use Rattle.std.specs.List.{All};
 ghost use Rattle.hv_task.specs.State.{AreBelow, state_of};
-ghost use Rattle.hv_task.specs.Strips.{IsState, IsTask, atoms};
+ghost use Rattle.hv_task.specs.Strips.{IsOver, IsState, IsTask, atoms};
 ghost use Rattle.hv_sets.specs.Cost.{IsAnswer};
 ghost use Rattle.hv_sets.specs.Query.{action_of, is_clash};
+ghost use Rattle.hv_sets.specs.declared.operand.Which.TheVariants as W;
 ghost use Rattle.hv_bdd.specs.Nodes.{in_node, node_count};
-ghost use Rattle.hv_bdd.specs.Live.{LivePass, asked_of, asks_goal, changed_by, mark_all, needed_by, no_marks, operands_of};
-ghost use Rattle.hv_bdd.specs.Search.{IsGoalTable, goal_setting};
+ghost use Rattle.hv_bdd.specs.Live.{LivePass, asked_of, asks_goal, changed_by, needed_by, no_marks, operands_of};
+ghost use Rattle.hv_bdd.specs.Search.{IsGoalTable, goal_setting, mark_all};
 
 use crate::asked::Asked;
 use crate::diagrams::Diagrams;
 use crate::search::Search;
-use hv_sets::{Family, Finding, Operand, Query, Scratch};
-use hv_task::{State, Task};
+use hv_sets::{Family, Finding, Operand, Query, Scratch, Which};
+use hv_task::{Action, State, Task};
 use std::alloc::{AllocError, Global};
 
 impl Family for Diagrams {
@@ -41,10 +42,10 @@ impl Family for Diagrams {
         let start = task.start_state(alloc)?;
         let mut goal = State::empty(alloc, task.atoms())?;
         goal.hold(task.goal());
-        let first_goal = goal_table(alloc, self, &goal)?;
         let needed = needed_by(alloc, task, query.action)?;
         let changed = changed_by(alloc, task, query.action)?;
         let asked = operands_of(alloc, query)?;
+        let first_goal = first_goals(alloc, self, &goal, asked.as_slice())?;
         let search = Search {
             nodes: self,
             start: &start,
@@ -109,6 +110,7 @@ fn asked_of(positive: bool, operand: &Operand) -> Asked
 }
 
 // The bits that an action needs.
+#[tactic(auto, using(crate::proofs::Marked::needed_marked))]
 fn needed_by(
     alloc: Global,
     task: &Task,
@@ -118,18 +120,24 @@ fn needed_by(
     ensures { IfOk result (λ marks.
         marks.items ≡ needed_by (atoms task.now) (action_of task.now action)) }
 {
-    let mut marks = vec![in alloc; None; task.atoms() as usize]?;
-    if let Some(number) = action {
-        mark_all(
-            marks.as_mut_slice(),
-            task.action(number).pre.as_slice(),
-            true,
-        );
+    let marks = vec![in alloc; None; task.atoms() as usize]?;
+    match action {
+        None => Ok(marks),
+        Some(number) => Ok(with_needed(marks, task.action(number))),
     }
-    Ok(marks)
+}
+
+// These marks with those of what an action needs.
+fn with_needed(mut marks: Vec<Option<bool>>, action: &Action) -> Vec<Option<bool>>
+    requires { IsOver (length marks.items) action.now }
+    ensures { result.items ≡ mark_all true action.now.pre marks.items }
+{
+    mark_all(marks.as_mut_slice(), action.pre.as_slice(), true);
+    marks
 }
 
 // The bits that an action changes.
+#[tactic(auto, using(crate::proofs::Marked::changed_marked))]
 fn changed_by(
     alloc: Global,
     task: &Task,
@@ -139,13 +147,21 @@ fn changed_by(
     ensures { IfOk result (λ marks.
         marks.items ≡ changed_by (atoms task.now) (action_of task.now action)) }
 {
-    let mut marks = vec![in alloc; None; task.atoms() as usize]?;
-    if let Some(number) = action {
-        let action = task.action(number);
-        mark_all(marks.as_mut_slice(), action.del.as_slice(), false);
-        mark_all(marks.as_mut_slice(), action.add.as_slice(), true);
+    let marks = vec![in alloc; None; task.atoms() as usize]?;
+    match action {
+        None => Ok(marks),
+        Some(number) => Ok(with_changed(marks, task.action(number))),
     }
-    Ok(marks)
+}
+
+// These marks with those of what an action changes.
+fn with_changed(mut marks: Vec<Option<bool>>, action: &Action) -> Vec<Option<bool>>
+    requires { IsOver (length marks.items) action.now }
+    ensures { result.items ≡ mark_all true action.now.add (mark_all false action.now.del marks.items) }
+{
+    mark_all(marks.as_mut_slice(), action.del.as_slice(), false);
+    mark_all(marks.as_mut_slice(), action.add.as_slice(), true);
+    marks
 }
 
 // Marks each of these atoms with a bit.
@@ -156,6 +172,44 @@ fn mark_all(marks: &mut [Option<bool>], atoms: &[u32], bit: bool)
     for atom in atoms {
         marks[*atom as usize] = Some(bit);
     }
+}
+
+// The table for the goal's chain, where the goal is among the operands.
+fn first_goals(
+    alloc: Global,
+    nodes: &Diagrams,
+    goal: &State,
+    asked: &[Asked],
+) -> Result<Vec<u32>, AllocError>
+    requires goal { length goal.now ≡ nodes.now.atoms }
+    requires few { nodes.now.atoms ≤ 65535 }
+    ensures { IfOk result (λ table. All
+        (λ o. o.which ≡ W.Goal → IsGoalTable (goal_setting nodes.now goal.now) table.items)
+        asked.now) }
+{
+    if !asks_goal(asked) {
+        return Ok(Vec::new(alloc));
+    }
+    let table = goal_table(alloc, nodes, goal)?;
+    Ok(table)
+}
+
+// Whether the goal is among the operands.
+fn asks_goal(asked: &[Asked]) -> bool
+    ensures { result ≡ false → All (λ o. o.which ≡ W.Goal → ⊥) asked.now }
+{
+    for one in asked {
+        if is_goal(one.which) {
+            return true;
+        }
+    }
+    false
+}
+
+fn is_goal(which: Which) -> bool
+    ensures { IsTrue result ↔ (which ≡ W.Goal) }
+{
+    matches!(which, Which::Goal)
 }
 
 // The first node of the goal's chain from each place on.

@@ -1,6 +1,7 @@
-ghost use Rattle.std.specs.Prelude.{◌≡◌, ◌<◌, ◌≤◌, ◌^◌, false, None, IfOk, length};
+ghost use Rattle.std.specs.Prelude.{◌≡◌, ◌<◌, ◌≤◌, ◌^◌, false, None, IfOk, OnOk, length};
 ghost use Rattle.hv_task.specs.State.{AreBelow};
 ghost use Rattle.hv_task.specs.Strips.{atoms};
+ghost use Rattle.hv_sets.specs.Cubes.{SpeakBelow};
 ghost use Rattle.hv_sets.specs.Query.{IsNamed, IsReady};
 ghost use Rattle.hv_sets.specs.declared.finding.Finding.TheVariants as F;
 ghost use Rattle.hv_bdd.specs.Nodes.{node_count};
@@ -8,7 +9,8 @@ ghost use Rattle.hv_bdd.specs.Nodes.{node_count};
 use crate::{Diagrams, NodesFault, read_nodes};
 use hv_bytes::{Limits, MemoryShelf, SureShelf};
 use hv_sets::{
-    Cube, Cursor, Family, Finding, Inside, Operand, Operands, Outside, Query, Scratch, Step, Which,
+    Covering, Cube, Cursor, Family, Finding, Inside, Literal, Operand, Operands, Outside, Query,
+    Scratch, StateSet, Step, Which,
 };
 use hv_task::{Action, AtomList, Name, State, Task};
 use std::alloc::{AllocError, Global};
@@ -523,6 +525,103 @@ fn walks_part_the_states(rt: HostRuntime) -> Result<(), Fail> {
             assert_eq!(rt; within, (one_if(held), inside));
             let without = outside_walk(rt.alloc(), &set, &state)?;
             assert_eq!(rt; without, (one_if(!held), outside));
+        }
+    }
+    Ok(())
+}
+
+// Puts the literal of the atom into the cube that the digit says: none, the atom, or its negation.
+fn put_literal(cube: &mut Cube, atom: u32, digit: usize) -> Result<(), AllocError>
+    requires atom { atom < 3 }
+    requires cube { SpeakBelow 3 cube.old }
+    ensures { OnOk result (SpeakBelow 3 cube.new) }
+{
+    if digit == 0 {
+        return Ok(());
+    }
+    let positive = digit == 1;
+    cube.add(Literal { atom, positive })?;
+    Ok(())
+}
+
+// The cube of a number below 27, whose digits to the base of three are those of the atoms.
+fn cube_from(alloc: Global, number: usize) -> Result<Cube, AllocError>
+    ensures { IfOk result (SpeakBelow 3) }
+{
+    let mut cube = Cube::new(alloc);
+    put_literal(&mut cube, 0, number % 3)?;
+    put_literal(&mut cube, 1, number / 3 % 3)?;
+    put_literal(&mut cube, 2, number / 9)?;
+    Ok(cube)
+}
+
+fn fits(digit: usize, bit: usize) -> bool {
+    digit == 0 || (digit == 1) == (bit == 1)
+}
+
+// Whether the state of this number is in the cube, and in the node or outside it.
+fn is_among(node: usize, cube: usize, inside: bool, number: usize) -> bool
+    requires node { node < 8 }
+    requires number { number < 8 }
+{
+    let within = fits(cube % 3, number % 2)
+        && fits(cube / 3 % 3, number / 2 % 2)
+        && fits(cube / 9, number / 4);
+    within && is_in(node, number) == inside
+}
+
+// Whether some state is.
+fn is_some_among(node: usize, cube: usize, inside: bool) -> bool
+    requires { node < 8 }
+{
+    for number in 0..8 {
+        if is_among(node, cube, inside, number) {
+            return true;
+        }
+    }
+    false
+}
+
+// Whether the node meets the cube exactly where some state says so, and shows one.
+fn is_met(alloc: Global, list: &Diagrams, node: usize, cube: usize) -> Result<bool, AllocError>
+    requires atoms { list.now.atoms ≡ 3 }
+    requires nodes { node_count list.now ≡ 8 }
+    requires node { node < 8 }
+{
+    let set = list.set(node as u32);
+    let limits = cube_from(alloc, cube)?;
+    let mut scratch = Scratch::new(alloc)?;
+    if set.meets(alloc, &limits, &mut scratch)? {
+        return Ok(is_among(node, cube, true, number_of(scratch.state())));
+    }
+    Ok(!is_some_among(node, cube, true))
+}
+
+// The same of covering it, where a state outside is shown.
+fn is_covered(alloc: Global, list: &Diagrams, node: usize, cube: usize) -> Result<bool, AllocError>
+    requires atoms { list.now.atoms ≡ 3 }
+    requires nodes { node_count list.now ≡ 8 }
+    requires node { node < 8 }
+{
+    let set = list.set(node as u32);
+    let limits = cube_from(alloc, cube)?;
+    let mut scratch = Scratch::new(alloc)?;
+    if set.covers(alloc, &limits, &mut scratch)? {
+        return Ok(!is_some_among(node, cube, false));
+    }
+    Ok(is_among(node, cube, false, number_of(scratch.state())))
+}
+
+#[test]
+fn cubes_are_met_and_covered_as_all_states_say(rt: HostRuntime) -> Result<(), Fail> {
+    let list = read(rt.alloc(), SIX, 3, Limits::STANDARD)?;
+    assert_eq!(rt; list.count(), 8);
+    for node in 0..8 {
+        for cube in 0..27 {
+            let met = is_met(rt.alloc(), &list, node, cube)?;
+            assert!(rt; met, "{cube} met by {node}");
+            let covered = is_covered(rt.alloc(), &list, node, cube)?;
+            assert!(rt; covered, "{cube} covered by {node}");
         }
     }
     Ok(())

@@ -1,5 +1,5 @@
 use Rattle.std.proofs.Common.{◌≡◌, drop}
-use Rattle.hv_bdd.specs.Live.{mark_all}
+use Rattle.hv_bdd.specs.Search.{mark_all}
 use Rattle.hv_bdd.proofs.family.mark_all.Given as goal
 
 abbrev pub invariant-loop-atom : goal.invariant-loop-atom

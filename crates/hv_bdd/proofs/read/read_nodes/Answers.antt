@@ -12,7 +12,8 @@ use Rattle.hv_bdd.proofs.read.read_nodes.Goals as goal
 pub reading-init : goal.reading-init
 reading-init g c =
     let e = c.in_ok-lines.ensures in (
-      follows_first _ _ c.args.limits _ c.new-reader.result c.in_ok-lines.lines c.in_ok-open.ensures.opened c.new-reader.ensures.ready
+      follows_first _ _ c.args.limits _ c.new-reader.result c.in_ok-lines.lines
+          c.in_ok-open.ensures.opened c.new-reader.ensures.ready
           c.new-reader.ensures.count e,
       ap (λ (l : NodeList). l.atoms) c.new-reader.ensures.list,
       ap (λ l. l.live) e,
@@ -33,13 +34,19 @@ returns-in-Err-feed-clause-read g c =
     let before = coming_of c.reading.lines (g.S.Shelf.left c.reading.shelf) in
     let after = coming_of c.next.new.self (g.S.Shelf.left c.next.new.shelf) in
     let line = c.line.result.now in
-    known (g.S.Shelf.held c.args.shelf.now) c.args.name.now (λ bytes. IsReadFrom c.args.limits c.args.atoms bytes (Err c.at.result))
-    (feed_fault c.args.limits c.args.atoms (file_of (g.S.Shelf.held c.args.shelf.now) c.args.name.now) c.reading.reader c.reading.lines.number
+    known (g.S.Shelf.held c.args.shelf.now) c.args.name.now (λ bytes.
+    IsReadFrom c.args.limits c.args.atoms bytes (Err c.at.result))
+    (feed_fault c.args.limits c.args.atoms
+    (file_of (g.S.Shelf.held c.args.shelf.now) c.args.name.now) c.reading.reader
+    c.reading.lines.number
     c.reading.lines.earlier before c.reading.invariant.0 c.reading.invariant.1
     c.feed.new.self c.number.result after line c.in-Err-feed.error c.at.result
     (subst (λ l. TakesLine before after l) (sym c.line.ensures) (c.in-Ok-Line.ensures.line (cc)))
-    (subst (λ (limits : Limits). FitsLimits limits.line limits.file c.reading.lines.earlier (length line)) c.reading.invariant.3
-    (subst (λ l. FitsLimits c.reading.lines.limits.line c.reading.lines.limits.file c.reading.lines.earlier (length l)) (sym c.line.ensures)
+    (subst (λ (limits : Limits). FitsLimits limits.line limits.file c.reading.lines.earlier
+    (length line)) c.reading.invariant.3
+    (subst (λ l.
+    FitsLimits c.reading.lines.limits.line c.reading.lines.limits.file c.reading.lines.earlier
+    (length l)) (sym c.line.ensures)
     (c.in-Ok-Line.ensures.fits (cc))))
     (c.number.ensures ∙ c.in-Ok-Line.ensures.number (cc))
     c.in-Err-feed.ensures
@@ -50,14 +57,20 @@ reading-preserved g c =
     let before = coming_of c.reading.lines (g.S.Shelf.left c.reading.shelf) in
     let after = coming_of c.next.new.self (g.S.Shelf.left c.next.new.shelf) in
     let line = c.line.result.now in (
-      follows_more c.args.limits c.args.atoms (file_of (g.S.Shelf.held c.args.shelf.now) c.args.name.now) c.reading.reader
-          c.reading.lines.number c.reading.lines.earlier before c.reading.invariant.0 c.reading.invariant.1
+      follows_more c.args.limits c.args.atoms
+          (file_of (g.S.Shelf.held c.args.shelf.now) c.args.name.now) c.reading.reader
+          c.reading.lines.number c.reading.lines.earlier before c.reading.invariant.0
+          c.reading.invariant.1
           c.feed.new.self c.next.new.self.number c.next.new.self.earlier after line
           c.in_default.ensures
-          (subst (λ l. TakesLine before after l) (sym c.line.ensures) (c.in-Ok-Line.ensures.line (cc)))
+          (subst (λ l. TakesLine before after l) (sym c.line.ensures)
+          (c.in-Ok-Line.ensures.line (cc)))
           c.in-Ok-Line.ensures.earlier
-          (subst (λ (limits : Limits). FitsLimits limits.line limits.file c.reading.lines.earlier (length line)) c.reading.invariant.3
-          (subst (λ l. FitsLimits c.reading.lines.limits.line c.reading.lines.limits.file c.reading.lines.earlier (length l)) (sym c.line.ensures)
+          (subst (λ (limits : Limits). FitsLimits limits.line limits.file c.reading.lines.earlier
+          (length line)) c.reading.invariant.3
+          (subst (λ l.
+          FitsLimits c.reading.lines.limits.line c.reading.lines.limits.file
+          c.reading.lines.earlier (length l)) (sym c.line.ensures)
           (c.in-Ok-Line.ensures.fits (cc))))
           (c.in-Ok-Line.ensures.number (cc)),
       c.in_default.ensures.1 ∙ c.reading.invariant.1,
@@ -70,22 +83,32 @@ reading-preserved g c =
 
 pub returns-in-Ok-End-clause-read : goal.returns-in-Ok-End-clause-read
 returns-in-Ok-End-clause-read g c =
-    known (g.S.Shelf.held c.args.shelf.now) c.args.name.now (λ bytes. IsReadFrom c.args.limits c.args.atoms bytes c.end.result)
-    (end_answer c.args.limits c.args.atoms (file_of (g.S.Shelf.held c.args.shelf.now) c.args.name.now) c.reading.reader c.reading.lines.number
-    c.reading.lines.earlier (coming_of c.reading.lines (g.S.Shelf.left c.reading.shelf)) c.reading.invariant.0 c.reading.invariant.1
+    known (g.S.Shelf.held c.args.shelf.now) c.args.name.now (λ bytes.
+    IsReadFrom c.args.limits c.args.atoms bytes c.end.result)
+    (end_answer c.args.limits c.args.atoms
+    (file_of (g.S.Shelf.held c.args.shelf.now) c.args.name.now) c.reading.reader
+    c.reading.lines.number
+    c.reading.lines.earlier (coming_of c.reading.lines (g.S.Shelf.left c.reading.shelf))
+    c.reading.invariant.0 c.reading.invariant.1
     (c.number-in-Ok-End.result + 1) c.end.result
     (c.in-Ok-End.ensures.end (cc))
     c.end.ensures
-    (ap (λ n. n + 1) (c.number-in-Ok-End.ensures ∙ ap (λ l. l.number) (c.in-Ok-End.ensures.same (cc)))))
+    (ap (λ n. n + 1)
+    (c.number-in-Ok-End.ensures ∙ ap (λ l. l.number) (c.in-Ok-End.ensures.same (cc)))))
 
 pub returns-in-Err-clause-read : goal.returns-in-Err-clause-read
 returns-in-Err-clause-read g c =
     let coming = coming_of c.reading.lines (g.S.Shelf.left c.reading.shelf) in
-    known (g.S.Shelf.held c.args.shelf.now) c.args.name.now (λ bytes. IsReadFrom c.args.limits c.args.atoms bytes (Err c.line_fault.result))
-    (line_fault_answer c.args.limits c.args.atoms (file_of (g.S.Shelf.held c.args.shelf.now) c.args.name.now) c.reading.reader c.reading.lines.number
+    known (g.S.Shelf.held c.args.shelf.now) c.args.name.now (λ bytes.
+    IsReadFrom c.args.limits c.args.atoms bytes (Err c.line_fault.result))
+    (line_fault_answer c.args.limits c.args.atoms
+    (file_of (g.S.Shelf.held c.args.shelf.now) c.args.name.now) c.reading.reader
+    c.reading.lines.number
     c.reading.lines.earlier coming c.reading.invariant.0 c.reading.invariant.1
     (c.number-in-Err.result + 1) c.in-Err.fault c.line_fault.result
-    (λ e. subst (λ (limits : Limits). BeginsLong coming limits.line limits.file c.reading.lines.earlier) c.reading.invariant.3
+    (λ e. subst
+    (λ (limits : Limits). BeginsLong coming limits.line limits.file c.reading.lines.earlier)
+    c.reading.invariant.3
     (c.in-Err.ensures.long (ap (λ f. Err f) e)))
     (ap (λ n. n + 1) (c.number-in-Err.ensures ∙ c.in-Err.ensures.same_number))
     c.line_fault.ensures)

@@ -6,11 +6,13 @@ use Rattle.hv_bdd.proofs.read.read_nodes.Given as goal
 
 abbrev pub invariant-reading : goal.invariant-reading
 invariant-reading g l =
-    Follows l.fn.limits (file_of (g.S.Shelf.held l.fn.shelf) l.fn.name) l.reader l.lines.number l.lines.earlier
+    Follows l.fn.limits (file_of (g.S.Shelf.held l.fn.shelf) l.fn.name) l.reader l.lines.number
+    l.lines.earlier
     (coming_of l.lines (g.S.Shelf.left l.shelf))
     × (l.reader.list.atoms ≡ l.fn.atoms)
     × (l.lines.live ≡ true) × (l.lines.limits ≡ l.fn.limits)
-    × (g.S.Shelf.held l.shelf ≡ g.S.Shelf.held l.fn.shelf) × (g.S.Shelf.allows l.shelf ≡ g.S.Shelf.allows l.fn.shelf)
+    × (g.S.Shelf.held l.shelf ≡ g.S.Shelf.held l.fn.shelf)
+    × (g.S.Shelf.allows l.shelf ≡ g.S.Shelf.allows l.fn.shelf)
     × (g.S.Shelf.faults l.fn.shelf ≤ g.S.Shelf.faults l.shelf)
 
 abbrev pub decreases-reading : goal.decreases-reading

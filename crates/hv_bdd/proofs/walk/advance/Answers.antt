@@ -1,4 +1,4 @@
-use Rattle.std.proofs.Common.{◌≡◌, ◌∙◌, ◌∷◌, [], Ok, sym, ap, arith, refl}
+use Rattle.std.proofs.Common.{◌∙◌, ◌∷◌, [], Ok, sym, ap, arith}
 use Rattle.hv_bdd.specs.Paths.{left_of, literals_of}
 use Rattle.hv_bdd.proofs.Stacked.{gives, left_later, none_left}
 use Rattle.hv_bdd.proofs.walk.advance.Goals as goal
@@ -9,7 +9,8 @@ returns-then-not-branch-clause-over c = λ _.
     let e = c.args.end in
     let clauses = c.in_ok-start_or_turn.ensures in
     left_later list e c.args.root c.start_or_turn.new.cursor clauses.place
-    ∙ (ap (λ path. left_of list e path []) (clauses.empty (ap (λ b. Ok b) c.if-not-branch.true)) ∙ none_left list e [] (omega arith))
+    ∙ (ap (λ path. left_of list e path []) (clauses.empty (ap (λ b. Ok b) c.if-not-branch.true))
+    ∙ none_left list e [] (omega arith))
 
 pub returns-clause-more : goal.returns-clause-more
 returns-clause-more c = λ _.
@@ -22,4 +23,6 @@ returns-clause-more c = λ _.
     ∙ (sym down.left
     ∙ (gives list e path down.stack.some c.requires.end
     ∙ ap (λ left. literals_of list path ∷ left)
-    (sym (left_later list e c.args.root (record { place = c.start_or_turn.new.cursor.place; path = c.descend.new.path }) clauses.place))))
+    (sym (left_later list e c.args.root
+    (record { place = c.start_or_turn.new.cursor.place; path = c.descend.new.path })
+    clauses.place))))

@@ -1,5 +1,4 @@
-use Rattle.std.proofs.Common.{◌≡◌, ◌<◌, ◌-◌}
-use Rattle.hv_bdd.specs.Nodes.{node_count}
+use Rattle.std.proofs.Common.{◌≡◌, ◌-◌}
 use Rattle.hv_bdd.specs.Paths.{IsStack, last_of, left_of, paths}
 use Rattle.hv_bdd.proofs.walk.descend.Given as goal
 

@@ -1,4 +1,4 @@
-use Rattle.std.proofs.Common.{◌≡◌, ◌<◌, ◌≤◌, ◌-◌, ◌+◌, ◌∙◌, ◌++◌, ◌∷◌, [], eqb, get_or, sym, ap, ap₂, subst, take, refl, arith}
+use Rattle.std.proofs.Common.{◌≡◌, ◌<◌, ◌≤◌, ◌-◌, ◌+◌, ◌∙◌, ◌++◌, ◌∷◌, [], eqb, get_or, sym, ap, subst, take, arith}
 use Rattle.std.proofs.lemmas.List.{length-take}
 use Rattle.std.proofs.lemmas.List.Elements.{All-nil}
 use Rattle.std.proofs.lemmas.List.Sums.{fold-append}
@@ -14,8 +14,10 @@ use Rattle.hv_bdd.proofs.walk.fill.Goals as goal
 pub loop-at-init : goal.loop-at-init
 loop-at-init c =
     let size = length-take 1 c.args.path.now in record {
-      cube = c.clear.ensures ∙ sym (ap cube_of (literals_few c.args.nodes.now (take 1 c.args.path.now) (omega arith)));
-      below = subst (SpeakBelow c.args.nodes.now.atoms) (sym c.clear.ensures) (All-nil (λ (l : Literal). l.atom < c.args.nodes.now.atoms));
+      cube = c.clear.ensures ∙ sym
+          (ap cube_of (literals_few c.args.nodes.now (take 1 c.args.path.now) (omega arith)));
+      below = subst (SpeakBelow c.args.nodes.now.atoms) (sym c.clear.ensures)
+          (All-nil (λ (l : Literal). l.atom < c.args.nodes.now.atoms));
     }
 
 pub loop-at-preserved : goal.loop-at-preserved
@@ -33,15 +35,23 @@ loop-at-preserved c =
     let one = last_one path k at (omega arith) (omega arith) in
     let placed : c.add.new.self ≡ put_in literal c.loop-at.cube =
     c.in_ok-add.ensures.placed
-    ∙ ap (λ (x : Node). put_in (record { atom = x.atom; positive = eqb m x.high }) c.loop-at.cube) c.node-node.ensures in
-    let longer : literals_of list (take (at + 1) path) ≡ literals_of list (take at path) ++ literal ∷ [] =
-    ap (literals_of list) two ∙ (literals_push list (take k path) n m ∙ ap (λ p. literals_of list p ++ literal ∷ []) (sym one)) in
-    let cube : cube_of (literals_of list (take (at + 1) path)) ≡ put_in literal (cube_of (literals_of list (take at path))) =
-    ap cube_of longer ∙ fold-append (λ cube l. put_in l cube) [] (literals_of list (take at path)) (literal ∷ []) in
+    ∙ ap (λ (x : Node). put_in (record { atom = x.atom; positive = eqb m x.high }) c.loop-at.cube)
+    c.node-node.ensures in
+    let longer : literals_of list (take (at + 1) path)
+    ≡ literals_of list (take at path) ++ literal ∷ [] =
+    ap (literals_of list) two
+    ∙ (literals_push list (take k path) n m
+    ∙ ap (λ p. literals_of list p ++ literal ∷ []) (sym one)) in
+    let cube : cube_of (literals_of list (take (at + 1) path))
+    ≡ put_in literal (cube_of (literals_of list (take at path))) =
+    ap cube_of longer
+    ∙ fold-append (λ cube l. put_in l cube) [] (literals_of list (take at path)) (literal ∷ [])
+    in
     record {
       cube = placed ∙ (ap (put_in literal) c.loop-at.invariant.cube ∙ sym cube);
       below = subst (SpeakBelow list.atoms) (sym placed)
           (All-put literal (λ (l : Literal). l.atom < list.atoms) c.loop-at.cube
-          (c.atoms-atoms.ensures.reduced.atom n (c.requires.inner k (omega arith)) (c.requires.node k (omega arith)))
+          (c.atoms-atoms.ensures.reduced.atom n (c.requires.inner k (omega arith))
+          (c.requires.node k (omega arith)))
           c.loop-at.invariant.below);
     }

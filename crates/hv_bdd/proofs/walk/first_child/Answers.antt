@@ -10,17 +10,20 @@ returns-then-listed-end-clause-left c = λ front.
     let list = c.args.nodes.now in
     let e = c.args.end in
     let n = c.args.node in
-    subst (λ (m : Node). left_of list e (front ++ n ∷ []) (paths list e n) ≡ left_of list e (front ++ n ∷ m.high ∷ []) (paths list e m.high))
+    subst (λ (m : Node). left_of list e (front ++ n ∷ []) (paths list e n)
+    ≡ left_of list e (front ++ n ∷ m.high ∷ []) (paths list e m.high))
     (sym c.node-listed.ensures)
     (go_high list e c.atoms-atoms.ensures.reduced front n c.requires.inner c.requires.node
-    (no_paths list e (node_at list n).low c.requires.end (sym (ap (λ (m : Node). m.low) c.node-listed.ensures) ∙ c.if-listed-end.true)))
+    (no_paths list e (node_at list n).low c.requires.end
+    (sym (ap (λ (m : Node). m.low) c.node-listed.ensures) ∙ c.if-listed-end.true)))
 
 pub returns-else-listed-end-clause-left : goal.returns-else-listed-end-clause-left
 returns-else-listed-end-clause-left c = λ front.
     let list = c.args.nodes.now in
     let e = c.args.end in
     let n = c.args.node in
-    subst (λ (m : Node). left_of list e (front ++ n ∷ []) (paths list e n) ≡ left_of list e (front ++ n ∷ m.low ∷ []) (paths list e m.low))
+    subst (λ (m : Node). left_of list e (front ++ n ∷ []) (paths list e n)
+    ≡ left_of list e (front ++ n ∷ m.low ∷ []) (paths list e m.low))
     (sym c.node-listed.ensures)
     (go_low list e c.atoms-atoms.ensures.reduced front n c.requires.inner c.requires.node)
 

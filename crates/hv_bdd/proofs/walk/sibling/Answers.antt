@@ -1,4 +1,4 @@
-use Rattle.std.proofs.Common.{◌≡◌, ◌∙◌, ◌++◌, ◌∷◌, [], sym, ap, subst, refl}
+use Rattle.std.proofs.Common.{◌≡◌, ◌∙◌, ◌++◌, ◌∷◌, [], sym, ap, subst}
 use Rattle.std.proofs.lemmas.Bool.{eq-eqb, ne_eqb}
 use Rattle.hv_bdd.specs.declared.node.Node.{Node}
 use Rattle.hv_bdd.specs.Paths.{left_of, paths}
@@ -19,7 +19,8 @@ returns-then-high-end-clause-none c = λ front.
     let is = ap (λ (m : Node). m.high) c.node-high.ensures in
     sym (go_up_low list c.args.end front c.args.node c.args.child
     (ne_eqb c.args.child (node_at list c.args.node).high (λ e. c.if-child-high.false (e ∙ sym is)))
-    (no_paths list c.args.end (node_at list c.args.node).high c.requires.end (sym is ∙ c.if-high-end.true)))
+    (no_paths list c.args.end (node_at list c.args.node).high c.requires.end
+    (sym is ∙ c.if-high-end.true)))
 
 pub returns-clause-some : goal.returns-clause-some
 returns-clause-some c = λ front.
@@ -28,6 +29,9 @@ returns-clause-some c = λ front.
     let n = c.args.node in
     let m = c.args.child in
     let is = ap (λ (m : Node). m.high) c.node-high.ensures in
-    subst (λ h. left_of list e (front ++ n ∷ h ∷ []) (paths list e h) ≡ left_of list e (front ++ n ∷ m ∷ []) [])
+    subst (λ h.
+    left_of list e (front ++ n ∷ h ∷ []) (paths list e h)
+    ≡ left_of list e (front ++ n ∷ m ∷ []) [])
     (sym is)
-    (sym (turn list e front n m (ne_eqb m (node_at list n).high (λ same. c.if-child-high.false (same ∙ sym is)))))
+    (sym (turn list e front n m
+    (ne_eqb m (node_at list n).high (λ same. c.if-child-high.false (same ∙ sym is)))))

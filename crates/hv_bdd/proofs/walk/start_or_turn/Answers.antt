@@ -16,6 +16,8 @@ returns-clause-more c = λ _.
     let e = c.args.end in
     let root = c.args.root in
     let empty = c.requires.stands.first c.if-cursor-ne0.false in
-    subst (λ (s : List ℕ). left_of list e s (paths list e (last_of s)) ≡ left_at list e root c.args.cursor.now)
+    subst (λ (s : List ℕ). left_of list e s (paths list e (last_of s))
+    ≡ left_at list e root c.args.cursor.now)
     (sym (c.in_ok-push.ensures.items ∙ ap (λ s. s ++ root ∷ []) empty))
-    (root_left list e root ∙ sym (left_first list e root c.args.cursor.now (c.if-cursor-ne0.false, empty)))
+    (root_left list e root
+    ∙ sym (left_first list e root c.args.cursor.now (c.if-cursor-ne0.false, empty)))

@@ -9,4 +9,5 @@ returns-clause-none c = λ _.
     let items = c.loop-count.path.items in
     let size = length-take count items in
     let few = c.loop-count-test.false in
-    sym c.loop-count.invariant.left ∙ none_left c.args.nodes.now c.args.end (take count items) (omega arith)
+    sym c.loop-count.invariant.left
+    ∙ none_left c.args.nodes.now c.args.end (take count items) (omega arith)
