@@ -85,15 +85,15 @@ rises_two after x y before i (suc (suc j)) first second less at_first at_second 
 
 -- tests
 
-and_left : (a b : Bool) → (a && b) ≡ true → a ≡ true
+pub and_left : (a b : Bool) → (a && b) ≡ true → a ≡ true
 and_left true b e = refl
 and_left false b e = absurd (cc (e))
 
-and_right : (a b : Bool) → (a && b) ≡ true → b ≡ true
+pub and_right : (a b : Bool) → (a && b) ≡ true → b ≡ true
 and_right true b e = e
 and_right false b e = absurd (cc (e))
 
-not_out : (b : Bool) → not b ≡ true → b ≡ true → ⊥
+pub not_out : (b : Bool) → not b ≡ true → b ≡ true → ⊥
 not_out true e is = cc (e)
 not_out false e is = cc (is)
 
@@ -101,7 +101,7 @@ never : (b : Bool) → (b ≡ true → ⊥) → b ≡ false
 never true out = absurd (out refl)
 never false out = refl
 
-each_mapped : {A B : Type 0} (p : B → Bool) (f : A → B) (xs : List A) → list_all p (map f xs) ≡ true → (a : A) → Contains xs a → p (f a) ≡ true
+pub each_mapped : {A B : Type 0} (p : B → Bool) (f : A → B) (xs : List A) → list_all p (map f xs) ≡ true → (a : A) → Contains xs a → p (f a) ≡ true
 each_mapped p f [] all a c = absurd (nothing_in a c)
 each_mapped p f (x ∷ xs) all a c =
     elim (cons_cases x xs a c) [
@@ -109,16 +109,16 @@ each_mapped p f (x ∷ xs) all a c =
       | inr there ↦ each_mapped p f xs (and_right (p (f x)) (list_all p (map f xs)) all) a there
     ]
 
-got_mapped : {X Y : Type 0} (f : X → Y) (found : Option X) (y : Y) → option_map f found ≡ Some y → (x : X) × (found ≡ Some x) × (f x ≡ y)
+pub got_mapped : {X Y : Type 0} (f : X → Y) (found : Option X) (y : Y) → option_map f found ≡ Some y → (x : X) × (found ≡ Some x) × (f x ≡ y)
 got_mapped f None y e = absurd (cc (e))
 got_mapped f (Some x) y e = (x, refl, same_Some (f x) y e)
 
-got_in : {X : Type 0} (xs : List X) (k : ℕ) (x : X) → slice_get xs k ≡ Some x → Contains xs x
+pub got_in : {X : Type 0} (xs : List X) (k : ℕ) (x : X) → slice_get xs k ≡ Some x → Contains xs x
 got_in xs k x at =
     let within = slice_get_within xs k x at in
     (k, within, same_Some (get_or xs k x) x (sym (slice_get-get_or xs k x within) ∙ at))
 
-slice_get_some : {X : Type 0} (xs : List X) (k : ℕ) → k < length xs → (x : X) × (slice_get xs k ≡ Some x)
+pub slice_get_some : {X : Type 0} (xs : List X) (k : ℕ) → k < length xs → (x : X) × (slice_get xs k ≡ Some x)
 slice_get_some [] k below = absurd (omega (arith, below))
 slice_get_some (x ∷ xs) zero below = (x, refl)
 slice_get_some (x ∷ xs) (suc k) below = slice_get_some xs k (omega (arith, below))

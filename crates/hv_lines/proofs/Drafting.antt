@@ -5,7 +5,7 @@ use Rattle.std.specs.List.{All}
 use Rattle.hv_task.specs.State.{AreBelow}
 use Rattle.hv_task.specs.Strips.{Strips}
 use Rattle.hv_lines.specs.Drafts.{IsGoodNext, IsGoodTable, conclusion, draft_setting, onto, prelude}
-use Rattle.hv_lines.specs.Good.{AreGood, ExprIsWithin, IsBasicWord, IsBuiltWord, IsFormed, IsGood, IsOfItsFamily}
+use Rattle.hv_lines.specs.Good.{AreGood, ExprIsWithin, IsBasicWord, IsFormed, IsGood, IsOfItsFamily}
 use Rattle.hv_lines.specs.Judged.{Concludes}
 use Rattle.hv_lines.specs.Numbering.{ExprRefersBelow, IsTable, SpeaksBelow, acts_count, expr_at, expr_count, known_count, statement_at}
 use Rattle.hv_lines.specs.Rules.{Fits}
@@ -59,15 +59,14 @@ module _ (setting : Setting) (lines : List Line) where
       → ExprRefersBelow (acts_count lines) (expr_count lines) expr → ExprIsWithin setting.task setting.nodes expr
       → IsOfItsFamily expr → IsFormed setting lines (L.Expr id expr)
   formed_expr id expr at fits is refers within family =
-      record { spelled = (at, fits); built = tt; numbered = is; known = (refers, within); family = family }
+      record { spelled = (at, fits); numbered = is; known = (refers, within); family = family }
 
   pub formed_known : (id : ℕ) (statement : Statement) (word : Word) (premises : List ℕ) → FitsDecimal id → StatementFits statement
-      → All FitsDecimal premises → premises_of statement word ≡ Some (length premises) → IsBuiltWord word → id ≡ known_count lines
+      → All FitsDecimal premises → premises_of statement word ≡ Some (length premises) → id ≡ known_count lines
       → SpeaksBelow (acts_count lines) (expr_count lines) statement → AreBelow (known_count lines) premises
       → IsFormed setting lines (L.Known id statement word premises)
-  formed_known id statement word premises at says fit many built is speaks below = record {
+  formed_known id statement word premises at says fit many is speaks below = record {
     spelled = (at, says, fit, many);
-    built = built;
     numbered = is;
     known = ((speaks, below), tt);
     family = tt;
@@ -91,17 +90,17 @@ small_number : (n : ℕ) → n < 10 → FitsDecimal n
 small_number n small = omega (arith, small)
 
 module _ (task : Strips) where
-  abbrev P1 : List Line
-  P1 = L.Acts 0 A.All ∷ []
+  abbrev all_actions : List Line
+  all_actions = L.Acts 0 A.All ∷ []
 
-  abbrev P2 : List Line
-  P2 = L.Expr 0 (E.Constant C.Empty) ∷ P1
+  abbrev with_empty : List Line
+  with_empty = L.Expr 0 (E.Constant C.Empty) ∷ all_actions
 
-  abbrev P3 : List Line
-  P3 = L.Expr 1 (E.Constant C.Start) ∷ P2
+  abbrev with_start : List Line
+  with_start = L.Expr 1 (E.Constant C.Start) ∷ with_empty
 
-  abbrev P4 : List Line
-  P4 = L.Expr 2 (E.Constant C.Goal) ∷ P3
+  abbrev with_goal : List Line
+  with_goal = L.Expr 2 (E.Constant C.Goal) ∷ with_start
 
   constant_next : (lines : List Line) (id : ℕ) (constant : Constant) → id < 10
       → id ≡ expr_count lines → IsGoodNext task lines (L.Expr id (E.Constant constant))
@@ -115,24 +114,23 @@ module _ (task : Strips) where
   pub good_prelude : IsGoodTable task (onto prelude [])
   good_prelude = (
     record {
-      good = good_rule (draft_setting task) P4 0 (T.Dead 0) W.Ed [] (λ basic. basic)
-          (formed_known (draft_setting task) P4 0 (T.Dead 0) W.Ed [] (small_number 0 (omega arith)) (small_number 0 (omega arith))
-          (All-nil FitsDecimal) refl tt refl (omega arith) (All-nil (λ x. x < 0)))
+      good = good_rule (draft_setting task) with_goal 0 (T.Dead 0) W.Ed [] (λ basic. basic)
+          (formed_known (draft_setting task) with_goal 0 (T.Dead 0) W.Ed [] (small_number 0 (omega arith)) (small_number 0 (omega arith))
+          (All-nil FitsDecimal) refl refl (omega arith) (All-nil (λ x. x < 0)))
           refl;
       short = short_known 0 (T.Dead 0) W.Ed [] (small_number 0 (omega arith)) (small_number 0 (omega arith)) (All-nil FitsDecimal)
           (omega arith) (omega arith);
     },
     (
-      constant_next P3 2 C.Goal (omega arith) refl,
+      constant_next with_start 2 C.Goal (omega arith) refl,
       (
-        constant_next P2 1 C.Start (omega arith) refl,
+        constant_next with_empty 1 C.Start (omega arith) refl,
         (
-          constant_next P1 0 C.Empty (omega arith) refl,
+          constant_next all_actions 0 C.Empty (omega arith) refl,
           (
             record {
               good = good_acts (draft_setting task) [] 0 A.All record {
                 spelled = (small_number 0 (omega arith), tt);
-                built = tt;
                 numbered = refl;
                 known = (tt, tt);
                 family = tt;
@@ -152,11 +150,11 @@ module _ (task : Strips) where
       (dead_fits : FitsDecimal dead) (start : expr_at old 1 ≡ Some (E.Constant C.Start)) (there : dead < expr_count old)
       (says : statement_at old by ≡ Some (T.Dead dead))
       (first : IsGood (draft_setting task) old (L.Known k (T.Sub 1 dead) W.B1 [])) where
-    abbrev L1 : List Line
-    L1 = L.Known k (T.Sub 1 dead) W.B1 [] ∷ old
+    abbrev with_inclusion : List Line
+    with_inclusion = L.Known k (T.Sub 1 dead) W.B1 [] ∷ old
 
-    abbrev L2 : List Line
-    L2 = L.Known (k + 1) (T.Dead 1) W.Sd (k ∷ by ∷ []) ∷ L1
+    abbrev with_dead_start : List Line
+    with_dead_start = L.Known (k + 1) (T.Dead 1) W.Sd (k ∷ by ∷ []) ∷ with_inclusion
 
     table : IsTable old
     table = table_of task old good
@@ -167,7 +165,7 @@ module _ (task : Strips) where
     start_below : 1 < expr_count old
     start_below = expr_below old 1 (E.Constant C.Start) table start
 
-    good1 : IsGoodTable task L1
+    good1 : IsGoodTable task with_inclusion
     good1 = (
       record {
         good = first;
@@ -177,16 +175,16 @@ module _ (task : Strips) where
       good,
     )
 
-    says1 : statement_at L1 by ≡ Some (T.Dead dead)
-    says1 = known_onto (L.Known k (T.Sub 1 dead) W.B1 [] ∷ []) old by (T.Dead dead) (table_of task L1 good1) says
+    says1 : statement_at with_inclusion by ≡ Some (T.Dead dead)
+    says1 = known_onto (L.Known k (T.Sub 1 dead) W.B1 [] ∷ []) old by (T.Dead dead) (table_of task with_inclusion good1) says
 
-    good2 : IsGoodTable task L2
+    good2 : IsGoodTable task with_dead_start
     good2 = (
       record {
-        good = good_rule (draft_setting task) L1 (k + 1) (T.Dead 1) W.Sd (k ∷ by ∷ []) (λ basic. basic)
-            (formed_known (draft_setting task) L1 (k + 1) (T.Dead 1) W.Sd (k ∷ by ∷ []) (omega (arith, few)) (small_number 1 (omega arith))
+        good = good_rule (draft_setting task) with_inclusion (k + 1) (T.Dead 1) W.Sd (k ∷ by ∷ []) (λ basic. basic)
+            (formed_known (draft_setting task) with_inclusion (k + 1) (T.Dead 1) W.Sd (k ∷ by ∷ []) (omega (arith, few)) (small_number 1 (omega arith))
             (All-cons FitsDecimal k (by ∷ []) (omega (arith, few)) (All-cons FitsDecimal by [] (omega (arith, few, by_below)) (All-nil FitsDecimal)))
-            refl tt (omega (arith, is)) start_below (below_two (known_count L1) k by (omega (arith, is)) (omega (arith, is, by_below))))
+            refl (omega (arith, is)) start_below (below_two (known_count with_inclusion) k by (omega (arith, is)) (omega (arith, is, by_below))))
             (dead, statement_at_here k (T.Sub 1 dead) W.B1 [] old, says1);
         short = short_known (k + 1) (T.Dead 1) W.Sd (k ∷ by ∷ []) (omega (arith, few)) (small_number 1 (omega arith))
             (All-cons FitsDecimal k (by ∷ []) (omega (arith, few)) (All-cons FitsDecimal by [] (omega (arith, few, by_below)) (All-nil FitsDecimal)))
@@ -195,17 +193,17 @@ module _ (task : Strips) where
       good1,
     )
 
-    start2 : expr_at L2 1 ≡ Some (E.Constant C.Start)
+    start2 : expr_at with_dead_start 1 ≡ Some (E.Constant C.Start)
     start2 = start
 
     pub good_conclusion : IsGoodTable task (onto (conclusion k dead by) old)
     good_conclusion = (
       record {
-        good = good_rule (draft_setting task) L2 (k + 2) T.Unsolvable W.Ci ((k + 1) ∷ []) (λ basic. basic)
-            (formed_known (draft_setting task) L2 (k + 2) T.Unsolvable W.Ci ((k + 1) ∷ []) (omega (arith, few)) tt
+        good = good_rule (draft_setting task) with_dead_start (k + 2) T.Unsolvable W.Ci ((k + 1) ∷ []) (λ basic. basic)
+            (formed_known (draft_setting task) with_dead_start (k + 2) T.Unsolvable W.Ci ((k + 1) ∷ []) (omega (arith, few)) tt
             (All-cons FitsDecimal (k + 1) [] (omega (arith, few)) (All-nil FitsDecimal))
-            refl tt (omega (arith, is)) tt (below_one (known_count L2) (k + 1) (omega (arith, is))))
-            (1, statement_at_here (k + 1) (T.Dead 1) W.Sd (k ∷ by ∷ []) L1, start2);
+            refl (omega (arith, is)) tt (below_one (known_count with_dead_start) (k + 1) (omega (arith, is))))
+            (1, statement_at_here (k + 1) (T.Dead 1) W.Sd (k ∷ by ∷ []) with_inclusion, start2);
         short = short_known (k + 2) T.Unsolvable W.Ci ((k + 1) ∷ []) (omega (arith, few)) tt
             (All-cons FitsDecimal (k + 1) [] (omega (arith, few)) (All-nil FitsDecimal)) (omega arith) (omega arith);
       },

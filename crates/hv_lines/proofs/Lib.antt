@@ -14,4 +14,6 @@ pub mod Judging
 pub mod Lengths
 pub mod Carried
 pub mod Basics
+pub mod Untrue
 pub mod Drafting
+pub mod Extended

@@ -16,6 +16,14 @@ module _ (lines : List Line) (word : Word) (left right : ℕ) where
       let none : step_of W.B1 step.0 ≡ Some (set, acts) = subst (λ w. step_of w step.0 ≡ Some (set, acts)) is step.2 in
       cc (none)
 
+  -- no question has the word of two families
+  pub two_no_question : (q : Question) → word ≡ W.B4 → IsQuestion lines word left right q → ⊥
+  two_no_question q is shaped = by q.acts (subst (λ w. HasSides lines w left right q.acts) is shaped.sides)
+    where
+      by : (acts : Option ℕ) → HasSides lines W.B4 left right acts → ⊥
+      by None sides = let b1 = sides.0 in cc (b1)
+      by (Some acts) sides = let step = sides.3.2 in cc (step)
+
   -- the action set of the step is one
   pub acts_once : (a b : Option ℕ) → HasSides lines word left right a → HasSides lines word left right b → a ≡ b
   acts_once None None is also = refl

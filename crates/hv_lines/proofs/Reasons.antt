@@ -2,7 +2,7 @@
 use Rattle.std.proofs.Common.{◌≡◌, ℕ, zero, suc, ◌+◌, ◌<◌, ◌∙◌, List, inl, inr, refl, sym, ap, subst, arith, lit<}
 use Rattle.std.proofs.Math.Nat.{eq-or-lt_of_le}
 use Rattle.std.proofs.lemmas.Bool.Decides.{leb_tells}
-use Rattle.hv_lines.specs.Good.{FamilyFits, HasNotVerdict, HasVerdictTrue, IsBuilt, IsFormed, IsGood, IsKnown, IsReasonOf, IsRefutedBy, LinePasses, RuleHolds, WhereBasic}
+use Rattle.hv_lines.specs.Good.{FamilyFits, HasNotVerdict, HasVerdictTrue, IsFormed, IsGood, IsKnown, IsReasonOf, IsRefutedBy, LinePasses, RuleHolds, WhereBasic}
 use Rattle.hv_lines.specs.Numbering.{IsNext, IsNumbered}
 use Rattle.hv_lines.specs.Order.{Test, Gives, IsReasonBy, rank, without_state}
 use Rattle.hv_lines.specs.Order as O
@@ -21,21 +21,19 @@ use Rattle.hv_lines.proofs.Verdicts.{clash_once}
 test_at : ℕ → Test
 test_at zero = O.Length
 test_at (suc zero) = O.Spelling
-test_at (suc (suc zero)) = O.Form
-test_at (suc (suc (suc zero))) = O.Number
-test_at (suc (suc (suc (suc zero)))) = O.Reference
-test_at (suc (suc (suc (suc (suc zero))))) = O.Family
-test_at (suc (suc (suc (suc (suc (suc zero)))))) = O.Rule
-test_at (suc (suc (suc (suc (suc (suc (suc zero))))))) = O.Shape
-test_at (suc (suc (suc (suc (suc (suc (suc (suc zero)))))))) = O.Offered
-test_at (suc (suc (suc (suc (suc (suc (suc (suc (suc zero))))))))) = O.Budget
-test_at (suc (suc (suc (suc (suc (suc (suc (suc (suc (suc rest)))))))))) = O.Truth
+test_at (suc (suc zero)) = O.Number
+test_at (suc (suc (suc zero))) = O.Reference
+test_at (suc (suc (suc (suc zero)))) = O.Family
+test_at (suc (suc (suc (suc (suc zero))))) = O.Rule
+test_at (suc (suc (suc (suc (suc (suc zero)))))) = O.Shape
+test_at (suc (suc (suc (suc (suc (suc (suc zero))))))) = O.Offered
+test_at (suc (suc (suc (suc (suc (suc (suc (suc zero)))))))) = O.Budget
+test_at (suc (suc (suc (suc (suc (suc (suc (suc (suc rest))))))))) = O.Truth
 
 test_at-rank : (test : Test) → test_at (rank test) ≡ test
 unfolding test_at
 test_at-rank O.Length = refl
 test_at-rank O.Spelling = refl
-test_at-rank O.Form = refl
 test_at-rank O.Number = refl
 test_at-rank O.Reference = refl
 test_at-rank O.Family = refl
@@ -53,7 +51,6 @@ rank_once a b e = sym (test_at-rank a) ∙ (ap test_at e ∙ test_at-rank b)
 rank_small : (test : Test) → rank test < rank O.Truth + 1
 rank_small O.Length = lit< tt
 rank_small O.Spelling = lit< tt
-rank_small O.Form = lit< tt
 rank_small O.Number = lit< tt
 rank_small O.Reference = lit< tt
 rank_small O.Family = lit< tt
@@ -72,7 +69,6 @@ module _ (IsShown : Clash → Type 0)
   gives_once : (test : Test) (r q : Reason) → Gives IsShown test r → Gives IsShown test q → without_state r ≡ without_state q
   gives_once O.Length r q x y = alike r q R.Long x y
   gives_once O.Spelling r q x y = alike r q R.Grammar x y
-  gives_once O.Form r q x y = alike r q R.Unbuilt x y
   gives_once O.Number r q x y = alike r q R.Number x y
   gives_once O.Reference r q x y = alike r q R.Unknown x y
   gives_once O.Family r q x y = alike r q R.Family x y
@@ -126,50 +122,44 @@ module _ (setting : Setting) (lines : List Line) (line : Line) where
   next_test : (test : Test) → Upto (rank test) → LinePasses setting lines line test → Upto (rank test + 1)
   next_test test before here = below_next (LinePasses setting lines line) test before here
 
-  upto_form : IsSpelled line → Upto 2
-  upto_form spelled = next_test O.Spelling (next_test O.Length (below_none (LinePasses setting lines line)) tt) spelled
+  upto_number : IsSpelled line → Upto 2
+  upto_number spelled = next_test O.Spelling (next_test O.Length (below_none (LinePasses setting lines line)) tt) spelled
 
-  upto_number : IsSpelled line → IsBuilt line → Upto 3
-  upto_number spelled built = next_test O.Form (upto_form spelled) built
+  upto_reference : IsSpelled line → IsNumbered lines line → Upto 3
+  upto_reference spelled numbered = next_test O.Number (upto_number spelled) numbered
 
-  upto_reference : IsSpelled line → IsBuilt line → IsNumbered lines line → Upto 4
-  upto_reference spelled built numbered = next_test O.Number (upto_number spelled built) numbered
+  upto_family : IsSpelled line → IsNumbered lines line → IsKnown setting.task setting.nodes lines line → Upto 4
+  upto_family spelled numbered known = next_test O.Reference (upto_reference spelled numbered) known
 
-  upto_family : IsSpelled line → IsBuilt line → IsNumbered lines line → IsKnown setting.task setting.nodes lines line → Upto 5
-  upto_family spelled built numbered known = next_test O.Reference (upto_reference spelled built numbered) known
-
-  upto_rule : IsFormed setting lines line → Upto 6
+  upto_rule : IsFormed setting lines line → Upto 5
   upto_rule formed =
-      next_test O.Family (upto_family formed.spelled formed.built formed.numbered formed.known) formed.family
+      next_test O.Family (upto_family formed.spelled formed.numbered formed.known) formed.family
 
-  upto_shape : IsFormed setting lines line → RuleHolds lines line → Upto 7
+  upto_shape : IsFormed setting lines line → RuleHolds lines line → Upto 6
   upto_shape formed rule = next_test O.Rule (upto_rule formed) rule
 
-  pub upto_offered : IsFormed setting lines line → RuleHolds lines line → WhereBasic (HasShape lines) line → Upto 8
+  pub upto_offered : IsFormed setting lines line → RuleHolds lines line → WhereBasic (HasShape lines) line → Upto 7
   upto_offered formed rule shape = next_test O.Shape (upto_shape formed rule) shape
 
   pub upto_budget : IsFormed setting lines line → RuleHolds lines line → WhereBasic (HasShape lines) line
-      → WhereBasic (HasNotVerdict setting lines V.NotOffered) line → Upto 9
+      → WhereBasic (HasNotVerdict setting lines V.NotOffered) line → Upto 8
   upto_budget formed rule shape offered = next_test O.Offered (upto_offered formed rule shape) offered
 
   pub upto_truth : IsFormed setting lines line → RuleHolds lines line → WhereBasic (HasShape lines) line
-      → WhereBasic (HasNotVerdict setting lines V.NotOffered) line → WhereBasic (HasNotVerdict setting lines V.Over) line → Upto 10
+      → WhereBasic (HasNotVerdict setting lines V.NotOffered) line → WhereBasic (HasNotVerdict setting lines V.Over) line → Upto 9
   upto_truth formed rule shape offered within = next_test O.Budget (upto_budget formed rule shape offered) within
 
   -- the reason of a line, by the first test that it fails
-  pub for_form : IsSpelled line → (IsBuilt line → ⊥) → IsReasonOf setting lines line R.Unbuilt
-  for_form spelled failed = (O.Form, refl, failed, upto_form spelled)
+  pub for_number : IsSpelled line → (IsNumbered lines line → ⊥) → IsReasonOf setting lines line R.Number
+  for_number spelled failed = (O.Number, refl, failed, upto_number spelled)
 
-  pub for_number : IsSpelled line → IsBuilt line → (IsNumbered lines line → ⊥) → IsReasonOf setting lines line R.Number
-  for_number spelled built failed = (O.Number, refl, failed, upto_number spelled built)
-
-  pub for_reference : IsSpelled line → IsBuilt line → IsNumbered lines line
+  pub for_reference : IsSpelled line → IsNumbered lines line
       → (IsKnown setting.task setting.nodes lines line → ⊥) → IsReasonOf setting lines line R.Unknown
-  for_reference spelled built numbered failed = (O.Reference, refl, failed, upto_reference spelled built numbered)
+  for_reference spelled numbered failed = (O.Reference, refl, failed, upto_reference spelled numbered)
 
-  pub for_family : IsSpelled line → IsBuilt line → IsNumbered lines line → IsKnown setting.task setting.nodes lines line
+  pub for_family : IsSpelled line → IsNumbered lines line → IsKnown setting.task setting.nodes lines line
       → (FamilyFits line → ⊥) → IsReasonOf setting lines line R.Family
-  for_family spelled built numbered known failed = (O.Family, refl, failed, upto_family spelled built numbered known)
+  for_family spelled numbered known failed = (O.Family, refl, failed, upto_family spelled numbered known)
 
   pub for_rule : IsFormed setting lines line → (RuleHolds lines line → ⊥) → IsReasonOf setting lines line R.Rule
   for_rule formed failed = (O.Rule, refl, failed, upto_rule formed)

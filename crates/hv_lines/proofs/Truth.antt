@@ -11,13 +11,16 @@ use Rattle.hv_task.specs.Strips.{IsState, atoms}
 use Rattle.hv_task.proofs.Places.{IsState-successor}
 use Rattle.hv_sets.specs.Query.{action_of, asked, in_operand, in_which, is_clash, may_apply}
 use Rattle.hv_sets.specs.declared.query.Query.{Query}
+use Rattle.hv_sets.proofs.Listed.{in_states-Decides}
 use Rattle.hv_lines.specs.Literals.{IsPlainSet}
-use Rattle.hv_lines.specs.Meaning.{IsTrueStatement, acts_of, sets_of}
+use Rattle.hv_lines.specs.Meaning.{IsTrueStatement, acts_of, holds, sets_of}
+use Rattle.hv_lines.specs.Mixed.{in_formula, in_signed}
 use Rattle.hv_lines.specs.Numbering.{IsTable, expr_at}
 use Rattle.hv_lines.specs.Queries.{actions_below, asked_actions, has_of, operand_of, queries_of, query_of, which_at, PassesBudget}
 use Rattle.hv_lines.specs.Setting.{Setting}
-use Rattle.hv_lines.specs.Shapes.{OfSets, OfActs, HasSides, IsAndLeaf, IsAsked, IsLeftLeaf, IsOrLeaf, IsQuestion, IsRightLeaf, IsStep, Question, and_parts, or_parts, after_parts, before_parts, asks_sides_after, asks_step_after, family_of, step_of, alone, of_left, of_right}
-use Rattle.hv_lines.specs.Verdicts.{IsSettled, IsVerdict, IsVerdictOfActs}
+use Rattle.hv_lines.specs.Shapes.{AreTwo, OfSets, OfTwo, OfActs, HasSides, IsAndLeaf, IsAsked, IsLeftLeaf, IsOrLeaf, IsQuestion, IsLiteralOf, IsRightLeaf, IsStep, Question, and_parts, or_parts, after_parts, before_parts, asks_sides_after, asks_step_after, family_of, step_of, alone, of_left, of_right}
+use Rattle.hv_lines.specs.Verdicts.{IsSettled, IsVerdict, IsVerdictOfActs, IsVerdictOfTwo}
+use Rattle.hv_lines.specs.declared.family.FormulaFamily.{FormulaFamily}
 use Rattle.hv_lines.specs.declared.line.Expr.{Expr}
 use Rattle.hv_lines.specs.declared.line.Expr.TheVariants as E
 use Rattle.hv_lines.specs.declared.line.Line.{Line}
@@ -37,19 +40,19 @@ use Rattle.hv_lines.proofs.Shaped.{step_no_literal, step_once}
 joined : (f : ℕ → ℕ → Expr) (p q : ℕ × ℕ) → Some p ≡ Some q → f p.0 p.1 ≡ f q.0 q.1
 joined f p q is = ap (λ (x : ℕ × ℕ). f x.0 x.1) (same_Some p q is)
 
-and_is : (x : Expr) (l r : ℕ) → and_parts x ≡ Some (l, r) → x ≡ E.And l r
+pub and_is : (x : Expr) (l r : ℕ) → and_parts x ≡ Some (l, r) → x ≡ E.And l r
 and_is (E.And a b) l r is = joined (λ x y. E.And x y) (a, b) (l, r) is
 and_is _ l r is = absurd (cc (is))
 
-or_is : (x : Expr) (l r : ℕ) → or_parts x ≡ Some (l, r) → x ≡ E.Or l r
+pub or_is : (x : Expr) (l r : ℕ) → or_parts x ≡ Some (l, r) → x ≡ E.Or l r
 or_is (E.Or a b) l r is = joined (λ x y. E.Or x y) (a, b) (l, r) is
 or_is _ l r is = absurd (cc (is))
 
-after_is : (x : Expr) (l r : ℕ) → after_parts x ≡ Some (l, r) → x ≡ E.After l r
+pub after_is : (x : Expr) (l r : ℕ) → after_parts x ≡ Some (l, r) → x ≡ E.After l r
 after_is (E.After a b) l r is = joined (λ x y. E.After x y) (a, b) (l, r) is
 after_is _ l r is = absurd (cc (is))
 
-before_is : (x : Expr) (l r : ℕ) → before_parts x ≡ Some (l, r) → x ≡ E.Before l r
+pub before_is : (x : Expr) (l r : ℕ) → before_parts x ≡ Some (l, r) → x ≡ E.Before l r
 before_is (E.Before a b) l r is = joined (λ x y. E.Before x y) (a, b) (l, r) is
 before_is _ l r is = absurd (cc (is))
 
@@ -99,9 +102,8 @@ module _ (setting : Setting) (lines : List Line) (table : IsTable lines) where
     abbrev Has : ℕ → List Bool → Bool
     Has set state = in_which setting.task (has_of setting lines q.family) (which_at lines set) state
 
-    named : (sign : Bool) (a : ℕ × Bool) → IsAsked lines word left right sign a → IsPlainSet lines a.0 → (state : List Bool)
-        → (Has a.0 state ≡ true) ↔ In a.0 state
-    unfolding In
+    pub named : (sign : Bool) (a : ℕ × Bool) → IsAsked lines word left right sign a → IsPlainSet lines a.0 → (state : List Bool)
+        → (Has a.0 state ≡ true) ↔ sets_of setting.task setting.nodes lines a.0 state
     named sign a there (x, at, plain) state =
         let within = is.family.within sign a there in
         let same : within.0 ≡ x = cc (within.1, at) in
@@ -173,7 +175,7 @@ module _ (setting : Setting) (lines : List Line) (table : IsTable lines) where
   Within : ℕ → List Bool → Type 0
   Within set state = sets_of setting.task setting.nodes lines set state
 
-  asked_state : (act : Option Action) (t : List Bool) → IsState setting.task t → (after : Bool) → IsState setting.task (asked act after t)
+  pub asked_state : (act : Option Action) (t : List Bool) → IsState setting.task t → (after : Bool) → IsState setting.task (asked act after t)
   asked_state None t is_state true = is_state
   asked_state None t is_state false = is_state
   asked_state (Some a) t is_state true = IsState-successor setting.task a t is_state
@@ -318,17 +320,77 @@ module _ (setting : Setting) (lines : List Line) (table : IsTable lines) where
       inside true e = refl
       inside false e = absurd (is number (below, among, e))
 
+  -- a formula has the states that its line says
+  formula_holds : (x : Expr) (family : FormulaFamily) → family_of x ≡ Some family → (state : List Bool)
+      → (in_formula setting x state ≡ true) ↔ holds setting.task setting.nodes (acts_of lines) (sets_of setting.task setting.nodes lines) x state
+  formula_holds (E.Horn clauses) family of state = (λ e. e, λ e. e)
+  formula_holds (E.Two clauses) family of state = (λ e. e, λ e. e)
+  formula_holds (E.States states) family of state =
+      let tells = in_states-Decides (atoms setting.task) states state in
+      (λ e. tells.0 e, λ h. tells.1 h)
+  formula_holds (E.Node node) family of state = (λ e. e, λ e. e)
+  formula_holds (E.Constant constant) family of state = absurd (cc (of))
+  formula_holds (E.Not set) family of state = absurd (cc (of))
+  formula_holds (E.And x y) family of state = absurd (cc (of))
+  formula_holds (E.Or x y) family of state = absurd (cc (of))
+  formula_holds (E.After x y) family of state = absurd (cc (of))
+  formula_holds (E.Before x y) family of state = absurd (cc (of))
+
+  -- a side has the states that its line says
+  pub signed_in : (leaf set : ℕ) (sign : Bool) (x : Expr) (family : FormulaFamily) → IsLiteralOf lines leaf set sign → expr_at lines set ≡ Some x
+      → family_of x ≡ Some family → (state : List Bool) → (in_signed setting (x, sign) state ≡ true)
+      ↔ sets_of setting.task setting.nodes lines leaf state
+  signed_in leaf set true x family is at of state =
+      let same = formula_holds x family of state in (
+        λ e. subst (λ s. sets_of setting.task setting.nodes lines s state) (sym is.0)
+            (set_in setting.task setting.nodes lines set x table at state (same.0 e)),
+        λ inside. same.1 (set_out setting.task setting.nodes lines set x table at state
+            (subst (λ s. sets_of setting.task setting.nodes lines s state) is.0 inside)),
+      )
+  signed_in leaf set false x family is at of state =
+      let same = formula_holds x family of state in (
+        λ e. set_in setting.task setting.nodes lines leaf (E.Not set) table is.0 state
+            (λ inside. not_both (in_formula setting x state) e (same.1 (set_out setting.task setting.nodes lines set x table at state inside))),
+        λ inside. not_true (in_formula setting x state)
+            (λ e. set_out setting.task setting.nodes lines leaf (E.Not set) table is.0 state inside
+            (set_in setting.task setting.nodes lines set x table at state (same.0 e))),
+      )
+    where
+      not_both : (b : Bool) → not b ≡ true → b ≡ true → ⊥
+      not_both true out is = cc (out)
+      not_both false out is = cc (is)
+
+  -- `b4`
+  two_true : (left right : ℕ) (x y : ℕ × Bool) → AreTwo lines left right x y → IsVerdictOfTwo setting lines x y V.True
+      → (state : List Bool) → IsState setting.task state → Within left state → Within right state
+  unfolding Within
+  two_true left right x y shaped (a, b, at_a, at_b, is) state is_state inside =
+      let (f, g, of_f, of_g, apart) = shaped.families in
+      let family_a : family_of a ≡ Some f = subst (λ e. family_of e ≡ Some f) (same_Some of_f.0 a (sym of_f.1 ∙ at_a)) of_f.2 in
+      let family_b : family_of b ≡ Some g = subst (λ e. family_of e ≡ Some g) (same_Some of_g.0 b (sym of_g.1 ∙ at_b)) of_g.2 in
+      (signed_in right y.0 y.1 b g shaped.right_is at_b family_b state).0
+      (second (in_signed setting (a, x.1) state) (in_signed setting (b, y.1) state)
+      ((signed_in left x.0 x.1 a f shaped.left_is at_a family_a state).1 inside) (is.1 state is_state))
+    where
+      second : (l r : Bool) → l ≡ true → (l && not r) ≡ false → r ≡ true
+      second true true e out = refl
+      second true false e out = absurd (cc (out))
+      second false r e out = absurd (cc (e))
+
   -- a statement with the verdict true is true
   pub verdict_true : (statement : Statement) (word : Word) → IsVerdict setting lines statement word V.True
       → IsTrueStatement setting.task setting.nodes lines statement
   unfolding Within In
   verdict_true (T.Sub left right) word (OfSets w q, shaped, is) = λ state is_state inside.
       question_true word left right q shaped.1 is.1 q.acts refl state is_state inside
+  verdict_true (T.Sub left right) word (OfTwo x y, shaped, is) = λ state is_state inside.
+      two_true left right x y shaped.1 is state is_state inside
   verdict_true (T.Sub left right) word (OfActs a b, shaped, is) = absurd shaped
   verdict_true (T.ActSub left right) W.B5 (OfActs a b, shaped, is) =
       acts_true left right (subst (λ x. IsVerdictOfActs setting.task lines x right V.True) shaped.0
       (subst (λ x. IsVerdictOfActs setting.task lines a x V.True) shaped.1 is))
   verdict_true (T.ActSub left right) W.B5 (OfSets w q, shaped, is) = absurd shaped
+  verdict_true (T.ActSub left right) W.B5 (OfTwo x y, shaped, is) = absurd shaped
   verdict_true (T.ActSub left right) _ (basic, shaped, is) = absurd shaped
   verdict_true (T.Dead set) word (basic, shaped, is) = absurd shaped
   verdict_true T.Unsolvable word (basic, shaped, is) = absurd shaped

@@ -28,17 +28,6 @@ use Rattle.hv_lines.specs.declared.reason.Reason.{Reason}
 use Rattle.hv_lines.specs.declared.verdict.Verdict.{Verdict}
 use Rattle.hv_lines.specs.declared.verdict.Verdict.TheVariants as V
 
--- the word is one that is checked so far
-abbrev pub IsBuiltWord : Word → Type 0
-IsBuiltWord W.B4 = ⊥
-IsBuiltWord _ = Unit {0}
-
--- the line is of a form that is checked so far
-abbrev pub IsBuilt : Line → Type 0
-IsBuilt (L.Acts id acts) = Unit {0}
-IsBuilt (L.Expr id expr) = Unit {0}
-IsBuilt (L.Known id statement word premises) = IsBuiltWord word
-
 -- the action set names actions of the task alone
 abbrev pub ActsAreWithin : Strips → Acts → Type 0
 ActsAreWithin task A.All = Unit {0}
@@ -125,7 +114,6 @@ HasVerdictTrue setting lines statement word = IsVerdict setting lines statement 
 abbrev pub LinePasses : Setting → List Line → Line → Test → Type 0
 LinePasses setting lines line O.Length = Unit {0}
 LinePasses setting lines line O.Spelling = IsSpelled line
-LinePasses setting lines line O.Form = IsBuilt line
 LinePasses setting lines line O.Number = IsNumbered lines line
 LinePasses setting lines line O.Reference = IsKnown setting.task setting.nodes lines line
 LinePasses setting lines line O.Family = FamilyFits line
@@ -139,7 +127,6 @@ LinePasses setting lines line O.Truth = WhereBasic (HasVerdictTrue setting lines
 -- the line passes the tests that look at its form and its numbers alone
 pub record IsFormed (setting : Setting) (lines : List Line) (line : Line) : Type 0 where
   pub spelled : IsSpelled line
-  pub built : IsBuilt line
   pub numbered : IsNumbered lines line
   pub known : IsKnown setting.task setting.nodes lines line
   pub family : FamilyFits line

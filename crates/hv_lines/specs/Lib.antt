@@ -7,8 +7,10 @@ pub mod Meaning
 pub mod Rules
 pub mod Shapes
 pub mod Queries
+pub mod Mixed
 pub mod Verdicts
 pub mod Order
 pub mod Good
 pub mod Judged
 pub mod Drafts
+pub mod Pruning

@@ -10,8 +10,6 @@ pub data Test : Type 0 where
   Length : Test
   -- it is in the proof text
   Spelling : Test
-  -- it is of a form that is checked so far
-  Form : Test
   -- its identifier is the number of earlier lines of its letter
   Number : Test
   -- all that it refers to is there
@@ -33,21 +31,19 @@ pub data Test : Type 0 where
 abbrev pub rank : Test → ℕ
 rank Length = 0
 rank Spelling = 1
-rank Form = 2
-rank Number = 3
-rank Reference = 4
-rank Family = 5
-rank Rule = 6
-rank Shape = 7
-rank Offered = 8
-rank Budget = 9
-rank Truth = 10
+rank Number = 2
+rank Reference = 3
+rank Family = 4
+rank Rule = 5
+rank Shape = 6
+rank Offered = 7
+rank Budget = 8
+rank Truth = 9
 
 -- the reason that a failed test gives; that of the last one names one of these counterexamples
 abbrev pub Gives : (Clash → Type 0) → Test → Reason → Type 0
 Gives IsShown Length reason = reason ≡ R.Long
 Gives IsShown Spelling reason = reason ≡ R.Grammar
-Gives IsShown Form reason = reason ≡ R.Unbuilt
 Gives IsShown Number reason = reason ≡ R.Number
 Gives IsShown Reference reason = reason ≡ R.Unknown
 Gives IsShown Family reason = reason ≡ R.Family
@@ -80,4 +76,3 @@ without_state (R.False clash) = R.False (record {
   action = clash.action;
   state = option_map (λ _. []) clash.state;
 })
-without_state R.Unbuilt = R.Unbuilt

@@ -186,15 +186,30 @@ pub record IsQuestion (lines : List Line) (word : Word) (left right : ℕ) (ques
   pub few : length question.positive + length question.negative ≤ most_operands
   pub family : IsFamilyOf lines word left right question.family
 
--- a basic statement: of sets, with its word, or of two action sets
+-- the sets are formulas of two different families
+abbrev pub AreOfTwoFamilies : List Line → ℕ → ℕ → Type 0
+AreOfTwoFamilies lines x y =
+    (first : FormulaFamily) × (second : FormulaFamily) × IsOfFamily lines first x
+    × IsOfFamily lines second y × (first ≡ second → ⊥)
+
+-- the sides are formulas of two different families, each itself (true) or its negation (false)
+pub record AreTwo (lines : List Line) (left right : ℕ) (x y : ℕ × Bool) : Type 0 where
+  pub left_is : IsLiteralOf lines left x.0 x.1
+  pub right_is : IsLiteralOf lines right y.0 y.1
+  pub families : AreOfTwoFamilies lines x.0 y.0
+
+-- a basic statement: of sets of one family, with its word, of formulas of two families, the left
+-- one first, each itself (true) or its negation (false), or of two action sets
 pub data Basic : Type 0 where
   OfSets : Word → Question → Basic
+  OfTwo : ℕ × Bool → ℕ × Bool → Basic
   OfActs : ℕ → ℕ → Basic
 
 -- the statement with the word has its shape, and asks this
 abbrev pub IsShaped : List Line → Statement → Word → Basic → Type 0
 IsShaped lines (T.Sub left right) word (OfSets asked question) =
     (asked ≡ word) × IsQuestion lines word left right question
+IsShaped lines (T.Sub left right) word (OfTwo x y) = (word ≡ W.B4) × AreTwo lines left right x y
 IsShaped lines (T.ActSub left right) W.B5 (OfActs first second) = (first ≡ left) × (second ≡ right)
 IsShaped lines _ _ _ = ⊥
 

@@ -1,12 +1,15 @@
 -- The verdict of a basic statement.
-use Rattle.std.specs.Prelude.{◌≡◌, ◌<◌, ℕ, Bool, true, false, List, Some, None, length, slice_get}
+use Rattle.std.specs.Prelude.{◌≡◌, ◌<◌, ◌≤◌, ℕ, Bool, true, false, List, Some, None, length, slice_get}
 use Rattle.hv_task.specs.Strips.{Strips, atoms}
 use Rattle.hv_sets.specs.Query.{is_clash}
 use Rattle.hv_sets.specs.declared.query.Query.{Query}
 use Rattle.hv_lines.specs.Meaning.{acts_of}
+use Rattle.hv_lines.specs.Mixed.{Signed, cost_of, is_between}
+use Rattle.hv_lines.specs.Numbering.{expr_at}
 use Rattle.hv_lines.specs.Queries.{IsOffered, PassesBudget, has_of, queries_of}
 use Rattle.hv_lines.specs.Setting.{Setting}
-use Rattle.hv_lines.specs.Shapes.{Basic, OfSets, OfActs, Question, IsShaped}
+use Rattle.hv_lines.specs.Shapes.{Basic, OfSets, OfTwo, OfActs, Question, IsShaped}
+use Rattle.hv_lines.specs.declared.line.Expr.{Expr}
 use Rattle.hv_lines.specs.declared.line.Line.{Line}
 use Rattle.hv_lines.specs.declared.line.Statement.{Statement}
 use Rattle.hv_lines.specs.declared.line.Word.{Word}
@@ -53,6 +56,33 @@ IsVerdictOfSets setting lines question verdict =
     (is_clash setting.task (has_of setting lines question.family)) (atoms setting.task)
     (queries_of setting.task lines question) verdict
 
+-- the inclusion is decided, at a cost within the budget
+abbrev pub IsAffordable : Setting → Signed → Signed → Type 0
+IsAffordable setting left right =
+    (cost : ℕ) × (cost_of setting.nodes left right ≡ Some cost) × (cost ≤ setting.budget)
+
+-- the verdict on the inclusion of a side in another one, each a formula or its negation: the cost
+-- is looked at before any state
+abbrev pub IsVerdictOfSides : Setting → Signed → Signed → Verdict → Type 0
+IsVerdictOfSides setting left right V.NotOffered = cost_of setting.nodes left right ≡ None
+IsVerdictOfSides setting left right V.Over =
+    (cost : ℕ) × (cost_of setting.nodes left right ≡ Some cost) × (setting.budget < cost)
+IsVerdictOfSides setting left right (V.False found) =
+    IsAffordable setting left right × (found.action ≡ None)
+    × ((state : List Bool) × (found.state ≡ Some state) × (length state ≡ atoms setting.task)
+    × (is_between setting left right state ≡ true))
+IsVerdictOfSides setting left right V.True =
+    IsAffordable setting left right
+    × ((state : List Bool) → length state ≡ atoms setting.task
+    → is_between setting left right state ≡ false)
+
+-- the verdict on two formulas by their identifiers, each itself (true) or its negation (false)
+abbrev pub IsVerdictOfTwo : Setting → List Line → ℕ × Bool → ℕ × Bool → Verdict → Type 0
+IsVerdictOfTwo setting lines x y verdict =
+    (first : Expr) × (second : Expr) × (expr_at lines x.0 ≡ Some first)
+    × (expr_at lines y.0 ≡ Some second)
+    × IsVerdictOfSides setting (first, x.1) (second, y.1) verdict
+
 -- the action is in the first action set and not in the second
 abbrev pub IsOutside : Strips → List Line → ℕ → ℕ → ℕ → Type 0
 IsOutside task lines first second number =
@@ -75,6 +105,7 @@ IsVerdictOfActs task lines first second V.NotOffered = ⊥
 abbrev pub IsVerdictOf : Setting → List Line → Basic → Verdict → Type 0
 IsVerdictOf setting lines (OfSets word question) verdict =
     IsVerdictOfSets setting lines question verdict
+IsVerdictOf setting lines (OfTwo x y) verdict = IsVerdictOfTwo setting lines x y verdict
 IsVerdictOf setting lines (OfActs first second) verdict =
     IsVerdictOfActs setting.task lines first second verdict
 

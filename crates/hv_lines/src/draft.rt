@@ -1,7 +1,6 @@
-//! Drafts of proofs.
-
 ghost use Rattle.std.specs.Prelude.{◌≡◌, ◌<◌, ◌≤◌, ◌+◌, ◌^◌, ◌∷◌, [], length, IfOk, OnOk, OnErr};
-ghost use Rattle.hv_lines.specs.Drafts.{IsGoodNext, IsGoodTable, conclusion, id_of, onto, prelude};
+ghost use Rattle.hv_lines.specs.Drafts.{IsGoodNext, IsGoodTable, conclusion, id_of, most_lines, onto, prelude};
+ghost use Rattle.hv_lines.specs.Pruning.{BeginsAsDraft};
 
 use crate::line::{Acts, Constant, Expr, Line, Statement, Word};
 use crate::premises::Premises;
@@ -26,13 +25,15 @@ pub struct Draft {
 impl Model for Draft {
     ghost use Rattle.std.specs.Prelude.{◌≤◌, ◌+◌, length};
     ghost use Rattle.hv_lines.specs.Drafts.{DraftState, most_lines};
+    ghost use Rattle.hv_lines.specs.Pruning.{BeginsAsDraft};
 
     ghost Value = { DraftState };
 
     ghost view = { λ d. record { lines = d.table.lines; spare = d.spare } };
 
     ghost invariant = { λ d. (d.spare ≤ d.table.room)
-        × (length d.table.lines + d.spare ≤ most_lines) };
+        × (length d.table.lines + d.spare ≤ most_lines)
+        × BeginsAsDraft d.table.lines };
 }
 
 impl Draft {
@@ -41,14 +42,9 @@ impl Draft {
         ensures lines { IfOk result (λ draft. draft.lines ≡ onto prelude []) }
         ensures good { IfOk result (λ draft. IsGoodTable task.now draft.lines) }
     {
-        let lines = prelude(alloc)?;
-        let mut draft = Draft {
-            table: Table::new(alloc),
-            spare: 0,
-        };
-        draft.reserve(5)?;
-        draft.push_all(task, lines);
-        Ok(draft)
+        let _ = task;
+        let table = begun_table(alloc)?;
+        Ok(Draft { table, spare: 0 })
     }
 
     /// Takes the memory for so many further lines. Where the lines and these would be more than
@@ -57,6 +53,7 @@ impl Draft {
         ensures spare { OnOk result (lines ≤ self.new.spare) }
         ensures more { self.old.spare ≤ self.new.spare }
         ensures lines { self.new.lines ≡ self.old.lines }
+        ensures few { length self.new.lines + self.new.spare ≤ most_lines }
         ensures err { OnErr result (self.new ≡ self.old) }
     {
         if lines <= self.spare {
@@ -72,7 +69,8 @@ impl Draft {
 
     /// How many further lines `push` takes.
     pub fn spare(&self) -> usize
-        ensures { result ≡ self.now.spare }
+        ensures spare { result ≡ self.now.spare }
+        ensures few { length self.now.lines + self.now.spare ≤ most_lines }
     {
         self.spare
     }
@@ -109,9 +107,10 @@ impl Draft {
         }
     }
 
-    /// The lines.
+    /// The lines. They begin as those of every draft do.
     pub fn table(&self) -> &Table
-        ensures { result.now.lines ≡ self.now.lines }
+        ensures lines { result.now.lines ≡ self.now.lines }
+        ensures begins { BeginsAsDraft self.now.lines }
     {
         &self.table
     }
@@ -143,6 +142,17 @@ pub fn conclusion(alloc: Global, id: usize, dead: usize, by: usize) -> Result<Ve
             premises: Premises::one(id + 1),
         },
     ]?)
+}
+
+// The table with which every draft begins.
+fn begun_table(alloc: Global) -> Result<Table, AllocError>
+    ensures { IfOk result (λ table. table.lines ≡ onto prelude []) }
+{
+    let mut table = Table::new(alloc);
+    for line in prelude(alloc)? {
+        table.push(line)?;
+    }
+    Ok(table)
 }
 
 // The lines with which every draft begins.

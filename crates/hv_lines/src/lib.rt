@@ -1,20 +1,34 @@
 //! The lines of a proof, the table of accepted lines, and what they mean.
 #![tactic(auto)]
 
+/// Lists of actions.
 pub mod action_list;
+/// Drafts of proofs.
 pub mod draft;
+/// The families of formulas.
 pub mod family;
+/// The lines of a proof.
 pub mod line;
+/// What pruners note.
+pub mod note;
+/// The premises of a line.
 pub mod premises;
+/// Pruners: they show of states that these are dead.
+pub mod pruner;
+/// Why a line isn't good.
 pub mod reason;
+/// The lines of a proof, found by their identifiers.
 pub mod table;
+/// What is said of a basic statement.
 pub mod verdict;
 
 pub use action_list::ActionList;
 pub use draft::{Draft, conclusion};
 pub use family::FormulaFamily;
 pub use line::{Acts, Constant, Expr, Line, Statement, Word};
+pub use note::Note;
 pub use premises::Premises;
+pub use pruner::Pruner;
 pub use reason::{Clash, Reason};
 pub use table::Table;
 pub use verdict::Verdict;

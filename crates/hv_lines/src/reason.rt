@@ -36,7 +36,7 @@ impl Clash {
 }
 
 /// Why a line is refused: the first test that it fails. The tests come in the order of the
-/// variants, but for `Unbuilt`, whose place is between `Grammar` and `Number`.
+/// variants.
 #[derive(Drop, PartialEq, Eq)]
 pub enum Reason {
     /// The line has more bytes than a line may have, or its last byte lies past what a file may
@@ -60,9 +60,6 @@ pub enum Reason {
     Budget,
     /// The basic statement is false, as the counterexample shows.
     False(Clash),
-    /// The line is in the proof text, and isn't checked yet: a diagram node, or a basic statement
-    /// by `b4`.
-    Unbuilt,
 }
 
 impl Reason {
@@ -84,7 +81,6 @@ impl Reason {
                 let copy = clash.copy(alloc)?;
                 Ok(Reason::False(copy))
             }
-            Reason::Unbuilt => Ok(Reason::Unbuilt),
         }
     }
 }
