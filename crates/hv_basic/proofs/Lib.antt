@@ -8,3 +8,4 @@ pub mod Walking
 pub mod Storing
 pub mod Querying
 pub mod Growing
+pub mod Mixing

@@ -5,11 +5,22 @@ use Rattle.std.proofs.lemmas.Option.{same_Some, slice_get-map, slice_get_within}
 use Rattle.std.specs.List.{slice_get}
 use Rattle.std.specs.Option.{option_map}
 use Rattle.hv_sets.specs.Cost.{IsAnswer}
+use Rattle.hv_sets.specs.Room.{KeepsLengths}
 use Rattle.hv_sets.specs.declared.finding.Finding.{Finding}
 use Rattle.hv_sets.specs.declared.finding.Finding.TheVariants as F
 use Rattle.hv_sets.specs.declared.query.Query.{Query}
+use Rattle.hv_sets.specs.declared.scratch.Scratch.{Scratch}
 use Rattle.hv_lines.specs.Verdicts.{IsFirst, IsSettled}
 use Rattle.hv_basic.specs.Asked.{with_action}
+
+-- lengths that didn't fall twice didn't fall
+pub lengths_kept : (old middle new : Scratch) → KeepsLengths old middle → KeepsLengths middle new → KeepsLengths old new
+lengths_kept old middle new first second = record {
+  marks = omega (arith, first.marks, second.marks);
+  counts = omega (arith, first.counts, second.counts);
+  queue = omega (arith, first.queue, second.queue);
+  choice = omega (arith, first.choice, second.choice);
+}
 
 module _ (Passes : Query → Type 0) (clash : Query → List Bool → Bool) (atoms : ℕ) (query : Query) (actions : List (Option ℕ)) where
   -- each query before this place decides nothing

@@ -9,7 +9,7 @@ use Rattle.hv_lines.specs.Verdicts.{IsDecided}
 use Rattle.hv_lines.specs.declared.family.FormulaFamily.{FormulaFamily}
 use Rattle.hv_lines.specs.declared.verdict.Verdict.{Verdict}
 use Rattle.hv_lines.specs.Setting.{Setting}
-use Rattle.hv_lines.specs.Shapes.{Basic, OfSets, OfActs, IsQuestion, Question}
+use Rattle.hv_lines.specs.Shapes.{AreOfTwoFamilies, Basic, OfSets, OfTwo, OfActs, IsQuestion, Question}
 use Rattle.hv_lines.specs.declared.line.Line.{Line}
 use Rattle.hv_lines.specs.declared.line.Word.{Word}
 use Rattle.hv_basic.specs.Asked.{with_action}
@@ -24,6 +24,7 @@ pub record IsQuestionOver (lines : List Line) (question : Question) : Type 0 whe
 -- the basic statement is one over these lines: it asks what some statement with its shape asks
 abbrev pub IsBasicOver : List Line → Basic → Type 0
 IsBasicOver lines (OfSets word question) = IsQuestionOver lines question
+IsBasicOver lines (OfTwo x y) = AreOfTwoFamilies lines x.0 y.0
 IsBasicOver lines (OfActs first second) = (first < acts_count lines) × (second < acts_count lines)
 
 -- for each of these actions the query can be asked of a store with so many sets, for a task with so

@@ -6,3 +6,4 @@ pub mod Gathered
 pub mod Stores
 pub mod Asked
 pub mod Deciding
+pub mod Formulas

@@ -1,5 +1,5 @@
 -- Basic statements as contracts see them.
-use Rattle.hv_lines.specs.Shapes.{Basic, OfSets, OfActs, Question}
+use Rattle.hv_lines.specs.Shapes.{Basic, OfSets, OfTwo, OfActs, Question}
 use Rattle.hv_basic.specs.declared.basic.Kind.{Kind}
 use Rattle.hv_basic.specs.declared.basic.Kind.TheVariants as K
 use Rattle.hv_basic.specs.declared.basic.Question.{Question as StoredQuestion}
@@ -16,4 +16,5 @@ question_of q = record {
 -- the basic statement of a kind
 abbrev pub basic_of : Kind → Basic
 basic_of (K.Sets word question) = OfSets word (question_of question)
+basic_of (K.Two left right) = OfTwo (left.set, left.is_plain) (right.set, right.is_plain)
 basic_of (K.Acts first second) = OfActs first second

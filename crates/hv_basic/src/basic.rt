@@ -1,3 +1,4 @@
+use crate::literals::Literal;
 use hv_lines::{FormulaFamily, Word};
 use std::marker::Model;
 
@@ -7,11 +8,13 @@ pub struct Basic {
     pub(crate) kind: Kind,
 }
 
-/// The two kinds of basic statement.
+/// The three kinds of basic statement.
 #[derive(Drop)]
 pub(crate) enum Kind {
-    /// An inclusion of sets, with its word.
+    /// An inclusion of sets over one family, with its word.
     Sets(Word, Question),
+    /// An inclusion of a formula or its negation in one of another family.
+    Two(Literal, Literal),
     /// An inclusion of action sets: the first is claimed to be within the second.
     Acts(usize, usize),
 }

@@ -3,7 +3,7 @@
 ghost use Rattle.std.specs.Prelude.{◌≡◌, ◌<◌, ◌↔◌, ℕ, None, IsTrue, MatchOption};
 ghost use Rattle.std.specs.List.{All, Contains};
 ghost use Rattle.hv_lines.specs.Numbering.{expr_count};
-ghost use Rattle.hv_lines.specs.Shapes.{IsOfFamily, IsWithinFamily, family_of};
+ghost use Rattle.hv_lines.specs.Shapes.{AreOfTwoFamilies, IsOfFamily, IsWithinFamily, family_of};
 ghost use Rattle.hv_lines.specs.declared.family.FormulaFamily.{FormulaFamily};
 ghost use Rattle.hv_basic.specs.Gathered.{IsFamilyIn};
 ghost use Rattle.hv_basic.specs.declared.literals.Asking.{Asking};
@@ -69,6 +69,18 @@ fn is_within(table: &Table, set: usize, family: FormulaFamily) -> bool
     match family_of(table.expr(set)) {
         None => true,
         Some(found) => found == family,
+    }
+}
+
+/// Whether the sets are formulas of two different families.
+pub(crate) fn are_of_two_families(table: &Table, x: usize, y: usize) -> bool
+    requires x { x < expr_count table.now.lines }
+    requires y { y < expr_count table.now.lines }
+    ensures { IsTrue result ↔ AreOfTwoFamilies table.now.lines x y }
+{
+    match (family_of(table.expr(x)), family_of(table.expr(y))) {
+        (Some(first), Some(second)) => first != second,
+        _ => false,
     }
 }
 

@@ -2,7 +2,6 @@
 
 ghost use Rattle.std.specs.Prelude.{◌↔◌, IsTrue};
 ghost use Rattle.std.specs.List.{All};
-ghost use Rattle.hv_sets.specs.Kinds.{IsHornClause, IsTwoClause};
 ghost use Rattle.hv_lines.specs.Good.{IsOfItsFamily};
 
 use hv_clauses::ClauseKind;
@@ -16,42 +15,26 @@ pub fn is_of_its_family(expr: &Expr) -> bool
     ensures { IsTrue result ↔ IsOfItsFamily expr.now }
 {
     match expr {
-        Expr::Horn(clauses) => are_horn(clauses),
-        Expr::Two(clauses) => are_two(clauses),
+        Expr::Horn(clauses) => are_of::<HornKind>(clauses),
+        Expr::Two(clauses) => are_of::<TwoKind>(clauses),
         _ => true,
     }
 }
 
-fn are_horn(clauses: &Clauses) -> bool
-    ensures { IsTrue result ↔ All IsHornClause clauses.now }
+/// Whether each clause is of the kind.
+fn are_of<K: ClauseKind>(clauses: &Clauses) -> bool
+    ensures { IsTrue result ↔ All K.is_of clauses.now }
 {
     for place in 0..clauses.len() {
-        if !is_horn(clauses.get(place)) {
+        if !is_of::<K>(clauses.get(place)) {
             return false;
         }
     }
     true
 }
 
-fn is_horn(clause: &[Literal]) -> bool
-    ensures { IsTrue result ↔ IsHornClause clause.now }
+fn is_of<K: ClauseKind>(clause: &[Literal]) -> bool
+    ensures { IsTrue result ↔ K.is_of clause.now }
 {
-    HornKind::takes(clause)
-}
-
-fn are_two(clauses: &Clauses) -> bool
-    ensures { IsTrue result ↔ All IsTwoClause clauses.now }
-{
-    for place in 0..clauses.len() {
-        if !is_two(clauses.get(place)) {
-            return false;
-        }
-    }
-    true
-}
-
-fn is_two(clause: &[Literal]) -> bool
-    ensures { IsTrue result ↔ IsTwoClause clause.now }
-{
-    TwoKind::takes(clause)
+    K::takes(clause)
 }

@@ -45,9 +45,11 @@ pub(crate) fn are_literals(table: &Table, leaves: &[usize]) -> bool
 }
 
 /// The literal that the leaf is.
-fn literal_of(table: &Table, leaf: usize) -> Option<Literal>
+pub(crate) fn literal_of(table: &Table, leaf: usize) -> Option<Literal>
     requires { leaf < expr_count table.now.lines }
-    ensures { MatchOption result (IsLiteral table.now.lines leaf → ⊥) (IsThe table.now.lines leaf) }
+    ensures is { MatchOption result (IsLiteral table.now.lines leaf → ⊥)
+        (IsThe table.now.lines leaf) }
+    ensures below { IfSome result (λ literal. literal.set < expr_count table.now.lines) }
 {
     if !table.is_literal(leaf) {
         return None;

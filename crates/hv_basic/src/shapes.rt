@@ -1,7 +1,7 @@
-ghost use Rattle.std.specs.Prelude.{◌≡◌, ◌<◌, ℕ, IfOk, IfErr};
+ghost use Rattle.std.specs.Prelude.{◌≡◌, ◌<◌, ℕ, Bool, IfOk, IfErr, MatchOption};
 ghost use Rattle.std.specs.List.{All};
 ghost use Rattle.hv_lines.specs.Numbering.{SpeaksBelow, acts_count, expr_count};
-ghost use Rattle.hv_lines.specs.Shapes.{HasShape, HasSides, IsQuestion, IsShaped, Question as AskedQuestion};
+ghost use Rattle.hv_lines.specs.Shapes.{AreTwo, HasShape, HasSides, IsQuestion, IsShaped, Question as AskedQuestion};
 ghost use Rattle.hv_basic.specs.Deciding.{IsBasicOver, IsQuestionOver};
 ghost use Rattle.hv_basic.specs.Faults.{IsShapeFault};
 ghost use Rattle.hv_basic.specs.Gathered.{AreAskings};
@@ -9,7 +9,8 @@ ghost use Rattle.hv_basic.specs.Views.{question_of};
 ghost use Rattle.hv_basic.specs.declared.shapes.ShapeFault.TheVariants as F;
 
 use crate::basic::{Basic, Kind, Question};
-use crate::families::one_family;
+use crate::families::{are_of_two_families, one_family};
+use crate::literals::{Literal, literal_of};
 use crate::order::in_order;
 use crate::sides::{Sides, sides_of};
 use hv_lines::{Statement, Table, Word};
@@ -51,11 +52,19 @@ pub fn shape(
     ensures err { IfErr result (IsShapeFault (HasShape table.now.lines statement.now word → ⊥)) }
 {
     match statement {
-        Statement::Sub(left, right) => match question_of(alloc, table, word, *left, *right) {
-            Ok(question) => Ok(Basic {
-                kind: Kind::Sets(word, question),
-            }),
-            Err(fault) => Err(fault),
+        Statement::Sub(left, right) => match word {
+            Word::B4 => match two_of(table, *left, *right) {
+                Some((first, second)) => Ok(Basic {
+                    kind: Kind::Two(first, second),
+                }),
+                None => Err(ShapeFault::Shape),
+            },
+            _ => match question_of(alloc, table, word, *left, *right) {
+                Ok(question) => Ok(Basic {
+                    kind: Kind::Sets(word, question),
+                }),
+                Err(fault) => Err(fault),
+            },
         },
         Statement::ActSub(first, second) => match word {
             Word::B5 => Ok(Basic {
@@ -64,6 +73,23 @@ pub fn shape(
             _ => Err(ShapeFault::Shape),
         },
         Statement::Dead(_) | Statement::Unsolvable => Err(ShapeFault::Shape),
+    }
+}
+
+/// The two sides, where they are formulas of two families or their negations.
+fn two_of(table: &Table, left: usize, right: usize) -> Option<(Literal, Literal)>
+    requires left { left < expr_count table.now.lines }
+    requires right { right < expr_count table.now.lines }
+    ensures { MatchOption result ((x y : ℕ × Bool) → AreTwo table.now.lines left right x y → ⊥)
+        (λ sides. AreTwo table.now.lines left right (sides.0.set, sides.0.is_plain)
+        (sides.1.set, sides.1.is_plain)) }
+{
+    let first = literal_of(table, left)?;
+    let second = literal_of(table, right)?;
+    if are_of_two_families(table, first.set, second.set) {
+        Some((first, second))
+    } else {
+        None
     }
 }
 

@@ -2,6 +2,7 @@ ghost use Rattle.std.specs.Prelude.{◌≡◌, ◌<◌, ◌≤◌, ◌↔◌, �
 ghost use Rattle.std.specs.List.{All};
 ghost use Rattle.hv_task.specs.Strips.{atoms};
 ghost use Rattle.hv_sets.specs.Query.{CanAnchor, HasAnchor};
+ghost use Rattle.hv_sets.specs.Room.{KeepsLengths};
 ghost use Rattle.hv_lines.specs.Numbering.{acts_count, expr_count};
 ghost use Rattle.hv_bdd.specs.Nodes.{node_count};
 ghost use Rattle.hv_lines.specs.Queries.{NamesNodes, count_of};
@@ -16,6 +17,7 @@ ghost use Rattle.hv_basic.specs.Views.{question_of};
 use crate::actions::asked_actions;
 use crate::acts::flags_of;
 use crate::basic::{Basic, Kind, Question};
+use crate::mixed::decide_two;
 use crate::store::Store;
 use crate::walk::walk;
 use hv_bdd::Diagrams;
@@ -41,11 +43,15 @@ pub fn decide(
     requires nodes { NamesNodes (node_count diagrams.now) table.now.lines }
     requires store { IsStoreOf task.now table.now.lines store.now }
     requires basic { IsBasicOver table.now.lines basic.now }
-    ensures { IfOk result
+    ensures answer { IfOk result
         (IsVerdictOf (setting_of task.now diagrams.now budget) table.now.lines basic.now) }
+    ensures lengths { KeepsLengths scratch.old scratch.new }
 {
     match &basic.kind {
         Kind::Acts(first, second) => decide_acts(alloc, task, table, *first, *second),
+        Kind::Two(left, right) => decide_two(
+            alloc, task, table, diagrams, store, *left, *right, budget, scratch,
+        ),
         Kind::Sets(_, question) => {
             decide_sets(
                 alloc, task, table, diagrams, store, question, budget, scratch,
@@ -94,8 +100,9 @@ fn decide_sets(
     requires nodes { NamesNodes (node_count diagrams.now) table.now.lines }
     requires store { IsStoreOf task.now table.now.lines store.now }
     requires question { IsQuestionOver table.now.lines (question_of question.now) }
-    ensures { IfOk result (IsVerdictOfSets (setting_of task.now diagrams.now budget) table.now.lines
-        (question_of question.now)) }
+    ensures answer { IfOk result (IsVerdictOfSets (setting_of task.now diagrams.now budget)
+        table.now.lines (question_of question.now)) }
+    ensures lengths { KeepsLengths scratch.old scratch.new }
 {
     let _count = table.expr_count();
     let mut query = query_of(alloc, &store.names, question)?;
@@ -123,8 +130,9 @@ fn decide_queries(
     requires store { IsStoreOf task.now table.now.lines store.now }
     requires query { IsQueryFor task.now (node_count diagrams.now) table.now.lines
         (question_of question.now) query.old actions.now }
-    ensures { IfOk result (IsVerdictOfSets (setting_of task.now diagrams.now budget) table.now.lines
-        (question_of question.now)) }
+    ensures answer { IfOk result (IsVerdictOfSets (setting_of task.now diagrams.now budget)
+        table.now.lines (question_of question.now)) }
+    ensures lengths { KeepsLengths scratch.old scratch.new }
 {
     match question.family {
         FormulaFamily::Horn => {
@@ -172,9 +180,10 @@ fn decide_horns(
     requires store { IsStoreOf task.now table.now.lines store.now }
     requires ready { AreReady (count_of table.now.lines F.Horn 0)
         (length task.now.actions) query.old actions.now }
-    ensures { IfOk result (IsDecidedOver
+    ensures answer { IfOk result (IsDecidedOver
         (setting_of task.now diagrams.now budget) table.now.lines F.Horn
         (map (with_action query.old) actions.now)) }
+    ensures lengths { KeepsLengths scratch.old scratch.new }
 {
     let _ = table;
     let _ = diagrams;
@@ -197,9 +206,10 @@ fn decide_twos(
     requires store { IsStoreOf task.now table.now.lines store.now }
     requires ready { AreReady (count_of table.now.lines F.Two 0)
         (length task.now.actions) query.old actions.now }
-    ensures { IfOk result (IsDecidedOver
+    ensures answer { IfOk result (IsDecidedOver
         (setting_of task.now diagrams.now budget) table.now.lines F.Two
         (map (with_action query.old) actions.now)) }
+    ensures lengths { KeepsLengths scratch.old scratch.new }
 {
     let _ = table;
     let _ = diagrams;
@@ -223,9 +233,10 @@ fn decide_listed(
     requires ready { AreReady (count_of table.now.lines F.States 0)
         (length task.now.actions) query.old actions.now }
     requires anchor { HasAnchor query.old }
-    ensures { IfOk result (IsDecidedOver
+    ensures answer { IfOk result (IsDecidedOver
         (setting_of task.now diagrams.now budget) table.now.lines F.States
         (map (with_action query.old) actions.now)) }
+    ensures lengths { KeepsLengths scratch.old scratch.new }
 {
     let _ = table;
     let _ = diagrams;
@@ -247,9 +258,10 @@ fn decide_nodes(
     requires over { diagrams.now.atoms ≡ atoms task.now }
     requires ready { AreReady (node_count diagrams.now)
         (length task.now.actions) query.old actions.now }
-    ensures { IfOk result (IsDecidedOver
+    ensures answer { IfOk result (IsDecidedOver
         (setting_of task.now diagrams.now budget) table.now.lines F.Node
         (map (with_action query.old) actions.now)) }
+    ensures lengths { KeepsLengths scratch.old scratch.new }
 {
     let _ = table;
     let verdict = walk(alloc, task, diagrams, query, actions, budget, scratch)?;

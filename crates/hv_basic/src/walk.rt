@@ -3,6 +3,7 @@
 ghost use Rattle.std.specs.Prelude.{◌≡◌, IfOk, length, map};
 ghost use Rattle.hv_task.specs.Strips.{atoms};
 ghost use Rattle.hv_sets.specs.Query.{HasAnchor, is_clash};
+ghost use Rattle.hv_sets.specs.Room.{KeepsLengths};
 ghost use Rattle.hv_lines.specs.Verdicts.{IsDecided};
 ghost use Rattle.hv_basic.specs.Asked.{with_action};
 ghost use Rattle.hv_basic.specs.Deciding.{AreReady};
@@ -26,9 +27,10 @@ pub(crate) fn walk<F: Family>(
     requires ready { AreReady (F.count sets.now) (length task.now.actions) query.old actions.now }
     requires anchor { F.wants_anchor sets.now → HasAnchor query.old }
     requires task { F.is_over sets.now (atoms task.now) }
-    ensures { IfOk result (IsDecided (λ q. F.passes sets.now task.now q budget)
+    ensures answer { IfOk result (IsDecided (λ q. F.passes sets.now task.now q budget)
         (is_clash task.now (F.has sets.now)) (atoms task.now)
         (map (with_action query.old) actions.now)) }
+    ensures lengths { KeepsLengths scratch.old scratch.new }
 {
     for action in actions {
         query.action = *action;
@@ -47,7 +49,8 @@ pub(crate) fn walk<F: Family>(
     Ok(Verdict::True)
 }
 
-fn copy_of(alloc: Global, state: &State) -> Result<State, AllocError>
+/// A copy of the state.
+pub(crate) fn copy_of(alloc: Global, state: &State) -> Result<State, AllocError>
     ensures { IfOk result (λ copy. copy ≡ state.now) }
 {
     let mut copy = State::empty(alloc, state.atoms())?;

@@ -4,8 +4,8 @@ use Rattle.hv_basic.proofs.kinds.is_of_its_family.Goals as goal
 
 pub returns-in-Horn : goal.returns-in-Horn
 returns-in-Horn c =
-    subst (λ expr. IsTrue c.are_horn.result ↔ IsOfItsFamily expr) (sym c.in-Horn.is) c.are_horn.ensures
+    subst (λ expr. IsTrue c.are_of.result ↔ IsOfItsFamily expr) (sym c.in-Horn.is) c.are_of.ensures
 
 pub returns-in-Two : goal.returns-in-Two
 returns-in-Two c =
-    subst (λ expr. IsTrue c.are_two.result ↔ IsOfItsFamily expr) (sym c.in-Two.is) c.are_two.ensures
+    subst (λ expr. IsTrue c.are_of-in-Two.result ↔ IsOfItsFamily expr) (sym c.in-Two.is) c.are_of-in-Two.ensures

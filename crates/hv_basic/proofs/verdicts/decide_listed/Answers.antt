@@ -13,8 +13,8 @@ walk-requires-clause-task c =
     (sym (ap (λ (s : StoreState). s.listed) c.store.view_is ∙ c.requires.store.listed))
     (listed_over (atoms c.args.task.now) (listed_of c.args.table.now.lines))
 
-pub returns : goal.returns
-returns c =
+pub returns-clause-answer : goal.returns-clause-answer
+returns-clause-answer c =
     listed_decided (atoms c.args.task.now) (listed_of c.args.table.now.lines) c.args.task.now c.args.budget (atoms c.args.task.now)
     (map (with_action c.args.query.now) c.args.actions.now) c.in_ok-verdict.verdict c.store.inside.listed
-    (ap (λ (s : StoreState). s.listed) c.store.view_is ∙ c.requires.store.listed) c.in_ok-verdict.ensures
+    (ap (λ (s : StoreState). s.listed) c.store.view_is ∙ c.requires.store.listed) c.in_ok-verdict.ensures.answer

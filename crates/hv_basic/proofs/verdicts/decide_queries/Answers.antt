@@ -26,27 +26,27 @@ decide_listed-requires-clause-ready c =
     subst (λ (f : FormulaFamily). AreReady (count_of c.args.table.now.lines f (node_count c.args.diagrams.now)) (length c.args.task.now.actions) c.args.query.now c.args.actions.now) c.in-States.is
     c.requires.query.ready
 
-pub returns-in_ok-verdict-in-Horn : goal.returns-in_ok-verdict-in-Horn
-returns-in_ok-verdict-in-Horn c =
+pub returns-in_ok-verdict-in-Horn-clause-answer : goal.returns-in_ok-verdict-in-Horn-clause-answer
+returns-in_ok-verdict-in-Horn-clause-answer c =
     verdict_in (setting_of c.args.task.now c.args.diagrams.now c.args.budget) c.args.table.now.lines (question_of c.args.question.now) F.Horn
     (map (with_action c.args.query.now) c.args.actions.now) c.in_ok-verdict-in-Horn.verdict c.in-Horn.is
-    (offered_horn c.args.table.now.lines (question_of c.args.question.now) c.in-Horn.is) c.requires.query.all c.in_ok-verdict-in-Horn.ensures
+    (offered_horn c.args.table.now.lines (question_of c.args.question.now) c.in-Horn.is) c.requires.query.all c.in_ok-verdict-in-Horn.ensures.answer
 
-pub returns-in_ok-verdict-in-Two : goal.returns-in_ok-verdict-in-Two
-returns-in_ok-verdict-in-Two c =
+pub returns-in_ok-verdict-in-Two-clause-answer : goal.returns-in_ok-verdict-in-Two-clause-answer
+returns-in_ok-verdict-in-Two-clause-answer c =
     verdict_in (setting_of c.args.task.now c.args.diagrams.now c.args.budget) c.args.table.now.lines (question_of c.args.question.now) F.Two
     (map (with_action c.args.query.now) c.args.actions.now) c.in_ok-verdict-in-Two.verdict c.in-Two.is
-    (offered_two c.args.table.now.lines (question_of c.args.question.now) c.in-Two.is) c.requires.query.all c.in_ok-verdict-in-Two.ensures
+    (offered_two c.args.table.now.lines (question_of c.args.question.now) c.in-Two.is) c.requires.query.all c.in_ok-verdict-in-Two.ensures.answer
 
-pub returns-in_ok-verdict-in-States : goal.returns-in_ok-verdict-in-States
-returns-in_ok-verdict-in-States c =
+pub returns-in_ok-verdict-in-States-clause-answer : goal.returns-in_ok-verdict-in-States-clause-answer
+returns-in_ok-verdict-in-States-clause-answer c =
     verdict_in (setting_of c.args.task.now c.args.diagrams.now c.args.budget) c.args.table.now.lines (question_of c.args.question.now) F.States
     (map (with_action c.args.query.now) c.args.actions.now) c.in_ok-verdict-in-States.verdict c.in-States.is
     (offered_listed c.args.table.now.lines (question_of c.args.question.now) c.args.query.now (c.requires.query.is None) c.in-States.is
-    (c.has_anchor.ensures.0 c.if-not-has_anchor.false)) c.requires.query.all c.in_ok-verdict-in-States.ensures
+    (c.has_anchor.ensures.0 c.if-not-has_anchor.false)) c.requires.query.all c.in_ok-verdict-in-States.ensures.answer
 
-pub returns-then-not-has_anchor : goal.returns-then-not-has_anchor
-returns-then-not-has_anchor c =
+pub returns-then-not-has_anchor-clause-answer : goal.returns-then-not-has_anchor-clause-answer
+returns-then-not-has_anchor-clause-answer c =
     unoffered_listed c.args.table.now.lines (question_of c.args.question.now) c.args.query.now (c.requires.query.is None) c.in-States.is
     (iff_false c.has_anchor.ensures c.if-not-has_anchor.true)
 
@@ -55,8 +55,8 @@ decide_nodes-requires-clause-ready c =
     subst (λ (f : FormulaFamily). AreReady (count_of c.args.table.now.lines f (node_count c.args.diagrams.now)) (length c.args.task.now.actions) c.args.query.now c.args.actions.now) c.in-Node.is
     c.requires.query.ready
 
-pub returns-in_ok-verdict-in-Node : goal.returns-in_ok-verdict-in-Node
-returns-in_ok-verdict-in-Node c =
+pub returns-in_ok-verdict-in-Node-clause-answer : goal.returns-in_ok-verdict-in-Node-clause-answer
+returns-in_ok-verdict-in-Node-clause-answer c =
     verdict_in (setting_of c.args.task.now c.args.diagrams.now c.args.budget) c.args.table.now.lines (question_of c.args.question.now) F.Node
     (map (with_action c.args.query.now) c.args.actions.now) c.in_ok-verdict-in-Node.verdict c.in-Node.is
-    (offered_node c.args.table.now.lines (question_of c.args.question.now) c.in-Node.is) c.requires.query.all c.in_ok-verdict-in-Node.ensures
+    (offered_node c.args.table.now.lines (question_of c.args.question.now) c.in-Node.is) c.requires.query.all c.in_ok-verdict-in-Node.ensures.answer

@@ -3,7 +3,7 @@ use Rattle.std.proofs.lemmas.Option.{slice_get-get_or}
 use Rattle.hv_task.specs.Strips.{atoms}
 use Rattle.hv_sets.specs.Query.{IsReady, is_clash}
 use Rattle.hv_basic.specs.Asked.{with_action}
-use Rattle.hv_basic.proofs.Walking.{all_settled, clash_here, first_at, over_here, same_query, settled_here, settled_more}
+use Rattle.hv_basic.proofs.Walking.{all_settled, clash_here, first_at, lengths_kept, over_here, same_query, settled_here, settled_more}
 use Rattle.hv_basic.proofs.walk.walk.Goals as goal
 
 pub find-requires-clause-ready : goal.find-requires-clause-ready
@@ -18,8 +18,8 @@ find-requires-clause-action g c =
     c.requires.ready.below c.loop-action.action-index (get_or c.args.actions.now c.loop-action.action-index None)
     (slice_get-get_or c.args.actions.now c.loop-action.action-index None c.loop-action-test.true)
 
-pub returns-in-Over : goal.returns-in-Over
-returns-in-Over g c =
+pub returns-in-Over-clause-answer : goal.returns-in-Over-clause-answer
+returns-in-Over-clause-answer g c =
     let a : Option ℕ = get_or c.args.actions.now c.loop-action.action-index None in (
       with_action c.args.query.now a,
       first_at (λ q. g.F.Family.passes c.args.sets.now c.args.task.now q c.args.budget) (is_clash c.args.task.now (g.F.Family.has c.args.sets.now)) (atoms c.args.task.now)
@@ -31,8 +31,8 @@ returns-in-Over g c =
           c.find.new.scratch.state c.in_ok-find.field-0 c.in_ok-find.ensures.answer c.in-Over.is,
     )
 
-pub returns-in-Clash : goal.returns-in-Clash
-returns-in-Clash g c =
+pub returns-in-Clash-clause-answer : goal.returns-in-Clash-clause-answer
+returns-in-Clash-clause-answer g c =
     let a : Option ℕ = get_or c.args.actions.now c.loop-action.action-index None in
     let found =
     clash_here (λ q. g.F.Family.passes c.args.sets.now c.args.task.now q c.args.budget) (is_clash c.args.task.now (g.F.Family.has c.args.sets.now)) (atoms c.args.task.now)
@@ -60,6 +60,7 @@ pub loop-action-preserved : goal.loop-action-preserved
 loop-action-preserved g c =
     let a : Option ℕ = get_or c.args.actions.now c.loop-action.action-index None in
     record {
+      lengths = lengths_kept c.args.scratch.now c.loop-action.scratch c.find.new.scratch c.loop-action.invariant.lengths c.find.ensures.lengths;
       positive = c.loop-action.invariant.positive;
       negative = c.loop-action.invariant.negative;
       settled =
@@ -72,7 +73,7 @@ loop-action-preserved g c =
           c.find.new.scratch.state c.in_ok-find.field-0 c.in_ok-find.ensures.answer c.in-Empty.is);
     }
 
-pub returns : goal.returns
-returns g c =
+pub returns-clause-answer : goal.returns-clause-answer
+returns-clause-answer g c =
     all_settled (λ q. g.F.Family.passes c.args.sets.now c.args.task.now q c.args.budget) (is_clash c.args.task.now (g.F.Family.has c.args.sets.now)) (atoms c.args.task.now)
     c.args.query.now c.args.actions.now c.loop-action.action-index c.loop-action-test.false c.loop-action.invariant.settled

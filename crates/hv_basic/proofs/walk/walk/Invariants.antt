@@ -2,12 +2,14 @@ use Rattle.std.proofs.Common.{◌≡◌, ℕ, ◌<◌, Option, Some}
 use Rattle.std.specs.List.{slice_get}
 use Rattle.hv_task.specs.Strips.{atoms}
 use Rattle.hv_sets.specs.Query.{is_clash}
+use Rattle.hv_sets.specs.Room.{KeepsLengths}
 use Rattle.hv_lines.specs.Verdicts.{IsSettled}
 use Rattle.hv_basic.specs.Asked.{with_action}
 use Rattle.hv_basic.proofs.walk.walk.Given as goal
 
 abbrev pub invariant-loop-action : goal.invariant-loop-action
 invariant-loop-action g l = record {
+  lengths : KeepsLengths l.fn.scratch l.scratch;
   positive : l.query.positive ≡ l.fn.query.positive;
   negative : l.query.negative ≡ l.fn.query.negative;
   settled : (place : ℕ) (action : Option ℕ) → place < l.action-index → slice_get l.actions place ≡ Some action

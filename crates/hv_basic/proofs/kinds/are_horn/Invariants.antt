@@ -1,6 +1,0 @@
-use Rattle.std.proofs.Common.{ℕ, ◌<◌, [], get_or}
-use Rattle.hv_sets.specs.Kinds.{IsHornClause}
-use Rattle.hv_basic.proofs.kinds.are_horn.Given as goal
-
-abbrev pub invariant-loop-place : goal.invariant-loop-place
-invariant-loop-place l = (k : ℕ) → k < l.place → IsHornClause (get_or l.clauses k [])

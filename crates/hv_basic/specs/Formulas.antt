@@ -1,0 +1,83 @@
+-- Formulas of the four families, and what is found of an inclusion between two of them.
+use Rattle.std.specs.Prelude.{◌≡◌, ◌<◌, ℕ, Bool, List, Option, None, Some, length}
+use Rattle.hv_sets.specs.Cost.{IsAnswer}
+use Rattle.hv_sets.specs.declared.finding.Finding.{Finding}
+use Rattle.hv_clauses.specs.Clausal.{in_formula}
+use Rattle.hv_clauses.specs.Denial.{steps_of}
+use Rattle.hv_explicit.specs.Listing.{full_cubes, in_listing}
+use Rattle.hv_bdd.specs.Nodes.{NodeList, in_node}
+use Rattle.hv_bdd.specs.Paths.{path_cubes}
+use Rattle.hv_lines.specs.Mixed.{clause_count, count_unless, either_count, listed_count}
+use Rattle.hv_lines.specs.Shapes.{family_of}
+use Rattle.hv_lines.specs.declared.line.Expr.{Expr}
+use Rattle.hv_lines.specs.declared.line.Expr.TheVariants as E
+use Rattle.hv_basic.specs.declared.formula.AnyFormula.{AnyFormula}
+use Rattle.hv_basic.specs.declared.formula.AnyFormula.TheVariants as M
+
+-- what an `e` line with this formula says
+abbrev pub expr_of : AnyFormula → Expr
+expr_of (M.Horn set) = E.Horn set.now.clauses
+expr_of (M.Two set) = E.Two set.now.clauses
+expr_of (M.States set) = E.States set.now.states
+expr_of (M.Node set) = E.Node set.node
+
+-- how many atoms the task has of whose states it is a set
+abbrev pub formula_atoms : AnyFormula → ℕ
+formula_atoms (M.Horn set) = set.now.atoms
+formula_atoms (M.Two set) = set.now.atoms
+formula_atoms (M.States set) = set.now.atoms
+formula_atoms (M.Node set) = set.nodes.now.atoms
+
+-- the state is in the formula
+abbrev pub formula_has : AnyFormula → List Bool → Bool
+formula_has (M.Horn set) state = in_formula set.now state
+formula_has (M.Two set) state = in_formula set.now state
+formula_has (M.States set) state = in_listing set.now state
+formula_has (M.Node set) state = in_node set.nodes.now set.node state
+
+-- how many steps the walk over the states outside the formula has, where there is one
+abbrev pub outside_count : AnyFormula → Option ℕ
+outside_count (M.Horn set) = Some (length (steps_of set.now))
+outside_count (M.Two set) = Some (length (steps_of set.now))
+outside_count (M.States set) = None
+outside_count (M.Node set) = Some (length (path_cubes set.nodes.now 0 set.node))
+
+-- how many cubes the walk over the states of the formula has, where there is one
+abbrev pub inside_count : AnyFormula → Option ℕ
+inside_count (M.Horn set) = None
+inside_count (M.Two set) = None
+inside_count (M.States set) = Some (length (full_cubes set.now))
+inside_count (M.Node set) = Some (length (path_cubes set.nodes.now 1 set.node))
+
+-- the formula is over so many atoms, or it is one of these nodes
+abbrev pub IsFor : ℕ → NodeList → AnyFormula → Type 0
+IsFor atoms nodes (M.Horn set) = set.now.atoms ≡ atoms
+IsFor atoms nodes (M.Two set) = set.now.atoms ≡ atoms
+IsFor atoms nodes (M.States set) = set.now.atoms ≡ atoms
+IsFor atoms nodes (M.Node set) = set.nodes.now ≡ nodes
+
+-- the two formulas are of different families
+abbrev pub AreApart : AnyFormula → AnyFormula → Type 0
+AreApart left right = family_of (expr_of left) ≡ family_of (expr_of right) → ⊥
+
+-- the answer to an inclusion with this cost, if it is decided
+abbrev pub IsFound : ℕ → Option ℕ → ℕ → (List Bool → Bool) → Option Finding → List Bool → Type 0
+IsFound budget cost atoms clash None state = cost ≡ None
+IsFound budget cost atoms clash (Some found) state =
+    (steps : ℕ) × (cost ≡ Some steps) × IsAnswer found (budget < steps) atoms clash state
+
+-- the costs of inclusions, by the walks: the one formula within the other, no state in both, and
+-- each state in one of them
+abbrev pub within_cost : AnyFormula → AnyFormula → Option ℕ
+within_cost x y = either_count (listed_count (expr_of x)) (outside_count y)
+
+abbrev pub apart_cost : AnyFormula → AnyFormula → Option ℕ
+apart_cost x y =
+    either_count (listed_count (expr_of x))
+    (either_count (listed_count (expr_of y)) (either_count (inside_count x) (inside_count y)))
+
+abbrev pub together_cost : AnyFormula → AnyFormula → Option ℕ
+together_cost x y =
+    count_unless (listed_count (expr_of x))
+    (count_unless (listed_count (expr_of y))
+    (either_count (clause_count (expr_of x)) (clause_count (expr_of y))))

@@ -1,0 +1,372 @@
+//! Inclusions between formulas of two families, each plain or negated.
+
+ghost use Rattle.std.specs.Prelude.{◌≡◌, ◌<◌, ◌≤◌, true, false, None, Some, IfOk, length};
+ghost use Rattle.hv_task.specs.Strips.{atoms};
+ghost use Rattle.hv_sets.specs.Cost.{IsAnswer};
+ghost use Rattle.hv_sets.specs.Room.{KeepsLengths};
+ghost use Rattle.hv_explicit.specs.Listing.{full_cubes, in_listing};
+ghost use Rattle.hv_mixed.specs.Inclusion.{complement, difference};
+ghost use Rattle.hv_bdd.specs.Nodes.{node_count};
+ghost use Rattle.hv_lines.specs.Mixed.{clause_count, cost_of, count_unless, is_between, listed_count};
+ghost use Rattle.hv_lines.specs.Queries.{NamesNodes};
+ghost use Rattle.hv_lines.specs.Setting.{most_budget, setting_of};
+ghost use Rattle.hv_lines.specs.Shapes.{AreOfTwoFamilies};
+ghost use Rattle.hv_lines.specs.Verdicts.{IsVerdictOfSides, IsVerdictOfTwo};
+ghost use Rattle.hv_basic.specs.Formulas.{AreApart, IsFor, IsFound, apart_cost, expr_of, formula_atoms, formula_has, inside_count, outside_count, together_cost, within_cost};
+ghost use Rattle.hv_basic.specs.Stores.{IsStoreOf};
+
+use crate::formula::{AnyFormula, formula_of};
+use crate::literals::Literal;
+use crate::store::Store;
+use crate::walk::copy_of;
+use hv_bdd::Diagrams;
+use hv_explicit::Explicit;
+use hv_lines::{Clash, Table, Verdict};
+use hv_mixed::{apart, together, within, within_states};
+use hv_sets::{Finding, Outside, Scratch};
+use hv_task::Task;
+use std::alloc::{AllocError, Global};
+
+/// A side of an inclusion: a formula, or its negation.
+#[derive(Clone, Copy)]
+pub(crate) struct Side<'a> {
+    pub formula: AnyFormula<'a>,
+    pub is_plain: bool,
+}
+
+/// The verdict on the inclusion of one formula in another, each plain or negated.
+pub(crate) fn decide_two(
+    alloc: Global,
+    task: &Task,
+    table: &Table,
+    diagrams: &Diagrams,
+    store: &Store,
+    left: Literal,
+    right: Literal,
+    budget: u64,
+    scratch: &mut Scratch,
+) -> Result<Verdict, AllocError>
+    requires budget { budget ≤ most_budget }
+    requires over { diagrams.now.atoms ≡ atoms task.now }
+    requires nodes { NamesNodes (node_count diagrams.now) table.now.lines }
+    requires store { IsStoreOf task.now table.now.lines store.now }
+    requires families { AreOfTwoFamilies table.now.lines left.set right.set }
+    ensures answer { IfOk result (IsVerdictOfTwo (setting_of task.now diagrams.now budget)
+        table.now.lines (left.set, left.is_plain) (right.set, right.is_plain)) }
+    ensures lengths { KeepsLengths scratch.old scratch.new }
+{
+    let left = Side {
+        formula: formula_of(task, table, diagrams, store, left.set),
+        is_plain: left.is_plain,
+    };
+    let right = Side {
+        formula: formula_of(task, table, diagrams, store, right.set),
+        is_plain: right.is_plain,
+    };
+    let verdict = decide_sides(alloc, task, diagrams, &left, &right, budget, scratch)?;
+    Ok(verdict)
+}
+
+/// The verdict on the inclusion of a side in another.
+fn decide_sides(
+    alloc: Global,
+    task: &Task,
+    diagrams: &Diagrams,
+    left: &Side<'_>,
+    right: &Side<'_>,
+    budget: u64,
+    scratch: &mut Scratch,
+) -> Result<Verdict, AllocError>
+    requires budget { budget ≤ most_budget }
+    requires over { diagrams.now.atoms ≡ atoms task.now }
+    requires left { IsFor (atoms task.now) diagrams.now left.now.formula }
+    requires right { IsFor (atoms task.now) diagrams.now right.now.formula }
+    requires families { AreApart left.now.formula right.now.formula }
+    ensures answer { IfOk result (IsVerdictOfSides (setting_of task.now diagrams.now budget)
+        (expr_of left.now.formula, left.now.is_plain)
+        (expr_of right.now.formula, right.now.is_plain)) }
+    ensures lengths { KeepsLengths scratch.old scratch.new }
+{
+    match find_between(alloc, task, diagrams, left, right, budget, scratch)? {
+        None => Ok(Verdict::NotOffered),
+        Some(Finding::Over) => Ok(Verdict::Over),
+        Some(Finding::Empty) => Ok(Verdict::True),
+        Some(Finding::Clash) => {
+            let state = copy_of(alloc, scratch.state())?;
+            Ok(Verdict::False(Clash {
+                action: None,
+                state: Some(state),
+            }))
+        }
+    }
+}
+
+/// Whether the left side is within the right one, by the call that its signs ask for.
+fn find_between(
+    alloc: Global,
+    task: &Task,
+    diagrams: &Diagrams,
+    left: &Side<'_>,
+    right: &Side<'_>,
+    budget: u64,
+    scratch: &mut Scratch,
+) -> Result<Option<Finding>, AllocError>
+    requires budget { budget ≤ most_budget }
+    requires over { diagrams.now.atoms ≡ atoms task.now }
+    requires left { IsFor (atoms task.now) diagrams.now left.now.formula }
+    requires right { IsFor (atoms task.now) diagrams.now right.now.formula }
+    requires families { AreApart left.now.formula right.now.formula }
+    ensures answer { IfOk result (λ found. IsFound budget
+        (cost_of diagrams.now (expr_of left.now.formula, left.now.is_plain)
+        (expr_of right.now.formula, right.now.is_plain)) (atoms task.now)
+        (is_between (setting_of task.now diagrams.now budget)
+        (expr_of left.now.formula, left.now.is_plain)
+        (expr_of right.now.formula, right.now.is_plain)) found scratch.new.state) }
+    ensures lengths { KeepsLengths scratch.old scratch.new }
+{
+    let _ = task;
+    let _ = diagrams;
+    match (left.is_plain, right.is_plain) {
+        (true, true) => {
+            let found = find_within(alloc, &left.formula, &right.formula, budget, scratch)?;
+            Ok(found)
+        }
+        (false, false) => {
+            let found = find_within(alloc, &right.formula, &left.formula, budget, scratch)?;
+            Ok(found)
+        }
+        (true, false) => {
+            let found = find_apart(alloc, &left.formula, &right.formula, budget, scratch)?;
+            Ok(found)
+        }
+        (false, true) => {
+            let found = find_together(alloc, &left.formula, &right.formula, budget, scratch)?;
+            Ok(found)
+        }
+    }
+}
+
+/// Whether each state of the left formula is in the right one.
+fn find_within(
+    alloc: Global,
+    left: &AnyFormula<'_>,
+    right: &AnyFormula<'_>,
+    budget: u64,
+    scratch: &mut Scratch,
+) -> Result<Option<Finding>, AllocError>
+    requires budget { budget ≤ most_budget }
+    requires atoms { formula_atoms left.now ≡ formula_atoms right.now }
+    requires families { AreApart left.now right.now }
+    ensures answer { IfOk result (λ found. IsFound budget (within_cost left.now right.now)
+        (formula_atoms left.now) (difference (formula_has left.now) (formula_has right.now))
+        found scratch.new.state) }
+    ensures lengths { KeepsLengths scratch.old scratch.new }
+{
+    match left {
+        AnyFormula::States(set) => {
+            let found = within_by_states(alloc, *set, right, budget, scratch)?;
+            Ok(Some(found))
+        }
+        _ => {
+            let found = within_by_rest(alloc, left, right, budget, scratch)?;
+            Ok(found)
+        }
+    }
+}
+
+/// The same by the listed states of the left set.
+fn within_by_states(
+    alloc: Global,
+    left: &Explicit,
+    right: &AnyFormula<'_>,
+    budget: u64,
+    scratch: &mut Scratch,
+) -> Result<Finding, AllocError>
+    requires budget { budget ≤ most_budget }
+    requires atoms { left.now.atoms ≡ formula_atoms right.now }
+    requires families { listed_count (expr_of right.now) ≡ None }
+    ensures answer { IfOk result (λ found. IsAnswer found (budget < length (full_cubes left.now))
+        left.now.atoms (difference (in_listing left.now) (formula_has right.now))
+        scratch.new.state) }
+    ensures lengths { KeepsLengths scratch.old scratch.new }
+{
+    match right {
+        AnyFormula::Horn(set) => within_states(alloc, left, *set, budget, scratch),
+        AnyFormula::Two(set) => within_states(alloc, left, *set, budget, scratch),
+        AnyFormula::Node(set) => within_states(alloc, left, set, budget, scratch),
+        AnyFormula::States(_) => unreachable!(),
+    }
+}
+
+/// The same by the states outside the right formula.
+fn within_by_rest(
+    alloc: Global,
+    left: &AnyFormula<'_>,
+    right: &AnyFormula<'_>,
+    budget: u64,
+    scratch: &mut Scratch,
+) -> Result<Option<Finding>, AllocError>
+    requires budget { budget ≤ most_budget }
+    requires atoms { formula_atoms left.now ≡ formula_atoms right.now }
+    ensures answer { IfOk result (λ found. IsFound budget (outside_count right.now)
+        (formula_atoms left.now) (difference (formula_has left.now) (formula_has right.now))
+        found scratch.new.state) }
+    ensures lengths { KeepsLengths scratch.old scratch.new }
+{
+    match right {
+        AnyFormula::Horn(set) => Ok(Some(within(alloc, left, *set, budget, scratch)?)),
+        AnyFormula::Two(set) => Ok(Some(within(alloc, left, *set, budget, scratch)?)),
+        AnyFormula::Node(set) => Ok(Some(within(alloc, left, set, budget, scratch)?)),
+        AnyFormula::States(_) => Ok(None),
+    }
+}
+
+/// Whether no state is in both formulas.
+fn find_apart(
+    alloc: Global,
+    left: &AnyFormula<'_>,
+    right: &AnyFormula<'_>,
+    budget: u64,
+    scratch: &mut Scratch,
+) -> Result<Option<Finding>, AllocError>
+    requires budget { budget ≤ most_budget }
+    requires atoms { formula_atoms left.now ≡ formula_atoms right.now }
+    ensures answer { IfOk result (λ found. IsFound budget (apart_cost left.now right.now)
+        (formula_atoms left.now)
+        (difference (formula_has left.now) (complement (formula_has right.now)))
+        found scratch.new.state) }
+    ensures lengths { KeepsLengths scratch.old scratch.new }
+{
+    if goes_first(left, right) {
+        let found = apart_by_left(alloc, left, right, budget, scratch)?;
+        Ok(found)
+    } else {
+        let found = apart_by_left(alloc, right, left, budget, scratch)?;
+        Ok(found)
+    }
+}
+
+/// Whether it is the states of the left formula that are gone through: those of an explicit set
+/// before those of a diagram.
+fn goes_first(left: &AnyFormula<'_>, right: &AnyFormula<'_>) -> bool
+    ensures first { result ≡ true → inside_count left.now ≡ apart_cost left.now right.now }
+    ensures second { result ≡ false → inside_count right.now ≡ apart_cost left.now right.now }
+{
+    match left {
+        AnyFormula::States(_) => true,
+        AnyFormula::Node(_) => match right {
+            AnyFormula::States(_) => false,
+            _ => true,
+        },
+        _ => false,
+    }
+}
+
+/// The same by the states of the left formula.
+fn apart_by_left(
+    alloc: Global,
+    left: &AnyFormula<'_>,
+    right: &AnyFormula<'_>,
+    budget: u64,
+    scratch: &mut Scratch,
+) -> Result<Option<Finding>, AllocError>
+    requires budget { budget ≤ most_budget }
+    requires atoms { formula_atoms left.now ≡ formula_atoms right.now }
+    ensures answer { IfOk result (λ found. IsFound budget (inside_count left.now)
+        (formula_atoms left.now)
+        (difference (formula_has left.now) (complement (formula_has right.now)))
+        found scratch.new.state) }
+    ensures lengths { KeepsLengths scratch.old scratch.new }
+{
+    match left {
+        AnyFormula::States(set) => Ok(Some(apart(alloc, *set, right, budget, scratch)?)),
+        AnyFormula::Node(set) => Ok(Some(apart(alloc, set, right, budget, scratch)?)),
+        AnyFormula::Horn(_) | AnyFormula::Two(_) => Ok(None),
+    }
+}
+
+/// Whether each state is in one of the formulas.
+fn find_together(
+    alloc: Global,
+    left: &AnyFormula<'_>,
+    right: &AnyFormula<'_>,
+    budget: u64,
+    scratch: &mut Scratch,
+) -> Result<Option<Finding>, AllocError>
+    requires budget { budget ≤ most_budget }
+    requires atoms { formula_atoms left.now ≡ formula_atoms right.now }
+    ensures answer { IfOk result (λ found. IsFound budget (together_cost left.now right.now)
+        (formula_atoms left.now)
+        (difference (complement (formula_has left.now)) (formula_has right.now))
+        found scratch.new.state) }
+    ensures lengths { KeepsLengths scratch.old scratch.new }
+{
+    match left {
+        AnyFormula::Horn(set) => {
+            let found = together_by_left(alloc, *set, right, budget, scratch)?;
+            Ok(found)
+        }
+        AnyFormula::Two(set) => {
+            let found = together_by_left(alloc, *set, right, budget, scratch)?;
+            Ok(found)
+        }
+        _ => {
+            let found = together_by_right(alloc, left, right, budget, scratch)?;
+            Ok(found)
+        }
+    }
+}
+
+/// The same, where the left formula isn't in clauses, by the clauses of the right one.
+fn together_by_right(
+    alloc: Global,
+    left: &AnyFormula<'_>,
+    right: &AnyFormula<'_>,
+    budget: u64,
+    scratch: &mut Scratch,
+) -> Result<Option<Finding>, AllocError>
+    requires budget { budget ≤ most_budget }
+    requires atoms { formula_atoms left.now ≡ formula_atoms right.now }
+    requires other { clause_count (expr_of left.now) ≡ None }
+    ensures answer { IfOk result (λ found. IsFound budget (together_cost left.now right.now)
+        (formula_atoms left.now)
+        (difference (complement (formula_has right.now)) (formula_has left.now))
+        found scratch.new.state) }
+    ensures lengths { KeepsLengths scratch.old scratch.new }
+{
+    match right {
+        AnyFormula::Horn(set) => {
+            let found = together_by_left(alloc, *set, left, budget, scratch)?;
+            Ok(found)
+        }
+        AnyFormula::Two(set) => {
+            let found = together_by_left(alloc, *set, left, budget, scratch)?;
+            Ok(found)
+        }
+        _ => Ok(None),
+    }
+}
+
+/// The same by the states outside the left set.
+fn together_by_left<L: Outside>(
+    alloc: Global,
+    left: &L,
+    right: &AnyFormula<'_>,
+    budget: u64,
+    scratch: &mut Scratch,
+) -> Result<Option<Finding>, AllocError>
+    requires budget { budget ≤ most_budget }
+    requires atoms { L.atoms left.now ≡ formula_atoms right.now }
+    ensures answer { IfOk result (λ found. IsFound budget
+        (count_unless (listed_count (expr_of right.now)) (Some (length (L.outside left.now))))
+        (L.atoms left.now) (difference (complement (L.has left.now)) (formula_has right.now))
+        found scratch.new.state) }
+    ensures lengths { KeepsLengths scratch.old scratch.new }
+{
+    match right {
+        AnyFormula::Horn(set) => Ok(Some(together(alloc, left, *set, budget, scratch)?)),
+        AnyFormula::Two(set) => Ok(Some(together(alloc, left, *set, budget, scratch)?)),
+        AnyFormula::Node(set) => Ok(Some(together(alloc, left, set, budget, scratch)?)),
+        AnyFormula::States(_) => Ok(None),
+    }
+}
