@@ -32,7 +32,7 @@ module _ (setting : Setting) (older : List Line) (id : ℕ) (ps : List ℕ) wher
   claim_true table all st W.B1 good = verdict_true setting older table st W.B1 (good O.Truth tt)
   claim_true table all st W.B2 good = verdict_true setting older table st W.B2 (good O.Truth tt)
   claim_true table all st W.B3 good = verdict_true setting older table st W.B3 (good O.Truth tt)
-  claim_true table all st W.B4 good = absurd (good O.Form)
+  claim_true table all st W.B4 good = verdict_true setting older table st W.B4 (good O.Truth tt)
   claim_true table all st W.B5 good = verdict_true setting older table st W.B5 (good O.Truth tt)
   claim_true table all st w good = sound setting.task setting.nodes older table st w ps (λ k said among says. all_true_at setting.task setting.nodes older k said table all says) (good O.Rule tt)
 

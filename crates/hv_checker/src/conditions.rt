@@ -4,32 +4,13 @@ ghost use Rattle.std.specs.Prelude.{◌≡◌, ◌<◌, ◌↔◌, length, IsTru
 ghost use Rattle.std.specs.List.{All};
 ghost use Rattle.hv_task.specs.State.{AreBelow};
 ghost use Rattle.hv_lines.specs.Numbering.{ActsReferBelow, ExprRefersBelow, IsNumbered, RefersBack, SpeaksBelow, acts_count, expr_count, known_count};
-ghost use Rattle.hv_lines.specs.Good.{ActsAreWithin, ClausesAreBelow, ExprIsWithin, FamilyFits, IsBuilt, IsBuiltWord, IsKnown, IsWithin};
+ghost use Rattle.hv_lines.specs.Good.{ActsAreWithin, ClausesAreBelow, ExprIsWithin, FamilyFits, IsKnown, IsWithin};
 
 use hv_basic::is_of_its_family;
 use hv_bdd::Diagrams;
 use hv_lines::{Acts, Expr, Line, Statement, Table, Word};
 use hv_sets::{Clauses, Literal};
 use hv_task::{AtomList, Task};
-
-/// Whether the line is of a form that is checked so far.
-pub(crate) fn is_built(line: &Line) -> bool
-    ensures { IsTrue result ↔ IsBuilt line.now }
-{
-    match line {
-        Line::Acts { .. } | Line::Expr { .. } => true,
-        Line::Known { word, .. } => is_built_word(*word),
-    }
-}
-
-fn is_built_word(word: Word) -> bool
-    ensures { IsTrue result ↔ IsBuiltWord word }
-{
-    match word {
-        Word::B4 => false,
-        _ => true,
-    }
-}
 
 /// Whether the line's identifier is the number of earlier lines of its letter.
 pub(crate) fn is_numbered(table: &Table, line: &Line) -> bool

@@ -13,7 +13,7 @@ ghost use Rattle.hv_checker.specs.Stopping.{stop_after};
 ghost use Rattle.hv_checker.specs.Texts.{text_of};
 ghost use Rattle.hv_checker.specs.declared.stop.Stop.TheVariants as S;
 
-use crate::conditions::{family_fits, is_built, is_known, is_numbered};
+use crate::conditions::{family_fits, is_known, is_numbered};
 use crate::piece::{Fed, Piece};
 use crate::stop::Stop;
 use hv_basic::{ShapeFault, Store, decide, shape};
@@ -66,8 +66,8 @@ pub(crate) fn accept(
     requires store { IsStoreOf bench.now.task.now table.old.lines store.old }
     ensures good { AreGood (setting_on bench.now) table.new.lines }
     ensures store { IsStoreOf bench.now.task.now table.new.lines store.new }
-    ensures accepted { IfOk result (λ o.
-        IsAccepted (setting_on bench.now) table.old.lines table.new.lines (text_of piece.entry) o.fed) }
+    ensures accepted { IfOk result (λ o. IsAccepted (setting_on bench.now)
+        table.old.lines table.new.lines (text_of piece.entry) o.fed) }
     ensures stop { IfOk result (λ o. o.stop ≡ stop_after S.Going o.fed) }
     ensures kept { OnErr result (table.new.lines ≡ table.old.lines) }
 {
@@ -192,9 +192,6 @@ fn fault(
     requires spelled { IsSpelled line.now }
     ensures { IfOk result (λ f. IsFault (setting_on bench.now) table.now.lines line.now f) }
 {
-    if !is_built(line) {
-        return Ok(Some(Reason::Unbuilt));
-    }
     if !is_numbered(table, line) {
         return Ok(Some(Reason::Number));
     }

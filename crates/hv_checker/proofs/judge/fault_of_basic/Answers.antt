@@ -7,4 +7,4 @@ pub returns-in_ok-verdict-in-Ok : goal.returns-in_ok-verdict-in-Ok
 returns-in_ok-verdict-in-Ok c =
     subst (IsBasicFault (setting_on c.args.bench.now) c.args.table.now.lines c.args.statement.now c.args.word) (sym c.reason_by.ensures)
     (by_verdict (setting_on c.args.bench.now) c.args.table.now.lines c.args.statement.now c.args.word c.in-Ok.basic
-    c.in_ok-verdict-in-Ok.verdict c.in-Ok.ensures.ok c.in_ok-verdict-in-Ok.ensures)
+    c.in_ok-verdict-in-Ok.verdict c.in-Ok.ensures.ok c.in_ok-verdict-in-Ok.ensures.answer)
