@@ -236,7 +236,7 @@ module _ (task : Strips) (is_task : IsTask task) (old : List Line) (good : IsGoo
       ))
       m 0 at_after (one_leaf and_parts B4 m (E.Horn clauses) at_set refl)
       (formed_known setting B4 k (T.Sub (m + 1) (m + 2)) W.B2 [] (omega (arith, k_few)) (omega (arith, m_few), omega (arith, m_few))
-      (All-nil FitsDecimal) refl tt k_is (omega (arith, m_is), omega (arith, m_is)) (All-nil (λ x. x < known_count B4)))
+      (All-nil FitsDecimal) refl k_is (omega (arith, m_is), omega (arith, m_is)) (All-nil (λ x. x < known_count B4)))
       (λ number a named state is_state applies inside. (
         m,
         (1, omega arith, refl),
@@ -269,7 +269,7 @@ module _ (task : Strips) (is_task : IsTask task) (old : List Line) (good : IsGoo
       (leaves_ba and_parts B5 (m + 3) m 2 (E.And m 2) at_and refl (one_leaf and_parts B5 m (E.Horn clauses) at_set refl)
       (one_leaf and_parts B5 2 (E.Constant C.Goal) at_goal refl))
       (formed_known setting B5 (k + 1) (T.Sub (m + 3) 0) W.B1 [] (omega (arith, k_few)) (omega (arith, m_few), zero_fits)
-      (All-nil FitsDecimal) refl tt (omega (arith, k_is)) (omega (arith, m_is), omega arith) (All-nil (λ x. x < known_count B5)))
+      (All-nil FitsDecimal) refl (omega (arith, k_is)) (omega (arith, m_is), omega arith) (All-nil (λ x. x < known_count B5)))
       (λ state is_state inside.
       absurd (dead.goalless state is_state
       (set_out task setting.nodes B5 m (E.Horn clauses) table5 at_set state (inside m (1, omega arith, refl)))
@@ -296,7 +296,7 @@ module _ (task : Strips) (is_task : IsTask task) (old : List Line) (good : IsGoo
     record {
       good = good_rule setting B6 (k + 2) (T.Dead (m + 3)) W.Sd ((k + 1) ∷ 0 ∷ []) (λ basic. basic)
           (formed_known setting B6 (k + 2) (T.Dead (m + 3)) W.Sd ((k + 1) ∷ 0 ∷ []) (omega (arith, k_few)) (omega (arith, m_few)) fits7
-          refl tt (omega (arith, k_is)) (omega (arith, m_is)) (below_two (known_count B6) (k + 1) 0 (omega (arith, k_is)) (omega arith)))
+          refl (omega (arith, k_is)) (omega (arith, m_is)) (below_two (known_count B6) (k + 1) 0 (omega (arith, k_is)) (omega arith)))
           (0, statement_at_here (k + 1) (T.Sub (m + 3) 0) W.B1 [] B5, says6);
       short = short_known (k + 2) (T.Dead (m + 3)) W.Sd ((k + 1) ∷ 0 ∷ []) (omega (arith, k_few)) (omega (arith, m_few)) fits7
           (omega arith) (omega arith);
@@ -315,7 +315,7 @@ module _ (task : Strips) (is_task : IsTask task) (old : List Line) (good : IsGoo
   line8 : IsGood setting B7 L8
   line8 =
       good_rule setting B7 (k + 3) (T.Dead m) W.Pg (k ∷ 0 ∷ (k + 2) ∷ []) (λ basic. basic)
-      (formed_known setting B7 (k + 3) (T.Dead m) W.Pg (k ∷ 0 ∷ (k + 2) ∷ []) (omega (arith, k_few)) m_fits fits8 refl tt
+      (formed_known setting B7 (k + 3) (T.Dead m) W.Pg (k ∷ 0 ∷ (k + 2) ∷ []) (omega (arith, k_few)) m_fits fits8 refl
       (omega (arith, k_is)) (omega (arith, m_is))
       (below_three (known_count B7) k 0 (k + 2) (omega (arith, k_is)) (omega arith) (omega (arith, k_is)))) (
         m + 1,
@@ -392,7 +392,7 @@ module _ (task : Strips) (is_task : IsTask task) (clauses : List (List Literal))
         product_one (draft_setting task) Block 3 (length clauses) (horn_clauses (draft_setting task) Block 3 clauses set_at),
       ))
       (one_leaf and_parts Block 1 (E.Constant C.Start) start_at refl)
-      (formed_known (draft_setting task) Block 5 (T.Sub 1 3) W.B1 [] (omega arith) (omega arith, omega arith) (All-nil FitsDecimal) refl tt
+      (formed_known (draft_setting task) Block 5 (T.Sub 1 3) W.B1 [] (omega arith) (omega arith, omega arith) (All-nil FitsDecimal) refl
       refl (omega arith, omega arith) (All-nil (λ x. x < known_count Block)))
       (λ state is_state inside. (3, (0, omega arith, refl), holds_start state (inside 1 (0, omega arith, refl))))
 

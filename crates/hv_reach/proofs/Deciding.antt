@@ -3,24 +3,24 @@ use Rattle.std.proofs.Common.{◌≡◌, ℕ, suc, ◌⊎◌, ◌↔◌, Bool, t
 use Rattle.std.proofs.lemmas.List.Elements.{All-cons, All-contains, All-nil}
 use Rattle.std.specs.List.{All, Contains}
 use Rattle.hv_task.specs.State.{names_atom}
-use Rattle.hv_task.specs.Strips.{Strips, start_state}
+use Rattle.hv_task.specs.Strips.{Strips}
 use Rattle.hv_task.proofs.Places.{names_atom-Decides}
 use Rattle.hv_reach.specs.Reached.{HasPairsOf, ReachedAtom, ReachedPair}
-use Rattle.hv_reach.specs.Written.{PairsExclude, RelaxedExcludes}
+use Rattle.hv_reach.specs.Written.{PairsExcludeFrom, RelaxedExcludesFrom}
 use Rattle.hv_reach.proofs.Denials.{bool_dec, false_true, lacks_one}
 
-module _ (task : Strips) (list : List ℕ) (each : (p : ℕ) → Contains list p ↔ ReachedAtom task (start_state task) p) where
-  pub named_reached : (p : ℕ) → (names_atom list p ≡ true) ↔ ReachedAtom task (start_state task) p
+module _ (task : Strips) (start : List Bool) (list : List ℕ) (each : (p : ℕ) → Contains list p ↔ ReachedAtom task start p) where
+  pub named_reached : (p : ℕ) → (names_atom list p ≡ true) ↔ ReachedAtom task start p
   named_reached p =
       let tells = names_atom-Decides list p in
       (λ is. (each p).0 (tells.0 is), λ reached. tells.1 ((each p).1 reached))
 
-  pub relaxed_excludes : (All (λ p. Contains list p) task.goal → ⊥) → RelaxedExcludes task
+  pub relaxed_excludes : (All (λ p. Contains list p) task.goal → ⊥) → RelaxedExcludesFrom task start
   relaxed_excludes out =
       let w = lacks_one list task.goal out in
       (w.0, w.1, λ reached. w.2 ((each w.0).1 reached))
 
-  pub relaxed_reached : All (λ p. Contains list p) task.goal → RelaxedExcludes task → ⊥
+  pub relaxed_reached : All (λ p. Contains list p) task.goal → RelaxedExcludesFrom task start → ⊥
   relaxed_reached all (p, at, out) = out ((each p).0 (All-contains (λ x. Contains list x) task.goal p all at))
 
 -- all of a row, or one that isn't in it
@@ -48,15 +48,15 @@ pair_cases r (p ∷ ps) qs =
       | inr w ↦ inr (p, w.0, (0, omega arith, refl), w.1, w.2)
     ]
 
-module _ (task : Strips) (r : ℕ → ℕ → Bool) (each : (p q : ℕ) → (r p q ≡ true) ↔ ReachedPair task (start_state task) p q) where
-  pub pairs_exclude : (HasPairsOf r task.goal → ⊥) → PairsExclude task
+module _ (task : Strips) (start : List Bool) (r : ℕ → ℕ → Bool) (each : (p q : ℕ) → (r p q ≡ true) ↔ ReachedPair task start p q) where
+  pub pairs_exclude : (HasPairsOf r task.goal → ⊥) → PairsExcludeFrom task start
   pairs_exclude out =
       elim (pair_cases r task.goal task.goal) [
         | inl all ↦ absurd (out all)
         | inr w ↦ (w.0, w.1, w.2, w.3, λ reached. false_true (r w.0 w.1) w.4 ((each w.0 w.1).1 reached))
       ]
 
-  pub pairs_reached : HasPairsOf r task.goal → PairsExclude task → ⊥
+  pub pairs_reached : HasPairsOf r task.goal → PairsExcludeFrom task start → ⊥
   pairs_reached all (p, q, at, also, out) =
       out ((each p q).0
       (All-contains (λ y. r p y ≡ true) task.goal q (All-contains (λ x. All (λ y. r x y ≡ true) task.goal) task.goal p all at) also))

@@ -6,12 +6,14 @@ use Rattle.std.proofs.lemmas.List.FromFn.{length-range_with_len}
 use Rattle.std.specs.List.{All, Contains, flat_map, list_all, range_with_len}
 use Rattle.hv_task.specs.declared.action.Action.{Action}
 use Rattle.hv_task.specs.State.{applicable, has_atom, names_atom, successor}
-use Rattle.hv_task.specs.Strips.{Strips, atoms, is_goal, start_state}
+use Rattle.hv_task.specs.Strips.{Strips, IsState, atoms, is_goal, start_state}
 use Rattle.hv_task.proofs.Places.{IsState-start_state, has_all-Decides, has_atom-successor, length-successor, names_atom-Decides}
 use Rattle.hv_sets.specs.Truth.{in_clause, in_clauses}
 use Rattle.hv_sets.specs.declared.literal.Literal.{Literal}
 use Rattle.hv_reach.specs.Reached.{ClosedAtoms, ClosedPairs, HasPairsOf, LeavesAlone, ReachedAtom, ReachedPair}
-use Rattle.hv_reach.specs.Written.{IsDenial, PairsExclude, RelaxedExcludes, Separates, atom_clauses, denied, pair_clauses, pairs_formula, relaxed_formula, row_clauses}
+use Rattle.hv_lines.specs.Meaning.{StateSet}
+use Rattle.hv_reach.specs.Pruners.{IsReason, PairsCover}
+use Rattle.hv_reach.specs.Written.{IsDeadEnd, IsDenial, PairsExclude, PairsExcludeFrom, RelaxedExcludes, RelaxedExcludesFrom, Separates, atom_clauses, denied, pair_clauses, pairs_formula, relaxed_formula, row_clauses}
 use Rattle.hv_reach.proofs.Lists.{All-below, All-flat_map, All-range, all_pass, in_range, length-pieces, pieces_pass}
 use Rattle.hv_reach.proofs.Sets.{has_within}
 
@@ -323,41 +325,93 @@ module _ (task : Strips) (start : List Bool) (r : ℕ → ℕ → Bool) (closed 
 goal_held : (task : Strips) (s : List Bool) (p : ℕ) → is_goal task s ≡ true → Contains task.goal p → has_atom s p ≡ true
 goal_held task s p is there = All-contains (λ x. has_atom s x ≡ true) task.goal p ((has_all-Decides task.goal s).0 is) there
 
-module _ (task : Strips) (r : ℕ → Bool) (is : (p : ℕ) → (r p ≡ true) ↔ ReachedAtom task (start_state task) p) (few : atoms task ≤ 65535) where
-  -- where the goal is excluded by the reached atoms, the formula of the unreached ones separates it
-  pub relaxed_separates : RelaxedExcludes task → Separates task (relaxed_formula (atoms task) r)
-  relaxed_separates out = record {
-    dead = record {
-      denials = relaxed_denials (atoms task) r;
-      few = omega (arith, relaxed_few (atoms task) r, few);
-      stays = λ k a at s is_state applies holds.
-          relaxed_from (atoms task) (successor a s) (length-successor a s ∙ is_state) r
-          (reached_stay task (start_state task) r (atoms_closed task (start_state task) r is) k a at s applies
-          (relaxed_to (atoms task) s is_state r holds));
-      goalless = λ s is_state holds goal.
-          out.2 ((is out.0).0 (relaxed_to (atoms task) s is_state r holds out.0 (goal_held task s out.0 goal out.1)));
-    };
-    starts = relaxed_from (atoms task) (start_state task) (IsState-start_state task) r
-        (atoms_closed task (start_state task) r is).begins;
+module _ (task : Strips) (start : List Bool) (r : ℕ → Bool) (is : (p : ℕ) → (r p ≡ true) ↔ ReachedAtom task start p)
+    (few : atoms task ≤ 65535) (is_start : IsState task start) (out : RelaxedExcludesFrom task start) where
+  atom_closed : ClosedAtoms task start r
+  atom_closed = atoms_closed task start r is
+
+  -- no action leads out of the formula of the unreached atoms, and it holds no goal state
+  relaxed_dead : IsDeadEnd task (relaxed_formula (atoms task) r)
+  relaxed_dead = record {
+    denials = relaxed_denials (atoms task) r;
+    few = omega (arith, relaxed_few (atoms task) r, few);
+    stays = λ k a at s is_state applies holds.
+        relaxed_from (atoms task) (successor a s) (length-successor a s ∙ is_state) r
+        (reached_stay task start r atom_closed k a at s applies (relaxed_to (atoms task) s is_state r holds));
+    goalless = λ s is_state holds goal.
+        out.2 ((is out.0).0 (relaxed_to (atoms task) s is_state r holds out.0 (goal_held task s out.0 goal out.1)));
   }
 
-module _ (task : Strips) (r : ℕ → ℕ → Bool) (is : (p q : ℕ) → (r p q ≡ true) ↔ ReachedPair task (start_state task) p q)
-    (few : atoms task ≤ 1024) where
-  -- where the goal is excluded by the reached pairs, the formula of the unreached ones separates it
-  pub pairs_separates : PairsExclude task → Separates task (pairs_formula (atoms task) r)
-  pairs_separates out = record {
-    dead = record {
-      denials = pairs_denials (atoms task) r;
-      few = pairs_few (atoms task) r few;
-      stays = λ k a at s is_state applies holds.
-          pairs_from (atoms task) (successor a s) (length-successor a s ∙ is_state) r
-          (pairs_stay task (start_state task) r closed k a at s applies (pairs_to (atoms task) s is_state r closed.even holds));
-      goalless = λ s is_state holds goal.
-          out.4 ((is out.0 out.1).0 (pairs_to (atoms task) s is_state r closed.even holds out.0 out.1
-          (goal_held task s out.0 goal out.2) (goal_held task s out.1 goal out.3)));
-    };
-    starts = pairs_from (atoms task) (start_state task) (IsState-start_state task) r closed.begins;
+  -- it holds the state from which the atoms are reached, and only states from which the same goal atom isn't reached
+  pub relaxed_reason : IsReason task (RelaxedExcludesFrom task) start (relaxed_formula (atoms task) r)
+  relaxed_reason = record {
+    dead = relaxed_dead;
+    holds = relaxed_from (atoms task) start is_start r atom_closed.begins;
+    within = λ s is_state holds. (
+      out.0,
+      out.1,
+      λ reached. out.2 ((is out.0).0 (reached r record {
+        begins = relaxed_to (atoms task) s is_state r holds;
+        keeps = atom_closed.keeps;
+      })),
+    );
   }
-    where
-      closed : ClosedPairs task (start_state task) r
-      closed = pairs_closed task (start_state task) r is
+
+module _ (task : Strips) (start : List Bool) (r : ℕ → ℕ → Bool) (is : (p q : ℕ) → (r p q ≡ true) ↔ ReachedPair task start p q)
+    (few : atoms task ≤ 1024) (is_start : IsState task start) (out : PairsExcludeFrom task start) where
+  pair_closed : ClosedPairs task start r
+  pair_closed = pairs_closed task start r is
+
+  -- no action leads out of the formula of the unreached pairs, and it holds no goal state
+  pairs_dead : IsDeadEnd task (pairs_formula (atoms task) r)
+  pairs_dead = record {
+    denials = pairs_denials (atoms task) r;
+    few = pairs_few (atoms task) r few;
+    stays = λ k a at s is_state applies holds.
+        pairs_from (atoms task) (successor a s) (length-successor a s ∙ is_state) r
+        (pairs_stay task start r pair_closed k a at s applies (pairs_to (atoms task) s is_state r pair_closed.even holds));
+    goalless = λ s is_state holds goal.
+        out.4 ((is out.0 out.1).0 (pairs_to (atoms task) s is_state r pair_closed.even holds out.0 out.1
+        (goal_held task s out.0 goal out.2) (goal_held task s out.1 goal out.3)));
+  }
+
+  -- it holds the state from which the pairs are reached, and only states from which the same goal pair isn't reached
+  pub pairs_reason : IsReason task (PairsCover task) start (pairs_formula (atoms task) r)
+  pairs_reason = record {
+    dead = pairs_dead;
+    holds = pairs_from (atoms task) start is_start r pair_closed.begins;
+    within = λ s is_state holds. (
+      few,
+      (
+        out.0,
+        out.1,
+        out.2,
+        out.3,
+        λ reached. out.4 ((is out.0 out.1).0 (reached r record {
+          even = pair_closed.even;
+          begins = pairs_to (atoms task) s is_state r pair_closed.even holds;
+          both = pair_closed.both;
+          other = pair_closed.other;
+        })),
+      ),
+    );
+  }
+
+-- a formula that shows why the initial state is dead separates it from the goal
+pub reason_separates : (task : Strips) (covered : StateSet) (clauses : List (List Literal)) → IsReason task covered (start_state task) clauses
+    → Separates task clauses
+reason_separates task covered clauses reason = record { dead = reason.dead; starts = reason.holds }
+
+-- where the goal is excluded by the reached atoms, the formula of the unreached ones separates it
+pub relaxed_separates : (task : Strips) (r : ℕ → Bool) → ((p : ℕ) → (r p ≡ true) ↔ ReachedAtom task (start_state task) p)
+    → atoms task ≤ 65535 → RelaxedExcludes task → Separates task (relaxed_formula (atoms task) r)
+relaxed_separates task r is few out =
+    reason_separates task (RelaxedExcludesFrom task) (relaxed_formula (atoms task) r)
+    (relaxed_reason task (start_state task) r is few (IsState-start_state task) out)
+
+-- where the goal is excluded by the reached pairs, the formula of the unreached ones separates it
+pub pairs_separates : (task : Strips) (r : ℕ → ℕ → Bool) → ((p q : ℕ) → (r p q ≡ true) ↔ ReachedPair task (start_state task) p q)
+    → atoms task ≤ 1024 → PairsExclude task → Separates task (pairs_formula (atoms task) r)
+pairs_separates task r is few out =
+    reason_separates task (PairsCover task) (pairs_formula (atoms task) r)
+    (pairs_reason task (start_state task) r is few (IsState-start_state task) out)

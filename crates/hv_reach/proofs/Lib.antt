@@ -10,3 +10,5 @@ pub mod Denials
 pub mod Block
 pub mod Deciding
 pub mod Proofs
+pub mod Passing
+pub mod Writing

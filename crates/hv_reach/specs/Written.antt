@@ -15,16 +15,24 @@ use Rattle.hv_lines.specs.declared.line.Statement.TheVariants as T
 use Rattle.hv_lines.specs.declared.line.Word.TheVariants as W
 use Rattle.hv_reach.specs.Reached.{ReachedAtom, ReachedPair}
 
+-- the goal has an atom that isn't reached from the state
+abbrev pub RelaxedExcludesFrom : Strips → List Bool → Type 0
+RelaxedExcludesFrom task state =
+    (p : ℕ) × Contains task.goal p × (ReachedAtom task state p → ⊥)
+
 -- the goal has an atom that isn't reached from the initial state
 abbrev pub RelaxedExcludes : Strips → Type 0
-RelaxedExcludes task =
-    (p : ℕ) × Contains task.goal p × (ReachedAtom task (start_state task) p → ⊥)
+RelaxedExcludes task = RelaxedExcludesFrom task (start_state task)
+
+-- the goal has a pair of atoms, possibly equal, that isn't reached from the state
+abbrev pub PairsExcludeFrom : Strips → List Bool → Type 0
+PairsExcludeFrom task state =
+    (p : ℕ) × (q : ℕ) × Contains task.goal p × Contains task.goal q
+    × (ReachedPair task state p q → ⊥)
 
 -- the goal has a pair of atoms, possibly equal, that isn't reached from the initial state
 abbrev pub PairsExclude : Strips → Type 0
-PairsExclude task =
-    (p : ℕ) × (q : ℕ) × Contains task.goal p × Contains task.goal q
-    × (ReachedPair task (start_state task) p q → ⊥)
+PairsExclude task = PairsExcludeFrom task (start_state task)
 
 -- the literal that denies an atom
 abbrev pub denied : ℕ → Literal

@@ -38,9 +38,9 @@ pub(crate) fn denied(atom: u32) -> Literal
     }
 }
 
-// The eight lines which show that the states of the formula are dead; it becomes this set, and the
-// first statement has this identifier.
-fn dead_block(
+/// The eight lines which show that the states of the formula are dead; it becomes this set, and the
+/// first statement has this identifier.
+pub(crate) fn dead_block(
     alloc: Global,
     set: usize,
     id: usize,

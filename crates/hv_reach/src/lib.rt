@@ -1,5 +1,5 @@
 //! The atoms, and the pairs of atoms, that can be reached in a task from a state; and the proofs that
-//! there is no plan where the goal isn't reached.
+//! there is no plan where the goal isn't reached; and pruners by them.
 #![tactic(auto)]
 
 pub mod atoms;
@@ -8,11 +8,14 @@ mod horn_proof;
 mod index;
 pub mod laws;
 mod mask;
+mod notes;
+pub mod pair_pruner;
 pub mod paired;
 pub mod pairs;
 #[cfg(test)]
 mod proof_tests;
 pub mod relaxed;
+pub mod relaxed_pruner;
 mod search;
 mod table;
 #[cfg(test)]
@@ -21,6 +24,8 @@ mod tests;
 pub use atoms::reached_atoms;
 pub use fault::ReachFault;
 pub use laws::{laws_of_pair_proofs, laws_of_relaxed_proofs};
+pub use pair_pruner::PairPruner;
 pub use paired::prove_pairs;
 pub use pairs::{Pairs, reached_pairs};
 pub use relaxed::prove_relaxed;
+pub use relaxed_pruner::RelaxedPruner;

@@ -3,21 +3,22 @@
 ghost use Rattle.std.specs.Prelude.{◌≡◌, ◌<◌, ◌≤◌, ◌↔◌, ◌++◌, IsTrue, IfOk, IfErr, IfSome, OnOk, is_some, length};
 ghost use Rattle.hv_lines.specs.Drafts.{IsGoodTable};
 ghost use Rattle.hv_lines.specs.Judged.{Concludes};
-ghost use Rattle.hv_task.specs.Strips.{atoms};
+ghost use Rattle.hv_task.specs.Strips.{IsState, atoms};
 ghost use Rattle.hv_reach.specs.declared.fault.ReachFault.TheVariants as F;
+ghost use Rattle.hv_reach.specs.Pruners.{IsPairsFormula, IsReason, PairsCover};
 ghost use Rattle.hv_reach.specs.Reached.{has_pair};
-ghost use Rattle.hv_reach.specs.Written.{IsPairsProof, PairsExclude, pair_clauses, pairs_formula, row_clauses};
+ghost use Rattle.hv_reach.specs.Written.{IsPairsProof, PairsExclude, PairsExcludeFrom, pair_clauses, pairs_formula, row_clauses};
 
 use crate::fault::ReachFault;
 use crate::horn_proof::{denied, horn_proof};
 use crate::pairs::{Pairs, reached_pairs};
 use hv_lines::Draft;
 use hv_sets::Clauses;
-use hv_task::Task;
+use hv_task::{State, Task};
 use std::alloc::{AllocError, Global};
 
-// The most atoms of a task whose pairs are looked at.
-const MOST_ATOMS: u32 = 1024;
+/// The most atoms of a task whose pairs are looked at.
+pub(crate) const MOST_ATOMS: u32 = 1024;
 
 /// The proof that the task has no plan where some pair of goal atoms, possibly equal, isn't reached
 /// from the initial state; otherwise there is none.
@@ -49,13 +50,37 @@ fn pairs_proof(alloc: Global, task: &Task) -> Result<Option<Draft>, AllocError>
     ensures concludes { IfOk result (λ found. IfSome found (λ draft. Concludes draft.lines)) }
 {
     let start = task.start_state(alloc)?;
-    let pairs = reached_pairs(alloc, task, &start)?;
+    match pairs_reason(alloc, task, &start)? {
+        Some(clauses) => {
+            let draft = horn_proof(alloc, task, clauses)?;
+            Ok(Some(draft))
+        }
+        None => Ok(None),
+    }
+}
+
+/// The formula of the states that hold no other pairs than those reached from this state, where
+/// some pair of goal atoms, possibly equal, isn't reached; otherwise there is none.
+pub(crate) fn pairs_reason(
+    alloc: Global,
+    task: &Task,
+    state: &State,
+) -> Result<Option<Clauses>, AllocError>
+    requires few { atoms task.now ≤ 1024 }
+    requires state { IsState task.now state.now }
+    ensures some { IfOk result (λ found. IsTrue (is_some found)
+        ↔ PairsExcludeFrom task.now state.now) }
+    ensures formula { IfOk result (λ found. IfSome found (λ clauses.
+        IsPairsFormula task.now state.now clauses)) }
+    ensures reason { IfOk result (λ found. IfSome found (λ clauses.
+        IsReason task.now (PairsCover task.now) state.now clauses)) }
+{
+    let pairs = reached_pairs(alloc, task, state)?;
     if pairs.has_all(task.atoms(), task.goal().as_slice()) {
         return Ok(None);
     }
     let clauses = pairs_formula(alloc, task.atoms(), &pairs)?;
-    let draft = horn_proof(alloc, task, clauses)?;
-    Ok(Some(draft))
+    Ok(Some(clauses))
 }
 
 // The formula of the states that hold no other pairs than these.

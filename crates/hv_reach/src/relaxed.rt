@@ -4,13 +4,15 @@ ghost use Rattle.std.specs.Prelude.{◌≡◌, ◌↔◌, ◌++◌, IsTrue, IfOk
 ghost use Rattle.hv_lines.specs.Drafts.{IsGoodTable};
 ghost use Rattle.hv_lines.specs.Judged.{Concludes};
 ghost use Rattle.hv_task.specs.State.{names_atom};
-ghost use Rattle.hv_reach.specs.Written.{IsRelaxedProof, RelaxedExcludes, atom_clauses, relaxed_formula};
+ghost use Rattle.hv_task.specs.Strips.{IsState};
+ghost use Rattle.hv_reach.specs.Pruners.{IsReason, IsRelaxedFormula};
+ghost use Rattle.hv_reach.specs.Written.{IsRelaxedProof, RelaxedExcludes, RelaxedExcludesFrom, atom_clauses, relaxed_formula};
 
 use crate::atoms::reached_atoms;
 use crate::horn_proof::{denied, horn_proof};
 use hv_lines::Draft;
 use hv_sets::Clauses;
-use hv_task::{AtomList, Task};
+use hv_task::{AtomList, State, Task};
 use std::alloc::{AllocError, Global};
 
 /// The proof that the task has no plan where some goal atom isn't reached from the initial state;
@@ -23,15 +25,38 @@ pub fn prove_relaxed(alloc: Global, task: &Task) -> Result<Option<Draft>, AllocE
         IsGoodTable task.now draft.lines)) }
     ensures concludes { IfOk result (λ found. IfSome found (λ draft. Concludes draft.lines)) }
 {
-    let _atoms = task.atoms();
     let start = task.start_state(alloc)?;
-    let reached = reached_atoms(alloc, task, &start)?;
+    match relaxed_reason(alloc, task, &start)? {
+        Some(clauses) => {
+            let draft = horn_proof(alloc, task, clauses)?;
+            Ok(Some(draft))
+        }
+        None => Ok(None),
+    }
+}
+
+/// The formula of the states that hold no other atoms than those reached from this state, where
+/// some goal atom isn't reached; otherwise there is none.
+pub(crate) fn relaxed_reason(
+    alloc: Global,
+    task: &Task,
+    state: &State,
+) -> Result<Option<Clauses>, AllocError>
+    requires { IsState task.now state.now }
+    ensures some { IfOk result (λ found. IsTrue (is_some found)
+        ↔ RelaxedExcludesFrom task.now state.now) }
+    ensures formula { IfOk result (λ found. IfSome found (λ clauses.
+        IsRelaxedFormula task.now state.now clauses)) }
+    ensures reason { IfOk result (λ found. IfSome found (λ clauses.
+        IsReason task.now (RelaxedExcludesFrom task.now) state.now clauses)) }
+{
+    let _atoms = task.atoms();
+    let reached = reached_atoms(alloc, task, state)?;
     if reached.has_all(task.goal().as_slice()) {
         return Ok(None);
     }
     let clauses = relaxed_formula(alloc, task.atoms(), &reached)?;
-    let draft = horn_proof(alloc, task, clauses)?;
-    Ok(Some(draft))
+    Ok(Some(clauses))
 }
 
 // The formula of the states that hold no other atoms than these.
