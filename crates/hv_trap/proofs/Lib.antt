@@ -1,0 +1,10 @@
+pub mod Lists
+pub mod Listed
+pub mod Enclosing
+pub mod Trapped
+pub mod Sides
+pub mod TwoBasics
+pub mod Formulas
+pub mod Block
+pub mod Proofs
+pub mod Trues

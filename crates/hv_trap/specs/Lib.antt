@@ -1,0 +1,4 @@
+pub mod Conjunctions
+pub mod Trap
+pub mod Asking
+pub mod Written
