@@ -1,5 +1,5 @@
 -- What is answered to a check, from what was read and judged.
-use Rattle.std.proofs.Common.{◌≡◌, ℕ, ◌∙◌, List, Option, Some, None, Err, IfSome, inl, inr, ap, refl, reverse, subst, sym}
+use Rattle.std.proofs.Common.{◌≡◌, ℕ, ◌∙◌, List, Option, Some, None, Err, IfSome, [], arith, codes, inl, inr, ap, refl, unwrap_or, reverse, subst, sym}
 use Rattle.std.specs.Option.{option_map}
 use Rattle.hv_bytes.specs.Files.{Names, bytes_of}
 use Rattle.hv_bytes.specs.Standard.{standard}
@@ -7,7 +7,7 @@ use Rattle.hv_task.specs.Strips.{Strips, atoms}
 use Rattle.hv_task_text.specs.TaskText.{IsReadFrom, TaskText}
 use Rattle.hv_task_text.specs.declared.fault.TaskFault.{TaskFault}
 use Rattle.hv_task_text.specs.declared.fault.TaskFault.TheVariants as F
-use Rattle.hv_lines.specs.Judged.{Accepts, LineText, Refused}
+use Rattle.hv_lines.specs.Judged.{Accepts, Concludes, Judged, JudgedBytes, Judgement, LineText, NoConclusion, Refused, Unsolvable, outline_of}
 use Rattle.hv_lines.specs.declared.reason.Reason.{Reason}
 use Rattle.hv_checker.specs.Stands.{CheckerState, IsEnd, Refusal, Stands, StandsAt, refusal_at, refusal_of}
 use Rattle.hv_checker.specs.declared.stop.Stop.{Stop}
@@ -15,13 +15,20 @@ use Rattle.hv_checker.specs.declared.stop.Stop.TheVariants as C
 use Rattle.hv_checker.specs.declared.piece.End.{End}
 use Rattle.hv_checker.specs.declared.piece.End.TheVariants as E
 use Rattle.hv_bdd.specs.NodeText.{AreTextOf, IsReadFrom as IsNodesRead}
-use Rattle.hv_bdd.specs.Nodes.{NodeList}
+use Rattle.hv_bdd.specs.Nodes.{NodeList, no_nodes}
+use Rattle.hv_lines.specs.Drafts.{IsGoodTable, default_budget, draft_setting}
+use Rattle.hv_lines.specs.Spelling.{proof_text}
+use Rattle.hv_lines.specs.declared.line.Line.{Line}
+use Rattle.hv_proof_text.proofs.ReadBack.{draft_judged, draft_small}
 use Rattle.hv_bdd.specs.declared.fault.NodesFault.{NodesFault}
 use Rattle.hv_bdd.specs.declared.fault.NodesFault.TheVariants as N
 use Rattle.hv_bytes.specs.Pieces.{pieces_of}
-use Rattle.hv_lines.specs.Setting.{setting_of}
-use Rattle.hv_command.specs.Answer.{Answer, AnswersCheck, AnswersPieces, AnswersProduce, AnswersProof, AnswersTask, AnswersTold}
-use Rattle.hv_command.specs.Replies.{IsNodesFault, IsTextFault, nodes_fault_text, refused_text, task_fault_text}
+use Rattle.hv_lines.specs.Setting.{Setting, setting_of}
+use Rattle.hv_checker.proofs.OneJudgement.{judged_once}
+use Rattle.hv_command.specs.Answer.{Answer, AnswersCheck, AnswersPieces, AnswersProduce, AnswersProof, AnswersTask, AnswersTold, IsTold}
+use Rattle.hv_command.specs.Replies.{IsNodesFault, IsTextFault, judgement_status, nodes_fault_text, refused_text, task_fault_text, unsolvable_text}
+use Rattle.hv_command.specs.Sample.{IsHornProof, sample_text}
+use Rattle.hv_command.proofs.Sampled.{horn_size}
 use Rattle.hv_command.specs.declared.job.Job.TheVariants as J
 use Rattle.hv_command.specs.declared.job.Kind.{Kind}
 use Rattle.hv_command.specs.declared.job.Report.{Report}
@@ -127,3 +134,43 @@ pub all_accepted : (checker : CheckerState) (stop : Stop) (pieces : List LineTex
 all_accepted checker C.Going pieces none found stands = stands.1
 all_accepted checker (C.Refused reason) pieces none found stands = absurd (cc)
 all_accepted checker C.Memory pieces none found stands = absurd (found refl)
+
+-- the answer to a sample, whatever files there are
+pub told_sample : (rooms : ℕ) (held : Option Names) (status : Status) (text : List ℕ) → status ≡ S.Done → text ≡ sample_text rooms
+    → AnswersTold (Some (J.Sample rooms)) held status text
+told_sample rooms None status text done says = λ unread files. (done, says)
+told_sample rooms (Some h) status text done says = (done, says)
+
+-- what a proof is judged is said of it
+pub judged_unsolvable : (setting : Setting) (pieces : List LineText) (status : Status) (text : List ℕ) → Judged setting pieces Unsolvable
+    → AnswersPieces P.Verdict setting pieces status text → (status ≡ S.Done) × (text ≡ unsolvable_text)
+judged_unsolvable setting pieces status text judged (other, also, status_is, told) =
+    told_of other (judged_once setting pieces other Unsolvable also judged) status_is told
+  where
+    told_of : (j : Judgement) → outline_of j ≡ outline_of Unsolvable → status ≡ judgement_status j → IsTold setting pieces j P.Verdict text
+        → (status ≡ S.Done) × (text ≡ unsolvable_text)
+    told_of Unsolvable e is says = (is, says)
+    told_of (Refused line reason) e is says = absurd (cc)
+    told_of NoConclusion e is says = absurd (cc)
+
+-- the file `proof` is judged so, without a node file and within the default budget
+pub file_unsolvable : (task : Strips) (nodes : NodeList) (count : ℕ) (held : Names) (name : List ℕ) (status : Status) (text : List ℕ)
+    → JudgedBytes (draft_setting task) standard (bytes_of held (codes "proof")) Unsolvable → count ≡ atoms task → nodes ≡ no_nodes count
+    → name ≡ codes "proof" → AnswersProof P.Verdict (setting_of task nodes default_budget) (bytes_of held name) status text
+    → (status ≡ S.Done) × (text ≡ unsolvable_text)
+file_unsolvable task nodes count held name status text judged count_is nodes_is name_is answers =
+    judged_unsolvable (draft_setting task) (pieces_of standard (bytes_of held (codes "proof"))) status text judged
+    (subst (λ list. AnswersProof P.Verdict (setting_of task list default_budget) (bytes_of held (codes "proof")) status text)
+    (nodes_is ∙ ap no_nodes count_is)
+    (subst (λ n. AnswersProof P.Verdict (setting_of task nodes default_budget) (bytes_of held n) status text) name_is answers))
+
+-- a good proof by a Horn formula is judged so from its text
+pub horn_judged : (task : Strips) (lines : List Line) → IsHornProof lines → IsGoodTable task lines → Concludes lines
+    → JudgedBytes (draft_setting task) standard (proof_text (reverse lines)) Unsolvable
+horn_judged task lines horn good concludes =
+    let size = horn_size lines horn in
+    draft_judged task lines good concludes (draft_small task lines good (omega (arith, size)))
+
+-- what is held under a name
+pub held_bytes : (held : Names) (name bytes : List ℕ) → held name ≡ Some bytes → bytes_of held name ≡ bytes
+held_bytes held name bytes e = ap (λ b. unwrap_or b []) e

@@ -1,6 +1,6 @@
 pub mod AcceptedLines
 pub mod AtomTexts
-pub mod Budgets
+pub mod Numbers
 pub mod Checked
 pub mod FedFiles
 pub mod OneAnswer
@@ -8,3 +8,4 @@ pub mod SoundAnswers
 mod Options
 pub mod TaskTexts
 pub mod Produced
+pub mod Sampled

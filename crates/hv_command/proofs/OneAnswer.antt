@@ -42,7 +42,6 @@ plain_or_false R.Shape = inl refl
 plain_or_false R.NotOffered = inl refl
 plain_or_false R.Budget = inl refl
 plain_or_false (R.False a) = inr (a, refl)
-plain_or_false R.Unbuilt = inl refl
 
 -- reasons that agree but for which state is named
 abbrev AreOneReason : Reason → Reason → Type 0
@@ -198,3 +197,4 @@ one_answer (Some (J.Check task proof nodes budget)) held s u t v x y =
 one_answer (Some (J.Explain task proof nodes budget)) held s u t v x y =
     one_check P.Explanation task proof nodes budget held s u t v x y
 one_answer (Some (J.Produce kind task)) held s u t v x y = one_proof_answer kind task held s u t v x y
+one_answer (Some (J.Sample rooms)) held s u t v x y = (x.0 ∙ sym y.0, inl (x.1 ∙ sym y.1))

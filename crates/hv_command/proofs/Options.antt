@@ -1,6 +1,7 @@
--- Lists of words that are no options of a check, no check, or no wish for a proof, by their number.
+-- Lists of words that are no options of a check, no check, no wish for a proof or no sample, by their
+-- number.
 use Rattle.std.proofs.Common.{◌≡◌, ◌<◌, ◌≤◌, ℕ, List, [], ◌∷◌, None, arith, length, map, refl}
-use Rattle.hv_command.specs.Words.{check_of, options_of, produce_of}
+use Rattle.hv_command.specs.Words.{check_of, options_of, produce_of, sample_of}
 use Rattle.hv_command.specs.declared.job.Report.{Report}
 
 module _ {W : Type 0} (bytes : W → List ℕ) where
@@ -39,3 +40,8 @@ module _ {W : Type 0} (bytes : W → List ℕ) where
   more_are_no_proof (a ∷ []) some = absurd (omega (arith, some))
   more_are_no_proof (a ∷ b ∷ []) some = absurd (omega (arith, some))
   more_are_no_proof (a ∷ b ∷ c ∷ words) some = refl
+
+  pub more_are_no_sample : (words : List W) → 2 ≤ length words → None ≡ sample_of (map bytes words)
+  more_are_no_sample [] some = absurd (omega (arith, some))
+  more_are_no_sample (a ∷ []) some = absurd (omega (arith, some))
+  more_are_no_sample (a ∷ b ∷ words) some = refl

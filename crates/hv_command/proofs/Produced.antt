@@ -5,7 +5,7 @@ use Rattle.hv_bytes.specs.Files.{Names, bytes_of}
 use Rattle.hv_bytes.specs.Pieces.{pieces_of}
 use Rattle.hv_bytes.specs.Standard.{standard}
 use Rattle.hv_task.specs.Plan.{IsUnsolvable}
-use Rattle.hv_task.specs.Strips.{Strips, IsTask, atoms}
+use Rattle.hv_task.specs.Strips.{Strips, IsTask, atoms, start_state}
 use Rattle.hv_task_text.proofs.OneAnswer.{one_task}
 use Rattle.hv_lines.specs.Drafts.{DraftState, IsGoodTable, draft_setting}
 use Rattle.hv_lines.specs.Judged.{Concludes, JudgedBytes, Unsolvable}
@@ -15,6 +15,9 @@ use Rattle.hv_lines.proofs.Drafting.{good_of}
 use Rattle.hv_proof_text.proofs.ReadBack.{draft_judged, draft_small}
 use Rattle.hv_reach.specs.Written.{IsPairsProof, IsRelaxedProof, PairsExclude, RelaxedExcludes}
 use Rattle.hv_reach.proofs.Proofs.{pairs_end, pairs_good, pairs_once, pairs_size, relaxed_ends, relaxed_good, relaxed_once, relaxed_size}
+use Rattle.hv_trap.specs.Trap.{IsSatisfied}
+use Rattle.hv_trap.specs.Written.{IsTrapProof}
+use Rattle.hv_trap.proofs.Proofs.{trap_proof_ends, trap_proof_good, trap_proof_once, trap_proof_size}
 use Rattle.hv_checker.proofs.GoodLines.{good_concludes}
 use Rattle.hv_command.specs.Answer.{Answer, AnswersProduce, AnswersTold, Excludes, HasTooMany, IsAccepted, IsAcceptedTold, IsProofBy, IsWritten}
 use Rattle.hv_command.specs.declared.job.Job.{Job}
@@ -33,6 +36,10 @@ module _ (task : Strips) (is : IsTask task) where
     where
       few_pairs : (n : ℕ) → (1024 < n → ⊥) → n ≤ 1024
       few_pairs n none = omega (arith, none)
+  good_proof K.Trap lines few excludes proof = trap_proof_good task lines (few_trap (atoms task) few) excludes proof
+    where
+      few_trap : (n : ℕ) → (64 < n → ⊥) → n ≤ 64
+      few_trap n none = omega (arith, none)
 
   proof_ends : (kind : Kind) (lines : List Line) → (HasTooMany kind task → ⊥) → Excludes kind task → IsProofBy kind task lines
       → Concludes lines
@@ -41,10 +48,12 @@ module _ (task : Strips) (is : IsTask task) where
     where
       few_pairs : (n : ℕ) → (1024 < n → ⊥) → n ≤ 1024
       few_pairs n none = omega (arith, none)
+  proof_ends K.Trap lines few excludes proof = trap_proof_ends task lines proof
 
-  proof_size : (kind : Kind) (lines : List Line) → IsProofBy kind task lines → length lines ≡ 16
-  proof_size K.Relaxed lines proof = relaxed_size task lines proof
-  proof_size K.Pairs lines proof = pairs_size task lines proof
+  proof_size : (kind : Kind) (lines : List Line) → IsProofBy kind task lines → length lines ≤ 17
+  proof_size K.Relaxed lines proof = omega (arith, relaxed_size task lines proof)
+  proof_size K.Pairs lines proof = omega (arith, pairs_size task lines proof)
+  proof_size K.Trap lines proof = omega (arith, trap_proof_size task lines proof)
 
   judged_proof : (kind : Kind) (lines : List Line) → (HasTooMany kind task → ⊥) → Excludes kind task → IsProofBy kind task lines
       → JudgedBytes (draft_setting task) standard (proof_text (reverse lines)) Unsolvable
@@ -80,6 +89,7 @@ module _ (task : Strips) (is : IsTask task) where
 once : (kind : Kind) (task : Strips) (x y : List Line) → IsProofBy kind task x → IsProofBy kind task y → x ≡ y
 once K.Relaxed task x y p q = relaxed_once task x y p q
 once K.Pairs task x y p q = pairs_once task x y p q
+once K.Trap task x y p q = trap_proof_once task x y p q
 
 one_written : (kind : Kind) (task : Strips) (s u : Status) (t v : List ℕ) → IsWritten kind task s t → IsWritten kind task u v
     → (s ≡ u) × (t ≡ v)
@@ -107,6 +117,7 @@ accepted (Some (J.Produce kind name)) held status text (inr (other, other_text, 
     subst (λ t. JudgedBytes (draft_setting t) standard text Unsolvable)
     (one_task (pieces_of standard (bytes_of held name)) other task other_text is_text)
     (judged_answer other (is_task (pieces_of standard (bytes_of held name)) other other_text) kind status text answers done)
+accepted (Some (J.Sample rooms)) held status text answers = tt
 
 pub accepted_told : (job : Option Job) (held : Option Names) (status : Status) (text : List ℕ) → AnswersTold job held status text
     → IsAcceptedTold job held status text
@@ -132,3 +143,9 @@ module _ (task : Strips) (found : Option DraftState) (draft : DraftState) (is : 
   pairs_written few some proof =
       written_by task draft.lines status text reply.0 reply.1 K.Pairs (λ many. omega (arith, few, many))
       (some.0 (ap is_some is)) (subst (λ f. IfSome f (λ d. IsPairsProof task d.lines)) is proof)
+
+  pub trap_written : atoms task ≤ 64 → (IsTrue (is_some found) ↔ IsSatisfied task (start_state task)) → IfSome found (λ d. IsTrapProof task d.lines)
+      → AnswersProduce K.Trap task status text
+  trap_written few some proof =
+      written_by task draft.lines status text reply.0 reply.1 K.Trap (λ many. omega (arith, few, many))
+      (some.0 (ap is_some is)) (subst (λ f. IfSome f (λ d. IsTrapProof task d.lines)) is proof)

@@ -73,3 +73,4 @@ sound_told (Some (J.Check task proof nodes budget)) (Some held) status text answ
 sound_told (Some (J.Explain task proof nodes budget)) (Some held) status text answers =
     sound_check P.Explanation task proof nodes budget held status text answers
 sound_told (Some (J.Produce kind task)) (Some held) status text answers = sound_produce kind task held status text answers
+sound_told (Some (J.Sample rooms)) (Some held) status text answers = tt

@@ -4,7 +4,7 @@ use Rattle.hv_bytes.specs.Files.{Names, bytes_of}
 use Rattle.hv_bytes.specs.Pieces.{pieces_of}
 use Rattle.hv_bytes.specs.Standard.{standard}
 use Rattle.hv_task.specs.Plan.{IsUnsolvable}
-use Rattle.hv_task.specs.Strips.{Strips, atoms}
+use Rattle.hv_task.specs.Strips.{Strips, atoms, start_state}
 use Rattle.hv_task_text.specs.TaskText.{TaskText, IsFirstFault}
 use Rattle.hv_bdd.specs.NodeText.{AreTextOf, IsFirstFault as IsFirstNodesFault}
 use Rattle.hv_bdd.specs.Nodes.{NodeList, no_nodes}
@@ -16,7 +16,10 @@ use Rattle.hv_lines.specs.Drafts.{draft_setting}
 use Rattle.hv_lines.specs.Spelling.{proof_text}
 use Rattle.hv_explain.specs.Explained.{IsExplanation}
 use Rattle.hv_reach.specs.Written.{IsPairsProof, IsRelaxedProof, PairsExclude, RelaxedExcludes}
+use Rattle.hv_trap.specs.Trap.{IsSatisfied}
+use Rattle.hv_trap.specs.Written.{IsTrapProof}
 use Rattle.hv_command.specs.Replies.{usage_text, judgement_status, judgement_text, no_proof_text, nodes_fault_text, task_fault_text, too_many_atoms_text}
+use Rattle.hv_command.specs.Sample.{sample_text}
 use Rattle.hv_command.specs.Words.{HasName}
 use Rattle.hv_command.specs.declared.job.Job.{Job}
 use Rattle.hv_command.specs.declared.job.Job.TheVariants as J
@@ -91,20 +94,24 @@ AnswersCheck report task_name proof_name nodes_name budget held status text =
     AfterTask (bytes_of held task_name)
     (λ task. AnswersTask report task proof_name nodes_name budget held) status text
 
--- what is reached from the initial state excludes the goal
+-- what is reached from the initial state excludes the goal, or that state satisfies a conjunction of
+-- the greatest trap
 abbrev pub Excludes : Kind → Strips → Type 0
 Excludes K.Relaxed task = RelaxedExcludes task
 Excludes K.Pairs task = PairsExclude task
+Excludes K.Trap task = IsSatisfied task (start_state task)
 
 -- the task has too many atoms for a proof of the kind
 abbrev pub HasTooMany : Kind → Strips → Type 0
 HasTooMany K.Relaxed task = ⊥
 HasTooMany K.Pairs task = 1024 < atoms task
+HasTooMany K.Trap task = 64 < atoms task
 
 -- the lines, of which the newest is the first, are the proof of the kind
 abbrev pub IsProofBy : Kind → Strips → List Line → Type 0
 IsProofBy K.Relaxed task lines = IsRelaxedProof task lines
 IsProofBy K.Pairs task lines = IsPairsProof task lines
+IsProofBy K.Trap task lines = IsTrapProof task lines
 
 -- what is written of a task that hasn't too many atoms: its proof, exactly where the goal is excluded
 abbrev pub IsWritten : Kind → Strips → Status → List ℕ → Type 0
@@ -129,6 +136,7 @@ Answer (Some (J.Explain task proof nodes budget)) held status text =
     AnswersCheck P.Explanation task proof nodes budget held status text
 Answer (Some (J.Produce kind task)) held status text =
     AfterTask (bytes_of held task) (AnswersProduce kind) status text
+Answer (Some (J.Sample rooms)) held status text = (status ≡ S.Done) × (text ≡ sample_text rooms)
 
 -- The same where the shelf tells its bytes. Otherwise it is the answer of a job that reads no file,
 -- whatever the files hold, and nothing is said of other jobs.
@@ -170,6 +178,7 @@ IsSound (Some (J.Check task proof nodes budget)) held status =
 IsSound (Some (J.Explain task proof nodes budget)) held status =
     IsSoundCheck task proof nodes budget held status
 IsSound (Some (J.Produce kind task)) held status = IsSoundProduce task held status
+IsSound (Some (J.Sample rooms)) held status = Unit {0}
 
 -- the same where the shelf tells its bytes
 abbrev pub IsSoundTold : Option Job → Option Names → Status → Type 0
@@ -185,6 +194,7 @@ IsAccepted (Some (J.Explain task proof nodes budget)) held status text = Unit {0
 IsAccepted (Some (J.Produce kind task_name)) held status text =
     status ≡ S.Done → (task : Strips) → TaskText standard (bytes_of held task_name) task
     → JudgedBytes (draft_setting task) standard text Unsolvable
+IsAccepted (Some (J.Sample rooms)) held status text = Unit {0}
 
 -- the same where the shelf tells its bytes
 abbrev pub IsAcceptedTold : Option Job → Option Names → Status → List ℕ → Type 0

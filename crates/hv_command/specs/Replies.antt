@@ -91,7 +91,6 @@ reason_text R.Shape = codes "shape"
 reason_text R.NotOffered = codes "not offered"
 reason_text R.Budget = codes "budget"
 reason_text (R.False clash) = codes "false" ++ action_text clash.action ++ state_text clash.state
-reason_text R.Unbuilt = codes "unbuilt"
 
 -- the first line that isn't good, and why
 abbrev pub refused_text : ℕ → Reason → List ℕ

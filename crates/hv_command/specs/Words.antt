@@ -17,15 +17,22 @@ abbrev pub is_argument : List ℕ → Bool
 is_argument [] = false
 is_argument (byte ∷ bytes) = not (byte == 45)
 
--- this number as a budget, where the word spells it and it is from 1 to 16,777,216
-abbrev pub as_budget : List ℕ → ℕ → Option ℕ
-as_budget word number =
-    cond (bytes_eq word (decimal number) && (nat_le 1 number && nat_le number most_budget))
+-- the number is within these bounds
+abbrev pub IsWithin : ℕ → ℕ → ℕ → Type 0
+IsWithin least most number = (least ≤ number) × (number ≤ most)
+
+-- the number of a word, where the word spells it as a decimal and it is within these bounds
+abbrev pub as_number : ℕ → ℕ → List ℕ → ℕ → Option ℕ
+as_number least most word number =
+    cond (bytes_eq word (decimal number) && (nat_le least number && nat_le number most))
     (Some number) None
 
--- the budget that a word names: a decimal
+abbrev pub number_of : ℕ → ℕ → List ℕ → Option ℕ
+number_of least most word = as_number least most word (digits_value 10 word)
+
+-- the budget that a word names: a decimal from 1 to 16,777,216
 abbrev pub budget_of : List ℕ → Option ℕ
-budget_of word = as_budget word (digits_value 10 word)
+budget_of word = number_of 1 most_budget word
 
 -- no options
 abbrev pub no_options : Options
@@ -79,7 +86,8 @@ check_of report _ = None
 abbrev pub kind_of : List ℕ → Option Kind
 kind_of word =
     cond (bytes_eq word (codes "relaxed")) (Some K.Relaxed)
-    (cond (bytes_eq word (codes "pairs")) (Some K.Pairs) None)
+    (cond (bytes_eq word (codes "pairs")) (Some K.Pairs)
+    (cond (bytes_eq word (codes "trap")) (Some K.Trap) None))
 
 -- a proof of this kind for the task of the file, where the word may name one
 abbrev pub produce_with : Option Kind → List ℕ → Option Job
@@ -91,13 +99,32 @@ abbrev pub produce_of : List (List ℕ) → Option Job
 produce_of (kind ∷ task ∷ []) = produce_with (kind_of kind) task
 produce_of _ = None
 
+-- the greatest number of rooms of a sample
+abbrev pub most_rooms : ℕ
+most_rooms = 64
+
+-- how many rooms a sample may have
+abbrev pub IsRooms : ℕ → Type 0
+IsRooms rooms = IsWithin 3 most_rooms rooms
+
+-- a sample of so many rooms, where there is such a number
+abbrev pub sample_with : Option ℕ → Option Job
+sample_with None = None
+sample_with (Some rooms) = Some (J.Sample rooms)
+
+-- a sample: a decimal from 3 to 64
+abbrev pub sample_of : List (List ℕ) → Option Job
+sample_of (rooms ∷ []) = sample_with (number_of 3 most_rooms rooms)
+sample_of _ = None
+
 -- the words are a command and what it takes
 abbrev pub job_of : List (List ℕ) → Option Job
 job_of [] = None
 job_of (command ∷ words) =
     cond (bytes_eq command (codes "check")) (check_of P.Verdict words)
     (cond (bytes_eq command (codes "explain")) (check_of P.Explanation words)
-    (cond (bytes_eq command (codes "produce")) (produce_of words) None))
+    (cond (bytes_eq command (codes "produce")) (produce_of words)
+    (cond (bytes_eq command (codes "sample")) (sample_of words) None)))
 
 -- the job may read the file of this name
 abbrev pub HasName : Option Job → List ℕ → Type 0
@@ -107,13 +134,15 @@ HasName (Some (J.Check task proof nodes budget)) name =
 HasName (Some (J.Explain task proof nodes budget)) name =
     (name ≡ task) ⊎ ((name ≡ proof) ⊎ (nodes ≡ Some name))
 HasName (Some (J.Produce kind task)) name = name ≡ task
+HasName (Some (J.Sample rooms)) name = ⊥
 
 -- a query may cost so much
 abbrev pub IsBudget : ℕ → Type 0
 IsBudget budget = (0 < budget) × (budget ≤ most_budget)
 
--- the job's budget is one, where it has a budget
-abbrev pub HasBudget : Job → Type 0
-HasBudget (J.Check task proof nodes budget) = IsBudget budget
-HasBudget (J.Explain task proof nodes budget) = IsBudget budget
-HasBudget (J.Produce kind task) = Unit {0}
+-- the job's number is within its bounds, where it has one
+abbrev pub IsBounded : Job → Type 0
+IsBounded (J.Check task proof nodes budget) = IsBudget budget
+IsBounded (J.Explain task proof nodes budget) = IsBudget budget
+IsBounded (J.Produce kind task) = Unit {0}
+IsBounded (J.Sample rooms) = IsRooms rooms

@@ -157,7 +157,7 @@ fn check_with_nodes<S: Shelf>(
 }
 
 /// The answer to the proof file, of a task and over these diagrams.
-fn check_proof<S: Shelf>(
+pub(crate) fn check_proof<S: Shelf>(
     alloc: Global,
     shelf: &mut S,
     report: Report,

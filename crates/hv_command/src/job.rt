@@ -1,6 +1,6 @@
-ghost use Rattle.std.specs.Prelude.{◌≡◌, ◌↔◌, IfOk, IfSome, IsTrue, Some, map};
+ghost use Rattle.std.specs.Prelude.{◌≡◌, ◌≤◌, ◌<◌, ◌^◌, ◌↔◌, IfOk, IfSome, IsTrue, Some, map};
 ghost use Rattle.std.specs.String.{string_bytes};
-ghost use Rattle.hv_command.specs.Words.{HasBudget, IsBudget, budget_of, check_of, check_with, checking, is_argument, job_of, kind_of, options_of, produce_of, produce_with, with_budget, with_nodes, with_option};
+ghost use Rattle.hv_command.specs.Words.{IsBounded, IsBudget, IsWithin, budget_of, check_of, check_with, checking, is_argument, job_of, kind_of, most_rooms, number_of, options_of, produce_of, produce_with, sample_of, with_budget, with_nodes, with_option};
 ghost use Rattle.hv_bytes.specs.Decimals.{IsDecimal};
 
 use crate::words::Words;
@@ -42,10 +42,13 @@ impl FileName {
 }
 
 /// What a query of a basic statement may cost, where no budget is named.
-const DEFAULT_BUDGET: u64 = 1_000_000;
+pub(crate) const DEFAULT_BUDGET: u64 = 1_000_000;
 
 /// The greatest budget.
 const MOST_BUDGET: u64 = 16_777_216;
+
+/// The greatest number of rooms of a sample.
+const MOST_ROOMS: u64 = 64;
 
 /// What the program is asked to do.
 #[derive(Drop)]
@@ -72,6 +75,10 @@ pub enum Job {
         kind: Kind,
         task: FileName,
     },
+    /// `sample N`: the task of so many rooms, from 3 to 64, and what is told of its two proofs.
+    Sample {
+        rooms: u32,
+    },
 }
 
 /// By what a proof shows that the goal isn't reached.
@@ -82,6 +89,9 @@ pub enum Kind {
     /// `pairs`: a pair of goal atoms that isn't reached. It is looked for in tasks of at most 1,024
     /// atoms.
     Pairs,
+    /// `trap`: a conjunction of the greatest trap that the initial state satisfies. It is looked for
+    /// in tasks of at most 64 atoms.
+    Trap,
 }
 
 /// What is told of a proof that shows that the task has no plan; of another one is told why it
@@ -104,7 +114,7 @@ pub(crate) struct Options {
 /// The job that the words name, or none where they are no job.
 pub fn read_job(alloc: Global, words: &Words) -> Result<Option<Job>, AllocError>
     ensures job { IfOk result (λ job. job ≡ job_of words.now) }
-    ensures budget { IfOk result (λ job. IfSome job HasBudget) }
+    ensures bounded { IfOk result (λ job. IfSome job IsBounded) }
 {
     match words.as_slice() {
         [command, others @ ..] => {
@@ -114,6 +124,8 @@ pub fn read_job(alloc: Global, words: &Words) -> Result<Option<Job>, AllocError>
                 read_check(alloc, Report::Explanation, others)
             } else if command.as_str() == "produce" {
                 read_produce(alloc, others)
+            } else if command.as_str() == "sample" {
+                Ok(read_sample(others))
             } else {
                 Ok(None)
             }
@@ -125,7 +137,7 @@ pub fn read_job(alloc: Global, words: &Words) -> Result<Option<Job>, AllocError>
 /// The proof that the words after the command ask for.
 fn read_produce(alloc: Global, words: &[String]) -> Result<Option<Job>, AllocError>
     ensures job { IfOk result (λ job. job ≡ produce_of (map string_bytes words.now)) }
-    ensures budget { IfOk result (λ job. IfSome job HasBudget) }
+    ensures bounded { IfOk result (λ job. IfSome job IsBounded) }
 {
     match words {
         [] => Ok(None),
@@ -146,6 +158,8 @@ fn read_kind(word: &str) -> Option<Kind>
         Some(Kind::Relaxed)
     } else if word == "pairs" {
         Some(Kind::Pairs)
+    } else if word == "trap" {
+        Some(Kind::Trap)
     } else {
         None
     }
@@ -154,7 +168,7 @@ fn read_kind(word: &str) -> Option<Kind>
 /// The proof of this kind, where the word may name the file of a task.
 fn produce_with(alloc: Global, kind: Kind, task: &str) -> Result<Option<Job>, AllocError>
     ensures job { IfOk result (λ job. job ≡ produce_with (Some kind) task.now) }
-    ensures budget { IfOk result (λ job. IfSome job HasBudget) }
+    ensures bounded { IfOk result (λ job. IfSome job IsBounded) }
 {
     if is_argument(task) {
         Ok(Some(Job::Produce {
@@ -166,10 +180,27 @@ fn produce_with(alloc: Global, kind: Kind, task: &str) -> Result<Option<Job>, Al
     }
 }
 
+/// The sample that the words after the command ask for.
+fn read_sample(words: &[String]) -> Option<Job>
+    ensures job { result ≡ sample_of (map string_bytes words.now) }
+    ensures bounded { IfSome result IsBounded }
+{
+    match words {
+        [] => None,
+        [rooms] => {
+            let rooms = read_number(rooms.as_str(), 3, MOST_ROOMS)?;
+            Some(Job::Sample {
+                rooms: rooms as u32,
+            })
+        }
+        [_, _, ..] => None,
+    }
+}
+
 /// The check that the words after the command ask for.
 fn read_check(alloc: Global, report: Report, words: &[String]) -> Result<Option<Job>, AllocError>
     ensures job { IfOk result (λ job. job ≡ check_of report (map string_bytes words.now)) }
-    ensures budget { IfOk result (λ job. IfSome job HasBudget) }
+    ensures bounded { IfOk result (λ job. IfSome job IsBounded) }
 {
     match words {
         [task, proof, options @ ..] => match read_options(alloc, options)? {
@@ -191,7 +222,7 @@ fn check_with(
 ) -> Result<Option<Job>, AllocError>
     requires { IfSome options.budget IsBudget }
     ensures job { IfOk result (λ job. job ≡ check_with report task.now proof.now (Some options)) }
-    ensures budget { IfOk result (λ job. IfSome job HasBudget) }
+    ensures bounded { IfOk result (λ job. IfSome job IsBounded) }
 {
     if is_argument(task) && is_argument(proof) {
         Ok(Some(checking(
@@ -311,35 +342,46 @@ fn with_budget(options: Options, budget: Option<u64>) -> Option<Options>
 }
 
 /// The budget that the word names: a decimal from 1 to 16,777,216.
-#[tactic(auto, using(crate::proofs::Budgets::no_decimal))]
 fn read_budget(word: &str) -> Option<u64>
     ensures budget { result ≡ budget_of word.now }
     ensures some { IfSome result IsBudget }
 {
+    read_number(word, 1, MOST_BUDGET)
+}
+
+/// The number that the word names: a decimal within these bounds.
+#[tactic(auto, using(crate::proofs::Numbers::no_decimal))]
+fn read_number(word: &str, least: u64, most: u64) -> Option<u64>
+    requires { most < 10 ^ 18 }
+    ensures number { result ≡ number_of least most word.now }
+    ensures least { IfSome result (λ number. least ≤ number) }
+    ensures most { IfSome result (λ number. number ≤ most) }
+{
     match read_decimal(word.as_bytes()) {
-        Some(number) => as_budget(word, number),
+        Some(number) => as_number(word, number, least, most),
         None => None,
     }
 }
 
-/// The number that the word spells as a budget.
-fn as_budget(word: &str, number: u64) -> Option<u64>
+/// The number that the word spells, where it is within these bounds.
+fn as_number(word: &str, number: u64, least: u64, most: u64) -> Option<u64>
     requires { IsDecimal word.now number }
-    ensures budget { result ≡ budget_of word.now }
-    ensures some { IfSome result IsBudget }
+    ensures number { result ≡ number_of least most word.now }
+    ensures least { IfSome result (λ number. least ≤ number) }
+    ensures most { IfSome result (λ number. number ≤ most) }
 {
     let _ = word;
-    if is_budget(number) {
+    if is_within(number, least, most) {
         Some(number)
     } else {
         None
     }
 }
 
-fn is_budget(number: u64) -> bool
-    ensures { IsTrue result ↔ IsBudget number }
+fn is_within(number: u64, least: u64, most: u64) -> bool
+    ensures { IsTrue result ↔ IsWithin least most number }
 {
-    0 < number && number <= MOST_BUDGET
+    least <= number && number <= most
 }
 
 fn is_argument(word: &str) -> bool

@@ -11,6 +11,10 @@ pub mod laws;
 mod produce_tests;
 mod producing;
 mod reply;
+pub mod sample;
+#[cfg(test)]
+mod sample_tests;
+mod sampling;
 #[cfg(test)]
 mod statement_tests;
 pub mod status;
@@ -23,6 +27,7 @@ pub mod words;
 
 pub use job::{FileName, Job, Kind, read_job};
 pub use laws::{accepted, one_answer};
+pub use sample::sample_task;
 pub use status::Status;
 pub use top::run;
 pub use words::Words;

@@ -90,6 +90,39 @@ fn writes_no_other_proofs(rt: HostRuntime) -> Result<(), Fail> {
     Ok(())
 }
 
+/// The proof by the greatest trap of the three wishes: a state that lacks one of them leads to such states alone.
+const TRAP_PROOF: &str =
+    "a 0 a\ne 0 c e\ne 1 c i\ne 2 c g\nk 0 d 0 ed\ne 3 t 12 1 0 2 0 3 0 1 2 0 1 -2 0 -1 2 0 1 3 0 1 -3 0 -1 3 0 2 3 0 2 -3 0 -2 3 0\ne 4 n 3\ne 5 r 3 0\ne 6 u 3 0\ne 7 i 4 2\nk 1 s 5 6 b3\nk 2 s 7 0 b1\nk 3 d 7 sd 2 0\nk 4 d 4 rg 1 0 3\nk 5 s 1 4 b1\nk 6 d 1 sd 5 4\nk 7 u ci 6\n";
+
+/// Each query of that proof costs at most the clauses of the formula.
+#[test]
+fn writes_a_proof_by_the_greatest_trap(rt: HostRuntime) -> Result<(), Fail> {
+    let alloc = rt.alloc();
+    let task = THREE_WISHES.as_bytes();
+    let (status, proof) = produced(alloc, "trap", task)?;
+    assert!(rt; status == Status::Done && proof.as_slice() == TRAP_PROOF.as_bytes());
+    assert!(rt; is_accepted(alloc, task, proof.as_slice(), "12")?);
+    assert!(rt; !is_accepted(alloc, task, proof.as_slice(), "11")?);
+    Ok(())
+}
+
+#[test]
+fn traps_are_looked_for_among_64_atoms(rt: HostRuntime) -> Result<(), Fail> {
+    let alloc = rt.alloc();
+    let many = wide_task(alloc, 65)?;
+    assert!(rt;
+        is_refused(
+            alloc,
+            "trap",
+            many.as_bytes(),
+            b"too many atoms\n".as_slice()
+        )?
+    );
+    let start = GOAL_AT_THE_START.as_bytes();
+    assert!(rt; is_refused(alloc, "trap", start, b"no proof\n".as_slice())?);
+    Ok(())
+}
+
 /// A task of so many atoms without actions, whose goal is the first atom. A formula that denies all of them has a clause each.
 fn wide_task(alloc: Global, atoms: u32) -> Result<String, AllocError> {
     let mut task = format!(in alloc; "begin_atoms:{atoms}\n")?;

@@ -21,6 +21,7 @@ use hv_proof_text::write_proof;
 use hv_reach::{ReachFault, prove_pairs, prove_relaxed};
 use hv_task::Task;
 use hv_task_text::read_task;
+use hv_trap::{TrapFault, prove_trap};
 use std::alloc::{AllocError, Global};
 
 /// The answer to `produce KIND TASK`.
@@ -59,6 +60,7 @@ fn proof_reply(alloc: Global, kind: Kind, task: &Task) -> Result<Reply, AllocErr
     match kind {
         Kind::Relaxed => relaxed_reply(alloc, task),
         Kind::Pairs => pairs_reply(alloc, task),
+        Kind::Trap => trap_reply(alloc, task),
     }
 }
 
@@ -99,8 +101,29 @@ fn pairs_reply(alloc: Global, task: &Task) -> Result<Reply, AllocError>
     }
 }
 
+fn trap_reply(alloc: Global, task: &Task) -> Result<Reply, AllocError>
+    ensures answer { IfOk result (λ r. AnswersProduce K.Trap task.now r.status r.text) }
+    ensures answered { IfOk result (λ r. IsJobStatus r.status) }
+{
+    match prove_trap(alloc, task) {
+        Ok(Some(draft)) => {
+            let answer = written(alloc, &draft)?;
+            Ok(answer)
+        }
+        Ok(None) => {
+            let answer = fixed(alloc, Status::Refused, b"no proof")?;
+            Ok(answer)
+        }
+        Err(TrapFault::TooManyAtoms) => {
+            let answer = fixed(alloc, Status::Refused, b"too many atoms")?;
+            Ok(answer)
+        }
+        Err(TrapFault::Memory) => Err(AllocError),
+    }
+}
+
 /// The text of a draft.
-fn written(alloc: Global, draft: &Draft) -> Result<Reply, AllocError>
+pub(crate) fn written(alloc: Global, draft: &Draft) -> Result<Reply, AllocError>
     ensures { IfOk result (λ r. IsReply r S.Done (proof_text (reverse draft.now.lines))) }
 {
     let mut text = Text::new(alloc);

@@ -65,7 +65,6 @@ fn push_reason(text: &mut Text, reason: &Reason) -> Result<(), AllocError>
         Reason::NotOffered => text.push_bytes(b"not offered"),
         Reason::Budget => text.push_bytes(b"budget"),
         Reason::False(clash) => push_clash(text, clash),
-        Reason::Unbuilt => text.push_bytes(b"unbuilt"),
     }
 }
 

@@ -39,7 +39,7 @@ struct Row {
 
 const STANDARD: &str = "1000000";
 
-const ROWS: [Row; 30] = [
+const ROWS: [Row; 35] = [
     // the relaxed proof, within any budget
     Row {
         task: KEY_TASK,
@@ -241,13 +241,50 @@ const ROWS: [Row; 30] = [
         status: Status::Refused,
         texts: &["line 4: shape"],
     },
-    // forms that aren't checked yet
+    // two families: disjointness of a Horn and a 2CNF formula isn't offered, but that they cover all states is
     Row {
         task: KEY_TASK,
-        proof: "e 0 h 0\ne 1 t 0\nk 0 s 0 1 b4\n",
+        proof: "e 0 h 1 -1 -2 0\ne 1 t 1 1 0\ne 2 n 1\nk 0 s 0 2 b4\n",
         budget: STANDARD,
         status: Status::Refused,
-        texts: &["line 3: unbuilt"],
+        texts: &["line 4: not offered"],
+    },
+    Row {
+        task: KEY_TASK,
+        proof: "e 0 h 1 -1 0\ne 1 t 1 1 2 0\ne 2 n 0\nk 0 s 2 1 b4\n",
+        budget: STANDARD,
+        status: Status::Refused,
+        texts: &["no conclusion"],
+    },
+    // one family, a constant and a double negation aren't of the shape
+    Row {
+        task: KEY_TASK,
+        proof: "e 0 h 0\ne 1 h 0\nk 0 s 0 1 b4\n",
+        budget: STANDARD,
+        status: Status::Refused,
+        texts: &["line 3: shape"],
+    },
+    Row {
+        task: KEY_TASK,
+        proof: "e 0 c e\ne 1 h 0\nk 0 s 0 1 b4\n",
+        budget: STANDARD,
+        status: Status::Refused,
+        texts: &["line 3: shape"],
+    },
+    Row {
+        task: KEY_TASK,
+        proof: "e 0 h 0\ne 1 t 0\ne 2 n 0\ne 3 n 2\nk 0 s 3 1 b4\n",
+        budget: STANDARD,
+        status: Status::Refused,
+        texts: &["line 5: shape"],
+    },
+    // a diagram node without a node file
+    Row {
+        task: KEY_TASK,
+        proof: "e 0 h 2 -1 0 -2 0\ne 1 b 3\nk 0 s 0 1 b4\n",
+        budget: "2",
+        status: Status::Refused,
+        texts: &["line 2: unknown"],
     },
     // without atoms there is one state
     Row {
@@ -432,7 +469,22 @@ struct NodesRow {
     texts: &'static [&'static str],
 }
 
-const NODES_ROWS: [NodesRow; 14] = [
+const NODES_ROWS: [NodesRow; 16] = [
+    // a Horn formula within a diagram that has two paths to 0
+    NodesRow {
+        nodes: TWO_NODES,
+        proof: "e 0 h 2 -1 0 -2 0\ne 1 b 3\nk 0 s 0 1 b4\n",
+        budget: "2",
+        status: Status::Refused,
+        texts: &["no conclusion"],
+    },
+    NodesRow {
+        nodes: TWO_NODES,
+        proof: "e 0 h 2 -1 0 -2 0\ne 1 b 3\nk 0 s 0 1 b4\n",
+        budget: "1",
+        status: Status::Refused,
+        texts: &["line 3: budget"],
+    },
     // two live tuples, within the budget and beyond it
     NodesRow {
         nodes: TWO_NODES,
@@ -578,6 +630,202 @@ fn judges_by_node_files(rt: HostRuntime) -> Result<(), Fail> {
             let told = row.texts.iter().any(|text| is_text(bytes.as_slice(), text));
             assert!(rt; status == row.status && told, "row {place}");
         }
+    }
+    Ok(())
+}
+
+/// What a statement claims of two formulas, which are the sets 0 and 1; sets 2 and 3 are their negations.
+#[derive(Clone, Copy, PartialEq, Eq)]
+enum Form {
+    /// The first is within the second.
+    Within,
+    /// The negation of the second is within that of the first.
+    Turned,
+    /// The first is within the negation of the second.
+    Apart,
+    /// The negation of the first is within the second.
+    Together,
+}
+
+/// A claim about two formulas that costs 2, and the states that refute it, if it is false.
+type TwoRow = (Form, &'static str, &'static str, &'static [&'static str]);
+
+/// Node 2 is "not atom 1", node 3 is "neither atom 0 nor atom 1", and node 4 is "not both of them".
+const THREE_NODES: &str = "nodes 3\n1 1 0\n0 2 0\n0 1 2\n";
+
+const TWO_ROWS: [TwoRow; 50] = [
+    (Form::Within, "x 2 0 ; 1 ;", "h 1 -3 0", &[]),
+    (Form::Within, "x 2 0 ; 2 ;", "h 1 -3 0", &["2"]),
+    (Form::Within, "x 2 0 ; 1 ;", "t 1 -3 0", &[]),
+    (Form::Within, "x 2 0 ; 2 ;", "t 1 -3 0", &["2"]),
+    (Form::Within, "x 2 0 ; 2 ;", "b 2", &[]),
+    (Form::Within, "x 2 0 ; 1 ;", "b 2", &["1"]),
+    (
+        Form::Within,
+        "h 3 -1 0 -2 0 -3 0",
+        "t 2 -1 -2 0 -2 -3 0",
+        &[],
+    ),
+    (Form::Within, "h 1 -1 0", "t 2 -1 -2 0 -2 0", &["1", "1 2"]),
+    (Form::Within, "t 2 -1 0 -2 0", "h 2 -1 -3 0 -2 -3 0", &[]),
+    (
+        Form::Within,
+        "t 1 1 2 0",
+        "h 2 1 -2 0 1 -3 0",
+        &["1", "1 2"],
+    ),
+    (Form::Within, "h 2 -1 0 -2 0", "b 3", &[]),
+    (Form::Within, "h 1 -1 0", "b 3", &["1", "1 2"]),
+    (Form::Within, "b 3", "h 2 -1 0 -2 0", &[]),
+    (Form::Within, "b 2", "h 2 -1 0 -2 0", &["0", "0 2"]),
+    (Form::Within, "t 2 -1 0 -2 0", "b 3", &[]),
+    (Form::Within, "t 1 -1 0", "b 3", &["1", "1 2"]),
+    (Form::Within, "b 3", "t 2 -1 0 -2 0", &[]),
+    (Form::Within, "b 2", "t 2 -1 0 -2 0", &["0", "0 2"]),
+    (Form::Apart, "x 2 0 ; 1 ;", "h 1 3 0", &[]),
+    (Form::Apart, "h 1 3 0", "x 2 0 ; 1 ;", &[]),
+    (Form::Apart, "x 2 0 ; 2 ;", "h 1 3 0", &["2"]),
+    (Form::Apart, "h 1 3 0", "x 2 0 ; 2 ;", &["2"]),
+    (Form::Apart, "b 4", "h 2 1 0 2 0", &[]),
+    (Form::Apart, "h 2 1 0 2 0", "b 4", &[]),
+    (Form::Apart, "b 4", "h 1 2 0", &["1", "1 2"]),
+    (Form::Apart, "h 1 2 0", "b 4", &["1", "1 2"]),
+    (Form::Apart, "x 2 0 ; 1 ;", "t 1 3 0", &[]),
+    (Form::Apart, "t 1 3 0", "x 2 0 ; 1 ;", &[]),
+    (Form::Apart, "x 2 0 ; 2 ;", "t 1 3 0", &["2"]),
+    (Form::Apart, "t 1 3 0", "x 2 0 ; 2 ;", &["2"]),
+    (Form::Apart, "b 4", "t 2 1 0 2 0", &[]),
+    (Form::Apart, "t 2 1 0 2 0", "b 4", &[]),
+    (Form::Apart, "b 4", "t 1 2 0", &["1", "1 2"]),
+    (Form::Apart, "t 1 2 0", "b 4", &["1", "1 2"]),
+    (Form::Apart, "x 2 1 ; 0 1 ;", "b 2", &[]),
+    (Form::Apart, "b 2", "x 2 1 ; 0 1 ;", &[]),
+    (Form::Apart, "x 2 1 ; 0 ;", "b 2", &["0"]),
+    (Form::Apart, "b 2", "x 2 1 ; 0 ;", &["0"]),
+    (Form::Together, "h 2 -1 0 -2 0", "t 1 1 2 0", &[]),
+    (Form::Together, "h 2 -1 0 -2 0", "t 1 1 0", &["1", "1 2"]),
+    (Form::Together, "t 2 -1 0 -2 0", "h 0", &[]),
+    (Form::Together, "t 2 -1 0 -2 0", "h 1 1 -2 0", &["1", "1 2"]),
+    (Form::Together, "h 2 1 0 2 0", "b 4", &[]),
+    (Form::Together, "b 4", "h 2 1 0 2 0", &[]),
+    (
+        Form::Together,
+        "h 2 1 0 2 0",
+        "b 3",
+        &["0", "0 2", "1", "1 2"],
+    ),
+    (
+        Form::Together,
+        "b 3",
+        "h 2 1 0 2 0",
+        &["0", "0 2", "1", "1 2"],
+    ),
+    (Form::Together, "t 2 1 0 2 0", "b 4", &[]),
+    (Form::Together, "b 4", "t 2 1 0 2 0", &[]),
+    (
+        Form::Together,
+        "t 2 1 0 2 0",
+        "b 3",
+        &["0", "0 2", "1", "1 2"],
+    ),
+    (
+        Form::Together,
+        "b 3",
+        "t 2 1 0 2 0",
+        &["0", "0 2", "1", "1 2"],
+    ),
+];
+
+/// Claims that aren't offered.
+const NOT_OFFERED: [(Form, &str, &str); 11] = [
+    (Form::Within, "h 0", "x 1 0 ;"),
+    (Form::Together, "h 0", "x 1 0 ;"),
+    (Form::Together, "x 1 0 ;", "h 0"),
+    (Form::Within, "t 0", "x 1 0 ;"),
+    (Form::Together, "t 0", "x 1 0 ;"),
+    (Form::Together, "x 1 0 ;", "t 0"),
+    (Form::Within, "b 2", "x 1 0 ;"),
+    (Form::Together, "b 2", "x 1 0 ;"),
+    (Form::Together, "x 1 0 ;", "b 2"),
+    (Form::Apart, "h 0", "t 0"),
+    (Form::Apart, "t 0", "h 0"),
+];
+
+/// Whether a statement by `b4`, on line 5, of these formulas is answered by this text, within this budget.
+fn is_answered(
+    alloc: Global,
+    form: Form,
+    first: &str,
+    second: &str,
+    budget: &'static str,
+    text: &str,
+) -> Result<bool, AllocError> {
+    let (left, right) = match form {
+        Form::Within => (0, 1),
+        Form::Turned => (3, 2),
+        Form::Apart => (0, 3),
+        Form::Together => (2, 1),
+    };
+    let proof = format!(in alloc;
+        "e 0 {first}\ne 1 {second}\ne 2 n 0\ne 3 n 1\nk 0 s {left} {right} b4\n"
+    )?;
+    let mut shelf = MemoryShelf::new(alloc, 4096);
+    shelf.add("task", KEY_TASK.as_bytes())?;
+    shelf.add("proof", proof.as_bytes())?;
+    shelf.add("nodes", THREE_NODES.as_bytes())?;
+    let mut sink = MemorySink::new(alloc, 4096, 4096)?;
+    let mut words = Words::new(alloc);
+    for word in [
+        "check", "task", "proof", "--nodes", "nodes", "--budget", budget,
+    ] {
+        words.push(word)?;
+    }
+    let status = run(alloc, &words, &mut shelf, &mut sink);
+    Ok(status == Status::Refused && is_text(sink.bytes(), text))
+}
+
+/// Whether the claim is answered rightly: at its cost, and within a budget below it.
+fn is_right(
+    alloc: Global,
+    form: Form,
+    first: &str,
+    second: &str,
+    states: &[&str],
+) -> Result<bool, AllocError> {
+    if !is_answered(alloc, form, first, second, "1", "line 5: budget")? {
+        return Ok(false);
+    }
+    if states.is_empty() {
+        return is_answered(alloc, form, first, second, "2", "no conclusion");
+    }
+    for atoms in states {
+        let text = format!(in alloc; "line 5: false state {atoms} ;")?;
+        if is_answered(alloc, form, first, second, "2", text.as_str())? {
+            return Ok(true);
+        }
+    }
+    Ok(false)
+}
+
+#[test]
+fn judges_inclusions_between_two_families(rt: HostRuntime) -> Result<(), Fail> {
+    for (form, first, second, states) in TWO_ROWS {
+        assert!(rt;
+            is_right(rt.alloc(), form, first, second, states)?,
+            "{first}, {second}"
+        );
+        if form == Form::Within {
+            assert!(rt;
+                is_right(rt.alloc(), Form::Turned, first, second, states)?,
+                "{first}, {second}, turned"
+            );
+        }
+    }
+    for (form, first, second) in NOT_OFFERED {
+        assert!(rt;
+            is_answered(rt.alloc(), form, first, second, "2", "line 5: not offered")?,
+            "{first}, {second}"
+        );
     }
     Ok(())
 }

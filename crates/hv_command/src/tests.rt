@@ -733,6 +733,12 @@ fn tells_words_that_are_no_job(rt: HostRuntime) -> Result<(), Fail> {
         "check task proof --nodes nodes --budget",
         "check task proof --nodes nodes --budget 0",
         "check task proof --nodes nodes --budget 7 more",
+        "sample",
+        "sample 2",
+        "sample 65",
+        "sample 03",
+        "sample 3 3",
+        "sample -3",
     ];
     for text in no_jobs {
         assert!(rt; is_usage(rt.alloc(), text)?, "{text}");
@@ -744,6 +750,7 @@ fn tells_words_that_are_no_job(rt: HostRuntime) -> Result<(), Fail> {
         "check task proof --nodes nodes",
         "produce relaxed task",
         "produce pairs task",
+        "produce trap task",
         "check task proof --nodes nodes --budget 7",
         "check task proof --budget 7 --nodes nodes",
     ] {

@@ -5,13 +5,14 @@ ghost use Rattle.std.specs.Io.KnownBytes.{Appends};
 ghost use Rattle.hv_bytes.specs.Devices.{AppendsFront, Rose};
 ghost use Rattle.hv_command.specs.Answer.{AnswersTold, IsAcceptedTold, IsSoundTold};
 ghost use Rattle.hv_command.specs.Replies.{IsAnswered, IsJobStatus};
-ghost use Rattle.hv_command.specs.Words.{HasBudget, HasName, job_of};
+ghost use Rattle.hv_command.specs.Words.{HasName, IsBounded, job_of};
 ghost use Rattle.hv_command.specs.declared.status.Status.{Status as StatusOf};
 
 use crate::checking::check;
 use crate::job::{Job, Report, read_job};
 use crate::producing::produce;
 use crate::reply::{Reply, fixed};
+use crate::sampling::sample;
 use crate::status::Status;
 use crate::stop::Stop;
 use crate::words::Words;
@@ -95,7 +96,7 @@ fn answer<S: Shelf>(alloc: Global, words: &Words, shelf: &mut S) -> Result<Reply
 }
 
 fn do_job<S: Shelf>(alloc: Global, shelf: &mut S, job: &Job) -> Result<Reply, Stop>
-    requires budget { HasBudget job.now }
+    requires bounded { IsBounded job.now }
     requires allowed { (name : List ℕ) → HasName (Some job.now) name
         → IsTrue (S.allows shelf.old name) }
     ensures answer { IfOk result (λ r. AnswersTold (Some job.now)
@@ -135,6 +136,10 @@ fn do_job<S: Shelf>(alloc: Global, shelf: &mut S, job: &Job) -> Result<Reply, St
         }
         Job::Produce { kind, task } => {
             let reply = produce(alloc, shelf, *kind, task)?;
+            Ok(reply)
+        }
+        Job::Sample { rooms } => {
+            let reply = sample(alloc, *rooms)?;
             Ok(reply)
         }
     }

@@ -11,3 +11,8 @@ pub returns-in-Pairs-clause-answer : goal.returns-in-Pairs-clause-answer
 returns-in-Pairs-clause-answer c =
     subst (λ kind. IfOk c.pairs_reply.result (λ r. AnswersProduce kind c.args.task.now r.status r.text)) (sym c.in-Pairs.is)
     c.pairs_reply.ensures.answer
+
+pub returns-in-Trap-clause-answer : goal.returns-in-Trap-clause-answer
+returns-in-Trap-clause-answer c =
+    subst (λ kind. IfOk c.trap_reply.result (λ r. AnswersProduce kind c.args.task.now r.status r.text)) (sym c.in-Trap.is)
+    c.trap_reply.ensures.answer
