@@ -4,6 +4,8 @@ import random
 PRELUDE = "a 0 a\ne 0 c e\ne 1 c i\ne 2 c g\nk 0 d 0 ed\n"
 NO_WAY_OUT = "e 4 p 3 0\ne 5 u 3 0\ne 6 i 3 2\nk 1 s 4 5 b2\nk 2 s 6 0 b1\nk 3 d 6 sd 2 0\nk 4 d 3 pg 1 0 3\n"
 CONCLUSION = "k 5 s 1 3 b1\nk 6 d 1 sd 5 4\nk 7 u ci 6\n"
+TRAP_CLOSED = "e 4 n 3\ne 5 r 3 0\ne 6 u 3 0\ne 7 i 4 2\nk 1 s 5 6 b3\nk 2 s 7 0 b1\nk 3 d 7 sd 2 0\nk 4 d 4 rg 1 0 3\n"
+TRAP_CONCLUSION = "k 5 s 1 4 b1\nk 6 d 1 sd 5 4\nk 7 u ci 6\n"
 
 
 def task_text(atoms, start, goal, actions):
@@ -121,3 +123,18 @@ def growing_unions(count, atoms=1000):
         lines.append("k %d s 1 %d b1" % (known, union))
         known += 1
     return task_text(atoms, [0], [1], []), "\n".join(lines) + "\n"
+
+
+def wishes(atoms, actions, with_conditions):
+    """Actions that grant one wish and take another back, so that some wish is always missing; all wishes are the goal. Or actions
+    with conditions, of which some lead out of a trap, so that conjunctions are deleted."""
+    numbers = random.Random(3)
+    made = []
+    for _ in range(actions):
+        if with_conditions:
+            pre, add, delete = (sorted(numbers.sample(range(atoms), numbers.randrange(least, 3))) for least in (0, 1, 0))
+            made.append((pre, add, delete))
+        else:
+            granted, taken = numbers.sample(range(atoms), 2)
+            made.append(([], [granted], [taken]))
+    return task_text(atoms, [0], sorted(numbers.sample(range(atoms), atoms * 2 // 3)) if with_conditions else list(range(atoms)), made)
