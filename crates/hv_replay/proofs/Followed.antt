@@ -1,0 +1,139 @@
+-- Logs and the set of their states: what the search for the first hole rests on.
+use Rattle.std.proofs.Common.{◌≡◌, ◌≢◌, ℕ, ◌+◌, ◌<◌, ◌∙◌, ◌↔◌, Bool, true, false, List, [], Option, None, Some, Result, Ok, Err, IfOk, MatchOption, get_or, inl, inr, length, map, refl, sym, ap, subst, arith}
+use Rattle.std.specs.Prelude.{not, slice_get}
+use Rattle.std.proofs.lemmas.List.{get_or-map, length-map}
+use Rattle.std.proofs.lemmas.List.Elements.{All-map, All-weaker}
+use Rattle.std.proofs.lemmas.Option.{get_or_from_slice_get, slice_get_cases, slice_get_within}
+use Rattle.hv_task.specs.declared.action.Action.{Action}
+use Rattle.hv_task.specs.State.{AreBelow, applicable, state_of, successor}
+use Rattle.hv_task.specs.Strips.{Strips, is_goal, start_state}
+use Rattle.hv_sets.specs.Truth.{InStates, in_states}
+use Rattle.hv_sets.proofs.Listed.{in_states-Decides}
+use Rattle.hv_explicit.specs.Listing.{AreStates, Listing, in_listing}
+use Rattle.hv_replay.specs.Closed.{IsFirst, IsFollowed, IsGoalFree, IsListed, LeadsOn, state_in}
+use Rattle.hv_replay.specs.Following.{AreListed, Follows, Stays}
+use Rattle.hv_replay.specs.Logs.{IsEntry, IsLog, SearchLog, StandsAt}
+use Rattle.hv_replay.specs.declared.hole.ReplayFault.TheVariants as H
+use Rattle.hv_replay.specs.declared.log.Entry.{Entry}
+
+-- one entry stands at a place
+same_entry : (log : SearchLog) (place : ℕ) (a b : Entry) → StandsAt log place a → StandsAt log place b → a ≡ b
+same_entry log place a b p q = let e : ◌≡◌ {A = Option Entry} (Some a) (Some b) = sym p ∙ q in cc
+
+atoms_of_listing : (n : ℕ) (states : List (List ℕ)) (set : Listing) (state : List Bool) → set.atoms ≡ n → set.states ≡ states
+    → in_listing set state ≡ in_states n states state
+atoms_of_listing n states set state a s = ap (λ m. in_states m set.states state) a ∙ ap (λ ss. in_states n ss state) s
+
+module _ (log : SearchLog) (set : Listing) (are : AreListed log set) (state : List Bool) where
+  abbrev states : List (List ℕ)
+  states = map (λ (entry : Entry). entry.state) log.entries
+
+  found_at : (k : ℕ) → k < length (map (state_of log.atoms) states) → get_or (map (state_of log.atoms) states) k state ≡ state → IsListed log state
+  found_at k within is =
+      let size = length-map states (state_of log.atoms) in
+      let many = length-map log.entries (λ (entry : Entry). entry.state) in
+      elim (slice_get_cases log.entries k).1 [
+        | inl w ↦ (
+          k,
+          w.0,
+          w.2,
+          ap (λ (x : Entry). state_of log.atoms x.state) (sym w.3)
+              ∙ (ap (state_of log.atoms) (sym (get_or-map (λ (entry : Entry). entry.state) log.entries k w.0 w.0.state w.1))
+              ∙ (sym (get_or-map (state_of log.atoms) states k w.0.state state (omega arith)) ∙ is)),
+        )
+        | inr w ↦ let past = w.0 in absurd (omega arith)
+      ]
+
+  pub to_listed : in_listing set state ≡ true → IsListed log state
+  to_listed holds =
+      let found : InStates log.atoms states state =
+      (in_states-Decides log.atoms states state).0 (sym (atoms_of_listing log.atoms states set state are.over are.states) ∙ holds) in
+      found_at found.0 found.1 found.2
+
+  pub from_listed : IsListed log state → in_listing set state ≡ true
+  from_listed (k, x, stands, same) =
+      let size = length-map states (state_of log.atoms) in
+      let many = length-map log.entries (λ (entry : Entry). entry.state) in
+      let within = slice_get_within log.entries k x stands in
+      let here : get_or states k x.state ≡ x.state =
+      get_or-map (λ (entry : Entry). entry.state) log.entries k x x.state within
+      ∙ ap (λ (y : Entry). y.state) (get_or_from_slice_get log.entries k x x stands) in
+      atoms_of_listing log.atoms states set state are.over are.states
+      ∙ (in_states-Decides log.atoms states state).1 (
+        k,
+        omega arith,
+        get_or-map (state_of log.atoms) states k x.state state (omega arith) ∙ (ap (state_of log.atoms) here ∙ same),
+      )
+
+module _ (task : Strips) (log : SearchLog) (place : ℕ) (x : Entry) (stands : StandsAt log place x) where
+  pub pruned_leads : x.expanded ≡ false → (number : ℕ) → LeadsOn task log place number
+  pruned_leads pruned number = λ e a at holds is can.
+      let same = same_entry log place x e stands at in
+      let f : true ≡ false = sym holds ∙ (ap (λ (y : Entry). y.expanded) (sym same) ∙ pruned) in absurd cc
+
+  module _ (set : Listing) (are : AreListed log set) (holds : x.expanded ≡ true) where
+    pub leads_from : (number : ℕ) → Stays task set (state_in log x) number → LeadsOn task log place number
+    leads_from number stays = λ e a at more is can.
+        let same = same_entry log place x e stands at in
+        subst (λ y. IsListed log (successor a (state_in log y))) same
+        (to_listed log set are (successor a (state_in log x)) (stays a is (ap (λ y. applicable a (state_in log y)) same ∙ can)))
+
+    pub stays_from : (number : ℕ) → LeadsOn task log place number → Stays task set (state_in log x) number
+    stays_from number leads = λ a is can. from_listed log set are (successor a (state_in log x)) (leads x a stands holds is can)
+
+    pub first_from : (number : ℕ) → IsFirst (Stays task set (state_in log x)) number → IsFirst (LeadsOn task log place) number
+    first_from number first = (λ leads. first.0 (stays_from number leads), λ before less. leads_from before (first.1 before less))
+
+    pub all_from : ((number : ℕ) → number < length task.actions → Stays task set (state_in log x) number) → (number : ℕ) → LeadsOn task log place number
+    all_from all number = leads_from number (λ a is can. all number (slice_get_within task.actions number a is) a is can)
+
+    -- the least action that leads out of the set is the least one that leads out of the log
+    pub open_result : (state : List Bool) (r : Option ℕ) → state ≡ state_in log x
+        → MatchOption r ((number : ℕ) → number < length task.actions → Stays task set state number) (λ number. IsFirst (Stays task set state) number)
+        → MatchOption r ((number : ℕ) → LeadsOn task log place number) (λ number. IsFirst (LeadsOn task log place) number)
+    open_result state None is all = all_from (subst (λ s. (number : ℕ) → number < length task.actions → Stays task set s number) is all)
+    open_result state (Some number) is first = first_from number (subst (λ s. IsFirst (Stays task set s) number) is first)
+
+module _ (task : Strips) (log : SearchLog) where
+  -- what holds of each entry holds of each place
+  pub free_all : ((place : ℕ) → place < length log.entries → IsGoalFree task log place) → (place : ℕ) → IsGoalFree task log place
+  free_all all place = λ e at holds. all place (slice_get_within log.entries place e at) e at holds
+
+  pub leads_all : ((place number : ℕ) → place < length log.entries → LeadsOn task log place number) → (place number : ℕ) → LeadsOn task log place number
+  leads_all all place number = λ e a at holds is can. all place number (slice_get_within log.entries place e at) e a at holds is can
+
+  pub not_listed : (set : Listing) (state : List Bool) → AreListed log set → in_listing set state ≡ false → IsListed log state → ⊥
+  not_listed set state are fails holds = let f : false ≡ true = sym fails ∙ from_listed log set are state holds in absurd cc
+
+-- what is answered of one action: it isn't applicable, or its result is looked up
+pub stays_trivially : (task : Strips) (set : Listing) (state : List Bool) (number : ℕ) (can : Bool)
+    → ((a : Action) → slice_get task.actions number ≡ Some a → can ≡ applicable a state) → can ≡ false → Stays task set state number
+stays_trivially task set state number can tells fails =
+    λ a is holds. let f : false ≡ true = sym fails ∙ (tells a is ∙ holds) in absurd cc
+
+pub stays_looked_up : (task : Strips) (set : Listing) (state after : List Bool) (number : ℕ) (can held : Bool) → number < length task.actions
+    → ((a : Action) → slice_get task.actions number ≡ Some a → can ≡ applicable a state) → can ≡ true
+    → ((a : Action) → slice_get task.actions number ≡ Some a → after ≡ successor a state)
+    → held ≡ in_listing set after → (held ≡ true) ↔ Stays task set state number
+stays_looked_up task set state after number can held within tells holds becomes is = (
+  λ found a at _. ap (in_listing set) (sym (becomes a at)) ∙ (sym is ∙ found),
+  λ stays. elim (slice_get_cases task.actions number).1 [
+    | inl w ↦ is ∙ (ap (in_listing set) (becomes w.0 w.2) ∙ stays w.0 w.2 (sym (tells w.0 w.2) ∙ holds))
+    | inr w ↦ let past = w.0 in absurd (omega arith)
+  ],
+)
+
+-- the states of a log are states of its task
+pub states_below : (log : SearchLog) → IsLog log.atoms log.entries → AreStates log.atoms (map (λ (entry : Entry). entry.state) log.entries)
+states_below log is =
+    All-map (λ held. AreBelow log.atoms held) (λ (entry : Entry). entry.state) log.entries
+    (All-weaker (IsEntry log.atoms) (λ (entry : Entry). AreBelow log.atoms entry.state) (λ entry e. e.below) log.entries is.each)
+
+pub listed_ok : {E : Type 0} (log : SearchLog) (atoms : ℕ) (states : List (List ℕ)) (r : Result Listing E) → log.atoms ≡ atoms
+    → states ≡ map (λ (entry : Entry). entry.state) log.entries
+    → IfOk r (λ set. set ≡ record { atoms = atoms; states = states }) → IfOk r (λ set. AreListed log set)
+listed_ok log atoms listed (Ok set) over whole is = record {
+  over = ap (λ (s : Listing). s.atoms) is ∙ sym over;
+  states = ap (λ (s : Listing). s.states) is ∙ whole;
+}
+listed_ok log atoms states (Err e) over whole is = tt

@@ -1,0 +1,8 @@
+use Rattle.std.proofs.Common.{◌≡◌, map, take}
+use Rattle.std.specs.List.{filter}
+use Rattle.hv_replay.specs.declared.log.Entry.{Entry}
+use Rattle.hv_replay.proofs.proof.expanded_states.Given as goal
+
+abbrev pub invariant-loop-entry : goal.invariant-loop-entry
+invariant-loop-entry l =
+    l.states ≡ map (λ (entry : Entry). entry.state) (filter (λ (entry : Entry). entry.expanded) (take l.entry-index l.log.entries))

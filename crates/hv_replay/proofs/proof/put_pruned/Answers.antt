@@ -1,0 +1,81 @@
+use Rattle.std.proofs.Common.{◌≡◌, ◌≤◌, false, arith, length}
+use Rattle.std.proofs.lemmas.Option.{slice_get_within}
+use Rattle.hv_task.specs.State.{state_of}
+use Rattle.hv_task.specs.Strips.{atoms}
+use Rattle.hv_replay.proofs.Replaying.{first_uncovered, justified_all, next_justified, progress_begins, progress_next}
+use Rattle.hv_replay.proofs.Several.{AnyOf, both, found_some, match_none, match_some}
+use Rattle.hv_replay.specs.Progress.{IsProgress}
+use Rattle.hv_replay.specs.Replayed.{pruned_in}
+use Rattle.hv_replay.specs.declared.log.Entry.{Entry}
+use Rattle.hv_replay.specs.declared.pruned.DeadSet.{DeadSet}
+use Rattle.std.proofs.Common.{List, ◌++◌, ◌∷◌, [], take}
+use Rattle.hv_replay.proofs.proof.put_pruned.Goals as goal
+
+pub loop-place-init : goal.loop-place-init
+loop-place-init g c = record {
+  state = c.requires.state;
+  progress = progress_begins c.args.task.now c.args.draft.now.lines c.requires.draft c.requires.good;
+  justified = λ before less. absurd (omega (arith, less));
+  covers = λ task state. (λ any. any, λ any. any);
+  fits = λ lines extends. c.requires.fits lines;
+}
+
+pub returns-in_err-more-clause-covers : goal.returns-in_err-more-clause-covers
+returns-in_err-more-clause-covers g c = λ task state.
+    both (c.put_one.ensures.covers task state) (c.loop-place.invariant.covers task state)
+
+pub returns-in-None-clause-uncovered : goal.returns-in-None-clause-uncovered
+returns-in-None-clause-uncovered g c =
+    let here = state_of (atoms c.args.task.now) c.entry.result.now.state in
+    let is = match_none c.in_ok-more.field-0
+    ((c.entry.result.now.expanded ≡ false)
+    × (AnyOf c.loop-place.pruners (λ b. (goal.Pruner-dyn g (b.vtable, b.value)).covers b.value c.args.task.now here) → ⊥))
+    (c.entry.result.now.expanded ≡ false
+    → AnyOf c.loop-place.pruners (λ b. (goal.Pruner-dyn g (b.vtable, b.value)).covers b.value c.args.task.now here))
+    c.in-None.is c.in_ok-more.ensures.covered in (
+      c.loop-place.place,
+      c.line_of.ensures,
+      slice_get_within c.args.log.now.entries c.loop-place.place c.entry.result.now c.entry.ensures.stands,
+      first_uncovered c.args.log.now (atoms c.args.task.now) c.requires.atoms
+          (λ state. AnyOf c.args.pruners.now (λ b. (goal.Pruner-dyn g (b.vtable, b.value)).covers b.value c.args.task.now state))
+          c.loop-place.place c.entry.result.now c.entry.ensures.stands c.loop-place.invariant.justified is.0
+          (λ any. is.1 ((c.loop-place.invariant.covers c.args.task.now here).1 any)),
+    )
+
+pub returns-in-None-clause-covers : goal.returns-in-None-clause-covers
+returns-in-None-clause-covers g c = λ task state.
+    both (c.put_one.ensures.covers task state) (c.loop-place.invariant.covers task state)
+
+pub loop-place-preserved : goal.loop-place-preserved
+loop-place-preserved g c =
+    let here = state_of (atoms c.args.task.now) c.entry.result.now.state in
+    record {
+      state = c.put_one.ensures.state;
+      progress = progress_next c.args.task.now c.args.log.now c.loop-place.place c.entry.result.now c.put_one.new.draft.lines c.in-Some.more
+          c.entry.ensures.stands
+          (found_some c.in_ok-more.field-0 c.in-Some.more
+          (λ (more : DeadSet). (before : List Entry)
+          → IsProgress c.args.task.now (pruned_in before) c.loop-place.draft.lines c.loop-place.union
+          → IsProgress c.args.task.now (pruned_in (before ++ c.entry.result.now ∷ [])) c.put_one.new.draft.lines more)
+          c.in-Some.is c.in_ok-more.ensures.progress (take c.loop-place.place c.args.log.now.entries) c.loop-place.invariant.progress);
+      justified = next_justified c.args.log.now (atoms c.args.task.now) c.requires.atoms
+          (λ state. AnyOf c.args.pruners.now (λ b. (goal.Pruner-dyn g (b.vtable, b.value)).covers b.value c.args.task.now state))
+          c.loop-place.place c.entry.result.now c.entry.ensures.stands c.loop-place.invariant.justified
+          (λ plain.
+          (c.loop-place.invariant.covers c.args.task.now here).0
+          (match_some c.in_ok-more.field-0 c.in-Some.more
+          ((c.entry.result.now.expanded ≡ false)
+          × (AnyOf c.loop-place.pruners (λ b. (goal.Pruner-dyn g (b.vtable, b.value)).covers b.value c.args.task.now here) → ⊥))
+          (c.entry.result.now.expanded ≡ false
+          → AnyOf c.loop-place.pruners (λ b. (goal.Pruner-dyn g (b.vtable, b.value)).covers b.value c.args.task.now here))
+          c.in-Some.is c.in_ok-more.ensures.covered plain));
+      covers = λ task state. both (c.put_one.ensures.covers task state) (c.loop-place.invariant.covers task state);
+      fits = c.put_one.ensures.fits;
+    }
+
+pub returns-clause-justified : goal.returns-clause-justified
+returns-clause-justified g c =
+    let whole : length c.args.log.now.entries ≤ c.loop-place.place = omega (arith, c.len-place-end.ensures, c.loop-place-test.false) in
+    justified_all c.args.log.now
+    (λ state. AnyOf c.args.pruners.now (λ b. (goal.Pruner-dyn g (b.vtable, b.value)).covers b.value c.args.task.now state))
+    c.loop-place.place whole c.loop-place.invariant.justified

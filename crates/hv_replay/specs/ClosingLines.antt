@@ -1,0 +1,49 @@
+-- The lines with which a replay ends. The expanded states lead only to each other and to the union of
+-- the pruned ones, none of them holds the goal, and the initial state is among all these.
+use Rattle.std.specs.Prelude.{◌≡◌, ◌+◌, ◌≤◌, ◌⊎◌, ℕ, Bool, true, List, [], ◌∷◌, ◌++◌, Some, length, slice_get}
+use Rattle.std.specs.List.{All}
+use Rattle.hv_task.specs.declared.action.Action.{Action}
+use Rattle.hv_task.specs.State.{applicable, successor}
+use Rattle.hv_task.specs.Strips.{Strips, atoms, is_goal, start_state}
+use Rattle.hv_sets.specs.Truth.{InStates}
+use Rattle.hv_lines.specs.Drafts.{conclusion, default_budget}
+use Rattle.hv_lines.specs.Meaning.{StateSet}
+use Rattle.hv_lines.specs.declared.line.Expr.TheVariants as E
+use Rattle.hv_lines.specs.declared.line.Line.{Line}
+use Rattle.hv_lines.specs.declared.line.Line.TheVariants as L
+use Rattle.hv_lines.specs.declared.line.Statement.TheVariants as T
+use Rattle.hv_lines.specs.declared.line.Word.TheVariants as W
+use Rattle.hv_replay.specs.PrunedLines.{IsAtomSet}
+use Rattle.hv_replay.specs.declared.pruned.DeadSet.{DeadSet}
+
+-- The nine lines that show that the expanded states are dead, and their union with the pruned ones. The
+-- explicit set of the expanded states becomes set s, and the first statement is line k; `union` is the
+-- union of all pruned states.
+abbrev pub closing_block : ℕ → ℕ → List (List ℕ) → DeadSet → List Line
+closing_block s k states union =
+    L.Expr s (E.States states)
+    ∷ L.Expr (s + 1) (E.After s 0)
+    ∷ L.Expr (s + 2) (E.Or s union.set)
+    ∷ L.Expr (s + 3) (E.And s 2)
+    ∷ L.Known k (T.Sub (s + 1) (s + 2)) W.B2 []
+    ∷ L.Known (k + 1) (T.Sub (s + 3) 0) W.B1 []
+    ∷ L.Known (k + 2) (T.Dead (s + 3)) W.Sd ((k + 1) ∷ 0 ∷ [])
+    ∷ L.Known (k + 3) (T.Dead s) W.Pg (k ∷ union.line ∷ (k + 2) ∷ [])
+    ∷ L.Known (k + 4) (T.Dead (s + 2)) W.Ud ((k + 3) ∷ union.line ∷ [])
+    ∷ []
+
+-- the twelve lines with which a replay ends: these nine, and the conclusion from the union
+abbrev pub closing_lines : ℕ → ℕ → List (List ℕ) → DeadSet → List Line
+closing_lines s k states union = closing_block s k states union ++ conclusion (k + 5) (s + 2) (k + 4)
+
+-- the search is closed: these expanded states, together with the pruned ones, are left by no action,
+-- no expanded one holds the goal, and the initial state is one of them all
+pub record IsClosedSearch (task : Strips) (states : List (List ℕ)) (pruned : StateSet) : Type 0 where
+  pub atom_sets : All (IsAtomSet task) states
+  pub few : length states ≤ default_budget
+  pub leads : (k : ℕ) (a : Action) → slice_get task.actions k ≡ Some a → (state : List Bool)
+      → InStates (atoms task) states state → applicable a state ≡ true
+      → InStates (atoms task) states (successor a state) ⊎ pruned (successor a state)
+  pub goalless : (state : List Bool) → InStates (atoms task) states state
+      → is_goal task state ≡ true → ⊥
+  pub starts : InStates (atoms task) states (start_state task) ⊎ pruned (start_state task)

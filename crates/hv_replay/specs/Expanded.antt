@@ -1,0 +1,15 @@
+-- The expanded states of a log, as its proof lists them.
+use Rattle.std.specs.Prelude.{ℕ, Bool, List, map}
+use Rattle.std.specs.List.{filter}
+use Rattle.hv_sets.specs.Truth.{InStates}
+use Rattle.hv_replay.specs.Logs.{SearchLog}
+use Rattle.hv_replay.specs.declared.log.Entry.{Entry}
+
+-- the expanded states, in the log's order
+abbrev pub expanded_states : SearchLog → List (List ℕ)
+expanded_states log =
+    map (λ (entry : Entry). entry.state) (filter (λ (entry : Entry). entry.expanded) log.entries)
+
+-- the state is one of them
+abbrev pub IsExpanded : SearchLog → List Bool → Type 0
+IsExpanded log state = InStates log.atoms (expanded_states log) state

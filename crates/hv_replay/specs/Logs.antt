@@ -1,0 +1,61 @@
+-- Logs of a search: the states that it expanded and those that it pruned, in order.
+use Rattle.std.specs.Prelude.{◌≡◌, ◌≤◌, ℕ, Bool, true, false, List, [], ◌∷◌, Some, codes, decimal, length, map, not, slice_get}
+use Rattle.std.specs.List.{All, count_by, join_with_byte, sum_by}
+use Rattle.std.specs.List.Sorted.{IsStrictlyIncreasing}
+use Rattle.hv_task.specs.State.{AreBelow}
+use Rattle.hv_replay.specs.declared.counts.Counts.{Counts}
+use Rattle.hv_replay.specs.declared.log.Entry.{Entry}
+
+-- a log: how many atoms the task has, and the entries, each an expanded state or a pruned one, by
+-- the atoms that it holds; the entry at place i is that of line i + 1
+pub record SearchLog : Type 0 where
+  pub atoms : ℕ
+  pub entries : List Entry
+
+-- the log without an entry
+abbrev pub no_entries : ℕ → SearchLog
+no_entries atoms = record { atoms = atoms; entries = [] }
+
+-- the entry stands at this place
+abbrev pub StandsAt : SearchLog → ℕ → Entry → Type 0
+StandsAt log place entry = slice_get log.entries place ≡ Some entry
+
+-- the entry's state is one of a task with so many atoms, listed in rising order
+pub record IsEntry (atoms : ℕ) (entry : Entry) : Type 0 where
+  pub below : AreBelow atoms entry.state
+  pub rises : IsStrictlyIncreasing entry.state
+
+-- how many entries are expanded states, and how many are pruned ones
+abbrev pub expanded_count : List Entry → ℕ
+expanded_count entries = count_by (λ e. e.expanded) entries
+
+abbrev pub pruned_count : List Entry → ℕ
+pruned_count entries = count_by (λ e. not e.expanded) entries
+
+abbrev pub counts_of : List Entry → Counts
+counts_of entries = record { expanded = expanded_count entries; pruned = pruned_count entries }
+
+-- no more of them than a log may have
+pub record AreFew (entries : List Entry) : Type 0 where
+  pub expanded : expanded_count entries ≤ 1000000
+  pub pruned : pruned_count entries ≤ 65000
+
+-- the letter of an expanded state is x, that of a pruned one p
+abbrev pub letter_of : Bool → List ℕ
+letter_of true = codes "x"
+letter_of false = codes "p"
+
+-- the line of an entry: its letter and its atoms, parted by one space
+abbrev pub entry_line : Entry → List ℕ
+entry_line entry = join_with_byte 32 (letter_of entry.expanded ∷ map decimal entry.state)
+
+-- how many bytes the lines of the entries have together, their LFs not counted
+abbrev pub listed_bytes : List Entry → ℕ
+listed_bytes entries = sum_by (λ entry. length (entry_line entry)) entries
+
+-- what every log keeps: its entries are those of a task, not too many of them, and their lines have
+-- no more bytes than a log may have
+pub record IsLog (atoms : ℕ) (entries : List Entry) : Type 0 where
+  pub each : All (IsEntry atoms) entries
+  pub few : AreFew entries
+  pub small : listed_bytes entries ≤ 8388608

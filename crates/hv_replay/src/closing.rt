@@ -1,0 +1,112 @@
+ghost use Rattle.std.specs.Prelude.{◌≡◌, ◌<◌, ◌≤◌, ◌+◌, ◌^◌, ℕ, IfOk, OnOk, OnErr};
+ghost use Rattle.hv_lines.specs.Drafts.{IsGoodTable, IsShort, onto};
+ghost use Rattle.hv_lines.specs.Judged.{Concludes};
+ghost use Rattle.hv_lines.specs.Numbering.{expr_count, known_count};
+ghost use Rattle.hv_lines.specs.Pruning.{Extends, states_in};
+ghost use Rattle.hv_lines.specs.declared.line.Expr.TheVariants as E;
+ghost use Rattle.hv_lines.specs.declared.line.Line.TheVariants as L;
+ghost use Rattle.hv_replay.specs.ClosingLines.{IsClosedSearch, closing_block, closing_lines};
+ghost use Rattle.hv_replay.specs.PrunedLines.{IsPrunedUnion, most_pruned};
+
+use crate::pruned::{DeadSet, next_in};
+use hv_lines::{Draft, Expr, Line, Premises, Statement, Word, conclusion};
+use hv_sets::StateList;
+use hv_task::Task;
+use std::alloc::{AllocError, Global};
+
+/// Puts the twelve lines last with which the proof of a closed search ends: these expanded states and
+/// the union of all pruned ones. It takes its memory before the first line.
+pub fn push_closing(
+    alloc: Global,
+    draft: &mut Draft,
+    task: &Task,
+    states: StateList,
+    union: DeadSet,
+) -> Result<(), AllocError>
+    requires draft { IsGoodTable task.now draft.old.lines }
+    requires union { (pruned : ℕ) × (pruned ≤ most_pruned)
+        × IsPrunedUnion task.now draft.old.lines pruned union }
+    requires closed { IsClosedSearch task.now states
+        (states_in task.now draft.old.lines union.set) }
+    requires short { IsShort (L.Expr (expr_count draft.old.lines) (E.States states)) }
+    ensures lines { OnOk result (draft.new.lines
+        ≡ onto (closing_lines (expr_count draft.old.lines) (known_count draft.old.lines) states union)
+        draft.old.lines) }
+    ensures extends { Extends task.now draft.old.lines draft.new.lines }
+    ensures concludes { OnOk result (Concludes draft.new.lines) }
+    ensures err { OnErr result (draft.new.lines ≡ draft.old.lines) }
+{
+    let _atoms = task.atoms();
+    draft.reserve(12)?;
+    let next = next_in(draft.table());
+    let block = closing_block(alloc, next, states, union)?;
+    let end = conclusion(alloc, next.line + 5, next.set + 2, next.line + 4)?;
+    draft.push_all(task, block);
+    draft.push_all(task, end);
+    Ok(())
+}
+
+// The nine lines which show that the expanded states are dead, and their union with the pruned ones;
+// `next` has the identifiers of the set of the expanded states and of the first statement.
+fn closing_block(
+    alloc: Global,
+    next: DeadSet,
+    states: StateList,
+    union: DeadSet,
+) -> Result<Vec<Line>, AllocError>
+    requires set { next.set + 3 < 2 ^ 64 }
+    requires line { next.line + 4 < 2 ^ 64 }
+    ensures { IfOk result (λ lines. lines.items
+        ≡ closing_block next.set next.line states union) }
+{
+    let set = next.set;
+    let id = next.line;
+    Ok(vec![in alloc;
+        Line::Expr {
+            id: set,
+            expr: Expr::States(states),
+        },
+        Line::Expr {
+            id: set + 1,
+            expr: Expr::After(set, 0),
+        },
+        Line::Expr {
+            id: set + 2,
+            expr: Expr::Or(set, union.set),
+        },
+        Line::Expr {
+            id: set + 3,
+            expr: Expr::And(set, 2),
+        },
+        Line::Known {
+            id,
+            statement: Statement::Sub(set + 1, set + 2),
+            word: Word::B2,
+            premises: Premises::none(),
+        },
+        Line::Known {
+            id: id + 1,
+            statement: Statement::Sub(set + 3, 0),
+            word: Word::B1,
+            premises: Premises::none(),
+        },
+        Line::Known {
+            id: id + 2,
+            statement: Statement::Dead(set + 3),
+            word: Word::Sd,
+            premises: Premises::two(id + 1, 0),
+        },
+        Line::Known {
+            id: id + 3,
+            statement: Statement::Dead(set),
+            word: Word::Pg,
+            premises: Premises::three(id, union.line, id + 2),
+        },
+        Line::Known {
+            id: id + 4,
+            statement: Statement::Dead(set + 2),
+            word: Word::Ud,
+            premises: Premises::two(id + 3, union.line),
+        },
+    ]?)
+}

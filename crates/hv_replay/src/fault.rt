@@ -1,0 +1,65 @@
+ghost use Rattle.std.specs.Prelude.{◌≡◌};
+ghost use Rattle.hv_replay.specs.declared.fault.LogFault.TheVariants as F;
+ghost use Rattle.hv_replay.specs.Words.{limit_word};
+
+use hv_bytes::Failed;
+use std::alloc::AllocError;
+use thiserror::Error;
+
+/// A limit that a line of a log passes.
+#[derive(Clone, Copy, Debug, PartialEq, Eq)]
+pub enum LogLimit {
+    /// The line ends past byte 8,388,608 of the log, whatever its form.
+    Bytes,
+    /// More than 1,000,000 expanded states.
+    Expanded,
+    /// More than 65,000 pruned states.
+    Pruned,
+}
+
+/// Why a log isn't read. Lines are counted from 1; at the end of the input the line is the one after
+/// the last.
+#[derive(Clone, Copy, Debug, PartialEq, Eq, Error)]
+pub enum LogFault {
+    /// No line of a log is there: neither a state nor the end, or a line behind the end.
+    #[error("line {0} isn't what the log has there")]
+    Place(u64),
+    /// The line passes a limit.
+    #[error("line {0} passes a limit")]
+    Limit(u64, LogLimit),
+    /// The shelf failed.
+    #[error("the file can't be read")]
+    ReadFault,
+    /// Memory ran out.
+    #[error("out of memory")]
+    Memory,
+}
+
+impl From<AllocError> for LogFault {
+    ghost from_gives = { λ _ fault. fault ≡ F.Memory };
+
+    fn from(_error: AllocError) -> LogFault {
+        LogFault::Memory
+    }
+}
+
+impl From<Failed> for LogFault {
+    ghost from_gives = { λ _ fault. fault ≡ F.ReadFault };
+
+    fn from(_error: Failed) -> LogFault {
+        LogFault::ReadFault
+    }
+}
+
+impl LogLimit {
+    /// The word that names the limit in a refusal.
+    pub fn word(&self) -> &'static str
+        ensures { result.now ≡ limit_word self.now }
+    {
+        match self {
+            LogLimit::Bytes => "bytes",
+            LogLimit::Expanded => "expanded",
+            LogLimit::Pruned => "pruned",
+        }
+    }
+}

@@ -1,0 +1,35 @@
+ghost use Rattle.std.specs.Prelude.{◌≡◌, ◌≤◌, ℕ, List};
+ghost use Rattle.std.specs.List.{Any};
+ghost use Rattle.hv_bytes.specs.Pieces.{Piece};
+ghost use Rattle.hv_task.specs.Strips.{Strips};
+ghost use Rattle.hv_replay.specs.Closed.{IsClosed, IsFirstHole};
+ghost use Rattle.hv_replay.specs.Logs.{SearchLog};
+ghost use Rattle.hv_replay.specs.LogText.{AreTextOf, IsFirstFault};
+ghost use Rattle.hv_replay.specs.declared.fault.LogFault.{LogFault};
+ghost use Rattle.hv_replay.specs.declared.hole.ReplayFault.{ReplayFault};
+
+use hv_lines::Pruner;
+
+/// The pieces of a log have one answer: they are the text of one log at most, a text has no fault,
+/// and the first fault is one.
+pub fn one_answer()
+    ensures one_log { (atoms : ℕ) (pieces : List Piece) (s t : SearchLog)
+        → atoms ≤ 65535 → AreTextOf atoms pieces s → AreTextOf atoms pieces t → s ≡ t }
+    ensures text_or_fault { (atoms : ℕ) (pieces : List Piece) (log : SearchLog) (fault : LogFault)
+        → atoms ≤ 65535 → AreTextOf atoms pieces log → IsFirstFault atoms pieces fault → ⊥ }
+    ensures one_fault { (atoms : ℕ) (pieces : List Piece) (f g : LogFault)
+        → atoms ≤ 65535 → IsFirstFault atoms pieces f → IsFirstFault atoms pieces g → f ≡ g }
+{}
+
+/// For whatever pruners, a log has one first hole at most, and none where it is closed.
+pub fn one_first_hole(pruners: &[Box<dyn Pruner>])
+    ensures closed_or_hole { (task : Strips) (log : SearchLog) (hole : ReplayFault)
+        → IsClosed task log (λ state. Any (λ b. covers b task state) pruners.now)
+        → IsFirstHole task log (λ state. Any (λ b. covers b task state) pruners.now) hole → ⊥ }
+    ensures one_hole { (task : Strips) (log : SearchLog) (f g : ReplayFault)
+        → IsFirstHole task log (λ state. Any (λ b. covers b task state) pruners.now) f
+        → IsFirstHole task log (λ state. Any (λ b. covers b task state) pruners.now) g
+        → f ≡ g }
+{
+    let _ = pruners;
+}

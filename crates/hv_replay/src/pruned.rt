@@ -1,0 +1,165 @@
+ghost use Rattle.std.specs.Prelude.{◌≡◌, ◌<◌, ◌≤◌, ◌+◌, ◌^◌, ◌∷◌, [], ℕ, Bool, List, Some, IfOk, OnErr};
+ghost use Rattle.hv_task.specs.State.{AreBelow, state_of};
+ghost use Rattle.hv_task.specs.Strips.{atoms};
+ghost use Rattle.hv_lines.specs.Drafts.{IsGoodTable, onto};
+ghost use Rattle.hv_lines.specs.Numbering.{expr_count, known_count};
+ghost use Rattle.hv_lines.specs.Pruning.{Extends, IsDeadBy, states_in};
+ghost use Rattle.hv_lines.specs.Rules.{Says};
+ghost use Rattle.hv_lines.specs.declared.line.Statement.TheVariants as T;
+ghost use Rattle.hv_replay.specs.PrunedLines.{IsPrunedUnion, pruned_lines, pruned_word, word_of_formula};
+ghost use Rattle.hv_replay.specs.Replayed.{union_after};
+
+use hv_lines::{Draft, Expr, Line, Premises, Statement, Table, Word};
+use hv_sets::StateList;
+use hv_task::{AtomList, Task};
+use std::alloc::{AllocError, Global};
+
+/// A set of a draft, and the line that says that it is dead.
+#[derive(Clone, Copy, Debug, PartialEq, Eq)]
+pub struct DeadSet {
+    /// The identifier of the set.
+    pub set: usize,
+    /// The identifier of the line.
+    pub line: usize,
+}
+
+/// Puts the five lines of a pruned state last, of which line `by` says that a literal is dead that
+/// holds it; `union` is the union of the pruned states so far, and the answer is that with this one.
+/// It takes its memory before the first line.
+pub fn push_pruned(
+    alloc: Global,
+    draft: &mut Draft,
+    task: &Task,
+    held: AtomList,
+    by: usize,
+    union: DeadSet,
+) -> Result<DeadSet, AllocError>
+    requires draft { IsGoodTable task.now draft.old.lines }
+    requires below { AreBelow (atoms task.now) held }
+    requires dead { IsDeadBy task.now draft.old.lines (state_of (atoms task.now) held) by }
+    requires union { (pruned : ℕ) × IsPrunedUnion task.now draft.old.lines pruned union }
+    ensures lines { IfOk result (λ _. (set : ℕ) → Says draft.old.lines by (T.Dead set)
+        → draft.new.lines
+        ≡ onto (pruned_lines (expr_count draft.old.lines) (known_count draft.old.lines) held
+        (pruned_word draft.old.lines set) (record { set = set; line = by }) union)
+        draft.old.lines) }
+    ensures number { IfOk result (λ all. all ≡ union_after draft.old.lines) }
+    ensures extends { Extends task.now draft.old.lines draft.new.lines }
+    ensures union { IfOk result (λ all. (pruned : ℕ)
+        → IsPrunedUnion task.now draft.old.lines pruned union
+        → IsPrunedUnion task.now draft.new.lines (pruned + 1) all) }
+    ensures inside { IfOk result (λ all.
+        states_in task.now draft.new.lines all.set (state_of (atoms task.now) held)) }
+    ensures keeps { IfOk result (λ all. (state : List Bool)
+        → states_in task.now draft.old.lines union.set state
+        → states_in task.now draft.new.lines all.set state) }
+    ensures err { OnErr result (draft.new.lines ≡ draft.old.lines) }
+{
+    let _atoms = task.atoms();
+    let _len = held.len();
+    draft.reserve(5)?;
+    let next = next_in(draft.table());
+    let holder = dead_by(draft.table(), by);
+    let word = pruned_word(draft.table(), holder.set);
+    let lines = pruned_lines(alloc, next, held, word, holder, union)?;
+    draft.push_all(task, lines);
+    Ok(DeadSet {
+        set: next.set + 1,
+        line: next.line + 2,
+    })
+}
+
+// The identifiers of the next set and of the next statement.
+pub(crate) fn next_in(table: &Table) -> DeadSet
+    ensures set { result.set ≡ expr_count table.now.lines }
+    ensures line { result.line ≡ known_count table.now.lines }
+    ensures small_set { result.set < 2 ^ 63 }
+    ensures small_line { result.line < 2 ^ 63 }
+{
+    DeadSet {
+        set: table.expr_count(),
+        line: table.known_count(),
+    }
+}
+
+// The set that this line says to be dead.
+fn dead_by(table: &Table, line: usize) -> DeadSet
+    requires { (set : ℕ) × Says table.now.lines line (T.Dead set) }
+    ensures line { result.line ≡ line }
+    ensures says { Says table.now.lines line (T.Dead result.set) }
+{
+    let _count = table.known_count();
+    match *table.statement(line) {
+        Statement::Dead(set) => DeadSet { set, line },
+        _ => unreachable!(),
+    }
+}
+
+// The five lines of a pruned state; `next` has the identifiers of its set and of the first
+// statement.
+fn pruned_lines(
+    alloc: Global,
+    next: DeadSet,
+    held: AtomList,
+    word: Word,
+    holder: DeadSet,
+    union: DeadSet,
+) -> Result<Vec<Line>, AllocError>
+    requires set { next.set + 1 < 2 ^ 64 }
+    requires line { next.line + 2 < 2 ^ 64 }
+    ensures { IfOk result (λ lines. lines.items
+        ≡ pruned_lines next.set next.line held word holder union) }
+{
+    let mut states = StateList::new(alloc);
+    states.push(held)?;
+    Ok(vec![in alloc;
+        Line::Expr {
+            id: next.set,
+            expr: Expr::States(states),
+        },
+        Line::Known {
+            id: next.line,
+            statement: Statement::Sub(next.set, holder.set),
+            word,
+            premises: Premises::none(),
+        },
+        Line::Known {
+            id: next.line + 1,
+            statement: Statement::Dead(next.set),
+            word: Word::Sd,
+            premises: Premises::two(next.line, holder.line),
+        },
+        Line::Expr {
+            id: next.set + 1,
+            expr: Expr::Or(union.set, next.set),
+        },
+        Line::Known {
+            id: next.line + 2,
+            statement: Statement::Dead(next.set + 1),
+            word: Word::Ud,
+            premises: Premises::two(union.line, next.line + 1),
+        },
+    ]?)
+}
+
+// The word by which an explicit set is within the literal of this identifier.
+fn pruned_word(table: &Table, set: usize) -> Word
+    requires { set < expr_count table.now.lines }
+    ensures { result ≡ pruned_word table.now.lines set }
+{
+    match table.expr(set) {
+        Expr::Not(inner) => word_of_formula(table.expr(*inner)),
+        expr => word_of_formula(expr),
+    }
+}
+
+// The word by which an explicit set is within this formula or constant.
+fn word_of_formula(expr: &Expr) -> Word
+    ensures { result ≡ word_of_formula (Some expr.now) }
+{
+    match expr {
+        Expr::Constant(_) | Expr::States(_) => Word::B1,
+        Expr::Horn(_) | Expr::Two(_) | Expr::Node(_) | Expr::Not(_) => Word::B4,
+        Expr::And(..) | Expr::Or(..) | Expr::After(..) | Expr::Before(..) => Word::B4,
+    }
+}
