@@ -2,6 +2,7 @@ pub mod Canonical
 pub mod Moved
 pub mod Chained
 pub mod Marked
+pub mod Listed
 pub mod Graphs
 pub mod Asking
 pub mod Steps
@@ -11,9 +12,11 @@ pub mod Found
 pub mod Queried
 pub mod Within
 pub mod Built
+pub mod Sought
 pub mod Stacked
 pub mod Counted
 pub mod Tripled
 pub mod Turned
+pub mod Waiting
 pub mod Prefixed
 pub mod OneAnswer

@@ -1,15 +1,12 @@
--- Marks: what they are after some were written, and a state with the marked bits.
-use Rattle.std.proofs.Common.{◌≡◌, ℕ, zero, suc, ◌<◌, ◌+◌, ◌∙◌, ◌||◌, ◌&&◌, Bool, true, false, not, List, [], ◌∷◌, Option, None, Some, cond, eqb, length, set, refl, sym, ap, arith, inl, inr}
-use Rattle.std.proofs.lemmas.Bool.{cases_eq, cond-false, cond-true, eq-eqb, ne_eqb}
-use Rattle.std.proofs.lemmas.Grind.{get_or-set_at}
-use Rattle.std.proofs.lemmas.List.{get_or-replicate, get_or-set_other, get_or_default, length-replicate, length-set, same_lists}
+-- Marks: those of an action, and a state with the marked bits.
+use Rattle.std.proofs.Common.{◌≡◌, ℕ, zero, suc, ◌<◌, ◌+◌, ◌∙◌, ◌||◌, ◌&&◌, Bool, true, false, not, List, [], ◌∷◌, Option, None, Some, cond, length, refl, sym, ap, arith}
+use Rattle.std.proofs.lemmas.List.{get_or-replicate, length-replicate}
 use Rattle.std.proofs.lemmas.List.FromFn.{get_or-map-range_with_len, length-map-range_with_len}
 use Rattle.hv_task.specs.declared.action.Action.{Action}
 use Rattle.hv_task.specs.State.{has_atom, names_atom, successor}
 use Rattle.hv_task.proofs.Places.{has_atom-successor, length-successor, same_state}
 use Rattle.hv_bdd.specs.Graphs.{over}
 use Rattle.hv_bdd.specs.Live.{changed_at, changed_by, mark_of, needed_at, needed_by, no_marks, or_else}
-use Rattle.hv_bdd.specs.Search.{mark_all}
 
 pub length-over : (marks : List (Option Bool)) (s : List Bool) → length (over marks s) ≡ length s
 length-over marks [] = refl
@@ -22,32 +19,6 @@ has_atom-over marks [] a less = absurd (omega arith)
 has_atom-over [] (b ∷ s) a less = refl
 has_atom-over (m ∷ marks) (b ∷ s) zero less = refl
 has_atom-over (m ∷ marks) (b ∷ s) (suc a) less = has_atom-over marks s a (omega arith)
-
-pub length-mark_all : (b : Bool) (atoms : List ℕ) (marks : List (Option Bool)) → length (mark_all b atoms marks) ≡ length marks
-length-mark_all b [] marks = refl
-length-mark_all b (p ∷ atoms) marks = length-mark_all b atoms (set marks p (Some b)) ∙ length-set marks p (Some b)
-
-twice : (a b : Bool) (x y : Option Bool) → cond b x (cond a x y) ≡ cond (a || b) x y
-twice true true x y = refl
-twice true false x y = refl
-twice false b x y = refl
-
-mark_of-set : (marks : List (Option Bool)) (q p : ℕ) (m : Option Bool) → p < length marks
-    → mark_of (set marks q m) p ≡ cond (eqb q p) m (mark_of marks p)
-mark_of-set marks q p m less =
-    elim (cases_eq q p) [
-      | inl e ↦ get_or-set_at marks q p m None (sym e) (omega arith) ∙ sym (cond-true (eqb q p) m (mark_of marks p) (eq-eqb q p e))
-      | inr e ↦
-          get_or-set_other marks q p m None (λ f. e (sym f)) ∙ sym (cond-false (eqb q p) m (mark_of marks p) (ne_eqb q p e))
-    ]
-
-pub mark_of-mark_all : (b : Bool) (atoms : List ℕ) (marks : List (Option Bool)) (p : ℕ) → p < length marks
-    → mark_of (mark_all b atoms marks) p ≡ cond (names_atom atoms p) (Some b) (mark_of marks p)
-mark_of-mark_all b [] marks p less = refl
-mark_of-mark_all b (q ∷ atoms) marks p less =
-    mark_of-mark_all b atoms (set marks q (Some b)) p (let size = length-set marks q (Some b) in omega arith)
-    ∙ (ap (λ x. cond (names_atom atoms p) (Some b) x) (mark_of-set marks q p (Some b) less)
-    ∙ twice (eqb q p) (names_atom atoms p) (Some b) (mark_of marks p))
 
 pub length-no_marks : (n : ℕ) → length (no_marks n) ≡ n
 length-no_marks n = length-replicate n None
@@ -68,38 +39,6 @@ mark_of-needed n p action less = get_or-map-range_with_len (needed_at action) 0 
 
 pub mark_of-changed : (n p : ℕ) (action : Action) → p < n → mark_of (changed_by n (Some action)) p ≡ changed_at action p
 mark_of-changed n p action less = get_or-map-range_with_len (changed_at action) 0 n p p None less (let f : 0 + p ≡ p = omega arith in f)
-
--- the marks that are written one after the other are those of the action
-pub needed_marked : (n : ℕ) (action : Action) → mark_all true action.pre (no_marks n) ≡ needed_by n (Some action)
-needed_marked n action =
-    let none = length-no_marks n in
-    let size = length-mark_all true action.pre (no_marks n) in
-    let same = length-needed_by n (Some action) in
-    same_lists (mark_all true action.pre (no_marks n)) (needed_by n (Some action)) (omega (arith, none, size, same))
-    (λ p d less.
-    get_or_default (mark_all true action.pre (no_marks n)) p d None less
-    ∙ (mark_of-mark_all true action.pre (no_marks n) p (omega (arith, less, size))
-    ∙ (ap (λ m. cond (names_atom action.pre p) (Some true) m) (mark_of-no_marks n p (omega (arith, less, size, none)))
-    ∙ (sym (mark_of-needed n p action (omega (arith, less, size, none)))
-    ∙ get_or_default (needed_by n (Some action)) p None d (omega (arith, less, size, none, same))))))
-
-pub changed_marked : (n : ℕ) (action : Action)
-    → mark_all true action.add (mark_all false action.del (no_marks n)) ≡ changed_by n (Some action)
-changed_marked n action =
-    let none = length-no_marks n in
-    let dels = length-mark_all false action.del (no_marks n) in
-    let size = length-mark_all true action.add (mark_all false action.del (no_marks n)) in
-    let same = length-changed_by n (Some action) in
-    same_lists (mark_all true action.add (mark_all false action.del (no_marks n))) (changed_by n (Some action))
-    (omega (arith, none, dels, size, same))
-    (λ p d less.
-    get_or_default (mark_all true action.add (mark_all false action.del (no_marks n))) p d None less
-    ∙ (mark_of-mark_all true action.add (mark_all false action.del (no_marks n)) p (omega (arith, less, size))
-    ∙ (ap (λ m. cond (names_atom action.add p) (Some true) m)
-    (mark_of-mark_all false action.del (no_marks n) p (omega (arith, less, size, dels))
-    ∙ ap (λ m. cond (names_atom action.del p) (Some false) m) (mark_of-no_marks n p (omega (arith, less, size, dels, none))))
-    ∙ (sym (mark_of-changed n p action (omega (arith, less, size, dels, none)))
-    ∙ get_or_default (changed_by n (Some action)) p None d (omega (arith, less, size, dels, none, same))))))
 
 effect : (a d h : Bool) → or_else (cond a (Some true) (cond d (Some false) None)) h ≡ (a || (not d && h))
 effect true d h = refl

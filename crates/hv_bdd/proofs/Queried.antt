@@ -1,10 +1,10 @@
 -- Why the search through live tuples answers a query.
-use Rattle.std.proofs.Common.{◌≡◌, ℕ, suc, ◌<◌, ◌+◌, ◌-◌, ◌∙◌, Bool, true, false, List, Result, Ok, Err, IfOk, cond, get_or, length, map, refl, sym, ap, arith, subst}
+use Rattle.std.proofs.Common.{◌≡◌, ℕ, ◌<◌, ◌∙◌, Bool, true, false, List, Result, Ok, Err, IfOk, get_or, length, map, refl, sym, ap, arith, subst}
 use Rattle.std.proofs.lemmas.List.Elements.{All-append, All-map}
 use Rattle.std.specs.List.{All}
 use Rattle.std.specs.declared.alloc.AllocError.{AllocError}
 use Rattle.hv_task.specs.Strips.{IsTask, Strips, atoms}
-use Rattle.hv_task.proofs.Places.{IsState-start_state}
+use Rattle.hv_task.proofs.Places.{IsState-start_state, length-state_of}
 use Rattle.hv_sets.specs.Cost.{IsAnswer}
 use Rattle.hv_sets.specs.Query.{IsNamed, IsReady, action_of, is_clash}
 use Rattle.hv_sets.specs.declared.finding.Finding.{Finding}
@@ -17,40 +17,31 @@ use Rattle.hv_bdd.specs.declared.asked.Asked.{Asked}
 use Rattle.hv_bdd.specs.declared.search.Search.{Search}
 use Rattle.hv_bdd.specs.Nodes.{NodeList, in_node, node_count}
 use Rattle.hv_bdd.specs.Reduced.{IsReduced}
-use Rattle.hv_bdd.specs.Live.{LivePass, asked_of, first_asked, operands_of, setting_of}
+use Rattle.hv_bdd.specs.Live.{LivePass, asked_of, operands_of, setting_of}
 use Rattle.hv_bdd.specs.Graphs.{IsLiveAnswer}
-use Rattle.hv_bdd.specs.Search.{IsAskable, IsFor, IsGoalTable, IsSearch, goal_setting, setting}
+use Rattle.hv_bdd.specs.Search.{IsAskable, IsFor, IsSearch, setting}
 use Rattle.hv_bdd.proofs.Asking.{clash_from, suits_from}
 use Rattle.hv_bdd.proofs.Marked.{length-changed_by, length-needed_by}
 use Rattle.hv_bdd.proofs.Explored.{first_and_second}
-
--- one place more of a chain
-pub first_more : (asks : ℕ → Bool) (n v : ℕ) → v < n
-    → first_asked asks (n - v) v ≡ cond (asks v) (v + 2) (first_asked asks (n - (v + 1)) (v + 1))
-first_more asks n v less =
-    let e : n - v ≡ suc (n - (v + 1)) = omega arith in ap (λ k. first_asked asks k v) e
-
--- the table is one in the whole setting
-pub table_for : (s : Search) (table : List ℕ)
-    → IsGoalTable (goal_setting s.nodes.now s.goal.now) table → s.first_goal.now ≡ table
-    → IsGoalTable (setting s) s.first_goal.now
-table_for s table is same =
-    subst (IsGoalTable (setting s)) (sym same) (record { size = is.size; each = is.each })
 
 module _ (list : NodeList) (task : Strips) (query : Query) (s : Search)
     (for : IsFor list task query s) (t : IsTask task) (size : list.atoms ≡ atoms task) where
   size_now : s.nodes.now.atoms ≡ atoms task
   size_now = ap (λ (l : NodeList). l.atoms) for.nodes ∙ size
 
-  askable : (w : Which) → (w ≡ W.Goal → IsGoalTable (setting s) s.first_goal.now)
-      → IsNamed (node_count list) w → IsAskable s w
-  askable W.Empty table named = tt
-  askable W.Start table named =
+  askable : (w : Which) → IsNamed (node_count list) w → IsAskable s w
+  askable W.Empty named = tt
+  askable W.Start named =
       let few = t.few_atoms in
       let same = size_now in
       (ap length for.start ∙ (IsState-start_state task ∙ sym size_now), omega arith)
-  askable W.Goal table named = table refl
-  askable (W.Set number) table named =
+  askable W.Goal named =
+      let few = t.few_atoms in
+      let same = size_now in (
+        ap length for.goal ∙ (length-state_of (atoms task) task.goal ∙ sym size_now),
+        omega arith,
+      )
+  askable (W.Set number) named =
       subst (λ l. number < node_count l) (sym for.nodes) named
 
   all_named : (b : Bool) (os : List Operand)
@@ -60,12 +51,8 @@ module _ (list : NodeList) (task : Strips) (query : Query) (s : Search)
       All-map (λ (o : Asked). IsNamed (node_count list) o.which) (asked_of b) os named
 
   -- the search can be made
-  pub can_search : (goals : List ℕ) → IsReduced s.nodes.now
-      → All (λ (o : Asked). o.which ≡ W.Goal
-      → IsGoalTable (goal_setting s.nodes.now s.goal.now) goals)
-      s.asked.now
-      → s.first_goal.now ≡ goals → IsReady (node_count list) query → IsSearch s
-  can_search goals reduced is same ready =
+  pub can_search : IsReduced s.nodes.now → IsReady (node_count list) query → IsSearch s
+  can_search reduced ready =
       let parts =
       first_and_second (λ (o : Operand). IsNamed (node_count list) o.which) query.positive
       query.negative ready.named in
@@ -82,9 +69,7 @@ module _ (list : NodeList) (task : Strips) (query : Query) (s : Search)
         changed =
             ap length for.changed
             ∙ (length-changed_by (atoms task) (action_of task query.action) ∙ sym size_now);
-        asked = λ k d less.
-            askable (get_or s.asked.now k d).which
-            (λ goal. table_for s goals (is k d less goal) same) (named k d less);
+        asked = λ k d less. askable (get_or s.asked.now k d).which (named k d less);
       }
 
   setting_is : setting s ≡ setting_of list task query

@@ -1,10 +1,11 @@
 -- What the loop that reads a node file does in one turn, and what it answers.
-use Rattle.std.proofs.Common.{◌≡◌, ℕ, ◌+◌, ◌<◌, List, [], ◌∷◌, ◌++◌, Option, None, Some, Result, Ok, Err, IfSome, length, map, refl, sym, ◌∙◌, ap, subst, arith, append-nil}
+use Rattle.std.proofs.Common.{◌≡◌, ℕ, ◌+◌, ◌<◌, List, [], ◌∷◌, ◌++◌, Option, None, Some, Result, Ok, Err, IfSome, length, map, refl, sym, ◌∙◌, ap, subst, arith, append-nil, append_assoc, inl, inr}
 use Rattle.std.specs.Io.KnownBytes.{IsAtEnd}
-use Rattle.std.proofs.lemmas.List.{length_push, map_push}
+use Rattle.std.proofs.lemmas.List.{length_push, map-append, map_push}
 use Rattle.hv_bytes.specs.Files.{Names, Opens, file_of}
 use Rattle.hv_bytes.specs.FirstLine.{BeginsLong, FitsLimits, Passes as PassesBytes, TakesLine}
-use Rattle.hv_bytes.specs.Pieces.{ComesNext, GaveLines, Piece, as_pieces, pieces_of}
+use Rattle.hv_bytes.specs.LineCuts.{lines_of}
+use Rattle.hv_bytes.specs.Pieces.{ComesNext, GaveLines, Piece, as_pieces, pieces_after, pieces_of}
 use Rattle.hv_bytes.specs.States.{LinesState, coming_of, no_lines as no_input}
 use Rattle.hv_bytes.specs.declared.cutting.Limits.{Limits}
 use Rattle.hv_bytes.specs.declared.cutting.LineFault.{LineFault}
@@ -12,13 +13,14 @@ use Rattle.hv_bytes.specs.declared.cutting.LineFault.TheVariants as L
 use Rattle.hv_bytes.proofs.WholeText.{end_next, gave_more, line_next, long_next, opened}
 use Rattle.hv_bdd.specs.declared.fault.NodesFault.{NodesFault}
 use Rattle.hv_bdd.specs.declared.node.Node.{Node}
-use Rattle.hv_bdd.specs.declared.reader.FeedError.{FeedError}
-use Rattle.hv_bdd.specs.declared.reader.FeedError.TheVariants as E
+use Rattle.hv_bdd.specs.declared.fault.NodeKind.{NodeKind}
+use Rattle.hv_bdd.specs.declared.fault.NodesFault.TheVariants as F
 use Rattle.hv_bdd.specs.declared.reader.Reader.{Reader}
 use Rattle.hv_bdd.specs.Building.{fault_of}
 use Rattle.hv_bdd.specs.Nodes.{NodeList}
-use Rattle.hv_bdd.specs.NodeText.{AreLegal, FailsLine, IsLegal, IsReadFrom, IsTextOf, IsTriple, at_node, header_line, lines_before, list_over, node_line}
-use Rattle.hv_bdd.specs.Reading.{Ends, Feeds, IsReady, IsWhole, begun, begun_by, fault_at, line_fault_at}
+use Rattle.hv_bdd.specs.NodeText.{AreLegal, Beginning, EndsEarly, IsLegal, IsReadFrom, IsTextOf, IsTriple, at_node, header_line, lines_before, list_over, node_line}
+use Rattle.hv_bdd.specs.Reading.{AreBegun, Ends, Feeds, IsReady, Stops, StopsAt, begun, line_fault_at, read_by}
+use Rattle.hv_bdd.specs.Reading.{lines_of as nodes_of}
 use Rattle.hv_bdd.proofs.Built.{passes_from, reduced_more}
 
 -- one node more
@@ -54,16 +56,17 @@ weaker (Some bytes) P Q f h = f bytes h
 pub record Follows (limits : Limits) (file : Option (List ℕ)) (reader : Reader) (number earlier : ℕ)
     (coming : Option (List ℕ)) : Type 0 where
   pub ready : IsReady reader
-  pub counted : number ≡ length (lines_before (begun_by reader))
-  pub gave : GaveLines limits file (lines_before (begun_by reader)) coming earlier
+  pub counted : number ≡ length (read_by reader)
+  pub gave : GaveLines limits file (read_by reader) coming earlier
 
 pub follows_first : (files : Option Names) (name : List ℕ) (limits : Limits)
     (left : Option (List ℕ)) (reader : Reader) (lines : LinesState) → Opens files name left
     → IsReady reader → reader.count ≡ None → lines ≡ no_input limits
     → Follows limits (file_of files name) reader lines.number lines.earlier (coming_of lines left)
 follows_first files name limits left reader lines o ready none e =
-    let nothing : lines_before (begun_by reader) ≡ [] = ap (λ c.
-    lines_before (begun c reader.list.nodes)) none in
+    let nothing : read_by reader ≡ [] =
+    ap (λ c. lines_before (begun c reader.list.nodes) ++ nodes_of reader.waiting.items) none
+    ∙ ap nodes_of (ready.none none).1 in
     record {
       ready = ready;
       counted = ap (λ l. l.number) e ∙ sym (ap length nothing);
@@ -84,22 +87,52 @@ whole_text atoms pieces count nodes legal whole cut = record {
   spelled = ap (λ k. as_pieces (header_line k ∷ map node_line nodes)) whole ∙ sym cut;
 }
 
-whole_of : (pieces : List Piece) (r : Reader) (list : NodeList) (count : Option ℕ) → r.count ≡ count
-    → IsLegal r.list.atoms (begun count r.list.nodes)
-    → IsWhole (begun count r.list.nodes)
-    → pieces ≡ as_pieces (lines_before (begun count r.list.nodes)) → list ≡ r.list
-    → IsTextOf pieces list
-whole_of pieces r list None e legal whole cut same = absurd whole
-whole_of pieces r list (Some count) e legal whole cut same =
-    subst (IsTextOf pieces) (sym same)
-    (whole_text r.list.atoms pieces count r.list.nodes legal whole cut)
+-- of a known file the lines that were given come first
+gave_cut : (limits : Limits) (file : Option (List ℕ)) (given : List (List ℕ))
+    (coming : Option (List ℕ)) (earlier : ℕ) → GaveLines limits file given coming earlier
+    → IfSome file (λ bytes. (rest : List Piece) × (pieces_of limits bytes ≡ as_pieces given ++ rest))
+gave_cut limits None given coming earlier gave = tt
+gave_cut limits (Some bytes) given None earlier gave = absurd gave
+gave_cut limits (Some bytes) given (Some coming) earlier gave =
+    (pieces_after limits earlier (lines_of coming), gave)
+
+module _ (limits : Limits) (atoms : ℕ) where
+  -- a fault of some of the lines is the first fault of the file
+  stop_cut : (bytes : List ℕ) (lines front more : List (List ℕ)) (line : List ℕ)
+      (rest : List Piece) (number : ℕ) → pieces_of limits bytes ≡ as_pieces lines ++ rest
+      → lines ≡ front ++ line ∷ more → number ≡ length front + 1
+      → ComesNext (pieces_of limits bytes) front (Some line ∷ (as_pieces more ++ rest)) number
+  stop_cut bytes lines front more line rest number cut split at = record {
+    cut = cut
+        ∙ (ap (λ ls. as_pieces ls ++ rest) split
+        ∙ (ap (λ ps. ps ++ rest) (map-append (λ (l : List ℕ). Some l) front (line ∷ more))
+        ∙ append_assoc (as_pieces front) (as_pieces (line ∷ more)) rest));
+    counted = at;
+  }
+
+  stop_answer : (bytes : List ℕ) (lines : List (List ℕ)) (rest : List Piece) (fault : NodesFault)
+      → pieces_of limits bytes ≡ as_pieces lines ++ rest → StopsAt atoms lines fault
+      → IsReadFrom limits atoms bytes (Err fault)
+  stop_answer bytes lines rest (F.Place number kind) cut (front, line, more, legal, split, at, fails) = (
+    front,
+    Some line ∷ (as_pieces more ++ rest),
+    legal,
+    stop_cut bytes lines (lines_before front) more line rest number cut split at,
+    fails,
+  )
+  stop_answer bytes lines rest (F.Limit number limit) cut (front, line, more, legal, split, at, passes) = (
+    front,
+    Some line ∷ (as_pieces more ++ rest),
+    legal,
+    stop_cut bytes lines (lines_before front) more line rest number cut split at,
+    passes,
+  )
+  stop_answer bytes lines rest F.ReadFault cut stops = tt
+  stop_answer bytes lines rest F.Memory cut stops = tt
 
 module _ (limits : Limits) (atoms : ℕ) (file : Option (List ℕ)) (reader : Reader)
     (number earlier : ℕ) (coming : Option (List ℕ))
     (f : Follows limits file reader number earlier coming) (over : reader.list.atoms ≡ atoms) where
-  legal : IsLegal atoms (begun_by reader)
-  legal = subst (λ n. IsLegal n (begun_by reader)) over f.ready.legal
-
   -- after a line that the reader takes it follows with one line more
   pub follows_more : (new : Reader) (count after : ℕ) (rest : Option (List ℕ)) (line : List ℕ)
       → Feeds (Ok tt) reader line new → TakesLine coming rest line
@@ -108,89 +141,118 @@ module _ (limits : Limits) (atoms : ℕ) (file : Option (List ℕ)) (reader : Re
       → Follows limits file new count after rest
   follows_more new count after rest line t first passed fits counted =
       let size = ap length t.2 in
-      let longer = length_push (lines_before (begun_by reader)) line in
+      let longer = length_push (read_by reader) line in
       let before = f.counted in
       record {
         ready = t.0;
         counted = omega arith;
         gave = subst (λ ls. GaveLines limits file ls rest after) (sym t.2)
-            (gave_more limits file coming rest (lines_before (begun_by reader)) line earlier after
-            f.gave first passed fits);
+            (gave_more limits file coming rest (read_by reader) line earlier after f.gave first passed
+            fits);
       }
 
-  fault_here : (bytes line : List ℕ) (error : FeedError) (new : Reader) (count : ℕ)
-      (rest : List Piece)
-      → ComesNext (pieces_of limits bytes) (lines_before (begun_by reader)) (Some line ∷ rest) count
-      → Feeds (Err error) reader line new
-      → IsReadFrom limits atoms bytes (Err (fault_at count error))
-  fault_here bytes line (E.Place kind) new count rest next t = (
-    begun_by reader,
-    Some line ∷ rest,
-    legal,
-    next,
-    subst (λ n.
-        FailsLine n (begun_by reader) line kind) over t,
-  )
-  fault_here bytes line (E.Limit limit) new count rest next t =
-      (begun_by reader, Some line ∷ rest, legal, next, t)
-  fault_here bytes line E.Memory new count rest next t = tt
-
-  -- a line that the reader doesn't take is the first fault
-  pub feed_fault : (new : Reader) (count : ℕ) (rest : Option (List ℕ)) (line : List ℕ)
-      (error : FeedError) (fault : NodesFault) → TakesLine coming rest line
-      → FitsLimits limits.line limits.file earlier (length line) → count ≡ number + 1
-      → Feeds (Err error) reader line new
-      → fault ≡ fault_at count error
+  -- a line that the reader doesn't take, or an earlier one, has the first fault
+  pub feed_fault : (new : Reader) (rest : Option (List ℕ)) (line : List ℕ) (fault : NodesFault)
+      → TakesLine coming rest line → FitsLimits limits.line limits.file earlier (length line)
+      → Feeds (Err fault) reader line new
       → IfSome file (λ bytes. IsReadFrom limits atoms bytes (Err fault))
-  feed_fault new count rest line error fault first fits counted t e =
+  feed_fault new rest line fault first fits t =
       let before = f.counted in
-      let next = line_next limits file coming rest (lines_before (begun_by reader)) line earlier
-      count f.gave first fits (omega arith) in
-      subst (λ r. IfSome file (λ bytes. IsReadFrom limits atoms bytes (Err r))) (sym e)
-      (weaker file _ (λ bytes. IsReadFrom limits atoms bytes (Err (fault_at count error)))
-      (λ bytes h. fault_here bytes line error new count h.0 h.1 t) next)
+      let next = line_next limits file coming rest (read_by reader) line earlier (number + 1) f.gave
+      first fits (omega arith) in
+      weaker file _ (λ bytes. IsReadFrom limits atoms bytes (Err fault))
+      (λ bytes h.
+      stop_answer limits atoms bytes (read_by reader ++ line ∷ []) h.0 fault
+      (h.1.cut
+      ∙ sym (ap (λ ps. ps ++ h.0) (map_push (λ (l : List ℕ). Some l) (read_by reader) line)
+      ∙ append_assoc (as_pieces (read_by reader)) (Some line ∷ []) h.0))
+      (subst (λ n. StopsAt n (read_by reader ++ line ∷ []) fault) over t))
+      next
 
-  ended : (bytes : List ℕ) (result : Result NodeList NodesFault) (count : ℕ)
-      → ComesNext (pieces_of limits bytes) (lines_before (begun_by reader)) [] count
-      → Ends result reader count → IsReadFrom limits atoms bytes result
-  ended bytes (Ok list) count next ends = (
-    ap (λ (l : NodeList). l.atoms) ends.1 ∙ over,
-    whole_of (pieces_of limits bytes) reader list reader.count refl f.ready.legal ends.0
-        (next.cut ∙ append-nil (as_pieces (lines_before (begun_by reader)))) ends.1,
+  -- an earlier line has the first fault
+  earlier_fault : (fault : NodesFault) → StopsAt reader.list.atoms (read_by reader) fault
+      → IfSome file (λ bytes. IsReadFrom limits atoms bytes (Err fault))
+  earlier_fault fault stops =
+      weaker file _ (λ bytes. IsReadFrom limits atoms bytes (Err fault))
+      (λ bytes h.
+      stop_answer limits atoms bytes (read_by reader) h.0 fault h.1
+      (subst (λ n. StopsAt n (read_by reader) fault) over stops))
+      (gave_cut limits file (read_by reader) coming earlier f.gave)
+
+  -- what comes next, after a beginning
+  after_begun : (bytes : List ℕ) (front : Beginning) (rest : List Piece) (count : ℕ)
+      → ComesNext (pieces_of limits bytes) (read_by reader) rest count
+      → read_by reader ≡ lines_before front
+      → ComesNext (pieces_of limits bytes) (lines_before front) rest count
+  after_begun bytes front rest count next same =
+      subst (λ ls. ComesNext (pieces_of limits bytes) ls rest count) same next
+
+  ended_whole : (bytes : List ℕ) (list : NodeList) (count : ℕ)
+      → ComesNext (pieces_of limits bytes) (read_by reader) [] count → Ends (Ok list) reader
+      → IsReadFrom limits atoms bytes (Ok list)
+  ended_whole bytes list count next ends = (
+    ends.1 ∙ over,
+    whole_text list.atoms (pieces_of limits bytes) (length list.nodes) list.nodes ends.0.0 refl
+        (next.cut ∙ (append-nil (as_pieces (read_by reader)) ∙ ap as_pieces ends.0.1)),
   )
-  ended bytes (Err fault) count next ends =
-      subst (λ r. IsReadFrom limits atoms bytes (Err r)) (sym ends.1)
-      (begun_by reader, [], legal, next, ends.2)
 
-  -- where no line is left, the answer is the list, or the first fault is here
-  pub end_answer : (count : ℕ) (result : Result NodeList NodesFault) → IsAtEnd coming
-      → Ends result reader count → count ≡ number + 1
+  ended_early : (bytes : List ℕ) (fault : NodesFault) (count : ℕ) (kind : NodeKind)
+      (front : Beginning) → ComesNext (pieces_of limits bytes) (read_by reader) [] count
+      → AreBegun reader.list.atoms (read_by reader) front
+      → fault ≡ F.Place (length (read_by reader) + 1) kind → EndsEarly front kind
+      → IsReadFrom limits atoms bytes (Err fault)
+  ended_early bytes fault count kind front next begun_at e early =
+      subst (λ r. IsReadFrom limits atoms bytes (Err r))
+      (sym (e ∙ ap (λ n. F.Place n kind) (sym next.counted))) (
+        front,
+        [],
+        subst (λ n. IsLegal n front) over begun_at.0,
+        after_begun bytes front [] count next begun_at.1,
+        early,
+      )
+
+  -- where no line is left, the answer is the list, or the first fault is here or earlier
+  pub end_answer : (result : Result NodeList NodesFault) → IsAtEnd coming → Ends result reader
       → IfSome file (λ bytes. IsReadFrom limits atoms bytes result)
-  end_answer count result end ends counted =
+  end_answer (Ok list) end ends =
       let before = f.counted in
-      weaker file _ (λ bytes. IsReadFrom limits atoms bytes result) (λ bytes next.
-      ended bytes result count next ends)
-      (end_next limits file coming (lines_before (begun_by reader)) earlier count f.gave end
-      (omega arith))
+      weaker file _ (λ bytes. IsReadFrom limits atoms bytes (Ok list))
+      (λ bytes next. ended_whole bytes list (number + 1) next ends)
+      (end_next limits file coming (read_by reader) earlier (number + 1) f.gave end (omega arith))
+  end_answer (Err fault) end (inl stops) = earlier_fault fault stops
+  end_answer (Err fault) end (inr (kind, front, begun_at, e, early)) =
+      let before = f.counted in
+      weaker file _ (λ bytes. IsReadFrom limits atoms bytes (Err fault))
+      (λ bytes next. ended_early bytes fault (number + 1) kind front next begun_at e early)
+      (end_next limits file coming (read_by reader) earlier (number + 1) f.gave end (omega arith))
 
-  faulty : (file_known : Option (List ℕ)) (count : ℕ) (fault : LineFault)
+  stopped : (file_known : Option (List ℕ)) (count : ℕ) (fault : LineFault) (front : Beginning)
+      → AreBegun reader.list.atoms (read_by reader) front
       → (fault ≡ L.Long
       → IfSome file_known (λ bytes.
-      ComesNext (pieces_of limits bytes) (lines_before (begun_by reader)) (None ∷ []) count))
+      ComesNext (pieces_of limits bytes) (read_by reader) (None ∷ []) count))
       → IfSome file_known (λ bytes. IsReadFrom limits atoms bytes (Err (line_fault_at count fault)))
-  faulty None count fault long = tt
-  faulty (Some bytes) count L.Long long = (begun_by reader, None ∷ [], legal, long refl, refl)
-  faulty (Some bytes) count L.Failed long = tt
-  faulty (Some bytes) count L.Memory long = tt
+  stopped None count fault front begun_at long = tt
+  stopped (Some bytes) count L.Long front begun_at long = (
+    front,
+    None ∷ [],
+    subst (λ n. IsLegal n front) over begun_at.0,
+    after_begun bytes front (None ∷ []) count (long refl) begun_at.1,
+    refl,
+  )
+  stopped (Some bytes) count L.Failed front begun_at long = tt
+  stopped (Some bytes) count L.Memory front begun_at long = tt
 
-  -- a line that can't be had is the first fault where it is long
-  pub line_fault_answer : (count : ℕ) (fault : LineFault) (answer : NodesFault)
+  -- a line that can't be had is the first fault where it is long and no earlier line has one
+  pub line_fault_answer : (fault : LineFault) (answer : NodesFault)
       → (fault ≡ L.Long → BeginsLong coming limits.line limits.file earlier)
-      → count ≡ number + 1 → answer ≡ line_fault_at count fault
+      → Stops fault reader answer
       → IfSome file (λ bytes. IsReadFrom limits atoms bytes (Err answer))
-  line_fault_answer count fault answer long counted e =
+  line_fault_answer fault answer long (inl stops) = earlier_fault answer stops
+  line_fault_answer fault answer long (inr (front, begun_at, e)) =
       let before = f.counted in
       subst (λ r. IfSome file (λ bytes. IsReadFrom limits atoms bytes (Err r))) (sym e)
-      (faulty file count fault (λ is.
-      long_next limits file coming (lines_before (begun_by reader)) earlier count f.gave
-      (long is) (omega arith)))
+      (stopped file (length (read_by reader) + 1) fault front begun_at
+      (λ is.
+      long_next limits file coming (read_by reader) earlier (length (read_by reader) + 1) f.gave
+      (long is) refl))

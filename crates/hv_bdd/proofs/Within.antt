@@ -2,7 +2,7 @@
 use Rattle.std.proofs.Common.{◌≡◌, ℕ, suc, ◌<◌, ◌≤◌, ◌∙◌, Bool, true, false, not, List, [], ◌∷◌, Option, None, Some, cond, eqb, length, map, get_or, set, refl, sym, ap, arith, inl, inr, subst}
 use Rattle.std.proofs.lemmas.Bool.{and_from, and_parts, cases_eq, not-true}
 use Rattle.std.proofs.lemmas.List.{get_or-map, get_or-set_other, get_or-set_same, length-map, length-set}
-use Rattle.std.proofs.lemmas.List.Elements.{All-head, All-tail}
+use Rattle.std.proofs.lemmas.List.Elements.{All-cons, All-head, All-nil, All-tail}
 use Rattle.std.proofs.lemmas.Map.Keys.{IsDistinct-from_apart}
 use Rattle.std.proofs.lemmas.Map.Steps.{length-le_from_distinct_below}
 use Rattle.std.proofs.lemmas.Map.Views.{Contains-from_any}
@@ -23,16 +23,14 @@ use Rattle.hv_bdd.specs.Graphs.{IsLiveAnswer, Suits, limit}
 use Rattle.hv_bdd.specs.Live.{is_marked, mark_of, moves, no_marks, roots}
 use Rattle.hv_bdd.specs.Nodes.{in_node, node_count}
 use Rattle.hv_bdd.specs.Order.{atom_at, place}
-use Rattle.hv_bdd.specs.Search.{IsSearch, IsWithin, setting}
+use Rattle.hv_bdd.specs.Reduced.{IsReduced}
+use Rattle.hv_bdd.specs.Search.{IsAskable, IsSearch, IsWithin, setting}
 use Rattle.hv_bdd.specs.Sets.{Finds, mark_literals}
 use Rattle.hv_bdd.specs.Tuples.{IsReached, TuplesPass}
+use Rattle.hv_bdd.proofs.Listed.{length-literals}
 use Rattle.hv_bdd.proofs.Marked.{length-no_marks, mark_of-no_marks}
 use Rattle.hv_bdd.specs.Ordered.{order_of}
 use Rattle.hv_bdd.proofs.Tupled.{reached_tuple}
-
-pub length-mark_literals : (ls : List Literal) (marks : List (Option Bool)) → length (mark_literals ls marks) ≡ length marks
-length-mark_literals [] marks = refl
-length-mark_literals (l ∷ ls) marks = length-mark_literals ls (set marks l.atom (Some l.positive)) ∙ length-set marks l.atom (Some l.positive)
 
 -- a state of the cube has the marked bits
 literal_bit : (p h : Bool) → cond p h (not h) ≡ true → is_marked (Some p) h ≡ true
@@ -88,6 +86,21 @@ marks_cube (l ∷ ls) marks s rises below all =
     and_from (in_literal l s) (in_cube ls s)
     (bit_literal l.positive (has_atom s l.atom) (ap (λ m. is_marked m (has_atom s l.atom)) (sym mark) ∙ all l.atom within))
     (marks_cube ls (set marks l.atom (Some l.positive)) s (λ i j less end. rises (suc i) (suc j) (omega arith) (omega arith)) wider (λ a less. all a (omega arith)))
+
+-- the search for a state of a cube can be made
+pub can_look : (s : Search) (node : ℕ) (inside : Bool) (cube : List Literal)
+    → IsWithin node inside cube s → IsReduced s.nodes.now → node < node_count s.nodes.now
+    → length s.changed ≡ s.nodes.now.atoms → IsSearch s
+can_look s node inside cube for reduced within changed = record {
+  reduced = reduced;
+  needed = ap length for.needed
+      ∙ (length-literals cube (no_marks s.nodes.now.atoms) ∙ length-no_marks s.nodes.now.atoms);
+  changed = changed;
+  asked = subst (All (λ (o : Asked). IsAskable s o.which)) (sym for.asked)
+      (All-cons (λ (o : Asked). IsAskable s o.which)
+      (record { which = W.Set node; after = false; positive = inside }) [] within
+      (All-nil (λ (o : Asked). IsAskable s o.which)));
+}
 
 module _ (s : Search) (search : IsSearch s) (node : ℕ) (inside : Bool) (cube : List Literal) (for : IsWithin node inside cube s)
     (rises : IsStrictlyIncreasing (atoms_of cube)) (below : SpeakBelow s.nodes.now.atoms cube) where

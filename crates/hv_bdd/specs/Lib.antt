@@ -5,8 +5,10 @@ pub mod Tuples
 pub mod Live
 pub mod Graphs
 pub mod Sets
+pub mod Marked
 pub mod Search
 pub mod Building
+pub mod Chains
 pub mod Paths
 pub mod NodeText
 pub mod Reading

@@ -1,5 +1,5 @@
 -- The search through live tuples.
-use Rattle.std.specs.Prelude.{◌≡◌, ◌<◌, ◌≤◌, ◌+◌, ◌-◌, ◌++◌, ◌⊎◌, ℕ, Bool, false, List, [], ◌∷◌, Option, None, Some, length, map, slice_index_or, slice_set, ⊤}
+use Rattle.std.specs.Prelude.{◌≡◌, ◌<◌, ◌≤◌, ◌++◌, ◌⊎◌, ℕ, Bool, false, List, [], ◌∷◌, Option, None, Some, length, map, slice_index_or, ⊤}
 use Rattle.std.specs.List.{All, Contains}
 use Rattle.indexmap.specs.IndexSet.{IndexSet}
 use Rattle.smallvec.specs.SmallVec.{SmallVec}
@@ -16,48 +16,33 @@ use Rattle.hv_bdd.specs.declared.search.Link.{Link}
 use Rattle.hv_bdd.specs.declared.search.Search.{Search}
 use Rattle.hv_bdd.specs.Nodes.{NodeList, node_count}
 use Rattle.hv_bdd.specs.Reduced.{IsReduced}
-use Rattle.hv_bdd.specs.Live.{Setting, asks_goal, changed_by, first_asked, moves, needed_by, no_marks, operands_of, roots}
+use Rattle.hv_bdd.specs.Live.{Setting, changed_by, moves, needed_by, no_marks, operands_of, roots}
 use Rattle.hv_bdd.specs.Graphs.{limit}
 use Rattle.hv_bdd.specs.Sets.{mark_literals}
 use Rattle.hv_bdd.specs.Tuples.{IsReached, Moves, if_live, least, next}
-
--- the marks with this one at each of these atoms
-abbrev pub mark_all : Bool → List ℕ → List (Option Bool) → List (Option Bool)
-mark_all bit [] marks = marks
-mark_all bit (atom ∷ atoms) marks = mark_all bit atoms (slice_set marks atom (Some bit))
 
 -- what the tuples of the search move through
 abbrev pub setting : Search → Setting
 setting s = record {
   list = s.nodes.now;
-  start = s.start.now;
-  goal = s.goal.now;
-  needed = s.needed.now;
-  changed = s.changed.now;
+  start = s.start;
+  goal = s.goal;
+  needed = s.needed;
+  changed = s.changed;
 }
-
--- a setting in which all is left out but the goal
-abbrev pub goal_setting : NodeList → List Bool → Setting
-goal_setting list goal = record { list = list; start = []; goal = goal; needed = []; changed = [] }
-
--- the table has the first goal node from each place on
-pub record IsGoalTable (S : Setting) (table : List ℕ) : Type 0 where
-  pub size : length table ≡ S.list.atoms + 1
-  pub each : (v : ℕ) → v ≤ S.list.atoms
-      → slice_index_or table v 0 ≡ first_asked (asks_goal S) (S.list.atoms - v) v
 
 -- what is at hand suffices for this operand
 abbrev pub IsAskable : Search → Which → Type 0
 IsAskable s W.Empty = ⊤
-IsAskable s W.Start = (length s.start.now ≡ s.nodes.now.atoms) × (s.nodes.now.atoms ≤ 65535)
-IsAskable s W.Goal = IsGoalTable (setting s) s.first_goal.now
+IsAskable s W.Start = (length s.start ≡ s.nodes.now.atoms) × (s.nodes.now.atoms ≤ 65535)
+IsAskable s W.Goal = (length s.goal ≡ s.nodes.now.atoms) × (s.nodes.now.atoms ≤ 65535)
 IsAskable s (W.Set number) = number < node_count s.nodes.now
 
 -- the search can be made
 pub record IsSearch (s : Search) : Type 0 where
   pub reduced : IsReduced s.nodes.now
-  pub needed : length s.needed.now ≡ s.nodes.now.atoms
-  pub changed : length s.changed.now ≡ s.nodes.now.atoms
+  pub needed : length s.needed ≡ s.nodes.now.atoms
+  pub changed : length s.changed ≡ s.nodes.now.atoms
   pub asked : All (λ o. IsAskable s o.which) s.asked.now
 
 -- the tuple has a node of each operand
@@ -129,13 +114,13 @@ IsEnd s nodes = least (moves (setting s)) s.asked.now nodes ≡ s.nodes.now.atom
 -- what a query gives to the search
 pub record IsFor (list : NodeList) (task : Strips) (query : Query) (s : Search) : Type 0 where
   pub nodes : s.nodes.now ≡ list
-  pub start : s.start.now ≡ start_state task
-  pub goal : s.goal.now ≡ state_of (atoms task) task.goal
-  pub needed : s.needed.now ≡ needed_by (atoms task) (action_of task query.action)
-  pub changed : s.changed.now ≡ changed_by (atoms task) (action_of task query.action)
+  pub start : s.start ≡ start_state task
+  pub goal : s.goal ≡ state_of (atoms task) task.goal
+  pub needed : s.needed ≡ needed_by (atoms task) (action_of task query.action)
+  pub changed : s.changed ≡ changed_by (atoms task) (action_of task query.action)
   pub asked : s.asked.now ≡ operands_of query
 
 -- the search is for a state of the cube that is in the node or outside it
 pub record IsWithin (node : ℕ) (inside : Bool) (cube : List Literal) (s : Search) : Type 0 where
-  pub needed : s.needed.now ≡ mark_literals cube (no_marks s.nodes.now.atoms)
+  pub needed : s.needed ≡ mark_literals cube (no_marks s.nodes.now.atoms)
   pub asked : s.asked.now ≡ record { which = W.Set node; after = false; positive = inside } ∷ []

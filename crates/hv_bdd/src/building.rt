@@ -2,36 +2,38 @@
 
 ghost use Rattle.std.specs.Prelude.{◌≡◌, ◌<◌, None, IfOk, OnOk, IfSome, length};
 ghost use Rattle.hv_bdd.specs.Building.{as_node, fault_of, with_node};
+ghost use Rattle.hv_bdd.specs.Chains.{IsChained};
 
+use crate::chains::Chains;
 use crate::diagrams::Diagrams;
 use crate::fault::NodeKind;
-use crate::node::Node;
 use crate::numbers::Triple;
-use indexmap::IndexSet;
 use std::alloc::AllocError;
 
 /// Adds the node of these numbers to the diagrams and to what was seen of their nodes, or says what
 /// is wrong with it.
 pub(crate) fn add(
     list: &mut Diagrams,
-    seen: &mut IndexSet<Node>,
+    seen: &mut Chains,
     triple: &Triple,
 ) -> Result<Option<NodeKind>, AllocError>
-    requires seen { seen.old.keys ≡ list.old.nodes }
+    requires seen { IsChained list.old.nodes seen.old }
     requires few { length list.old.nodes < 16777216 }
     ensures fault { IfOk result (λ fault. fault ≡ fault_of list.old (as_node triple.now)) }
     ensures added { IfOk result (λ fault.
         fault ≡ None → list.new ≡ with_node list.old (as_node triple.now)) }
     ensures refused { IfOk result (λ fault. IfSome fault (λ _. list.new ≡ list.old)) }
-    ensures seen { OnOk result (seen.new.keys ≡ list.new.nodes) }
+    ensures seen { OnOk result (IsChained list.new.nodes seen.new) }
 {
     let node = match list.plain_node(triple) {
         Ok(node) => node,
         Err(kind) => return Ok(Some(kind)),
     };
-    if !seen.insert(node)? {
+    let sought = seen.seek(list.listed(), &node);
+    if sought.listed {
         return Ok(Some(NodeKind::Twin));
     }
+    seen.push(list.listed(), &node, sought.passed)?;
     list.push(node)?;
     Ok(None)
 }

@@ -1,10 +1,13 @@
-ghost use Rattle.std.specs.Prelude.{◌≡◌, ◌<◌, ◌≤◌, ◌↔◌, ◌&&◌, None, Some, IsTrue, MatchResult, OnErr, OnOk, length, nat_lt};
+ghost use Rattle.std.specs.Prelude.{◌≡◌, ◌<◌, ◌≤◌, ◌↔◌, ◌&&◌, None, Some, IfSome, IsTrue, MatchResult, OnErr, OnOk, length, nat_lt};
+ghost use Rattle.hv_task.specs.Atoms.{IsNext};
+ghost use Rattle.hv_task.specs.State.{has_atom};
 ghost use Rattle.hv_bdd.specs.Building.{as_node, fault_of, is_later, plain_fault, with_node};
 ghost use Rattle.hv_bdd.specs.Nodes.{IsNode, in_node, no_nodes, node_count};
 ghost use Rattle.hv_bdd.specs.Order.{atom_at, place};
 ghost use Rattle.hv_bdd.specs.Reduced.{AreOneSet, IsReduced, child, node_at, top};
 
 use crate::fault::NodeKind;
+use crate::marks::Held;
 use crate::node::Node;
 use crate::numbers::Triple;
 use crate::set::DiagramSet;
@@ -50,11 +53,11 @@ impl Diagrams {
         self.nodes.len() + 2
     }
 
-    // How many nodes are listed.
-    pub(crate) fn listed(&self) -> usize
-        ensures { result ≡ length self.now.nodes }
+    // The listed nodes.
+    pub(crate) fn listed(&self) -> &[Node]
+        ensures { result.now ≡ self.now.nodes }
     {
-        self.nodes.len()
+        self.nodes.as_slice()
     }
 
     /// Whether the state is in the node.
@@ -144,6 +147,15 @@ impl Diagrams {
         ensures { result ≡ atom_at self.now place }
     {
         place
+    }
+
+    // The least place from this one on whose atom is held.
+    pub(crate) fn next_place(&self, held: &Held<'_>, from: u32) -> Option<u32>
+        requires { length held.now ≡ self.now.atoms }
+        ensures next { IsNext (λ v. has_atom held.now (atom_at self.now v)) from result }
+        ensures within { IfSome result (λ v. v < self.now.atoms) }
+    {
+        held.next(from)
     }
 
     // The node of these numbers, or the first of its faults that can be seen from it alone.

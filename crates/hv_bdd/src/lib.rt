@@ -3,11 +3,13 @@
 
 pub mod asked;
 mod building;
+pub mod chains;
 mod counts;
 pub mod diagrams;
 mod family;
 mod fault;
 mod laws;
+pub mod marks;
 pub mod node;
 mod numbers;
 mod reach;

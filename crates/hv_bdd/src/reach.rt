@@ -140,7 +140,7 @@ impl Search<'_> {
         ensures { Fits (moves (setting self.now)) state.new }
     {
         for atom in 0..self.nodes.atoms() {
-            state.set(atom, self.needed[atom as usize] == Some(true));
+            state.set(atom, self.needed.read(atom) == Some(true));
         }
     }
 

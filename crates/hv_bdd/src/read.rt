@@ -2,24 +2,12 @@ ghost use Rattle.std.specs.Prelude.{◌≡◌, ◌+◌, ◌≤◌, ◌^◌, IsTr
 ghost use Rattle.hv_bytes.specs.Devices.{Rose};
 ghost use Rattle.hv_bytes.specs.Files.{bytes_of};
 ghost use Rattle.hv_bdd.specs.NodeText.{IsReadFrom};
-ghost use Rattle.hv_bdd.specs.Reading.{line_fault_at};
 
 use crate::diagrams::Diagrams;
-use crate::fault::{NodeLimit, NodesFault};
+use crate::fault::NodesFault;
 use crate::reader::Reader;
-use hv_bytes::{Limits, LineFault, Lines, Next, Shelf};
+use hv_bytes::{Limits, Lines, Next, Shelf};
 use std::alloc::Global;
-
-// The fault of the line of this number, which can't be had.
-fn line_fault(fault: LineFault, number: u64) -> NodesFault
-    ensures { result ≡ line_fault_at number fault }
-{
-    match fault {
-        LineFault::Long => NodesFault::Limit(number, NodeLimit::Long),
-        LineFault::Failed => NodesFault::ReadFault,
-        LineFault::Memory => NodesFault::Memory,
-    }
-}
 
 /// Reads the node file of this name, over so many atoms. It answers with the diagrams exactly where
 /// the file is the text of a reduced ordered list of nodes within the limits, and otherwise with
@@ -54,12 +42,12 @@ pub fn read_nodes<S: Shelf>(
     'reading: loop {
         match lines.next(shelf) {
             Ok(Next::Line) => {
-                if let Err(error) = reader.feed(lines.line()) {
-                    return Err(error.at(lines.number()));
+                if let Err(fault) = reader.feed(lines.line()) {
+                    return Err(fault);
                 }
             }
-            Ok(Next::End) => return reader.end(lines.number() + 1),
-            Err(fault) => return Err(line_fault(fault, lines.number() + 1)),
+            Ok(Next::End) => return reader.end(),
+            Err(fault) => return Err(reader.stop(fault)),
         }
     }
 }

@@ -1,47 +1,26 @@
-ghost use Rattle.std.specs.Prelude.{◌≡◌, ◌+◌, None, Some, [], IfOk, length};
-ghost use Rattle.hv_bdd.specs.declared.reader.FeedError.TheVariants as E;
+ghost use Rattle.std.specs.Prelude.{◌≡◌, ◌≤◌, ◌+◌, None, Some, [], IfOk, OnOk, length};
+ghost use Rattle.std.specs.List.{All};
+ghost use Rattle.hv_bytes.specs.declared.cutting.LineFault.TheVariants as L;
+ghost use Rattle.hv_bdd.specs.declared.fault.NodesFault.TheVariants as F;
+ghost use Rattle.hv_bdd.specs.Chains.{IsChained};
+ghost use Rattle.hv_bdd.specs.NodeText.{AreLegal};
 ghost use Rattle.hv_bdd.specs.Nodes.{no_nodes};
-ghost use Rattle.hv_bdd.specs.Reading.{Ends, Feeds, IsReady, fault_at};
+ghost use Rattle.hv_bdd.specs.Reading.{Adds, Ends, FaultBehind, Feeds, IsReady, IsShort, Settles, Stops, line_fault_at};
 
 use crate::building::add;
+use crate::chains::Chains;
 use crate::diagrams::Diagrams;
 use crate::fault::{NodeKind, NodeLimit, NodesFault};
-use crate::node::Node;
-use crate::numbers::{count_of, triple_of};
-use indexmap::IndexSet;
-use std::alloc::{AllocError, Global};
+use crate::numbers::{Triple, count_of, triple_of};
+use hv_bytes::LineFault;
+use std::alloc::Global;
 
 /// The most nodes of a file.
 const MOST_NODES: u64 = 16_777_216;
 
-/// Why a line isn't taken.
-#[derive(Clone, Copy)]
-pub enum FeedError {
-    Place(NodeKind),
-    Limit(NodeLimit),
-    Memory,
-}
-
-impl FeedError {
-    /// The fault of the line of this number.
-    pub fn at(self, number: u64) -> NodesFault
-        ensures { result ≡ fault_at number self }
-    {
-        match self {
-            FeedError::Place(kind) => NodesFault::Place(number, kind),
-            FeedError::Limit(limit) => NodesFault::Limit(number, limit),
-            FeedError::Memory => NodesFault::Memory,
-        }
-    }
-}
-
-impl From<AllocError> for FeedError {
-    ghost from_gives = { λ _ fault. fault ≡ E.Memory };
-
-    fn from(_error: AllocError) -> FeedError {
-        FeedError::Memory
-    }
-}
+// So many nodes are read before they are tested, one right after the other: so the look-ups of one
+// don't wait for those of the one before.
+const BLOCK: usize = 64;
 
 /// Reads nodes line by line: how many the first line says, once it was read, and what was read so
 /// far.
@@ -49,8 +28,10 @@ impl From<AllocError> for FeedError {
 pub struct Reader {
     count: Option<u32>,
     list: Diagrams,
-    // The same nodes, by their numbers.
-    seen: IndexSet<Node>,
+    // The listed nodes, by their numbers.
+    seen: Chains,
+    // The nodes that were read last, and aren't tested yet.
+    waiting: Vec<Triple>,
 }
 
 impl Reader {
@@ -59,16 +40,18 @@ impl Reader {
         ensures ready { IsReady result }
         ensures count { result.count ≡ None }
         ensures list { result.list ≡ no_nodes atoms }
+        ensures waiting { result.waiting.items ≡ [] }
     {
         Reader {
             count: None,
             list: Diagrams::none(alloc, atoms),
-            seen: IndexSet::new(alloc),
+            seen: Chains::new(alloc),
+            waiting: Vec::new(alloc),
         }
     }
 
     /// Takes one more line.
-    pub fn feed(&mut self, line: &[u8]) -> Result<(), FeedError>
+    pub fn feed(&mut self, line: &[u8]) -> Result<(), NodesFault>
         requires { IsReady self.old }
         ensures { Feeds result self.old line.now self.new }
     {
@@ -79,51 +62,155 @@ impl Reader {
     }
 
     // The line that says how many nodes follow.
-    fn header(&mut self, line: &[u8]) -> Result<(), FeedError>
+    fn header(&mut self, line: &[u8]) -> Result<(), NodesFault>
         requires ready { IsReady self.old }
         requires none { self.old.count ≡ None }
         ensures { Feeds result self.old line.now self.new }
     {
         let _atoms = self.list.atoms();
         let Some(count) = count_of(line) else {
-            return Err(FeedError::Place(NodeKind::Header));
+            return Err(NodesFault::Place(1, NodeKind::Header));
         };
         if count > MOST_NODES {
-            return Err(FeedError::Limit(NodeLimit::Nodes));
+            return Err(NodesFault::Limit(1, NodeLimit::Nodes));
         }
         self.count = Some(count as u32);
         Ok(())
     }
 
     // The line of a node, of so many.
-    fn node(&mut self, line: &[u8], count: u32) -> Result<(), FeedError>
+    fn node(&mut self, line: &[u8], count: u32) -> Result<(), NodesFault>
         requires ready { IsReady self.old }
         requires count { self.old.count ≡ Some count }
         ensures { Feeds result self.old line.now self.new }
     {
-        if self.list.listed() == count as usize {
-            return Err(FeedError::Place(NodeKind::End));
+        if self.waiting.len() < BLOCK {
+            return self.wait(line, count);
+        }
+        match self.settle(count) {
+            Err(fault) => Err(fault),
+            Ok(()) => self.wait(line, count),
+        }
+    }
+
+    // Takes the line of a node as one that waits.
+    fn wait(&mut self, line: &[u8], count: u32) -> Result<(), NodesFault>
+        requires ready { IsReady self.old }
+        requires count { self.old.count ≡ Some count }
+        ensures { Feeds result self.old line.now self.new }
+    {
+        if self.list.listed().len() + self.waiting.len() == count as usize {
+            return Err(self.fault_behind(count, NodeKind::End));
         }
         let Some(triple) = triple_of(line) else {
-            return Err(FeedError::Place(NodeKind::Node));
+            return Err(self.fault_behind(count, NodeKind::Node));
         };
-        if let Some(kind) = add(&mut self.list, &mut self.seen, &triple)? {
-            return Err(FeedError::Place(kind));
+        match self.waiting.push(triple) {
+            Ok(()) => Ok(()),
+            Err(_) => Err(NodesFault::Memory),
         }
+    }
+
+    // The fault where the next line has one of this kind: that, or one of a node that waits.
+    fn fault_behind(&mut self, count: u32, kind: NodeKind) -> NodesFault
+        requires ready { IsReady self.old }
+        requires count { self.old.count ≡ Some count }
+        ensures { FaultBehind count self.old kind result }
+    {
+        match self.settle(count) {
+            Err(fault) => fault,
+            Ok(()) => NodesFault::Place(self.list.listed().len() as u64 + 2, kind),
+        }
+    }
+
+    // Tests the nodes that wait, of so many, and lists them.
+    fn settle(&mut self, count: u32) -> Result<(), NodesFault>
+        requires ready { IsReady self.old }
+        requires count { self.old.count ≡ Some count }
+        ensures { Settles result count self.old self.new }
+    {
+        add_all(
+            &mut self.list,
+            &mut self.seen,
+            self.waiting.as_slice(),
+            count,
+        )?;
+        self.waiting.clear();
         Ok(())
     }
 
-    /// The list of the nodes, where the text ends here, before the line of this number.
-    pub fn end(self, number: u64) -> Result<Diagrams, NodesFault>
+    /// The list of the nodes, where the text ends here.
+    pub fn end(mut self) -> Result<Diagrams, NodesFault>
         requires { IsReady self }
-        ensures { Ends result self number }
+        ensures { Ends result self }
     {
         let Some(count) = self.count else {
-            return Err(NodesFault::Place(number, NodeKind::Header));
+            return Err(NodesFault::Place(1, NodeKind::Header));
         };
-        if self.list.listed() < count as usize {
-            return Err(NodesFault::Place(number, NodeKind::Node));
+        self.settle(count)?;
+        if self.list.listed().len() < count as usize {
+            return Err(NodesFault::Place(self.list.listed().len() as u64 + 2, NodeKind::Node));
         }
         Ok(self.list)
     }
+
+    /// The fault of the text, where the next line can't be had: that of an earlier line, or this
+    /// one.
+    pub fn stop(&mut self, fault: LineFault) -> NodesFault
+        requires { IsReady self.old }
+        ensures stops { Stops fault self.old result }
+        ensures failed { result ≡ F.ReadFault → fault ≡ L.Failed }
+    {
+        match self.count {
+            None => line_fault(fault, 1),
+            Some(count) => self.stop_behind(count, fault),
+        }
+    }
+
+    // The same, behind the first line.
+    fn stop_behind(&mut self, count: u32, fault: LineFault) -> NodesFault
+        requires ready { IsReady self.old }
+        requires count { self.old.count ≡ Some count }
+        ensures stops { Stops fault self.old result }
+        ensures failed { result ≡ F.ReadFault → fault ≡ L.Failed }
+    {
+        match self.settle(count) {
+            Err(earlier) => earlier,
+            Ok(()) => line_fault(fault, self.list.listed().len() as u64 + 2),
+        }
+    }
+}
+
+// The fault of the line of this number, which can't be had.
+fn line_fault(fault: LineFault, number: u64) -> NodesFault
+    ensures { result ≡ line_fault_at number fault }
+{
+    match fault {
+        LineFault::Long => NodesFault::Limit(number, NodeLimit::Long),
+        LineFault::Failed => NodesFault::ReadFault,
+        LineFault::Memory => NodesFault::Memory,
+    }
+}
+
+// Tests these nodes and lists them, where so many are to be listed in all.
+fn add_all(
+    list: &mut Diagrams,
+    seen: &mut Chains,
+    triples: &[Triple],
+    count: u32,
+) -> Result<(), NodesFault>
+    requires legal { AreLegal list.old.atoms count list.old.nodes }
+    requires upto { length list.old.nodes + length triples.now ≤ count }
+    requires short { All IsShort triples.now }
+    requires seen { IsChained list.old.nodes seen.old }
+    ensures adds { Adds result count list.old triples.now list.new }
+    ensures seen { OnOk result (IsChained list.new.nodes seen.new) }
+{
+    let _ = count;
+    for triple in triples {
+        if let Some(kind) = add(list, seen, triple)? {
+            return Err(NodesFault::Place(list.listed().len() as u64 + 2, kind));
+        }
+    }
+    Ok(())
 }

@@ -9,8 +9,8 @@ ghost use Rattle.hv_bdd.specs.Tuples.{is_live, least, move_all, move_one, next};
 
 use crate::asked::Asked;
 use crate::diagrams::Diagrams;
+use crate::marks::{Held, Marks};
 use hv_sets::Which;
-use hv_task::State;
 use smallvec::SmallVec;
 use std::alloc::{AllocError, Global};
 
@@ -25,19 +25,17 @@ pub(crate) struct Link {
 }
 
 /// What tuples move through, and the operands that are asked.
-#[derive(Clone, Copy)]
+#[derive(Drop)]
 pub(crate) struct Search<'a> {
     pub nodes: &'a Diagrams,
     /// The initial state.
-    pub start: &'a State,
+    pub start: Held<'a>,
     /// The atoms of the goal.
-    pub goal: &'a State,
-    /// From each place on the first place of a goal atom, as a node of the goal's chain.
-    pub first_goal: &'a [u32],
+    pub goal: Held<'a>,
     /// The bit that the state needs at an atom, if it needs one.
-    pub needed: &'a [Option<bool>],
+    pub needed: Marks<'a>,
     /// The bit of an atom after the action, if the action changes it.
-    pub changed: &'a [Option<bool>],
+    pub changed: Marks<'a>,
     pub asked: &'a [Asked],
 }
 
@@ -107,7 +105,10 @@ impl Search<'_> {
         ensures { result
             ≡ first_asked (asks_goal (setting self.now)) (self.now.nodes.now.atoms - place) place }
     {
-        self.first_goal[place as usize]
+        match self.nodes.next_place(&self.goal, place) {
+            Some(next) => next + 2,
+            None => 1,
+        }
     }
 
     fn start_child(&self, node: u32, bit: bool) -> u32
@@ -138,10 +139,10 @@ impl Search<'_> {
         requires place { place < self.now.nodes.now.atoms }
         ensures { result
             ≡ cond after
-            (or_else (mark_of self.now.changed.now (atom_at self.now.nodes.now place)) bit) bit }
+            (or_else (mark_of self.now.changed (atom_at self.now.nodes.now place)) bit) bit }
     {
         if after {
-            or_else(self.changed[self.nodes.atom_at(place) as usize], bit)
+            or_else(self.changed.read(self.nodes.atom_at(place)), bit)
         } else {
             bit
         }
@@ -152,9 +153,9 @@ impl Search<'_> {
         requires search { IsSearch self.now }
         requires place { place < self.now.nodes.now.atoms }
         ensures { result
-            ≡ is_marked (mark_of self.now.needed.now (atom_at self.now.nodes.now place)) bit }
+            ≡ is_marked (mark_of self.now.needed (atom_at self.now.nodes.now place)) bit }
     {
-        is_marked(self.needed[self.nodes.atom_at(place) as usize], bit)
+        is_marked(self.needed.read(self.nodes.atom_at(place)), bit)
     }
 
     /// The least place for which a node of the tuple asks, or the place past all atoms.

@@ -4,18 +4,17 @@ ghost use Rattle.hv_sets.specs.Cubes.{SpeakBelow, cube_of};
 ghost use Rattle.hv_bdd.specs.Nodes.{IsNode, in_node};
 ghost use Rattle.hv_bdd.specs.Paths.{Stands, left_at, path_cubes};
 ghost use Rattle.hv_bdd.specs.Reduced.{IsReduced};
-ghost use Rattle.hv_bdd.specs.Sets.{Finds, mark_literals};
+ghost use Rattle.hv_bdd.specs.Sets.{Finds};
 ghost use Rattle.hv_bdd.specs.Laws as laws;
 
 use crate::asked::Asked;
 use crate::counts::path_count;
 use crate::diagrams::Diagrams;
+use crate::marks::{Held, Marks};
 use crate::search::Search;
 use crate::walk::next;
-use hv_sets::{
-    Covering, Cube, Cursor, Finding, Inside, Literal, Outside, Scratch, StateSet, Step, Which,
-};
-use hv_task::State;
+use hv_sets::{Covering, Cube, Cursor, Finding, Inside, Outside, Scratch, StateSet, Step, Which};
+use hv_task::{AtomList, State};
 use std::alloc::{AllocError, Global};
 use std::slice;
 
@@ -131,11 +130,8 @@ fn find(
     ensures { IfOk result (λ yes.
         Finds inside yes nodes.now.atoms (in_node nodes.now node) cube.now state.new) }
 {
-    let none = State::empty(alloc, 0)?;
-    let atoms = nodes.atoms() as usize;
-    let mut needed = vec![in alloc; None; atoms]?;
-    mark_literals(needed.as_mut_slice(), cube.as_slice());
-    let changed = vec![in alloc; None; atoms]?;
+    let none = AtomList::new(alloc);
+    let atoms = nodes.atoms();
     let asked = Asked {
         which: Which::Set(node as usize),
         after: false,
@@ -143,11 +139,10 @@ fn find(
     };
     let search = Search {
         nodes,
-        start: &none,
-        goal: &none,
-        first_goal: &[],
-        needed: needed.as_slice(),
-        changed: changed.as_slice(),
+        start: Held::new(atoms, &none),
+        goal: Held::new(atoms, &none),
+        needed: Marks::signs(atoms, cube),
+        changed: Marks::none(atoms),
         asked: slice::from_ref(&asked),
     };
     search.finds(alloc, node, cube, inside, state)
@@ -179,15 +174,5 @@ impl Search<'_> {
             Finding::Empty => Ok(false),
             Finding::Over => Ok(false),
         }
-    }
-}
-
-// Marks the atoms of the literals with their signs.
-fn mark_literals(marks: &mut [Option<bool>], literals: &[Literal])
-    requires { SpeakBelow (length marks.old) literals.now }
-    ensures { marks.new ≡ mark_literals literals.now marks.old }
-{
-    for literal in literals {
-        marks[literal.atom as usize] = Some(literal.positive);
     }
 }

@@ -87,7 +87,11 @@ fn answer(alloc: Global, text: &[u8], limits: Limits) -> Result<String, AllocErr
     requires line { limits.line ≤ 2 ^ 62 }
     requires file { limits.file ≤ 2 ^ 62 }
 {
-    match read(alloc, text, 2, limits) {
+    told(alloc, read(alloc, text, 2, limits))
+}
+
+fn told(alloc: Global, outcome: Result<Diagrams, NodesFault>) -> Result<String, AllocError> {
+    match outcome {
         Ok(_list) => format!(in alloc; "read"),
         Err(NodesFault::Place(line, kind)) => format!(in alloc; "place {line} {}", kind.word()),
         Err(NodesFault::Limit(line, limit)) => format!(in alloc; "limit {line} {}", limit.word()),
@@ -123,6 +127,42 @@ fn each_beginning_of_a_file_is_refused_where_it_ends(rt: HostRuntime) -> Result<
             assert_eq!(rt; told.as_str(), want, "cut at {end}");
         }
         from = last + 1;
+    }
+    Ok(())
+}
+
+// A file of a hundred nodes, each above the one before. The line of the first number is once more
+// that of the node before it, and the line of the second is none of a node.
+fn tall_file(alloc: Global, twin: u32, broken: u32) -> Result<String, AllocError> {
+    let mut text = format!(in alloc; "nodes 100\n")?;
+    for line in 2..102_u32 {
+        if line == broken {
+            text.push_str("none\n")?;
+        } else if line == twin {
+            write!(text, "{} {} 0\n", 102 - line, line - 2)?;
+        } else {
+            write!(text, "{} {} 0\n", 101 - line, line - 1)?;
+        }
+    }
+    Ok(text)
+}
+
+#[test]
+fn nodes_are_tested_in_the_order_of_their_lines(rt: HostRuntime) -> Result<(), Fail> {
+    for (twin, broken, want) in [
+        (0, 0, "read"),
+        (3, 0, "place 3 twin"),
+        (67, 0, "place 67 twin"),
+        (101, 0, "place 101 twin"),
+        (3, 80, "place 3 twin"),
+        (66, 67, "place 66 twin"),
+        (67, 66, "place 66 node"),
+        (80, 3, "place 3 node"),
+    ] {
+        let text = tall_file(rt.alloc(), twin, broken)?;
+        let list = read(rt.alloc(), text.as_bytes(), 100, Limits::STANDARD);
+        let said = told(rt.alloc(), list)?;
+        assert_eq!(rt; said.as_str(), want, "twin {twin}, broken {broken}");
     }
     Ok(())
 }

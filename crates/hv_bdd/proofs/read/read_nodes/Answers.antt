@@ -1,4 +1,4 @@
-use Rattle.std.proofs.Common.{◌+◌, ap, sym, subst, ◌∙◌, length, Err, arith, rules}
+use Rattle.std.proofs.Common.{ap, sym, subst, ◌∙◌, length, Err, arith, rules}
 use Rattle.hv_bytes.specs.Files.{file_of}
 use Rattle.hv_bytes.specs.FirstLine.{BeginsLong, FitsLimits, TakesLine}
 use Rattle.hv_bytes.specs.States.{coming_of}
@@ -29,18 +29,21 @@ feed-requires g c = c.reading.invariant.0.ready
 pub end-requires : goal.end-requires
 end-requires g c = c.reading.invariant.0.ready
 
+pub stop-requires : goal.stop-requires
+stop-requires g c = c.reading.invariant.0.ready
+
 pub returns-in-Err-feed-clause-read : goal.returns-in-Err-feed-clause-read
 returns-in-Err-feed-clause-read g c =
     let before = coming_of c.reading.lines (g.S.Shelf.left c.reading.shelf) in
     let after = coming_of c.next.new.self (g.S.Shelf.left c.next.new.shelf) in
     let line = c.line.result.now in
     known (g.S.Shelf.held c.args.shelf.now) c.args.name.now (λ bytes.
-    IsReadFrom c.args.limits c.args.atoms bytes (Err c.at.result))
+    IsReadFrom c.args.limits c.args.atoms bytes (Err c.in-Err-feed.fault))
     (feed_fault c.args.limits c.args.atoms
     (file_of (g.S.Shelf.held c.args.shelf.now) c.args.name.now) c.reading.reader
     c.reading.lines.number
     c.reading.lines.earlier before c.reading.invariant.0 c.reading.invariant.1
-    c.feed.new.self c.number.result after line c.in-Err-feed.error c.at.result
+    c.feed.new.self after line c.in-Err-feed.fault
     (subst (λ l. TakesLine before after l) (sym c.line.ensures) (c.in-Ok-Line.ensures.line (cc)))
     (subst (λ (limits : Limits). FitsLimits limits.line limits.file c.reading.lines.earlier
     (length line)) c.reading.invariant.3
@@ -48,9 +51,7 @@ returns-in-Err-feed-clause-read g c =
     FitsLimits c.reading.lines.limits.line c.reading.lines.limits.file c.reading.lines.earlier
     (length l)) (sym c.line.ensures)
     (c.in-Ok-Line.ensures.fits (cc))))
-    (c.number.ensures ∙ c.in-Ok-Line.ensures.number (cc))
-    c.in-Err-feed.ensures
-    c.at.ensures)
+    c.in-Err-feed.ensures)
 
 pub reading-preserved : goal.reading-preserved
 reading-preserved g c =
@@ -90,25 +91,22 @@ returns-in-Ok-End-clause-read g c =
     c.reading.lines.number
     c.reading.lines.earlier (coming_of c.reading.lines (g.S.Shelf.left c.reading.shelf))
     c.reading.invariant.0 c.reading.invariant.1
-    (c.number-in-Ok-End.result + 1) c.end.result
+    c.end.result
     (c.in-Ok-End.ensures.end (cc))
-    c.end.ensures
-    (ap (λ n. n + 1)
-    (c.number-in-Ok-End.ensures ∙ ap (λ l. l.number) (c.in-Ok-End.ensures.same (cc)))))
+    c.end.ensures)
 
 pub returns-in-Err-clause-read : goal.returns-in-Err-clause-read
 returns-in-Err-clause-read g c =
     let coming = coming_of c.reading.lines (g.S.Shelf.left c.reading.shelf) in
     known (g.S.Shelf.held c.args.shelf.now) c.args.name.now (λ bytes.
-    IsReadFrom c.args.limits c.args.atoms bytes (Err c.line_fault.result))
+    IsReadFrom c.args.limits c.args.atoms bytes (Err c.stop.result))
     (line_fault_answer c.args.limits c.args.atoms
     (file_of (g.S.Shelf.held c.args.shelf.now) c.args.name.now) c.reading.reader
     c.reading.lines.number
     c.reading.lines.earlier coming c.reading.invariant.0 c.reading.invariant.1
-    (c.number-in-Err.result + 1) c.in-Err.fault c.line_fault.result
+    c.in-Err.fault c.stop.result
     (λ e. subst
     (λ (limits : Limits). BeginsLong coming limits.line limits.file c.reading.lines.earlier)
     c.reading.invariant.3
     (c.in-Err.ensures.long (ap (λ f. Err f) e)))
-    (ap (λ n. n + 1) (c.number-in-Err.ensures ∙ c.in-Err.ensures.same_number))
-    c.line_fault.ensures)
+    c.stop.ensures.stops)

@@ -6,5 +6,5 @@ use Rattle.hv_bdd.proofs.search.Search.fill.Given as goal
 abbrev pub invariant-loop-atom : goal.invariant-loop-atom
 invariant-loop-atom l = record {
   size : length l.state ≡ l.self.nodes.now.atoms;
-  done : (a : ℕ) → a < l.atom → is_marked (mark_of l.self.needed.now a) (has_atom l.state a) ≡ true;
+  done : (a : ℕ) → a < l.atom → is_marked (mark_of l.self.needed a) (has_atom l.state a) ≡ true;
 }

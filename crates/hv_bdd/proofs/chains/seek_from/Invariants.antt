@@ -1,0 +1,13 @@
+use Rattle.std.proofs.Common.{◌≡◌, ◌<◌, ◌≤◌, ◌-◌, ◌+◌}
+use Rattle.hv_bdd.specs.Chains.{AreAllBelow, slot_at, slot_of}
+use Rattle.hv_bdd.proofs.chains.seek_from.Given as goal
+
+abbrev pub invariant-loop-end : goal.invariant-loop-end
+invariant-loop-end l = record {
+  upto : l.end + l.passed ≤ l.start;
+  all : AreAllBelow l.nodes l.node l.end;
+  slot : 0 < l.end → slot_at l.nodes l.fn.factor l.fn.slots (l.end - 1) ≡ slot_of l.fn.factor l.fn.slots l.node;
+}
+
+abbrev pub decreases-loop-end : goal.decreases-loop-end
+decreases-loop-end l = l.end

@@ -1,0 +1,18 @@
+use Rattle.std.proofs.Common.{◌-◌, sym, arith}
+use Rattle.hv_bdd.specs.Live.{asks_goal}
+use Rattle.hv_bdd.specs.Search.{setting}
+use Rattle.hv_bdd.proofs.Listed.{first_next, first_none}
+use Rattle.hv_bdd.proofs.search.Search.goal_from.Goals as goal
+
+pub returns-in-Some : goal.returns-in-Some
+returns-in-Some c =
+    let within = c.in-Some.ensures.within in
+    let upto = c.requires.place in
+    sym (first_next (asks_goal (setting c.args.self.now))
+    (c.args.self.now.nodes.now.atoms - c.args.place) c.args.place c.in-Some.next
+    c.in-Some.ensures.next.0 (omega arith) c.in-Some.ensures.next.1 c.in-Some.ensures.next.2)
+
+pub returns-in-None : goal.returns-in-None
+returns-in-None c =
+    sym (first_none (asks_goal (setting c.args.self.now))
+    (c.args.self.now.nodes.now.atoms - c.args.place) c.args.place c.in-None.ensures.next)

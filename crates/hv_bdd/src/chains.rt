@@ -1,0 +1,203 @@
+//! Nodes of a list, found by their numbers.
+
+ghost use Rattle.std.specs.Prelude.{◌≡◌, ◌<◌, ◌≤◌, ◌-◌, ◌+◌, ◌^◌, ◌++◌, ◌∷◌, ℕ, [], false, length, slice_index, IsTrue, OnOk};
+ghost use Rattle.std.specs.List.{list_any};
+ghost use Rattle.hv_bdd.specs.Building.{same_node};
+ghost use Rattle.hv_bdd.specs.Chains.{AreAllBelow, IsChain, IsChained, IsLinked, IsListed, listed_at, slot_at, slot_of};
+
+use crate::node::Node;
+use std::alloc::{AllocError, Global};
+
+// A search that passes so many nodes is long.
+const LONG: usize = 64;
+
+// How often all nodes are chained again before there are more slots.
+const TURNS: u32 = 16;
+
+/// Finds the nodes of a list without a walk over it. Each slot has a chain of the places whose
+/// nodes fall into it. Nodes that were made to fall into one slot are chained again by another
+/// factor.
+#[derive(Drop)]
+pub struct Chains {
+    // For each place, one more than the last earlier place in its slot, or 0.
+    before: Vec<u32>,
+    // For each slot, one more than the last place in it, or 0.
+    heads: Vec<u32>,
+    turn: Turn,
+}
+
+// The factor by which nodes fall into slots, and how often it may be changed before there are more
+// slots.
+#[derive(Clone, Copy)]
+struct Turn {
+    factor: u64,
+    left: u32,
+}
+
+/// What a search for a node found.
+#[derive(Clone, Copy)]
+pub struct Sought {
+    /// Whether the node is listed.
+    pub listed: bool,
+    /// How many other nodes the search passed.
+    pub passed: usize,
+}
+
+impl Chains {
+    /// The chains of no node.
+    pub fn new(alloc: Global) -> Chains
+        ensures { IsChained [] result }
+    {
+        Chains {
+            before: Vec::new(alloc),
+            heads: Vec::new(alloc),
+            turn: Turn {
+                factor: 0x9e37_79b9_7f4a_7c15,
+                left: TURNS,
+            },
+        }
+    }
+
+    /// Looks for a node among those listed.
+    pub fn seek(&self, nodes: &[Node], node: &Node) -> Sought
+        requires { IsChained nodes.now self.now }
+        ensures { result.listed ≡ list_any (same_node node.now) nodes.now }
+    {
+        if self.heads.is_empty() {
+            return Sought {
+                listed: false,
+                passed: 0,
+            };
+        }
+        let slot = slot_of(self.turn.factor, self.heads.len(), node);
+        seek_from(
+            nodes,
+            self.turn.factor,
+            self.before.as_slice(),
+            self.heads.len(),
+            node,
+            self.heads[slot] as usize,
+        )
+    }
+
+    /// Chains a node that is to be listed last. The search for it passed so many others.
+    pub fn push(&mut self, nodes: &[Node], node: &Node, passed: usize) -> Result<(), AllocError>
+        requires few { length nodes.now < 16777216 }
+        requires chained { IsChained nodes.now self.old }
+        ensures { OnOk result (IsChained (nodes.now ++ node.now ∷ []) self.new) }
+    {
+        self.make_room(nodes, passed)?;
+        let slot = slot_of(self.turn.factor, self.heads.len(), node);
+        self.before.push(self.heads[slot])?;
+        self.heads[slot] = nodes.len() as u32 + 1;
+        Ok(())
+    }
+
+    // Makes more slots than there are nodes, and chains all nodes by another factor where one of
+    // them has a long chain.
+    fn make_room(&mut self, nodes: &[Node], passed: usize) -> Result<(), AllocError>
+        requires few { length nodes.now < 16777216 }
+        requires chained { IsChained nodes.now self.old }
+        ensures chained { OnOk result (IsChained nodes.now self.new) }
+        ensures room { OnOk result (0 < length self.new.heads.items) }
+    {
+        if nodes.len() >= self.heads.len() {
+            let size = (nodes.len() * 2).max(16);
+            self.heads = vec![in *self.heads.allocator(); 0; size]?;
+            self.turn.left = TURNS;
+        } else if passed >= LONG && self.turn.left > 0 {
+            self.heads.fill(0);
+            self.turn.factor = self.turn.factor.wrapping_mul(0xd134_2543_de82_ef95);
+            self.turn.left -= 1;
+        } else {
+            return Ok(());
+        }
+        link_all(nodes, self.turn.factor, &mut self.before, &mut self.heads);
+        Ok(())
+    }
+}
+
+// Into which of so many slots a node falls.
+#[tactic(auto, unfolding(crate::specs::Chains::slot_of))]
+fn slot_of(factor: u64, slots: usize, node: &Node) -> usize
+    requires { 0 < slots }
+    ensures slot { result ≡ slot_of factor slots node.now }
+    ensures within { result < slots }
+{
+    let children = u64::from(node.low) + u64::from(node.high) * 4_294_967_296;
+    let mixed = (children.wrapping_mul(factor) >> 32) + u64::from(node.atom);
+    ((mixed.wrapping_mul(factor) >> 32) % slots as u64) as usize
+}
+
+// Goes back along a chain to the node.
+fn seek_from(
+    nodes: &[Node],
+    factor: u64,
+    before: &[u32],
+    slots: usize,
+    node: &Node,
+    start: usize,
+) -> Sought
+    requires fits { start ≤ length nodes.now }
+    requires before { length nodes.now ≤ length before.now }
+    requires chain { IsChain nodes.now before.now factor slots (length nodes.now) }
+    requires slot { 0 < start
+        → slot_at nodes.now factor slots (start - 1) ≡ slot_of factor slots node.now }
+    requires all { AreAllBelow nodes.now node.now start }
+    ensures listed { IsTrue result.listed → IsListed nodes.now node.now }
+    ensures absent { result.listed ≡ false → AreAllBelow nodes.now node.now 0 }
+{
+    let _ = factor;
+    let _ = slots;
+    let mut end = start;
+    let mut passed = 0;
+    while end > 0 {
+        let place = end - 1;
+        if nodes[place] == *node {
+            return Sought {
+                listed: true,
+                passed,
+            };
+        }
+        end = before[place] as usize;
+        passed += 1;
+    }
+    Sought {
+        listed: false,
+        passed,
+    }
+}
+
+// Chains a place in its slot.
+fn link(nodes: &[Node], factor: u64, before: &mut Vec<u32>, heads: &mut Vec<u32>, place: usize)
+    requires nodes { place < length nodes.now }
+    requires few { length nodes.now < 2 ^ 32 }
+    requires before { length nodes.now ≤ length before.old.items }
+    requires heads { 0 < length heads.old.items }
+    requires linked { IsLinked nodes.now before.old.items heads.old.items factor
+        (length heads.old.items) place }
+    ensures linked { IsLinked nodes.now before.new.items heads.new.items factor
+        (length heads.new.items) (place + 1) }
+    ensures before { length before.new.items ≡ length before.old.items }
+    ensures heads { length heads.new.items ≡ length heads.old.items }
+{
+    let slot = slot_of(factor, heads.len(), &nodes[place]);
+    before[place] = heads[slot];
+    heads[slot] = (place + 1) as u32;
+}
+
+// Chains all places in slots that were empty.
+fn link_all(nodes: &[Node], factor: u64, before: &mut Vec<u32>, heads: &mut Vec<u32>)
+    requires few { length nodes.now < 2 ^ 32 }
+    requires before { length nodes.now ≤ length before.old.items }
+    requires heads { 0 < length heads.old.items }
+    requires none { (b : ℕ) → b < length heads.old.items → slice_index heads.old.items b ≡ 0 }
+    ensures linked { IsLinked nodes.now before.new.items heads.new.items factor
+        (length heads.new.items) (length nodes.now) }
+    ensures before { length before.new.items ≡ length before.old.items }
+    ensures heads { length heads.new.items ≡ length heads.old.items }
+{
+    for place in 0..nodes.len() {
+        link(nodes, factor, before, heads, place);
+    }
+}
