@@ -65,7 +65,7 @@ impl Explicit {
     }
 
     /// The listed states, in order.
-    pub(crate) fn states(&self) -> &[AtomList]
+    pub fn states(&self) -> &[AtomList]
         ensures states { result.now ≡ self.now.states }
         ensures below { AreStates self.now.atoms result.now }
         ensures rise { AreRising result.now }
@@ -80,8 +80,9 @@ impl Explicit {
         self.firsts.as_slice()
     }
 
-    /// Whether the state of these atoms is listed.
-    pub(crate) fn lists<A: Atoms>(&self, held: &A) -> bool
+    /// Whether the state of these atoms is listed: of a state, of a list, or of the result of an
+    /// action, which isn't built.
+    pub fn lists<A: Atoms>(&self, held: &A) -> bool
         requires { IsBelow self.now.atoms (A.has held.now) }
         ensures { (state : List Bool) → length state ≡ self.now.atoms
             → IsSetOf (A.has held.now) state → result ≡ in_listing self.now state }

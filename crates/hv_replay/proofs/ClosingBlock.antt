@@ -32,7 +32,7 @@ use Rattle.hv_lines.proofs.Lengths.{short_after, short_and, short_known, short_o
 use Rattle.hv_lines.proofs.Shaped.{leaf_below}
 use Rattle.hv_replay.specs.ClosingLines.{IsClosedSearch, closing_block, closing_lines}
 use Rattle.hv_replay.specs.PrunedLines.{IsListedSet, IsPrunedUnion, Rise}
-use Rattle.hv_replay.specs.declared.pruned.DeadSet.{DeadSet}
+use Rattle.hv_lines.specs.declared.note.Note.{Note}
 use Rattle.hv_replay.proofs.Explicit.{goal_states, head_in, listed_anchors, listed_states, start_anchors, start_states, states_at}
 use Rattle.hv_replay.proofs.Sided.{good_after, good_within, of_one, of_two, rise_one, rise_two}
 use Rattle.hv_replay.proofs.Spelled.{states_fit}
@@ -40,7 +40,7 @@ use Rattle.hv_replay.proofs.Unions.{HasPrelude, states_onto, in_new, in_old, lea
 
 -- What the right side s + 2 of two of the lines is, in any table that goes on after `old`: the leaves of the union of the pruned
 -- states, and the expanded states.
-module _ (task : Strips) (old more : List Line) (table : IsTable (onto more old)) (s count : ℕ) (states : List (List ℕ)) (union : DeadSet)
+module _ (task : Strips) (old more : List Line) (table : IsTable (onto more old)) (s count : ℕ) (states : List (List ℕ)) (union : Note)
     (old_table : IsTable old) (s_is : s ≡ expr_count old) (is_union : IsPrunedUnion task old count union)
     (at_s : expr_at (onto more old) s ≡ Some (E.States states)) (at_or : expr_at (onto more old) (s + 2) ≡ Some (E.Or s union.set)) where
   abbrev Now : List Line
@@ -87,7 +87,7 @@ module _ (task : Strips) (old more : List Line) (table : IsTable (onto more old)
   all_new = in_new moved.leaves s
 
 module _ (task : Strips) (is_task : IsTask task) (old : List Line) (good : IsGoodTable task old) (prelude : HasPrelude old) (s k count : ℕ)
-    (states : List (List ℕ)) (union : DeadSet) (s_is : s ≡ expr_count old) (k_is : k ≡ known_count old) (s_few : s + 3 < 10 ^ 18)
+    (states : List (List ℕ)) (union : Note) (s_is : s ≡ expr_count old) (k_is : k ≡ known_count old) (s_few : s + 3 < 10 ^ 18)
     (k_few : k + 7 < 10 ^ 18) (is_union : IsPrunedUnion task old count union) (count_few : count ≤ 65000)
     (short : IsShort (L.Expr s (E.States states))) (closed : IsClosedSearch task states (states_in task old union.set)) where
   abbrev setting : Setting
@@ -448,6 +448,6 @@ module _ (task : Strips) (is_task : IsTask task) (old : List Line) (good : IsGoo
   closing_concludes = concludes task B9 (k + 5) (s + 2) (k + 4)
 
 -- the twelve lines are the nine and the conclusion
-pub closing_same : (old : List Line) (s k : ℕ) (states : List (List ℕ)) (union : DeadSet)
+pub closing_same : (old : List Line) (s k : ℕ) (states : List (List ℕ)) (union : Note)
     → onto (conclusion (k + 5) (s + 2) (k + 4)) (onto (closing_block s k states union) old) ≡ onto (closing_lines s k states union) old
 closing_same old s k states union = refl

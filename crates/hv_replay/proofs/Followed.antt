@@ -17,7 +17,7 @@ use Rattle.hv_replay.specs.declared.hole.ReplayFault.TheVariants as H
 use Rattle.hv_replay.specs.declared.log.Entry.{Entry}
 
 -- one entry stands at a place
-same_entry : (log : SearchLog) (place : ℕ) (a b : Entry) → StandsAt log place a → StandsAt log place b → a ≡ b
+pub same_entry : (log : SearchLog) (place : ℕ) (a b : Entry) → StandsAt log place a → StandsAt log place b → a ≡ b
 same_entry log place a b p q = let e : ◌≡◌ {A = Option Entry} (Some a) (Some b) = sym p ∙ q in cc
 
 atoms_of_listing : (n : ℕ) (states : List (List ℕ)) (set : Listing) (state : List Bool) → set.atoms ≡ n → set.states ≡ states
@@ -104,36 +104,3 @@ module _ (task : Strips) (log : SearchLog) where
 
   pub not_listed : (set : Listing) (state : List Bool) → AreListed log set → in_listing set state ≡ false → IsListed log state → ⊥
   not_listed set state are fails holds = let f : false ≡ true = sym fails ∙ from_listed log set are state holds in absurd cc
-
--- what is answered of one action: it isn't applicable, or its result is looked up
-pub stays_trivially : (task : Strips) (set : Listing) (state : List Bool) (number : ℕ) (can : Bool)
-    → ((a : Action) → slice_get task.actions number ≡ Some a → can ≡ applicable a state) → can ≡ false → Stays task set state number
-stays_trivially task set state number can tells fails =
-    λ a is holds. let f : false ≡ true = sym fails ∙ (tells a is ∙ holds) in absurd cc
-
-pub stays_looked_up : (task : Strips) (set : Listing) (state after : List Bool) (number : ℕ) (can held : Bool) → number < length task.actions
-    → ((a : Action) → slice_get task.actions number ≡ Some a → can ≡ applicable a state) → can ≡ true
-    → ((a : Action) → slice_get task.actions number ≡ Some a → after ≡ successor a state)
-    → held ≡ in_listing set after → (held ≡ true) ↔ Stays task set state number
-stays_looked_up task set state after number can held within tells holds becomes is = (
-  λ found a at _. ap (in_listing set) (sym (becomes a at)) ∙ (sym is ∙ found),
-  λ stays. elim (slice_get_cases task.actions number).1 [
-    | inl w ↦ is ∙ (ap (in_listing set) (becomes w.0 w.2) ∙ stays w.0 w.2 (sym (tells w.0 w.2) ∙ holds))
-    | inr w ↦ let past = w.0 in absurd (omega arith)
-  ],
-)
-
--- the states of a log are states of its task
-pub states_below : (log : SearchLog) → IsLog log.atoms log.entries → AreStates log.atoms (map (λ (entry : Entry). entry.state) log.entries)
-states_below log is =
-    All-map (λ held. AreBelow log.atoms held) (λ (entry : Entry). entry.state) log.entries
-    (All-weaker (IsEntry log.atoms) (λ (entry : Entry). AreBelow log.atoms entry.state) (λ entry e. e.below) log.entries is.each)
-
-pub listed_ok : {E : Type 0} (log : SearchLog) (atoms : ℕ) (states : List (List ℕ)) (r : Result Listing E) → log.atoms ≡ atoms
-    → states ≡ map (λ (entry : Entry). entry.state) log.entries
-    → IfOk r (λ set. set ≡ record { atoms = atoms; states = states }) → IfOk r (λ set. AreListed log set)
-listed_ok log atoms listed (Ok set) over whole is = record {
-  over = ap (λ (s : Listing). s.atoms) is ∙ sym over;
-  states = ap (λ (s : Listing). s.states) is ∙ whole;
-}
-listed_ok log atoms states (Err e) over whole is = tt

@@ -2,6 +2,9 @@ pub mod Pushed
 pub mod Fields
 pub mod Turned
 pub mod Followed
+pub mod Rows
+pub mod Kept
+pub mod Exits
 pub mod Lines
 pub mod OneAnswer
 pub mod OneHole

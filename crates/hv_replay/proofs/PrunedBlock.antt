@@ -31,8 +31,9 @@ use Rattle.hv_lines.proofs.Drafting.{below_two, formed_expr, formed_known, good_
 use Rattle.hv_lines.proofs.Laws.{expr_at_here, expr_below, known_below, set_in, set_out, speaks_at, statement_at_here}
 use Rattle.hv_lines.proofs.Lengths.{short_known, short_or}
 use Rattle.hv_lines.proofs.Shaped.{leaf_below}
-use Rattle.hv_replay.specs.PrunedLines.{IsAtomSet, IsListedExpr, IsListedSet, IsPrunedUnion, pruned_lines, pruned_word, word_of_formula, word_of_literal}
-use Rattle.hv_replay.specs.declared.pruned.DeadSet.{DeadSet}
+use Rattle.hv_replay.specs.Logs.{IsAtomSet}
+use Rattle.hv_replay.specs.PrunedLines.{IsListedExpr, IsListedSet, IsPrunedUnion, pruned_lines, pruned_word, word_of_formula, word_of_literal}
+use Rattle.hv_lines.specs.declared.note.Note.{Note}
 use Rattle.hv_replay.proofs.Explicit.{cons_cases, empty_states, goal_states, head_in, listed_anchors, listed_states, nothing_in, start_states, states_at}
 use Rattle.hv_replay.proofs.Mixed.{IsOther, good_apart, good_mixed}
 use Rattle.hv_replay.proofs.Sided.{good_outside, good_within, of_one, rise_one, sole}
@@ -47,8 +48,8 @@ constant_states lines set C.Start at = omega (arith, start_states lines set at)
 constant_states lines set C.Goal at = omega (arith, goal_states lines set at)
 
 module _ (task : Strips) (is_task : IsTask task) (old : List Line) (good : IsGoodTable task old) (p k pruned : ℕ) (held : List ℕ)
-    (holder union : DeadSet) (p_is : p ≡ expr_count old) (k_is : k ≡ known_count old) (p_few : p + 1 < 10 ^ 18) (k_few : k + 2 < 10 ^ 18)
-    (atom_set : IsAtomSet task held) (is_held : IsHeld task old held holder) (is_union : IsPrunedUnion task old pruned union) where
+    (holder union : Note) (p_is : p ≡ expr_count old) (k_is : k ≡ known_count old) (p_few : p + 1 < 10 ^ 18) (k_few : k + 2 < 10 ^ 18)
+    (atom_set : IsAtomSet (atoms task) held) (is_held : IsHeld task old held holder) (is_union : IsPrunedUnion task old pruned union) where
   abbrev setting : Setting
   setting = draft_setting task
 
@@ -109,8 +110,8 @@ module _ (task : Strips) (is_task : IsTask task) (old : List Line) (good : IsGoo
   m_below : union.line < k
   m_below = omega (arith, known_below old union.line (T.Dead union.set) table is_union.says, k_is)
 
-  one_state : All (IsAtomSet task) (held ∷ [])
-  one_state = All-cons (IsAtomSet task) held [] atom_set (All-nil (IsAtomSet task))
+  one_state : All (IsAtomSet (atoms task)) (held ∷ [])
+  one_state = All-cons (IsAtomSet (atoms task)) held [] atom_set (All-nil (IsAtomSet (atoms task)))
 
   good1 : IsGoodTable task B1
   good1 = (

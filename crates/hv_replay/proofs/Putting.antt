@@ -15,21 +15,22 @@ use Rattle.hv_lines.proofs.Drafting.{table_of}
 use Rattle.hv_lines.proofs.Extended.{exprs_few, knowns_few}
 use Rattle.hv_lines.proofs.Laws.{speaks_at}
 use Rattle.hv_replay.specs.ClosingLines.{IsClosedSearch, closing_block, closing_lines}
-use Rattle.hv_replay.specs.PrunedLines.{IsAtomSet, IsPrunedUnion, pruned_lines, pruned_word}
+use Rattle.hv_replay.specs.Logs.{IsAtomSet}
+use Rattle.hv_replay.specs.PrunedLines.{IsPrunedUnion, pruned_lines, pruned_word}
 use Rattle.hv_replay.specs.Replayed.{union_after}
-use Rattle.hv_replay.specs.declared.pruned.DeadSet.{DeadSet}
+use Rattle.hv_lines.specs.declared.note.Note.{Note}
 use Rattle.hv_replay.proofs.ClosingBlock.{closing_concludes, good_closing, good_closing_block}
 use Rattle.hv_replay.proofs.PrunedBlock.{good_pruned, pruned_inside, pruned_keeps, pruned_union}
 use Rattle.hv_replay.proofs.Unions.{IsHeld, held_by, prelude_begins}
 
 -- The draft has room, and `next` has the identifiers of its next set and statement.
-pub record IsNextOf (old : List Line) (next : DeadSet) : Type 0 where
+pub record IsNextOf (old : List Line) (next : Note) : Type 0 where
   pub set : next.set ≡ expr_count old
   pub line : next.line ≡ known_count old
   pub few_sets : next.set < 10 ^ 18 - 10
   pub few_lines : next.line < 10 ^ 18 - 10
 
-pub next_of : (old now table : List Line) (next : DeadSet) (spare : ℕ) → table ≡ now → now ≡ old → length now + spare ≤ most_lines
+pub next_of : (old now table : List Line) (next : Note) (spare : ℕ) → table ≡ now → now ≡ old → length now + spare ≤ most_lines
     → next.set ≡ expr_count table → next.line ≡ known_count table → IsNextOf old next
 next_of old now table next spare same was few set line =
     let is_set : next.set ≡ expr_count old = set ∙ ap expr_count (same ∙ was) in
@@ -43,7 +44,7 @@ next_of old now table next spare same was few set line =
     }
 
 module _ (task : Strips) (is_task : IsTask task) (old : List Line) (good : IsGoodTable task old) (held : List ℕ)
-    (atom_set : IsAtomSet task held) (by : ℕ) (dead : IsDeadBy task old (state_of (atoms task) held) by) (next holder : DeadSet)
+    (atom_set : IsAtomSet (atoms task) held) (by : ℕ) (dead : IsDeadBy task old (state_of (atoms task) held) by) (next holder : Note)
     (is_next : IsNextOf old next) (holder_line : holder.line ≡ by) (says : statement_at old by ≡ Some (T.Dead holder.set)) where
   is_held : IsHeld task old held holder
   is_held =
@@ -53,7 +54,7 @@ module _ (task : Strips) (is_task : IsTask task) (old : List Line) (good : IsGoo
   pub holder_below : holder.set < expr_count old
   holder_below = speaks_at old by (T.Dead holder.set) (table_of task old good) says
 
-  module _ (pruned : ℕ) (union : DeadSet) (is_union : IsPrunedUnion task old pruned union) where
+  module _ (pruned : ℕ) (union : Note) (is_union : IsPrunedUnion task old pruned union) where
     pub put_pruned : IsGoodTable task (onto (pruned_lines next.set next.line held (pruned_word old holder.set) holder union) old)
     put_pruned =
         good_pruned task is_task old good next.set next.line pruned held holder union is_next.set is_next.line (omega (arith, is_next.few_sets))
@@ -78,7 +79,7 @@ module _ (task : Strips) (is_task : IsTask task) (old : List Line) (good : IsGoo
         (omega (arith, is_next.few_sets)) (omega (arith, is_next.few_lines)) atom_set is_held is_union
 
 module _ (task : Strips) (is_task : IsTask task) (old : List Line) (good : IsGoodTable task old) (begins : BeginsAsDraft old)
-    (next : DeadSet) (is_next : IsNextOf old next) (states : List (List ℕ)) (union : DeadSet) (count : ℕ) (count_few : count ≤ 65000)
+    (next : Note) (is_next : IsNextOf old next) (states : List (List ℕ)) (union : Note) (count : ℕ) (count_few : count ≤ 65000)
     (is_union : IsPrunedUnion task old count union) (short : IsShort (L.Expr (expr_count old) (E.States states)))
     (closed : IsClosedSearch task states (states_in task old union.set)) where
   is_short : IsShort (L.Expr next.set (E.States states))
@@ -102,8 +103,8 @@ module _ (task : Strips) (is_task : IsTask task) (old : List Line) (good : IsGoo
       is_next.line (omega (arith, is_next.few_sets)) (omega (arith, is_next.few_lines)) is_union count_few is_short closed
 
 -- the new union by the numbers of the next set and statement
-pub union_as : (old : List Line) (next : DeadSet) → IsNextOf old next
-    → ◌≡◌ {A = DeadSet} (record { set = next.set + 1; line = next.line + 2 }) (union_after old)
+pub union_as : (old : List Line) (next : Note) → IsNextOf old next
+    → ◌≡◌ {A = Note} (record { set = next.set + 1; line = next.line + 2 }) (union_after old)
 union_as old next is =
-    let dead : ℕ → ℕ → DeadSet = λ s k. record { set = s + 1; line = k + 2 } in
+    let dead : ℕ → ℕ → Note = λ s k. record { set = s + 1; line = k + 2 } in
     ap (λ s. dead s next.line) is.set ∙ ap (λ k. dead (expr_count old) k) is.line

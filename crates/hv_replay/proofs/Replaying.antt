@@ -26,14 +26,14 @@ use Rattle.hv_replay.specs.Closed.{IsClosed, IsFirst, IsFirstHole, IsFollowed, I
 use Rattle.hv_replay.specs.ClosingLines.{IsClosedSearch, closing_lines}
 use Rattle.hv_replay.specs.Expanded.{IsExpanded, expanded_states}
 use Rattle.hv_replay.specs.Following.{Follows}
-use Rattle.hv_replay.specs.Logs.{IsEntry, IsLog, SearchLog, StandsAt}
+use Rattle.hv_replay.specs.Logs.{IsAtomSet, IsEntry, IsLog, SearchLog, StandsAt}
 use Rattle.hv_replay.specs.Progress.{IsProgress, IsProof, IsUncovered}
-use Rattle.hv_replay.specs.PrunedLines.{IsAtomSet, IsPrunedUnion, most_pruned, pruned_lines, pruned_word}
+use Rattle.hv_replay.specs.PrunedLines.{IsPrunedUnion, most_pruned, pruned_lines, pruned_word}
 use Rattle.hv_replay.specs.Replayed.{ArePruned, after_pruned, none, one_more, pruned_in, union_after}
 use Rattle.hv_replay.specs.declared.hole.ReplayFault.{ReplayFault}
 use Rattle.hv_replay.specs.declared.hole.ReplayFault.TheVariants as H
 use Rattle.hv_replay.specs.declared.log.Entry.{Entry}
-use Rattle.hv_replay.specs.declared.pruned.DeadSet.{DeadSet}
+use Rattle.hv_lines.specs.declared.note.Note.{Note}
 use Rattle.hv_replay.proofs.Explicit.{nothing_in}
 use Rattle.hv_replay.proofs.Steps.{either, expanded_out, log_goalless, log_starts}
 use Rattle.hv_replay.proofs.Unions.{prelude_begins, size_push, states_onto, union_begins, union_extended}
@@ -58,7 +58,7 @@ progress_begins task lines is good =
     }
 
 -- the five lines of a further pruned state
-module _ (task : Strips) (old now new : List Line) (held : List ℕ) (by : ℕ) (union more : DeadSet) (extends : Extends task old now)
+module _ (task : Strips) (old now new : List Line) (held : List ℕ) (by : ℕ) (union more : Note) (extends : Extends task old now)
     (dead : IsDeadBy task now (state_of (atoms task) held) by)
     (lines : (set : ℕ) → Says now by (T.Dead set)
     → new ≡ onto (pruned_lines (expr_count now) (known_count now) held (pruned_word now set) (record { set = set; line = by }) union) now)
@@ -67,7 +67,7 @@ module _ (task : Strips) (old now new : List Line) (held : List ℕ) (by : ℕ) 
     (inside : states_in task new more.set (state_of (atoms task) held))
     (keeps : (state : List Bool) → states_in task now union.set state → states_in task new more.set state)
     (states : List (List ℕ)) (before : IsProgress task states old union) where
-  abbrev holder : DeadSet
+  abbrev holder : Note
   holder = record { set = dead.set; line = by }
 
   are_pruned : ArePruned (states ++ held ∷ []) new more
@@ -129,7 +129,7 @@ entries_next log place entry at =
     take_more log.entries place entry (slice_get_within log.entries place entry at)
     ∙ ap (λ x. take place log.entries ++ x ∷ []) (get_or_from_slice_get log.entries place entry entry at)
 
-pub progress_next : (task : Strips) (log : SearchLog) (place : ℕ) (entry : Entry) (lines : List Line) (union : DeadSet) → StandsAt log place entry
+pub progress_next : (task : Strips) (log : SearchLog) (place : ℕ) (entry : Entry) (lines : List Line) (union : Note) → StandsAt log place entry
     → IsProgress task (pruned_in (take place log.entries ++ entry ∷ [])) lines union
     → IsProgress task (pruned_in (take (place + 1) log.entries)) lines union
 progress_next task log place entry lines union at is =
@@ -196,7 +196,7 @@ pruned_few log is =
     omega (arith, size, many, is.few.pruned)
 
 module _ (task : Strips) (log : SearchLog) (is : IsLog log.atoms log.entries) (over : log.atoms ≡ atoms task) (followed : IsFollowed task log)
-    (lines : List Line) (union : DeadSet) (progress : IsProgress task (pruned_in log.entries) lines union) where
+    (lines : List Line) (union : Note) (progress : IsProgress task (pruned_in log.entries) lines union) where
   abbrev Pruned : List Bool → Type 0
   Pruned = states_in task lines union.set
 
@@ -211,15 +211,10 @@ module _ (task : Strips) (log : SearchLog) (is : IsLog log.atoms log.entries) (o
       let listed = followed.leads w.0 k w.1 a w.2 w.3 at (ap (applicable a) w.4 ∙ can) in
       either task log followed Pruned noted (successor a state) (subst (λ s. IsListed log (successor a s)) w.4 listed)
 
-  abbrev IsSet : Entry → Type 0
-  IsSet entry = IsAtomSet task entry.state
-
-  sets : All (IsAtomSet task) (expanded_states log)
+  sets : All (IsAtomSet (atoms task)) (expanded_states log)
   sets =
-      All-map (IsAtomSet task) (λ (e : Entry). e.state) (filter (λ (e : Entry). e.expanded) log.entries)
-      (All-filter (λ (e : Entry). e.expanded) IsSet log.entries
-      (All-weaker (IsEntry log.atoms) IsSet (λ entry e. record { below = subst (λ n. AreBelow n entry.state) over e.below; rises = e.rises })
-      log.entries is.each))
+      All-map (IsAtomSet (atoms task)) (λ (e : Entry). e.state) (filter (λ (e : Entry). e.expanded) log.entries)
+      (All-filter (λ (e : Entry). e.expanded) (IsEntry (atoms task)) log.entries (subst (λ n. All (IsEntry n) log.entries) over is.each))
 
   expanded_few : length (expanded_states log) ≤ 1000000
   expanded_few =
@@ -242,7 +237,7 @@ module _ (task : Strips) (log : SearchLog) (is : IsLog log.atoms log.entries) (o
   }
 
 -- with the closing lines the replay is a proof
-pub proof_at : {E : Type 0} (task : Strips) (log : SearchLog) (old new : List Line) (union : DeadSet) (states : List (List ℕ))
+pub proof_at : {E : Type 0} (task : Strips) (log : SearchLog) (old new : List Line) (union : Note) (states : List (List ℕ))
     (r : Result (Unit {0}) E) → states ≡ expanded_states log → IsProgress task (pruned_in log.entries) old union
     → OnOk r (new ≡ onto (closing_lines (expr_count old) (known_count old) states union) old) → Extends task old new
     → OnOk r (Concludes new) → OnOk r (IsProof task log new)

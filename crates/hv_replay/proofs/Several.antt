@@ -1,5 +1,5 @@
 -- Lists of which one element changes: what holds of some, of none and of all of their elements.
-use Rattle.std.proofs.Common.{Option, Some, None, MatchOption, IfNone, IfSome, ◌++◌, take, ◌≡◌, ◌≢◌, ℕ, ◌+◌, ◌<◌, ◌≤◌, ◌∙◌, ◌↔◌, List, get_or, set, length, inl, inr, sym, ap, subst, arith}
+use Rattle.std.proofs.Common.{Option, Some, None, MatchOption, Result, Ok, Err, IfNone, IfOk, IfSome, ◌++◌, take, ◌≡◌, ◌≢◌, ℕ, ◌+◌, ◌<◌, ◌≤◌, ◌∙◌, ◌↔◌, List, get_or, set, length, inl, inr, sym, ap, subst, arith}
 use Rattle.std.specs.List.{All, AllWithin, Any}
 use Rattle.std.proofs.lemmas.Bool.{cases_order}
 use Rattle.std.proofs.lemmas.List.{get_or-set_other, get_or-set_same, get_or_default, length-set, take-append-le, take_all}
@@ -100,3 +100,11 @@ over_list xs ys F is holds = subst F is holds
 
 pub written_back : {X : Type 0} (n : ℕ) (new rest : List X) → length new ≡ n → take n (new ++ rest) ≡ new
 written_back n new rest size = take-append-le n new rest (omega (arith, size)) ∙ take_all n new (omega (arith, size))
+
+-- what is told of a state is told of the same one by another list
+pub covered_at : {E A : Type 0} (r : Result (Option A) E) (Q : List ℕ → Type 0) (x y : List ℕ) (P : Type 0) → x ≡ y → P
+    → IfOk r (λ found. MatchOption found (Q x → ⊥) (λ _. Q x))
+    → IfOk r (λ found. MatchOption found (P × (Q y → ⊥)) (λ _. P → Q y))
+covered_at (Ok None) Q x y P e p h = (p, λ q. h (subst Q (sym e) q))
+covered_at (Ok (Some a)) Q x y P e p h = λ _. subst Q e h
+covered_at (Err f) Q x y P e p h = tt

@@ -10,7 +10,7 @@ use Rattle.hv_lines.specs.Spelling.{ExprFits, FitsDecimal, FitsShortDecimal, IsR
 use Rattle.hv_lines.specs.declared.line.Expr.TheVariants as E
 use Rattle.hv_lines.specs.declared.line.Line.TheVariants as L
 use Rattle.hv_lines.proofs.Lengths.{decimal_short, short_by, weight, weight-append}
-use Rattle.hv_replay.specs.PrunedLines.{IsAtomSet}
+use Rattle.hv_replay.specs.Logs.{IsAtomSet}
 
 -- a number of a list that rises is at least its place
 at_least_place : (xs : List ℕ) (k : ℕ) → IsStrictlyIncreasing xs → k < length xs → k ≤ get_or xs k 0
@@ -28,16 +28,16 @@ few_below n xs (suc k) is rises below =
     let within : k < length xs = omega (arith, is) in
     omega (arith, at_least_place xs k rises within, below k 0 within)
 
-pub atom_set_few : (task : Strips) (held : List ℕ) → IsAtomSet task held → length held ≤ atoms task
+pub atom_set_few : (task : Strips) (held : List ℕ) → IsAtomSet (atoms task) held → length held ≤ atoms task
 atom_set_few task held is = few_below (atoms task) held (length held) refl is.rises is.below
 
-pub atom_set_rising : (task : Strips) (held : List ℕ) → IsTask task → IsAtomSet task held → IsRising held
+pub atom_set_rising : (task : Strips) (held : List ℕ) → IsTask task → IsAtomSet (atoms task) held → IsRising held
 atom_set_rising task held is_task is = record {
   short = λ k d within. let below = is.below k d within in omega (arith, below, is_task.few_atoms);
   rising = is.rises;
 }
 
-pub states_fit : (task : Strips) (states : List (List ℕ)) → IsTask task → All (IsAtomSet task) states → length states ≤ 1000000
+pub states_fit : (task : Strips) (states : List (List ℕ)) → IsTask task → All (IsAtomSet (atoms task)) states → length states ≤ 1000000
     → ExprFits (E.States states)
 states_fit task states is_task are few =
     (omega (arith, few), λ k d within. atom_set_rising task (get_or states k d) is_task (are k d within))
@@ -50,7 +50,7 @@ decimals_short (n ∷ ns) fit =
     omega (arith, decimal_short n wide, decimals_short ns (All-tail FitsShortDecimal n ns fit))
 
 -- the line of one state is short
-pub short_state : (task : Strips) (id : ℕ) (held : List ℕ) → IsTask task → IsAtomSet task held → FitsDecimal id
+pub short_state : (task : Strips) (id : ℕ) (held : List ℕ) → IsTask task → IsAtomSet (atoms task) held → FitsDecimal id
     → IsShort (L.Expr id (E.States (held ∷ [])))
 short_state task id held is_task is at =
     short_by (L.Expr id (E.States (held ∷ [])))

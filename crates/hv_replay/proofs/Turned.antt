@@ -13,6 +13,7 @@ use Rattle.hv_bytes.specs.declared.cutting.LineFault.TheVariants as L
 use Rattle.hv_bytes.specs.declared.cutting.Limits.{Limits}
 use Rattle.hv_bytes.proofs.WholeText.{end_next, gave_more, line_next, long_next, opened}
 use Rattle.hv_replay.specs.declared.fault.LogFault.{LogFault}
+use Rattle.hv_replay.specs.declared.fault.LogFault.TheVariants as F
 use Rattle.hv_replay.specs.declared.log.Entry.{Entry}
 use Rattle.hv_replay.specs.declared.reader.FeedError.{FeedError}
 use Rattle.hv_replay.specs.declared.reader.FeedError.TheVariants as E
@@ -171,6 +172,7 @@ module _ (atoms : ℕ) (file : Option (List ℕ)) (reader : Reader)
     whole_of (pieces_of log_limits bytes) reader log reader.ended ends.0 f.ready.legal
         (next.cut ∙ append-nil (as_pieces (lines_before (begun_by reader)))) ends.1,
   )
+  ended bytes (Err F.Memory) count next ends = tt
   ended bytes (Err fault) count next ends =
       subst (λ r. IsReadFrom atoms bytes (Err r)) (sym ends.1)
       (begun_by reader, [], legal, next, lacks_early reader.log.entries reader.ended ends.0)

@@ -24,7 +24,7 @@ use Rattle.hv_lines.proofs.Drafting.{table_of}
 use Rattle.hv_lines.proofs.Extended.{begun_acts, begun_dead, begun_empty, begun_goal, begun_start}
 use Rattle.hv_lines.proofs.Laws.{expr_at_more, expr_below, exprs_grow, refers_below, set_in, set_out, sets_more, speaks_at}
 use Rattle.hv_replay.specs.PrunedLines.{IsListedSet, IsPrunedUnion, Rise}
-use Rattle.hv_replay.specs.declared.pruned.DeadSet.{DeadSet}
+use Rattle.hv_lines.specs.declared.note.Note.{Note}
 use Rattle.hv_replay.proofs.Explicit.{cons_cases, head_in, nothing_in}
 
 -- the parts of a union have earlier lines
@@ -94,13 +94,13 @@ prelude_begins task lines begins good = record {
 }
 
 -- the set is a literal that holds the state, and the line says that it is dead
-pub record IsHeld (task : Strips) (lines : List Line) (held : List ℕ) (holder : DeadSet) : Type 0 where
+pub record IsHeld (task : Strips) (lines : List Line) (held : List ℕ) (holder : Note) : Type 0 where
   pub says : statement_at lines holder.line ≡ Some (T.Dead holder.set)
   pub literal : IsLiteral lines holder.set
   pub inside : states_in task lines holder.set (state_of (atoms task) held)
   pub few : DeniesFew lines holder.set
 
-pub held_by : (task : Strips) (lines : List Line) (held : List ℕ) (holder : DeadSet)
+pub held_by : (task : Strips) (lines : List Line) (held : List ℕ) (holder : Note)
     → IsDeadBy task lines (state_of (atoms task) held) holder.line → statement_at lines holder.line ≡ Some (T.Dead holder.set)
     → IsHeld task lines held holder
 held_by task lines held holder by says =
@@ -124,7 +124,7 @@ prelude_onto more lines table has = record {
 pub listed_onto : (more lines : List Line) (set : ℕ) → IsTable (onto more lines) → IsListedSet lines set → IsListedSet (onto more lines) set
 listed_onto more lines set table listed = (listed.0, expr_onto more lines set listed.0 table listed.1, listed.2)
 
-pub union_onto : (task : Strips) (more lines : List Line) (pruned : ℕ) (union : DeadSet) → IsTable (onto more lines)
+pub union_onto : (task : Strips) (more lines : List Line) (pruned : ℕ) (union : Note) → IsTable (onto more lines)
     → IsPrunedUnion task lines pruned union → IsPrunedUnion task (onto more lines) pruned union
 union_onto task more lines pruned union table is =
     let before = table_before more lines table in
@@ -146,7 +146,7 @@ union_onto task more lines pruned union table is =
     }
 
 -- and so in each extension of a draft
-pub union_extended : (task : Strips) (old new : List Line) (pruned : ℕ) (union : DeadSet) → Extends task old new
+pub union_extended : (task : Strips) (old new : List Line) (pruned : ℕ) (union : Note) → Extends task old new
     → IsPrunedUnion task old pruned union → IsPrunedUnion task new pruned union
 union_extended task old new pruned union extends is =
     let table : IsTable (onto extends.0.0 old) = subst IsTable extends.0.1 (table_of task new extends.1) in
@@ -289,7 +289,7 @@ states_single lines p states at leaf of =
     ]
 
 -- the union with one more explicit set
-pub union_push : (task : Strips) (lines : List Line) (pruned : ℕ) (union : DeadSet) (u p by : ℕ) (states : List (List ℕ)) → IsTable lines
+pub union_push : (task : Strips) (lines : List Line) (pruned : ℕ) (union : Note) (u p by : ℕ) (states : List (List ℕ)) → IsTable lines
     → IsPrunedUnion task lines pruned union → expr_at lines u ≡ Some (E.Or union.set p) → expr_at lines p ≡ Some (E.States states)
     → ((leaf : ℕ) → IsOrLeaf lines union.set leaf → leaf < p) → statement_at lines by ≡ Some (T.Dead u)
     → IsPrunedUnion task lines (pruned + 1) (record { set = u; line = by })

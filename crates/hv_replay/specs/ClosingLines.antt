@@ -13,13 +13,13 @@ use Rattle.hv_lines.specs.declared.line.Line.{Line}
 use Rattle.hv_lines.specs.declared.line.Line.TheVariants as L
 use Rattle.hv_lines.specs.declared.line.Statement.TheVariants as T
 use Rattle.hv_lines.specs.declared.line.Word.TheVariants as W
-use Rattle.hv_replay.specs.PrunedLines.{IsAtomSet}
-use Rattle.hv_replay.specs.declared.pruned.DeadSet.{DeadSet}
+use Rattle.hv_replay.specs.Logs.{IsAtomSet}
+use Rattle.hv_lines.specs.declared.note.Note.{Note}
 
 -- The nine lines that show that the expanded states are dead, and their union with the pruned ones. The
 -- explicit set of the expanded states becomes set s, and the first statement is line k; `union` is the
 -- union of all pruned states.
-abbrev pub closing_block : ℕ → ℕ → List (List ℕ) → DeadSet → List Line
+abbrev pub closing_block : ℕ → ℕ → List (List ℕ) → Note → List Line
 closing_block s k states union =
     L.Expr s (E.States states)
     ∷ L.Expr (s + 1) (E.After s 0)
@@ -33,13 +33,13 @@ closing_block s k states union =
     ∷ []
 
 -- the twelve lines with which a replay ends: these nine, and the conclusion from the union
-abbrev pub closing_lines : ℕ → ℕ → List (List ℕ) → DeadSet → List Line
+abbrev pub closing_lines : ℕ → ℕ → List (List ℕ) → Note → List Line
 closing_lines s k states union = closing_block s k states union ++ conclusion (k + 5) (s + 2) (k + 4)
 
 -- the search is closed: these expanded states, together with the pruned ones, are left by no action,
 -- no expanded one holds the goal, and the initial state is one of them all
 pub record IsClosedSearch (task : Strips) (states : List (List ℕ)) (pruned : StateSet) : Type 0 where
-  pub atom_sets : All (IsAtomSet task) states
+  pub atom_sets : All (IsAtomSet (atoms task)) states
   pub few : length states ≤ default_budget
   pub leads : (k : ℕ) (a : Action) → slice_get task.actions k ≡ Some a → (state : List Bool)
       → InStates (atoms task) states state → applicable a state ≡ true

@@ -5,10 +5,14 @@ use Rattle.hv_sets.specs.Truth.{InStates}
 use Rattle.hv_replay.specs.Logs.{SearchLog}
 use Rattle.hv_replay.specs.declared.log.Entry.{Entry}
 
+-- the expanded ones of these entries, in order
+abbrev pub expanded_in : List Entry → List (List ℕ)
+expanded_in entries =
+    map (λ (entry : Entry). entry.state) (filter (λ (entry : Entry). entry.expanded) entries)
+
 -- the expanded states, in the log's order
 abbrev pub expanded_states : SearchLog → List (List ℕ)
-expanded_states log =
-    map (λ (entry : Entry). entry.state) (filter (λ (entry : Entry). entry.expanded) log.entries)
+expanded_states log = expanded_in log.entries
 
 -- the state is one of them
 abbrev pub IsExpanded : SearchLog → List Bool → Type 0

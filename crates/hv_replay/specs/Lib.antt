@@ -4,6 +4,7 @@ pub mod Reading
 pub mod Closed
 pub mod Expanded
 pub mod Following
+pub mod Waiting
 pub mod Words
 pub mod PrunedLines
 pub mod ClosingLines

@@ -12,6 +12,12 @@ pub record SearchLog : Type 0 where
   pub atoms : ℕ
   pub entries : List Entry
 
+-- the entries of these states, each with the flag that says whether it is an expanded one
+abbrev pub entries_of : List Bool → List (List ℕ) → List Entry
+entries_of (expanded ∷ flags) (held ∷ states) =
+    record { expanded = expanded; state = held } ∷ entries_of flags states
+entries_of _ _ = []
+
 -- the log without an entry
 abbrev pub no_entries : ℕ → SearchLog
 no_entries atoms = record { atoms = atoms; entries = [] }
@@ -20,10 +26,14 @@ no_entries atoms = record { atoms = atoms; entries = [] }
 abbrev pub StandsAt : SearchLog → ℕ → Entry → Type 0
 StandsAt log place entry = slice_get log.entries place ≡ Some entry
 
--- the entry's state is one of a task with so many atoms, listed in rising order
-pub record IsEntry (atoms : ℕ) (entry : Entry) : Type 0 where
-  pub below : AreBelow atoms entry.state
-  pub rises : IsStrictlyIncreasing entry.state
+-- a state of a task with so many atoms, by the atoms that it holds, which rise
+pub record IsAtomSet (atoms : ℕ) (held : List ℕ) : Type 0 where
+  pub below : AreBelow atoms held
+  pub rises : IsStrictlyIncreasing held
+
+-- the entry's state is one
+abbrev pub IsEntry : ℕ → Entry → Type 0
+IsEntry atoms entry = IsAtomSet atoms entry.state
 
 -- how many entries are expanded states, and how many are pruned ones
 abbrev pub expanded_count : List Entry → ℕ

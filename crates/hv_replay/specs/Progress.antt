@@ -14,10 +14,10 @@ use Rattle.hv_replay.specs.PrunedLines.{IsPrunedUnion}
 use Rattle.hv_replay.specs.Replayed.{ArePruned, IsReplayed}
 use Rattle.hv_replay.specs.declared.hole.ReplayFault.{ReplayFault}
 use Rattle.hv_replay.specs.declared.hole.ReplayFault.TheVariants as H
-use Rattle.hv_replay.specs.declared.pruned.DeadSet.{DeadSet}
+use Rattle.hv_lines.specs.declared.note.Note.{Note}
 
 -- these pruned states have their lines, and their union holds each of them
-pub record IsProgress (task : Strips) (states : List (List ℕ)) (lines : List Line) (union : DeadSet)
+pub record IsProgress (task : Strips) (states : List (List ℕ)) (lines : List Line) (union : Note)
     : Type 0 where
   pub good : IsGoodTable task lines
   pub pruned : ArePruned states lines union

@@ -2,9 +2,7 @@
 -- so the state is dead, and so is the union of the pruned states up to this one.
 use Rattle.std.specs.Prelude.{◌≡◌, ◌<◌, ◌+◌, ◌≤◌, ◌↔◌, ℕ, Bool, List, [], ◌∷◌, Option, Some, length, slice_get}
 use Rattle.std.specs.List.{Contains}
-use Rattle.std.specs.List.Sorted.{IsStrictlyIncreasing}
-use Rattle.hv_task.specs.State.{AreBelow}
-use Rattle.hv_task.specs.Strips.{Strips, atoms}
+use Rattle.hv_task.specs.Strips.{Strips}
 use Rattle.hv_lines.specs.Numbering.{expr_at}
 use Rattle.hv_lines.specs.Pruning.{states_in}
 use Rattle.hv_lines.specs.Rules.{IsExpr, Says}
@@ -16,12 +14,7 @@ use Rattle.hv_lines.specs.declared.line.Line.TheVariants as L
 use Rattle.hv_lines.specs.declared.line.Statement.TheVariants as T
 use Rattle.hv_lines.specs.declared.line.Word.{Word}
 use Rattle.hv_lines.specs.declared.line.Word.TheVariants as W
-use Rattle.hv_replay.specs.declared.pruned.DeadSet.{DeadSet}
-
--- a state of the task by its atoms, which rise
-pub record IsAtomSet (task : Strips) (held : List ℕ) : Type 0 where
-  pub below : AreBelow (atoms task) held
-  pub rises : IsStrictlyIncreasing held
+use Rattle.hv_lines.specs.declared.note.Note.{Note}
 
 -- the set is a constant, or it lists its states
 abbrev pub IsListedExpr : Expr → Type 0
@@ -51,7 +44,7 @@ pruned_word lines set = word_of_literal lines (expr_at lines set)
 
 -- The five lines of a pruned state, which the set `holder` holds. It becomes set p, and the first
 -- statement is line k; `union` is the union of the pruned states before it.
-abbrev pub pruned_lines : ℕ → ℕ → List ℕ → Word → DeadSet → DeadSet → List Line
+abbrev pub pruned_lines : ℕ → ℕ → List ℕ → Word → Note → Note → List Line
 pruned_lines p k held word holder union =
     L.Expr p (E.States (held ∷ []))
     ∷ L.Known k (T.Sub p holder.set) word []
@@ -71,7 +64,7 @@ most_pruned = 65000
 
 -- the set is said to be dead, and it is a union of constants and explicit sets: at most the empty
 -- set, and one for each of so many pruned states
-pub record IsPrunedUnion (task : Strips) (lines : List Line) (pruned : ℕ) (union : DeadSet) : Type 0
+pub record IsPrunedUnion (task : Strips) (lines : List Line) (pruned : ℕ) (union : Note) : Type 0
   where
     pub says : Says lines union.line (T.Dead union.set)
     pub leaves : List ℕ

@@ -68,6 +68,7 @@ fault_at number E.Memory = F.Memory
 -- what the reader answers where no line is left, before the line of this number
 abbrev pub Ends : Result SearchLog LogFault → Reader → ℕ → Type 0
 Ends (Ok log) r number = (r.ended ≡ true) × (log ≡ r.log)
+Ends (Err F.Memory) r number = Unit {0}
 Ends (Err fault) r number = (r.ended ≡ false) × (fault ≡ F.Place number)
 
 -- the fault of a line of this number that can't be had

@@ -11,7 +11,7 @@ use Rattle.hv_replay.specs.Expanded.{expanded_states}
 use Rattle.hv_replay.specs.Logs.{SearchLog}
 use Rattle.hv_replay.specs.PrunedLines.{pruned_lines, pruned_word}
 use Rattle.hv_replay.specs.declared.log.Entry.{Entry}
-use Rattle.hv_replay.specs.declared.pruned.DeadSet.{DeadSet}
+use Rattle.hv_lines.specs.declared.note.Note.{Note}
 
 -- the pruned ones of these entries, in order
 abbrev pub pruned_in : List Entry → List (List ℕ)
@@ -19,22 +19,22 @@ pruned_in entries =
     map (λ (entry : Entry). entry.state) (filter (λ (entry : Entry). not entry.expanded) entries)
 
 -- the five lines of a pruned state, put after these lines, which say that `holder` is dead
-abbrev pub after_pruned : List Line → List ℕ → DeadSet → DeadSet → List Line
+abbrev pub after_pruned : List Line → List ℕ → Note → Note → List Line
 after_pruned lines held holder union =
     onto (pruned_lines (expr_count lines) (known_count lines) held
     (pruned_word lines holder.set) holder union) lines
 
 -- the union of the pruned states with the one whose lines are put after these
-abbrev pub union_after : List Line → DeadSet
+abbrev pub union_after : List Line → Note
 union_after lines = record { set = expr_count lines + 1; line = known_count lines + 2 }
 
 -- The lines, of which the newest is the first, begin as every draft does, and go on with these
 -- pruned states: for each some lines, after which one says that a literal is dead, and its five
 -- lines. The union of these states so far is at first the empty set.
-pub data ArePruned : List (List ℕ) → List Line → DeadSet → Type 0 where
+pub data ArePruned : List (List ℕ) → List Line → Note → Type 0 where
   none : ArePruned [] (onto prelude []) (record { set = 0; line = 0 })
-  one_more : (states : List (List ℕ)) (lines more : List Line) (union : DeadSet) (held : List ℕ)
-      (holder : DeadSet) → ArePruned states lines union
+  one_more : (states : List (List ℕ)) (lines more : List Line) (union : Note) (held : List ℕ)
+      (holder : Note) → ArePruned states lines union
       → Says (onto more lines) holder.line (T.Dead holder.set)
       → ArePruned (states ++ held ∷ []) (after_pruned (onto more lines) held holder union)
       (union_after (onto more lines))
@@ -42,6 +42,6 @@ pub data ArePruned : List (List ℕ) → List Line → DeadSet → Type 0 where
 -- the lines are a proof that replays the log: its pruned states, and the twelve closing lines
 abbrev pub IsReplayed : SearchLog → List Line → Type 0
 IsReplayed log lines =
-    (pruned : List Line) × (union : DeadSet) × ArePruned (pruned_in log.entries) pruned union
+    (pruned : List Line) × (union : Note) × ArePruned (pruned_in log.entries) pruned union
     × (lines ≡ onto (closing_lines (expr_count pruned) (known_count pruned) (expanded_states log)
     union) pruned)

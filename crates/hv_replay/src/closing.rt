@@ -8,20 +8,20 @@ ghost use Rattle.hv_lines.specs.declared.line.Line.TheVariants as L;
 ghost use Rattle.hv_replay.specs.ClosingLines.{IsClosedSearch, closing_block, closing_lines};
 ghost use Rattle.hv_replay.specs.PrunedLines.{IsPrunedUnion, most_pruned};
 
-use crate::pruned::{DeadSet, next_in};
-use hv_lines::{Draft, Expr, Line, Premises, Statement, Word, conclusion};
+use crate::pruned::next_in;
+use hv_lines::{Draft, Expr, Line, Note, Premises, Statement, Word, conclusion};
 use hv_sets::StateList;
 use hv_task::Task;
 use std::alloc::{AllocError, Global};
 
 /// Puts the twelve lines last with which the proof of a closed search ends: these expanded states and
 /// the union of all pruned ones. It takes its memory before the first line.
-pub fn push_closing(
+pub(crate) fn push_closing(
     alloc: Global,
     draft: &mut Draft,
     task: &Task,
     states: StateList,
-    union: DeadSet,
+    union: Note,
 ) -> Result<(), AllocError>
     requires draft { IsGoodTable task.now draft.old.lines }
     requires union { (pruned : ℕ) × (pruned ≤ most_pruned)
@@ -50,9 +50,9 @@ pub fn push_closing(
 // `next` has the identifiers of the set of the expanded states and of the first statement.
 fn closing_block(
     alloc: Global,
-    next: DeadSet,
+    next: Note,
     states: StateList,
-    union: DeadSet,
+    union: Note,
 ) -> Result<Vec<Line>, AllocError>
     requires set { next.set + 3 < 2 ^ 64 }
     requires line { next.line + 4 < 2 ^ 64 }

@@ -1,8 +1,12 @@
-ghost use Rattle.std.specs.Prelude.{◌≡◌, ◌<◌, ◌≤◌, [], ◌∷◌, ◌++◌, Some, length, slice_get, OnErr, OnOk};
-ghost use Rattle.hv_replay.specs.Logs.{AreFew, IsEntry, IsLog, StandsAt, listed_bytes, no_entries};
+ghost use Rattle.std.specs.Prelude.{◌≡◌, ◌<◌, ◌≤◌, [], ◌∷◌, ◌++◌, Some, length, slice_get, IfOk, OnErr, OnOk};
+ghost use Rattle.hv_task.specs.Strips.{atoms};
+ghost use Rattle.hv_replay.specs.Following.{AreListed};
+ghost use Rattle.hv_replay.specs.Logs.{AreFew, IsAtomSet, IsEntry, IsLog, StandsAt, listed_bytes, no_entries};
 ghost use Rattle.hv_replay.specs.declared.log.Entry.{Entry};
 
-use hv_task::AtomList;
+use hv_explicit::Explicit;
+use hv_sets::StateList;
+use hv_task::{AtomList, Task};
 use std::alloc::{AllocError, Global};
 use std::marker::Model;
 
@@ -13,37 +17,40 @@ pub struct Entry {
     pub state: AtomList,
 }
 
-/// The log of a search: the states that it expanded and those that it pruned, in order. The entry
-/// at place i is that of line i + 1. It has at most 1,000,000 expanded and 65,000 pruned states,
-/// and the lines of its text have at most 8,388,608 bytes.
+/// The entries of a log that is being read.
 #[derive(Drop)]
-pub struct Log {
+pub(crate) struct Entries {
     atoms: u32,
-    entries: Vec<Entry>,
+    states: StateList,
+    // For each state whether it is an expanded one.
+    expanded: Vec<bool>,
 }
 
-impl Model for Log {
-    ghost use Rattle.hv_replay.specs.Logs.{IsLog, SearchLog};
+impl Model for Entries {
+    ghost use Rattle.std.specs.Prelude.{◌≡◌, length};
+    ghost use Rattle.hv_replay.specs.Logs.{IsLog, SearchLog, entries_of};
 
     ghost Value = { SearchLog };
 
-    ghost view = { λ l. record { atoms = l.atoms; entries = l.entries.items } };
+    ghost view = { λ l. record { atoms = l.atoms; entries = entries_of l.expanded.items l.states } };
 
-    ghost invariant = { λ l. IsLog l.atoms l.entries.items };
+    ghost invariant = { λ l. IsLog l.atoms (entries_of l.expanded.items l.states)
+        × (length l.expanded.items ≡ length l.states) };
 }
 
-impl Log {
-    // The log without an entry, of a task with so many atoms.
-    pub(crate) fn empty(alloc: Global, atoms: u32) -> Log
+impl Entries {
+    /// No entry, of a task with so many atoms.
+    pub(crate) fn empty(alloc: Global, atoms: u32) -> Entries
         ensures { result ≡ no_entries atoms }
     {
-        Log {
+        Entries {
             atoms,
-            entries: Vec::new(alloc),
+            states: StateList::new(alloc),
+            expanded: Vec::new(alloc),
         }
     }
 
-    // Puts an entry last.
+    /// Puts an entry last.
     pub(crate) fn push(&mut self, entry: Entry) -> Result<(), AllocError>
         requires entry { IsEntry self.old.atoms entry }
         requires few { AreFew (self.old.entries ++ entry ∷ []) }
@@ -52,39 +59,76 @@ impl Log {
             (self.new ≡ record self.old { entries = self.old.entries ++ entry ∷ [] }) }
         ensures err { OnErr result (self.new ≡ self.old) }
     {
-        self.entries.push(entry)?;
+        let Entry { expanded, state } = entry;
+        self.expanded.reserve(1)?;
+        self.states.push(state)?;
+        self.expanded.push_reserved(expanded);
         Ok(())
     }
 
-    // How many atoms the task has.
+    /// How many atoms the task has.
     pub(crate) fn atoms(&self) -> u32
         ensures { result ≡ self.now.atoms }
     {
         self.atoms
+    }
+}
+
+/// The log of a search: the states that it expanded and those that it pruned, in order. The entry
+/// at place i is that of line i + 1. It has at most 1,000,000 expanded and 65,000 pruned states,
+/// and the lines of its text have at most 8,388,608 bytes.
+#[derive(Drop)]
+pub struct Log {
+    // The states, in which one is found without a walk.
+    states: Explicit,
+    // For each state whether it is an expanded one.
+    expanded: Vec<bool>,
+}
+
+impl Model for Log {
+    ghost use Rattle.std.specs.Prelude.{◌≡◌, length};
+    ghost use Rattle.hv_replay.specs.Logs.{IsLog, SearchLog, entries_of};
+
+    ghost Value = { SearchLog };
+
+    ghost view = { λ l. record {
+      atoms = l.states.atoms;
+      entries = entries_of l.expanded.items l.states.states;
+    } };
+
+    ghost invariant = { λ l. IsLog l.states.atoms (entries_of l.expanded.items l.states.states)
+        × (length l.expanded.items ≡ length l.states.states) };
+}
+
+impl Log {
+    /// The log of these entries, of states of the task.
+    pub(crate) fn new(task: &Task, entries: Entries) -> Result<Log, AllocError>
+        requires { entries.atoms ≡ atoms task.now }
+        ensures { IfOk result (λ log. log ≡ entries) }
+    {
+        let Entries {
+            atoms: _,
+            states,
+            expanded,
+        } = entries;
+        let alloc = *expanded.allocator();
+        let states = Explicit::from_list(alloc, task, states)?;
+        Ok(Log { states, expanded })
     }
 
     /// How many entries there are: one for each line but the last.
     pub fn len(&self) -> usize
         ensures { result ≡ length self.now.entries }
     {
-        self.entries.len()
+        self.expanded.len()
     }
 
-    // All entries, in order.
-    pub(crate) fn entries(&self) -> &[Entry]
-        ensures entries { result.now ≡ self.now.entries }
+    /// The states of all entries.
+    pub(crate) fn listed(&self) -> &Explicit
+        ensures listed { AreListed self.now result.now }
         ensures log { IsLog self.now.atoms self.now.entries }
     {
-        self.entries.as_slice()
-    }
-
-    // The entry at a place.
-    pub(crate) fn entry(&self, place: usize) -> &Entry
-        requires { place < length self.now.entries }
-        ensures stands { StandsAt self.now place result.now }
-        ensures entry { IsEntry self.now.atoms result.now }
-    {
-        &self.entries[place]
+        &self.states
     }
 
     /// Whether the entry at this place is an expanded state.
@@ -92,7 +136,7 @@ impl Log {
         requires { place < length self.now.entries }
         ensures { (entry : Entry) → StandsAt self.now place entry → result ≡ entry.expanded }
     {
-        self.entry(place).expanded
+        self.expanded[place]
     }
 
     /// The state of the entry at this place, by the atoms that it holds.
@@ -100,6 +144,23 @@ impl Log {
         requires { place < length self.now.entries }
         ensures { (entry : Entry) → StandsAt self.now place entry → result.now ≡ entry.state }
     {
-        &self.entry(place).state
+        self.held(place)
     }
+
+    // The same; it is a state of the task.
+    pub(crate) fn held(&self, place: usize) -> &AtomList
+        requires { place < length self.now.entries }
+        ensures stands { (entry : Entry) → StandsAt self.now place entry → result.now ≡ entry.state }
+        ensures legal { IsAtomSet self.now.atoms result.now }
+    {
+        item(self.states.states(), place)
+    }
+}
+
+// The state at a place of a list.
+fn item(states: &[AtomList], place: usize) -> &AtomList
+    requires { place < length states.now }
+    ensures { slice_get states.now place ≡ Some result.now }
+{
+    &states[place]
 }

@@ -1,4 +1,4 @@
-ghost use Rattle.std.specs.Prelude.{◌≡◌, ◌↔◌, ◌++◌, ◌∷◌, ℕ, Bool, false, [], List, IfErr, IfOk, IfSome, MatchOption, OnOk};
+ghost use Rattle.std.specs.Prelude.{◌≡◌, ◌<◌, ◌↔◌, ◌++◌, ◌∷◌, ℕ, Bool, false, [], List, IfErr, IfOk, IfSome, MatchOption, OnOk, length};
 ghost use Rattle.std.specs.List.{All, Any};
 ghost use Rattle.hv_task.specs.State.{state_of};
 ghost use Rattle.hv_task.specs.Strips.{Strips, IsState, atoms};
@@ -7,9 +7,9 @@ ghost use Rattle.hv_lines.specs.Judged.{Concludes};
 ghost use Rattle.hv_lines.specs.Pruning.{Extends};
 ghost use Rattle.hv_lines.specs.declared.line.Line.{Line};
 ghost use Rattle.hv_replay.specs.Closed.{IsClosed, IsFirstHole, IsFollowed, IsJustified};
-ghost use Rattle.hv_replay.specs.Expanded.{expanded_states};
-ghost use Rattle.hv_replay.specs.Logs.{IsEntry, IsLog};
-ghost use Rattle.hv_replay.specs.PrunedLines.{IsAtomSet, IsPrunedUnion};
+ghost use Rattle.hv_replay.specs.Expanded.{expanded_in, expanded_states};
+ghost use Rattle.hv_replay.specs.Logs.{IsAtomSet, IsLog, StandsAt};
+ghost use Rattle.hv_replay.specs.PrunedLines.{IsPrunedUnion};
 ghost use Rattle.hv_replay.specs.Progress.{IsProgress, IsProof, IsUncovered};
 ghost use Rattle.hv_replay.specs.Replayed.{IsReplayed, pruned_in};
 ghost use Rattle.hv_replay.specs.declared.log.Entry.{Entry};
@@ -18,9 +18,9 @@ ghost use Rattle.hv_replay.specs.declared.hole.ReplayFault.TheVariants as H;
 use crate::boxes::{ask, begin_all};
 use crate::closing::push_closing;
 use crate::hole::{ReplayFault, follow, line_of};
-use crate::log::{Entry, Log};
-use crate::pruned::{DeadSet, push_pruned};
-use hv_lines::{Draft, Pruner};
+use crate::log::Log;
+use crate::pruned::push_pruned;
+use hv_lines::{Draft, Note, Pruner};
 use hv_sets::StateList;
 use hv_task::{AtomList, State, Task};
 use std::alloc::{AllocError, Global};
@@ -134,7 +134,7 @@ fn put_end(
     task: &Task,
     log: &Log,
     draft: &mut Draft,
-    union: DeadSet,
+    union: Note,
 ) -> Result<(), AllocError>
     requires atoms { log.now.atoms ≡ atoms task.now }
     requires followed { IsFollowed task.now log.now }
@@ -156,7 +156,7 @@ fn put_pruned(
     draft: &mut Draft,
     state: &mut State,
     pruners: &mut [Box<dyn Pruner>],
-) -> Result<DeadSet, ReplayFault>
+) -> Result<Note, ReplayFault>
     requires atoms { log.now.atoms ≡ atoms task.now }
     requires state { IsState task.now state.old }
     requires draft { draft.old.lines ≡ onto prelude [] }
@@ -172,9 +172,9 @@ fn put_pruned(
         → Any (λ b. covers b task state) pruners.new
         ↔ Any (λ b. covers b task state) pruners.old }
 {
-    let mut union = DeadSet { set: 0, line: 0 };
+    let mut union = Note { set: 0, line: 0 };
     for place in 0..log.len() {
-        match put_one(alloc, task, log.entry(place), draft, state, pruners, union)? {
+        match put_one(alloc, task, log, place, draft, state, pruners, union)? {
             Some(more) => union = more,
             None => return Err(ReplayFault::Unjustified(line_of(log, place))),
         }
@@ -187,37 +187,41 @@ fn put_pruned(
 fn put_one(
     alloc: Global,
     task: &Task,
-    entry: &Entry,
+    log: &Log,
+    place: usize,
     draft: &mut Draft,
     state: &mut State,
     pruners: &mut [Box<dyn Pruner>],
-    union: DeadSet,
-) -> Result<Option<DeadSet>, AllocError>
-    requires entry { IsEntry (atoms task.now) entry.now }
+    union: Note,
+) -> Result<Option<Note>, AllocError>
+    requires atoms { log.now.atoms ≡ atoms task.now }
+    requires place { place < length log.now.entries }
     requires state { IsState task.now state.old }
     requires good { IsGoodTable task.now draft.old.lines }
     requires union { (pruned : ℕ) × IsPrunedUnion task.now draft.old.lines pruned union }
     requires fits { (lines : List Line) → Extends task.now draft.old.lines lines
         → All (λ b. fits b task.now lines) pruners.old }
     ensures state { IsState task.now state.new }
-    ensures covered { IfOk result (λ found. MatchOption found
-        ((entry.now.expanded ≡ false) × (Any (λ b. covers b task.now
-        (state_of (atoms task.now) entry.now.state)) pruners.old → ⊥))
-        (λ _. entry.now.expanded ≡ false → Any (λ b. covers b task.now
-        (state_of (atoms task.now) entry.now.state)) pruners.old)) }
-    ensures progress { IfOk result (λ found. IfSome found (λ more. (before : List Entry)
+    ensures covered { (entry : Entry) → StandsAt log.now place entry
+        → IfOk result (λ found. MatchOption found
+        ((entry.expanded ≡ false) × (Any (λ b. covers b task.now
+        (state_of (atoms task.now) entry.state)) pruners.old → ⊥))
+        (λ _. entry.expanded ≡ false → Any (λ b. covers b task.now
+        (state_of (atoms task.now) entry.state)) pruners.old)) }
+    ensures progress { (entry : Entry) → StandsAt log.now place entry
+        → IfOk result (λ found. IfSome found (λ more. (before : List Entry)
         → IsProgress task.now (pruned_in before) draft.old.lines union
-        → IsProgress task.now (pruned_in (before ++ entry.now ∷ [])) draft.new.lines more)) }
+        → IsProgress task.now (pruned_in (before ++ entry ∷ [])) draft.new.lines more)) }
     ensures fits { (lines : List Line) → Extends task.now draft.new.lines lines
         → All (λ b. fits b task.now lines) pruners.new }
     ensures covers { (task : Strips) (state : List Bool)
         → Any (λ b. covers b task state) pruners.new
         ↔ Any (λ b. covers b task state) pruners.old }
 {
-    if entry.expanded {
+    if log.expanded(place) {
         return Ok(Some(union));
     }
-    put_state(alloc, task, &entry.state, draft, state, pruners, union)
+    put_state(alloc, task, log.held(place), draft, state, pruners, union)
 }
 
 // Puts the lines of a pruned state last, and answers with the union of the pruned states with it;
@@ -229,9 +233,9 @@ fn put_state(
     draft: &mut Draft,
     state: &mut State,
     pruners: &mut [Box<dyn Pruner>],
-    union: DeadSet,
-) -> Result<Option<DeadSet>, AllocError>
-    requires held { IsAtomSet task.now held.now }
+    union: Note,
+) -> Result<Option<Note>, AllocError>
+    requires held { IsAtomSet (atoms task.now) held.now }
     requires state { IsState task.now state.old }
     requires good { IsGoodTable task.now draft.old.lines }
     requires union { (pruned : ℕ) × IsPrunedUnion task.now draft.old.lines pruned union }
@@ -267,10 +271,28 @@ fn expanded_states(alloc: Global, log: &Log) -> Result<StateList, AllocError>
     ensures log { IsLog log.now.atoms log.now.entries }
 {
     let mut states = StateList::new(alloc);
-    for entry in log.entries() {
-        if entry.expanded {
-            states.push(entry.state.copy(alloc)?)?;
-        }
+    let _log = log.listed();
+    let count = log.len();
+    for place in 0..count {
+        put_expanded(alloc, log, place, &mut states)?;
     }
     Ok(states)
+}
+
+// Puts the state of an entry last, where it is an expanded one.
+fn put_expanded(
+    alloc: Global,
+    log: &Log,
+    place: usize,
+    states: &mut StateList,
+) -> Result<(), AllocError>
+    requires { place < length log.now.entries }
+    ensures { (entry : Entry) → StandsAt log.now place entry → OnOk result
+        (states.new ≡ states.old ++ expanded_in (entry ∷ [])) }
+{
+    if !log.expanded(place) {
+        return Ok(());
+    }
+    states.push(log.held(place).copy(alloc)?)?;
+    Ok(())
 }

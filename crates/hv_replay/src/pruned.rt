@@ -9,31 +9,22 @@ ghost use Rattle.hv_lines.specs.declared.line.Statement.TheVariants as T;
 ghost use Rattle.hv_replay.specs.PrunedLines.{IsPrunedUnion, pruned_lines, pruned_word, word_of_formula};
 ghost use Rattle.hv_replay.specs.Replayed.{union_after};
 
-use hv_lines::{Draft, Expr, Line, Premises, Statement, Table, Word};
+use hv_lines::{Draft, Expr, Line, Note, Premises, Statement, Table, Word};
 use hv_sets::StateList;
 use hv_task::{AtomList, Task};
 use std::alloc::{AllocError, Global};
 
-/// A set of a draft, and the line that says that it is dead.
-#[derive(Clone, Copy, Debug, PartialEq, Eq)]
-pub struct DeadSet {
-    /// The identifier of the set.
-    pub set: usize,
-    /// The identifier of the line.
-    pub line: usize,
-}
-
 /// Puts the five lines of a pruned state last, of which line `by` says that a literal is dead that
 /// holds it; `union` is the union of the pruned states so far, and the answer is that with this one.
 /// It takes its memory before the first line.
-pub fn push_pruned(
+pub(crate) fn push_pruned(
     alloc: Global,
     draft: &mut Draft,
     task: &Task,
     held: AtomList,
     by: usize,
-    union: DeadSet,
-) -> Result<DeadSet, AllocError>
+    union: Note,
+) -> Result<Note, AllocError>
     requires draft { IsGoodTable task.now draft.old.lines }
     requires below { AreBelow (atoms task.now) held }
     requires dead { IsDeadBy task.now draft.old.lines (state_of (atoms task.now) held) by }
@@ -63,34 +54,34 @@ pub fn push_pruned(
     let word = pruned_word(draft.table(), holder.set);
     let lines = pruned_lines(alloc, next, held, word, holder, union)?;
     draft.push_all(task, lines);
-    Ok(DeadSet {
+    Ok(Note {
         set: next.set + 1,
         line: next.line + 2,
     })
 }
 
 // The identifiers of the next set and of the next statement.
-pub(crate) fn next_in(table: &Table) -> DeadSet
+pub(crate) fn next_in(table: &Table) -> Note
     ensures set { result.set ≡ expr_count table.now.lines }
     ensures line { result.line ≡ known_count table.now.lines }
     ensures small_set { result.set < 2 ^ 63 }
     ensures small_line { result.line < 2 ^ 63 }
 {
-    DeadSet {
+    Note {
         set: table.expr_count(),
         line: table.known_count(),
     }
 }
 
 // The set that this line says to be dead.
-fn dead_by(table: &Table, line: usize) -> DeadSet
+fn dead_by(table: &Table, line: usize) -> Note
     requires { (set : ℕ) × Says table.now.lines line (T.Dead set) }
     ensures line { result.line ≡ line }
     ensures says { Says table.now.lines line (T.Dead result.set) }
 {
     let _count = table.known_count();
     match *table.statement(line) {
-        Statement::Dead(set) => DeadSet { set, line },
+        Statement::Dead(set) => Note { set, line },
         _ => unreachable!(),
     }
 }
@@ -99,11 +90,11 @@ fn dead_by(table: &Table, line: usize) -> DeadSet
 // statement.
 fn pruned_lines(
     alloc: Global,
-    next: DeadSet,
+    next: Note,
     held: AtomList,
     word: Word,
-    holder: DeadSet,
-    union: DeadSet,
+    holder: Note,
+    union: Note,
 ) -> Result<Vec<Line>, AllocError>
     requires set { next.set + 1 < 2 ^ 64 }
     requires line { next.line + 2 < 2 ^ 64 }

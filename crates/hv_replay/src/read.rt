@@ -63,7 +63,7 @@ pub fn read_log<S: Shelf>(
                     return Err(error.at(lines.number()));
                 }
             }
-            Ok(Next::End) => return reader.end(lines.number() + 1),
+            Ok(Next::End) => return reader.end(task, lines.number() + 1),
             Err(fault) => return Err(line_fault(fault, lines.number() + 1)),
         }
     }

@@ -1,4 +1,5 @@
 ghost use Rattle.std.specs.Prelude.{◌≡◌, ◌+◌, ◌≤◌, ◌∷◌, ◌++◌, [], false, length, IfOk};
+ghost use Rattle.hv_task.specs.Strips.{atoms};
 ghost use Rattle.hv_replay.specs.declared.reader.FeedError.TheVariants as E;
 ghost use Rattle.hv_replay.specs.Logs.{IsEntry, listed_bytes, no_entries};
 ghost use Rattle.hv_replay.specs.LogText.{PassesCount};
@@ -7,7 +8,8 @@ ghost use Rattle.hv_replay.specs.Reading.{Ends, Feeds, IsReady, TakesEntry, faul
 use crate::counts::Counts;
 use crate::fault::{LogFault, LogLimit};
 use crate::line::entry_of;
-use crate::log::{Entry, Log};
+use crate::log::{Entries, Entry, Log};
+use hv_task::Task;
 use std::alloc::{AllocError, Global};
 
 /// Why a line isn't taken.
@@ -42,7 +44,7 @@ impl From<AllocError> for FeedError {
 /// Reads a log line by line: what was read so far, and whether its last line was.
 #[derive(Drop)]
 pub struct Reader {
-    log: Log,
+    log: Entries,
     counts: Counts,
     ended: bool,
 }
@@ -56,7 +58,7 @@ impl Reader {
         ensures ended { result.ended ≡ false }
     {
         Reader {
-            log: Log::empty(alloc, atoms),
+            log: Entries::empty(alloc, atoms),
             counts: Counts {
                 expanded: 0,
                 pruned: 0,
@@ -102,14 +104,16 @@ impl Reader {
         }
     }
 
-    /// The log, where the text ends here, before the line of this number.
-    pub fn end(self, number: u64) -> Result<Log, LogFault>
-        requires { IsReady self }
+    /// The log, of states of the task, where the text ends here, before the line of this number.
+    pub fn end(self, task: &Task, number: u64) -> Result<Log, LogFault>
+        requires ready { IsReady self }
+        requires atoms { self.log.atoms ≡ atoms task.now }
         ensures { Ends result self number }
     {
         if !self.ended {
             return Err(LogFault::Place(number));
         }
-        Ok(self.log)
+        let log = Log::new(task, self.log)?;
+        Ok(log)
     }
 }

@@ -2,7 +2,8 @@ ghost use Rattle.std.specs.Prelude.{◌≡◌, ◌<◌, ◌≤◌, [], IfOk, OnO
 ghost use Rattle.hv_task.specs.State.{AreBelow};
 ghost use Rattle.hv_task.specs.Strips.{IsOver, atoms};
 
-use crate::{Log, LogFault, ReplayFault, follow, read_log, replay};
+use crate::hole::follow;
+use crate::{Log, LogFault, ReplayFault, read_log, replay};
 use hv_bytes::{MemoryShelf, SureShelf};
 use hv_lines::{Draft, Pruner};
 use hv_task::{Action, AtomList, Name, State, Task};
@@ -63,7 +64,31 @@ const HOLES: &[(&str, &str)] = &[
     ("x 0\nx 1\np 2\nend\n", "none"),
 ];
 
-/// Logs of this task, and what is answered where no state is covered.
+/// Actions of a task with four atoms. None adds the goal, the last atom. Action 3 has no precondition,
+/// and action 5 deletes and adds the same atom.
+const ACTIONS: [(u32, u32, u32); 6] = [
+    (0b0101, 0b0010, 0b0001),
+    (0b0010, 0b0100, 0b0010),
+    (0b0001, 0b0100, 0b0001),
+    (0, 0b0001, 0),
+    (0b0011, 0, 0b0011),
+    (0b0100, 0b0100, 0b0100),
+];
+
+/// Logs of this task, and their first holes. In the state of 0 and 1 the actions 1 to 4
+/// are applicable, and lead to the states of 0 and 2, of 1 and 2, of 0 and 1, and to the empty one.
+const EXITS: &[(&str, &str)] = &[
+    ("x 0 1\nend\n", "line 1 action 1"),
+    ("x 0 1\np 0 2\nend\n", "line 1 action 2"),
+    ("p\nx 0 1\np 0 2\nend\n", "line 2 action 2"),
+    ("x 0 1\np 0 2\np 1 2\nend\n", "line 1 action 4"),
+    ("x 0 1\np 0 2\np 1 2\np\nend\n", "none"),
+    ("p\nx 0 1\np 1 2\np 0 2\nx\nend\n", "line 5 action 3"),
+    ("x 0 1\nx 0 2\np 1 2\np\nend\n", "line 2 action 2"),
+    ("x 0 1\nx 0 2\np 1 2\np\np 2\nend\n", "none"),
+];
+
+/// Logs of the first task, and what is answered where no state is covered.
 const REPLAYS: &[(&str, &str)] = &[
     ("x 0\nx 1\nend\n", "17 lines"),
     ("x 1\nx 0\nx 0\nend\n", "17 lines"),
@@ -140,6 +165,70 @@ fn step(alloc: Global, from: u32, to: u32) -> Result<Action, AllocError>
     })
 }
 
+fn put_bit(list: &mut AtomList, bits: u32, atom: u32) -> Result<(), AllocError>
+    requires atom { atom < 4 }
+    requires list { AreBelow 4 list.old }
+    ensures { OnOk result (AreBelow 4 list.new) }
+{
+    if (bits >> atom) & 1 == 0 {
+        return Ok(());
+    }
+    list.insert(atom)?;
+    Ok(())
+}
+
+// The atoms below 4 whose bits are 1.
+fn atoms_of(alloc: Global, bits: u32) -> Result<AtomList, AllocError>
+    ensures { IfOk result (λ list. AreBelow 4 list) }
+{
+    let mut list = AtomList::new(alloc);
+    put_bit(&mut list, bits, 0)?;
+    put_bit(&mut list, bits, 1)?;
+    put_bit(&mut list, bits, 2)?;
+    put_bit(&mut list, bits, 3)?;
+    Ok(list)
+}
+
+// An action that asks for these atoms, adds and deletes these.
+fn acting(alloc: Global, pre: u32, add: u32, del: u32) -> Result<Action, AllocError>
+    ensures { IfOk result (λ action. IsOver 4 action) }
+{
+    Ok(Action {
+        name: Name::new(alloc, b"act")?,
+        cost: 1,
+        pre: atoms_of(alloc, pre)?,
+        add: atoms_of(alloc, add)?,
+        del: atoms_of(alloc, del)?,
+    })
+}
+
+// A task of four atoms, of which the first two are true at the start and the last is the goal.
+fn bare_task(alloc: Global) -> Result<Task, AllocError>
+    ensures atoms { IfOk result (λ task. atoms task ≡ 4) }
+    ensures actions { IfOk result (λ task. length task.actions ≡ 0) }
+{
+    let mut task = Task::new(alloc);
+    task.add_atom(Name::new(alloc, b"p")?)?;
+    task.add_atom(Name::new(alloc, b"q")?)?;
+    task.add_atom(Name::new(alloc, b"r")?)?;
+    task.add_atom(Name::new(alloc, b"g")?)?;
+    task.set_start(atoms_of(alloc, 0b0011)?);
+    task.set_goal(atoms_of(alloc, 0b1000)?);
+    Ok(task)
+}
+
+// The same task with these actions: what each asks for, adds and deletes.
+fn task_of_four(alloc: Global, actions: &[(u32, u32, u32)]) -> Result<Task, AllocError>
+    requires { length actions.now ≤ 100 }
+    ensures { IfOk result (λ task. atoms task ≡ 4) }
+{
+    let mut task = bare_task(alloc)?;
+    for action in actions {
+        task.add_action(acting(alloc, action.0, action.1, action.2)?)?;
+    }
+    Ok(task)
+}
+
 fn read(alloc: Global, task: &Task, text: &[u8]) -> Result<Log, LogFault>
     ensures { IfOk result (λ log. log.atoms ≡ atoms task.now) }
 {
@@ -206,6 +295,16 @@ fn logs_and_their_first_faults(rt: HostRuntime) -> Result<(), Fail> {
 fn logs_and_their_first_holes(rt: HostRuntime) -> Result<(), Fail> {
     let task = task_of_three(rt.alloc())?;
     for (text, want) in HOLES {
+        let told = hole(rt.alloc(), &task, text.as_bytes())?;
+        assert_eq!(rt; told.as_str(), *want, "{text:?}");
+    }
+    Ok(())
+}
+
+#[test]
+fn least_actions_that_lead_out(rt: HostRuntime) -> Result<(), Fail> {
+    let task = task_of_four(rt.alloc(), &ACTIONS)?;
+    for (text, want) in EXITS {
         let told = hole(rt.alloc(), &task, text.as_bytes())?;
         assert_eq!(rt; told.as_str(), *want, "{text:?}");
     }

@@ -1,8 +1,6 @@
-use Rattle.std.proofs.Common.{◌≡◌, map, take}
-use Rattle.std.specs.List.{filter}
-use Rattle.hv_replay.specs.declared.log.Entry.{Entry}
+use Rattle.std.proofs.Common.{◌≡◌, take}
+use Rattle.hv_replay.specs.Expanded.{expanded_in}
 use Rattle.hv_replay.proofs.proof.expanded_states.Given as goal
 
-abbrev pub invariant-loop-entry : goal.invariant-loop-entry
-invariant-loop-entry l =
-    l.states ≡ map (λ (entry : Entry). entry.state) (filter (λ (entry : Entry). entry.expanded) (take l.entry-index l.log.entries))
+abbrev pub invariant-loop-place : goal.invariant-loop-place
+invariant-loop-place l = l.states ≡ expanded_in (take l.place l.log.entries)

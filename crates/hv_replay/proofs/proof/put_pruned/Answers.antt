@@ -1,13 +1,14 @@
-use Rattle.std.proofs.Common.{◌≡◌, ◌≤◌, false, arith, length}
+use Rattle.std.proofs.Common.{◌≡◌, ◌<◌, ◌≤◌, false, arith, length}
 use Rattle.std.proofs.lemmas.Option.{slice_get_within}
 use Rattle.hv_task.specs.State.{state_of}
 use Rattle.hv_task.specs.Strips.{atoms}
+use Rattle.hv_replay.proofs.Kept.{entry_there}
 use Rattle.hv_replay.proofs.Replaying.{first_uncovered, justified_all, next_justified, progress_begins, progress_next}
 use Rattle.hv_replay.proofs.Several.{AnyOf, both, found_some, match_none, match_some}
 use Rattle.hv_replay.specs.Progress.{IsProgress}
 use Rattle.hv_replay.specs.Replayed.{pruned_in}
 use Rattle.hv_replay.specs.declared.log.Entry.{Entry}
-use Rattle.hv_replay.specs.declared.pruned.DeadSet.{DeadSet}
+use Rattle.hv_lines.specs.declared.note.Note.{Note}
 use Rattle.std.proofs.Common.{List, ◌++◌, ◌∷◌, [], take}
 use Rattle.hv_replay.proofs.proof.put_pruned.Goals as goal
 
@@ -26,19 +27,21 @@ returns-in_err-more-clause-covers g c = λ task state.
 
 pub returns-in-None-clause-uncovered : goal.returns-in-None-clause-uncovered
 returns-in-None-clause-uncovered g c =
-    let here = state_of (atoms c.args.task.now) c.entry.result.now.state in
+    let within : c.loop-place.place < length c.args.log.now.entries = omega (arith, c.len-place-end.ensures, c.loop-place-test.true) in
+    let w = entry_there c.args.log.now c.loop-place.place within in
+    let here = state_of (atoms c.args.task.now) w.0.state in
     let is = match_none c.in_ok-more.field-0
-    ((c.entry.result.now.expanded ≡ false)
+    ((w.0.expanded ≡ false)
     × (AnyOf c.loop-place.pruners (λ b. (goal.Pruner-dyn g (b.vtable, b.value)).covers b.value c.args.task.now here) → ⊥))
-    (c.entry.result.now.expanded ≡ false
+    (w.0.expanded ≡ false
     → AnyOf c.loop-place.pruners (λ b. (goal.Pruner-dyn g (b.vtable, b.value)).covers b.value c.args.task.now here))
-    c.in-None.is c.in_ok-more.ensures.covered in (
+    c.in-None.is (c.in_ok-more.ensures.covered w.0 w.1) in (
       c.loop-place.place,
       c.line_of.ensures,
-      slice_get_within c.args.log.now.entries c.loop-place.place c.entry.result.now c.entry.ensures.stands,
+      slice_get_within c.args.log.now.entries c.loop-place.place w.0 w.1,
       first_uncovered c.args.log.now (atoms c.args.task.now) c.requires.atoms
           (λ state. AnyOf c.args.pruners.now (λ b. (goal.Pruner-dyn g (b.vtable, b.value)).covers b.value c.args.task.now state))
-          c.loop-place.place c.entry.result.now c.entry.ensures.stands c.loop-place.invariant.justified is.0
+          c.loop-place.place w.0 w.1 c.loop-place.invariant.justified is.0
           (λ any. is.1 ((c.loop-place.invariant.covers c.args.task.now here).1 any)),
     )
 
@@ -48,27 +51,29 @@ returns-in-None-clause-covers g c = λ task state.
 
 pub loop-place-preserved : goal.loop-place-preserved
 loop-place-preserved g c =
-    let here = state_of (atoms c.args.task.now) c.entry.result.now.state in
+    let within : c.loop-place.place < length c.args.log.now.entries = omega (arith, c.len-place-end.ensures, c.loop-place-test.true) in
+    let w = entry_there c.args.log.now c.loop-place.place within in
+    let here = state_of (atoms c.args.task.now) w.0.state in
     record {
       state = c.put_one.ensures.state;
-      progress = progress_next c.args.task.now c.args.log.now c.loop-place.place c.entry.result.now c.put_one.new.draft.lines c.in-Some.more
-          c.entry.ensures.stands
+      progress = progress_next c.args.task.now c.args.log.now c.loop-place.place w.0 c.put_one.new.draft.lines c.in-Some.more
+          w.1
           (found_some c.in_ok-more.field-0 c.in-Some.more
-          (λ (more : DeadSet). (before : List Entry)
+          (λ (more : Note). (before : List Entry)
           → IsProgress c.args.task.now (pruned_in before) c.loop-place.draft.lines c.loop-place.union
-          → IsProgress c.args.task.now (pruned_in (before ++ c.entry.result.now ∷ [])) c.put_one.new.draft.lines more)
-          c.in-Some.is c.in_ok-more.ensures.progress (take c.loop-place.place c.args.log.now.entries) c.loop-place.invariant.progress);
+          → IsProgress c.args.task.now (pruned_in (before ++ w.0 ∷ [])) c.put_one.new.draft.lines more)
+          c.in-Some.is (c.in_ok-more.ensures.progress w.0 w.1) (take c.loop-place.place c.args.log.now.entries) c.loop-place.invariant.progress);
       justified = next_justified c.args.log.now (atoms c.args.task.now) c.requires.atoms
           (λ state. AnyOf c.args.pruners.now (λ b. (goal.Pruner-dyn g (b.vtable, b.value)).covers b.value c.args.task.now state))
-          c.loop-place.place c.entry.result.now c.entry.ensures.stands c.loop-place.invariant.justified
+          c.loop-place.place w.0 w.1 c.loop-place.invariant.justified
           (λ plain.
           (c.loop-place.invariant.covers c.args.task.now here).0
           (match_some c.in_ok-more.field-0 c.in-Some.more
-          ((c.entry.result.now.expanded ≡ false)
+          ((w.0.expanded ≡ false)
           × (AnyOf c.loop-place.pruners (λ b. (goal.Pruner-dyn g (b.vtable, b.value)).covers b.value c.args.task.now here) → ⊥))
-          (c.entry.result.now.expanded ≡ false
+          (w.0.expanded ≡ false
           → AnyOf c.loop-place.pruners (λ b. (goal.Pruner-dyn g (b.vtable, b.value)).covers b.value c.args.task.now here))
-          c.in-Some.is c.in_ok-more.ensures.covered plain));
+          c.in-Some.is (c.in_ok-more.ensures.covered w.0 w.1) plain));
       covers = λ task state. both (c.put_one.ensures.covers task state) (c.loop-place.invariant.covers task state);
       fits = c.put_one.ensures.fits;
     }

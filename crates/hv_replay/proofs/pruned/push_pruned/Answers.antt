@@ -7,7 +7,7 @@ use Rattle.hv_lines.specs.Pruning.{Extends, states_in}
 use Rattle.hv_lines.specs.declared.line.Statement.TheVariants as T
 use Rattle.hv_lines.proofs.Extended.{extends_by}
 use Rattle.hv_replay.specs.PrunedLines.{IsPrunedUnion, pruned_lines, pruned_word}
-use Rattle.hv_replay.specs.declared.pruned.DeadSet.{DeadSet}
+use Rattle.hv_lines.specs.declared.note.Note.{Note}
 use Rattle.hv_replay.proofs.Putting.{IsNextOf, holder_below, next_of, put_inside, put_keeps, put_pruned, put_union, union_as}
 use Rattle.hv_replay.proofs.pruned.push_pruned.Goals as goal
 
@@ -83,7 +83,7 @@ returns-clause-extends c =
 pub returns-clause-union : goal.returns-clause-union
 returns-clause-union c =
     let old = c.args.draft.now.lines in
-    let all : DeadSet = record { set = c.next_in-next.result.set + 1; line = c.next_in-next.result.line + 2 } in
+    let all : Note = record { set = c.next_in-next.result.set + 1; line = c.next_in-next.result.line + 2 } in
     λ pruned is.
     subst (λ lines. IsPrunedUnion c.args.task.now lines (pruned + 1) all) (sym (same c))
     (put_union c.args.task.now c.atoms-atoms.ensures.task old c.requires.draft c.args.held

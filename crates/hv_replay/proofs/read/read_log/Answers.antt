@@ -36,7 +36,7 @@ feed-requires g c = record {
 }
 
 pub end-requires : goal.end-requires
-end-requires g c = c.reading.invariant.0.ready
+end-requires g c = record { ready = c.reading.invariant.0.ready; atoms = c.reading.invariant.1 }
 
 pub returns-in-Err-feed-clause-read : goal.returns-in-Err-feed-clause-read
 returns-in-Err-feed-clause-read g c =

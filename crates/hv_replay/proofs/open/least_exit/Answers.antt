@@ -1,0 +1,50 @@
+use Rattle.std.proofs.Common.{◌<◌, ℕ, ap, arith, below_more, get_or, length, subst, sym}
+use Rattle.hv_task.specs.State.{state_of}
+use Rattle.hv_task.specs.Strips.{atoms}
+use Rattle.hv_replay.specs.Following.{Stays}
+use Rattle.hv_replay.specs.Waiting.{IsIn}
+use Rattle.hv_replay.proofs.Exits.{all_asked, exit_more}
+use Rattle.hv_replay.proofs.open.least_exit.Goals as goal
+
+pub loop-atom-preserved : goal.loop-atom-preserved
+loop-atom-preserved c =
+    let i = c.loop-atom.invariant in
+    let e = c.least_in-least-in-loop-atom.ensures in
+    let task = c.args.task.now in
+    let held = c.args.held.now in
+    let new = c.least_in-least-in-loop-atom.result in
+    let upto = e.upto in
+    let P : ℕ → Type 0 = λ k. Stays task c.args.listed.now (state_of (atoms task) held) k in
+    record {
+      upto = let bound = i.upto in omega arith;
+      last = λ action row less. i.last action row (omega arith);
+      each = below_more (λ k. (action : ℕ) → IsIn c.args.rows.now.items (get_or held k 0) action → action < new → P action) c.loop-atom.atom-index
+          (λ k lt action row less. i.each k lt action row (omega arith))
+          (λ action row less. e.stay action
+          (subst (λ xs. IsIn c.args.rows.now.items (get_or xs c.loop-atom.atom-index 0) action) (sym c.as_slice-atom-items.ensures.items) row) less);
+      exit = exit_more P (length task.actions) c.loop-atom.least new upto i.exit e.exit;
+    }
+
+pub returns-then-least-count : goal.returns-then-least-count
+returns-then-least-count c =
+    let i = c.loop-atom.invariant in
+    let many = ap length c.as_slice-atom-items.ensures.items in
+    let past = c.loop-atom-test.false in
+    let all = c.if-least-count.true in
+    let count = c.actions-count.ensures.actions in
+    λ k less.
+    all_asked c.args.task.now c.args.listed.now c.args.held.now c.requires.held c.args.rows.now.items c.requires.rows c.loop-atom.least
+    i.last (λ j within. i.each j (omega arith)) k (omega arith)
+
+pub returns : goal.returns
+returns c =
+    let i = c.loop-atom.invariant in
+    let many = ap length c.as_slice-atom-items.ensures.items in
+    let past = c.loop-atom-test.false in
+    let upto = i.upto in
+    let other = c.if-least-count.false in
+    let count = c.actions-count.ensures.actions in (
+      i.exit (omega arith),
+      all_asked c.args.task.now c.args.listed.now c.args.held.now c.requires.held c.args.rows.now.items c.requires.rows c.loop-atom.least
+          i.last (λ j within. i.each j (omega arith)),
+    )
