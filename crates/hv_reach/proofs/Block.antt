@@ -7,7 +7,7 @@ use Rattle.hv_task.specs.Strips.{Strips, IsTask, atoms, start_state}
 use Rattle.hv_sets.specs.Kinds.{IsHornClause}
 use Rattle.hv_sets.specs.Truth.{in_clauses}
 use Rattle.hv_sets.specs.declared.literal.Literal.{Literal}
-use Rattle.hv_lines.specs.Drafts.{IsGoodTable, draft_setting, onto, prelude}
+use Rattle.hv_lines.specs.Drafts.{IsGoodTable, default_budget, draft_setting, onto, prelude}
 use Rattle.hv_lines.specs.Good.{IsGood}
 use Rattle.hv_lines.specs.Judged.{Concludes}
 use Rattle.hv_lines.specs.Meaning.{sets_of}
@@ -28,7 +28,7 @@ use Rattle.hv_lines.proofs.Carried.{expr_onto, known_onto}
 use Rattle.hv_lines.proofs.Drafting.{below_three, below_two, concludes, formed_expr, formed_known, good_conclusion, good_expr, good_prelude, good_rule, table_of}
 use Rattle.hv_lines.proofs.Laws.{acts_below, expr_at_here, expr_below, known_below, set_in, set_out, statement_at_here}
 use Rattle.hv_lines.proofs.Lengths.{IsSmall, short_after, short_and, short_horn, short_known, short_or}
-use Rattle.hv_reach.specs.Written.{IsDeadEnd, IsDenial, Separates, dead_block, horn_proof}
+use Rattle.hv_reach.specs.Written.{IsDeadEnd, IsDenial, Separates, dead_block, horn_proof, with_budget}
 
 -- what a clause of denials is: Horn, small, and over the task's atoms
 
@@ -222,20 +222,22 @@ module _ (task : Strips) (is_task : IsTask task) (old : List Line) (good : IsGoo
   goal_horn : IsHornSet B4 2
   goal_horn = constant_horn B4 2 C.Goal at_goal
 
-  line5 : IsGood setting B4 L5
-  line5 =
-      good_b2 setting B4 table4 k (m + 1) (m + 2) (m ∷ []) (0 ∷ m ∷ [])
+  -- the basic statements are good with each budget that the clauses don't pass
+  pub line5 : (budget : ℕ) → length clauses ≤ budget → IsGood (with_budget task budget) B4 L5
+  line5 budget enough =
+      good_b2 (with_budget task budget) B4 table4 k (m + 1) (m + 2) (m ∷ []) (0 ∷ m ∷ [])
       (leaves_ba or_parts B4 (m + 2) m 0 (E.Or m 0) at_or refl (one_leaf or_parts B4 m (E.Horn clauses) at_set refl)
       (one_leaf or_parts B4 0 (E.Constant C.Empty) at_empty refl))
       (horn_one B4 m set_horn) (horn_two B4 0 m empty_horn set_horn) (omega arith)
       (λ late. rises_one late m) (λ late. rises_two late 0 m (omega (arith, two_below)))
       (omega (
         arith,
-        dead.few,
-        product_two setting B4 0 m (length clauses) (empty_clauses setting B4 0 at_empty) (horn_clauses setting B4 m clauses at_set),
+        enough,
+        product_two (with_budget task budget) B4 0 m (length clauses) (empty_clauses (with_budget task budget) B4 0 at_empty)
+            (horn_clauses (with_budget task budget) B4 m clauses at_set),
       ))
       m 0 at_after (one_leaf and_parts B4 m (E.Horn clauses) at_set refl)
-      (formed_known setting B4 k (T.Sub (m + 1) (m + 2)) W.B2 [] (omega (arith, k_few)) (omega (arith, m_few), omega (arith, m_few))
+      (formed_known (with_budget task budget) B4 k (T.Sub (m + 1) (m + 2)) W.B2 [] (omega (arith, k_few)) (omega (arith, m_few), omega (arith, m_few))
       (All-nil FitsDecimal) refl k_is (omega (arith, m_is), omega (arith, m_is)) (All-nil (λ x. x < known_count B4)))
       (λ number a named state is_state applies inside. (
         m,
@@ -248,7 +250,7 @@ module _ (task : Strips) (is_task : IsTask task) (old : List Line) (good : IsGoo
   good5 : IsGoodTable task B5
   good5 = (
     record {
-      good = line5;
+      good = line5 default_budget dead.few;
       short = short_known k (T.Sub (m + 1) (m + 2)) W.B2 [] (omega (arith, k_few)) (omega (arith, m_few), omega (arith, m_few))
           (All-nil FitsDecimal) (omega arith) (omega arith);
     },
@@ -258,17 +260,17 @@ module _ (task : Strips) (is_task : IsTask task) (old : List Line) (good : IsGoo
   table5 : IsTable B5
   table5 = table_of task B5 good5
 
-  line6 : IsGood setting B5 L6
-  line6 =
-      good_b1 setting B5 table5 (k + 1) (m + 3) 0 (2 ∷ m ∷ []) (0 ∷ [])
+  pub line6 : (budget : ℕ) → 0 < budget → IsGood (with_budget task budget) B5 L6
+  line6 budget some =
+      good_b1 (with_budget task budget) B5 table5 (k + 1) (m + 3) 0 (2 ∷ m ∷ []) (0 ∷ [])
       (one_leaf or_parts B5 0 (E.Constant C.Empty) at_empty refl)
       (horn_two B5 2 m (constant_horn B5 2 C.Goal at_goal) (formula_horn B5 m clauses at_set))
       (horn_one B5 0 (constant_horn B5 0 C.Empty at_empty)) (omega arith)
       (λ late. rises_two late 2 m two_below) (λ late. rises_one late 0)
-      (omega (arith, product_one setting B5 0 1 (empty_clauses setting B5 0 at_empty)))
+      (omega (arith, some, product_one (with_budget task budget) B5 0 1 (empty_clauses (with_budget task budget) B5 0 at_empty)))
       (leaves_ba and_parts B5 (m + 3) m 2 (E.And m 2) at_and refl (one_leaf and_parts B5 m (E.Horn clauses) at_set refl)
       (one_leaf and_parts B5 2 (E.Constant C.Goal) at_goal refl))
-      (formed_known setting B5 (k + 1) (T.Sub (m + 3) 0) W.B1 [] (omega (arith, k_few)) (omega (arith, m_few), zero_fits)
+      (formed_known (with_budget task budget) B5 (k + 1) (T.Sub (m + 3) 0) W.B1 [] (omega (arith, k_few)) (omega (arith, m_few), zero_fits)
       (All-nil FitsDecimal) refl (omega (arith, k_is)) (omega (arith, m_is), omega arith) (All-nil (λ x. x < known_count B5)))
       (λ state is_state inside.
       absurd (dead.goalless state is_state
@@ -278,7 +280,7 @@ module _ (task : Strips) (is_task : IsTask task) (old : List Line) (good : IsGoo
   good6 : IsGoodTable task B6
   good6 = (
     record {
-      good = line6;
+      good = line6 default_budget (omega arith);
       short = short_known (k + 1) (T.Sub (m + 3) 0) W.B1 [] (omega (arith, k_few)) (omega (arith, m_few), zero_fits) (All-nil FitsDecimal)
           (omega arith) (omega arith);
     },
@@ -381,25 +383,25 @@ module _ (task : Strips) (is_task : IsTask task) (clauses : List (List Literal))
       set_in task (draft_setting task).nodes Block 3 (E.Horn clauses) block_table set_at state
       (subst (λ s. in_clauses clauses s ≡ true) (sym same) separates.starts)
 
-  first : IsGood (draft_setting task) Block (L.Known 5 (T.Sub 1 3) W.B1 [])
-  first =
-      good_b1 (draft_setting task) Block block_table 5 1 3 (1 ∷ []) (3 ∷ [])
+  pub first : (budget : ℕ) → length clauses ≤ budget → IsGood (with_budget task budget) Block (L.Known 5 (T.Sub 1 3) W.B1 [])
+  first budget enough =
+      good_b1 (with_budget task budget) Block block_table 5 1 3 (1 ∷ []) (3 ∷ [])
       (one_leaf or_parts Block 3 (E.Horn clauses) set_at refl) (horn_one Block 1 (constant_horn Block 1 C.Start start_at))
       (horn_one Block 3 (formula_horn Block 3 clauses set_at)) (omega arith) (λ late. rises_one late 1) (λ late. rises_one late 3)
       (omega (
         arith,
-        separates.dead.few,
-        product_one (draft_setting task) Block 3 (length clauses) (horn_clauses (draft_setting task) Block 3 clauses set_at),
+        enough,
+        product_one (with_budget task budget) Block 3 (length clauses) (horn_clauses (with_budget task budget) Block 3 clauses set_at),
       ))
       (one_leaf and_parts Block 1 (E.Constant C.Start) start_at refl)
-      (formed_known (draft_setting task) Block 5 (T.Sub 1 3) W.B1 [] (omega arith) (omega arith, omega arith) (All-nil FitsDecimal) refl
+      (formed_known (with_budget task budget) Block 5 (T.Sub 1 3) W.B1 [] (omega arith) (omega arith, omega arith) (All-nil FitsDecimal) refl
       refl (omega arith, omega arith) (All-nil (λ x. x < known_count Block)))
       (λ state is_state inside. (3, (0, omega arith, refl), holds_start state (inside 1 (0, omega arith, refl))))
 
   -- the sixteen lines are good, and conclude
   pub good_horn_proof : IsGoodTable task (horn_proof clauses)
   good_horn_proof =
-      good_conclusion task Block good_start_block 5 3 4 refl (omega arith) (omega arith) start_at (omega arith) refl first
+      good_conclusion task Block good_start_block 5 3 4 refl (omega arith) (omega arith) start_at (omega arith) refl (first default_budget separates.dead.few)
 
   pub horn_concludes : Concludes (horn_proof clauses)
   horn_concludes = concludes task Block 5 3 4

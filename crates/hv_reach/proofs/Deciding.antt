@@ -2,26 +2,10 @@
 use Rattle.std.proofs.Common.{◌≡◌, ℕ, suc, ◌⊎◌, ◌↔◌, Bool, true, false, List, [], ◌∷◌, refl, inl, inr, arith}
 use Rattle.std.proofs.lemmas.List.Elements.{All-cons, All-contains, All-nil}
 use Rattle.std.specs.List.{All, Contains}
-use Rattle.hv_task.specs.State.{names_atom}
 use Rattle.hv_task.specs.Strips.{Strips}
-use Rattle.hv_task.proofs.Places.{names_atom-Decides}
 use Rattle.hv_reach.specs.Reached.{HasPairsOf, ReachedAtom, ReachedPair}
 use Rattle.hv_reach.specs.Written.{PairsExcludeFrom, RelaxedExcludesFrom}
-use Rattle.hv_reach.proofs.Denials.{bool_dec, false_true, lacks_one}
-
-module _ (task : Strips) (start : List Bool) (list : List ℕ) (each : (p : ℕ) → Contains list p ↔ ReachedAtom task start p) where
-  pub named_reached : (p : ℕ) → (names_atom list p ≡ true) ↔ ReachedAtom task start p
-  named_reached p =
-      let tells = names_atom-Decides list p in
-      (λ is. (each p).0 (tells.0 is), λ reached. tells.1 ((each p).1 reached))
-
-  pub relaxed_excludes : (All (λ p. Contains list p) task.goal → ⊥) → RelaxedExcludesFrom task start
-  relaxed_excludes out =
-      let w = lacks_one list task.goal out in
-      (w.0, w.1, λ reached. w.2 ((each w.0).1 reached))
-
-  pub relaxed_reached : All (λ p. Contains list p) task.goal → RelaxedExcludesFrom task start → ⊥
-  relaxed_reached all (p, at, out) = out ((each p).0 (All-contains (λ x. Contains list x) task.goal p all at))
+use Rattle.hv_reach.proofs.Denials.{bool_dec, false_true}
 
 -- all of a row, or one that isn't in it
 row_cases : (r : ℕ → ℕ → Bool) (p : ℕ) (qs : List ℕ) → All (λ q. r p q ≡ true) qs ⊎ ((q : ℕ) × Contains qs q × (r p q ≡ false))
@@ -34,6 +18,17 @@ row_cases r p (q ∷ qs) =
       ]
       | inr fails ↦ inr (q, (0, omega arith, refl), fails)
     ]
+
+module _ (task : Strips) (start : List Bool) (r : ℕ → Bool) (each : (p : ℕ) → (r p ≡ true) ↔ ReachedAtom task start p) where
+  pub relaxed_excludes : (All (λ p. r p ≡ true) task.goal → ⊥) → RelaxedExcludesFrom task start
+  relaxed_excludes out =
+      elim (row_cases (λ _ q. r q) 0 task.goal) [
+        | inl all ↦ absurd (out all)
+        | inr w ↦ (w.0, w.1, λ reached. false_true (r w.0) w.2 ((each w.0).1 reached))
+      ]
+
+  pub relaxed_reached : All (λ p. r p ≡ true) task.goal → RelaxedExcludesFrom task start → ⊥
+  relaxed_reached all (p, at, out) = out ((each p).0 (All-contains (λ x. r x ≡ true) task.goal p all at))
 
 -- all pairs, or one that isn't there
 pair_cases : (r : ℕ → ℕ → Bool) (ps qs : List ℕ)

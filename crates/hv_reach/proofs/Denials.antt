@@ -128,7 +128,7 @@ most_pairs : triangle 1024 ≡ 524800
 unfolding triangle
 most_pairs = refl
 
-pub pairs_few : (n : ℕ) (r : ℕ → ℕ → Bool) → n ≤ 1024 → length (pairs_formula n r) ≤ 1000000
+pub pairs_few : (n : ℕ) (r : ℕ → ℕ → Bool) → n ≤ 1024 → length (pairs_formula n r) ≤ 524800
 pairs_few n r few =
     let more = triangle_more n (1024 - n) in
     let upto : triangle (n + (1024 - n)) ≡ 524800 = ap triangle (omega (arith, few)) ∙ most_pairs in
@@ -366,7 +366,7 @@ module _ (task : Strips) (start : List Bool) (r : ℕ → ℕ → Bool) (is : (p
   pairs_dead : IsDeadEnd task (pairs_formula (atoms task) r)
   pairs_dead = record {
     denials = pairs_denials (atoms task) r;
-    few = pairs_few (atoms task) r few;
+    few = omega (arith, pairs_few (atoms task) r few);
     stays = λ k a at s is_state applies holds.
         pairs_from (atoms task) (successor a s) (length-successor a s ∙ is_state) r
         (pairs_stay task start r pair_closed k a at s applies (pairs_to (atoms task) s is_state r pair_closed.even holds));

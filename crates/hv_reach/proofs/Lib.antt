@@ -10,5 +10,7 @@ pub mod Denials
 pub mod Block
 pub mod Deciding
 pub mod Proofs
-pub mod Passing
+pub mod Modest
+pub mod Found
+pub mod Described
 pub mod Writing

@@ -1,9 +1,10 @@
 -- What stands after a pruner's answer: in each of the three cases.
-use Rattle.std.proofs.Common.{◌≡◌, ℕ, zero, suc, ◌+◌, ◌≤◌, ◌∙◌, ◌⊎◌, ◌++◌, Bool, true, false, List, [], ◌∷◌, Option, Some, None, Result, Ok, Err, is_some, length, slice_get, refl, sym, ap, subst, inl, inr, arith}
+use Rattle.std.proofs.Common.{◌≡◌, ℕ, zero, suc, ◌+◌, ◌≤◌, ◌∙◌, ◌⊎◌, ◌↔◌, ◌++◌, Bool, true, false, List, [], ◌∷◌, Option, Some, None, Result, Ok, Err, is_some, length, slice_get, refl, sym, ap, subst, inl, inr, arith}
 use Rattle.std.proofs.lemmas.Option.{same_Some}
 use Rattle.std.specs.Option.{MatchOption}
 use Rattle.std.specs.Result.{IfOk, OnErr}
 use Rattle.hv_task.specs.Strips.{Strips, IsState, IsTask, atoms}
+use Rattle.hv_sets.specs.Truth.{in_clauses}
 use Rattle.hv_sets.specs.declared.literal.Literal.{Literal}
 use Rattle.hv_lines.specs.Drafts.{DraftState, IsGoodTable, draft_setting, most_lines, onto}
 use Rattle.hv_lines.specs.Meaning.{StateSet}
@@ -19,10 +20,11 @@ use Rattle.hv_lines.proofs.Drafting.{table_of}
 use Rattle.hv_lines.proofs.Extended.{begun_acts, begun_dead, begun_empty, begun_goal, exprs_few, extends_by, extends_none, first_noted_once, knowns_few, noted_dead}
 use Rattle.hv_lines.proofs.Carried.{expr_onto}
 use Rattle.hv_lines.proofs.Laws.{expr_at_here, set_in, set_out, statement_at_here}
-use Rattle.hv_reach.specs.Fitting.{notes_fit}
-use Rattle.hv_reach.specs.Pruners.{AreHornNotes, IsDenied, IsOutcome, IsReason}
+use Rattle.hv_reach.specs.Fitting.{described_fit, notes_fit}
+use Rattle.hv_reach.specs.Pruners.{AreDescribed, AreHornNotes, IsDenied, IsOutcome, IsReason}
 use Rattle.hv_reach.specs.Written.{IsDeadEnd, dead_block}
 use Rattle.hv_reach.proofs.Block.{good_block}
+use Rattle.hv_reach.proofs.Described.{described_pushed}
 
 -- the last of a list, or one before
 last_cases : {X : Type 0} (xs : List X) (x y : X) (k : ℕ) → slice_get (xs ++ x ∷ []) k ≡ Some y → (slice_get xs k ≡ Some y) ⊎ (x ≡ y)
@@ -193,6 +195,25 @@ module _ (task : Strips) (lines : List Line) (clauses : List (List Literal)) (m 
           (subst (AreHornNotes task covered Written) (sym also) (written_fits notes fits));
     }
 
+  -- what is kept of the block's formula is right
+  pub written_described : {X : Type 0} (Holds : List X → List Bool → Type 0) (covered : StateSet) (notes : List Note)
+      (reached : List (List X)) (item : List X) → AreHornNotes task covered lines notes → AreDescribed Holds task lines notes reached
+      → length item ≡ atoms task → ((state : List Bool) → IsState task state → (in_clauses clauses state ≡ true) ↔ Holds item state)
+      → (new : List Line) (new_notes : List Note) (new_reached : List (List X)) → new ≡ Written → new_notes ≡ notes ++ Noted ∷ []
+      → new_reached ≡ reached ++ item ∷ [] → AreDescribed Holds task new new_notes new_reached
+  written_described Holds covered notes reached item fits fact size tells new new_notes new_reached is noted kept =
+      subst (λ ls. AreDescribed Holds task ls new_notes new_reached) (sym is)
+      (subst (λ ns. AreDescribed Holds task Written ns new_reached) (sym noted)
+      (subst (λ rs. AreDescribed Holds task Written (notes ++ Noted ∷ []) rs) (sym kept)
+      (described_pushed Holds task Written notes reached Noted item
+      (described_fit Holds task covered lines Written notes reached fits (extends_by task (dead_block m k clauses) lines good) fact) (
+        size,
+        λ state is_state. (
+          λ inside. (tells state is_state).0 (set_out task (draft_setting task).nodes Written m (E.Horn clauses) table written_set state inside),
+          λ holds. set_in task (draft_setting task).nodes Written m (E.Horn clauses) table written_set state ((tells state is_state).1 holds),
+        ),
+      ))))
+
 -- the notes fit the draft also after want of memory
 pub fits_after : {X : Type 0} (task : Strips) (covered : StateSet) (IsBlock : List Line → Note → Type 0) (state : List Bool) (notes : List Note)
     (draft : DraftState) (new_notes : List Note) (new : DraftState) (result : Result (Option ℕ) X)
@@ -203,3 +224,15 @@ fits_after task covered IsBlock state notes draft new_notes new (Ok found) outco
 fits_after task covered IsBlock state notes draft new_notes new (Err error) outcome same_draft same_notes fits =
     subst (λ (d : DraftState). AreHornNotes task covered d.lines new_notes) (sym same_draft)
     (subst (AreHornNotes task covered draft.lines) (sym same_notes) fits)
+
+-- and so does what is kept of them
+pub described_after : {X Y Z : Type 0} (Holds : List X → List Bool → Type 0) (task : Strips) (draft new : DraftState) (notes new_notes : List Note)
+    (reached new_reached : List (List X)) (result : Result Y Z)
+    → IfOk result (λ _. AreDescribed Holds task new.lines new_notes new_reached) → OnErr result (new ≡ draft)
+    → OnErr result (new_notes ≡ notes) → OnErr result (new_reached ≡ reached) → AreDescribed Holds task draft.lines notes reached
+    → AreDescribed Holds task new.lines new_notes new_reached
+described_after Holds task draft new notes new_notes reached new_reached (Ok found) now d n r fact = now
+described_after Holds task draft new notes new_notes reached new_reached (Err error) now d n r fact =
+    subst (λ (x : DraftState). AreDescribed Holds task x.lines new_notes new_reached) (sym d)
+    (subst (λ x. AreDescribed Holds task draft.lines x new_reached) (sym n)
+    (subst (λ x. AreDescribed Holds task draft.lines notes x) (sym r) fact))

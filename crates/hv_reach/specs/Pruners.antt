@@ -1,18 +1,19 @@
 -- What the pruners by reached atoms and by reached pairs cover, and what they write.
-use Rattle.std.specs.Prelude.{◌≡◌, ◌≤◌, ◌+◌, ◌↔◌, IsTrue, ℕ, Bool, true, List, Option, Some, is_some, IfSome, IfNone, slice_get}
+use Rattle.std.specs.Prelude.{◌≡◌, ◌≤◌, ◌+◌, ◌↔◌, IsTrue, ℕ, Bool, true, List, Option, Some, is_some, IfSome, IfNone, length, slice_get}
 use Rattle.std.specs.List.{All}
+use Rattle.hv_task.specs.State.{has_atom}
 use Rattle.hv_task.specs.Strips.{Strips, IsState, atoms}
 use Rattle.hv_sets.specs.Truth.{in_clauses}
 use Rattle.hv_sets.specs.declared.literal.Literal.{Literal}
 use Rattle.hv_lines.specs.Drafts.{DraftState}
 use Rattle.hv_lines.specs.Meaning.{StateSet}
 use Rattle.hv_lines.specs.Numbering.{expr_at, expr_count, known_count}
-use Rattle.hv_lines.specs.Pruning.{Extends, IsAnswer, IsDeadBy, IsNoted}
+use Rattle.hv_lines.specs.Pruning.{Extends, IsAnswer, IsDeadBy, IsNoted, states_in}
 use Rattle.hv_lines.specs.declared.line.Expr.TheVariants as E
 use Rattle.hv_lines.specs.declared.line.Line.{Line}
 use Rattle.hv_lines.specs.declared.note.Note.{Note}
-use Rattle.hv_reach.specs.Reached.{ReachedAtom, ReachedPair}
-use Rattle.hv_reach.specs.Written.{IsDeadEnd, IsDenial, PairsExcludeFrom, dead_block, pairs_formula, relaxed_formula}
+use Rattle.hv_reach.specs.Reached.{IsWithin, ReachedAtom, ReachedPair, has_pair}
+use Rattle.hv_reach.specs.Written.{IsDeadEnd, IsDenial, PairsExcludeFrom, RelaxedExcludesFrom, dead_block, pairs_formula, relaxed_formula}
 
 -- a state is covered by reached pairs in a task of at most 1,024 atoms alone
 abbrev pub PairsCover : Strips → List Bool → Type 0
@@ -60,6 +61,54 @@ abbrev pub AreHornNotes : Strips → StateSet → List Line → List Note → Ty
 AreHornNotes task covered lines notes =
     (k : ℕ) (note : Note) → slice_get notes k ≡ Some note
     → IsNoted task covered lines note × IsDenied (atoms task) lines note.set
+
+-- what a pruner by reached atoms has, as contracts see it: its notes, and for each the atoms that
+-- were reached
+pub record RelaxedNotes : Type 0 where
+  pub notes : List Note
+  pub reached : List (List Bool)
+
+-- the same of a pruner by reached pairs: for each note the table of the pairs that were reached
+pub record PairNotes : Type 0 where
+  pub notes : List Note
+  pub reached : List (List (List Bool))
+
+-- the state holds atoms of the row alone
+abbrev pub HoldsAtomsOf : List Bool → List Bool → Type 0
+HoldsAtomsOf row state = IsWithin state (has_atom row)
+
+-- the state holds pairs of the table alone
+abbrev pub HoldsPairsOf : List (List Bool) → List Bool → Type 0
+HoldsPairsOf table state =
+    (p q : ℕ) → has_atom state p ≡ true → has_atom state q ≡ true → has_pair table p q ≡ true
+
+-- what was reached is over the task's atoms, and the set has the states that hold nothing else
+abbrev pub Describes : {X : Type 0} → (List X → List Bool → Type 0) → Strips → List Line → ℕ
+    → List X → Type 0
+Describes Holds task lines set reached =
+    (length reached ≡ atoms task)
+    × ((state : List Bool) → IsState task state
+    → states_in task lines set state ↔ Holds reached state)
+
+-- there is one such thing for each note
+abbrev pub AreDescribed : {X : Type 0} → (List X → List Bool → Type 0) → Strips → List Line
+    → List Note → List (List X) → Type 0
+AreDescribed Holds task lines notes reached =
+    (length reached ≡ length notes)
+    × ((k : ℕ) (note : Note) → slice_get notes k ≡ Some note
+    → IfSome (slice_get reached k) (Describes Holds task lines note.set))
+
+-- the notes of a pruner by reached atoms stand in the lines, and what it has for each is right
+abbrev pub FitRelaxed : Strips → List Line → RelaxedNotes → Type 0
+FitRelaxed task lines kept =
+    AreHornNotes task (RelaxedExcludesFrom task) lines kept.notes
+    × AreDescribed HoldsAtomsOf task lines kept.notes kept.reached
+
+-- the same of a pruner by reached pairs
+abbrev pub FitPairs : Strips → List Line → PairNotes → Type 0
+FitPairs task lines kept =
+    AreHornNotes task (PairsCover task) lines kept.notes
+    × AreDescribed HoldsPairsOf task lines kept.notes kept.reached
 
 -- the formula shows why this state is dead: it is one of which a block is good, it holds the state,
 -- and it holds covered states alone

@@ -25,9 +25,10 @@ pub fn reached_atoms(alloc: Global, task: &Task, start: &State) -> Result<AtomLi
     Ok(list)
 }
 
-// The state of the atoms that are reached.
-fn reached_state(alloc: Global, task: &Task, start: &State) -> Result<State, AllocError>
+/// The same, as the state that holds these atoms.
+pub(crate) fn reached_state(alloc: Global, task: &Task, start: &State) -> Result<State, AllocError>
     requires { IsState task.now start.now }
+    ensures size { IfOk result (λ held. length held ≡ atoms task.now) }
     ensures reached { IfOk result (λ held. (p : ℕ) → has_atom held p ≡ true
         → ReachedAtom task.now start.now p) }
     ensures all { IfOk result (λ held. (p : ℕ) → ReachedAtom task.now start.now p

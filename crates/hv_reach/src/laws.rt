@@ -5,10 +5,11 @@ ghost use Rattle.hv_task.specs.Strips.{Strips, IsTask, atoms};
 ghost use Rattle.hv_lines.specs.Drafts.{IsGoodTable};
 ghost use Rattle.hv_lines.specs.Judged.{Concludes};
 ghost use Rattle.hv_lines.specs.declared.line.Line.{Line};
-ghost use Rattle.hv_reach.specs.Written.{IsPairsProof, IsRelaxedProof, PairsExclude, RelaxedExcludes};
+ghost use Rattle.hv_reach.specs.Written.{IsModest, IsPairsProof, IsRelaxedProof, PairsExclude, RelaxedExcludes};
 
 /// Does nothing: its contract states that a task has one proof by its reached atoms, of sixteen
-/// lines, which is good and concludes where these exclude the goal.
+/// lines, which is good and concludes where these exclude the goal. No query of it costs more than
+/// 65,535 clauses, and no line is longer than 7,400,000 bytes.
 pub fn laws_of_relaxed_proofs()
     ensures once { (task : Strips) (x y : List Line)
         → IsRelaxedProof task x → IsRelaxedProof task y → x ≡ y }
@@ -18,10 +19,12 @@ pub fn laws_of_relaxed_proofs()
         → RelaxedExcludes task → IsRelaxedProof task lines → IsGoodTable task lines }
     ensures concludes { (task : Strips) (lines : List Line) → IsTask task
         → RelaxedExcludes task → IsRelaxedProof task lines → Concludes lines }
+    ensures modest { (task : Strips) (lines : List Line) → IsTask task
+        → RelaxedExcludes task → IsRelaxedProof task lines → IsModest task 65535 lines }
 {}
 
 /// Does nothing: its contract states the same of the proof by reached pairs, in a task of at most
-/// 1,024 atoms.
+/// 1,024 atoms. There no query costs more than 524,800 clauses.
 pub fn laws_of_pair_proofs()
     ensures once { (task : Strips) (x y : List Line)
         → IsPairsProof task x → IsPairsProof task y → x ≡ y }
@@ -31,4 +34,6 @@ pub fn laws_of_pair_proofs()
         → PairsExclude task → IsPairsProof task lines → IsGoodTable task lines }
     ensures concludes { (task : Strips) (lines : List Line) → IsTask task → atoms task ≤ 1024
         → PairsExclude task → IsPairsProof task lines → Concludes lines }
+    ensures modest { (task : Strips) (lines : List Line) → IsTask task → atoms task ≤ 1024
+        → PairsExclude task → IsPairsProof task lines → IsModest task 524800 lines }
 {}

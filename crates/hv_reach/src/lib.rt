@@ -14,6 +14,8 @@ pub mod paired;
 pub mod pairs;
 #[cfg(test)]
 mod proof_tests;
+#[cfg(test)]
+mod pruner_tests;
 pub mod relaxed;
 pub mod relaxed_pruner;
 mod search;

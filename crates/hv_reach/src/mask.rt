@@ -25,8 +25,8 @@ pub(crate) fn has_pairs(atoms: u32, rows: &Vec<State>, list: &[u32]) -> bool
     true
 }
 
-// Whether the row has each of these atoms.
-fn row_has(row: &State, list: &[u32]) -> bool
+/// Whether the row has each of these atoms.
+pub(crate) fn row_has(row: &State, list: &[u32]) -> bool
     requires { AreBelow (length row.now) list.now }
     ensures { IsTrue result ↔ All (λ q. has_atom row.now q ≡ true) list.now }
 {

@@ -1,14 +1,17 @@
-ghost use Rattle.std.specs.Prelude.{◌≡◌, [], ◌↔◌, List, IsTrue, IfOk, IfSome, IfNone, OnErr, is_some};
-ghost use Rattle.hv_task.specs.Strips.{IsState};
-ghost use Rattle.hv_lines.specs.Drafts.{IsGoodTable};
-ghost use Rattle.hv_lines.specs.Pruning.{Extends, IsAnswer, IsDeadBy};
-ghost use Rattle.hv_lines.specs.declared.line.Line.{Line};
-ghost use Rattle.hv_reach.specs.Pruners.{AreHornNotes, IsOutcome, IsPairsBlock, IsPairsFormula, IsReason, PairsCover};
+//! The pruner by reached pairs.
 
-use crate::notes::{first_noted, write_block};
-use crate::paired::{MOST_ATOMS, pairs_reason};
+ghost use Rattle.std.specs.Prelude.{◌≡◌, ◌≤◌, [], ◌↔◌, ℕ, true, IsTrue, IfOk, IfSome, IfNone, MatchOption, OnErr, is_some, length};
+ghost use Rattle.hv_task.specs.AtomList.{IsListOf};
+ghost use Rattle.hv_task.specs.Strips.{IsState, atoms};
+ghost use Rattle.hv_lines.specs.Drafts.{IsGoodTable};
+ghost use Rattle.hv_lines.specs.Pruning.{Extends, IsAnswer, IsDeadBy, IsFirstNoted, NoneNoted};
+ghost use Rattle.hv_reach.specs.Pruners.{AreDescribed, AreHornNotes, FitPairs, HoldsPairsOf, IsOutcome, IsPairsBlock, PairsCover};
+ghost use Rattle.hv_reach.specs.Reached.{ReachedPair, has_pair};
+
+use crate::notes::write_block;
+use crate::paired::{MOST_ATOMS, pairs_formula, pairs_reason};
+use crate::pairs::Pairs;
 use hv_lines::{Draft, Note, Pruner};
-use hv_sets::Clauses;
 use hv_task::{State, Task};
 use std::alloc::{AllocError, Global};
 use std::marker::Model;
@@ -17,31 +20,32 @@ use std::marker::Model;
 /// reached, in tasks of at most 1,024 atoms. For such a state it writes that the states are dead
 /// which hold no other pairs than those reached from it.
 ///
-/// A state is looked for in the notes one by one, and in each clause by clause. Where many states
-/// are pruned, what a note's formula holds should be kept beside it, as a table of the pairs
+/// A state is looked for in the notes one by one, in each by the table of the pairs that were
 /// reached.
 #[derive(Drop)]
 pub struct PairPruner {
     // What was written, in order.
     notes: Vec<Note>,
+    // The pairs that were reached, for each note.
+    reached: Vec<Pairs>,
 }
 
 impl Model for PairPruner {
-    ghost use Rattle.std.specs.Prelude.{List};
-    ghost use Rattle.hv_lines.specs.declared.note.Note.{Note};
+    ghost use Rattle.hv_reach.specs.Pruners.{PairNotes};
 
-    ghost Value = { List Note };
+    ghost Value = { PairNotes };
 
-    ghost view = { λ p. p.notes.items };
+    ghost view = { λ p. record { notes = p.notes.items; reached = p.reached.items } };
 }
 
 impl PairPruner {
     /// The pruner without notes.
     pub fn new(alloc: Global) -> PairPruner
-        ensures { result ≡ [] }
+        ensures { result ≡ record { notes = []; reached = [] } }
     {
         PairPruner {
             notes: Vec::new(alloc),
+            reached: Vec::new(alloc),
         }
     }
 
@@ -56,37 +60,43 @@ impl PairPruner {
         state: &State,
     ) -> Result<Option<usize>, AllocError>
         requires good { IsGoodTable task.now draft.old.lines }
-        requires fits { AreHornNotes task.now (PairsCover task.now)
-            draft.old.lines self.old }
+        requires fits { FitPairs task.now draft.old.lines self.old }
         requires state { IsState task.now state.now }
         ensures answer { IfOk result (λ found. IsAnswer task.now (PairsCover task.now)
             (IsPairsBlock task.now state.now draft.old.lines) state.now found
-            self.old draft.old self.new draft.new) }
+            self.old.notes draft.old self.new.notes draft.new) }
         ensures some { IfOk result (λ found. IsTrue (is_some found)
             ↔ PairsCover task.now state.now) }
         ensures dead { IfOk result (λ found. IfSome found (λ line.
             IsDeadBy task.now draft.new.lines state.now line)) }
         ensures extends { Extends task.now draft.old.lines draft.new.lines }
         ensures none { IfOk result (λ found. IfNone found (draft.new ≡ draft.old)) }
-        ensures fits { AreHornNotes task.now (PairsCover task.now)
-            draft.new.lines self.new }
+        ensures fits { FitPairs task.now draft.new.lines self.new }
         ensures err_draft { OnErr result (draft.new ≡ draft.old) }
         ensures err_notes { OnErr result (self.new ≡ self.old) }
     {
-        pairs_answer(alloc, task, draft, &mut self.notes, state)
+        pairs_answer(
+            alloc,
+            task,
+            draft,
+            &mut self.notes,
+            &mut self.reached,
+            state,
+        )
     }
 }
 
 impl Pruner for PairPruner {
-    ghost use Rattle.hv_reach.specs.Pruners.{AreHornNotes, PairsCover};
+    ghost use Rattle.hv_reach.specs.Pruners.{FitPairs, PairsCover};
     ghost use Rattle.hv_reach.specs.Fitting as fitting;
 
     ghost covers = { λ _ task state. PairsCover task state };
 
-    ghost fits = { λ notes task lines. AreHornNotes task (PairsCover task) lines notes };
+    ghost fits = { λ kept task lines. FitPairs task lines kept };
 
     fn begin(&mut self) {
         self.notes.clear();
+        self.reached.clear();
     }
 
     fn justify(
@@ -99,8 +109,8 @@ impl Pruner for PairPruner {
         self.answer(alloc, task, draft, state)
     }
 
-    ghost fits_extensions = { λ notes task old new fits extends.
-        fitting.notes_fit task (PairsCover task) old new notes fits extends };
+    ghost fits_extensions = { λ kept task old new fits extends.
+        fitting.pairs_fit task old new kept fits extends };
 }
 
 // The answer by these notes.
@@ -109,45 +119,79 @@ fn pairs_answer(
     task: &Task,
     draft: &mut Draft,
     notes: &mut Vec<Note>,
+    reached: &mut Vec<Pairs>,
     state: &State,
 ) -> Result<Option<usize>, AllocError>
     requires good { IsGoodTable task.now draft.old.lines }
     requires fits { AreHornNotes task.now (PairsCover task.now)
         draft.old.lines notes.old.items }
+    requires described { AreDescribed HoldsPairsOf task.now
+        draft.old.lines notes.old.items reached.old.items }
     requires state { IsState task.now state.now }
     ensures outcome { IfOk result (λ found. IsOutcome task.now (PairsCover task.now)
         (IsPairsBlock task.now state.now draft.old.lines) state.now found
         notes.old.items draft.old notes.new.items draft.new) }
+    ensures described { IfOk result (λ _. AreDescribed HoldsPairsOf task.now
+        draft.new.lines notes.new.items reached.new.items) }
     ensures err_draft { OnErr result (draft.new ≡ draft.old) }
     ensures err_notes { OnErr result (notes.new.items ≡ notes.old.items) }
+    ensures err_reached { OnErr result (reached.new.items ≡ reached.old.items) }
 {
-    let noted = first_noted(task, draft.table(), notes.as_slice(), state);
+    let mut held = Vec::new(alloc);
+    state.list_atoms(&mut held)?;
+    let noted = first_noted(task, draft, notes, reached, state, held.as_slice());
     if noted.is_some() {
         return Ok(noted);
     }
-    match covering_formula(alloc, task, state)? {
-        Some(clauses) => {
+    match covering_pairs(alloc, task, state)? {
+        Some(pairs) => {
+            let clauses = pairs_formula(alloc, task.atoms(), &pairs)?;
+            reached.reserve(1)?;
             let line = write_block(alloc, task, draft, notes, clauses)?;
+            reached.push_reserved(pairs);
             Ok(Some(line))
         }
         None => Ok(None),
     }
 }
 
-// The formula of the states that hold no other pairs than those reached from this state, where it
-// is covered; otherwise there is none.
-fn covering_formula(
-    alloc: Global,
+// The line of the first note whose formula holds the state of these atoms: all their pairs were
+// reached.
+fn first_noted(
     task: &Task,
+    draft: &Draft,
+    notes: &Vec<Note>,
+    reached: &Vec<Pairs>,
     state: &State,
-) -> Result<Option<Clauses>, AllocError>
+    held: &[u32],
+) -> Option<usize>
+    requires state { IsState task.now state.now }
+    requires held { IsListOf state.now held.now }
+    requires described { AreDescribed HoldsPairsOf task.now
+        draft.now.lines notes.now.items reached.now.items }
+    ensures { MatchOption result (NoneNoted task.now draft.now.lines notes.now.items state.now)
+        (λ line. IsFirstNoted task.now draft.now.lines notes.now.items state.now line) }
+{
+    let _ = task;
+    let _ = draft;
+    for place in 0..notes.len() {
+        if reached[place].has_all(state.atoms(), held) {
+            return Some(notes[place].line);
+        }
+    }
+    None
+}
+
+// The pairs that are reached from the state, where it is covered; otherwise there are none to tell.
+fn covering_pairs(alloc: Global, task: &Task, state: &State) -> Result<Option<Pairs>, AllocError>
     requires { IsState task.now state.now }
+    ensures few { IfOk result (λ found. IfSome found (λ _. atoms task.now ≤ 1024)) }
     ensures some { IfOk result (λ found. IsTrue (is_some found)
         ↔ PairsCover task.now state.now) }
-    ensures formula { IfOk result (λ found. IfSome found (λ clauses.
-        IsPairsFormula task.now state.now clauses)) }
-    ensures reason { IfOk result (λ found. IfSome found (λ clauses.
-        IsReason task.now (PairsCover task.now) state.now clauses)) }
+    ensures size { IfOk result (λ found. IfSome found (λ pairs.
+        length pairs ≡ atoms task.now)) }
+    ensures reached { IfOk result (λ found. IfSome found (λ pairs. (p q : ℕ)
+        → (has_pair pairs p q ≡ true) ↔ ReachedPair task.now state.now p q)) }
 {
     if task.atoms() > MOST_ATOMS {
         return Ok(None);

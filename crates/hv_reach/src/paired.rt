@@ -1,12 +1,11 @@
 //! The proof by the reached pairs.
 
-ghost use Rattle.std.specs.Prelude.{◌≡◌, ◌<◌, ◌≤◌, ◌↔◌, ◌++◌, IsTrue, IfOk, IfErr, IfSome, OnOk, is_some, length};
+ghost use Rattle.std.specs.Prelude.{◌≡◌, ◌<◌, ◌≤◌, ◌↔◌, ◌++◌, ℕ, true, IsTrue, IfOk, IfErr, IfSome, OnOk, is_some, length};
 ghost use Rattle.hv_lines.specs.Drafts.{IsGoodTable};
 ghost use Rattle.hv_lines.specs.Judged.{Concludes};
 ghost use Rattle.hv_task.specs.Strips.{IsState, atoms};
 ghost use Rattle.hv_reach.specs.declared.fault.ReachFault.TheVariants as F;
-ghost use Rattle.hv_reach.specs.Pruners.{IsPairsFormula, IsReason, PairsCover};
-ghost use Rattle.hv_reach.specs.Reached.{has_pair};
+ghost use Rattle.hv_reach.specs.Reached.{ReachedPair, has_pair};
 ghost use Rattle.hv_reach.specs.Written.{IsPairsProof, PairsExclude, PairsExcludeFrom, pair_clauses, pairs_formula, row_clauses};
 
 use crate::fault::ReachFault;
@@ -51,7 +50,8 @@ fn pairs_proof(alloc: Global, task: &Task) -> Result<Option<Draft>, AllocError>
 {
     let start = task.start_state(alloc)?;
     match pairs_reason(alloc, task, &start)? {
-        Some(clauses) => {
+        Some(pairs) => {
+            let clauses = pairs_formula(alloc, task.atoms(), &pairs)?;
             let draft = horn_proof(alloc, task, clauses)?;
             Ok(Some(draft))
         }
@@ -59,32 +59,31 @@ fn pairs_proof(alloc: Global, task: &Task) -> Result<Option<Draft>, AllocError>
     }
 }
 
-/// The formula of the states that hold no other pairs than those reached from this state, where
-/// some pair of goal atoms, possibly equal, isn't reached; otherwise there is none.
+/// The pairs that are reached from this state, where some goal pair isn't among them; otherwise
+/// there are none to tell.
 pub(crate) fn pairs_reason(
     alloc: Global,
     task: &Task,
     state: &State,
-) -> Result<Option<Clauses>, AllocError>
+) -> Result<Option<Pairs>, AllocError>
     requires few { atoms task.now ≤ 1024 }
     requires state { IsState task.now state.now }
     ensures some { IfOk result (λ found. IsTrue (is_some found)
         ↔ PairsExcludeFrom task.now state.now) }
-    ensures formula { IfOk result (λ found. IfSome found (λ clauses.
-        IsPairsFormula task.now state.now clauses)) }
-    ensures reason { IfOk result (λ found. IfSome found (λ clauses.
-        IsReason task.now (PairsCover task.now) state.now clauses)) }
+    ensures size { IfOk result (λ found. IfSome found (λ pairs.
+        length pairs ≡ atoms task.now)) }
+    ensures reached { IfOk result (λ found. IfSome found (λ pairs. (p q : ℕ)
+        → (has_pair pairs p q ≡ true) ↔ ReachedPair task.now state.now p q)) }
 {
     let pairs = reached_pairs(alloc, task, state)?;
     if pairs.has_all(task.atoms(), task.goal().as_slice()) {
         return Ok(None);
     }
-    let clauses = pairs_formula(alloc, task.atoms(), &pairs)?;
-    Ok(Some(clauses))
+    Ok(Some(pairs))
 }
 
-// The formula of the states that hold no other pairs than these.
-fn pairs_formula(alloc: Global, atoms: u32, pairs: &Pairs) -> Result<Clauses, AllocError>
+/// The formula of the states that hold no other pairs than these.
+pub(crate) fn pairs_formula(alloc: Global, atoms: u32, pairs: &Pairs) -> Result<Clauses, AllocError>
     requires { length pairs.now ≡ atoms }
     ensures { IfOk result (λ clauses. clauses ≡ pairs_formula atoms (has_pair pairs.now)) }
 {

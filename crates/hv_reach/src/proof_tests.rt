@@ -18,7 +18,7 @@ fn set_goal(alloc: Global, task: &mut Task, goal: &[u32]) -> Result<(), AllocErr
 }
 
 // A robot that goes between two places, and a key that it can't get.
-fn robot(alloc: Global) -> Result<Task, AllocError> {
+pub(crate) fn robot(alloc: Global) -> Result<Task, AllocError> {
     let mut task = task_of(alloc, 3, &[0])?;
     set_goal(alloc, &mut task, &[2])?;
     add(alloc, &mut task, &[0], &[1], &[0])?;
@@ -27,7 +27,7 @@ fn robot(alloc: Global) -> Result<Task, AllocError> {
 }
 
 // Two atoms, of which each comes in place of the other; the goal is to have both.
-fn either(alloc: Global) -> Result<Task, AllocError> {
+pub(crate) fn either(alloc: Global) -> Result<Task, AllocError> {
     let mut task = task_of(alloc, 2, &[0])?;
     set_goal(alloc, &mut task, &[0, 1])?;
     add(alloc, &mut task, &[0], &[1], &[0])?;

@@ -1,18 +1,19 @@
 //! The proof by the reached atoms.
 
-ghost use Rattle.std.specs.Prelude.{◌≡◌, ◌↔◌, ◌++◌, IsTrue, IfOk, IfSome, OnOk, is_some};
+ghost use Rattle.std.specs.Prelude.{◌≡◌, ◌<◌, ◌↔◌, ◌++◌, ℕ, true, IsTrue, IfOk, IfSome, OnOk, is_some, length};
 ghost use Rattle.hv_lines.specs.Drafts.{IsGoodTable};
 ghost use Rattle.hv_lines.specs.Judged.{Concludes};
-ghost use Rattle.hv_task.specs.State.{names_atom};
-ghost use Rattle.hv_task.specs.Strips.{IsState};
-ghost use Rattle.hv_reach.specs.Pruners.{IsReason, IsRelaxedFormula};
+ghost use Rattle.hv_task.specs.State.{has_atom};
+ghost use Rattle.hv_task.specs.Strips.{IsState, atoms};
+ghost use Rattle.hv_reach.specs.Reached.{ReachedAtom};
 ghost use Rattle.hv_reach.specs.Written.{IsRelaxedProof, RelaxedExcludes, RelaxedExcludesFrom, atom_clauses, relaxed_formula};
 
-use crate::atoms::reached_atoms;
+use crate::atoms::reached_state;
 use crate::horn_proof::{denied, horn_proof};
+use crate::mask::row_has;
 use hv_lines::Draft;
 use hv_sets::Clauses;
-use hv_task::{AtomList, State, Task};
+use hv_task::{State, Task};
 use std::alloc::{AllocError, Global};
 
 /// The proof that the task has no plan where some goal atom isn't reached from the initial state;
@@ -25,9 +26,11 @@ pub fn prove_relaxed(alloc: Global, task: &Task) -> Result<Option<Draft>, AllocE
         IsGoodTable task.now draft.lines)) }
     ensures concludes { IfOk result (λ found. IfSome found (λ draft. Concludes draft.lines)) }
 {
+    let _atoms = task.atoms();
     let start = task.start_state(alloc)?;
     match relaxed_reason(alloc, task, &start)? {
-        Some(clauses) => {
+        Some(reached) => {
+            let clauses = relaxed_formula(alloc, &reached)?;
             let draft = horn_proof(alloc, task, clauses)?;
             Ok(Some(draft))
         }
@@ -35,45 +38,45 @@ pub fn prove_relaxed(alloc: Global, task: &Task) -> Result<Option<Draft>, AllocE
     }
 }
 
-/// The formula of the states that hold no other atoms than those reached from this state, where
-/// some goal atom isn't reached; otherwise there is none.
+/// The atoms that are reached from this state, where some goal atom isn't among them; otherwise
+/// there are none to tell.
 pub(crate) fn relaxed_reason(
     alloc: Global,
     task: &Task,
     state: &State,
-) -> Result<Option<Clauses>, AllocError>
+) -> Result<Option<State>, AllocError>
     requires { IsState task.now state.now }
     ensures some { IfOk result (λ found. IsTrue (is_some found)
         ↔ RelaxedExcludesFrom task.now state.now) }
-    ensures formula { IfOk result (λ found. IfSome found (λ clauses.
-        IsRelaxedFormula task.now state.now clauses)) }
-    ensures reason { IfOk result (λ found. IfSome found (λ clauses.
-        IsReason task.now (RelaxedExcludesFrom task.now) state.now clauses)) }
+    ensures size { IfOk result (λ found. IfSome found (λ reached.
+        length reached ≡ atoms task.now)) }
+    ensures reached { IfOk result (λ found. IfSome found (λ reached. (p : ℕ)
+        → (has_atom reached p ≡ true) ↔ ReachedAtom task.now state.now p)) }
 {
-    let _atoms = task.atoms();
-    let reached = reached_atoms(alloc, task, state)?;
-    if reached.has_all(task.goal().as_slice()) {
+    let reached = reached_state(alloc, task, state)?;
+    if row_has(&reached, task.goal().as_slice()) {
         return Ok(None);
     }
-    let clauses = relaxed_formula(alloc, task.atoms(), &reached)?;
-    Ok(Some(clauses))
+    Ok(Some(reached))
 }
 
-// The formula of the states that hold no other atoms than these.
-fn relaxed_formula(alloc: Global, atoms: u32, reached: &AtomList) -> Result<Clauses, AllocError>
-    ensures { IfOk result (λ clauses. clauses ≡ relaxed_formula atoms (names_atom reached.now)) }
+/// The formula of the states that hold no other atoms than these.
+pub(crate) fn relaxed_formula(alloc: Global, reached: &State) -> Result<Clauses, AllocError>
+    ensures { IfOk result (λ clauses.
+        clauses ≡ relaxed_formula (length reached.now) (has_atom reached.now)) }
 {
     let mut clauses = Clauses::new(alloc);
-    for atom in 0..atoms {
+    for atom in 0..reached.atoms() {
         deny_atom(&mut clauses, reached, atom)?;
     }
     Ok(clauses)
 }
 
 // Puts the clause that denies the atom, where it isn't reached.
-fn deny_atom(clauses: &mut Clauses, reached: &AtomList, atom: u32) -> Result<(), AllocError>
+fn deny_atom(clauses: &mut Clauses, reached: &State, atom: u32) -> Result<(), AllocError>
+    requires { atom < length reached.now }
     ensures { OnOk result
-        (clauses.new ≡ clauses.old ++ atom_clauses (names_atom reached.now) atom) }
+        (clauses.new ≡ clauses.old ++ atom_clauses (has_atom reached.now) atom) }
 {
     if reached.has(atom) {
         return Ok(());

@@ -1,13 +1,14 @@
-ghost use Rattle.std.specs.Prelude.{◌≡◌, [], ◌↔◌, List, IsTrue, IfOk, IfSome, IfNone, OnErr, is_some};
+//! The pruner by reached atoms.
+
+ghost use Rattle.std.specs.Prelude.{◌≡◌, [], ◌↔◌, IsTrue, IfOk, IfSome, IfNone, MatchOption, OnErr, is_some};
 ghost use Rattle.hv_task.specs.Strips.{IsState};
 ghost use Rattle.hv_lines.specs.Drafts.{IsGoodTable};
-ghost use Rattle.hv_lines.specs.Pruning.{Extends, IsAnswer, IsDeadBy};
-ghost use Rattle.hv_lines.specs.declared.line.Line.{Line};
-ghost use Rattle.hv_reach.specs.Pruners.{AreHornNotes, IsOutcome, IsRelaxedBlock};
+ghost use Rattle.hv_lines.specs.Pruning.{Extends, IsAnswer, IsDeadBy, IsFirstNoted, NoneNoted};
+ghost use Rattle.hv_reach.specs.Pruners.{AreDescribed, AreHornNotes, FitRelaxed, HoldsAtomsOf, IsOutcome, IsRelaxedBlock};
 ghost use Rattle.hv_reach.specs.Written.{RelaxedExcludesFrom};
 
-use crate::notes::{first_noted, write_block};
-use crate::relaxed::relaxed_reason;
+use crate::notes::write_block;
+use crate::relaxed::{relaxed_formula, relaxed_reason};
 use hv_lines::{Draft, Note, Pruner};
 use hv_task::{State, Task};
 use std::alloc::{AllocError, Global};
@@ -16,30 +17,31 @@ use std::marker::Model;
 /// A pruner that covers the states from which some goal atom isn't reached. For such a state it
 /// writes that the states are dead which hold no other atoms than those reached from it.
 ///
-/// A state is looked for in the notes one by one, and in each clause by clause. Where many states
-/// are pruned, what a note's formula holds should be kept beside it, as a row of the atoms reached.
+/// A state is looked for in the notes one by one, in each by a row of the atoms that were reached.
 #[derive(Drop)]
 pub struct RelaxedPruner {
     // What was written, in order.
     notes: Vec<Note>,
+    // The atoms that were reached, for each note.
+    reached: Vec<State>,
 }
 
 impl Model for RelaxedPruner {
-    ghost use Rattle.std.specs.Prelude.{List};
-    ghost use Rattle.hv_lines.specs.declared.note.Note.{Note};
+    ghost use Rattle.hv_reach.specs.Pruners.{RelaxedNotes};
 
-    ghost Value = { List Note };
+    ghost Value = { RelaxedNotes };
 
-    ghost view = { λ p. p.notes.items };
+    ghost view = { λ p. record { notes = p.notes.items; reached = p.reached.items } };
 }
 
 impl RelaxedPruner {
     /// The pruner without notes.
     pub fn new(alloc: Global) -> RelaxedPruner
-        ensures { result ≡ [] }
+        ensures { result ≡ record { notes = []; reached = [] } }
     {
         RelaxedPruner {
             notes: Vec::new(alloc),
+            reached: Vec::new(alloc),
         }
     }
 
@@ -54,38 +56,44 @@ impl RelaxedPruner {
         state: &State,
     ) -> Result<Option<usize>, AllocError>
         requires good { IsGoodTable task.now draft.old.lines }
-        requires fits { AreHornNotes task.now (RelaxedExcludesFrom task.now)
-            draft.old.lines self.old }
+        requires fits { FitRelaxed task.now draft.old.lines self.old }
         requires state { IsState task.now state.now }
         ensures answer { IfOk result (λ found. IsAnswer task.now (RelaxedExcludesFrom task.now)
             (IsRelaxedBlock task.now state.now draft.old.lines) state.now found
-            self.old draft.old self.new draft.new) }
+            self.old.notes draft.old self.new.notes draft.new) }
         ensures some { IfOk result (λ found. IsTrue (is_some found)
             ↔ RelaxedExcludesFrom task.now state.now) }
         ensures dead { IfOk result (λ found. IfSome found (λ line.
             IsDeadBy task.now draft.new.lines state.now line)) }
         ensures extends { Extends task.now draft.old.lines draft.new.lines }
         ensures none { IfOk result (λ found. IfNone found (draft.new ≡ draft.old)) }
-        ensures fits { AreHornNotes task.now (RelaxedExcludesFrom task.now)
-            draft.new.lines self.new }
+        ensures fits { FitRelaxed task.now draft.new.lines self.new }
         ensures err_draft { OnErr result (draft.new ≡ draft.old) }
         ensures err_notes { OnErr result (self.new ≡ self.old) }
     {
-        relaxed_answer(alloc, task, draft, &mut self.notes, state)
+        relaxed_answer(
+            alloc,
+            task,
+            draft,
+            &mut self.notes,
+            &mut self.reached,
+            state,
+        )
     }
 }
 
 impl Pruner for RelaxedPruner {
-    ghost use Rattle.hv_reach.specs.Pruners.{AreHornNotes};
+    ghost use Rattle.hv_reach.specs.Pruners.{FitRelaxed};
     ghost use Rattle.hv_reach.specs.Written.{RelaxedExcludesFrom};
     ghost use Rattle.hv_reach.specs.Fitting as fitting;
 
     ghost covers = { λ _ task state. RelaxedExcludesFrom task state };
 
-    ghost fits = { λ notes task lines. AreHornNotes task (RelaxedExcludesFrom task) lines notes };
+    ghost fits = { λ kept task lines. FitRelaxed task lines kept };
 
     fn begin(&mut self) {
         self.notes.clear();
+        self.reached.clear();
     }
 
     fn justify(
@@ -98,8 +106,8 @@ impl Pruner for RelaxedPruner {
         self.answer(alloc, task, draft, state)
     }
 
-    ghost fits_extensions = { λ notes task old new fits extends.
-        fitting.notes_fit task (RelaxedExcludesFrom task) old new notes fits extends };
+    ghost fits_extensions = { λ kept task old new fits extends.
+        fitting.relaxed_fits task old new kept fits extends };
 }
 
 // The answer by these notes.
@@ -108,27 +116,61 @@ fn relaxed_answer(
     task: &Task,
     draft: &mut Draft,
     notes: &mut Vec<Note>,
+    reached: &mut Vec<State>,
     state: &State,
 ) -> Result<Option<usize>, AllocError>
     requires good { IsGoodTable task.now draft.old.lines }
     requires fits { AreHornNotes task.now (RelaxedExcludesFrom task.now)
         draft.old.lines notes.old.items }
+    requires described { AreDescribed HoldsAtomsOf task.now
+        draft.old.lines notes.old.items reached.old.items }
     requires state { IsState task.now state.now }
     ensures outcome { IfOk result (λ found. IsOutcome task.now (RelaxedExcludesFrom task.now)
         (IsRelaxedBlock task.now state.now draft.old.lines) state.now found
         notes.old.items draft.old notes.new.items draft.new) }
+    ensures described { IfOk result (λ _. AreDescribed HoldsAtomsOf task.now
+        draft.new.lines notes.new.items reached.new.items) }
     ensures err_draft { OnErr result (draft.new ≡ draft.old) }
     ensures err_notes { OnErr result (notes.new.items ≡ notes.old.items) }
+    ensures err_reached { OnErr result (reached.new.items ≡ reached.old.items) }
 {
-    let noted = first_noted(task, draft.table(), notes.as_slice(), state);
+    let _atoms = task.atoms();
+    let noted = first_noted(task, draft, notes, reached, state);
     if noted.is_some() {
         return Ok(noted);
     }
     match relaxed_reason(alloc, task, state)? {
-        Some(clauses) => {
+        Some(held) => {
+            let clauses = relaxed_formula(alloc, &held)?;
+            reached.reserve(1)?;
             let line = write_block(alloc, task, draft, notes, clauses)?;
+            reached.push_reserved(held);
             Ok(Some(line))
         }
         None => Ok(None),
     }
+}
+
+// The line of the first note whose formula holds the state: it holds reached atoms alone.
+fn first_noted(
+    task: &Task,
+    draft: &Draft,
+    notes: &Vec<Note>,
+    reached: &Vec<State>,
+    state: &State,
+) -> Option<usize>
+    requires state { IsState task.now state.now }
+    requires described { AreDescribed HoldsAtomsOf task.now
+        draft.now.lines notes.now.items reached.now.items }
+    ensures { MatchOption result (NoneNoted task.now draft.now.lines notes.now.items state.now)
+        (λ line. IsFirstNoted task.now draft.now.lines notes.now.items state.now line) }
+{
+    let _ = task;
+    let _ = draft;
+    for place in 0..notes.len() {
+        if state.next_outside(&reached[place], 0).is_none() {
+            return Some(notes[place].line);
+        }
+    }
+    None
 }

@@ -1,3 +1,4 @@
+use Rattle.hv_reach.proofs.Modest.{pairs_modest}
 use Rattle.hv_reach.proofs.Proofs.{pairs_end, pairs_good, pairs_once, pairs_size}
 use Rattle.hv_reach.proofs.laws.laws_of_pair_proofs.Goals as goal
 
@@ -12,3 +13,6 @@ returns-clause-good c = pairs_good
 
 pub returns-clause-concludes : goal.returns-clause-concludes
 returns-clause-concludes c = pairs_end
+
+pub returns-clause-modest : goal.returns-clause-modest
+returns-clause-modest c = pairs_modest

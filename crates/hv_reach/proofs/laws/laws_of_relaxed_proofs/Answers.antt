@@ -1,3 +1,4 @@
+use Rattle.hv_reach.proofs.Modest.{relaxed_modest}
 use Rattle.hv_reach.proofs.Proofs.{relaxed_ends, relaxed_good, relaxed_once, relaxed_size}
 use Rattle.hv_reach.proofs.laws.laws_of_relaxed_proofs.Goals as goal
 
@@ -12,3 +13,6 @@ returns-clause-good c = relaxed_good
 
 pub returns-clause-concludes : goal.returns-clause-concludes
 returns-clause-concludes c = relaxed_ends
+
+pub returns-clause-modest : goal.returns-clause-modest
+returns-clause-modest c = relaxed_modest

@@ -1,46 +1,69 @@
-use Rattle.std.proofs.Common.{◌≡◌, ◌∙◌, List, Option, Some, slice_get, refl, sym, subst}
+use Rattle.std.proofs.Common.{◌≡◌, ◌≤◌, ◌∙◌, ◌↔◌, ◌++◌, ◌∷◌, [], true, ℕ, Bool, List, Option, Some, ap, is_some, length, refl, sym, subst}
 use Rattle.std.specs.Option.{IfSome}
 use Rattle.hv_task.specs.Strips.{atoms}
-use Rattle.hv_sets.specs.declared.literal.Literal.{Literal}
 use Rattle.hv_lines.specs.Drafts.{IsGoodTable}
 use Rattle.hv_lines.specs.Numbering.{expr_count, known_count}
-use Rattle.hv_lines.specs.declared.note.Note.{Note}
-use Rattle.hv_reach.specs.Pruners.{IsDenied, IsOutcome, IsReason, IsPairsBlock, IsPairsFormula, PairsCover}
-use Rattle.hv_reach.proofs.Writing.{none_told, outcome_told, outcome_written, told_same}
+use Rattle.hv_reach.specs.Pruners.{HoldsPairsOf, IsOutcome, IsPairsBlock, PairsCover}
+use Rattle.hv_reach.specs.Reached.{ReachedPair, has_pair}
+use Rattle.hv_reach.proofs.Found.{pairs_found_formula, pairs_found_holds, pairs_found_reason}
+use Rattle.hv_reach.proofs.Writing.{none_told, outcome_told, outcome_written, written_described}
 use Rattle.hv_reach.proofs.pair_pruner.pairs_answer.Goals as goal
-
-pub first_noted-noted-requires-clause-notes : goal.first_noted-noted-requires-clause-notes
-first_noted-noted-requires-clause-notes c =
-    λ k note at.
-    subst (λ ls. IsDenied (atoms c.args.task.now) ls note.set) (sym c.table.ensures.lines)
-    (c.requires.fits k note (subst (λ (xs : List Note). slice_get xs k ≡ Some note) c.as_slice.ensures.value at)).1
 
 pub returns-then-is_some-clause-outcome : goal.returns-then-is_some-clause-outcome
 returns-then-is_some-clause-outcome c =
     outcome_told c.args.task.now (PairsCover c.args.task.now) (IsPairsBlock c.args.task.now c.args.state.now c.args.draft.now.lines)
     c.args.state.now c.args.notes.now.items c.args.draft.now c.requires.state c.requires.good c.requires.fits
-    c.first_noted-noted.result (sym c.is_some.ensures ∙ c.if-is_some.true)
-    (told_same c.args.task.now c.table.result.now.lines c.args.draft.now.lines c.as_slice.result.now c.args.notes.now.items
-    c.args.state.now c.first_noted-noted.result c.table.ensures.lines c.as_slice.ensures.value c.first_noted-noted.ensures)
+    c.first_noted-noted.result (sym c.is_some.ensures ∙ c.if-is_some.true) c.first_noted-noted.ensures
 
-pub returns-in_ok-line-in-Some-clause-outcome : goal.returns-in_ok-line-in-Some-clause-outcome
-returns-in_ok-line-in-Some-clause-outcome c =
+pub write_block-requires-clause-dead : goal.write_block-requires-clause-dead
+write_block-requires-clause-dead c =
     let task = c.args.task.now in
     let state = c.args.state.now in
+    let few = subst (λ (f : Option (List (List Bool))). IfSome f (λ _. atoms task ≤ 1024)) c.in-Some.is c.in_ok-pairs.ensures.few in
+    let size = subst (λ (f : Option (List (List Bool))). IfSome f (λ r. length r ≡ atoms task)) c.in-Some.is c.in_ok-pairs.ensures.size in
+    let each = subst (λ (f : Option (List (List Bool))). IfSome f (λ r. (p q : ℕ) → (has_pair r p q ≡ true) ↔ ReachedPair task state p q)) c.in-Some.is
+    c.in_ok-pairs.ensures.reached in
+    let out = c.in_ok-pairs.ensures.some.0 (ap (λ (f : Option (List (List Bool))). is_some f) c.in-Some.is) in
+    (pairs_found_reason task c.in-Some.pairs state each c.in_ok-clauses-in-Some.clauses c.atoms.result c.atoms.ensures.atoms c.in_ok-clauses-in-Some.ensures
+    few c.requires.state out.1).dead
+
+pub returns-in-Some-clause-outcome : goal.returns-in-Some-clause-outcome
+returns-in-Some-clause-outcome c =
+    let task = c.args.task.now in
+    let state = c.args.state.now in
+    let few = subst (λ (f : Option (List (List Bool))). IfSome f (λ _. atoms task ≤ 1024)) c.in-Some.is c.in_ok-pairs.ensures.few in
+    let size = subst (λ (f : Option (List (List Bool))). IfSome f (λ r. length r ≡ atoms task)) c.in-Some.is c.in_ok-pairs.ensures.size in
+    let each = subst (λ (f : Option (List (List Bool))). IfSome f (λ r. (p q : ℕ) → (has_pair r p q ≡ true) ↔ ReachedPair task state p q)) c.in-Some.is
+    c.in_ok-pairs.ensures.reached in
+    let out = c.in_ok-pairs.ensures.some.0 (ap (λ (f : Option (List (List Bool))). is_some f) c.in-Some.is) in
     let lines = c.args.draft.now.lines in
     let notes = c.args.notes.now.items in
-    let clauses = c.in-Some.clauses in
+    let clauses = c.in_ok-clauses-in-Some.clauses in
     let none = none_told task lines notes state c.first_noted-noted.result (sym c.is_some.ensures ∙ c.if-is_some.false)
-    (told_same task c.table.result.now.lines lines c.as_slice.result.now notes state c.first_noted-noted.result
-    c.table.ensures.lines c.as_slice.ensures.value c.first_noted-noted.ensures) in
-    let reason = subst (λ (f : Option (List (List Literal))). IfSome f (IsReason task (PairsCover task) state)) c.in-Some.is
-    c.in_ok-clauses.ensures.reason in
-    let formula = subst (λ (f : Option (List (List Literal))). IfSome f (IsPairsFormula task state)) c.in-Some.is
-    c.in_ok-clauses.ensures.formula in
+    c.first_noted-noted.ensures in
     let wrote = c.in_ok-line-in-Some.ensures in
     subst (λ n. IsOutcome task (PairsCover task) (IsPairsBlock task state lines) state (Some n) notes c.args.draft.now
     c.write_block.new.notes.items c.write_block.new.draft) (sym wrote.line)
     (outcome_written task lines clauses (expr_count lines) (known_count lines) (subst (IsGoodTable task) wrote.lines wrote.good)
-    (PairsCover task) state reason (IsPairsBlock task state lines) notes c.requires.state c.requires.fits
-    (clauses, formula, (refl, refl, refl)) none c.args.draft.now c.write_block.new.draft c.write_block.new.notes.items refl
+    (PairsCover task) state (pairs_found_reason task c.in-Some.pairs state each c.in_ok-clauses-in-Some.clauses c.atoms.result c.atoms.ensures.atoms c.in_ok-clauses-in-Some.ensures
+    few c.requires.state out.1) (IsPairsBlock task state lines) notes c.requires.state c.requires.fits
+    (clauses, pairs_found_formula task c.in-Some.pairs state each c.in_ok-clauses-in-Some.clauses c.atoms.result c.atoms.ensures.atoms c.in_ok-clauses-in-Some.ensures, (refl, refl, refl)) none c.args.draft.now c.write_block.new.draft c.write_block.new.notes.items refl
     wrote.lines wrote.notes)
+
+pub returns-in-Some-clause-described : goal.returns-in-Some-clause-described
+returns-in-Some-clause-described c =
+    let task = c.args.task.now in
+    let state = c.args.state.now in
+    let few = subst (λ (f : Option (List (List Bool))). IfSome f (λ _. atoms task ≤ 1024)) c.in-Some.is c.in_ok-pairs.ensures.few in
+    let size = subst (λ (f : Option (List (List Bool))). IfSome f (λ r. length r ≡ atoms task)) c.in-Some.is c.in_ok-pairs.ensures.size in
+    let each = subst (λ (f : Option (List (List Bool))). IfSome f (λ r. (p q : ℕ) → (has_pair r p q ≡ true) ↔ ReachedPair task state p q)) c.in-Some.is
+    c.in_ok-pairs.ensures.reached in
+    let out = c.in_ok-pairs.ensures.some.0 (ap (λ (f : Option (List (List Bool))). is_some f) c.in-Some.is) in
+    let lines = c.args.draft.now.lines in
+    let clauses = c.in_ok-clauses-in-Some.clauses in
+    let wrote = c.in_ok-line-in-Some.ensures in
+    written_described task lines clauses (expr_count lines) (known_count lines) (subst (IsGoodTable task) wrote.lines wrote.good)
+    HoldsPairsOf (PairsCover task) c.args.notes.now.items c.args.reached.now.items c.in-Some.pairs c.requires.fits c.requires.described size
+    (pairs_found_holds task c.in-Some.pairs state each c.in_ok-clauses-in-Some.clauses c.atoms.result c.atoms.ensures.atoms c.in_ok-clauses-in-Some.ensures)
+    c.write_block.new.draft.lines c.write_block.new.notes.items c.push_reserved.new.self.items wrote.lines wrote.notes
+    (c.push_reserved.ensures.items ∙ ap (λ (xs : List (List (List Bool))). xs ++ c.in-Some.pairs ∷ []) c.reserve.ensures.items)

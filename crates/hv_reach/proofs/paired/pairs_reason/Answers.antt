@@ -1,9 +1,6 @@
-use Rattle.std.proofs.Common.{◌≡◌, ◌∙◌, ap, refl, subst, sym}
-use Rattle.hv_reach.specs.Pruners.{IsReason, PairsCover}
+use Rattle.std.proofs.Common.{◌∙◌, refl, subst, sym}
 use Rattle.hv_reach.specs.Reached.{HasPairsOf, has_pair}
-use Rattle.hv_reach.specs.Written.{pairs_formula}
 use Rattle.hv_reach.proofs.Deciding.{pairs_exclude, pairs_reached}
-use Rattle.hv_reach.proofs.Denials.{pairs_reason}
 use Rattle.hv_reach.proofs.paired.pairs_reason.Goals as goal
 
 pub returns-then-has_all-clause-some : goal.returns-then-has_all-clause-some
@@ -18,17 +15,3 @@ returns-clause-some c =
     let out = pairs_exclude c.args.task.now c.args.state.now r c.in_ok-pairs.ensures.reached (λ all. c.has_all.ensures.no c.if-has_all.false
     (subst (HasPairsOf r) (sym (c.as_slice.ensures.items ∙ c.goal.ensures.goal)) all)) in
     (λ is. out, λ _. refl)
-
-pub returns-clause-formula : goal.returns-clause-formula
-returns-clause-formula c =
-    let r = has_pair c.in_ok-pairs.pairs in
-    (r, c.in_ok-pairs.ensures.reached, c.in_ok-clauses.ensures ∙ ap (λ n. pairs_formula n r) c.atoms-2.ensures.atoms)
-
-pub returns-clause-reason : goal.returns-clause-reason
-returns-clause-reason c =
-    let task = c.args.task.now in
-    let state = c.args.state.now in
-    let r = has_pair c.in_ok-pairs.pairs in
-    let is : c.in_ok-clauses.clauses ≡ pairs_formula c.atoms-2.result r = c.in_ok-clauses.ensures in
-    subst (IsReason task (PairsCover task) state) (sym (is ∙ ap (λ n. pairs_formula n r) c.atoms-2.ensures.atoms))
-    (pairs_reason task state r c.in_ok-pairs.ensures.reached c.requires.few c.requires.state ((returns-clause-some c).0 refl))

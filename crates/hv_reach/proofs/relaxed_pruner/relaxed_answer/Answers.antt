@@ -1,47 +1,68 @@
-use Rattle.std.proofs.Common.{◌≡◌, ◌∙◌, List, Option, Some, slice_get, refl, sym, subst}
+use Rattle.std.proofs.Common.{◌≡◌, ◌∙◌, ◌↔◌, ◌++◌, ◌∷◌, [], true, ℕ, Bool, List, Option, Some, ap, is_some, length, refl, sym, subst}
 use Rattle.std.specs.Option.{IfSome}
+use Rattle.hv_task.specs.State.{has_atom}
 use Rattle.hv_task.specs.Strips.{atoms}
-use Rattle.hv_sets.specs.declared.literal.Literal.{Literal}
 use Rattle.hv_lines.specs.Drafts.{IsGoodTable}
 use Rattle.hv_lines.specs.Numbering.{expr_count, known_count}
-use Rattle.hv_lines.specs.declared.note.Note.{Note}
-use Rattle.hv_reach.specs.Pruners.{IsDenied, IsOutcome, IsReason, IsRelaxedBlock, IsRelaxedFormula}
+use Rattle.hv_reach.specs.Pruners.{HoldsAtomsOf, IsOutcome, IsRelaxedBlock}
+use Rattle.hv_reach.specs.Reached.{ReachedAtom}
 use Rattle.hv_reach.specs.Written.{RelaxedExcludesFrom}
-use Rattle.hv_reach.proofs.Writing.{none_told, outcome_told, outcome_written, told_same}
+use Rattle.hv_reach.proofs.Found.{relaxed_found_formula, relaxed_found_holds, relaxed_found_reason}
+use Rattle.hv_reach.proofs.Writing.{none_told, outcome_told, outcome_written, written_described}
 use Rattle.hv_reach.proofs.relaxed_pruner.relaxed_answer.Goals as goal
-
-pub first_noted-noted-requires-clause-notes : goal.first_noted-noted-requires-clause-notes
-first_noted-noted-requires-clause-notes c =
-    λ k note at.
-    subst (λ ls. IsDenied (atoms c.args.task.now) ls note.set) (sym c.table.ensures.lines)
-    (c.requires.fits k note (subst (λ (xs : List Note). slice_get xs k ≡ Some note) c.as_slice.ensures.value at)).1
 
 pub returns-then-is_some-clause-outcome : goal.returns-then-is_some-clause-outcome
 returns-then-is_some-clause-outcome c =
     outcome_told c.args.task.now (RelaxedExcludesFrom c.args.task.now) (IsRelaxedBlock c.args.task.now c.args.state.now c.args.draft.now.lines)
     c.args.state.now c.args.notes.now.items c.args.draft.now c.requires.state c.requires.good c.requires.fits
-    c.first_noted-noted.result (sym c.is_some.ensures ∙ c.if-is_some.true)
-    (told_same c.args.task.now c.table.result.now.lines c.args.draft.now.lines c.as_slice.result.now c.args.notes.now.items
-    c.args.state.now c.first_noted-noted.result c.table.ensures.lines c.as_slice.ensures.value c.first_noted-noted.ensures)
+    c.first_noted-noted.result (sym c.is_some.ensures ∙ c.if-is_some.true) c.first_noted-noted.ensures
+
+pub write_block-requires-clause-dead : goal.write_block-requires-clause-dead
+write_block-requires-clause-dead c =
+    let task = c.args.task.now in
+    let state = c.args.state.now in
+    let size = subst (λ (f : Option (List Bool)). IfSome f (λ r. length r ≡ atoms task)) c.in-Some.is c.in_ok-held.ensures.size in
+    let each = subst (λ (f : Option (List Bool)). IfSome f (λ r. (p : ℕ) → (has_atom r p ≡ true) ↔ ReachedAtom task state p)) c.in-Some.is
+    c.in_ok-held.ensures.reached in
+    let out = c.in_ok-held.ensures.some.0 (ap (λ (f : Option (List Bool)). is_some f) c.in-Some.is) in
+    (relaxed_found_reason task c.in-Some.held size state each c.in_ok-clauses-in-Some.clauses c.in_ok-clauses-in-Some.ensures
+    c.atoms-atoms.ensures.task.few_atoms c.requires.state out).dead
 
 pub returns-in_ok-line-in-Some-clause-outcome : goal.returns-in_ok-line-in-Some-clause-outcome
 returns-in_ok-line-in-Some-clause-outcome c =
     let task = c.args.task.now in
     let state = c.args.state.now in
+    let size = subst (λ (f : Option (List Bool)). IfSome f (λ r. length r ≡ atoms task)) c.in-Some.is c.in_ok-held.ensures.size in
+    let each = subst (λ (f : Option (List Bool)). IfSome f (λ r. (p : ℕ) → (has_atom r p ≡ true) ↔ ReachedAtom task state p)) c.in-Some.is
+    c.in_ok-held.ensures.reached in
+    let out = c.in_ok-held.ensures.some.0 (ap (λ (f : Option (List Bool)). is_some f) c.in-Some.is) in
     let lines = c.args.draft.now.lines in
     let notes = c.args.notes.now.items in
-    let clauses = c.in-Some.clauses in
+    let clauses = c.in_ok-clauses-in-Some.clauses in
     let none = none_told task lines notes state c.first_noted-noted.result (sym c.is_some.ensures ∙ c.if-is_some.false)
-    (told_same task c.table.result.now.lines lines c.as_slice.result.now notes state c.first_noted-noted.result
-    c.table.ensures.lines c.as_slice.ensures.value c.first_noted-noted.ensures) in
-    let reason = subst (λ (f : Option (List (List Literal))). IfSome f (IsReason task (RelaxedExcludesFrom task) state)) c.in-Some.is
-    c.in_ok-clauses.ensures.reason in
-    let formula = subst (λ (f : Option (List (List Literal))). IfSome f (IsRelaxedFormula task state)) c.in-Some.is
-    c.in_ok-clauses.ensures.formula in
+    c.first_noted-noted.ensures in
     let wrote = c.in_ok-line-in-Some.ensures in
     subst (λ n. IsOutcome task (RelaxedExcludesFrom task) (IsRelaxedBlock task state lines) state (Some n) notes c.args.draft.now
     c.write_block.new.notes.items c.write_block.new.draft) (sym wrote.line)
     (outcome_written task lines clauses (expr_count lines) (known_count lines) (subst (IsGoodTable task) wrote.lines wrote.good)
-    (RelaxedExcludesFrom task) state reason (IsRelaxedBlock task state lines) notes c.requires.state c.requires.fits
-    (clauses, formula, (refl, refl, refl)) none c.args.draft.now c.write_block.new.draft c.write_block.new.notes.items refl
+    (RelaxedExcludesFrom task) state (relaxed_found_reason task c.in-Some.held size state each c.in_ok-clauses-in-Some.clauses c.in_ok-clauses-in-Some.ensures
+    c.atoms-atoms.ensures.task.few_atoms c.requires.state out) (IsRelaxedBlock task state lines) notes c.requires.state c.requires.fits
+    (clauses, relaxed_found_formula task c.in-Some.held size state each c.in_ok-clauses-in-Some.clauses c.in_ok-clauses-in-Some.ensures, (refl, refl, refl)) none c.args.draft.now c.write_block.new.draft c.write_block.new.notes.items refl
     wrote.lines wrote.notes)
+
+pub returns-in_ok-line-in-Some-clause-described : goal.returns-in_ok-line-in-Some-clause-described
+returns-in_ok-line-in-Some-clause-described c =
+    let task = c.args.task.now in
+    let state = c.args.state.now in
+    let size = subst (λ (f : Option (List Bool)). IfSome f (λ r. length r ≡ atoms task)) c.in-Some.is c.in_ok-held.ensures.size in
+    let each = subst (λ (f : Option (List Bool)). IfSome f (λ r. (p : ℕ) → (has_atom r p ≡ true) ↔ ReachedAtom task state p)) c.in-Some.is
+    c.in_ok-held.ensures.reached in
+    let out = c.in_ok-held.ensures.some.0 (ap (λ (f : Option (List Bool)). is_some f) c.in-Some.is) in
+    let lines = c.args.draft.now.lines in
+    let clauses = c.in_ok-clauses-in-Some.clauses in
+    let wrote = c.in_ok-line-in-Some.ensures in
+    written_described task lines clauses (expr_count lines) (known_count lines) (subst (IsGoodTable task) wrote.lines wrote.good)
+    HoldsAtomsOf (RelaxedExcludesFrom task) c.args.notes.now.items c.args.reached.now.items c.in-Some.held c.requires.fits c.requires.described size
+    (relaxed_found_holds task c.in-Some.held size state each c.in_ok-clauses-in-Some.clauses c.in_ok-clauses-in-Some.ensures)
+    c.write_block.new.draft.lines c.write_block.new.notes.items c.push_reserved.new.self.items wrote.lines wrote.notes
+    (c.push_reserved.ensures.items ∙ ap (λ (xs : List (List Bool)). xs ++ c.in-Some.held ∷ []) c.reserve.ensures.items)

@@ -1,16 +1,24 @@
 use Rattle.std.proofs.Common.{subst, sym}
-use Rattle.hv_reach.specs.Pruners.{AreHornNotes, IsRelaxedBlock}
+use Rattle.hv_reach.specs.Pruners.{FitRelaxed, HoldsAtomsOf, IsRelaxedBlock}
 use Rattle.hv_reach.specs.Written.{RelaxedExcludesFrom}
-use Rattle.hv_reach.proofs.Writing.{fits_after}
+use Rattle.hv_reach.proofs.Writing.{described_after, fits_after}
 use Rattle.hv_reach.proofs.relaxed_pruner.RelaxedPruner.answer.Goals as goal
 
 pub relaxed_answer-requires-clause-fits : goal.relaxed_answer-requires-clause-fits
 relaxed_answer-requires-clause-fits c =
-    subst (AreHornNotes c.args.task.now (RelaxedExcludesFrom c.args.task.now) c.args.draft.now.lines) (sym c.self.view_is) c.requires.fits
+    (subst (FitRelaxed c.args.task.now c.args.draft.now.lines) (sym c.self.view_is) c.requires.fits).0
+
+pub relaxed_answer-requires-clause-described : goal.relaxed_answer-requires-clause-described
+relaxed_answer-requires-clause-described c =
+    (subst (FitRelaxed c.args.task.now c.args.draft.now.lines) (sym c.self.view_is) c.requires.fits).1
 
 pub returns-clause-fits : goal.returns-clause-fits
 returns-clause-fits c =
-    fits_after c.args.task.now (RelaxedExcludesFrom c.args.task.now) (IsRelaxedBlock c.args.task.now c.args.state.now c.args.draft.now.lines)
-    c.args.state.now c.self.inside.notes.items c.args.draft.now c.relaxed_answer.new.notes.items c.relaxed_answer.new.draft c.relaxed_answer.result
-    c.relaxed_answer.ensures.outcome c.relaxed_answer.ensures.err_draft c.relaxed_answer.ensures.err_notes
-    (subst (AreHornNotes c.args.task.now (RelaxedExcludesFrom c.args.task.now) c.args.draft.now.lines) (sym c.self.view_is) c.requires.fits)
+    let e = c.relaxed_answer.ensures in
+    let n = c.relaxed_answer.new in
+    let fits = subst (FitRelaxed c.args.task.now c.args.draft.now.lines) (sym c.self.view_is) c.requires.fits in (
+      fits_after c.args.task.now (RelaxedExcludesFrom c.args.task.now) (IsRelaxedBlock c.args.task.now c.args.state.now c.args.draft.now.lines) c.args.state.now
+          c.self.inside.notes.items c.args.draft.now n.notes.items n.draft c.relaxed_answer.result e.outcome e.err_draft e.err_notes fits.0,
+      described_after HoldsAtomsOf c.args.task.now c.args.draft.now n.draft c.self.inside.notes.items n.notes.items c.self.inside.reached.items
+          n.reached.items c.relaxed_answer.result e.described e.err_draft e.err_notes e.err_reached fits.1,
+    )

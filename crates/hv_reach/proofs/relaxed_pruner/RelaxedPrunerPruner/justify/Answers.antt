@@ -1,8 +1,6 @@
-use Rattle.hv_reach.specs.Written.{RelaxedExcludesFrom}
-use Rattle.hv_reach.specs.Fitting.{notes_fit}
+use Rattle.hv_reach.specs.Fitting.{relaxed_fits}
 use Rattle.hv_reach.proofs.relaxed_pruner.RelaxedPrunerPruner.justify.Goals as goal
 
 pub returns-clause-fits : goal.returns-clause-fits
 returns-clause-fits c =
-    λ lines extends.
-    notes_fit c.args.task.now (RelaxedExcludesFrom c.args.task.now) c.answer.new.draft.lines lines c.answer.new.self c.answer.ensures.fits extends
+    λ lines extends. relaxed_fits c.args.task.now c.answer.new.draft.lines lines c.answer.new.self c.answer.ensures.fits extends
