@@ -1,12 +1,12 @@
 -- The block of the greatest trap, and the whole proof by it: each line is good.
-use Rattle.std.proofs.Common.{◌≡◌, ℕ, ◌+◌, ◌*◌, ◌<◌, ◌≤◌, ◌^◌, ◌∙◌, ◌⊎◌, Bool, true, false, List, [], ◌∷◌, Some, length, refl, sym, ap, subst, inl, inr, arith}
+use Rattle.std.proofs.Common.{◌≡◌, ℕ, ◌+◌, ◌*◌, ◌<◌, ◌≤◌, ◌^◌, ◌∙◌, ◌⊎◌, Bool, true, false, List, [], ◌∷◌, Some, length, refl, ap, subst, inl, inr, arith}
 use Rattle.std.proofs.lemmas.List.Elements.{All-cons, All-nil}
 use Rattle.std.specs.List.{All, Contains}
 use Rattle.hv_task.specs.State.{successor}
-use Rattle.hv_task.specs.Strips.{Strips, atoms, start_state}
+use Rattle.hv_task.specs.Strips.{Strips, start_state}
 use Rattle.hv_sets.specs.Truth.{in_clauses}
 use Rattle.hv_sets.specs.declared.literal.Literal.{Literal}
-use Rattle.hv_lines.specs.Drafts.{IsGoodTable, draft_setting, onto, prelude}
+use Rattle.hv_lines.specs.Drafts.{IsGoodTable, default_budget, draft_setting, onto, prelude}
 use Rattle.hv_lines.specs.Good.{IsGood}
 use Rattle.hv_lines.specs.Judged.{Concludes}
 use Rattle.hv_lines.specs.Literals.{IsPlainSet}
@@ -28,7 +28,7 @@ use Rattle.hv_lines.proofs.Carried.{expr_onto, known_onto}
 use Rattle.hv_lines.proofs.Drafting.{below_three, below_two, concludes, formed_expr, formed_known, good_conclusion, good_expr, good_prelude, good_rule, table_of}
 use Rattle.hv_lines.proofs.Laws.{acts_below, expr_at_here, expr_below, known_below, set_in, set_out, statement_at_here}
 use Rattle.hv_lines.proofs.Lengths.{short_and, short_known, short_or}
-use Rattle.hv_trap.specs.Written.{trap_block, trap_proof}
+use Rattle.hv_trap.specs.Written.{trap_block, trap_proof, with_budget}
 use Rattle.hv_trap.proofs.Formulas.{IsTrapFormula, formula_fits, formula_small, formula_two, short_before, short_not, short_two}
 use Rattle.hv_trap.proofs.Listed.{both_ways}
 use Rattle.hv_trap.proofs.Sides.{IsTwoSet, Literals, cons_cases, nothing_in}
@@ -239,22 +239,24 @@ module _ (task : Strips) (old : List Line) (good : IsGoodTable task old) (s k : 
   empty_two : IsTwoSet B5 0
   empty_two = constant_two B5 0 C.Empty at_empty
 
-  line6 : IsGood setting B5 L6
-  line6 =
-      good_two_b3 setting B5 table5 k (s + 2) (s + 3) (s ∷ []) (0 ∷ s ∷ []) ((s, true) ∷ []) ((0, true) ∷ (s, true) ∷ [])
+  -- the basic statements are good with each budget that the clauses don't pass
+  pub line6 : (budget : ℕ) → length clauses ≤ budget → IsGood (with_budget task budget) B5 L6
+  line6 budget enough =
+      good_two_b3 (with_budget task budget) B5 table5 k (s + 2) (s + 3) (s ∷ []) (0 ∷ s ∷ []) ((s, true) ∷ []) ((0, true) ∷ (s, true) ∷ [])
       ((refl, plain_of B5 s set_two), tt) ((refl, plain_of B5 0 empty_two), ((refl, plain_of B5 s set_two), tt))
       (leaves_ba or_parts B5 (s + 3) s 0 (E.Or s 0) at_or refl (one_leaf or_parts B5 s (E.Two clauses) at_set refl)
       (one_leaf or_parts B5 0 (E.Constant C.Empty) at_empty refl))
       (all_two B5 ((s, true) ∷ []) ((0, true) ∷ (s, true) ∷ []) (set_two, tt) (empty_two, (set_two, tt)))
       ((s, true), inl (first_of (s, true) []), (E.Two clauses, at_set, refl))
       s 0 at_before (one_leaf and_parts B5 s (E.Two clauses) at_set refl)
-      (formed_known setting B5 k (T.Sub (s + 2) (s + 3)) W.B3 [] (omega (arith, k_few)) (omega (arith, s_few), omega (arith, s_few))
+      (formed_known (with_budget task budget) B5 k (T.Sub (s + 2) (s + 3)) W.B3 [] (omega (arith, k_few)) (omega (arith, s_few), omega (arith, s_few))
       (All-nil FitsDecimal) refl k_is (omega (arith, s_is), omega (arith, s_is)) (All-nil (λ x. x < known_count B5)))
       (omega arith) (rises_one true s) (rises_two false 0 s (omega (arith, two_below)))
       (omega (
         arith,
-        formula.few,
-        product_two setting B5 0 s (length clauses) (empty_clauses setting B5 0 at_empty) (two_clauses setting B5 s clauses at_set),
+        enough,
+        product_two (with_budget task budget) B5 0 s (length clauses) (empty_clauses (with_budget task budget) B5 0 at_empty)
+            (two_clauses (with_budget task budget) B5 s clauses at_set),
       ))
       (λ number a named state is_state applies inside outside.
       outside (s, false) (second_of (0, false) (s, false) [])
@@ -265,7 +267,7 @@ module _ (task : Strips) (old : List Line) (good : IsGoodTable task old) (s k : 
   good6 : IsGoodTable task B6
   good6 = (
     record {
-      good = line6;
+      good = line6 default_budget (omega (arith, formula.few));
       short = short_known k (T.Sub (s + 2) (s + 3)) W.B3 [] (omega (arith, k_few)) (omega (arith, s_few), omega (arith, s_few))
           (All-nil FitsDecimal) (omega arith) (omega arith);
     },
@@ -284,22 +286,23 @@ module _ (task : Strips) (old : List Line) (good : IsGoodTable task old) (s k : 
   empty_two6 : IsTwoSet B6 0
   empty_two6 = constant_two B6 0 C.Empty at_empty
 
-  line7 : IsGood setting B6 L7
-  line7 =
-      good_two_b1 setting B6 table6 (k + 1) (s + 4) 0 (2 ∷ (s + 1) ∷ []) (0 ∷ []) ((2, true) ∷ (s, false) ∷ []) ((0, true) ∷ [])
+  pub line7 : (budget : ℕ) → length clauses ≤ budget → IsGood (with_budget task budget) B6 L7
+  line7 budget enough =
+      good_two_b1 (with_budget task budget) B6 table6 (k + 1) (s + 4) 0 (2 ∷ (s + 1) ∷ []) (0 ∷ []) ((2, true) ∷ (s, false) ∷ []) ((0, true) ∷ [])
       ((refl, plain_of B6 2 goal_two), ((at_not, plain_of B6 s set_two6), tt)) ((refl, plain_of B6 0 empty_two6), tt)
       (one_leaf or_parts B6 0 (E.Constant C.Empty) at_empty refl)
       (all_two B6 ((2, true) ∷ (s, false) ∷ []) ((0, true) ∷ []) (goal_two, (set_two6, tt)) (empty_two6, tt))
       ((s, false), inl (second_of (2, true) (s, false) []), (E.Two clauses, at_set, refl))
       (leaves_ba and_parts B6 (s + 4) (s + 1) 2 (E.And (s + 1) 2) at_and refl (one_leaf and_parts B6 (s + 1) (E.Not s) at_not refl)
       (one_leaf and_parts B6 2 (E.Constant C.Goal) at_goal refl))
-      (formed_known setting B6 (k + 1) (T.Sub (s + 4) 0) W.B1 [] (omega (arith, k_few)) (omega (arith, s_few), zero_fits)
+      (formed_known (with_budget task budget) B6 (k + 1) (T.Sub (s + 4) 0) W.B1 [] (omega (arith, k_few)) (omega (arith, s_few), zero_fits)
       (All-nil FitsDecimal) refl (omega (arith, k_is)) (omega (arith, s_is), omega arith) (All-nil (λ x. x < known_count B6)))
       (omega arith) (rises_one false 2) (rises_two false 0 s (omega (arith, two_below)))
       (omega (
         arith,
-        formula.few,
-        product_two setting B6 0 s (length clauses) (empty_clauses setting B6 0 at_empty) (two_clauses setting B6 s clauses at_set),
+        enough,
+        product_two (with_budget task budget) B6 0 s (length clauses) (empty_clauses (with_budget task budget) B6 0 at_empty)
+            (two_clauses (with_budget task budget) B6 s clauses at_set),
       ))
       (λ state is_state inside outside.
       outside (s, false) (second_of (0, false) (s, false) [])
@@ -310,7 +313,7 @@ module _ (task : Strips) (old : List Line) (good : IsGoodTable task old) (s k : 
   good7 : IsGoodTable task B7
   good7 = (
     record {
-      good = line7;
+      good = line7 default_budget (omega (arith, formula.few));
       short = short_known (k + 1) (T.Sub (s + 4) 0) W.B1 [] (omega (arith, k_few)) (omega (arith, s_few), zero_fits) (All-nil FitsDecimal)
           (omega arith) (omega arith);
     },
@@ -424,9 +427,9 @@ module _ (task : Strips) (clauses : List (List Literal)) (formula : IsTrapFormul
         (set_out task (draft_setting task).nodes Block 3 (E.Two clauses) block_table set_at state inside))
         breaks
 
-    first : IsGood (draft_setting task) Block (L.Known 5 (T.Sub 1 4) W.B1 [])
-    first =
-        good_two_b1 (draft_setting task) Block block_table 5 1 4 (1 ∷ []) (4 ∷ []) ((1, true) ∷ []) ((3, false) ∷ [])
+    pub first : (budget : ℕ) → 0 < budget → IsGood (with_budget task budget) Block (L.Known 5 (T.Sub 1 4) W.B1 [])
+    first budget some =
+        good_two_b1 (with_budget task budget) Block block_table 5 1 4 (1 ∷ []) (4 ∷ []) ((1, true) ∷ []) ((3, false) ∷ [])
         ((refl, plain_of Block 1 (constant_two Block 1 C.Start start_at)), tt)
         ((not_at, plain_of Block 3 (formula_is_two Block 3 clauses set_at)), tt)
         (one_leaf or_parts Block 4 (E.Not 3) not_at refl)
@@ -434,16 +437,16 @@ module _ (task : Strips) (clauses : List (List Literal)) (formula : IsTrapFormul
         (formula_is_two Block 3 clauses set_at, tt))
         ((3, false), inr (first_of (3, false) []), (E.Two clauses, set_at, refl))
         (one_leaf and_parts Block 1 (E.Constant C.Start) start_at refl)
-        (formed_known (draft_setting task) Block 5 (T.Sub 1 4) W.B1 [] (omega arith) (omega arith, omega arith) (All-nil FitsDecimal) refl
+        (formed_known (with_budget task budget) Block 5 (T.Sub 1 4) W.B1 [] (omega arith) (omega arith, omega arith) (All-nil FitsDecimal) refl
         refl (omega arith, omega arith) (All-nil (λ x. x < known_count Block)))
-        (omega arith) (rises_two false 1 3 (omega arith)) rises_none (omega arith)
+        (omega arith) (rises_two false 1 3 (omega arith)) rises_none (omega (arith, some))
         (λ state is_state inside outside.
         not_both state (inside (1, false) (first_of (1, false) ((3, false) ∷ []))) (inside (3, false) (second_of (1, false) (3, false) [])))
 
     -- the seventeen lines are good
     pub good_trap_proof : IsGoodTable task (trap_proof clauses)
     good_trap_proof =
-        good_conclusion task Block good_start_block 5 4 4 refl (omega arith) (omega arith) start_at (omega arith) refl first
+        good_conclusion task Block good_start_block 5 4 4 refl (omega arith) (omega arith) start_at (omega arith) refl (first default_budget (omega arith))
 
 -- and conclude
 pub trap_concludes : (task : Strips) (clauses : List (List Literal)) → Concludes (trap_proof clauses)

@@ -7,7 +7,7 @@ use Rattle.std.specs.List.{All, filter, list_all}
 use Rattle.std.specs.Prelude.{take}
 use Rattle.hv_task.specs.declared.action.Action.{Action}
 use Rattle.hv_task.specs.State.{successor}
-use Rattle.hv_task.specs.Strips.{Strips, atoms}
+use Rattle.hv_task.specs.Strips.{IsOver, Strips, atoms}
 use Rattle.hv_sets.specs.Truth.{in_clause, in_clauses, in_cube}
 use Rattle.hv_sets.specs.declared.literal.Literal.{Literal}
 use Rattle.hv_clauses.specs.Clausal.{AreClauses}
@@ -150,3 +150,16 @@ module _ (task : Strips) (formula clauses kept : List (List Literal)) (number : 
         let false_in : in_clauses clauses state ≡ false = ap (λ cs. in_clauses cs state) all ∙ escape.before in
         let fewer = filter_fewer (λ c. in_clause c state) clauses false_in in
         let same = ap length by_state in omega (arith, fewer, same)
+
+-- what is over the atoms of a task of at most 64 is over 64 atoms
+
+pub few_below : (task : Strips) (clauses : List (List Literal)) → atoms task ≤ 64 → EncloseTrap task clauses → AreClauses 64 clauses
+few_below task clauses few (set, has) =
+    λ i d less. λ j e low. let one = enclose_below task set clauses has i d less j e low in omega (arith, few, one)
+
+pub few_over : (task : Strips) (a : Action) → atoms task ≤ 64 → IsOver (atoms task) a → IsOver 64 a
+few_over task a few over = record {
+  pre = λ i d less. let one = over.pre i d less in omega (arith, few, one);
+  add = λ i d less. let one = over.add i d less in omega (arith, few, one);
+  del = λ i d less. let one = over.del i d less in omega (arith, few, one);
+}

@@ -1,5 +1,5 @@
 -- The formula of the greatest trap: how many clauses it has, and of what size, and the lines of which it is a part.
-use Rattle.std.proofs.Common.{◌≡◌, ℕ, zero, suc, ◌+◌, ◌*◌, ◌-◌, ◌<◌, ◌≤◌, ◌∙◌, ◌⊎◌, ◌&&◌, Bool, true, false, List, [], ◌∷◌, ◌++◌, if◌then◌else◌, length, map, decimal, cond, get_or, refl, sym, ap, subst, inl, inr, arith, length-append}
+use Rattle.std.proofs.Common.{◌≡◌, ℕ, zero, suc, ◌+◌, ◌*◌, ◌-◌, ◌<◌, ◌≤◌, ◌∙◌, ◌⊎◌, Bool, true, false, List, [], ◌∷◌, if◌then◌else◌, length, decimal, cond, get_or, refl, sym, ap, subst, inl, inr, arith, length-append}
 use Rattle.std.proofs.lemmas.Fmt.{length-decimal-le_wide}
 use Rattle.std.proofs.lemmas.List.Elements.{All-append, All-cons, All-head, All-nil, All-tail}
 use Rattle.std.proofs.lemmas.List.FromFn.{length-range_with_len}
@@ -187,7 +187,7 @@ clause_short (l ∷ k ∷ []) small =
     )
 clause_short (l ∷ k ∷ m ∷ rest) small = absurd (omega (arith, small.few))
 
-clauses_short : (clauses : List (List Literal)) → All IsSmall clauses → weight (flat_map clause_fields clauses) ≤ 16 * length clauses
+pub clauses_short : (clauses : List (List Literal)) → All IsSmall clauses → weight (flat_map clause_fields clauses) ≤ 16 * length clauses
 clauses_short [] small = omega arith
 clauses_short (clause ∷ clauses) small =
     omega (

@@ -7,4 +7,6 @@ pub mod TwoBasics
 pub mod Formulas
 pub mod Block
 pub mod Proofs
+pub mod Modest
+pub mod Writing
 pub mod Trues

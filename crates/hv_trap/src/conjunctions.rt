@@ -106,7 +106,8 @@ fn denies_goal(goal: &AtomList, literal: Literal) -> bool
     !literal.positive && goal.has(literal.atom)
 }
 
-fn holds(atom: u32) -> Literal
+/// The literal of the atom.
+pub(crate) fn holds(atom: u32) -> Literal
     ensures { result ≡ holds atom }
 {
     Literal {
@@ -115,7 +116,8 @@ fn holds(atom: u32) -> Literal
     }
 }
 
-fn denies(atom: u32) -> Literal
+/// The literal that denies the atom.
+pub(crate) fn denies(atom: u32) -> Literal
     ensures { result ≡ denies atom }
 {
     Literal {
@@ -124,7 +126,8 @@ fn denies(atom: u32) -> Literal
     }
 }
 
-fn opposite(literal: Literal) -> Literal
+/// The literal of the same atom with the other sign.
+pub(crate) fn opposite(literal: Literal) -> Literal
     ensures { result ≡ opposite literal }
 {
     Literal {

@@ -8,7 +8,7 @@ ghost use Rattle.hv_lines.specs.Drafts.{IsGoodTable};
 ghost use Rattle.hv_lines.specs.Judged.{Concludes};
 ghost use Rattle.hv_lines.specs.declared.line.Line.{Line};
 ghost use Rattle.hv_trap.specs.Trap.{AreTrapClauses, IsSatisfied, Stays};
-ghost use Rattle.hv_trap.specs.Written.{IsTrapProof};
+ghost use Rattle.hv_trap.specs.Written.{IsModest, IsTrapProof};
 
 /// Does nothing: its contract states that a task has one list of clauses of its greatest trap; that
 /// they are true in the states that satisfy no conjunction of the greatest trap, and in no others;
@@ -30,7 +30,8 @@ pub fn laws_of_traps()
 
 /// Does nothing: its contract states that a task has one proof by its greatest trap, of seventeen
 /// lines, which is good and concludes where the initial state satisfies a conjunction of the trap,
-/// in a task of at most 64 atoms.
+/// in a task of at most 64 atoms. No query of it costs more than 6,112 clauses, and no line is
+/// longer than 7,400,000 bytes.
 pub fn laws_of_trap_proofs()
     ensures once { (task : Strips) (x y : List Line)
         → IsTrapProof task x → IsTrapProof task y → x ≡ y }
@@ -40,4 +41,7 @@ pub fn laws_of_trap_proofs()
         → IsSatisfied task (start_state task) → IsTrapProof task lines → IsGoodTable task lines }
     ensures concludes { (task : Strips) (lines : List Line) → IsTrapProof task lines
         → Concludes lines }
+    ensures modest { (task : Strips) (lines : List Line) → atoms task ≤ 64
+        → IsSatisfied task (start_state task) → IsTrapProof task lines
+        → IsModest task 6112 lines }
 {}

@@ -5,8 +5,16 @@
 mod conjunctions;
 pub mod fault;
 pub mod laws;
+mod mask;
+mod notes;
 pub mod proof;
+pub mod pruner;
+#[cfg(test)]
+mod pruner_tests;
+mod rows;
 mod step;
+mod sweep;
+mod table;
 #[cfg(test)]
 mod tests;
 pub mod trap;
@@ -14,4 +22,5 @@ pub mod trap;
 pub use fault::TrapFault;
 pub use laws::{laws_of_trap_proofs, laws_of_traps};
 pub use proof::prove_trap;
+pub use pruner::TrapPruner;
 pub use trap::greatest_trap;

@@ -3,7 +3,6 @@
 ghost use Rattle.std.specs.Prelude.{◌≡◌, ◌<◌, ◌≤◌, ◌↔◌, ◌+◌, ◌^◌, IsTrue, IfOk, IfErr, IfSome, false, is_some, length};
 ghost use Rattle.hv_task.specs.Strips.{atoms, start_state};
 ghost use Rattle.hv_sets.specs.Truth.{in_clauses};
-ghost use Rattle.hv_clauses.specs.Clausal.{AreClauses};
 ghost use Rattle.hv_lines.specs.Drafts.{IsGoodTable};
 ghost use Rattle.hv_lines.specs.Judged.{Concludes};
 ghost use Rattle.hv_trap.specs.declared.fault.TrapFault.TheVariants as F;
@@ -11,11 +10,11 @@ ghost use Rattle.hv_trap.specs.Trap.{AreTrapClauses, IsSatisfied};
 ghost use Rattle.hv_trap.specs.Written.{IsTrapProof, trap_block, trap_proof};
 
 use crate::fault::TrapFault;
-use crate::step::is_true_in;
+use crate::step::are_true_in;
 use crate::trap::greatest_trap;
 use hv_lines::{Draft, Expr, Line, Premises, Statement, Word, conclusion};
 use hv_sets::Clauses;
-use hv_task::{State, Task};
+use hv_task::Task;
 use std::alloc::{AllocError, Global};
 
 /// The proof that the task has no plan where the initial state satisfies a conjunction of the greatest
@@ -56,19 +55,6 @@ fn proof_by(alloc: Global, task: &Task, clauses: Clauses) -> Result<Option<Draft
     Ok(Some(draft))
 }
 
-// Whether all clauses are true in the state.
-fn are_true_in(clauses: &Clauses, state: &State) -> bool
-    requires { AreClauses (length state.now) clauses.now }
-    ensures { result ≡ in_clauses clauses.now state.now }
-{
-    for place in 0..clauses.len() {
-        if !is_true_in(clauses.get(place), state) {
-            return false;
-        }
-    }
-    true
-}
-
 // The proof by the clauses of the greatest trap.
 fn trap_proof(alloc: Global, task: &Task, clauses: Clauses) -> Result<Draft, AllocError>
     requires few { atoms task.now ≤ 64 }
@@ -87,9 +73,9 @@ fn trap_proof(alloc: Global, task: &Task, clauses: Clauses) -> Result<Draft, All
     Ok(draft)
 }
 
-// The nine lines which show that the states outside the formula are dead; the formula becomes this
-// set, and the first statement has this identifier.
-fn trap_block(
+/// The nine lines which show that the states outside the formula are dead; the formula becomes this
+/// set, and the first statement has this identifier.
+pub(crate) fn trap_block(
     alloc: Global,
     set: usize,
     id: usize,

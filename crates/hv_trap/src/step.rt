@@ -4,7 +4,7 @@ ghost use Rattle.std.specs.Prelude.{◌≡◌, ◌<◌, ◌≤◌, ◌∷◌, �
 ghost use Rattle.std.specs.List.{filter};
 ghost use Rattle.hv_task.specs.Strips.{atoms};
 ghost use Rattle.hv_sets.specs.Cubes.{SpeakBelow};
-ghost use Rattle.hv_sets.specs.Truth.{in_clause};
+ghost use Rattle.hv_sets.specs.Truth.{in_clause, in_clauses};
 ghost use Rattle.hv_clauses.specs.Clausal.{AreClauses};
 ghost use Rattle.hv_trap.specs.Asking.{IsAsking, clauses_asked, formula_asked};
 ghost use Rattle.hv_trap.specs.Trap.{EncloseTrap, Escapes, Stays};
@@ -133,8 +133,12 @@ fn leads_in(
     Ok(found == Finding::Clash)
 }
 
-// The clauses that are true in the state, in order.
-fn true_in(alloc: Global, clauses: &Clauses, state: &State) -> Result<Clauses, AllocError>
+/// The clauses that are true in the state, in order.
+pub(crate) fn true_in(
+    alloc: Global,
+    clauses: &Clauses,
+    state: &State,
+) -> Result<Clauses, AllocError>
     requires { AreClauses (length state.now) clauses.now }
     ensures { IfOk result (λ kept. kept ≡ filter (λ c. in_clause c state.now) clauses.now) }
 {
@@ -157,10 +161,23 @@ fn put_true(kept: &mut Clauses, clause: &[Literal], state: &State) -> Result<(),
     Ok(())
 }
 
-/// Whether some literal of the clause is true in the state.
-pub(crate) fn is_true_in(clause: &[Literal], state: &State) -> bool
+// Whether some literal of the clause is true in the state.
+fn is_true_in(clause: &[Literal], state: &State) -> bool
     requires { SpeakBelow (length state.now) clause.now }
     ensures { result ≡ in_clause clause.now state.now }
 {
     clause.iter().any(|literal| literal.is_true_in(state))
+}
+
+/// Whether all clauses are true in the state.
+pub(crate) fn are_true_in(clauses: &Clauses, state: &State) -> bool
+    requires { AreClauses (length state.now) clauses.now }
+    ensures { result ≡ in_clauses clauses.now state.now }
+{
+    for place in 0..clauses.len() {
+        if !is_true_in(clauses.get(place), state) {
+            return false;
+        }
+    }
+    true
 }

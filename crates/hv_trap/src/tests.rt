@@ -31,7 +31,7 @@ fn list_of(alloc: Global, bound: u32, atoms: &[u32]) -> Result<AtomList, AllocEr
 }
 
 // A task of so many atoms without actions.
-fn task_of(alloc: Global, count: u32, goal: &[u32]) -> Result<Task, AllocError>
+pub(crate) fn task_of(alloc: Global, count: u32, goal: &[u32]) -> Result<Task, AllocError>
     requires { count ≤ 2000 }
 {
     let mut task = Task::new(alloc);
@@ -44,7 +44,7 @@ fn task_of(alloc: Global, count: u32, goal: &[u32]) -> Result<Task, AllocError>
     Ok(task)
 }
 
-fn add(
+pub(crate) fn add(
     alloc: Global,
     task: &mut Task,
     pre: &[u32],
@@ -203,6 +203,18 @@ fn none_where_each_atom_can_be_added(rt: HostRuntime) -> Result<(), Fail> {
         add(rt.alloc(), &mut task, &[], &[atom], &[])?;
     }
     assert!(rt; prove_trap(rt.alloc(), &task)?.is_none());
+    assert!(rt; greatest_trap(rt.alloc(), &task)?.is_empty());
+    Ok(())
+}
+
+#[test]
+fn none_in_a_chain_in_which_each_atom_is_got_from_the_one_before(
+    rt: HostRuntime,
+) -> Result<(), Fail> {
+    let mut task = task_of(rt.alloc(), 64, &[63])?;
+    for atom in 0..63u32 {
+        add(rt.alloc(), &mut task, &[atom], &[atom + 1], &[])?;
+    }
     assert!(rt; greatest_trap(rt.alloc(), &task)?.is_empty());
     Ok(())
 }

@@ -8,6 +8,7 @@ ghost use Rattle.hv_trap.specs.declared.fault.TrapFault.TheVariants as F;
 use crate::conjunctions::candidates;
 use crate::fault::TrapFault;
 use crate::step::round;
+use crate::sweep::take_out;
 use hv_sets::Clauses;
 use hv_task::Task;
 use std::alloc::{AllocError, Global};
@@ -31,9 +32,11 @@ pub fn greatest_trap(alloc: Global, task: &Task) -> Result<Clauses, TrapFault>
 
 // The same in a task of few atoms.
 fn trap_clauses(alloc: Global, task: &Task) -> Result<Clauses, AllocError>
+    requires { atoms task.now ≤ 64 }
     ensures { IfOk result (λ clauses. AreTrapClauses task.now clauses) }
 {
     let mut clauses = candidates(alloc, task)?;
+    take_out(alloc, task, &mut clauses)?;
     while round(alloc, task, &mut clauses)? {}
     Ok(clauses)
 }

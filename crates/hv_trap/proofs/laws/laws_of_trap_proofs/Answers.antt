@@ -1,3 +1,4 @@
+use Rattle.hv_trap.proofs.Modest.{trap_modest}
 use Rattle.hv_trap.proofs.Proofs.{trap_proof_ends, trap_proof_good, trap_proof_once, trap_proof_size}
 use Rattle.hv_trap.proofs.laws.laws_of_trap_proofs.Goals as goal
 
@@ -12,3 +13,6 @@ returns-clause-good c = trap_proof_good
 
 pub returns-clause-concludes : goal.returns-clause-concludes
 returns-clause-concludes c = trap_proof_ends
+
+pub returns-clause-modest : goal.returns-clause-modest
+returns-clause-modest c = trap_modest

@@ -3,8 +3,8 @@ use Rattle.hv_trap.specs.Trap.{EncloseTrap}
 use Rattle.hv_trap.proofs.Enclosing.{all_enclose, set_is_trap}
 use Rattle.hv_trap.proofs.trap.trap_clauses.Goals as goal
 
-pub loop-clauses-init : goal.loop-clauses-init
-loop-clauses-init c = subst (EncloseTrap c.args.task.now) (sym c.in_ok-clauses.ensures) (all_enclose c.args.task.now)
+pub take_out-requires-clause-clauses : goal.take_out-requires-clause-clauses
+take_out-requires-clause-clauses c = subst (EncloseTrap c.args.task.now) (sym c.in_ok-clauses.ensures) (all_enclose c.args.task.now)
 
 pub returns : goal.returns
 returns c =

@@ -1,0 +1,7 @@
+use Rattle.hv_lines.specs.declared.line.Expr.TheVariants as E
+use Rattle.hv_lines.proofs.Laws.{expr_below}
+use Rattle.hv_trap.proofs.notes.negated.Goals as goal
+
+pub expr-requires : goal.expr-requires
+expr-requires c =
+    expr_below c.args.table.now.lines c.args.set (E.Not c.requires.0) c.expr_count-count.ensures.table c.requires.1

@@ -1,0 +1,144 @@
+//! Sweeps over the actions, in which most of what can't be in a trap is taken out.
+
+ghost use Rattle.std.specs.Prelude.{◌≡◌, ◌<◌, ◌≤◌, true, false, IfOk, OnOk, length};
+ghost use Rattle.hv_task.specs.Strips.{IsState, atoms};
+ghost use Rattle.hv_clauses.specs.Clausal.{AreClauses};
+ghost use Rattle.hv_trap.specs.Room.{HasStates};
+ghost use Rattle.hv_trap.specs.Trap.{EncloseTrap, Escapes};
+
+use crate::mask::has_bit;
+use crate::rows::Rows;
+use crate::step::{are_true_in, true_in};
+use hv_sets::Clauses;
+use hv_task::{State, Task};
+use std::alloc::{AllocError, Global};
+
+/// What follows by the clauses that are left, and room for two states.
+#[derive(Drop)]
+pub(crate) struct Room {
+    rows: Rows,
+    before: State,
+    after: State,
+}
+
+/// Takes out clauses that deny conjunctions from which an action leads to a state in which all are
+/// true, as far as that is seen by what follows from which literals.
+pub(crate) fn take_out(alloc: Global, task: &Task, clauses: &mut Clauses) -> Result<(), AllocError>
+    requires few { atoms task.now ≤ 64 }
+    requires clauses { EncloseTrap task.now clauses.old }
+    ensures { OnOk result (EncloseTrap task.now clauses.new) }
+{
+    let rows = Rows::of(clauses);
+    let mut room = Room {
+        rows,
+        before: State::empty(alloc, task.atoms())?,
+        after: State::empty(alloc, task.atoms())?,
+    };
+    while sweep(alloc, task, &mut room, clauses)? {}
+    Ok(())
+}
+
+// Visits each action. The answer is whether a clause was taken out.
+fn sweep(
+    alloc: Global,
+    task: &Task,
+    room: &mut Room,
+    clauses: &mut Clauses,
+) -> Result<bool, AllocError>
+    requires few { atoms task.now ≤ 64 }
+    requires room { HasStates task.now room.old }
+    requires clauses { EncloseTrap task.now clauses.old }
+    ensures room { OnOk result (HasStates task.now room.new) }
+    ensures enclose { OnOk result (EncloseTrap task.now clauses.new) }
+    ensures fewer { IfOk result (λ moved. moved ≡ true → length clauses.new < length clauses.old) }
+{
+    let mut moved = false;
+    for action in 0..task.actions() {
+        moved |= exhaust(alloc, task, room, action, clauses)?;
+    }
+    Ok(moved)
+}
+
+// Visits the action until nothing is taken out. The answer is whether a clause was.
+fn exhaust(
+    alloc: Global,
+    task: &Task,
+    room: &mut Room,
+    action: u32,
+    clauses: &mut Clauses,
+) -> Result<bool, AllocError>
+    requires few { atoms task.now ≤ 64 }
+    requires action { action < length task.now.actions }
+    requires room { HasStates task.now room.old }
+    requires clauses { EncloseTrap task.now clauses.old }
+    ensures room { OnOk result (HasStates task.now room.new) }
+    ensures enclose { OnOk result (EncloseTrap task.now clauses.new) }
+    ensures shrinks { OnOk result (length clauses.new ≤ length clauses.old) }
+    ensures fewer { IfOk result (λ found. found ≡ true → length clauses.new < length clauses.old) }
+{
+    let mut found = false;
+    while visit(alloc, task, room, action, clauses)? {
+        room.rows = Rows::of(clauses);
+        found = true;
+    }
+    Ok(found)
+}
+
+// Takes out the clauses that are false in a state from which the action leads to one in which all
+// are true, if such a state is seen. The answer is whether one is.
+fn visit(
+    alloc: Global,
+    task: &Task,
+    room: &mut Room,
+    action: u32,
+    clauses: &mut Clauses,
+) -> Result<bool, AllocError>
+    requires few { atoms task.now ≤ 64 }
+    requires action { action < length task.now.actions }
+    requires room { HasStates task.now room.old }
+    requires clauses { EncloseTrap task.now clauses.old }
+    ensures room { OnOk result (HasStates task.now room.new) }
+    ensures enclose { OnOk result (EncloseTrap task.now clauses.new) }
+    ensures shrinks { OnOk result (length clauses.new ≤ length clauses.old) }
+    ensures fewer { IfOk result (λ found. found ≡ true → length clauses.new < length clauses.old) }
+{
+    let Some(lacked) = room.rows.lacked(task.action(action)) else {
+        return Ok(false);
+    };
+    hold_others(&mut room.before, lacked);
+    if !escapes(task, action, clauses, &room.before, &mut room.after) {
+        return Ok(false);
+    }
+    let kept = true_in(alloc, clauses, &room.before)?;
+    *clauses = kept;
+    Ok(true)
+}
+
+// Makes it the state that lacks these atoms alone.
+fn hold_others(state: &mut State, lacked: u64)
+    requires { length state.old ≤ 64 }
+    ensures { length state.new ≡ length state.old }
+{
+    for atom in 0..state.atoms() {
+        state.set(atom, !has_bit(lacked, atom));
+    }
+}
+
+// Whether a clause is false in the state, and the action leads from it to one in which all are true.
+fn escapes(task: &Task, action: u32, clauses: &Clauses, before: &State, after: &mut State) -> bool
+    requires action { action < length task.now.actions }
+    requires clauses { AreClauses (atoms task.now) clauses.now }
+    requires before { IsState task.now before.now }
+    requires after { IsState task.now after.old }
+    ensures escapes { result ≡ true → Escapes task.now clauses.now action before.now }
+    ensures after { IsState task.now after.new }
+{
+    if are_true_in(clauses, before) {
+        return false;
+    }
+    if !task.applicable(action, before) {
+        return false;
+    }
+    task.after(action, before, after);
+    are_true_in(clauses, after)
+}
