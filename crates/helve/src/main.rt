@@ -7,21 +7,32 @@ mod file_sink;
 use file_shelf::FileShelf;
 use file_sink::FileSink;
 use hv_command::{Status, Words, run};
+use hv_lines::Pruner;
+use hv_reach::{PairPruner, RelaxedPruner};
+use hv_trap::TrapPruner;
+use std::alloc::AllocError;
 use std::env;
 use std::io::ErrorKind;
 use std::process::ExitCode;
 
 fn main(rt: HostRuntime) -> ExitCode {
     let status = match words(&rt) {
-        Ok(words) => run(
-            rt.alloc(),
-            &words,
-            &mut FileShelf::new(&rt),
-            &mut FileSink::new(&rt),
-        ),
+        Ok(words) => run_words(&rt, &words).unwrap_or(Status::Memory),
         Err(status) => status,
     };
     ExitCode::from(status.number())
+}
+
+/// Runs the words on the system's files, with three pruners, in the order in which a replay asks them.
+/// It is an error only where there is no memory for them.
+fn run_words(rt: &HostRuntime, words: &Words) -> Result<Status, AllocError> {
+    let alloc = rt.alloc();
+    let mut pruners: Vec<Box<dyn Pruner>> = Vec::new(alloc);
+    pruners.push(Box::new(alloc, RelaxedPruner::new(alloc))?)?;
+    pruners.push(Box::new(alloc, PairPruner::new(alloc))?)?;
+    pruners.push(Box::new(alloc, TrapPruner::new(alloc))?)?;
+    let (mut shelf, mut sink) = (FileShelf::new(rt), FileSink::new(rt));
+    Ok(run(alloc, words, &mut shelf, &mut sink, pruners))
 }
 
 /// The words after the program's name. Words that aren't text are no job; want of memory is told as

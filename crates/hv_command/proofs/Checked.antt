@@ -1,5 +1,5 @@
--- What is answered to a check, from what was read and judged.
-use Rattle.std.proofs.Common.{◌≡◌, ℕ, ◌∙◌, List, Option, Some, None, Err, IfSome, [], arith, codes, inl, inr, ap, refl, unwrap_or, reverse, subst, sym}
+-- What is answered to a job, from what was read and judged.
+use Rattle.std.proofs.Common.{◌≡◌, ℕ, ◌∙◌, List, Option, Some, None, Ok, Err, IfSome, [], arith, codes, inl, inr, ap, refl, unwrap_or, reverse, subst, sym}
 use Rattle.std.specs.Option.{option_map}
 use Rattle.hv_bytes.specs.Files.{Names, bytes_of}
 use Rattle.hv_bytes.specs.Standard.{standard}
@@ -25,15 +25,19 @@ use Rattle.hv_bdd.specs.declared.fault.NodesFault.TheVariants as N
 use Rattle.hv_bytes.specs.Pieces.{pieces_of}
 use Rattle.hv_lines.specs.Setting.{Setting, setting_of}
 use Rattle.hv_checker.proofs.OneJudgement.{judged_once}
-use Rattle.hv_command.specs.Answer.{Answer, AnswersCheck, AnswersPieces, AnswersProduce, AnswersProof, AnswersTask, AnswersTold, IsTold}
-use Rattle.hv_command.specs.Replies.{IsNodesFault, IsTextFault, judgement_status, nodes_fault_text, refused_text, task_fault_text, unsolvable_text}
+use Rattle.hv_replay.specs.Logs.{SearchLog}
+use Rattle.hv_replay.specs.LogText.{IsReadFrom as IsLogRead}
+use Rattle.hv_replay.specs.declared.fault.LogFault.{LogFault}
+use Rattle.hv_replay.specs.declared.fault.LogFault.TheVariants as L
+use Rattle.hv_command.specs.Answer.{AfterLog, AfterTask, Answer, AnswersPieces, AnswersProof, AnswersTask, AnswersTold, Covered, IsTold}
+use Rattle.hv_command.specs.Replies.{IsLogFault, IsNodesFault, IsTextFault, judgement_status, log_fault_text, nodes_fault_text, refused_text, task_fault_text, unsolvable_text}
 use Rattle.hv_command.specs.Sample.{IsHornProof, sample_text}
 use Rattle.hv_command.proofs.Sampled.{horn_size}
+use Rattle.hv_command.specs.declared.job.Job.{Job}
 use Rattle.hv_command.specs.declared.job.Job.TheVariants as J
-use Rattle.hv_command.specs.declared.job.Kind.{Kind}
 use Rattle.hv_command.specs.declared.job.Report.{Report}
 use Rattle.hv_command.specs.declared.job.Report.TheVariants as P
-use Rattle.hv_command.specs.Words.{HasName, checking}
+use Rattle.hv_command.specs.Words.{HasName}
 use Rattle.hv_command.specs.declared.status.Status.{Status}
 use Rattle.hv_command.specs.declared.status.Status.TheVariants as S
 
@@ -49,41 +53,76 @@ refused_reply report checker line reason end status text is judged told status_i
     let same : h.0 ≡ reason = cc in
     (Refused line h.0, h.2, status_is, text_is ∙ ap (refused_text line) (sym same))
 
--- a check reads the file of the task
-reads_task : (report : Report) (task proof : List ℕ) (nodes : Option (List ℕ)) (budget : ℕ)
-    → HasName (Some (checking report task proof nodes budget)) task
-reads_task P.Verdict task proof nodes budget = inl refl
-reads_task P.Explanation task proof nodes budget = inl refl
+-- what holds whatever files there are
+pub on_all : (held : Option Names) (A : Type 0) → A → IfSome held (λ _. A)
+on_all None A holds = tt
+on_all (Some h) A holds = holds
 
--- the answer to a check is that to its job
-answers_job : (report : Report) (task proof : List ℕ) (nodes : Option (List ℕ)) (budget : ℕ) (held : Names) (status : Status) (text : List ℕ)
-    → AnswersCheck report task proof nodes budget held status text
-    → Answer (Some (checking report task proof nodes budget)) held status text
-answers_job P.Verdict task proof nodes budget held status text answers = answers
-answers_job P.Explanation task proof nodes budget held status text answers = answers
-
-module _ (report : Report) (task_name proof_name : List ℕ) (nodes_name : Option (List ℕ)) (budget : ℕ) where
+-- what is answered after the text of a task
+module _ (held : Option Names) (name : List ℕ) (Answers : Names → Strips → Status → List ℕ → Type 0) where
   -- the answer to a task that was read
-  pub told_answer : (held : Option Names) (task : Strips) (status : Status) (text : List ℕ)
-      → IfSome held (λ h. TaskText standard (bytes_of h task_name) task)
-      → IfSome held (λ h. AnswersTask report task proof_name nodes_name budget h status text)
-      → AnswersTold (Some (checking report task_name proof_name nodes_name budget)) held status text
-  told_answer None task status text is_text answers = λ unread files. absurd (unread task_name (reads_task report task_name proof_name nodes_name budget))
-  told_answer (Some h) task status text is_text answers =
-      answers_job report task_name proof_name nodes_name budget h status text (inr (task, is_text, answers))
+  pub task_answer : (task : Strips) (status : Status) (text : List ℕ)
+      → IfSome held (λ h. TaskText standard (bytes_of h name) task) → IfSome held (λ h. Answers h task status text)
+      → IfSome held (λ h. AfterTask (bytes_of h name) (Answers h) status text)
+  task_answer task status text is_text answers = of_files held is_text answers
+    where
+      of_files : (files : Option Names) → IfSome files (λ h. TaskText standard (bytes_of h name) task)
+          → IfSome files (λ h. Answers h task status text) → IfSome files (λ h. AfterTask (bytes_of h name) (Answers h) status text)
+      of_files None read says = tt
+      of_files (Some h) read says = inr (task, read, says)
 
   -- the answer to a task text with a fault
-  pub told_fault : (held : Option Names) (fault : TaskFault) (status : Status) (text : List ℕ)
-      → IfSome held (λ h. IsReadFrom standard (bytes_of h task_name) (Err fault)) → IsTextFault fault
+  pub task_fault : (fault : TaskFault) (status : Status) (text : List ℕ)
+      → IfSome held (λ h. IsReadFrom standard (bytes_of h name) (Err fault)) → IsTextFault fault
       → status ≡ S.BadInput → text ≡ task_fault_text fault
-      → AnswersTold (Some (checking report task_name proof_name nodes_name budget)) held status text
-  told_fault None fault status text read is_fault status_is text_is = λ unread files. absurd (unread task_name (reads_task report task_name proof_name nodes_name budget))
-  told_fault (Some h) (F.Place line kind) status text read is_fault status_is text_is =
-      answers_job report task_name proof_name nodes_name budget h status text (inl (F.Place line kind, read, status_is, text_is))
-  told_fault (Some h) (F.Limit line limit) status text read is_fault status_is text_is =
-      answers_job report task_name proof_name nodes_name budget h status text (inl (F.Limit line limit, read, status_is, text_is))
-  told_fault (Some h) F.ReadFault status text read is_fault status_is text_is = absurd is_fault
-  told_fault (Some h) F.Memory status text read is_fault status_is text_is = absurd is_fault
+      → IfSome held (λ h. AfterTask (bytes_of h name) (Answers h) status text)
+  task_fault fault status text read is_fault status_is text_is = of_files held fault read is_fault text_is
+    where
+      of_files : (files : Option Names) (f : TaskFault) → IfSome files (λ h. IsReadFrom standard (bytes_of h name) (Err f))
+          → IsTextFault f → text ≡ task_fault_text f → IfSome files (λ h. AfterTask (bytes_of h name) (Answers h) status text)
+      of_files None f first is says = tt
+      of_files (Some h) (F.Place line kind) first is says = inl (F.Place line kind, first, status_is, says)
+      of_files (Some h) (F.Limit line limit) first is says = inl (F.Limit line limit, first, status_is, says)
+      of_files (Some h) F.ReadFault first is says = absurd is
+      of_files (Some h) F.Memory first is says = absurd is
+
+-- the same after a log
+module _ (task : Strips) (held : Option Names) (name : List ℕ) (Answers : SearchLog → Status → List ℕ → Type 0) where
+  pub log_answer : (log : SearchLog) (status : Status) (text : List ℕ)
+      → IfSome held (λ h. IsLogRead (atoms task) (bytes_of h name) (Ok log)) → Answers log status text
+      → IfSome held (λ h. AfterLog task (bytes_of h name) Answers status text)
+  log_answer log status text is_text answers = of_files held is_text
+    where
+      of_files : (files : Option Names) → IfSome files (λ h. IsLogRead (atoms task) (bytes_of h name) (Ok log))
+          → IfSome files (λ h. AfterLog task (bytes_of h name) Answers status text)
+      of_files None read = tt
+      of_files (Some h) read = inr (log, read, answers)
+
+  pub log_fault : (fault : LogFault) (status : Status) (text : List ℕ)
+      → IfSome held (λ h. IsLogRead (atoms task) (bytes_of h name) (Err fault)) → IsLogFault fault
+      → status ≡ S.BadInput → text ≡ log_fault_text fault
+      → IfSome held (λ h. AfterLog task (bytes_of h name) Answers status text)
+  log_fault fault status text read is_fault status_is text_is = of_files held fault read is_fault text_is
+    where
+      of_files : (files : Option Names) (f : LogFault) → IfSome files (λ h. IsLogRead (atoms task) (bytes_of h name) (Err f))
+          → IsLogFault f → text ≡ log_fault_text f → IfSome files (λ h. AfterLog task (bytes_of h name) Answers status text)
+      of_files None f first is says = tt
+      of_files (Some h) (L.Place line) first is says = inl (L.Place line, first, status_is, says)
+      of_files (Some h) (L.Limit line limit) first is says = inl (L.Limit line limit, first, status_is, says)
+      of_files (Some h) L.ReadFault first is says = absurd is
+      of_files (Some h) L.Memory first is says = absurd is
+
+-- the answer to a job that reads a file, whatever the shelf tells
+pub told_job : (covered : Covered) (job other : Job) (name : List ℕ) (held : Option Names) (status : Status) (text : List ℕ)
+    → other ≡ job → HasName (Some job) name → IfSome held (λ h. Answer covered (Some job) h status text)
+    → AnswersTold covered (Some other) held status text
+told_job covered job other name held status text same has answers =
+    subst (λ j. AnswersTold covered (Some j) held status text) (sym same) (of_files held answers)
+  where
+    of_files : (files : Option Names) → IfSome files (λ h. Answer covered (Some job) h status text)
+        → AnswersTold covered (Some job) files status text
+    of_files None says = λ unread h. absurd (unread name has)
+    of_files (Some h) says = says
 
 module _ (report : Report) (task : Strips) (proof_name nodes_name : List ℕ) (budget : ℕ) where
   -- the answer to nodes that were read
@@ -107,27 +146,6 @@ module _ (report : Report) (task : Strips) (proof_name nodes_name : List ℕ) (b
   nodes_fault (Some h) N.ReadFault status text read is_fault status_is text_is = absurd is_fault
   nodes_fault (Some h) N.Memory status text read is_fault status_is text_is = absurd is_fault
 
-module _ (kind : Kind) (task_name : List ℕ) where
-  -- the answer to a task of which a proof is wanted
-  pub told_proof : (held : Option Names) (task : Strips) (status : Status) (text : List ℕ)
-      → IfSome held (λ h. TaskText standard (bytes_of h task_name) task) → AnswersProduce kind task status text
-      → AnswersTold (Some (J.Produce kind task_name)) held status text
-  told_proof None task status text is_text answers = λ unread files. absurd (unread task_name refl)
-  told_proof (Some h) task status text is_text answers = inr (task, is_text, answers)
-
-  -- the answer to a task text with a fault
-  pub told_no_task : (held : Option Names) (fault : TaskFault) (status : Status) (text : List ℕ)
-      → IfSome held (λ h. IsReadFrom standard (bytes_of h task_name) (Err fault)) → IsTextFault fault
-      → status ≡ S.BadInput → text ≡ task_fault_text fault
-      → AnswersTold (Some (J.Produce kind task_name)) held status text
-  told_no_task None fault status text read is_fault status_is text_is = λ unread files. absurd (unread task_name refl)
-  told_no_task (Some h) (F.Place line kind) status text read is_fault status_is text_is =
-      inl (F.Place line kind, read, status_is, text_is)
-  told_no_task (Some h) (F.Limit line limit) status text read is_fault status_is text_is =
-      inl (F.Limit line limit, read, status_is, text_is)
-  told_no_task (Some h) F.ReadFault status text read is_fault status_is text_is = absurd is_fault
-  told_no_task (Some h) F.Memory status text read is_fault status_is text_is = absurd is_fault
-
 -- the lines of a checker that refused nothing are those that are accepted of all pieces
 pub all_accepted : (checker : CheckerState) (stop : Stop) (pieces : List LineText) → refusal_at checker.fed stop ≡ None → (stop ≡ C.Memory → ⊥)
     → StandsAt checker stop pieces → Accepts checker.setting (reverse pieces) checker.lines
@@ -136,10 +154,14 @@ all_accepted checker (C.Refused reason) pieces none found stands = absurd (cc)
 all_accepted checker C.Memory pieces none found stands = absurd (found refl)
 
 -- the answer to a sample, whatever files there are
-pub told_sample : (rooms : ℕ) (held : Option Names) (status : Status) (text : List ℕ) → status ≡ S.Done → text ≡ sample_text rooms
-    → AnswersTold (Some (J.Sample rooms)) held status text
-told_sample rooms None status text done says = λ unread files. (done, says)
-told_sample rooms (Some h) status text done says = (done, says)
+pub told_sample : (covered : Covered) (rooms : ℕ) (job : Job) (held : Option Names) (status : Status) (text : List ℕ)
+    → job ≡ J.Sample rooms → status ≡ S.Done → text ≡ sample_text rooms → AnswersTold covered (Some job) held status text
+told_sample covered rooms job held status text same done says =
+    subst (λ j. AnswersTold covered (Some j) held status text) (sym same) (of_files held)
+  where
+    of_files : (files : Option Names) → AnswersTold covered (Some (J.Sample rooms)) files status text
+    of_files None = λ unread h. (done, says)
+    of_files (Some h) = (done, says)
 
 -- what a proof is judged is said of it
 pub judged_unsolvable : (setting : Setting) (pieces : List LineText) (status : Status) (text : List ℕ) → Judged setting pieces Unsolvable

@@ -20,8 +20,12 @@ use Rattle.hv_explain.proofs.OneText.{one_explanation}
 use Rattle.hv_explain.specs.Explained.{IsExplanation}
 use Rattle.hv_lines.specs.declared.line.Line.{Line}
 use Rattle.hv_command.proofs.AcceptedLines.{accepts_once}
-use Rattle.hv_command.specs.Answer.{Answer, AnswersCheck, AnswersPieces, AnswersProduce, AnswersTask, IsTold}
-use Rattle.hv_command.specs.Replies.{AreOneText, judgement_status, judgement_text, nodes_fault_text, refused_text, task_fault_text}
+use Rattle.hv_replay.specs.Logs.{SearchLog}
+use Rattle.hv_replay.specs.LogText.{log_limits}
+use Rattle.hv_replay.proofs.OneAnswer.{one_fault as one_log_fault, one_log, text_or_fault as log_or_fault}
+use Rattle.hv_replay.proofs.OneHole.{closed_or_hole, one_hole}
+use Rattle.hv_command.specs.Answer.{AfterLog, AfterTask, Answer, AnswersCheck, AnswersLog, AnswersPieces, AnswersProduce, AnswersReplay, AnswersTask, Covered, IsReplayProof, IsTold}
+use Rattle.hv_command.specs.Replies.{AreOneText, hole_text, judgement_status, judgement_text, log_fault_text, nodes_fault_text, refused_text, task_fault_text}
 use Rattle.hv_command.specs.declared.job.Job.{Job}
 use Rattle.hv_command.specs.declared.job.Job.TheVariants as J
 use Rattle.hv_command.specs.declared.job.Kind.{Kind}
@@ -29,6 +33,7 @@ use Rattle.hv_command.specs.declared.job.Report.{Report}
 use Rattle.hv_command.specs.declared.job.Report.TheVariants as P
 use Rattle.hv_command.proofs.Produced.{one_produced}
 use Rattle.hv_command.specs.declared.status.Status.{Status}
+use Rattle.hv_command.specs.declared.status.Status.TheVariants as S
 
 -- a reason has no counterexample, or is one
 plain_or_false : (r : Reason) → (without_state r ≡ r) ⊎ ((a : Clash) × (r ≡ R.False a))
@@ -177,7 +182,8 @@ module _ (report : Report) (task_name proof_name : List ℕ) (nodes_name : Optio
       (one_task (pieces_of standard (bytes_of held task_name)) task other is_text reads) answers) says
 
 one_proof_answer : (kind : Kind) (name : List ℕ) (held : Names) (s u : Status) (t v : List ℕ)
-    → Answer (Some (J.Produce kind name)) held s t → Answer (Some (J.Produce kind name)) held u v → (s ≡ u) × AreOneText t v
+    → AfterTask (bytes_of held name) (AnswersProduce kind) s t → AfterTask (bytes_of held name) (AnswersProduce kind) u v
+    → (s ≡ u) × AreOneText t v
 one_proof_answer kind name held s u t v (inl (f, first, bad, said)) (inl (g, other, wrong, told)) =
     (bad ∙ sym wrong, inl (said ∙ (ap task_fault_text (one_fault (pieces_of standard (bytes_of held name)) f g first other) ∙ sym told)))
 one_proof_answer kind name held s u t v (inl (f, first, bad, said)) (inr (task, is_text, answers)) =
@@ -189,12 +195,57 @@ one_proof_answer kind name held s u t v (inr (task, is_text, answers)) (inr (oth
     (subst (λ x. AnswersProduce kind x s t) (one_task (pieces_of standard (bytes_of held name)) task other is_text reads) answers) says in
     (one.0, inl one.1)
 
-pub one_answer : (job : Option Job) (held : Names) (s u : Status) (t v : List ℕ) → Answer job held s t → Answer job held u v
-    → (s ≡ u) × AreOneText t v
-one_answer None held s u t v x y = (x.0 ∙ sym y.0, inl (x.1 ∙ sym y.1))
-one_answer (Some (J.Check task proof nodes budget)) held s u t v x y =
-    one_check P.Verdict task proof nodes budget held s u t v x y
-one_answer (Some (J.Explain task proof nodes budget)) held s u t v x y =
-    one_check P.Explanation task proof nodes budget held s u t v x y
-one_answer (Some (J.Produce kind task)) held s u t v x y = one_proof_answer kind task held s u t v x y
-one_answer (Some (J.Sample rooms)) held s u t v x y = (x.0 ∙ sym y.0, inl (x.1 ∙ sym y.1))
+-- one text, but for a proof that replays a log
+abbrev IsOne : Status → Status → List ℕ → List ℕ → Type 0
+IsOne s u t v = (s ≡ u) × ((s ≡ S.Done → ⊥) → AreOneText t v)
+
+module _ (covered : List Bool → Type 0) (task : Strips) (log : SearchLog) where
+  one_replay : (s u : Status) (t v : List ℕ) → AnswersLog (λ _. covered) task log s t → AnswersLog (λ _. covered) task log u v → IsOne s u t v
+  one_replay s u t v (inl (closed, s_is, proof)) (inl (also, u_is, other)) = (s_is ∙ sym u_is, λ refused. absurd (refused s_is))
+  one_replay s u t v (inl (closed, s_is, proof)) (inr (hole, first, u_is, says)) = absurd (closed_or_hole task log covered hole closed first)
+  one_replay s u t v (inr (hole, first, s_is, says)) (inl (closed, u_is, proof)) = absurd (closed_or_hole task log covered hole closed first)
+  one_replay s u t v (inr (f, first, s_is, says)) (inr (g, other, u_is, tells)) =
+      (s_is ∙ sym u_is, λ _. inl (says ∙ (ap hole_text (one_hole task log covered f g first other) ∙ sym tells)))
+
+module _ (covered : List Bool → Type 0) (task : Strips) (few : atoms task < 10 ^ 18) (bytes : List ℕ) where
+  one_log_answer : (s u : Status) (t v : List ℕ) → AfterLog task bytes (AnswersLog (λ _. covered) task) s t
+      → AfterLog task bytes (AnswersLog (λ _. covered) task) u v → IsOne s u t v
+  one_log_answer s u t v (inl (f, first, bad, said)) (inl (g, other, wrong, told)) =
+      (bad ∙ sym wrong, λ _. inl (said ∙ (ap log_fault_text (one_log_fault (atoms task) few (pieces_of log_limits bytes) f g first other) ∙ sym told)))
+  one_log_answer s u t v (inl (f, first, bad, said)) (inr (log, is_text, answers)) =
+      absurd (log_or_fault (atoms task) few (pieces_of log_limits bytes) log f is_text first)
+  one_log_answer s u t v (inr (log, is_text, answers)) (inl (f, first, bad, said)) =
+      absurd (log_or_fault (atoms task) few (pieces_of log_limits bytes) log f is_text first)
+  one_log_answer s u t v (inr (log, is_text, answers)) (inr (other, reads, says)) =
+      one_replay covered task other s u t v
+      (subst (λ (x : SearchLog). AnswersLog (λ _. covered) task x s t)
+      (one_log (atoms task) few (pieces_of log_limits bytes) log other is_text reads) answers) says
+
+one_replay_answer : (covered : Covered) (name log_name : List ℕ) (held : Names) (s u : Status) (t v : List ℕ)
+    → AnswersReplay covered name log_name held s t → AnswersReplay covered name log_name held u v → IsOne s u t v
+one_replay_answer covered name log_name held s u t v (inl (f, first, bad, said)) (inl (g, other, wrong, told)) =
+    (bad ∙ sym wrong, λ _. inl (said ∙ (ap task_fault_text (one_fault (pieces_of standard (bytes_of held name)) f g first other) ∙ sym told)))
+one_replay_answer covered name log_name held s u t v (inl (f, first, bad, said)) (inr (task, is_text, answers)) =
+    absurd (text_or_fault (pieces_of standard (bytes_of held name)) task f is_text first)
+one_replay_answer covered name log_name held s u t v (inr (task, is_text, answers)) (inl (f, first, bad, said)) =
+    absurd (text_or_fault (pieces_of standard (bytes_of held name)) task f is_text first)
+one_replay_answer covered name log_name held s u t v (inr (task, is_text, answers)) (inr (other, reads, says)) =
+    one_log_answer (covered other) other (few_atoms (pieces_of standard (bytes_of held name)) other reads) (bytes_of held log_name) s u t v
+    (subst (λ (x : Strips). AfterLog x (bytes_of held log_name) (AnswersLog covered x) s t)
+    (one_task (pieces_of standard (bytes_of held name)) task other is_text reads) answers) says
+
+-- where one text is had in any case
+in_any_case : (s u : Status) (t v : List ℕ) (A : Type 0) → (s ≡ u) × AreOneText t v → (s ≡ u) × (A → AreOneText t v)
+in_any_case s u t v A same = (same.0, λ _. same.1)
+
+pub one_answer : (covered : Covered) (job : Option Job) (held : Names) (s u : Status) (t v : List ℕ) → Answer covered job held s t
+    → Answer covered job held u v → (s ≡ u) × ((IsReplayProof job s → ⊥) → AreOneText t v)
+one_answer covered None held s u t v x y = (x.0 ∙ sym y.0, λ _. inl (x.1 ∙ sym y.1))
+one_answer covered (Some (J.Check task proof nodes budget)) held s u t v x y =
+    in_any_case s u t v _ (one_check P.Verdict task proof nodes budget held s u t v x y)
+one_answer covered (Some (J.Explain task proof nodes budget)) held s u t v x y =
+    in_any_case s u t v _ (one_check P.Explanation task proof nodes budget held s u t v x y)
+one_answer covered (Some (J.Produce kind task)) held s u t v x y =
+    in_any_case s u t v _ (one_proof_answer kind task held s u t v x y)
+one_answer covered (Some (J.Replay task log)) held s u t v x y = one_replay_answer covered task log held s u t v x y
+one_answer covered (Some (J.Sample rooms)) held s u t v x y = (x.0 ∙ sym y.0, λ _. inl (x.1 ∙ sym y.1))

@@ -1,9 +1,9 @@
 -- Proofs that are written: they are judged to show that the task has no plan, and each is one.
-use Rattle.std.proofs.Common.{◌≡◌, ◌↔◌, IsTrue, IfSome, ◌<◌, ◌≤◌, ◌∙◌, ℕ, List, Option, None, Some, ap, arith, inl, inr, length, reverse, subst, sym}
+use Rattle.std.proofs.Common.{◌≡◌, ◌↔◌, IsTrue, IfSome, ◌<◌, ◌≤◌, ◌∙◌, ℕ, Bool, List, Option, None, Some, ap, arith, inl, inr, length, reverse, subst, sym}
 use Rattle.std.specs.Option.{is_some}
 use Rattle.hv_bytes.specs.Files.{Names, bytes_of}
 use Rattle.hv_bytes.specs.Pieces.{pieces_of}
-use Rattle.hv_bytes.specs.Standard.{standard}
+use Rattle.hv_bytes.specs.Standard.{most_file_bytes, standard}
 use Rattle.hv_task.specs.Plan.{IsUnsolvable}
 use Rattle.hv_task.specs.Strips.{Strips, IsTask, atoms, start_state}
 use Rattle.hv_task_text.proofs.OneAnswer.{one_task}
@@ -15,11 +15,12 @@ use Rattle.hv_lines.proofs.Drafting.{good_of}
 use Rattle.hv_proof_text.proofs.ReadBack.{draft_judged, draft_small}
 use Rattle.hv_reach.specs.Written.{IsPairsProof, IsRelaxedProof, PairsExclude, RelaxedExcludes}
 use Rattle.hv_reach.proofs.Proofs.{pairs_end, pairs_good, pairs_once, pairs_size, relaxed_ends, relaxed_good, relaxed_once, relaxed_size}
+use Rattle.hv_replay.specs.Logs.{SearchLog}
 use Rattle.hv_trap.specs.Trap.{IsSatisfied}
 use Rattle.hv_trap.specs.Written.{IsTrapProof}
 use Rattle.hv_trap.proofs.Proofs.{trap_proof_ends, trap_proof_good, trap_proof_once, trap_proof_size}
 use Rattle.hv_checker.proofs.GoodLines.{good_concludes}
-use Rattle.hv_command.specs.Answer.{Answer, AnswersProduce, AnswersTold, Excludes, HasTooMany, IsAccepted, IsAcceptedTold, IsProofBy, IsWritten}
+use Rattle.hv_command.specs.Answer.{Answer, AnswersLog, AnswersProduce, AnswersTold, Covered, Excludes, HasTooMany, IsAccepted, IsAcceptedTold, IsProofBy, IsWritten}
 use Rattle.hv_command.specs.declared.job.Job.{Job}
 use Rattle.hv_command.specs.declared.job.Job.TheVariants as J
 use Rattle.hv_command.specs.declared.job.Kind.{Kind}
@@ -106,23 +107,45 @@ one_produced kind task s u t v (inl (many, s_is, t_is)) (inr (few, x)) = absurd 
 one_produced kind task s u t v (inr (few, x)) (inl (many, u_is, v_is)) = absurd (few many)
 one_produced kind task s u t v (inr (few, x)) (inr (also, y)) = one_written kind task s u t v x y
 
+-- what replays a log is judged so, where it fits into a file, and then there is no plan
+module _ (covered : List Bool → Type 0) (task : Strips) (log : SearchLog) (status : Status) (text : List ℕ) where
+  pub judged_replay : AnswersLog (λ _. covered) task log status text → status ≡ S.Done → length text ≤ most_file_bytes
+      → JudgedBytes (draft_setting task) standard text Unsolvable
+  judged_replay (inl (closed, is_done, (lines, proof, said))) done small =
+      subst (λ t. JudgedBytes (draft_setting task) standard t Unsolvable) (sym said)
+      (draft_judged task lines proof.good proof.concludes (subst (λ t. length t ≤ most_file_bytes) said small))
+  judged_replay (inr (hole, first, refused, said)) done small = absurd (cc)
+
+  pub replay_unsolvable : AnswersLog (λ _. covered) task log status text → status ≡ S.Done → IsUnsolvable task
+  replay_unsolvable (inl (closed, is_done, (lines, proof, said))) done =
+      good_concludes (draft_setting task) lines (good_of task lines proof.good) proof.concludes
+  replay_unsolvable (inr (hole, first, refused, said)) done = absurd (cc)
+
 -- an answer that is a proof is accepted
-pub accepted : (job : Option Job) (held : Names) (status : Status) (text : List ℕ) → Answer job held status text
+pub accepted : (covered : Covered) (job : Option Job) (held : Names) (status : Status) (text : List ℕ) → Answer covered job held status text
     → IsAccepted job held status text
-accepted None held status text answers = tt
-accepted (Some (J.Check task proof nodes budget)) held status text answers = tt
-accepted (Some (J.Explain task proof nodes budget)) held status text answers = tt
-accepted (Some (J.Produce kind name)) held status text (inl (fault, first, bad, said)) = λ done task is_text. absurd (cc)
-accepted (Some (J.Produce kind name)) held status text (inr (other, other_text, answers)) = λ done task is_text.
+accepted covered None held status text answers = tt
+accepted covered (Some (J.Check task proof nodes budget)) held status text answers = tt
+accepted covered (Some (J.Explain task proof nodes budget)) held status text answers = tt
+accepted covered (Some (J.Produce kind name)) held status text (inl (fault, first, bad, said)) = λ done task is_text. absurd (cc)
+accepted covered (Some (J.Produce kind name)) held status text (inr (other, other_text, answers)) = λ done task is_text.
     subst (λ t. JudgedBytes (draft_setting t) standard text Unsolvable)
     (one_task (pieces_of standard (bytes_of held name)) other task other_text is_text)
     (judged_answer other (is_task (pieces_of standard (bytes_of held name)) other other_text) kind status text answers done)
-accepted (Some (J.Sample rooms)) held status text answers = tt
+accepted covered (Some (J.Replay name log_name)) held status text (inl (fault, first, bad, said)) = λ done small task is_text. absurd (cc)
+accepted covered (Some (J.Replay name log_name)) held status text (inr (other, other_text, inl (fault, first, bad, said))) =
+    λ done small task is_text. absurd (cc)
+accepted covered (Some (J.Replay name log_name)) held status text (inr (other, other_text, inr (log, log_text, answers))) =
+    λ done small task is_text.
+    subst (λ t. JudgedBytes (draft_setting t) standard text Unsolvable)
+    (one_task (pieces_of standard (bytes_of held name)) other task other_text is_text)
+    (judged_replay (covered other) other log status text answers done small)
+accepted covered (Some (J.Sample rooms)) held status text answers = tt
 
-pub accepted_told : (job : Option Job) (held : Option Names) (status : Status) (text : List ℕ) → AnswersTold job held status text
-    → IsAcceptedTold job held status text
-accepted_told job None status text answers = tt
-accepted_told job (Some held) status text answers = accepted job held status text answers
+pub accepted_told : (covered : Covered) (job : Option Job) (held : Option Names) (status : Status) (text : List ℕ)
+    → AnswersTold covered job held status text → IsAcceptedTold job held status text
+accepted_told covered job None status text answers = tt
+accepted_told covered job (Some held) status text answers = accepted covered job held status text answers
 
 module _ (task : Strips) (lines : List Line) (status : Status) (text : List ℕ) (is_done : status ≡ S.Done)
     (said : text ≡ proof_text (reverse lines)) where

@@ -11,14 +11,14 @@ use Rattle.hv_task_text.proofs.OneAnswer.{one_task}
 use Rattle.hv_lines.specs.Judged.{Judged, Judgement, LineText, Unsolvable, Refused, NoConclusion}
 use Rattle.hv_lines.specs.Setting.{Setting, setting_of}
 use Rattle.hv_checker.proofs.GoodLines.{accepts_good, good_concludes, good_true}
-use Rattle.hv_command.specs.Answer.{Answer, AnswersCheck, AnswersTask, AnswersTold, IsSoundCheck, IsSoundProduce, IsSoundTold}
+use Rattle.hv_command.specs.Answer.{AfterTask, AnswersCheck, AnswersProduce, AnswersReplay, AnswersTask, AnswersTold, Covered, IsSoundCheck, IsSoundProof, IsSoundTold}
 use Rattle.hv_command.specs.Replies.{judgement_status}
 use Rattle.hv_command.specs.declared.job.Job.{Job}
 use Rattle.hv_command.specs.declared.job.Job.TheVariants as J
 use Rattle.hv_command.specs.declared.job.Kind.{Kind}
 use Rattle.hv_command.specs.declared.job.Report.{Report}
 use Rattle.hv_command.specs.declared.job.Report.TheVariants as P
-use Rattle.hv_command.proofs.Produced.{answer_unsolvable}
+use Rattle.hv_command.proofs.Produced.{answer_unsolvable, replay_unsolvable}
 use Rattle.hv_command.proofs.TaskTexts.{is_task}
 use Rattle.hv_command.specs.declared.status.Status.{Status}
 use Rattle.hv_command.specs.declared.status.Status.TheVariants as S
@@ -57,20 +57,30 @@ module _ (report : Report) (task_name proof_name : List ℕ) (nodes_name : Optio
   )
 
 sound_produce : (kind : Kind) (name : List ℕ) (held : Names) (status : Status) (text : List ℕ)
-    → Answer (Some (J.Produce kind name)) held status text → IsSoundProduce name held status
+    → AfterTask (bytes_of held name) (AnswersProduce kind) status text → IsSoundProof name held status
 sound_produce kind name held status text (inl (fault, first, bad, said)) task is_text done = absurd (cc)
 sound_produce kind name held status text (inr (other, other_text, answers)) task is_text done =
     subst IsUnsolvable (one_task (pieces_of standard (bytes_of held name)) other task other_text is_text)
     (answer_unsolvable other (is_task (pieces_of standard (bytes_of held name)) other other_text) kind status text answers done)
 
+sound_replay : (covered : Covered) (name log_name : List ℕ) (held : Names) (status : Status) (text : List ℕ)
+    → AnswersReplay covered name log_name held status text → IsSoundProof name held status
+sound_replay covered name log_name held status text (inl (fault, first, bad, said)) task is_text done = absurd (cc)
+sound_replay covered name log_name held status text (inr (other, other_text, inl (fault, first, bad, said))) task is_text done = absurd (cc)
+sound_replay covered name log_name held status text (inr (other, other_text, inr (log, log_text, answers))) task is_text done =
+    subst IsUnsolvable (one_task (pieces_of standard (bytes_of held name)) other task other_text is_text)
+    (replay_unsolvable (covered other) other log status text answers done)
+
 -- an answer says what is true
-pub sound_told : (job : Option Job) (held : Option Names) (status : Status) (text : List ℕ) → AnswersTold job held status text
-    → IsSoundTold job held status
-sound_told job None status text answers = tt
-sound_told None (Some held) status text answers = tt
-sound_told (Some (J.Check task proof nodes budget)) (Some held) status text answers =
+pub sound_told : (covered : Covered) (job : Option Job) (held : Option Names) (status : Status) (text : List ℕ)
+    → AnswersTold covered job held status text → IsSoundTold job held status
+sound_told covered job None status text answers = tt
+sound_told covered None (Some held) status text answers = tt
+sound_told covered (Some (J.Check task proof nodes budget)) (Some held) status text answers =
     sound_check P.Verdict task proof nodes budget held status text answers
-sound_told (Some (J.Explain task proof nodes budget)) (Some held) status text answers =
+sound_told covered (Some (J.Explain task proof nodes budget)) (Some held) status text answers =
     sound_check P.Explanation task proof nodes budget held status text answers
-sound_told (Some (J.Produce kind task)) (Some held) status text answers = sound_produce kind task held status text answers
-sound_told (Some (J.Sample rooms)) (Some held) status text answers = tt
+sound_told covered (Some (J.Produce kind task)) (Some held) status text answers = sound_produce kind task held status text answers
+sound_told covered (Some (J.Replay task log)) (Some held) status text answers =
+    sound_replay covered task log held status text answers
+sound_told covered (Some (J.Sample rooms)) (Some held) status text answers = tt

@@ -1,24 +1,29 @@
 -- What the program answers to a job, by the bytes of the files that it reads.
-use Rattle.std.specs.Prelude.{◌≡◌, ◌<◌, ◌⊎◌, ◌++◌, ℕ, List, Option, Some, None, reverse}
+use Rattle.std.specs.Prelude.{◌≡◌, ◌<◌, ◌≤◌, ◌⊎◌, ◌++◌, ℕ, List, Option, Some, None, length, reverse}
 use Rattle.hv_bytes.specs.Files.{Names, bytes_of}
 use Rattle.hv_bytes.specs.Pieces.{pieces_of}
-use Rattle.hv_bytes.specs.Standard.{standard}
+use Rattle.hv_bytes.specs.Standard.{most_file_bytes, standard}
 use Rattle.hv_task.specs.Plan.{IsUnsolvable}
 use Rattle.hv_task.specs.Strips.{Strips, atoms, start_state}
 use Rattle.hv_task_text.specs.TaskText.{TaskText, IsFirstFault}
 use Rattle.hv_bdd.specs.NodeText.{AreTextOf, IsFirstFault as IsFirstNodesFault}
 use Rattle.hv_bdd.specs.Nodes.{NodeList, no_nodes}
 use Rattle.hv_lines.specs.Judged.{LineText, Accepts, Judged, JudgedBytes, Judgement, Unsolvable, Refused, NoConclusion}
-use Rattle.hv_lines.specs.Meaning.{AllTrue}
+use Rattle.hv_lines.specs.Meaning.{AllTrue, StateSet}
 use Rattle.hv_lines.specs.Setting.{Setting, setting_of}
 use Rattle.hv_lines.specs.declared.line.Line.{Line}
 use Rattle.hv_lines.specs.Drafts.{draft_setting}
 use Rattle.hv_lines.specs.Spelling.{proof_text}
 use Rattle.hv_explain.specs.Explained.{IsExplanation}
 use Rattle.hv_reach.specs.Written.{IsPairsProof, IsRelaxedProof, PairsExclude, RelaxedExcludes}
+use Rattle.hv_replay.specs.Closed.{IsClosed, IsFirstHole}
+use Rattle.hv_replay.specs.Logs.{SearchLog}
+use Rattle.hv_replay.specs.LogText.{AreTextOf as AreTextOfLog, IsFirstFault as IsFirstLogFault, log_limits}
+use Rattle.hv_replay.specs.Progress.{IsProof as IsLogProof}
+use Rattle.hv_replay.specs.declared.hole.ReplayFault.{ReplayFault}
 use Rattle.hv_trap.specs.Trap.{IsSatisfied}
 use Rattle.hv_trap.specs.Written.{IsTrapProof}
-use Rattle.hv_command.specs.Replies.{usage_text, judgement_status, judgement_text, no_proof_text, nodes_fault_text, task_fault_text, too_many_atoms_text}
+use Rattle.hv_command.specs.Replies.{usage_text, hole_text, judgement_status, judgement_text, log_fault_text, no_proof_text, nodes_fault_text, task_fault_text, too_many_atoms_text}
 use Rattle.hv_command.specs.Sample.{sample_text}
 use Rattle.hv_command.specs.Words.{HasName}
 use Rattle.hv_command.specs.declared.job.Job.{Job}
@@ -126,24 +131,58 @@ AnswersProduce kind task status text =
     (HasTooMany kind task × (status ≡ S.Refused) × (text ≡ too_many_atoms_text))
     ⊎ ((HasTooMany kind task → ⊥) × IsWritten kind task status text)
 
--- the answer to a job, by the bytes that are held under its names; words that are no job get the
--- usage line
-abbrev pub Answer : Option Job → Names → Status → List ℕ → Type 0
-Answer None held status text = (status ≡ S.Usage) × (text ≡ usage_text)
-Answer (Some (J.Check task proof nodes budget)) held status text =
+-- which states of which tasks are covered by the pruners that are handed in
+abbrev pub Covered : Type 1
+Covered = Strips → StateSet
+
+-- the answer after the bytes of a log of the task
+abbrev pub AfterLog : Strips → List ℕ → (SearchLog → Status → List ℕ → Type 0)
+    → Status → List ℕ → Type 0
+AfterLog task bytes Answers status text =
+    AfterText (AreTextOfLog (atoms task) (pieces_of log_limits bytes))
+    (IsFirstLogFault (atoms task) (pieces_of log_limits bytes)) log_fault_text
+    Answers status text
+
+-- the answer to a log: where it is closed, a proof that replays it, and else its first hole
+abbrev pub AnswersLog : Covered → Strips → SearchLog → Status → List ℕ → Type 0
+AnswersLog covered task log status text =
+    (IsClosed task log (covered task) × (status ≡ S.Done)
+    × ((lines : List Line) × IsLogProof task log lines × (text ≡ proof_text (reverse lines))))
+    ⊎ ((hole : ReplayFault) × IsFirstHole task log (covered task) hole
+    × (status ≡ S.Refused) × (text ≡ hole_text hole))
+
+-- the answer to a replay by the files of these names
+abbrev pub AnswersReplay : Covered → List ℕ → List ℕ → Names → Status → List ℕ → Type 0
+AnswersReplay covered task_name log_name held status text =
+    AfterTask (bytes_of held task_name)
+    (λ task. AfterLog task (bytes_of held log_name) (AnswersLog covered task)) status text
+
+-- the answer to a job, by what is covered and by the bytes that are held under its names; words that
+-- are no job get the usage line
+abbrev pub Answer : Covered → Option Job → Names → Status → List ℕ → Type 0
+Answer covered None held status text = (status ≡ S.Usage) × (text ≡ usage_text)
+Answer covered (Some (J.Check task proof nodes budget)) held status text =
     AnswersCheck P.Verdict task proof nodes budget held status text
-Answer (Some (J.Explain task proof nodes budget)) held status text =
+Answer covered (Some (J.Explain task proof nodes budget)) held status text =
     AnswersCheck P.Explanation task proof nodes budget held status text
-Answer (Some (J.Produce kind task)) held status text =
+Answer covered (Some (J.Produce kind task)) held status text =
     AfterTask (bytes_of held task) (AnswersProduce kind) status text
-Answer (Some (J.Sample rooms)) held status text = (status ≡ S.Done) × (text ≡ sample_text rooms)
+Answer covered (Some (J.Replay task log)) held status text =
+    AnswersReplay covered task log held status text
+Answer covered (Some (J.Sample rooms)) held status text =
+    (status ≡ S.Done) × (text ≡ sample_text rooms)
 
 -- The same where the shelf tells its bytes. Otherwise it is the answer of a job that reads no file,
 -- whatever the files hold, and nothing is said of other jobs.
-abbrev pub AnswersTold : Option Job → Option Names → Status → List ℕ → Type 0
-AnswersTold job None status text =
-    ((name : List ℕ) → HasName job name → ⊥) → (held : Names) → Answer job held status text
-AnswersTold job (Some held) status text = Answer job held status text
+abbrev pub AnswersTold : Covered → Option Job → Option Names → Status → List ℕ → Type 0
+AnswersTold covered job None status text =
+    ((name : List ℕ) → HasName job name → ⊥) → (held : Names) → Answer covered job held status text
+AnswersTold covered job (Some held) status text = Answer covered job held status text
+
+-- the answer to the job is a proof that replays a log; which lines it has is the pruners' choice
+abbrev pub IsReplayProof : Option Job → Status → Type 0
+IsReplayProof (Some (J.Replay task log)) status = status ≡ S.Done
+IsReplayProof _ status = ⊥
 
 -- the nodes of a check: 0 and 1 alone where no node file is named, or else those of the file
 abbrev pub HasNodes : Strips → Option (List ℕ) → Names → NodeList → Type 0
@@ -165,8 +204,8 @@ IsSoundCheck task_name proof_name nodes_name budget held status =
     → AllTrue task nodes lines)
 
 -- the same of a proof that is written: no list of actions is a plan of the task
-abbrev pub IsSoundProduce : List ℕ → Names → Status → Type 0
-IsSoundProduce task_name held status =
+abbrev pub IsSoundProof : List ℕ → Names → Status → Type 0
+IsSoundProof task_name held status =
     (task : Strips) → TaskText standard (bytes_of held task_name) task
     → status ≡ S.Done → IsUnsolvable task
 
@@ -177,7 +216,8 @@ IsSound (Some (J.Check task proof nodes budget)) held status =
     IsSoundCheck task proof nodes budget held status
 IsSound (Some (J.Explain task proof nodes budget)) held status =
     IsSoundCheck task proof nodes budget held status
-IsSound (Some (J.Produce kind task)) held status = IsSoundProduce task held status
+IsSound (Some (J.Produce kind task)) held status = IsSoundProof task held status
+IsSound (Some (J.Replay task log)) held status = IsSoundProof task held status
 IsSound (Some (J.Sample rooms)) held status = Unit {0}
 
 -- the same where the shelf tells its bytes
@@ -185,15 +225,23 @@ abbrev pub IsSoundTold : Option Job → Option Names → Status → Type 0
 IsSoundTold job None status = Unit {0}
 IsSoundTold job (Some held) status = IsSound job held status
 
--- a proof that is written is judged to show that the task has no plan, without a node file and within
--- the default budget; nothing is said of other jobs
+-- the text is judged to show that the task of this file has no plan, without a node file and within
+-- the default budget
+abbrev pub IsAcceptedProof : List ℕ → Names → List ℕ → Type 0
+IsAcceptedProof task_name held text =
+    (task : Strips) → TaskText standard (bytes_of held task_name) task
+    → JudgedBytes (draft_setting task) standard text Unsolvable
+
+-- a proof that is written is judged so; one that replays a log, where it has no more bytes than a file
+-- may have; nothing is said of other jobs
 abbrev pub IsAccepted : Option Job → Names → Status → List ℕ → Type 0
 IsAccepted None held status text = Unit {0}
 IsAccepted (Some (J.Check task proof nodes budget)) held status text = Unit {0}
 IsAccepted (Some (J.Explain task proof nodes budget)) held status text = Unit {0}
-IsAccepted (Some (J.Produce kind task_name)) held status text =
-    status ≡ S.Done → (task : Strips) → TaskText standard (bytes_of held task_name) task
-    → JudgedBytes (draft_setting task) standard text Unsolvable
+IsAccepted (Some (J.Produce kind task)) held status text =
+    status ≡ S.Done → IsAcceptedProof task held text
+IsAccepted (Some (J.Replay task log)) held status text =
+    status ≡ S.Done → length text ≤ most_file_bytes → IsAcceptedProof task held text
 IsAccepted (Some (J.Sample rooms)) held status text = Unit {0}
 
 -- the same where the shelf tells its bytes

@@ -12,6 +12,11 @@ use Rattle.hv_task_text.specs.Words.{kind_word, limit_word}
 use Rattle.hv_bdd.specs.declared.fault.NodesFault.{NodesFault}
 use Rattle.hv_bdd.specs.declared.fault.NodesFault.TheVariants as N
 use Rattle.hv_bdd.specs.Words.{kind_word as node_kind_word, limit_word as node_limit_word}
+use Rattle.hv_replay.specs.declared.fault.LogFault.{LogFault}
+use Rattle.hv_replay.specs.declared.fault.LogFault.TheVariants as L
+use Rattle.hv_replay.specs.declared.hole.ReplayFault.{ReplayFault}
+use Rattle.hv_replay.specs.declared.hole.ReplayFault.TheVariants as H
+use Rattle.hv_replay.specs.Words.{limit_word as log_limit_word}
 use Rattle.hv_command.specs.declared.status.Status.{Status}
 use Rattle.hv_command.specs.declared.status.Status.TheVariants as S
 
@@ -140,6 +145,32 @@ nodes_fault_text (N.Limit line limit) =
     line_of (codes "nodes line " ++ decimal line ++ codes ": limit " ++ node_limit_word limit)
 nodes_fault_text N.ReadFault = []
 nodes_fault_text N.Memory = []
+
+-- the same of a log
+abbrev pub IsLogFault : LogFault → Type 0
+IsLogFault (L.Place line) = Unit {0}
+IsLogFault (L.Limit line limit) = Unit {0}
+IsLogFault L.ReadFault = ⊥
+IsLogFault L.Memory = ⊥
+
+-- the first fault of the log
+abbrev pub log_fault_text : LogFault → List ℕ
+log_fault_text (L.Place line) = line_of (codes "log line " ++ decimal line ++ codes ": place")
+log_fault_text (L.Limit line limit) =
+    line_of (codes "log line " ++ decimal line ++ codes ": limit " ++ log_limit_word limit)
+log_fault_text L.ReadFault = []
+log_fault_text L.Memory = []
+
+-- the first hole of the log
+abbrev pub hole_text : ReplayFault → List ℕ
+hole_text H.NoInitial = line_of (codes "log: no initial state")
+hole_text (H.GoalExpanded line) =
+    line_of (codes "log line " ++ decimal line ++ codes ": goal expanded")
+hole_text (H.Open line action) =
+    line_of (codes "log line " ++ decimal line ++ codes ": open action " ++ decimal action)
+hole_text (H.Unjustified line) =
+    line_of (codes "log line " ++ decimal line ++ codes ": unjustified")
+hole_text H.Memory = []
 
 -- two texts are one, but for which state a counterexample names
 abbrev pub AreOneText : List ℕ → List ℕ → Type 0

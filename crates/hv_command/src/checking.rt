@@ -10,10 +10,9 @@ ghost use Rattle.hv_task.specs.Strips.{atoms};
 ghost use Rattle.hv_lines.specs.Setting.{most_budget, setting_of};
 ghost use Rattle.hv_checker.specs.Stands.{Stands, refusal_of};
 ghost use Rattle.hv_checker.specs.declared.stop.Stop.TheVariants as C;
-ghost use Rattle.hv_command.specs.Answer.{AnswersPieces, AnswersProof, AnswersTask, AnswersTold, IsTold};
+ghost use Rattle.hv_command.specs.Answer.{AnswersCheck, AnswersPieces, AnswersProof, AnswersTask, IsTold};
 ghost use Rattle.hv_command.specs.Replies.{IsJobStatus, IsNodesFault, IsTextFault, nodes_fault_text, task_fault_text};
 ghost use Rattle.hv_command.specs.Reply.{IsReply};
-ghost use Rattle.hv_command.specs.Words.{checking};
 ghost use Rattle.hv_command.specs.declared.status.Status.TheVariants as S;
 
 use crate::feeding::feed_file;
@@ -47,8 +46,8 @@ pub(crate) fn check<S: Shelf>(
     requires nodes { IfSome nodes.now (λ name. IsTrue (S.allows shelf.old name)) }
     requires some { 0 < budget }
     requires small { budget ≤ most_budget }
-    ensures answer { IfOk result (λ r. AnswersTold
-        (Some (checking report task.now proof.now nodes.now budget)) (S.held shelf.old) r.status r.text) }
+    ensures answer { IfSome (S.held shelf.old) (λ held. IfOk result (λ r.
+        AnswersCheck report task.now proof.now nodes.now budget held r.status r.text)) }
     ensures answered { IfOk result (λ r. IsJobStatus r.status) }
     ensures held { S.held shelf.new ≡ S.held shelf.old }
     ensures allows { S.allows shelf.new ≡ S.allows shelf.old }

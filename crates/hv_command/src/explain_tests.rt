@@ -1,13 +1,10 @@
 //! Proofs that are explained, through the whole product in memory. Every expected text is derived from the formats by hand.
+use crate::tests::KEY_TASK;
 use crate::{Status, Words, run};
 use hv_bytes::{MemoryShelf, MemorySink};
 use std::alloc::{AllocError, Global};
 use std::process::Abort;
 use std::test::Fail;
-
-/// The key task: a robot goes between two places, and nothing ever gives it the key.
-const KEY_TASK: &str =
-    "begin_atoms:3\nAtom at(r, a)\nAtom at(r, b)\nAtom have(key)\nend_atoms\nbegin_init\n0\nend_init\nbegin_goal\n2\nend_goal\nbegin_actions:2\nbegin_action\ngo a b\ncost:1\nPRE:0\nADD:1\nDEL:0\nend_action\nbegin_action\ngo b a\ncost:1\nPRE:1\nADD:0\nDEL:1\nend_action\nend_actions\n";
 
 /// The node of the states that don't have the key.
 const NODES: &str = "nodes 1\n2 1 0\n";
@@ -84,7 +81,7 @@ fn told(alloc: Global, text: &str, proof: &str) -> Result<(Status, Vec<u8>), All
     shelf.add("proof", proof.as_bytes())?;
     shelf.add("nodes", NODES.as_bytes())?;
     let mut sink = MemorySink::new(alloc, 4096, 4096)?;
-    let status = run(alloc, &words, &mut shelf, &mut sink);
+    let status = run(alloc, &words, &mut shelf, &mut sink, Vec::new(alloc));
     Ok((status, Vec::from_slice(alloc, sink.bytes())?))
 }
 
@@ -131,30 +128,5 @@ fn takes_the_options_of_a_check(rt: HostRuntime) -> Result<(), Fail> {
     );
     let (status, all) = told(rt.alloc(), "explain task missing", proof)?;
     assert!(rt; status == Status::ReadFault && all.is_empty());
-    Ok(())
-}
-
-#[test]
-fn tells_words_that_are_no_explanation(rt: HostRuntime) -> Result<(), Fail> {
-    for words in [
-        "explain",
-        "explain task",
-        "explain task proof more",
-        "Explain task proof",
-        "explain -t proof",
-        "explain task ",
-        "explain task proof --nodes",
-        "explain task proof --budget 0",
-        "explain task proof --budget 7 --budget 7",
-        "explain --budget 7 task proof",
-        "explain check task proof",
-    ] {
-        let (status, all) = told(rt.alloc(), words, "")?;
-        assert!(rt;
-            status == Status::Usage
-                && all.as_slice() == b"usage: helve COMMAND ARGUMENTS\n".as_slice(),
-            "{words}"
-        );
-    }
     Ok(())
 }

@@ -1,10 +1,12 @@
-ghost use Rattle.std.specs.Prelude.{◌≡◌, ◌≤◌, ◌<◌, ◌^◌, ◌↔◌, IfOk, IfSome, IsTrue, Some, map};
+ghost use Rattle.std.specs.Prelude.{◌≡◌, ◌≤◌, ◌<◌, ◌^◌, ◌↔◌, IfOk, IfSome, IsTrue, Some, map, option_map};
 ghost use Rattle.std.specs.String.{string_bytes};
-ghost use Rattle.hv_command.specs.Words.{IsBounded, IsBudget, IsWithin, budget_of, check_of, check_with, checking, is_argument, job_of, kind_of, most_rooms, number_of, options_of, produce_of, produce_with, sample_of, with_budget, with_nodes, with_option};
+ghost use Rattle.hv_command.specs.Words.{IsBounded, IsBudget, IsRooms, IsWithin, budget_of, check_of, check_with, checking, given_budget, job_of, kind_of, number_of, produce_of, produce_with, replay_of, sample_of, sample_with};
 ghost use Rattle.hv_bytes.specs.Decimals.{IsDecimal};
+ghost use Rattle.hv_words.specs.Forms.{texts_of};
 
 use crate::words::Words;
 use hv_bytes::read_decimal;
+use hv_words::{CheckWords, read_check, read_one, read_two};
 use std::alloc::{AllocError, Global};
 use std::marker::Model;
 
@@ -75,6 +77,12 @@ pub enum Job {
         kind: Kind,
         task: FileName,
     },
+    /// `replay TASK LOG`: a proof that the task has no plan, made of the states that a search has
+    /// expanded and of those that it has pruned.
+    Replay {
+        task: FileName,
+        log: FileName,
+    },
     /// `sample N`: the task of so many rooms, from 3 to 64, and what is told of its two proofs.
     Sample {
         rooms: u32,
@@ -104,13 +112,6 @@ pub(crate) enum Report {
     Explanation,
 }
 
-/// What the options of a check say: the name of a node file and a budget, each where it is given.
-#[derive(Drop)]
-pub(crate) struct Options {
-    pub nodes: Option<FileName>,
-    pub budget: Option<u64>,
-}
-
 /// The job that the words name, or none where they are no job.
 pub fn read_job(alloc: Global, words: &Words) -> Result<Option<Job>, AllocError>
     ensures job { IfOk result (λ job. job ≡ job_of words.now) }
@@ -118,14 +119,17 @@ pub fn read_job(alloc: Global, words: &Words) -> Result<Option<Job>, AllocError>
 {
     match words.as_slice() {
         [command, others @ ..] => {
-            if command.as_str() == "check" {
-                read_check(alloc, Report::Verdict, others)
-            } else if command.as_str() == "explain" {
-                read_check(alloc, Report::Explanation, others)
-            } else if command.as_str() == "produce" {
-                read_produce(alloc, others)
-            } else if command.as_str() == "sample" {
-                Ok(read_sample(others))
+            let command = command.as_str();
+            if command == "check" {
+                check_job(alloc, command, Report::Verdict, others)
+            } else if command == "explain" {
+                check_job(alloc, command, Report::Explanation, others)
+            } else if command == "produce" {
+                produce_job(alloc, command, others)
+            } else if command == "replay" {
+                replay_job(alloc, command, others)
+            } else if command == "sample" {
+                sample_job(alloc, command, others)
             } else {
                 Ok(None)
             }
@@ -135,18 +139,31 @@ pub fn read_job(alloc: Global, words: &Words) -> Result<Option<Job>, AllocError>
 }
 
 /// The proof that the words after the command ask for.
-fn read_produce(alloc: Global, words: &[String]) -> Result<Option<Job>, AllocError>
-    ensures job { IfOk result (λ job. job ≡ produce_of (map string_bytes words.now)) }
+fn produce_job<'a>(
+    alloc: Global,
+    command: &'a str,
+    words: &'a [String],
+) -> Result<Option<Job>, AllocError>
+    ensures job { IfOk result (λ job. job ≡ produce_of (map string_bytes words.entry.now)) }
     ensures bounded { IfOk result (λ job. IfSome job IsBounded) }
 {
-    match words {
-        [] => Ok(None),
-        [_] => Ok(None),
-        [kind, task] => match read_kind(kind.as_str()) {
-            Some(kind) => produce_with(alloc, kind, task.as_str()),
-            None => Ok(None),
-        },
-        [_, _, _, ..] => Ok(None),
+    match read_two(alloc, command, words)? {
+        Some((kind, task)) => produce_with(alloc, read_kind(kind), task),
+        None => Ok(None),
+    }
+}
+
+/// The proof of this kind, where there is such a kind.
+fn produce_with(alloc: Global, kind: Option<Kind>, task: &str) -> Result<Option<Job>, AllocError>
+    ensures job { IfOk result (λ job. job ≡ produce_with kind task.now) }
+    ensures bounded { IfOk result (λ job. IfSome job IsBounded) }
+{
+    match kind {
+        Some(kind) => Ok(Some(Job::Produce {
+            kind,
+            task: FileName::new(alloc, task)?,
+        })),
+        None => Ok(None),
     }
 }
 
@@ -165,75 +182,106 @@ fn read_kind(word: &str) -> Option<Kind>
     }
 }
 
-/// The proof of this kind, where the word may name the file of a task.
-fn produce_with(alloc: Global, kind: Kind, task: &str) -> Result<Option<Job>, AllocError>
-    ensures job { IfOk result (λ job. job ≡ produce_with (Some kind) task.now) }
+/// The replay that the words after the command ask for.
+fn replay_job<'a>(
+    alloc: Global,
+    command: &'a str,
+    words: &'a [String],
+) -> Result<Option<Job>, AllocError>
+    ensures job { IfOk result (λ job. job ≡ replay_of (map string_bytes words.entry.now)) }
     ensures bounded { IfOk result (λ job. IfSome job IsBounded) }
 {
-    if is_argument(task) {
-        Ok(Some(Job::Produce {
-            kind,
+    match read_two(alloc, command, words)? {
+        Some((task, log)) => Ok(Some(Job::Replay {
             task: FileName::new(alloc, task)?,
-        }))
-    } else {
-        Ok(None)
+            log: FileName::new(alloc, log)?,
+        })),
+        None => Ok(None),
     }
 }
 
 /// The sample that the words after the command ask for.
-fn read_sample(words: &[String]) -> Option<Job>
-    ensures job { result ≡ sample_of (map string_bytes words.now) }
+fn sample_job<'a>(
+    alloc: Global,
+    command: &'a str,
+    words: &'a [String],
+) -> Result<Option<Job>, AllocError>
+    ensures job { IfOk result (λ job. job ≡ sample_of (map string_bytes words.entry.now)) }
+    ensures bounded { IfOk result (λ job. IfSome job IsBounded) }
+{
+    match read_one(alloc, command, words)? {
+        Some(rooms) => Ok(sample_with(read_number(rooms, 3, MOST_ROOMS))),
+        None => Ok(None),
+    }
+}
+
+/// The sample of so many rooms, where there is such a number.
+fn sample_with(rooms: Option<u64>) -> Option<Job>
+    requires { IfSome rooms IsRooms }
+    ensures job { result ≡ sample_with rooms }
     ensures bounded { IfSome result IsBounded }
 {
-    match words {
-        [] => None,
-        [rooms] => {
-            let rooms = read_number(rooms.as_str(), 3, MOST_ROOMS)?;
-            Some(Job::Sample {
-                rooms: rooms as u32,
-            })
-        }
-        [_, _, ..] => None,
-    }
+    let rooms = rooms? as u32;
+    Some(Job::Sample { rooms })
 }
 
 /// The check that the words after the command ask for.
-fn read_check(alloc: Global, report: Report, words: &[String]) -> Result<Option<Job>, AllocError>
-    ensures job { IfOk result (λ job. job ≡ check_of report (map string_bytes words.now)) }
+fn check_job<'a>(
+    alloc: Global,
+    command: &'a str,
+    report: Report,
+    words: &'a [String],
+) -> Result<Option<Job>, AllocError>
+    ensures job { IfOk result (λ job. job ≡ check_of report (map string_bytes words.entry.now)) }
     ensures bounded { IfOk result (λ job. IfSome job IsBounded) }
 {
-    match words {
-        [task, proof, options @ ..] => match read_options(alloc, options)? {
-            Some(options) => check_with(alloc, report, task.as_str(), proof.as_str(), options),
-            None => Ok(None),
-        },
-        [] => Ok(None),
-        [_] => Ok(None),
+    match read_check(alloc, command, words)? {
+        Some(given) => check_with(alloc, report, given, given_budget(given.budget)),
+        None => Ok(None),
     }
 }
 
-/// The check with these options, where its arguments may name files.
+/// The check that these words name, where they name a budget.
 fn check_with(
     alloc: Global,
     report: Report,
-    task: &str,
-    proof: &str,
-    options: Options,
+    given: CheckWords<'_>,
+    budget: Option<u64>,
 ) -> Result<Option<Job>, AllocError>
-    requires { IfSome options.budget IsBudget }
-    ensures job { IfOk result (λ job. job ≡ check_with report task.now proof.now (Some options)) }
+    requires { IfSome budget IsBudget }
+    ensures job { IfOk result (λ job. job ≡ check_with report (texts_of given.entry) budget) }
     ensures bounded { IfOk result (λ job. IfSome job IsBounded) }
 {
-    if is_argument(task) && is_argument(proof) {
-        Ok(Some(checking(
+    match budget {
+        Some(budget) => Ok(Some(checking(
             report,
-            FileName::new(alloc, task)?,
-            FileName::new(alloc, proof)?,
-            options.nodes,
-            options.budget.unwrap_or(DEFAULT_BUDGET),
-        )))
-    } else {
-        Ok(None)
+            FileName::new(alloc, given.task)?,
+            FileName::new(alloc, given.proof)?,
+            given_name(alloc, given.nodes)?,
+            budget,
+        ))),
+        None => Ok(None),
+    }
+}
+
+/// The name of a file, where one is given.
+fn given_name(alloc: Global, word: Option<&str>) -> Result<Option<FileName>, AllocError>
+    ensures { IfOk result (λ name. name ≡ option_map (λ s. s.now) word.entry) }
+{
+    match word {
+        Some(word) => Ok(Some(FileName::new(alloc, word)?)),
+        None => Ok(None),
+    }
+}
+
+/// The budget that is given, or the one that is meant where none is.
+fn given_budget(word: Option<&str>) -> Option<u64>
+    ensures budget { result ≡ given_budget (option_map (λ s. s.now) word.entry) }
+    ensures some { IfSome result IsBudget }
+{
+    match word {
+        Some(word) => read_budget(word),
+        None => Some(DEFAULT_BUDGET),
     }
 }
 
@@ -260,84 +308,6 @@ fn checking(
             nodes,
             budget,
         },
-    }
-}
-
-/// The options of a check: at most two, each with its value.
-fn read_options(alloc: Global, words: &[String]) -> Result<Option<Options>, AllocError>
-    ensures options { IfOk result (λ options. options ≡ options_of (map string_bytes words.now)) }
-    ensures budget { IfOk result (λ options. IfSome options (λ o. IfSome o.budget IsBudget)) }
-{
-    let none = Options {
-        nodes: None,
-        budget: None,
-    };
-    match words {
-        [] => Ok(Some(none)),
-        [option, value] => with_option(alloc, none, option.as_str(), value.as_str()),
-        [option, value, other, second] => {
-            match with_option(alloc, none, option.as_str(), value.as_str())? {
-                Some(options) => with_option(alloc, options, other.as_str(), second.as_str()),
-                None => Ok(None),
-            }
-        }
-        [_] => Ok(None),
-        [_, _, _] => Ok(None),
-        [_, _, _, _, _, ..] => Ok(None),
-    }
-}
-
-/// The options with this one and its value besides. There are none where it is no option, has no
-/// such value, or is given already.
-fn with_option(
-    alloc: Global,
-    options: Options,
-    option: &str,
-    value: &str,
-) -> Result<Option<Options>, AllocError>
-    requires { IfSome options.budget IsBudget }
-    ensures options { IfOk result (λ o. o ≡ with_option options option.now value.now) }
-    ensures budget { IfOk result (λ options. IfSome options (λ o. IfSome o.budget IsBudget)) }
-{
-    if option == "--nodes" {
-        with_nodes(alloc, options, value)
-    } else if option == "--budget" {
-        Ok(with_budget(options, read_budget(value)))
-    } else {
-        Ok(None)
-    }
-}
-
-/// The options with a node file besides, where none is given yet.
-fn with_nodes(alloc: Global, options: Options, value: &str) -> Result<Option<Options>, AllocError>
-    requires { IfSome options.budget IsBudget }
-    ensures options { IfOk result (λ o. o ≡ with_nodes options value.now) }
-    ensures budget { IfOk result (λ options. IfSome options (λ o. IfSome o.budget IsBudget)) }
-{
-    if options.nodes.is_none() && is_argument(value) {
-        Ok(Some(Options {
-            nodes: Some(FileName::new(alloc, value)?),
-            budget: options.budget,
-        }))
-    } else {
-        Ok(None)
-    }
-}
-
-/// The options with a budget besides, where none is given yet.
-fn with_budget(options: Options, budget: Option<u64>) -> Option<Options>
-    requires { IfSome budget IsBudget }
-    ensures options { result ≡ with_budget options budget }
-    ensures budget { IfSome result (λ o. IfSome o.budget IsBudget) }
-{
-    let budget = budget?;
-    if options.budget.is_none() {
-        Some(Options {
-            nodes: options.nodes,
-            budget: Some(budget),
-        })
-    } else {
-        None
     }
 }
 
@@ -382,13 +352,4 @@ fn is_within(number: u64, least: u64, most: u64) -> bool
     ensures { IsTrue result ↔ IsWithin least most number }
 {
     least <= number && number <= most
-}
-
-fn is_argument(word: &str) -> bool
-    ensures { result ≡ is_argument word.now }
-{
-    match word.as_bytes() {
-        [] => false,
-        [first, ..] => *first != b'-',
-    }
 }

@@ -10,6 +10,9 @@ pub mod laws;
 #[cfg(test)]
 mod produce_tests;
 mod producing;
+#[cfg(test)]
+mod replay_tests;
+mod replaying;
 mod reply;
 pub mod sample;
 #[cfg(test)]
@@ -24,6 +27,8 @@ mod task_fault;
 mod tests;
 mod top;
 pub mod words;
+#[cfg(test)]
+mod words_tests;
 
 pub use job::{FileName, Job, Kind, read_job};
 pub use laws::{accepted, one_answer};

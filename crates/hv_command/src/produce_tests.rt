@@ -1,13 +1,10 @@
 //! Proofs that are written, through the whole product in memory. Every expected text is derived from the formats by hand.
+use crate::tests::KEY_TASK;
 use crate::{Status, Words, run};
 use hv_bytes::{MemoryShelf, MemorySink};
 use std::alloc::{AllocError, Global};
 use std::process::Abort;
 use std::test::Fail;
-
-/// The key task: a robot goes between two places, and nothing ever gives it the key.
-const KEY_TASK: &str =
-    "begin_atoms:3\nAtom at(r, a)\nAtom at(r, b)\nAtom have(key)\nend_atoms\nbegin_init\n0\nend_init\nbegin_goal\n2\nend_goal\nbegin_actions:2\nbegin_action\ngo a b\ncost:1\nPRE:0\nADD:1\nDEL:0\nend_action\nbegin_action\ngo b a\ncost:1\nPRE:1\nADD:0\nDEL:1\nend_action\nend_actions\n";
 
 /// The same with the goal that the robot stands where it begins.
 const GOAL_AT_THE_START: &str =
@@ -36,7 +33,7 @@ fn produced(alloc: Global, kind: &str, task: &[u8]) -> Result<(Status, Vec<u8>),
     for word in ["produce", kind, "task"] {
         words.push(word)?;
     }
-    let status = run(alloc, &words, &mut shelf, &mut sink);
+    let status = run(alloc, &words, &mut shelf, &mut sink, Vec::new(alloc));
     Ok((status, Vec::from_slice(alloc, sink.bytes())?))
 }
 
@@ -50,7 +47,7 @@ fn is_accepted(alloc: Global, task: &[u8], proof: &[u8], budget: &str) -> Result
     for word in ["check", "task", "proof", "--budget", budget] {
         words.push(word)?;
     }
-    let status = run(alloc, &words, &mut shelf, &mut sink);
+    let status = run(alloc, &words, &mut shelf, &mut sink, Vec::new(alloc));
     Ok(status == Status::Done && sink.bytes() == b"unsolvable\n".as_slice())
 }
 
@@ -167,7 +164,7 @@ fn a_proof_may_be_cut_by_a_failing_write(rt: HostRuntime) -> Result<(), Fail> {
     for word in ["produce", "relaxed", "task"] {
         words.push(word)?;
     }
-    let status = run(alloc, &words, &mut shelf, &mut sink);
+    let status = run(alloc, &words, &mut shelf, &mut sink, Vec::new(alloc));
     assert!(rt; status == Status::WriteFault);
     assert!(rt; sink.bytes() == b"a 0 a\ne 0 ".as_slice());
     Ok(())

@@ -1,12 +1,12 @@
 //! The job `produce`: a proof that a task has no plan.
 
-ghost use Rattle.std.specs.Prelude.{◌≡◌, ◌≤◌, Some, IfOk, IsErrOf, IsTrue, reverse};
+ghost use Rattle.std.specs.Prelude.{◌≡◌, ◌≤◌, IfOk, IfSome, IsErrOf, IsTrue, reverse};
 ghost use Rattle.hv_bytes.specs.Devices.{Rose};
+ghost use Rattle.hv_bytes.specs.Files.{bytes_of};
 ghost use Rattle.hv_lines.specs.Spelling.{proof_text};
-ghost use Rattle.hv_command.specs.Answer.{AnswersProduce, AnswersTold};
+ghost use Rattle.hv_command.specs.Answer.{AfterTask, AnswersProduce};
 ghost use Rattle.hv_command.specs.Replies.{IsJobStatus};
 ghost use Rattle.hv_command.specs.Reply.{IsReply};
-ghost use Rattle.hv_command.specs.declared.job.Job.TheVariants as J;
 ghost use Rattle.hv_command.specs.declared.job.Kind.TheVariants as K;
 ghost use Rattle.hv_command.specs.declared.status.Status.TheVariants as S;
 
@@ -32,8 +32,8 @@ pub(crate) fn produce<S: Shelf>(
     task: &FileName,
 ) -> Result<Reply, Stop>
     requires { IsTrue (S.allows shelf.old task.now) }
-    ensures answer { IfOk result (λ r. AnswersTold
-        (Some (J.Produce kind task.now)) (S.held shelf.old) r.status r.text) }
+    ensures answer { IfSome (S.held shelf.old) (λ held. IfOk result (λ r.
+        AfterTask (bytes_of held task.now) (AnswersProduce kind) r.status r.text)) }
     ensures answered { IfOk result (λ r. IsJobStatus r.status) }
     ensures held { S.held shelf.new ≡ S.held shelf.old }
     ensures allows { S.allows shelf.new ≡ S.allows shelf.old }

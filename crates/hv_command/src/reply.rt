@@ -125,7 +125,7 @@ fn push_atom(text: &mut Text, state: &State, atom: u32) -> Result<(), AllocError
 }
 
 /// `FILE line L: WHAT WORD`
-fn text_fault(
+pub(crate) fn text_fault(
     alloc: Global,
     file: &[u8],
     line: u64,

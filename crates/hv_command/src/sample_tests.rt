@@ -27,7 +27,7 @@ fn told(
     shelf.add("task", task)?;
     shelf.add("proof", proof)?;
     let mut sink = MemorySink::new(alloc, 4096, 65536)?;
-    let status = run(alloc, &words, &mut shelf, &mut sink);
+    let status = run(alloc, &words, &mut shelf, &mut sink, Vec::new(alloc));
     Ok((status, Vec::from_slice(alloc, sink.bytes())?))
 }
 

@@ -1,14 +1,11 @@
 //! Basic statements through the whole product in memory: what each asks, costs and answers. Every expected text is derived from
 //! the formats by hand; where several states are counterexamples, each text that names one is listed.
+use crate::tests::KEY_TASK;
 use crate::{Status, Words, run};
 use hv_bytes::{MemoryShelf, MemorySink};
 use std::alloc::{AllocError, Global};
 use std::process::Abort;
 use std::test::Fail;
-
-/// The key task: a robot goes between two places, and nothing ever gives it the key.
-const KEY_TASK: &str =
-    "begin_atoms:3\nAtom at(r, a)\nAtom at(r, b)\nAtom have(key)\nend_atoms\nbegin_init\n0\nend_init\nbegin_goal\n2\nend_goal\nbegin_actions:2\nbegin_action\ngo a b\ncost:1\nPRE:0\nADD:1\nDEL:0\nend_action\nbegin_action\ngo b a\ncost:1\nPRE:1\nADD:0\nDEL:1\nend_action\nend_actions\n";
 
 /// Two atoms of which each action exchanges one for the other; both are wanted.
 const ONE_OF_TWO: &str =
@@ -334,7 +331,7 @@ fn answer(
     for word in ["check", "task", "proof", "--budget", budget] {
         words.push(word)?;
     }
-    let status = run(alloc, &words, &mut shelf, &mut sink);
+    let status = run(alloc, &words, &mut shelf, &mut sink, Vec::new(alloc));
     Ok((status, Vec::from_slice(alloc, sink.bytes())?))
 }
 
@@ -618,7 +615,7 @@ fn answer_with_nodes(
     for word in options {
         words.push(word)?;
     }
-    let status = run(alloc, &words, &mut shelf, &mut sink);
+    let status = run(alloc, &words, &mut shelf, &mut sink, Vec::new(alloc));
     Ok((status, Vec::from_slice(alloc, sink.bytes())?))
 }
 
@@ -780,7 +777,7 @@ fn is_answered(
     ] {
         words.push(word)?;
     }
-    let status = run(alloc, &words, &mut shelf, &mut sink);
+    let status = run(alloc, &words, &mut shelf, &mut sink, Vec::new(alloc));
     Ok(status == Status::Refused && is_text(sink.bytes(), text))
 }
 

@@ -2,6 +2,7 @@
 
 ghost use Rattle.std.specs.Prelude.{◌≡◌, ◌≤◌, ◌⊎◌, ℕ, List, Some, None, IfOk, IsErrOf, IsTrue};
 ghost use Rattle.std.specs.Io.KnownBytes.{Appends};
+ghost use Rattle.std.specs.List.{Any};
 ghost use Rattle.hv_bytes.specs.Devices.{AppendsFront, Rose};
 ghost use Rattle.hv_command.specs.Answer.{AnswersTold, IsAcceptedTold, IsSoundTold};
 ghost use Rattle.hv_command.specs.Replies.{IsAnswered, IsJobStatus};
@@ -11,17 +12,26 @@ ghost use Rattle.hv_command.specs.declared.status.Status.{Status as StatusOf};
 use crate::checking::check;
 use crate::job::{Job, Report, read_job};
 use crate::producing::produce;
+use crate::replaying::replay_files;
 use crate::reply::{Reply, fixed};
 use crate::sampling::sample;
 use crate::status::Status;
 use crate::stop::Stop;
 use crate::words::Words;
 use hv_bytes::{Shelf, Sink, send};
+use hv_lines::Pruner;
 use std::alloc::Global;
 
 /// Does what the words ask for: reads the files that they name from the shelf, and writes the
-/// answer to the sink. The whole answer stands in memory before its first byte is written.
-pub fn run<S: Shelf, K: Sink>(alloc: Global, words: &Words, shelf: &mut S, out: &mut K) -> Status
+/// answer to the sink. The whole answer stands in memory before its first byte is written. A replay
+/// asks these pruners, in order, why a pruned state is dead; they are dropped at the end.
+pub fn run<S: Shelf, K: Sink>(
+    alloc: Global,
+    words: &Words,
+    shelf: &mut S,
+    out: &mut K,
+    pruners: Vec<Box<dyn Pruner>>,
+) -> Status
     requires { (name : List ℕ) → HasName (job_of words.now) name
         → IsTrue (S.allows shelf.old name) }
 
@@ -33,7 +43,8 @@ pub fn run<S: Shelf, K: Sink>(alloc: Global, words: &Words, shelf: &mut S, out: 
 
     // the answer of the job, and that it was written; a proof that is written is judged `unsolvable`
     ensures answer { IsAnswered result → (text : List ℕ)
-        × AnswersTold (job_of words.now) (S.held shelf.old) result text
+        × AnswersTold (λ task state. Any (λ b. covers b task state) pruners.items)
+        (job_of words.now) (S.held shelf.old) result text
         × IsAcceptedTold (job_of words.now) (S.held shelf.old) result text
         × Appends (K.taken out.old) (K.taken out.new) text }
     // what it says is true
@@ -52,13 +63,16 @@ pub fn run<S: Shelf, K: Sink>(alloc: Global, words: &Words, shelf: &mut S, out: 
     // faults of the sink
     ensures write_fault { result ≡ Status.WriteFault → Rose (K.faults out.old) (K.faults out.new) }
     ensures write_front { result ≡ Status.WriteFault → (status : StatusOf) × (text : List ℕ)
-        × IsAnswered status × AnswersTold (job_of words.now) (S.held shelf.old) status text
+        × IsAnswered status
+        × AnswersTold (λ task state. Any (λ b. covers b task state) pruners.items)
+        (job_of words.now) (S.held shelf.old) status text
         × AppendsFront (K.taken out.old) (K.taken out.new) text }
 
     // want of memory
     ensures memory { result ≡ Status.Memory → out.new ≡ out.old }
 {
-    match answer(alloc, words, shelf) {
+    let mut pruners = pruners;
+    match answer(alloc, words, shelf, &mut pruners) {
         Ok(reply) => match send(out, reply.text.as_bytes()) {
             Ok(()) => reply.status,
             Err(_) => Status::WriteFault,
@@ -69,11 +83,17 @@ pub fn run<S: Shelf, K: Sink>(alloc: Global, words: &Words, shelf: &mut S, out: 
 }
 
 /// The answer of the job that the words name.
-fn answer<S: Shelf>(alloc: Global, words: &Words, shelf: &mut S) -> Result<Reply, Stop>
+fn answer<S: Shelf>(
+    alloc: Global,
+    words: &Words,
+    shelf: &mut S,
+    pruners: &mut Vec<Box<dyn Pruner>>,
+) -> Result<Reply, Stop>
     requires { (name : List ℕ) → HasName (job_of words.now) name
         → IsTrue (S.allows shelf.old name) }
-    ensures answer { IfOk result (λ r. AnswersTold (job_of words.now)
-        (S.held shelf.old) r.status r.text) }
+    ensures answer { IfOk result (λ r.
+        AnswersTold (λ task state. Any (λ b. covers b task state) pruners.old.items)
+        (job_of words.now) (S.held shelf.old) r.status r.text) }
     ensures answered { IfOk result (λ r. IsAnswered r.status) }
     ensures usage { IfOk result (λ r. r.status ≡ Status.Usage → job_of words.now ≡ None) }
     ensures no_job { IfOk result (λ r. job_of words.now ≡ None → r.status ≡ Status.Usage) }
@@ -89,18 +109,24 @@ fn answer<S: Shelf>(alloc: Global, words: &Words, shelf: &mut S) -> Result<Reply
             Ok(usage)
         }
         Some(job) => {
-            let reply = do_job(alloc, shelf, &job)?;
+            let reply = do_job(alloc, shelf, &job, pruners)?;
             Ok(reply)
         }
     }
 }
 
-fn do_job<S: Shelf>(alloc: Global, shelf: &mut S, job: &Job) -> Result<Reply, Stop>
+fn do_job<S: Shelf>(
+    alloc: Global,
+    shelf: &mut S,
+    job: &Job,
+    pruners: &mut Vec<Box<dyn Pruner>>,
+) -> Result<Reply, Stop>
     requires bounded { IsBounded job.now }
     requires allowed { (name : List ℕ) → HasName (Some job.now) name
         → IsTrue (S.allows shelf.old name) }
-    ensures answer { IfOk result (λ r. AnswersTold (Some job.now)
-        (S.held shelf.old) r.status r.text) }
+    ensures answer { IfOk result (λ r.
+        AnswersTold (λ task state. Any (λ b. covers b task state) pruners.old.items)
+        (Some job.now) (S.held shelf.old) r.status r.text) }
     ensures job_status { IfOk result (λ r. IsJobStatus r.status) }
     ensures held { S.held shelf.new ≡ S.held shelf.old }
     ensures allows { S.allows shelf.new ≡ S.allows shelf.old }
@@ -136,6 +162,10 @@ fn do_job<S: Shelf>(alloc: Global, shelf: &mut S, job: &Job) -> Result<Reply, St
         }
         Job::Produce { kind, task } => {
             let reply = produce(alloc, shelf, *kind, task)?;
+            Ok(reply)
+        }
+        Job::Replay { task, log } => {
+            let reply = replay_files(alloc, shelf, task, log, pruners)?;
             Ok(reply)
         }
         Job::Sample { rooms } => {

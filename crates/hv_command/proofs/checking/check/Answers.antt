@@ -6,13 +6,14 @@ use Rattle.hv_command.specs.Answer.{AnswersTask}
 use Rattle.hv_command.specs.Replies.{IsTextFault, task_fault_text}
 use Rattle.hv_command.specs.Reply.{IsReply}
 use Rattle.hv_command.specs.declared.status.Status.TheVariants as S
-use Rattle.hv_command.proofs.Checked.{told_answer, told_fault}
+use Rattle.hv_command.proofs.Checked.{task_answer, task_fault}
 use Rattle.hv_command.proofs.checking.check.Goals as goal
 
 pub returns-in_ok-answer-in-Ok-clause-answer : goal.returns-in_ok-answer-in-Ok-clause-answer
 returns-in_ok-answer-in-Ok-clause-answer g c =
     let answer = c.in_ok-answer-in-Ok.answer in
-    told_answer c.args.report c.args.task.now c.args.proof.now c.args.nodes.now c.args.budget (g.S.Shelf.held c.args.shelf.now) c.in-Ok.task answer.status answer.text
+    task_answer (g.S.Shelf.held c.args.shelf.now) c.args.task.now
+    (λ held task. AnswersTask c.args.report task c.args.proof.now c.args.nodes.now c.args.budget held) c.in-Ok.task answer.status answer.text
     (subst (λ name. IfSome (g.S.Shelf.held c.args.shelf.now) (λ (h : Names). TaskText standard (bytes_of h name) c.in-Ok.task)) c.as_str.ensures c.in-Ok.ensures.read)
     (subst
     (λ held. IfSome held (λ (h : Names). AnswersTask c.args.report c.in-Ok.task c.args.proof.now c.args.nodes.now c.args.budget h answer.status answer.text))
@@ -22,6 +23,7 @@ pub returns-in_ok-answer-in-Err-clause-answer : goal.returns-in_ok-answer-in-Err
 returns-in_ok-answer-in-Err-clause-answer g c =
     let answer = c.in_ok-answer-in-Err.answer in
     let said : IsReply answer S.BadInput (task_fault_text c.in-Err.fault) × IsTextFault c.in-Err.fault = c.in_ok-answer-in-Err.ensures in
-    told_fault c.args.report c.args.task.now c.args.proof.now c.args.nodes.now c.args.budget (g.S.Shelf.held c.args.shelf.now) c.in-Err.fault answer.status answer.text
+    task_fault (g.S.Shelf.held c.args.shelf.now) c.args.task.now
+    (λ held task. AnswersTask c.args.report task c.args.proof.now c.args.nodes.now c.args.budget held) c.in-Err.fault answer.status answer.text
     (subst (λ name. IfSome (g.S.Shelf.held c.args.shelf.now) (λ (h : Names). IsReadFrom standard (bytes_of h name) (Err c.in-Err.fault))) c.as_str.ensures c.in-Err.ensures.read)
     said.1 said.0.status_is said.0.text_is

@@ -1,0 +1,11 @@
+//! The words after the name of a command, read by clap where they have the form of the command.
+#![tactic(auto)]
+
+mod arguments;
+mod check;
+mod parsing;
+#[cfg(test)]
+mod tests;
+
+pub use arguments::{read_one, read_two};
+pub use check::{CheckWords, read_check};
