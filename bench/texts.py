@@ -138,3 +138,10 @@ def wishes(atoms, actions, with_conditions):
             granted, taken = numbers.sample(range(atoms), 2)
             made.append(([], [granted], [taken]))
     return task_text(atoms, [0], sorted(numbers.sample(range(atoms), atoms * 2 // 3)) if with_conditions else list(range(atoms)), made)
+
+
+def got_in_turn(atoms, actions):
+    """A chain in which each atom is got from the one before, its actions over and over; all atoms are the goal. So conjunctions are
+    deleted one after the other, but for those that deny the first atom."""
+    steps = [([atom], [atom + 1], []) for atom in range(atoms - 1)]
+    return task_text(atoms, [], list(range(atoms)), (steps * (actions // len(steps) + 1))[:actions])
