@@ -3,7 +3,8 @@ use Rattle.std.proofs.Common.{◌≡◌, ℕ, zero, suc, ◌<◌, ◌≤◌, ◌
 use Rattle.std.specs.Str.Parse.{AllDigits, digits_value}
 use Rattle.std.proofs.lemmas.Str.Parse.{IsNumeralModel, numerals_by_value, tells_digits, digit_at, digits_value_short}
 use Rattle.std.proofs.lemmas.Fmt.{decimal-digits_value, digits_decimal, first_decimal, length-decimal-le, decimal_nonempty, decimal_digit, decimal_injective}
-use Rattle.hv_bytes.specs.Decimals.{IsDecimal, HasDecimalShape, IsShortDecimal}
+use Rattle.hv_bytes.specs.Decimals.{IsDecimal, IsShortDecimal}
+use Rattle.hv_bytes.specs.Working.Decimals.{HasDecimalShape}
 
 abbrev own : IsNumeralModel (AllDigits 10) (digits_value 10)
 own = numerals_by_value (AllDigits 10) tells_digits

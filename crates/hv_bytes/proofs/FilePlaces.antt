@@ -5,7 +5,8 @@ use Rattle.std.specs.List.{find, position, position_or_len}
 use Rattle.std.proofs.lemmas.Bool.Decides.{nat_tests}
 use Rattle.std.proofs.lemmas.List.Folds.{find_at}
 use Rattle.std.proofs.lemmas.List.Sums.{prefix_len-le-length}
-use Rattle.hv_bytes.specs.Files.{File, bytes_at, bytes_of, held_of}
+use Rattle.hv_bytes.specs.Files.{File, bytes_of, held_of}
+use Rattle.hv_bytes.specs.Working.Files.{bytes_at}
 use Rattle.std.specs.Str.{bytes_eq}
 
 -- the first place that passes, or the length: the answer of a search with the length in place of none

@@ -4,8 +4,9 @@ use Rattle.std.proofs.lemmas.List.{drop-drop, drop-take}
 use Rattle.std.proofs.lemmas.List.Elements.{All-append}
 use Rattle.std.specs.Io.KnownBytes.{Consumes, Keeps, IsAtEnd, prepend_known}
 use Rattle.hv_bytes.specs.FirstLine.{BeginsLong, IsFirstLine, IsLong, TakesLine}
-use Rattle.hv_bytes.specs.LineCuts.{IsClean, IsFirstLf}
-use Rattle.hv_bytes.specs.LineParts.{EndsLine, IsLongPart, LengthensLine}
+use Rattle.hv_bytes.specs.LineCuts.{IsClean}
+use Rattle.hv_bytes.specs.Working.LineCuts.{IsFirstLf}
+use Rattle.hv_bytes.specs.Working.LineParts.{EndsLine, IsLongPart, LengthensLine}
 use Rattle.hv_bytes.proofs.LineLaws.{IsFirstLine-append, first_line_of, length_some}
 
 -- the bytes from one place of a buffer to another, without the first of them

@@ -4,7 +4,8 @@ use Rattle.std.proofs.lemmas.Bool.{eqb-true}
 use Rattle.std.proofs.lemmas.List.Elements.{All-weaker}
 use Rattle.std.proofs.lemmas.List.Splits.{slice_split_at, slice_split_none}
 use Rattle.std.specs.List.{All}
-use Rattle.hv_bytes.specs.Fields.{HasNoSpace, IsFirstSpace, cut_fields}
+use Rattle.hv_bytes.specs.Fields.{HasNoSpace, cut_fields}
+use Rattle.hv_bytes.specs.Working.Fields.{IsFirstSpace}
 
 differs : (b : ℕ) (t : Bool) → eqb b 32 ≡ t → b ≢ 32 → t ≡ false
 differs b true e ne = absurd (ne (eqb-true b 32 e))

@@ -6,10 +6,13 @@ use Rattle.std.proofs.lemmas.Bool.{le-leb, leb-true, lt-leb}
 use Rattle.std.proofs.lemmas.List.{map-append}
 use Rattle.std.proofs.lemmas.List.Elements.{All-head, All-tail}
 use Rattle.std.proofs.lemmas.List.Sums.{sum_by-cons}
-use Rattle.hv_bytes.specs.Files.{Names, Opens, bytes_of, file_of}
-use Rattle.hv_bytes.specs.FirstLine.{BeginsLong, FitsLimits, IsFirstLine, IsLong, Passes, TakesLine, last_byte}
-use Rattle.hv_bytes.specs.LineCuts.{bytes_in, lines_of}
-use Rattle.hv_bytes.specs.Pieces.{ComesNext, GaveLines, Piece, as_pieces, fits_limits, pieces_after, pieces_of}
+use Rattle.hv_bytes.specs.Files.{Names, Opens, bytes_of}
+use Rattle.hv_bytes.specs.Working.Files.{file_of}
+use Rattle.hv_bytes.specs.FirstLine.{BeginsLong, FitsLimits, IsFirstLine, IsLong, MovesBytes, TakesLine, last_byte}
+use Rattle.hv_bytes.specs.LineCuts.{lines_of}
+use Rattle.hv_bytes.specs.Working.LineCuts.{bytes_in}
+use Rattle.hv_bytes.specs.Pieces.{ComesNext, Piece, as_pieces, fits_limits, pieces_after, pieces_of}
+use Rattle.hv_bytes.specs.Working.Pieces.{GaveLines}
 use Rattle.hv_bytes.specs.declared.cutting.Limits.{Limits}
 use Rattle.hv_bytes.proofs.LineLaws.{lines_of-first}
 
@@ -79,7 +82,7 @@ opened (Some files) name limits left o =
     subst (λ l. GaveLines limits (Some (bytes_of files name)) [] (prepend_known [] l) 0) (sym o) (gave_none limits (Some (bytes_of files name)))
 
 -- one more line
-pub gave_more : (limits : Limits) (file old new : Option (List ℕ)) (given : List (List ℕ)) (line : List ℕ) (before after : ℕ) → GaveLines limits file given old before → TakesLine old new line → Passes old new before after
+pub gave_more : (limits : Limits) (file old new : Option (List ℕ)) (given : List (List ℕ)) (line : List ℕ) (before after : ℕ) → GaveLines limits file given old before → TakesLine old new line → MovesBytes old new before after
     → FitsLimits limits.line limits.file before (length line) → GaveLines limits file (given ++ line ∷ []) new after
 gave_more limits None old new given line before after gave first sums fits = tt
 gave_more limits (Some file) None new given line before after gave first sums fits = absurd gave

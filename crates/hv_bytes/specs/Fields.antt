@@ -1,5 +1,5 @@
 -- The fields of a line, parted by spaces, byte 32.
-use Rattle.std.specs.Prelude.{◌≡◌, ◌≢◌, ℕ, ◌+◌, ◌<◌, ◌==◌, List, ◌∷◌, length, take, drop, All}
+use Rattle.std.specs.Prelude.{◌≢◌, ℕ, ◌==◌, List, All}
 use Rattle.std.specs.List.{slice_split}
 
 -- the fields of a line: its bytes cut at each space, so that there is one more of them than there
@@ -10,9 +10,3 @@ cut_fields line = slice_split (λ b. b == 32) line
 -- no byte is a space
 abbrev pub HasNoSpace : List ℕ → Type 0
 HasNoSpace bytes = All (λ b. b ≢ 32) bytes
-
--- the first space of these bytes stands at this place
-pub record IsFirstSpace (bytes : List ℕ) (at : ℕ) : Type 0 where
-  pub within : at < length bytes
-  pub clean : HasNoSpace (take at bytes)
-  pub here : drop at bytes ≡ 32 ∷ drop (at + 1) bytes

@@ -1,5 +1,5 @@
 -- Files by name, and what opening one of them gives.
-use Rattle.std.specs.Prelude.{◌≡◌, ℕ, List, [], Option, None, Some, unwrap_or, option_map, find, slice_get}
+use Rattle.std.specs.Prelude.{◌≡◌, ℕ, List, [], Option, None, Some, unwrap_or, option_map, find}
 use Rattle.std.specs.Str.{bytes_eq}
 
 -- what stands under each name: nothing where the name isn't held
@@ -10,11 +10,6 @@ Names = List ℕ → Option (List ℕ)
 abbrev pub bytes_of : Names → List ℕ → List ℕ
 bytes_of held name = unwrap_or (held name) []
 
--- the bytes under a name, where a shelf tells what it holds
-abbrev pub file_of : Option Names → List ℕ → Option (List ℕ)
-file_of None name = None
-file_of (Some held) name = Some (bytes_of held name)
-
 -- a file as it was added: its name and its bytes
 pub record File : Type 0 where
   pub name : List ℕ
@@ -23,10 +18,6 @@ pub record File : Type 0 where
 -- of these files, newest first, the bytes of the newest one of each name
 abbrev pub held_of : List File → Names
 held_of files name = option_map (λ file. file.bytes) (find (λ file. bytes_eq file.name name) files)
-
--- the bytes of the file at this place: none past the end
-abbrev pub bytes_at : List File → ℕ → List ℕ
-bytes_at files place = unwrap_or (option_map (λ file. file.bytes) (slice_get files place)) []
 
 -- after an open that succeeds the left bytes are those under the name, where told
 abbrev pub Opens : Option Names → List ℕ → Option (List ℕ) → Type 0

@@ -36,7 +36,7 @@ TakesLine (Some old) None line = ⊥
 TakesLine (Some old) (Some new) line = IsFirstLine old line new
 
 -- as many bytes joined the earlier ones as left the known coming ones
-abbrev pub Passes : Option (List ℕ) → Option (List ℕ) → ℕ → ℕ → Type 0
-Passes None new before after = Unit {0}
-Passes (Some old) None before after = ⊥
-Passes (Some old) (Some new) before after = after + length new ≡ before + length old
+abbrev pub MovesBytes : Option (List ℕ) → Option (List ℕ) → ℕ → ℕ → Type 0
+MovesBytes None new before after = Unit {0}
+MovesBytes (Some old) None before after = ⊥
+MovesBytes (Some old) (Some new) before after = after + length new ≡ before + length old

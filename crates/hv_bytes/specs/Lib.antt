@@ -4,7 +4,7 @@ pub mod FirstLine
 pub mod Fields
 pub mod Files
 pub mod LineCuts
-pub mod LineParts
 pub mod Pieces
 pub mod Standard
 pub mod States
+pub mod Working

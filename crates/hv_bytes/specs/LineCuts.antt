@@ -1,5 +1,5 @@
 -- A text cut into lines at LF, byte 10.
-use Rattle.std.specs.Prelude.{◌≡◌, ◌≢◌, ℕ, ◌+◌, ◌<◌, ◌==◌, List, [], ◌∷◌, length, take, drop, sum_by, All, if◌then◌else◌}
+use Rattle.std.specs.Prelude.{◌≢◌, ℕ, ◌==◌, List, [], ◌∷◌, All, if◌then◌else◌}
 use Rattle.std.specs.List.{onto_first}
 
 -- no byte is an LF
@@ -11,13 +11,3 @@ IsClean bytes = All (λ b. b ≢ 10) bytes
 abbrev pub lines_of : List ℕ → List (List ℕ)
 lines_of [] = []
 lines_of (b ∷ bytes) = if b == 10 then [] ∷ lines_of bytes else onto_first b (lines_of bytes)
-
--- the first LF of these bytes stands at this place
-pub record IsFirstLf (bytes : List ℕ) (at : ℕ) : Type 0 where
-  pub within : at < length bytes
-  pub clean : IsClean (take at bytes)
-  pub here : drop at bytes ≡ 10 ∷ drop (at + 1) bytes
-
--- how many bytes these lines have, each with its LF
-abbrev pub bytes_in : List (List ℕ) → ℕ
-bytes_in lines = sum_by (λ line. length line + 1) lines

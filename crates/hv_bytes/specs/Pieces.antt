@@ -37,11 +37,3 @@ pub record ComesNext
   where
     pub cut : pieces ≡ as_pieces before ++ rest
     pub counted : number ≡ length before + 1
-
--- of a known file these lines were given, none of them long: with the pieces of the coming bytes
--- they are its pieces
-abbrev pub GaveLines : Limits → Option (List ℕ) → List (List ℕ) → Option (List ℕ) → ℕ → Type 0
-GaveLines limits None given coming earlier = Unit {0}
-GaveLines limits (Some file) given None earlier = ⊥
-GaveLines limits (Some file) given (Some coming) earlier =
-    pieces_of limits file ≡ as_pieces given ++ pieces_after limits earlier (lines_of coming)

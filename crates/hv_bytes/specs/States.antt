@@ -1,5 +1,5 @@
 -- What contracts see of the shelves, sinks and line cutters of this crate.
-use Rattle.std.specs.Prelude.{◌≡◌, ℕ, ◌+◌, ◌^◌, ◌≤◌, Bool, true, false, List, [], Option, Some, if◌then◌else◌}
+use Rattle.std.specs.Prelude.{ℕ, ◌+◌, Bool, true, false, List, [], Option, Some, if◌then◌else◌}
 use Rattle.std.specs.Io.KnownBytes.{prepend_known}
 use Rattle.hv_bytes.specs.Files.{File}
 use Rattle.hv_bytes.specs.declared.cutting.Limits.{Limits}
@@ -76,15 +76,3 @@ coming_of state left = if state.ended then Some [] else prepend_known state.held
 -- may lack
 abbrev pub size_of : ℕ → Bool → ℕ
 size_of length_of_line ended = if ended then length_of_line else length_of_line + 1
-
--- the limits are not too great for 64 bits, the counts are within them, and no byte is held behind
--- the end
-pub record IsCounted
-    (limits : Limits) (earlier number : ℕ) (held : List ℕ) (ended : Bool) : Type 0
-  where
-    pub line_bound : limits.line ≤ 2 ^ 62
-    pub file_bound : limits.file ≤ 2 ^ 62
-    pub earlier_bound : earlier ≤ limits.file + 1
-    pub number_bound : number ≤ earlier
-    pub lines_bound : number ≤ limits.file
-    pub all_given : ended ≡ true → held ≡ []

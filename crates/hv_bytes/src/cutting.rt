@@ -1,8 +1,10 @@
+//! Limits of lines and files, and what a call of `Lines::next` answers.
+
 ghost use Rattle.std.specs.Prelude.{◌≡◌, ◌≢◌, ◌+◌, ◌<◌, ◌≤◌, ◌^◌, ◌↔◌, [], ◌++◌, length, take, drop, true, false, Ok, Err, IsTrue, IsOk, IfOk, IfSome, IfNone, OnOk, OnErr, IsErrOf, unwrap_or};
 ghost use Rattle.std.specs.Io.KnownBytes.{IsAtEnd, prepend_known};
 ghost use Rattle.hv_bytes.specs.Devices.{Rose};
-ghost use Rattle.hv_bytes.specs.FirstLine.{BeginsLong, FitsLimits, IsLong, Passes, TakesLine};
-ghost use Rattle.hv_bytes.specs.LineParts.{EndsLine, IsLongPart, LengthensLine};
+ghost use Rattle.hv_bytes.specs.FirstLine.{BeginsLong, FitsLimits, IsLong, MovesBytes, TakesLine};
+ghost use Rattle.hv_bytes.specs.Working.LineParts.{EndsLine, IsLongPart, LengthensLine};
 ghost use Rattle.hv_bytes.specs.States.{coming_of, no_lines, size_of};
 
 use crate::held::Held;
@@ -166,7 +168,7 @@ fn read_begun<S: Shelf>(
     ensures line { OnOk result (TakesLine
         (prepend_known held.old (S.left shelf.old))
         (prepend_known held.new (S.left shelf.new)) line.new.items) }
-    ensures passes { IfOk result (λ n. Passes
+    ensures passes { IfOk result (λ n. MovesBytes
         (prepend_known held.old (S.left shelf.old))
         (prepend_known held.new (S.left shelf.new)) 0 n) }
     ensures count { IfOk result (λ n.
@@ -207,7 +209,7 @@ fn read_line<S: Shelf>(
     ensures line { IfOk result (λ count. IfSome count (λ _. TakesLine
         (prepend_known held.old (S.left shelf.old))
         (prepend_known held.new (S.left shelf.new)) line.new.items)) }
-    ensures passes { IfOk result (λ count. Passes
+    ensures passes { IfOk result (λ count. MovesBytes
         (prepend_known held.old (S.left shelf.old))
         (prepend_known held.new (S.left shelf.new)) 0 (unwrap_or count 0)) }
     ensures count { IfOk result (λ count. IfSome count (λ n.
@@ -249,7 +251,8 @@ pub struct Lines {
 }
 
 impl Model for Lines {
-    ghost use Rattle.hv_bytes.specs.States.{LinesState, IsCounted};
+    ghost use Rattle.hv_bytes.specs.States.{LinesState};
+    ghost use Rattle.hv_bytes.specs.Working.States.{IsCounted};
 
     ghost Value = { LinesState };
 
@@ -320,7 +323,7 @@ impl Lines {
             (coming_of self.old (S.left shelf.old))
             (coming_of self.new (S.left shelf.new)) self.new.line }
         ensures end { result ≡ Ok Next.End → IsAtEnd (coming_of self.old (S.left shelf.old)) }
-        ensures earlier { OnOk result (Passes
+        ensures earlier { OnOk result (MovesBytes
             (coming_of self.old (S.left shelf.old)) (coming_of self.new (S.left shelf.new))
             self.old.earlier self.new.earlier) }
 

@@ -1,3 +1,5 @@
+//! The bytes that were read from a shelf and not yet used, and the read of a further block.
+
 ghost use Rattle.std.specs.Prelude.{◌≡◌, ◌<◌, ◌≤◌, ◌^◌, ◌↔◌, [], length, drop, vec_len, IsTrue, IfOk, OnOk};
 ghost use Rattle.std.specs.Io.KnownBytes.{IsAtEnd, Keeps, prepend_known};
 ghost use Rattle.hv_bytes.specs.Devices.{HasCause};
@@ -70,8 +72,8 @@ impl Held {
 
     /// Reads from the shelf where no byte is held.
     pub(crate) fn refill<S: Shelf>(&mut self, shelf: &mut S) -> Result<(), Failed>
-        ensures coming { OnOk result (Keeps
-            (prepend_known self.old (S.left shelf.old)) (prepend_known self.new (S.left shelf.new))) }
+        ensures coming { OnOk result (Keeps (prepend_known self.old (S.left shelf.old))
+            (prepend_known self.new (S.left shelf.new))) }
         ensures end { OnOk result (self.new ≡ [] → (self.old ≡ []) × IsAtEnd (S.left shelf.new)) }
         ensures held { S.held shelf.new ≡ S.held shelf.old }
         ensures allows { S.allows shelf.new ≡ S.allows shelf.old }

@@ -2,18 +2,18 @@
 //! numbers in texts.
 #![tactic(auto)]
 
-mod cutting;
+pub mod cutting;
 mod held;
-mod memory_shelf;
-mod memory_sink;
-mod outside;
+pub mod memory_shelf;
+pub mod memory_sink;
+pub mod outside;
 mod schedule;
-mod spelling;
-mod splitting;
-mod sure;
+pub mod spelling;
+pub mod splitting;
+pub mod sure;
 #[cfg(test)]
 mod tests;
-mod transfer;
+pub mod transfer;
 
 pub use cutting::{Limits, LineFault, Lines, MOST_FILE_BYTES, MOST_LINE_BYTES, Next};
 pub use memory_shelf::MemoryShelf;

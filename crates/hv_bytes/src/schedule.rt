@@ -1,3 +1,5 @@
+//! Which calls of a device in memory fail.
+
 ghost use Rattle.std.specs.Prelude.{◌≡◌, ◌≤◌, [], ◌∷◌, ◌++◌, ◌↔◌, IsTrue, Contains, OnOk, OnErr};
 ghost use Rattle.hv_bytes.specs.Devices.{next_count};
 

@@ -1,6 +1,10 @@
+//! Where a line or a field ends.
+
 ghost use Rattle.std.specs.Prelude.{◌≡◌, ◌<◌, [], ◌∷◌, length, IfSome, IfNone, MatchOption};
-ghost use Rattle.hv_bytes.specs.Fields.{HasNoSpace, IsFirstSpace, cut_fields};
-ghost use Rattle.hv_bytes.specs.LineCuts.{IsClean, IsFirstLf};
+ghost use Rattle.hv_bytes.specs.Fields.{HasNoSpace, cut_fields};
+ghost use Rattle.hv_bytes.specs.Working.Fields.{IsFirstSpace};
+ghost use Rattle.hv_bytes.specs.LineCuts.{IsClean};
+ghost use Rattle.hv_bytes.specs.Working.LineCuts.{IsFirstLf};
 
 use memchr::memchr;
 

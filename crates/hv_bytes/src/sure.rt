@@ -1,10 +1,13 @@
+//! A shelf and a sink in memory that never fail.
+
 ghost use Rattle.std.specs.Prelude.{◌≡◌, ◌<◌, ◌≤◌, ◌+◌, ◌-◌, ◌^◌, ◌≢◌, [], ◌∷◌, ◌++◌, ◌↔◌, ℕ, List, length, take, drop, min, Some, Ok, IsTrue, IsOk, IsSome, IfOk, OnOk, OnErr};
 ghost use Rattle.std.specs.List.{position};
 ghost use Rattle.std.specs.Str.{bytes_eq};
 ghost use Rattle.std.specs.Io.{ReadsAtMost};
 ghost use Rattle.std.specs.Io.KnownBytes.{Keeps, ReadConsumes, WriteAppends};
 ghost use Rattle.hv_bytes.specs.Devices.{HasCause};
-ghost use Rattle.hv_bytes.specs.Files.{File, Opens, bytes_at, bytes_of, held_of};
+ghost use Rattle.hv_bytes.specs.Files.{File, Opens, bytes_of, held_of};
+ghost use Rattle.hv_bytes.specs.Working.Files.{bytes_at};
 
 use crate::outside::{Failed, Shelf, Sink};
 use std::alloc::{AllocError, Global};
@@ -87,7 +90,7 @@ pub struct SureShelf {
 
 impl Model for SureShelf {
     ghost use Rattle.std.specs.Prelude.{◌≤◌, vec_len, drop, length};
-    ghost use Rattle.hv_bytes.specs.Files.{bytes_at};
+    ghost use Rattle.hv_bytes.specs.Working.Files.{bytes_at};
     ghost use Rattle.hv_bytes.specs.States.{SureState};
 
     ghost Value = { SureState };

@@ -1,3 +1,5 @@
+//! All bytes of an answer, to a sink that may take them in pieces.
+
 ghost use Rattle.std.specs.Prelude.{OnOk, OnErr};
 ghost use Rattle.std.specs.Io.KnownBytes.{Appends};
 ghost use Rattle.hv_bytes.specs.Devices.{AppendsFront, HasCause};

@@ -8,7 +8,8 @@ use Rattle.std.proofs.Math.Nat.{div-div-eq-div-mul, div-le_self}
 use Rattle.std.specs.Int.{bit_at, trailing_zeros}
 use Rattle.hv_task.specs.State.{has_atom, state_of}
 use Rattle.hv_task.proofs.Places.{has_atom_past, has_atom-set, same_state}
-use Rattle.hv_task.specs.Words.{AreWords, IsPacked, flag_at, flags_of}
+use Rattle.hv_task.specs.Words.{AreWords}
+use Rattle.hv_task.specs.Working.Words.{IsPacked, flag_at, flags_of}
 
 pub length_flags : (words : List ℕ) (n : ℕ) → length (flags_of words n) ≡ n
 length_flags words n = length-map-range_with_len (flag_at words) 0 n

@@ -5,12 +5,12 @@ use Rattle.std.proofs.lemmas.List.{get_or_default}
 use Rattle.std.proofs.lemmas.List.Elements.{Contains-get_or}
 use Rattle.std.specs.List.{Contains}
 use Rattle.std.specs.List.Sorted.{IsStrictlyIncreasing}
-use Rattle.hv_task.specs.AtomList.{IsFirstFrom, IsPlaceOf}
+use Rattle.hv_task.specs.Working.AtomList.{IsFirstFrom, IsPlaceOf}
 use Rattle.hv_task.specs.State.{names_atom}
 use Rattle.hv_task.proofs.Places.{names_atom-Decides}
 use Rattle.hv_task.proofs.Rising.{rises_apart, rises_upto}
 use Rattle.std.specs.Int.{bit_at}
-use Rattle.hv_task.specs.Words.{IsNextBit, flag_at}
+use Rattle.hv_task.specs.Working.Words.{IsNextBit, flag_at}
 use Rattle.hv_task.proofs.Flags.{at_place}
 use Rattle.hv_task.specs.Atoms.{IsNext, is_kept}
 

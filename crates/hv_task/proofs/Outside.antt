@@ -7,7 +7,7 @@ use Rattle.std.specs.Prelude.{bit_and}
 use Rattle.std.specs.Int.{bit_not}
 use Rattle.std.specs.Int.{bit_at}
 use Rattle.hv_task.specs.State.{has_atom}
-use Rattle.hv_task.specs.Words.{IsNextBit, IsPacked, flag_at, flags_of}
+use Rattle.hv_task.specs.Working.Words.{IsNextBit, IsPacked, flag_at, flags_of}
 use Rattle.hv_task.specs.Atoms.{IsNext}
 use Rattle.hv_task.proofs.Flags.{at_place, flag_zero, has_flags_anywhere}
 

@@ -9,7 +9,8 @@ use Rattle.std.proofs.lemmas.Map.Keys.{sorted_from_strictly_increasing, below_fr
 use Rattle.std.specs.List.{Contains, insert}
 use Rattle.std.specs.List.Sorted.{IsStrictlyIncreasing, IsBinarySearchResult}
 use Rattle.std.specs.Ordering.{nat_cmp}
-use Rattle.hv_task.specs.AtomList.{Inserts, IsPlaceOf}
+use Rattle.hv_task.specs.AtomList.{Inserts}
+use Rattle.hv_task.specs.Working.AtomList.{IsPlaceOf}
 use Rattle.hv_task.specs.State.{AreBelow}
 
 -- in a list that rises, what stands later is greater

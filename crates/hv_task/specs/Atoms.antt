@@ -17,12 +17,6 @@ pub record Lists (set : ℕ → Bool) (bound : ℕ) (held : List ℕ) : Type 0 w
   pub rises : IsStrictlyIncreasing held
   pub has : (a : ℕ) → Contains held a ↔ ((a < bound) × (set a ≡ true))
 
--- the next atom of two sets together, by the next atom of each
-abbrev pub IsNextOfBoth : Option ℕ → Option ℕ → Option ℕ → Type 0
-IsNextOfBoth one other next =
-    (left right : ℕ → Bool) (from : ℕ) → IsNext left from one → IsNext right from other
-    → IsNext (λ p. left p || right p) from next
-
 -- the list has the atom, and the others don't
 abbrev pub is_kept : List ℕ → List ℕ → ℕ → Bool
 is_kept others held p = not (names_atom others p) && names_atom held p

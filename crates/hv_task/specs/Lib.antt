@@ -5,3 +5,4 @@ pub mod Words
 pub mod Strips
 pub mod Plan
 pub mod Deadness
+pub mod Working

@@ -1,3 +1,5 @@
+//! Actions, and what one makes of a state.
+
 ghost use Rattle.std.specs.Prelude.{◌≡◌, length};
 
 use crate::atom_list::AtomList;

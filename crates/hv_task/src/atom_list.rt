@@ -1,7 +1,10 @@
+//! Sets of atoms as rising lists.
+
 ghost use Rattle.std.specs.Prelude.{◌≡◌, ◌<◌, ◌≤◌, ◌-◌, ◌↔◌, [], length, IsTrue, IfOk, OnOk, OnErr, slice_get, slice_index};
 ghost use Rattle.std.specs.List.{All, Contains};
 ghost use Rattle.std.specs.List.Sorted.{IsStrictlyIncreasing};
-ghost use Rattle.hv_task.specs.AtomList.{Inserts, IsFirstFrom, IsPlaceOf};
+ghost use Rattle.hv_task.specs.AtomList.{Inserts};
+ghost use Rattle.hv_task.specs.Working.AtomList.{IsFirstFrom, IsPlaceOf};
 ghost use Rattle.hv_task.specs.Atoms.{IsNext};
 ghost use Rattle.hv_task.specs.State.{names_atom};
 

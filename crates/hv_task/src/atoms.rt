@@ -1,3 +1,5 @@
+//! Sets of atoms, read in rising order however they are kept.
+
 ghost use Rattle.std.specs.Prelude.{ℕ, Bool};
 ghost use Rattle.hv_task.specs.Atoms.{IsNext};
 

@@ -3,7 +3,7 @@
 ghost use Rattle.std.specs.Prelude.{◌≡◌, ◌≢◌, ◌*◌, ◌+◌, ◌-◌, ◌/◌, ◌%◌, ◌^◌, ◌<◌, ◌≤◌, ◌==◌, ◌↔◌, ◌&&◌, not, ℕ, Bool, length, slice_index, false, true, cond, IsTrue, IfOk, OnOk, OnErr, MatchOption};
 ghost use Rattle.std.specs.Int.{bit_at};
 ghost use Rattle.hv_task.specs.Atoms.{IsNext};
-ghost use Rattle.hv_task.specs.Words.{IsNextBit, IsPacked, flag_at, flags_of};
+ghost use Rattle.hv_task.specs.Working.Words.{IsNextBit, IsPacked, flag_at, flags_of};
 
 use std::alloc::{AllocError, Global};
 

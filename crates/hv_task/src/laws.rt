@@ -1,3 +1,5 @@
+//! Laws of states and of dead states, as contracts of functions that do nothing.
+
 ghost use Rattle.std.specs.Prelude.{◌≡◌, ◌<◌, ◌&&◌, ◌||◌, ℕ, Bool, List, length, not};
 ghost use Rattle.hv_task.specs.declared.action.Action.{Action};
 ghost use Rattle.hv_task.specs.State.{has_atom, names_atom, state_of, successor};

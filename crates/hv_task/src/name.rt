@@ -1,3 +1,5 @@
+//! Names of atoms and actions.
+
 ghost use Rattle.std.specs.Prelude.{◌≡◌, IfOk};
 
 use smallvec::SmallVec;

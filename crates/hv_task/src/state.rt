@@ -1,3 +1,5 @@
+//! States of a task, 64 atoms a word.
+
 ghost use Rattle.std.specs.Prelude.{◌≡◌, ◌<◌, ◌↔◌, ◌&&◌, not, ℕ, [], length, IsTrue, IfOk, OnOk, OnErr, slice_set};
 ghost use Rattle.std.specs.Cmp.{bool_eq_equiv, partial_equiv_from_equiv};
 ghost use Rattle.std.specs.Cmp.Lexicographic.{pointwise, lists_equiv, lists_per};
@@ -25,7 +27,7 @@ pub struct State {
 
 impl Model for State {
     ghost use Rattle.std.specs.Prelude.{Bool, List};
-    ghost use Rattle.hv_task.specs.Words.{IsPacked, flags_of};
+    ghost use Rattle.hv_task.specs.Working.Words.{IsPacked, flags_of};
 
     ghost Value = { List Bool };
 

@@ -1,3 +1,5 @@
+//! Tests of lists of atoms, states, results of actions and plans.
+
 ghost use Rattle.std.specs.Prelude.{ℕ, ◌<◌, ◌≡◌, ◌+◌, length, IfOk, OnOk};
 ghost use Rattle.hv_task.specs.State.{AreBelow};
 ghost use Rattle.hv_task.specs.Strips.{atoms};

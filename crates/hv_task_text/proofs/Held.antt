@@ -7,10 +7,10 @@ use Rattle.hv_task.specs.Strips.{IsOver}
 use Rattle.hv_task_text.specs.declared.fault.TaskKind.{TaskKind}
 use Rattle.hv_task_text.specs.declared.fault.TaskKind.TheVariants as K
 use Rattle.hv_task_text.specs.declared.reader.Reader.{Reader}
-use Rattle.hv_task_text.specs.Written.{Entry, Head, action_of, add_of, del_of, pre_of, set_of}
+use Rattle.hv_task_text.specs.Written.{Entry, Head, written_action, add_of, del_of, pre_of, set_of}
 use Rattle.hv_task_text.specs.declared.reader.OpenAction.{OpenAction}
 use Rattle.hv_task_text.specs.Beginning.{Beginning, at_begin_atoms, at_atom_name, at_end_atoms, at_begin_init, at_init_atom, at_begin_goal, at_goal_atom, at_begin_actions, at_begin_action, at_action_name, at_cost, at_action_line, at_end_actions, at_end, IsLegal, expected_after, names_before}
-use Rattle.hv_task_text.specs.Reading.{no_action, IsReady}
+use Rattle.hv_task_text.specs.Working.Reading.{no_action, IsReading}
 use Rattle.hv_task_text.proofs.Sets.{set_below}
 
 -- what is kept of a written action that isn't whole yet
@@ -35,7 +35,7 @@ reader expected count names start goal actions action = record {
 
 abbrev with_head : TaskKind → ℕ → Head → List Entry → OpenAction → Reader
 with_head expected count head actions action =
-    reader expected count head.names (set_of (length head.names) head.start) (set_of (length head.names) head.goal) (map (action_of (length head.names)) actions) action
+    reader expected count head.names (set_of (length head.names) head.start) (set_of (length head.names) head.goal) (map (written_action (length head.names)) actions) action
 
 abbrev pub held : Beginning → Reader
 held at_begin_atoms = reader K.BeginAtoms 0 [] [] [] [] no_action
@@ -88,12 +88,12 @@ held_names (at_end_actions head actions) = refl
 held_names (at_end head actions) = refl
 
 -- the atoms that an action's sets name are the task's
-action_over : (atoms : ℕ) (entry : Entry) → IsOver atoms (action_of atoms entry)
+action_over : (atoms : ℕ) (entry : Entry) → IsOver atoms (written_action atoms entry)
 action_over atoms entry =
     record { pre = set_below atoms _; add = set_below atoms _; del = set_below atoms _ }
 
 -- after a legal beginning the reader may be fed
-pub ready : (b : Beginning) → IsLegal b → IsReady (expected_after b) (held b)
+pub ready : (b : Beginning) → IsLegal b → IsReading (expected_after b) (held b)
 ready at_begin_atoms l = tt
 ready (at_atom_name count names) l = (l.0, l.1)
 ready (at_end_atoms names) l = tt
@@ -106,6 +106,6 @@ ready (at_begin_action count head actions) l = tt
 ready (at_action_name count head actions) l = tt
 ready (at_cost count head actions name) l = tt
 ready (at_action_line count head actions entry) l =
-    (rw (length-map actions (action_of (length head.names))) l.1, l.0.few, action_over (length head.names) entry)
+    (rw (length-map actions (written_action (length head.names))) l.1, l.0.few, action_over (length head.names) entry)
 ready (at_end_actions head actions) l = tt
 ready (at_end head actions) l = (set_below _ head.start, set_below _ head.goal)

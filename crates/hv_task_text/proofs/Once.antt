@@ -12,8 +12,8 @@ use Rattle.hv_task_text.specs.declared.fault.TaskKind.{TaskKind}
 use Rattle.hv_task_text.specs.declared.fault.TaskKind.TheVariants as K
 use Rattle.hv_task_text.specs.declared.fault.TaskLimit.{TaskLimit}
 use Rattle.hv_task_text.specs.declared.reader.Reader.{Reader}
-use Rattle.hv_task_text.specs.Form.{IsForm, Passes}
-use Rattle.hv_task_text.specs.Reading.{Takes, Puts}
+use Rattle.hv_task_text.specs.Form.{IsForm, PassesTaskLimit}
+use Rattle.hv_task_text.specs.Working.Reading.{Takes, Puts}
 use Rattle.hv_task_text.proofs.Sets.{inserted_once}
 use Rattle.hv_task_text.proofs.Spelled.{same_alone, same_behind}
 
@@ -117,7 +117,7 @@ takes_form K.EndActions r line a t = t.0
 takes_form K.End r line a t = t
 
 -- what is taken passes no limit
-pub takes_within : (kind : TaskKind) (r : Reader) (line : List ℕ) (a : Reader) (limit : TaskLimit) → Takes kind r line a → Passes kind line limit → ⊥
+pub takes_within : (kind : TaskKind) (r : Reader) (line : List ℕ) (a : Reader) (limit : TaskLimit) → Takes kind r line a → PassesTaskLimit kind line limit → ⊥
 takes_within K.BeginAtoms r line a limit (m, num, k, e) (f, (n, mun, l)) = let s = same_behind line (codes "begin_atoms:") m n num mun in omega arith
 takes_within K.AtomName r line a limit (k, e) (f, l) = omega arith
 takes_within K.EndAtoms r line a limit t p = p
@@ -134,7 +134,7 @@ takes_within K.EndActions r line a limit t p = p
 takes_within K.End r line a limit t p = p
 
 -- what passes a limit has the form of its place
-pub passes_form : (kind : TaskKind) (atoms : ℕ) (line : List ℕ) (limit : TaskLimit) → Passes kind line limit → IsForm kind atoms line
+pub passes_form : (kind : TaskKind) (atoms : ℕ) (line : List ℕ) (limit : TaskLimit) → PassesTaskLimit kind line limit → IsForm kind atoms line
 passes_form K.BeginAtoms atoms line limit p = (p.1.0, p.1.1)
 passes_form K.AtomName atoms line limit p = tt
 passes_form K.EndAtoms atoms line limit p = absurd p
@@ -151,7 +151,7 @@ passes_form K.EndActions atoms line limit p = absurd p
 passes_form K.End atoms line limit p = absurd p
 
 -- a place has one limit
-pub passes_once : (kind : TaskKind) (line : List ℕ) (a b : TaskLimit) → Passes kind line a → Passes kind line b → a ≡ b
+pub passes_once : (kind : TaskKind) (line : List ℕ) (a b : TaskLimit) → PassesTaskLimit kind line a → PassesTaskLimit kind line b → a ≡ b
 passes_once K.BeginAtoms line a b p q = p.0 ∙ sym q.0
 passes_once K.AtomName line a b p q = p.0 ∙ sym q.0
 passes_once K.EndAtoms line a b p q = absurd p

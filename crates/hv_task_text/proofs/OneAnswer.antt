@@ -11,8 +11,8 @@ use Rattle.hv_task_text.specs.declared.fault.TaskFault.TheVariants as F
 use Rattle.hv_task_text.specs.declared.reader.Reader.{Reader}
 use Rattle.hv_task_text.specs.Written.{Entry, Head, task_of}
 use Rattle.hv_task_text.specs.Beginning.{Beginning, at_begin_atoms, at_end, IsLegal, expected_after, lines_before, names_before}
-use Rattle.hv_task_text.specs.Form.{IsForm, Passes}
-use Rattle.hv_task_text.specs.Reading.{Takes}
+use Rattle.hv_task_text.specs.Form.{IsForm, PassesTaskLimit}
+use Rattle.hv_task_text.specs.Working.Reading.{Takes}
 use Rattle.hv_task_text.specs.TaskText.{AreTextOf, LacksForm, PassesNext, IsFirstFault}
 use Rattle.hv_task_text.proofs.Held.{held, held_expected, held_names}
 use Rattle.hv_task_text.proofs.Reached.{Reach, reached}
@@ -123,12 +123,12 @@ not_both : (b c : Beginning) (rest : List Piece) (limit : TaskLimit) → expecte
 not_both b c [] limit x f p = p
 not_both b c (None ∷ rest) limit x f p = f
 not_both b c (Some line ∷ rest) limit x f p =
-    f (passes_form (expected_after b) (length (names_before b)) line limit (subst (λ k. Passes k line limit) (sym x) p))
+    f (passes_form (expected_after b) (length (names_before b)) line limit (subst (λ k. PassesTaskLimit k line limit) (sym x) p))
 
 same_limit : (b c : Beginning) (rest : List Piece) (v w : TaskLimit) → expected_after b ≡ expected_after c → PassesNext b rest v → PassesNext c rest w → v ≡ w
 same_limit b c [] v w x p q = absurd p
 same_limit b c (None ∷ rest) v w x p q = p ∙ sym q
-same_limit b c (Some line ∷ rest) v w x p q = passes_once (expected_after b) line v w p (subst (λ k. Passes k line w) (sym x) q)
+same_limit b c (Some line ∷ rest) v w x p q = passes_once (expected_after b) line v w p (subst (λ k. PassesTaskLimit k line w) (sym x) q)
 
 -- two faults after the same lines are one
 same_fault : (f g : TaskFault) (b c : Beginning) (rest : List Piece) → lines_before b ≡ lines_before c → expected_after b ≡ expected_after c → FaultAfter b rest f → FaultAfter c rest g → f ≡ g

@@ -9,9 +9,9 @@ use Rattle.std.proofs.lemmas.Bool.Decides.{nat_tests}
 use Rattle.hv_task_text.specs.declared.fault.TaskKind.{TaskKind}
 use Rattle.hv_task_text.specs.declared.fault.TaskKind.TheVariants as K
 use Rattle.hv_task_text.specs.declared.reader.Reader.{Reader}
-use Rattle.hv_task_text.specs.Written.{Item, pre, add, del, Entry, Head, atom_lines, start_lines, action_lines, pre_of, add_of, del_of, action_of, set_of}
+use Rattle.hv_task_text.specs.Written.{Item, pre, add, del, Entry, Head, atom_lines, start_lines, action_lines, pre_of, add_of, del_of, written_action, set_of}
 use Rattle.hv_task_text.specs.Beginning.{Beginning, at_begin_atoms, at_atom_name, at_end_atoms, at_begin_init, at_init_atom, at_begin_goal, at_goal_atom, at_begin_actions, at_begin_action, at_action_name, at_cost, at_action_line, at_end_actions, at_end, IsLegal, IsName, IsItem, IsEntry, expected_after, lines_before}
-use Rattle.hv_task_text.specs.Reading.{turn, Takes}
+use Rattle.hv_task_text.specs.Working.Reading.{turn, Takes}
 use Rattle.hv_task_text.proofs.Sets.{set_inserted}
 use Rattle.hv_task_text.proofs.Held.{held, held_expected}
 use Rattle.hv_task_text.proofs.Steps.{set_none, push_line, goal_push, item_spelled, ended_spelled, counted, same_in}
@@ -151,7 +151,7 @@ before_action count head = by_last (λ actions. IsLegal (at_begin_action count h
       },
     ))
     (λ actions entry l.
-    let read = action_of (length head.names) in
+    let read = written_action (length head.names) in
     let m : map read (actions ++ entry ∷ []) ≡ map read actions ++ read entry ∷ [] = map_push read actions entry in
     let j = length-map actions read in
     let k = length_push actions entry in
@@ -177,7 +177,7 @@ before_end_actions head = by_last (λ actions. IsLegal (at_end_actions head acti
       },
     ))
     (λ actions entry l.
-    let read = action_of (length head.names) in
+    let read = written_action (length head.names) in
     let count = length (actions ++ entry ∷ []) in
     let m : map read (actions ++ entry ∷ []) ≡ map read actions ++ read entry ∷ [] = map_push read actions entry in
     let j = length-map actions read in

@@ -12,7 +12,8 @@ use Rattle.std.proofs.lemmas.List.{length-map}
 use Rattle.std.proofs.lemmas.List.Elements.{All-append, All-cons, All-map, All-nil, All-head, All-tail, All-weaker, filter_map-append}
 use Rattle.std.proofs.lemmas.List.Sums.{sum_by-cons}
 use Rattle.std.proofs.lemmas.Str.Parse.{IsNumeralModel}
-use Rattle.hv_bytes.specs.LineCuts.{IsClean, bytes_in, lines_of}
+use Rattle.hv_bytes.specs.LineCuts.{IsClean, lines_of}
+use Rattle.hv_bytes.specs.Working.LineCuts.{bytes_in}
 use Rattle.hv_bytes.specs.Pieces.{pieces_after}
 use Rattle.hv_bytes.specs.Standard.{most_file_bytes, most_line_bytes, standard}
 use Rattle.hv_bytes.proofs.WholeText.{IsWithin, pieces_of_short}
@@ -21,9 +22,10 @@ use Rattle.hv_task.specs.State.{AreBelow}
 use Rattle.hv_task.specs.Strips.{Strips, IsOver, IsTask}
 use Rattle.hv_task.specs.declared.action.Action.{Action}
 use Rattle.hv_task_text.specs.Beginning.{at_end, IsLegal, IsItem, IsEntry, IsName}
-use Rattle.hv_task_text.specs.Canonical.{bytes_of_lines, canonical_lines, canonical_of, entry_of, head_of, with_lf, HasWritableNames, IsStored, IsWritableName}
+use Rattle.hv_task_text.specs.Canonical.{bytes_of_lines, canonical_lines, canonical_of, entry_of, head_of, with_lf, HasWritableNames, IsWritableName}
+use Rattle.hv_task_text.specs.Working.Canonical.{IsStored}
 use Rattle.hv_task_text.specs.TaskText.{TaskText}
-use Rattle.hv_task_text.specs.Written.{Item, pre, add, del, Entry, item_line, atom_lines, start_lines, goal_lines, head_lines, entry_lines, body_lines, pre_of, add_of, del_of, action_of, set_of, task_of}
+use Rattle.hv_task_text.specs.Written.{Item, pre, add, del, Entry, item_line, atom_lines, start_lines, goal_lines, head_lines, entry_lines, body_lines, pre_of, add_of, del_of, written_action, set_of, task_of}
 use Rattle.hv_task_text.proofs.Sets.{set_same}
 
 digits : IsNumeralModel (AllDigits 10) (digits_value 10)
@@ -132,7 +134,7 @@ task_with names start goal actions = record { names = names; start = start; goal
 same_task : (names : List (List ℕ)) (s t g h : List ℕ) (a b : List Action) → s ≡ t → g ≡ h → a ≡ b → task_with names s g a ≡ task_with names t h b
 same_task names s t g h a b p q r = cc
 
-action_back : (atoms : ℕ) (action : Action) → IsOver atoms action → IsStored action → action_of atoms (entry_of action) ≡ action
+action_back : (atoms : ℕ) (action : Action) → IsOver atoms action → IsStored action → written_action atoms (entry_of action) ≡ action
 action_back atoms action over stored =
     let pres = map pre action.pre in
     let adds = map add action.add in
@@ -148,7 +150,7 @@ action_back atoms action over stored =
     ∙ set_same atoms action.del stored.del over.del in
     same_action action.name action.cost _ _ _ _ _ _ p a d
 
-actions_back : (atoms : ℕ) (actions : List Action) → All (IsWhole atoms) actions → map (action_of atoms) (map entry_of actions) ≡ actions
+actions_back : (atoms : ℕ) (actions : List Action) → All (IsWhole atoms) actions → map (written_action atoms) (map entry_of actions) ≡ actions
 actions_back atoms [] w = refl
 actions_back atoms (action ∷ actions) w =
     let h = All-head (IsWhole atoms) action actions w in

@@ -11,7 +11,8 @@ use Rattle.std.proofs.lemmas.List.Sums.{sum_by-cons}
 use Rattle.std.proofs.lemmas.List.Kept.{AllPairs-from_increasing, IsStrictlyIncreasing-filter}
 use Rattle.hv_task.specs.AtomList.{Inserts}
 use Rattle.hv_task.specs.State.{AreBelow}
-use Rattle.hv_task_text.specs.Written.{members, set_of}
+use Rattle.hv_task_text.specs.Written.{set_of}
+use Rattle.hv_task_text.specs.Working.Written.{members}
 
 -- membership by recursion
 abbrev Has : ℕ → List ℕ → Type 0

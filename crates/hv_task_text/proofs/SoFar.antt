@@ -1,6 +1,6 @@
 -- The lines read so far, against the whole text.
 use Rattle.std.proofs.Common.{◌≡◌, ℕ, List, Option, length}
-use Rattle.hv_bytes.specs.Pieces.{GaveLines}
+use Rattle.hv_bytes.specs.Working.Pieces.{GaveLines}
 use Rattle.hv_bytes.specs.declared.cutting.Limits.{Limits}
 use Rattle.hv_task_text.specs.declared.reader.Reader.{Reader}
 use Rattle.hv_task_text.specs.Beginning.{Beginning, IsLegal, lines_before}

@@ -11,9 +11,9 @@ use Rattle.hv_task.specs.AtomList.{Inserts}
 use Rattle.hv_task_text.specs.declared.fault.TaskKind.{TaskKind}
 use Rattle.hv_task_text.specs.declared.fault.TaskKind.TheVariants as K
 use Rattle.hv_task_text.specs.declared.reader.Reader.{Reader}
-use Rattle.hv_task_text.specs.Written.{Item, pre, add, del, Entry, Head, item_line, name_lines, atom_lines, start_lines, goal_lines, head_lines, body_lines, entry_lines, action_lines, pre_of, add_of, del_of, action_of, set_of}
+use Rattle.hv_task_text.specs.Written.{Item, pre, add, del, Entry, Head, item_line, name_lines, atom_lines, start_lines, goal_lines, head_lines, body_lines, entry_lines, action_lines, pre_of, add_of, del_of, written_action, set_of}
 use Rattle.hv_task_text.specs.Beginning.{Beginning, at_begin_atoms, at_atom_name, at_end_atoms, at_begin_init, at_init_atom, at_begin_goal, at_goal_atom, at_begin_actions, at_begin_action, at_action_name, at_cost, at_action_line, at_end_actions, at_end, IsLegal, IsName, IsItem, IsEntry, expected_after, lines_before}
-use Rattle.hv_task_text.specs.Reading.{turn, Takes}
+use Rattle.hv_task_text.specs.Working.Reading.{turn, Takes}
 use Rattle.hv_task_text.proofs.Sets.{set_more}
 use Rattle.hv_task_text.proofs.Held.{held}
 
@@ -108,7 +108,7 @@ entry_step count head actions entry line new l (inr (inr (inl (set, (n, num, bel
       },
     )
 entry_step count head actions entry line new l (inr (inr (inr (e, eq)))) =
-    let read = action_of (length head.names) in
+    let read = written_action (length head.names) in
     let m : map read (actions ++ entry ∷ []) ≡ map read actions ++ read entry ∷ [] = map_push read actions entry in
     let k = length-map actions read in
     let longer = length_push actions entry in

@@ -2,9 +2,11 @@
 use Rattle.std.proofs.Common.{◌≡◌, ℕ, ◌+◌, List, [], ◌∷◌, Option, None, Some, Result, Ok, Err, IfSome, length, refl, sym, ◌∙◌, ap, subst, arith, append-nil}
 use Rattle.std.specs.Io.KnownBytes.{IsAtEnd}
 use Rattle.std.proofs.lemmas.List.{length_push}
-use Rattle.hv_bytes.specs.Files.{Names, Opens, file_of}
-use Rattle.hv_bytes.specs.FirstLine.{BeginsLong, FitsLimits, Passes as PassesBytes, TakesLine}
-use Rattle.hv_bytes.specs.Pieces.{ComesNext, GaveLines, Piece, as_pieces, pieces_of}
+use Rattle.hv_bytes.specs.Files.{Names, Opens}
+use Rattle.hv_bytes.specs.Working.Files.{file_of}
+use Rattle.hv_bytes.specs.FirstLine.{BeginsLong, FitsLimits, MovesBytes as PassesBytes, TakesLine}
+use Rattle.hv_bytes.specs.Pieces.{ComesNext, Piece, as_pieces, pieces_of}
+use Rattle.hv_bytes.specs.Working.Pieces.{GaveLines}
 use Rattle.hv_bytes.specs.States.{LinesState, coming_of, no_lines as no_input}
 use Rattle.hv_bytes.specs.declared.cutting.Limits.{Limits}
 use Rattle.hv_bytes.specs.declared.cutting.LineFault.{LineFault}
@@ -19,8 +21,8 @@ use Rattle.hv_task_text.specs.declared.reader.FeedError.TheVariants as E
 use Rattle.hv_task_text.specs.declared.reader.Reader.{Reader}
 use Rattle.hv_task_text.specs.Written.{Entry, Head}
 use Rattle.hv_task_text.specs.Beginning.{Beginning, at_begin_atoms, at_atom_name, at_end_atoms, at_begin_init, at_init_atom, at_begin_goal, at_goal_atom, at_begin_actions, at_begin_action, at_action_name, at_cost, at_action_line, at_end_actions, at_end, IsLegal, expected_after, lines_before}
-use Rattle.hv_task_text.specs.Form.{IsForm, Passes}
-use Rattle.hv_task_text.specs.Reading.{Ends, Feeds, IsReady, Takes, fault_at, line_fault_at, no_lines}
+use Rattle.hv_task_text.specs.Form.{IsForm, PassesTaskLimit}
+use Rattle.hv_task_text.specs.Working.Reading.{Ends, Feeds, IsReading, Takes, fault_at, line_fault_at, nothing_read}
 use Rattle.hv_task_text.specs.TaskText.{IsReadFrom}
 use Rattle.hv_task_text.proofs.Held.{held, held_expected, held_names, ready}
 use Rattle.hv_task_text.proofs.Steps.{step}
@@ -30,7 +32,7 @@ weaker : (file : Option (List ℕ)) (P Q : List ℕ → Type 0) → ((bytes : Li
 weaker None P Q f h = tt
 weaker (Some bytes) P Q f h = f bytes h
 
-pub follows_first : (files : Option Names) (name : List ℕ) (limits : Limits) (left : Option (List ℕ)) (reader : Reader) (lines : LinesState) → Opens files name left → reader ≡ no_lines → lines ≡ no_input limits
+pub follows_first : (files : Option Names) (name : List ℕ) (limits : Limits) (left : Option (List ℕ)) (reader : Reader) (lines : LinesState) → Opens files name left → reader ≡ nothing_read → lines ≡ no_input limits
     → (b : Beginning) × Follows limits (file_of files name) reader lines.number lines.earlier (coming_of lines left) b
 follows_first files name limits left reader lines o r e = (
   at_begin_atoms,
@@ -42,9 +44,9 @@ follows_first files name limits left reader lines o r e = (
   },
 )
 
-pub ready_reader : (reader : Reader) (b : Beginning) → IsLegal b → reader ≡ held b → IsReady reader.expected reader
+pub ready_reader : (reader : Reader) (b : Beginning) → IsLegal b → reader ≡ held b → IsReading reader.expected reader
 ready_reader reader b l e =
-    subst (λ r. IsReady r.expected r) (sym e) (subst (λ k. IsReady k (held b)) (sym (held_expected b)) (ready b l))
+    subst (λ r. IsReading r.expected r) (sym e) (subst (λ k. IsReading k (held b)) (sym (held_expected b)) (ready b l))
 
 -- a beginning after which the end is expected is a whole text
 whole : (b : Beginning) → expected_after b ≡ K.End → (head : Head) × (actions : List Entry) × (b ≡ at_end head actions)
@@ -92,7 +94,7 @@ module _ (limits : Limits) (file : Option (List ℕ)) (reader : Reader) (number 
     t.0 ∙ held_expected b,
     (λ form. t.1 (subst (λ k. IsForm k (length (held b).task.names) line) (sym (held_expected b)) (subst (λ names. IsForm (expected_after b) (length names) line) (sym (held_names b)) form))),
   )
-  fault_here bytes line (E.Limit limit) new count rest next t = (b, Some line ∷ rest, f.legal, next, subst (λ k. Passes k line limit) (held_expected b) t)
+  fault_here bytes line (E.Limit limit) new count rest next t = (b, Some line ∷ rest, f.legal, next, subst (λ k. PassesTaskLimit k line limit) (held_expected b) t)
   fault_here bytes line E.Memory new count rest next t = tt
 
   -- a line that the reader doesn't take is the first fault

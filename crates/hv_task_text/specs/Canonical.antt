@@ -1,7 +1,6 @@
 -- The canonical text of a task.
 use Rattle.std.specs.Prelude.{ℕ, ◌≤◌, List, [], ◌∷◌, ◌++◌, map, length}
 use Rattle.std.specs.List.{All, flat_map}
-use Rattle.std.specs.List.Sorted.{IsStrictlyIncreasing}
 use Rattle.hv_bytes.specs.LineCuts.{IsClean}
 use Rattle.hv_task.specs.Strips.{Strips}
 use Rattle.hv_task.specs.declared.action.Action.{Action}
@@ -33,14 +32,6 @@ canonical_lines task = text_lines (head_of task) (map entry_of task.actions)
 -- the canonical text of the task
 abbrev pub canonical_of : Strips → List ℕ
 canonical_of task = bytes_of_lines (canonical_lines task)
-
--- what every action of a task in the program keeps: its cost is a number of 32 bits, and its sets
--- rise
-pub record IsStored (action : Action) : Type 0 where
-  pub cost : action.cost ≤ 4294967295
-  pub pre : IsStrictlyIncreasing action.pre
-  pub add : IsStrictlyIncreasing action.add
-  pub del : IsStrictlyIncreasing action.del
 
 -- a name that a line can hold
 pub record IsWritableName (name : List ℕ) : Type 0 where

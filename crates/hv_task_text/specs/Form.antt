@@ -7,13 +7,13 @@ use Rattle.hv_task_text.specs.declared.fault.TaskLimit.{TaskLimit}
 use Rattle.hv_task_text.specs.declared.fault.TaskLimit.TheVariants as W
 
 -- the line is this word with a decimal directly behind it
-pub record IsNumbered (line word : List ℕ) (n : ℕ) : Type 0 where
+pub record IsNumberedLine (line word : List ℕ) (n : ℕ) : Type 0 where
   pub spelled : line ≡ word ++ decimal n
   pub short : n < 10 ^ 18
 
 -- the line is this word with a decimal behind it, whatever the number
 abbrev pub HasNumber : List ℕ → List ℕ → Type 0
-HasNumber line word = (n : ℕ) × IsNumbered line word n
+HasNumber line word = (n : ℕ) × IsNumberedLine line word n
 
 -- the line is the number of one of so many atoms
 abbrev pub IsAtom : ℕ → List ℕ → Type 0
@@ -21,7 +21,7 @@ IsAtom atoms line = (n : ℕ) × IsDecimal line n × (n < atoms)
 
 -- the line is this word with the number of one of so many atoms behind it
 abbrev pub IsAtomBehind : ℕ → List ℕ → List ℕ → Type 0
-IsAtomBehind atoms line word = (n : ℕ) × IsNumbered line word n × (n < atoms)
+IsAtomBehind atoms line word = (n : ℕ) × IsNumberedLine line word n × (n < atoms)
 
 -- the line has the form that a place of this kind expects, in a task of so many atoms
 abbrev pub IsForm : TaskKind → ℕ → List ℕ → Type 0
@@ -45,22 +45,23 @@ IsForm K.End atoms line = ⊥
 
 -- the line's number behind this word is above the greatest one allowed
 abbrev pub IsAbove : ℕ → List ℕ → List ℕ → Type 0
-IsAbove most line word = (n : ℕ) × IsNumbered line word n × (most < n)
+IsAbove most line word = (n : ℕ) × IsNumberedLine line word n × (most < n)
 
 -- a line that has the form of its place passes this limit
-abbrev pub Passes : TaskKind → List ℕ → TaskLimit → Type 0
-Passes K.BeginAtoms line limit = (limit ≡ W.Atoms) × IsAbove 65535 line (codes "begin_atoms:")
-Passes K.AtomName line limit = (limit ≡ W.Name) × (1024 < length line)
-Passes K.EndAtoms line limit = ⊥
-Passes K.BeginInit line limit = ⊥
-Passes K.InitAtom line limit = ⊥
-Passes K.BeginGoal line limit = ⊥
-Passes K.GoalAtom line limit = ⊥
-Passes K.BeginActions line limit = (limit ≡ W.Actions)
+abbrev pub PassesTaskLimit : TaskKind → List ℕ → TaskLimit → Type 0
+PassesTaskLimit K.BeginAtoms line limit =
+    (limit ≡ W.Atoms) × IsAbove 65535 line (codes "begin_atoms:")
+PassesTaskLimit K.AtomName line limit = (limit ≡ W.Name) × (1024 < length line)
+PassesTaskLimit K.EndAtoms line limit = ⊥
+PassesTaskLimit K.BeginInit line limit = ⊥
+PassesTaskLimit K.InitAtom line limit = ⊥
+PassesTaskLimit K.BeginGoal line limit = ⊥
+PassesTaskLimit K.GoalAtom line limit = ⊥
+PassesTaskLimit K.BeginActions line limit = (limit ≡ W.Actions)
     × IsAbove 1000000 line (codes "begin_actions:")
-Passes K.BeginAction line limit = ⊥
-Passes K.ActionName line limit = (limit ≡ W.Name) × (1024 < length line)
-Passes K.Cost line limit = (limit ≡ W.Cost) × IsAbove 4294967295 line (codes "cost:")
-Passes K.ActionLine line limit = ⊥
-Passes K.EndActions line limit = ⊥
-Passes K.End line limit = ⊥
+PassesTaskLimit K.BeginAction line limit = ⊥
+PassesTaskLimit K.ActionName line limit = (limit ≡ W.Name) × (1024 < length line)
+PassesTaskLimit K.Cost line limit = (limit ≡ W.Cost) × IsAbove 4294967295 line (codes "cost:")
+PassesTaskLimit K.ActionLine line limit = ⊥
+PassesTaskLimit K.EndActions line limit = ⊥
+PassesTaskLimit K.End line limit = ⊥

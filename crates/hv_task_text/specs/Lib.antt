@@ -1,7 +1,7 @@
 pub mod Beginning
 pub mod Canonical
 pub mod Form
-pub mod Reading
 pub mod TaskText
 pub mod Words
 pub mod Written
+pub mod Working

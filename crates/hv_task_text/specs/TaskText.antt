@@ -10,7 +10,7 @@ use Rattle.hv_task_text.specs.declared.fault.TaskFault.{TaskFault}
 use Rattle.hv_task_text.specs.declared.fault.TaskFault.TheVariants as F
 use Rattle.hv_task_text.specs.Written.{Entry, Head, task_of}
 use Rattle.hv_task_text.specs.Beginning.{Beginning, at_end, IsLegal, lines_before, expected_after, names_before}
-use Rattle.hv_task_text.specs.Form.{IsForm, Passes}
+use Rattle.hv_task_text.specs.Form.{IsForm, PassesTaskLimit}
 
 -- the pieces are a text that stands for this task; so none of its lines is long
 pub record IsTextOf
@@ -35,7 +35,7 @@ LacksForm front (Some line ∷ rest) =
 abbrev pub PassesNext : Beginning → List Piece → TaskLimit → Type 0
 PassesNext front [] limit = ⊥
 PassesNext front (None ∷ rest) limit = limit ≡ W.Long
-PassesNext front (Some line ∷ rest) limit = Passes (expected_after front) line limit
+PassesNext front (Some line ∷ rest) limit = PassesTaskLimit (expected_after front) line limit
 
 -- the first fault of the pieces: what stands before it is a legal beginning
 abbrev pub IsFirstFault : List Piece → TaskFault → Type 0

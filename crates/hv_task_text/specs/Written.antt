@@ -1,5 +1,5 @@
 -- The parts of a task text as they are written, and the task that a whole text stands for.
-use Rattle.std.specs.Prelude.{ℕ, ◌+◌, ◌==◌, List, [], ◌∷◌, ◌++◌, Option, Some, None, map, filter, length, sum, decimal, codes}
+use Rattle.std.specs.Prelude.{ℕ, ◌+◌, ◌==◌, List, [], ◌∷◌, ◌++◌, Option, Some, None, map, filter, length, decimal, codes}
 use Rattle.std.specs.List.{filter_map, flat_map, list_any, range_with_len}
 use Rattle.hv_task.specs.declared.action.Action.{Action}
 use Rattle.hv_task.specs.Strips.{Strips}
@@ -74,10 +74,6 @@ text_lines head actions = action_lines (length actions) head actions ++ codes "e
 abbrev pub set_of : ℕ → List ℕ → List ℕ
 set_of atoms listed = filter (λ atom. list_any (λ n. n == atom) listed) (range_with_len 0 atoms)
 
--- the numbers that stand in the list: each once, rising
-abbrev pub members : List ℕ → List ℕ
-members listed = set_of (sum listed + 1) listed
-
 abbrev pub pre_of : Item → Option ℕ
 pre_of (pre atom) = Some atom
 pre_of (add atom) = None
@@ -94,8 +90,8 @@ del_of (add atom) = None
 del_of (del atom) = Some atom
 
 -- the action that a written one stands for, in a task of so many atoms
-abbrev pub action_of : ℕ → Entry → Action
-action_of atoms entry = record {
+abbrev pub written_action : ℕ → Entry → Action
+written_action atoms entry = record {
   name = entry.name;
   cost = entry.cost;
   pre = set_of atoms (filter_map pre_of entry.items);
@@ -109,5 +105,5 @@ task_of head actions = record {
   names = head.names;
   start = set_of (length head.names) head.start;
   goal = set_of (length head.names) head.goal;
-  actions = map (action_of (length head.names)) actions;
+  actions = map (written_action (length head.names)) actions;
 }

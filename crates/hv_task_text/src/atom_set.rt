@@ -1,6 +1,8 @@
+//! Sets of atoms while they are read: any order, with repeats, in time n log n.
+
 ghost use Rattle.std.specs.Prelude.{◌≡◌, [], IfOk, OnOk};
 ghost use Rattle.hv_task.specs.AtomList.{Inserts};
-ghost use Rattle.hv_task_text.specs.Written.{members};
+ghost use Rattle.hv_task_text.specs.Working.Written.{members};
 
 use hv_task::AtomList;
 use std::alloc::{AllocError, Global};
@@ -21,7 +23,7 @@ pub struct AtomSet {
 
 impl Model for AtomSet {
     ghost use Rattle.std.specs.Prelude.{ℕ, List};
-    ghost use Rattle.hv_task_text.specs.Written.{members};
+    ghost use Rattle.hv_task_text.specs.Working.Written.{members};
 
     ghost Value = { List ℕ };
 

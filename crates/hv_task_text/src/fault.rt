@@ -1,3 +1,5 @@
+//! Kinds of places and limits of a task text, and why one isn't read.
+
 ghost use Rattle.std.specs.Prelude.{◌≡◌};
 ghost use Rattle.hv_task_text.specs.declared.fault.TaskFault.TheVariants as F;
 ghost use Rattle.hv_task_text.specs.Words.{kind_word, limit_word};

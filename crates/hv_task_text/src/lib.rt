@@ -2,14 +2,14 @@
 #![tactic(auto)]
 
 mod atom_set;
-mod fault;
-mod laws;
+pub mod fault;
+pub mod laws;
 mod numbers;
-mod read;
+pub mod read;
 mod reader;
 #[cfg(test)]
 mod tests;
-mod write;
+pub mod write;
 
 pub use fault::{TaskFault, TaskKind, TaskLimit};
 pub use laws::one_answer;

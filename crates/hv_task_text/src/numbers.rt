@@ -1,6 +1,8 @@
+//! Numbers and atoms in the lines of a task text.
+
 ghost use Rattle.std.specs.Prelude.{◌≡◌, ℕ, ◌<◌, ◌++◌, List, MatchOption};
 ghost use Rattle.hv_bytes.specs.Decimals.{IsDecimal};
-ghost use Rattle.hv_task_text.specs.Form.{HasNumber, IsAtom, IsAtomBehind, IsNumbered};
+ghost use Rattle.hv_task_text.specs.Form.{HasNumber, IsAtom, IsAtomBehind, IsNumberedLine};
 
 use hv_bytes::read_decimal;
 
@@ -17,7 +19,7 @@ fn behind<'a>(line: &'a [u8], word: &[u8]) -> Option<&'a [u8]>
 pub fn numbered(line: &[u8], word: &[u8]) -> Option<u64>
     ensures { MatchOption result
         (HasNumber line.now word.now → ⊥)
-        (λ n. IsNumbered line.now word.now n) }
+        (λ n. IsNumberedLine line.now word.now n) }
 {
     read_decimal(behind(line, word)?)
 }
@@ -40,7 +42,7 @@ pub fn atom_alone(line: &[u8], atoms: u32) -> Option<u32>
 pub fn atom_behind(line: &[u8], word: &[u8], atoms: u32) -> Option<u32>
     ensures { MatchOption result
         (IsAtomBehind atoms line.now word.now → ⊥)
-        (λ n. IsNumbered line.now word.now n × (n < atoms)) }
+        (λ n. IsNumberedLine line.now word.now n × (n < atoms)) }
 {
     let number = numbered(line, word)?;
     if number < u64::from(atoms) {

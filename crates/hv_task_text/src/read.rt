@@ -1,7 +1,9 @@
+//! Task texts from a shelf, line by line.
+
 ghost use Rattle.std.specs.Prelude.{◌≡◌, ◌+◌, ◌≤◌, ◌^◌, IsTrue, IfSome, IsErrOf};
 ghost use Rattle.hv_bytes.specs.Devices.{Rose};
 ghost use Rattle.hv_bytes.specs.Files.{bytes_of};
-ghost use Rattle.hv_task_text.specs.Reading.{line_fault_at};
+ghost use Rattle.hv_task_text.specs.Working.Reading.{line_fault_at};
 ghost use Rattle.hv_task_text.specs.TaskText.{IsReadFrom};
 
 use crate::fault::{TaskFault, TaskLimit};

@@ -1,8 +1,10 @@
+//! What has been read of a task text so far, and what each further line adds.
+
 ghost use Rattle.std.specs.Prelude.{◌≡◌, ℕ, ◌+◌, ◌<◌, ◌≤◌, [], ◌∷◌, ◌++◌, length, MatchResult, IfOk, OnOk};
 ghost use Rattle.hv_task_text.specs.declared.fault.TaskKind.{TaskKind};
 ghost use Rattle.hv_task_text.specs.declared.fault.TaskKind.TheVariants as K;
 ghost use Rattle.hv_task_text.specs.declared.reader.FeedError.TheVariants as E;
-ghost use Rattle.hv_task_text.specs.Reading.{closed, no_action, turn, IsReady, ClosesAction, TakesWord, Takes, Feeds, FeedsEnd, Ends, fault_at, no_lines};
+ghost use Rattle.hv_task_text.specs.Working.Reading.{closed, no_action, turn, IsReading, ClosesAction, TakesWord, Takes, Feeds, FeedsEnd, Ends, fault_at, nothing_read};
 
 use crate::atom_set::AtomSet;
 use crate::fault::{TaskFault, TaskKind, TaskLimit};
@@ -113,7 +115,7 @@ fn place_after(done: u32, count: u32, more: TaskKind, last: TaskKind) -> TaskKin
 impl Reader {
     /// A reader that has read nothing.
     pub fn new(alloc: Global) -> Result<Reader, AllocError>
-        ensures { IfOk result (λ reader. reader ≡ no_lines) }
+        ensures { IfOk result (λ reader. reader ≡ nothing_read) }
     {
         Ok(Reader {
             expected: TaskKind::BeginAtoms,
@@ -127,7 +129,7 @@ impl Reader {
 
     /// Takes the next line.
     pub fn feed(&mut self, alloc: Global, line: &[u8]) -> Result<(), FeedError>
-        requires { IsReady self.old.expected self.old }
+        requires { IsReading self.old.expected self.old }
         ensures { Feeds self.old.expected result self.old line.now self.new }
     {
         match self.expected {
@@ -150,7 +152,7 @@ impl Reader {
 
     /// The task, where the text ends here, before the line of this number.
     pub fn end(self, alloc: Global, number: u64) -> Result<Task, TaskFault>
-        requires { IsReady self.expected self }
+        requires { IsReading self.expected self }
         ensures { Ends result self number }
     {
         if self.expected != TaskKind::End {
@@ -195,7 +197,7 @@ impl Reader {
     }
 
     fn atom_name(&mut self, alloc: Global, line: &[u8]) -> Result<(), FeedError>
-        requires { IsReady K.AtomName self.old }
+        requires { IsReading K.AtomName self.old }
         ensures { Feeds K.AtomName result self.old line.now self.new }
     {
         if line.len() > LONGEST_NAME {
@@ -273,7 +275,7 @@ impl Reader {
     }
 
     fn action_line(&mut self, alloc: Global, line: &[u8]) -> Result<(), FeedError>
-        requires { IsReady K.ActionLine self.old }
+        requires { IsReading K.ActionLine self.old }
         ensures { Feeds K.ActionLine result self.old line.now self.new }
     {
         let atoms = self.task.atoms();
@@ -294,7 +296,7 @@ impl Reader {
 
     // The line that ends the open action.
     fn end_action(&mut self, alloc: Global, line: &[u8]) -> Result<(), FeedError>
-        requires { IsReady K.ActionLine self.old }
+        requires { IsReading K.ActionLine self.old }
         ensures { FeedsEnd result self.old line.now self.new }
     {
         if line != b"end_action".as_slice() {
@@ -306,7 +308,7 @@ impl Reader {
 
     // Puts the open action last.
     fn close_action(&mut self, alloc: Global) -> Result<(), AllocError>
-        requires { IsReady K.ActionLine self.old }
+        requires { IsReading K.ActionLine self.old }
         ensures { OnOk result (ClosesAction self.old self.new) }
     {
         let action = self.action.close(alloc)?;

@@ -1,3 +1,5 @@
+//! Tests of task texts: spellings, cut texts, limits, failing reads, the canonical text.
+
 ghost use Rattle.std.specs.Prelude.{◌≤◌, ◌^◌};
 
 use crate::fault::TaskFault;

@@ -11,7 +11,7 @@ use Rattle.clap.specs.Simple.{App, HasMatchesOf, Shape, built, is_simple, matche
 use Rattle.clap.specs.Takes.{settle_passes, takes, turn_passes}
 use Rattle.clap.specs.declared.parser.matches.ArgMatches.{ArgMatches}
 use Rattle.clap.specs.Walk.{Held, Row, Text, Walk, finished, first_of, idle, nothing_held, option as waits_for, settled, walk_from, walked}
-use Rattle.hv_words.specs.Commands.{check_app, one_app, two_app}
+use Rattle.hv_words.specs.Working.Commands.{check_app, one_app, two_app}
 use Rattle.hv_words.specs.Forms.{CheckTexts, OptionTexts, both_options, check_texts, is_argument, is_budget, is_nodes, one_option, one_text, option_texts, two_texts, with_arguments}
 use Rattle.hv_words.proofs.Walked.{Ends, Goes, after, at, goes_by, goes_nowhere, goes_on, reached}
 

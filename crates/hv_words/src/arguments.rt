@@ -1,8 +1,10 @@
+//! Commands with one argument or two.
+
 ghost use Rattle.std.specs.Prelude.{◌≡◌, IfOk, map, option_map};
 ghost use Rattle.std.specs.Option.{is_some};
 ghost use Rattle.std.specs.String.{string_bytes};
 ghost use Rattle.clap.specs.Words.{app_of};
-ghost use Rattle.hv_words.specs.Commands.{one_app, two_app};
+ghost use Rattle.hv_words.specs.Working.Commands.{one_app, two_app};
 ghost use Rattle.hv_words.specs.Forms.{one_text, two_texts};
 
 use crate::parsing::{is_argument, parse, plain_command, with_argument};

@@ -1,8 +1,10 @@
+//! The words of a check: its arguments and its options.
+
 ghost use Rattle.std.specs.Prelude.{◌≡◌, IfOk, map, option_map};
 ghost use Rattle.std.specs.Option.{is_some};
 ghost use Rattle.std.specs.String.{string_bytes};
 ghost use Rattle.clap.specs.Words.{app_of};
-ghost use Rattle.hv_words.specs.Commands.{check_app};
+ghost use Rattle.hv_words.specs.Working.Commands.{check_app};
 ghost use Rattle.hv_words.specs.Forms.{check_texts, is_budget, is_nodes, option_texts, texts_of};
 
 use crate::parsing::{is_argument, parse, plain_command, with_argument, with_option};

@@ -1,8 +1,8 @@
 //! The words after the name of a command, read by clap where they have the form of the command.
 #![tactic(auto)]
 
-mod arguments;
-mod check;
+pub mod arguments;
+pub mod check;
 mod parsing;
 #[cfg(test)]
 mod tests;

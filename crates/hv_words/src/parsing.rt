@@ -1,7 +1,9 @@
+//! Commands as the kit's `clap` knows them, and what it reads in words that they take.
+
 ghost use Rattle.std.specs.Prelude.{◌≡◌, IfOk, map, true};
 ghost use Rattle.std.specs.String.{string_bytes};
 ghost use Rattle.clap.specs.Words.{HasMatchesOf, app_of, kind_of, takes, with_rule};
-ghost use Rattle.hv_words.specs.Commands.{argument, option, plain_app};
+ghost use Rattle.hv_words.specs.Working.Commands.{argument, option, plain_app};
 ghost use Rattle.hv_words.specs.Forms.{is_argument};
 
 use clap::error::ErrorKind;

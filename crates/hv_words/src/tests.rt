@@ -1,3 +1,5 @@
+//! Tests of words: those that are taken, and those that aren't.
+
 use crate::{CheckWords, read_check, read_one, read_two};
 use std::alloc::{AllocError, Global};
 use std::test::Fail;

@@ -1,5 +1,5 @@
 use Rattle.std.proofs.Common.{◌≡◌, ◌≤◌, ◌-◌, List, ℕ, map, IsTrue}
-use Rattle.hv_bytes.specs.Pieces.{GaveLines}
+use Rattle.hv_bytes.specs.Working.Pieces.{GaveLines}
 use Rattle.hv_bytes.specs.States.{coming_of}
 use Rattle.hv_bytes.proofs.tests.all_lines.Given as goal
 

@@ -1,5 +1,5 @@
 use Rattle.std.proofs.Common.{◌≡◌, ◌<◌, ◌≤◌, ◌/◌, ℕ, false}
-use Rattle.hv_task.specs.Words.{flag_at}
+use Rattle.hv_task.specs.Working.Words.{flag_at}
 use Rattle.hv_task.proofs.bits.next_flag.Given as goal
 
 abbrev pub invariant-loop-at : goal.invariant-loop-at

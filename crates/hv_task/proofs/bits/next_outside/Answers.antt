@@ -1,5 +1,5 @@
 use Rattle.std.proofs.Common.{◌&&◌, not, arith}
-use Rattle.hv_task.specs.Words.{flag_at}
+use Rattle.hv_task.specs.Working.Words.{flag_at}
 use Rattle.hv_task.proofs.Outside.{none_outside, place_outside, set_next, set_passed}
 use Rattle.hv_task.proofs.bits.next_outside.Goals as goal
 

@@ -1,5 +1,5 @@
 use Rattle.std.proofs.Common.{◌≡◌, true, false, ap, refl, arith}
-use Rattle.hv_task.specs.Words.{flags_of}
+use Rattle.hv_task.specs.Working.Words.{flags_of}
 use Rattle.hv_task.proofs.Flags.{agreed, other_words, packed_upto}
 use Rattle.hv_task.proofs.bits.same_all.Goals as goal
 

@@ -1,7 +1,7 @@
 use Rattle.std.proofs.Common.{◌≡◌, ◌+◌, ◌∙◌, ap, get_or, sym, take}
 use Rattle.std.proofs.lemmas.List.{take_more}
 use Rattle.hv_task.specs.AtomList.{Inserts}
-use Rattle.hv_task_text.specs.Written.{members}
+use Rattle.hv_task_text.specs.Working.Written.{members}
 use Rattle.hv_task_text.proofs.Sets.{members_more}
 use Rattle.hv_task_text.proofs.atom_set.list_of.Goals as goal
 

@@ -1,5 +1,5 @@
 use Rattle.std.proofs.Common.{◌≡◌, take}
-use Rattle.hv_task_text.specs.Written.{members}
+use Rattle.hv_task_text.specs.Working.Written.{members}
 use Rattle.hv_task_text.proofs.atom_set.list_of.Given as goal
 
 abbrev pub invariant-loop-atom : goal.invariant-loop-atom

@@ -1,5 +1,5 @@
 use Rattle.std.proofs.Common.{◌≡◌, ◌≤◌, ◌-◌, true}
-use Rattle.hv_bytes.specs.Files.{file_of}
+use Rattle.hv_bytes.specs.Working.Files.{file_of}
 use Rattle.hv_bytes.specs.States.{coming_of}
 use Rattle.hv_task_text.specs.Beginning.{Beginning}
 use Rattle.hv_task_text.proofs.SoFar.{Follows}

@@ -1,4 +1,5 @@
-use Rattle.hv_task_text.specs.Canonical.{bytes_of_lines, entry_of, IsStored}
+use Rattle.hv_task_text.specs.Canonical.{bytes_of_lines, entry_of}
+use Rattle.hv_task_text.specs.Working.Canonical.{IsStored}
 use Rattle.hv_task_text.specs.Written.{entry_lines}
 use Rattle.hv_task_text.proofs.Appended.{each_more, written_more}
 use Rattle.hv_task_text.proofs.write.write_actions.Goals as goal

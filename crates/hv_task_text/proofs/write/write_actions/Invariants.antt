@@ -1,6 +1,7 @@
 use Rattle.std.proofs.Common.{◌≡◌, ◌++◌, take}
 use Rattle.std.specs.List.{All, flat_map}
-use Rattle.hv_task_text.specs.Canonical.{bytes_of_lines, entry_of, IsStored}
+use Rattle.hv_task_text.specs.Canonical.{bytes_of_lines, entry_of}
+use Rattle.hv_task_text.specs.Working.Canonical.{IsStored}
 use Rattle.hv_task_text.specs.Written.{entry_lines}
 use Rattle.hv_task_text.proofs.write.write_actions.Given as goal
 

@@ -1,6 +1,6 @@
 use Rattle.std.proofs.Common.{◌<◌, ◌∙◌, sym, ap, length, arith}
 use Rattle.hv_task.specs.State.{has_atom}
-use Rattle.hv_task.specs.Words.{flag_at}
+use Rattle.hv_task.specs.Working.Words.{flag_at}
 use Rattle.hv_task.proofs.Flags.{has_flags, length_flags}
 use Rattle.hv_task.proofs.state.State.has.Goals as goal
 

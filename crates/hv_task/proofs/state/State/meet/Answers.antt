@@ -1,6 +1,6 @@
 use Rattle.std.proofs.Common.{◌&&◌, ◌∙◌, sym, ap, length, arith}
 use Rattle.hv_task.specs.State.{has_atom}
-use Rattle.hv_task.specs.Words.{flags_of}
+use Rattle.hv_task.specs.Working.Words.{flags_of}
 use Rattle.hv_task.proofs.Flags.{length_flags, packed_upto}
 use Rattle.hv_task.proofs.Outside.{atoms_met, packed_met}
 use Rattle.hv_task.proofs.state.State.meet.Goals as goal

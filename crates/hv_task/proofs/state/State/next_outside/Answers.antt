@@ -1,6 +1,6 @@
 use Rattle.std.proofs.Common.{◌≤◌, ◌&&◌, ◌∙◌, not, sym, ap, length, arith}
 use Rattle.hv_task.specs.State.{has_atom}
-use Rattle.hv_task.specs.Words.{flag_at, flags_of}
+use Rattle.hv_task.specs.Working.Words.{flag_at, flags_of}
 use Rattle.hv_task.proofs.Flags.{length_flags, packed_upto}
 use Rattle.hv_task.proofs.Next.{next_same}
 use Rattle.hv_task.proofs.Places.{has_atom_past}

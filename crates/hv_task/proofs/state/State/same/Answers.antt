@@ -1,5 +1,5 @@
 use Rattle.std.proofs.Common.{◌≡◌, ◌∙◌, sym, ap, length, arith, subst}
-use Rattle.hv_task.specs.Words.{IsPacked, flags_of}
+use Rattle.hv_task.specs.Working.Words.{IsPacked, flags_of}
 use Rattle.hv_task.proofs.Flags.{length_flags}
 use Rattle.hv_task.proofs.state.State.same.Goals as goal
 

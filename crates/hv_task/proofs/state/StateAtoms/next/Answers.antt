@@ -1,6 +1,6 @@
 use Rattle.std.proofs.Common.{◌∙◌, ◌≤◌, length, sym, ap, arith}
 use Rattle.hv_task.specs.State.{has_atom}
-use Rattle.hv_task.specs.Words.{flag_at}
+use Rattle.hv_task.specs.Working.Words.{flag_at}
 use Rattle.hv_task.proofs.Flags.{has_flags_anywhere, length_flags}
 use Rattle.hv_task.proofs.Places.{has_atom_past}
 use Rattle.hv_task.proofs.Next.{next_same}

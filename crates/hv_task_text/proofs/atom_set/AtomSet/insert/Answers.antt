@@ -1,6 +1,6 @@
 use Rattle.std.proofs.Common.{◌≡◌, ◌∙◌, subst, sym}
 use Rattle.hv_task.specs.AtomList.{Inserts}
-use Rattle.hv_task_text.specs.Written.{members}
+use Rattle.hv_task_text.specs.Working.Written.{members}
 use Rattle.hv_task_text.proofs.Sets.{members_insert}
 use Rattle.hv_task_text.proofs.atom_set.AtomSet.insert.Goals as goal
 

@@ -1,7 +1,8 @@
 -- One step of cutting a line out of held bytes: the line grows by a part of them.
 use Rattle.std.specs.Prelude.{◌≡◌, ℕ, ◌+◌, ◌≤◌, List, [], ◌++◌, length, take, drop}
 use Rattle.hv_bytes.specs.FirstLine.{IsLong}
-use Rattle.hv_bytes.specs.LineCuts.{IsClean, IsFirstLf}
+use Rattle.hv_bytes.specs.LineCuts.{IsClean}
+use Rattle.hv_bytes.specs.Working.LineCuts.{IsFirstLf}
 
 -- the line grew by what is held before the first LF, and that LF is gone too
 abbrev pub EndsLine : List ℕ → List ℕ → List ℕ → List ℕ → Type 0

@@ -5,7 +5,7 @@ use Rattle.hv_task.specs.AtomList.{Inserts}
 use Rattle.hv_task.specs.State.{AreBelow}
 use Rattle.hv_task.specs.Strips.{IsOver, Strips}
 use Rattle.hv_task.specs.declared.action.Action.{Action}
-use Rattle.hv_task_text.specs.Form.{IsNumbered, IsForm, Passes}
+use Rattle.hv_task_text.specs.Form.{IsNumberedLine, IsForm, PassesTaskLimit}
 use Rattle.hv_task_text.specs.declared.fault.TaskKind.{TaskKind}
 use Rattle.hv_task_text.specs.declared.fault.TaskKind.TheVariants as K
 use Rattle.hv_bytes.specs.declared.cutting.LineFault.{LineFault}
@@ -33,8 +33,8 @@ abbrev pub no_action : OpenAction
 no_action = record { name = []; cost = 0; pre = []; add = []; del = [] }
 
 -- a reader that has read nothing
-abbrev pub no_lines : Reader
-no_lines = record {
+abbrev pub nothing_read : Reader
+nothing_read = record {
   expected = K.BeginAtoms;
   count = 0;
   task = record { names = []; start = []; goal = []; actions = [] };
@@ -48,23 +48,23 @@ abbrev pub turn : ℕ → ℕ → TaskKind → TaskKind → TaskKind
 turn done count more last = if nat_lt done count then more else last
 
 -- what the reader's methods ask of it, where it expects a place of this kind
-abbrev pub IsReady : TaskKind → Reader → Type 0
-IsReady K.BeginAtoms r = Unit {0}
-IsReady K.AtomName r = (length r.task.names < r.count) × (r.count ≤ 65535)
-IsReady K.EndAtoms r = Unit {0}
-IsReady K.BeginInit r = Unit {0}
-IsReady K.InitAtom r = Unit {0}
-IsReady K.BeginGoal r = Unit {0}
-IsReady K.GoalAtom r = Unit {0}
-IsReady K.BeginActions r = Unit {0}
-IsReady K.BeginAction r = Unit {0}
-IsReady K.ActionName r = Unit {0}
-IsReady K.Cost r = Unit {0}
-IsReady K.ActionLine r =
+abbrev pub IsReading : TaskKind → Reader → Type 0
+IsReading K.BeginAtoms r = Unit {0}
+IsReading K.AtomName r = (length r.task.names < r.count) × (r.count ≤ 65535)
+IsReading K.EndAtoms r = Unit {0}
+IsReading K.BeginInit r = Unit {0}
+IsReading K.InitAtom r = Unit {0}
+IsReading K.BeginGoal r = Unit {0}
+IsReading K.GoalAtom r = Unit {0}
+IsReading K.BeginActions r = Unit {0}
+IsReading K.BeginAction r = Unit {0}
+IsReading K.ActionName r = Unit {0}
+IsReading K.Cost r = Unit {0}
+IsReading K.ActionLine r =
     (length r.task.actions < r.count) × (r.count ≤ 1000000)
     × IsOver (length r.task.names) (closed r.action)
-IsReady K.EndActions r = Unit {0}
-IsReady K.End r = AreBelow (length r.task.names) r.start × AreBelow (length r.task.names) r.goal
+IsReading K.EndActions r = Unit {0}
+IsReading K.End r = AreBelow (length r.task.names) r.start × AreBelow (length r.task.names) r.goal
 
 -- the line is this word, and the next place is of this kind
 abbrev pub TakesWord : List ℕ → TaskKind → Reader → List ℕ → Reader → Type 0
@@ -72,7 +72,7 @@ TakesWord word next r line new = (line ≡ word) × (new ≡ record r { expected
 
 -- the line's number behind this word, of one of so many atoms, is put into the set
 abbrev pub Puts : ℕ → List ℕ → List ℕ → List ℕ → List ℕ → Type 0
-Puts atoms line word old new = (n : ℕ) × IsNumbered line word n × (n < atoms) × Inserts old n new
+Puts atoms line word old new = (n : ℕ) × IsNumberedLine line word n × (n < atoms) × Inserts old n new
 
 -- the open action goes last, and none is open
 abbrev pub ClosesAction : Reader → Reader → Type 0
@@ -90,7 +90,7 @@ EndsAction r line new = (line ≡ codes "end_action") × ClosesAction r new
 -- the line takes the reader from this state to the next one
 abbrev pub Takes : TaskKind → Reader → List ℕ → Reader → Type 0
 Takes K.BeginAtoms r line new =
-    (n : ℕ) × IsNumbered line (codes "begin_atoms:") n × (n ≤ 65535)
+    (n : ℕ) × IsNumberedLine line (codes "begin_atoms:") n × (n ≤ 65535)
     × (new ≡ record r { expected = turn 0 n K.AtomName K.EndAtoms; count = n })
 Takes K.AtomName r line new =
     (length line ≤ 1024)
@@ -110,7 +110,7 @@ Takes K.GoalAtom r line new =
     × (new ≡ record r { goal = set }))
     ⊎ TakesWord (codes "end_goal") K.BeginActions r line new
 Takes K.BeginActions r line new =
-    (n : ℕ) × IsNumbered line (codes "begin_actions:") n × (n ≤ 1000000)
+    (n : ℕ) × IsNumberedLine line (codes "begin_actions:") n × (n ≤ 1000000)
     × (new ≡ record r { expected = turn 0 n K.BeginAction K.EndActions; count = n })
 Takes K.BeginAction r line new = TakesWord (codes "begin_action") K.ActionName r line new
 Takes K.ActionName r line new =
@@ -119,7 +119,7 @@ Takes K.ActionName r line new =
       action = record r.action { name = line };
     })
 Takes K.Cost r line new =
-    (n : ℕ) × IsNumbered line (codes "cost:") n × (n ≤ 4294967295)
+    (n : ℕ) × IsNumberedLine line (codes "cost:") n × (n ≤ 4294967295)
     × (new ≡ record r { expected = K.ActionLine; action = record r.action { cost = n } })
 Takes K.ActionLine r line new =
     ((set : List ℕ) × Puts (length r.task.names) line (codes "PRE:") r.action.pre set
@@ -137,7 +137,7 @@ Takes K.End r line new = ⊥
 abbrev pub Feeds : TaskKind → Result (Unit {0}) FeedError → Reader → List ℕ → Reader → Type 0
 Feeds kind (Ok _) r line new = Takes kind r line new
 Feeds kind (Err (E.Place k)) r line new = (k ≡ kind) × (IsForm kind (length r.task.names) line → ⊥)
-Feeds kind (Err (E.Limit limit)) r line new = Passes kind line limit
+Feeds kind (Err (E.Limit limit)) r line new = PassesTaskLimit kind line limit
 Feeds kind (Err E.Memory) r line new = Unit {0}
 
 -- the same where only the end of the open action is looked for

@@ -1,0 +1,9 @@
+-- Working definitions beside those of `Fields`: what contracts of private functions and proofs say.
+use Rattle.std.specs.Prelude.{◌≡◌, ℕ, ◌+◌, ◌<◌, List, ◌∷◌, length, take, drop}
+use Rattle.hv_bytes.specs.Fields.{HasNoSpace}
+
+-- the first space of these bytes stands at this place
+pub record IsFirstSpace (bytes : List ℕ) (at : ℕ) : Type 0 where
+  pub within : at < length bytes
+  pub clean : HasNoSpace (take at bytes)
+  pub here : drop at bytes ≡ 32 ∷ drop (at + 1) bytes
