@@ -8,10 +8,11 @@ use Rattle.std.proofs.Math.Bool.{beq}
 use Rattle.std.specs.Cmp.{booleans_Decides}
 use Rattle.std.specs.List.{Contains, insert}
 use Rattle.std.specs.List.Sorted.{IsStrictlyIncreasing, IsNonDecreasingBy, IsPartitionPoint}
-use Rattle.hv_task.specs.AtomList.{IsPlaceOf}
+use Rattle.hv_task.specs.Working.AtomList.{IsPlaceOf}
 use Rattle.hv_task.proofs.Rising.{rises_apart, Inserts-insert}
 use Rattle.hv_sets.specs.declared.literal.Literal.{Literal}
-use Rattle.hv_sets.specs.Cubes.{Adds, IsFirstUpto, atoms_of, opposite}
+use Rattle.hv_sets.specs.Cubes.{Adds, atoms_of, opposite}
+use Rattle.hv_sets.specs.Working.Cubes.{IsFirstUpto}
 
 -- the atom at the first place that isn't less is the one, or the atom is absent
 pub place_here : (atoms : List ℕ) (atom place : ℕ) → place < length atoms → get_or atoms place 0 ≡ atom → IsPlaceOf atoms atom (Ok place)

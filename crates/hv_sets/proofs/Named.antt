@@ -12,7 +12,8 @@ use Rattle.hv_sets.specs.declared.operand.Which.{Which}
 use Rattle.hv_sets.specs.declared.operand.Which.TheVariants as W
 use Rattle.hv_sets.specs.contracts.operand.WhichPartialEq as which
 use Rattle.std.specs.contracts.prelude.BoolPartialEq as bool
-use Rattle.hv_sets.specs.Names.{AreNamesOf, Names}
+use Rattle.hv_sets.specs.Names.{AsksAbout}
+use Rattle.hv_sets.specs.Working.Names.{AreAsked}
 
 -- whether two sets are one, as the code compares them
 abbrev pub same_which : Which → Which → Bool
@@ -63,19 +64,19 @@ found_Decides named x = (
 
 -- so it answers what the operands name
 pub names_is : (named : List (Which × Bool)) (operands : List Operand) (which : Which) (after : Bool) (answer : Bool)
-    → AreNamesOf named operands → answer ≡ list_any (same_pair (which, after)) named → IsTrue answer ↔ Names operands which after
+    → AreAsked named operands → answer ≡ list_any (same_pair (which, after)) named → IsTrue answer ↔ AsksAbout operands which after
 names_is named operands which after answer of is =
     let found = found_Decides named (which, after) in
     (λ e. (of which after).0 (found.0 (sym is ∙ e)), λ n. is ∙ found.1 ((of which after).1 n))
 
 -- the index stays where the operands do
-pub names_kept : (named now : List (Which × Bool)) (operands items : List Operand) → AreNamesOf named operands → now ≡ named
-    → items ≡ operands → AreNamesOf now items
+pub names_kept : (named now : List (Which × Bool)) (operands items : List Operand) → AreAsked named operands → now ≡ named
+    → items ≡ operands → AreAsked now items
 names_kept named now operands items of same stays =
-    subst (λ list. AreNamesOf list items) (sym same) (subst (AreNamesOf named) (sym stays) of)
+    subst (λ list. AreAsked list items) (sym same) (subst (AreAsked named) (sym stays) of)
 
 -- and takes one pair more with one operand more
-module _ (named : List (Which × Bool)) (operands : List Operand) (item : Operand) (of : AreNamesOf named operands) where
+module _ (named : List (Which × Bool)) (operands : List Operand) (item : Operand) (of : AreAsked named operands) where
   inserted : Decides (list_any (same_pair (item.which, item.after)) named) (Contains named (item.which, item.after))
   inserted = found_Decides named (item.which, item.after)
 
@@ -103,7 +104,7 @@ module _ (named : List (Which × Bool)) (operands : List Operand) (item : Operan
       by true c = inl c
       by false c = Contains-push_cases named (item.which, item.after) x c
 
-  pub names_more : AreNamesOf (insert_key same_pair named (item.which, item.after)) (operands ++ item ∷ [])
+  pub names_more : AreAsked (insert_key same_pair named (item.which, item.after)) (operands ++ item ∷ [])
   names_more which after = (
     λ c. elim (from_new (which, after) c) [
       | inl old ↦ let n = (of which after).0 old in (n.0, Contains-append_left operands (item ∷ []) n.0 n.1, n.2, n.3)

@@ -3,7 +3,7 @@ use Rattle.std.proofs.Common.{◌≡◌, ℕ, zero, suc, ◌+◌, ◌-◌, ◌<�
 use Rattle.std.proofs.Math.Seq.{drop-append_seam, take-length}
 use Rattle.std.proofs.lemmas.List.{drop-append-le, length-drop, take-append-le}
 use Rattle.std.specs.Prelude.{slice_get, slice_range}
-use Rattle.hv_sets.specs.Pieces.{EndAt, pieces, start_of}
+use Rattle.hv_sets.specs.Working.Pieces.{EndAt, pieces, start_of}
 
 -- the pieces end within the items
 pub within : {A : Type 0} (items : List A) (from : ℕ) (ends : List ℕ) → EndAt items from ends → from ≤ length items

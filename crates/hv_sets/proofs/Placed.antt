@@ -4,7 +4,7 @@ use Rattle.std.proofs.lemmas.Bool.{cond-false, cond-true, eq-eqb, le-ltb, lt-ltb
 use Rattle.std.proofs.lemmas.List.{length-map}
 use Rattle.std.specs.List.{insert}
 use Rattle.std.specs.List.Sorted.{IsStrictlyIncreasing}
-use Rattle.hv_task.specs.AtomList.{IsPlaceOf}
+use Rattle.hv_task.specs.Working.AtomList.{IsPlaceOf}
 use Rattle.hv_task.proofs.Rising.{rises_apart}
 use Rattle.hv_sets.specs.declared.literal.Literal.{Literal}
 use Rattle.hv_sets.specs.Cubes.{atoms_of, put_in}

@@ -1,5 +1,5 @@
 -- Cubes as lists of literals whose atoms rise.
-use Rattle.std.specs.Prelude.{◌≡◌, ◌<◌, ◌≤◌, ◌⊎◌, ◌↔◌, ℕ, List, [], ◌∷◌, cond, length, map, nat_eq, nat_lt, not, slice_index}
+use Rattle.std.specs.Prelude.{◌≡◌, ◌<◌, ◌⊎◌, ◌↔◌, ℕ, List, [], ◌∷◌, cond, map, nat_eq, nat_lt, not}
 use Rattle.std.specs.List.{All, Contains, fold}
 use Rattle.std.specs.List.Sorted.{IsStrictlyIncreasing}
 use Rattle.hv_sets.specs.declared.literal.Literal.{Literal}
@@ -21,12 +21,6 @@ opposite literal = record { atom = literal.atom; positive = not literal.positive
 pub record Adds (old : List Literal) (literal : Literal) (new : List Literal) : Type 0 where
   pub rises : IsStrictlyIncreasing (atoms_of new)
   pub has : (l : Literal) → Contains new l ↔ (Contains old l ⊎ (l ≡ literal))
-
--- the atoms before this place are less than the atom, and the others are not
-abbrev pub IsFirstUpto : List ℕ → ℕ → ℕ → Type 0
-IsFirstUpto atoms atom place =
-    (place ≤ length atoms) × ((k : ℕ) → k < place → slice_index atoms k < atom)
-    × ((k : ℕ) → place ≤ k → k < length atoms → atom ≤ slice_index atoms k)
 
 -- the cube with one literal more, by rising atoms; where a literal of its atom stands, the cube
 -- stays as it is

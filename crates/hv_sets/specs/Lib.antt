@@ -6,4 +6,4 @@ pub mod Names
 pub mod Query
 pub mod Cost
 pub mod Kinds
-pub mod Pieces
+pub mod Working

@@ -51,9 +51,9 @@ pub record IsAmong (atoms : ℕ) (has : List Bool → Bool) (cube : List Literal
   pub of_set : has found ≡ inside
 
 -- if a step has a cube, that speaks of atoms below this number alone
-abbrev pub SpeaksBelow : ℕ → Step → List Literal → Type 0
-SpeaksBelow atoms T.Cube cube = SpeakBelow atoms cube
-SpeaksBelow atoms step cube = ⊤
+abbrev pub StepSpeaksBelow : ℕ → Step → List Literal → Type 0
+StepSpeaksBelow atoms T.Cube cube = SpeakBelow atoms cube
+StepSpeaksBelow atoms step cube = ⊤
 
 -- some state of a task with so many atoms is in the cube and in the set, and this state is one; or
 -- there is none

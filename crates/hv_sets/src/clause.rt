@@ -1,3 +1,5 @@
+//! Clauses.
+
 ghost use Rattle.std.specs.Prelude.{◌≡◌, ◌<◌, [], ◌∷◌, ◌++◌, ◌==◌, length, slice_get, Some, OnOk, OnErr};
 
 use crate::literal::Literal;

@@ -1,30 +1,30 @@
-ghost use Rattle.std.specs.Prelude.{◌≡◌, ◌<◌, ◌≤◌, [], ◌∷◌, ◌++◌, ◌==◌, length, slice_get, slice_range, IfOk, Some, OnOk, OnErr};
-ghost use Rattle.hv_sets.specs.Pieces.{EndAt, pieces, start_of};
+//! Lists of clauses.
+
+ghost use Rattle.std.specs.Prelude.{◌≡◌, ◌<◌, [], ◌∷◌, ◌++◌, ◌==◌, length, slice_get, IfOk, Some, OnOk, OnErr};
 
 use crate::clause::Clause;
+use crate::flat::FlatClauses;
+use crate::held::Held;
 use crate::literal::Literal;
 use std::alloc::{AllocError, Global};
 use std::marker::Model;
+use std::rc::Rc;
 
 /// A list of clauses: it is true in a state where each of its clauses is. The empty list is true.
 #[derive(Drop)]
 pub struct Clauses {
-    // The literals of all clauses, one clause after the other.
-    literals: Vec<Literal>,
-    // Where each clause ends among them.
-    ends: Vec<usize>,
+    alloc: Global,
+    pieces: Held<FlatClauses>,
 }
 
 impl Model for Clauses {
     ghost use Rattle.std.specs.Prelude.{List};
     ghost use Rattle.hv_sets.specs.declared.literal.Literal.{Literal};
-    ghost use Rattle.hv_sets.specs.Pieces.{EndAt, pieces};
+    ghost use Rattle.hv_sets.specs.Working.Held.{held_value};
 
     ghost Value = { List (List Literal) };
 
-    ghost view = { λ c. pieces c.literals.items 0 c.ends.items };
-
-    ghost invariant = { λ c. EndAt c.literals.items 0 c.ends.items };
+    ghost view = { λ c. held_value c.pieces };
 }
 
 impl Clauses {
@@ -33,20 +33,33 @@ impl Clauses {
         ensures { result ≡ [] }
     {
         Clauses {
-            literals: Vec::new(alloc),
-            ends: Vec::new(alloc),
+            alloc,
+            pieces: Held::Alone(FlatClauses::new(alloc)),
         }
     }
 
-    /// The same list once more, in as much memory as it needs.
+    /// The same list, of which each further copy takes no memory of its own.
+    pub fn share(self) -> Result<Clauses, AllocError>
+        ensures { IfOk result (λ shared. shared ≡ self) }
+    {
+        let Clauses { alloc, pieces } = self;
+        let pieces = match pieces {
+            Held::Alone(pieces) => Held::Together(Rc::new(alloc, pieces)?),
+            Held::Together(shared) => Held::Together(shared),
+        };
+        Ok(Clauses { alloc, pieces })
+    }
+
+    /// The same list once more: together with this one where it is shared, and otherwise in as much
+    /// memory as it needs.
     pub fn copy(&self, alloc: Global) -> Result<Clauses, AllocError>
         ensures { IfOk result (λ copy. copy ≡ self.now) }
     {
-        let mut literals = Vec::with_capacity(alloc, self.literals.len())?;
-        literals.extend_from_slice(&self.literals)?;
-        let mut ends = Vec::with_capacity(alloc, self.ends.len())?;
-        ends.extend_from_slice(&self.ends)?;
-        Ok(Clauses { literals, ends })
+        let pieces = match &self.pieces {
+            Held::Alone(pieces) => Held::Alone(pieces.copy(alloc)?),
+            Held::Together(shared) => Held::Together(shared.clone()?),
+        };
+        Ok(Clauses { alloc, pieces })
     }
 
     /// Puts the item last.
@@ -57,29 +70,34 @@ impl Clauses {
         self.push_literals(item.as_slice())
     }
 
-    /// Puts the clause of these literals last.
+    /// Puts the clause of these literals last. Copies that are shared stay as they are.
     pub fn push_literals(&mut self, literals: &[Literal]) -> Result<(), AllocError>
         ensures ok { OnOk result (self.new ≡ self.old ++ literals.now ∷ []) }
         ensures err { OnErr result (self.new ≡ self.old) }
     {
-        self.ends.reserve(1)?;
-        self.literals.extend_from_slice(literals)?;
-        self.ends.push_reserved(self.literals.len());
-        Ok(())
+        match &mut self.pieces {
+            Held::Alone(pieces) => pieces.push(literals),
+            Held::Together(shared) => {
+                let mut own = shared.copy(self.alloc)?;
+                own.push(literals)?;
+                self.pieces = Held::Alone(own);
+                Ok(())
+            }
+        }
     }
 
     /// How many clauses there are.
     pub fn len(&self) -> usize
         ensures { result ≡ length self.now }
     {
-        self.ends.len()
+        self.pieces.get().len()
     }
 
     /// Whether there is none.
     pub fn is_empty(&self) -> bool
         ensures { result ≡ (length self.now == 0) }
     {
-        self.ends.is_empty()
+        self.len() == 0
     }
 
     /// The literals of the clause at a place from 0.
@@ -87,31 +105,6 @@ impl Clauses {
         requires { place < length self.now }
         ensures { slice_get self.now place ≡ Some result.now }
     {
-        piece_at(&self.literals, &self.ends, place)
+        self.pieces.get().get(place)
     }
-}
-
-// The piece at a place.
-fn piece_at<'a>(literals: &'a [Literal], ends: &[usize], place: usize) -> &'a [Literal]
-    requires ended { EndAt literals.now 0 ends.now }
-    requires place { place < length ends.now }
-    ensures { slice_get (pieces literals.now 0 ends.now) place ≡ Some result.now }
-{
-    between(literals, start_of(ends, place), ends[place])
-}
-
-fn between(literals: &[Literal], start: usize, end: usize) -> &[Literal]
-    requires start { start ≤ end }
-    requires end { end ≤ length literals.now }
-    ensures { result.now ≡ slice_range literals.now start end }
-{
-    &literals[start..end]
-}
-
-// Where the piece at a place begins.
-fn start_of(ends: &[usize], place: usize) -> usize
-    requires { place < length ends.now }
-    ensures { result ≡ start_of 0 ends.now place }
-{
-    if place == 0 { 0 } else { ends[place - 1] }
 }

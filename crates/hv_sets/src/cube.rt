@@ -1,9 +1,12 @@
+//! Cubes: the states in which some literals are true.
+
 ghost use Rattle.std.specs.Prelude.{◌≡◌, ◌<◌, ◌↔◌, ◌==◌, ◌++◌, ◌∷◌, [], false, true, length, slice_get, IfOk, OnErr, Some};
 ghost use Rattle.std.specs.List.{Contains};
 ghost use Rattle.std.specs.List.Sorted.{IsStrictlyIncreasing};
-ghost use Rattle.hv_task.specs.AtomList.{IsPlaceOf};
+ghost use Rattle.hv_task.specs.Working.AtomList.{IsPlaceOf};
 ghost use Rattle.hv_task.specs.State.{AreBelow};
-ghost use Rattle.hv_sets.specs.Cubes.{Adds, IsFirstUpto, SpeakBelow, atoms_of, opposite, put_in};
+ghost use Rattle.hv_sets.specs.Cubes.{Adds, SpeakBelow, atoms_of, opposite, put_in};
+ghost use Rattle.hv_sets.specs.Working.Cubes.{IsFirstUpto};
 ghost use Rattle.hv_sets.specs.Truth.{in_cube};
 
 use crate::literal::Literal;

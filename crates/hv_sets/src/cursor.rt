@@ -1,3 +1,5 @@
+//! Where a walk over the cubes of a set stands, and what its next step is.
+
 ghost use Rattle.hv_sets.specs.Walks.{IsNew};
 
 use std::alloc::Global;

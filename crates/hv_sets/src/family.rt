@@ -1,3 +1,5 @@
+//! Stores of sets of one family, and the queries that they answer.
+
 ghost use Rattle.std.specs.Prelude.{◌<◌, ℕ, Bool, List, length, IfOk, IfSome};
 ghost use Rattle.hv_task.specs.Strips.{Strips, atoms};
 ghost use Rattle.hv_sets.specs.Cost.{IsAnswer};

@@ -1,3 +1,5 @@
+//! Answers to queries.
+
 /// The answer to a query.
 #[derive(Clone, Copy, Debug, PartialEq, Eq)]
 pub enum Finding {

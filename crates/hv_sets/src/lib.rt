@@ -8,6 +8,8 @@ pub mod cube;
 pub mod cursor;
 pub mod family;
 pub mod finding;
+mod flat;
+mod held;
 pub mod literal;
 pub mod operand;
 pub mod operands;

@@ -1,3 +1,5 @@
+//! Literals: an atom or its negation.
+
 ghost use Rattle.std.specs.Prelude.{◌≡◌, ◌<◌, length};
 ghost use Rattle.hv_sets.specs.Truth.{in_literal};
 

@@ -1,3 +1,5 @@
+//! Operands of a query: which set is asked about, and whether before the action or after it.
+
 /// The set that an operand stands for.
 #[derive(Clone, Copy, Debug, PartialEq, Eq, Hash)]
 pub enum Which {

@@ -1,5 +1,7 @@
+//! Lists of operands.
+
 ghost use Rattle.std.specs.Prelude.{◌≡◌, ◌<◌, ◌↔◌, [], ◌∷◌, ◌++◌, ◌==◌, length, slice_get, Some, IsTrue, OnOk, OnErr};
-ghost use Rattle.hv_sets.specs.Names.{Names};
+ghost use Rattle.hv_sets.specs.Names.{AsksAbout};
 
 use crate::operand::{Operand, Which};
 use indexmap::IndexSet;
@@ -17,13 +19,13 @@ pub struct Operands {
 impl Model for Operands {
     ghost use Rattle.std.specs.Prelude.{List};
     ghost use Rattle.hv_sets.specs.declared.operand.Operand.{Operand};
-    ghost use Rattle.hv_sets.specs.Names.{AreNamesOf};
+    ghost use Rattle.hv_sets.specs.Working.Names.{AreAsked};
 
     ghost Value = { List Operand };
 
     ghost view = { λ l. l.items.items };
 
-    ghost invariant = { λ l. AreNamesOf l.named.keys l.items.items };
+    ghost invariant = { λ l. AreAsked l.named.keys l.items.items };
 }
 
 impl Operands {
@@ -73,7 +75,7 @@ impl Operands {
     /// Whether some operand is this set, asked about after the action (true) or before it: one
     /// look-up.
     pub fn names(&self, which: Which, after: bool) -> bool
-        ensures { IsTrue result ↔ Names self.now which after }
+        ensures { IsTrue result ↔ AsksAbout self.now which after }
     {
         self.named.contains(&(which, after))
     }

@@ -1,3 +1,5 @@
+//! Queries: what a basic statement asks of the sets of a store.
+
 use crate::operands::Operands;
 
 /// What a basic statement asks: whether there is a state in which the action is applicable and

@@ -1,3 +1,5 @@
+//! Room for the work of calls, so that the next one needs no new memory.
+
 ghost use Rattle.std.specs.Prelude.{◌≡◌, ◌≤◌, [], IfOk, OnOk};
 ghost use Rattle.std.specs.Vec.{vec_len};
 ghost use Rattle.hv_sets.specs.Room.{HasRoom, KeepsLengths};

@@ -1,8 +1,10 @@
+//! What sets of states can be asked: the traits, each with its laws.
+
 ghost use Rattle.std.specs.Prelude.{◌≡◌, ◌≤◌, ◌+◌, ℕ, Bool, List, Option, length, min, not, IfOk, OnOk};
 ghost use Rattle.hv_sets.specs.Cost.{most_counted};
 ghost use Rattle.hv_sets.specs.Cubes.{SpeakBelow};
 ghost use Rattle.hv_sets.specs.Room.{KeepsLengths};
-ghost use Rattle.hv_sets.specs.Walks.{Covers, IsNew, IsStateOf, Meets, SpeaksBelow, TakesCube, TakesStep, in_cubes, in_steps};
+ghost use Rattle.hv_sets.specs.Walks.{Covers, IsNew, IsStateOf, Meets, StepSpeaksBelow, TakesCube, TakesStep, in_cubes, in_steps};
 ghost use Rattle.hv_sets.specs.declared.cursor.Cursor.{Cursor};
 ghost use Rattle.hv_sets.specs.declared.literal.Literal.{Literal};
 
@@ -55,7 +57,7 @@ pub trait Outside: StateSet {
             TakesStep step cube.new (outside_left self.now cursor.old)
             (outside_left self.now cursor.new)) }
         ensures stands { OnOk result (stands_outside self.now cursor.new) }
-        ensures cube { IfOk result (λ step. SpeaksBelow (Self.atoms self.now) step cube.new) };
+        ensures cube { IfOk result (λ step. StepSpeaksBelow (Self.atoms self.now) step cube.new) };
 
     /// How many steps there are: exact up to `cap`, and `cap + 1` beyond. No cap is above
     /// `MOST_COUNTED`.
@@ -93,7 +95,7 @@ pub trait Inside: StateSet {
             TakesCube step cube.new (inside_left self.now cursor.old)
             (inside_left self.now cursor.new)) }
         ensures stands { OnOk result (stands_inside self.now cursor.new) }
-        ensures cube { IfOk result (λ step. SpeaksBelow (Self.atoms self.now) step cube.new) };
+        ensures cube { IfOk result (λ step. StepSpeaksBelow (Self.atoms self.now) step cube.new) };
 
     /// How many cubes there are: exact up to `cap`, and `cap + 1` beyond. No cap is above
     /// `MOST_COUNTED`.

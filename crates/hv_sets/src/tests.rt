@@ -1,3 +1,5 @@
+//! Tests of lists, and of operands by their names.
+
 use crate::{Clause, Clauses, Literal, Operand, Operands, StateList, Which};
 use hv_task::AtomList;
 use std::test::Fail;
@@ -26,12 +28,20 @@ fn lists_keep_the_order_of_their_items(rt: HostRuntime) -> Result<(), Fail> {
     assert_eq!(rt; clauses.get(0).len(), 2);
     assert_eq!(rt; clauses.get(1).len(), 0);
     assert_eq!(rt; clauses.get(2)[0], negated);
-    let copy = clauses.copy(rt.alloc())?;
-    assert_eq!(rt; copy.get(0)[1], negated);
+    let mut copy = clauses.copy(rt.alloc())?.share()?;
+    let shared = copy.copy(rt.alloc())?;
+    copy.push_literals(&[])?;
+    assert_eq!(rt; copy.len(), 4);
+    assert_eq!(rt; shared.len(), 3);
+    assert_eq!(rt; shared.get(0)[1], negated);
 
     let mut states = StateList::new(rt.alloc());
     states.push(AtomList::new(rt.alloc()))?;
-    assert_eq!(rt; states.as_slice().len(), 1);
+    let mut states = states.copy(rt.alloc())?.share()?;
+    let shared = states.copy(rt.alloc())?;
+    states.push(AtomList::new(rt.alloc()))?;
+    assert_eq!(rt; states.as_slice().len(), 2);
+    assert_eq!(rt; shared.len(), 1);
     Ok(())
 }
 

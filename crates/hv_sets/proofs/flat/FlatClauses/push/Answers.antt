@@ -1,8 +1,8 @@
 use Rattle.std.proofs.Common.{◌≡◌, ◌+◌, ◌++◌, ◌∷◌, [], ◌∙◌, List, ℕ, sym, ap, ap₂, subst, length}
 use Rattle.hv_sets.specs.declared.literal.Literal.{Literal}
-use Rattle.hv_sets.specs.Pieces.{EndAt, pieces}
+use Rattle.hv_sets.specs.Working.Pieces.{EndAt, pieces}
 use Rattle.hv_sets.proofs.Pieces.{ends-push, pieces-push}
-use Rattle.hv_sets.proofs.clauses.Clauses.push_literals.Goals as goal
+use Rattle.hv_sets.proofs.flat.FlatClauses.push.Goals as goal
 
 -- the literals and the ends after the call
 literals : (c : goal.After-push_reserved) → c.extend_from_slice.new.self.items ≡ c.self.inside.literals.items ++ c.args.literals.now

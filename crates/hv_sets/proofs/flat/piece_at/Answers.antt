@@ -1,7 +1,7 @@
 use Rattle.std.proofs.Common.{◌≤◌, ◌∙◌, ℕ, sym, ap, subst, get_or, Some}
 use Rattle.std.specs.Prelude.{slice_range}
 use Rattle.hv_sets.proofs.Pieces as lemma
-use Rattle.hv_sets.proofs.clauses.piece_at.Goals as goal
+use Rattle.hv_sets.proofs.flat.piece_at.Goals as goal
 
 pub between-requires : goal.between-requires
 between-requires c =

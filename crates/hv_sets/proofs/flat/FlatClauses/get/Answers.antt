@@ -1,6 +1,6 @@
 use Rattle.std.proofs.Common.{ap, length, arith}
 use Rattle.hv_sets.proofs.Pieces.{length-pieces}
-use Rattle.hv_sets.proofs.clauses.Clauses.get.Goals as goal
+use Rattle.hv_sets.proofs.flat.FlatClauses.get.Goals as goal
 
 pub piece_at-requires-clause-place : goal.piece_at-requires-clause-place
 piece_at-requires-clause-place c =

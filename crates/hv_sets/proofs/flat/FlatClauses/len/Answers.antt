@@ -1,6 +1,6 @@
 use Rattle.std.proofs.Common.{◌∙◌, sym, ap, length}
 use Rattle.hv_sets.proofs.Pieces.{length-pieces}
-use Rattle.hv_sets.proofs.clauses.Clauses.len.Goals as goal
+use Rattle.hv_sets.proofs.flat.FlatClauses.len.Goals as goal
 
 pub returns : goal.returns
 returns c =
