@@ -1,18 +1,21 @@
+//! Whether a set is within another, by the cubes outside the other.
+
 ghost use Rattle.std.specs.Prelude.{◌≡◌, ◌<◌, ◌≤◌, length, IfOk};
 ghost use Rattle.hv_sets.specs.Cost.{IsAnswer};
 ghost use Rattle.hv_sets.specs.Room.{KeepsLengths};
 ghost use Rattle.hv_mixed.specs.Inclusion.{difference};
 
-use hv_sets::{Cube, Cursor, Finding, Outside, Scratch, StateSet, Step};
+use hv_paths::{InsideAsked, OutsideWalked, meet_along};
+use hv_sets::{Finding, Scratch};
 use std::alloc::{AllocError, Global};
 
 /// Whether the left set is within the right one: Over exactly where the walk over the states
 /// outside the right set has more steps than the budget; else Clash exactly where a state is in the
 /// left set and outside the right one, and such a state then stands in the scratch; else Empty.
-pub fn within<L: StateSet, R: Outside>(
+pub fn within<'a, L: InsideAsked<'a>, R: OutsideWalked<'a>>(
     alloc: Global,
-    left: &L,
-    right: &R,
+    left: &'a L,
+    right: &'a R,
     budget: u64,
     scratch: &mut Scratch,
 ) -> Result<Finding, AllocError>
@@ -26,17 +29,11 @@ pub fn within<L: StateSet, R: Outside>(
     if right.outside_count(alloc, budget)? > budget {
         return Ok(Finding::Over);
     }
-    let mut cursor = Cursor::new(alloc);
-    let mut cube = Cube::new(alloc);
-    loop {
-        match right.outside_next(&mut cursor, &mut cube)? {
-            Step::End => return Ok(Finding::Empty),
-            Step::Void => {}
-            Step::Cube => {
-                if left.meets(alloc, &cube, scratch)? {
-                    return Ok(Finding::Clash);
-                }
-            }
-        }
+    let mut walk = right.walk_outside(alloc)?;
+    let mut asked = left.ask_inside(alloc)?;
+    if meet_along(alloc, &mut walk, &mut asked, scratch)? {
+        Ok(Finding::Clash)
+    } else {
+        Ok(Finding::Empty)
     }
 }

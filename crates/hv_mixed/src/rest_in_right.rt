@@ -1,18 +1,21 @@
+//! Whether two sets cover all states, by the cubes outside the left one.
+
 ghost use Rattle.std.specs.Prelude.{◌≡◌, ◌<◌, ◌≤◌, length, IfOk};
 ghost use Rattle.hv_sets.specs.Cost.{IsAnswer};
 ghost use Rattle.hv_sets.specs.Room.{KeepsLengths};
 ghost use Rattle.hv_mixed.specs.Inclusion.{complement, difference};
 
-use hv_sets::{Covering, Cube, Cursor, Finding, Outside, Scratch, Step};
+use hv_paths::{OutsideAsked, OutsideWalked, meet_along};
+use hv_sets::{Finding, Scratch};
 use std::alloc::{AllocError, Global};
 
 /// Whether the complement of the left set is within the right one: Over exactly where the walk over
 /// the states outside the left set has more steps than the budget; else Clash exactly where a state
 /// is in neither, and such a state then stands in the scratch; else Empty.
-pub fn together<L: Outside, R: Covering>(
+pub fn together<'a, L: OutsideWalked<'a>, R: OutsideAsked<'a>>(
     alloc: Global,
-    left: &L,
-    right: &R,
+    left: &'a L,
+    right: &'a R,
     budget: u64,
     scratch: &mut Scratch,
 ) -> Result<Finding, AllocError>
@@ -26,17 +29,11 @@ pub fn together<L: Outside, R: Covering>(
     if left.outside_count(alloc, budget)? > budget {
         return Ok(Finding::Over);
     }
-    let mut cursor = Cursor::new(alloc);
-    let mut cube = Cube::new(alloc);
-    loop {
-        match left.outside_next(&mut cursor, &mut cube)? {
-            Step::End => return Ok(Finding::Empty),
-            Step::Void => {}
-            Step::Cube => {
-                if !right.covers(alloc, &cube, scratch)? {
-                    return Ok(Finding::Clash);
-                }
-            }
-        }
+    let mut walk = left.walk_outside(alloc)?;
+    let mut asked = right.ask_outside(alloc)?;
+    if meet_along(alloc, &mut walk, &mut asked, scratch)? {
+        Ok(Finding::Clash)
+    } else {
+        Ok(Finding::Empty)
     }
 }

@@ -1,18 +1,21 @@
+//! Whether two sets are apart, by the cubes of the left one.
+
 ghost use Rattle.std.specs.Prelude.{◌≡◌, ◌<◌, ◌≤◌, length, IfOk};
 ghost use Rattle.hv_sets.specs.Cost.{IsAnswer};
 ghost use Rattle.hv_sets.specs.Room.{KeepsLengths};
 ghost use Rattle.hv_mixed.specs.Inclusion.{complement, difference};
 
-use hv_sets::{Cube, Cursor, Finding, Inside, Scratch, StateSet, Step};
+use hv_paths::{InsideAsked, InsideWalked, meet_along};
+use hv_sets::{Finding, Scratch};
 use std::alloc::{AllocError, Global};
 
 /// Whether the left set is within the complement of the right one: Over exactly where the walk over
 /// the left set has more steps than the budget; else Clash exactly where a state is in both, and
 /// such a state then stands in the scratch; else Empty.
-pub fn apart<L: Inside, R: StateSet>(
+pub fn apart<'a, L: InsideWalked<'a>, R: InsideAsked<'a>>(
     alloc: Global,
-    left: &L,
-    right: &R,
+    left: &'a L,
+    right: &'a R,
     budget: u64,
     scratch: &mut Scratch,
 ) -> Result<Finding, AllocError>
@@ -26,17 +29,11 @@ pub fn apart<L: Inside, R: StateSet>(
     if left.inside_count(alloc, budget)? > budget {
         return Ok(Finding::Over);
     }
-    let mut cursor = Cursor::new(alloc);
-    let mut cube = Cube::new(alloc);
-    loop {
-        match left.inside_next(&mut cursor, &mut cube)? {
-            Step::End => return Ok(Finding::Empty),
-            Step::Void => {}
-            Step::Cube => {
-                if right.meets(alloc, &cube, scratch)? {
-                    return Ok(Finding::Clash);
-                }
-            }
-        }
+    let mut walk = left.walk_inside(alloc)?;
+    let mut asked = right.ask_inside(alloc)?;
+    if meet_along(alloc, &mut walk, &mut asked, scratch)? {
+        Ok(Finding::Clash)
+    } else {
+        Ok(Finding::Empty)
     }
 }

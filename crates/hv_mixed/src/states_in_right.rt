@@ -1,17 +1,20 @@
+//! Whether a set is within another, by its own cubes.
+
 ghost use Rattle.std.specs.Prelude.{◌≡◌, ◌<◌, ◌≤◌, length, IfOk};
 ghost use Rattle.hv_sets.specs.Cost.{IsAnswer};
 ghost use Rattle.hv_sets.specs.Room.{KeepsLengths};
 ghost use Rattle.hv_mixed.specs.Inclusion.{difference};
 
-use hv_sets::{Covering, Cube, Cursor, Finding, Inside, Scratch, Step};
+use hv_paths::{InsideWalked, OutsideAsked, meet_along};
+use hv_sets::{Finding, Scratch};
 use std::alloc::{AllocError, Global};
 
 /// The same as `within`, by the walk over the left set: Over exactly where that has more steps than
 /// the budget.
-pub fn within_states<L: Inside, R: Covering>(
+pub fn within_states<'a, L: InsideWalked<'a>, R: OutsideAsked<'a>>(
     alloc: Global,
-    left: &L,
-    right: &R,
+    left: &'a L,
+    right: &'a R,
     budget: u64,
     scratch: &mut Scratch,
 ) -> Result<Finding, AllocError>
@@ -25,17 +28,11 @@ pub fn within_states<L: Inside, R: Covering>(
     if left.inside_count(alloc, budget)? > budget {
         return Ok(Finding::Over);
     }
-    let mut cursor = Cursor::new(alloc);
-    let mut cube = Cube::new(alloc);
-    loop {
-        match left.inside_next(&mut cursor, &mut cube)? {
-            Step::End => return Ok(Finding::Empty),
-            Step::Void => {}
-            Step::Cube => {
-                if !right.covers(alloc, &cube, scratch)? {
-                    return Ok(Finding::Clash);
-                }
-            }
-        }
+    let mut walk = left.walk_inside(alloc)?;
+    let mut asked = right.ask_outside(alloc)?;
+    if meet_along(alloc, &mut walk, &mut asked, scratch)? {
+        Ok(Finding::Clash)
+    } else {
+        Ok(Finding::Empty)
     }
 }

@@ -1,0 +1,39 @@
+//! Walks over cubes.
+
+ghost use Rattle.std.specs.Prelude.{◌≡◌, ℕ, List, IfOk, IfSome};
+ghost use Rattle.hv_sets.specs.Cubes.{SpeakBelow};
+ghost use Rattle.hv_sets.specs.declared.literal.Literal.{Literal};
+ghost use Rattle.hv_paths.specs.Along.{TakesPath};
+
+use hv_sets::Literal;
+use std::alloc::AllocError;
+
+/// A walk over cubes, each written in the order of the walk. Many begin as the one before.
+pub trait Walker {
+    // How many atoms the task has.
+    ghost atoms: { Self → ℕ };
+
+    // The walk is as it should be.
+    ghost stands: { Self → Type 0 };
+
+    // The cube of the last step.
+    ghost path: { Self → List Literal };
+
+    // The cubes that are left.
+    ghost left: { Self → List (List Literal) };
+
+    /// Takes the next cube, and tells how many literals at the front of the one before it has. After
+    /// the last cube, and after want of memory, the walk is over.
+    fn advance(&mut self) -> Result<Option<usize>, AllocError>
+        requires { stands self.old }
+        ensures step { IfOk result (λ kept.
+            TakesPath kept (path self.old) (path self.new) (left self.old) (left self.new)) }
+        ensures stands { IfOk result (λ kept. IfSome kept (λ _. stands self.new)) }
+        ensures atoms { atoms self.new ≡ atoms self.old };
+
+    /// The cube of the last step.
+    fn path(&self) -> &[Literal]
+        requires { stands self.now }
+        ensures path { result.now ≡ path self.now }
+        ensures below { SpeakBelow (atoms self.now) result.now };
+}
