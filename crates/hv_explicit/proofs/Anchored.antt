@@ -17,8 +17,8 @@ use Rattle.hv_sets.specs.declared.query.Query.{Query}
 use Rattle.hv_sets.specs.Cost.{IsAnswer, StatesPass, states_of}
 use Rattle.hv_sets.specs.Query.{IsAnchor, IsReady, action_of, asked, in_operand, in_which, is_clash, may_apply}
 use Rattle.hv_sets.specs.Truth.{in_states, is_same}
-use Rattle.hv_explicit.specs.Listing.{AreOver, Listing, count_found, in_found, in_listing, in_set, states_in}
-use Rattle.hv_explicit.specs.Search.{IsFound}
+use Rattle.hv_explicit.specs.Listing.{AreOver, Listing, count_found, in_found, in_listing, in_set, states_listed}
+use Rattle.hv_explicit.specs.Working.Search.{IsFoundListed}
 
 from_not_true : (b : Bool) → (b ≡ true → ⊥) → b ≡ false
 from_not_true true f = absurd (f refl)
@@ -74,16 +74,16 @@ module _ (task : Strips) (sets : List Listing) (query : Query) where
         (Contains-append_left query.positive query.negative o anchor.among) (omega arith)
 
     -- so it decides whether the budget is passed
-    within_budget : (budget : ℕ) → states_of (states_in sets) o.which ≤ budget → StatesPass (states_in sets) query budget → ⊥
+    within_budget : (budget : ℕ) → states_of (states_listed sets) o.which ≤ budget → StatesPass (states_listed sets) query budget → ⊥
     within_budget budget upto passes =
-        let same = ap (states_of (states_in sets)) (only passes.0 passes.1) in let more = passes.2 in absurd (omega arith)
+        let same = ap (states_of (states_listed sets)) (only passes.0 passes.1) in let more = passes.2 in absurd (omega arith)
 
     -- what was found among the states of the anchor is the answer
     pub answer_found : (found : Finding) (budget : ℕ) (states : List (List ℕ)) (last : List Bool)
-        → states_of (states_in sets) o.which ≡ length states
+        → states_of (states_listed sets) o.which ≡ length states
         → ((state : List Bool) → in_which task (in_set sets) o.which state ≡ true → in_states (atoms task) states state ≡ true)
-        → IsFound found budget (atoms task) (is_clash task (in_set sets) query) states last
-        → IsAnswer found (StatesPass (states_in sets) query budget) (atoms task) (is_clash task (in_set sets) query) last
+        → IsFoundListed found budget (atoms task) (is_clash task (in_set sets) query) states last
+        → IsAnswer found (StatesPass (states_listed sets) query budget) (atoms task) (is_clash task (in_set sets) query) last
     answer_found F.Over budget states last count listed f = (o, anchor, omega (arith, f, count))
     answer_found F.Clash budget states last count listed f = (within_budget budget (omega (arith, f.0, count)), f.1, f.2)
     answer_found F.Empty budget states last count listed f = (
@@ -103,10 +103,10 @@ module _ (task : Strips) (sets : List Listing) (query : Query) where
 
     -- the initial state is the only state of its set
     pub answer_start : (found : Finding) (budget : ℕ) (last : List Bool) → o.which ≡ W.Start
-        → IsFound found budget (atoms task) (is_clash task (in_set sets) query) (task.start ∷ []) last
-        → IsAnswer found (StatesPass (states_in sets) query budget) (atoms task) (is_clash task (in_set sets) query) last
+        → IsFoundListed found budget (atoms task) (is_clash task (in_set sets) query) (task.start ∷ []) last
+        → IsAnswer found (StatesPass (states_listed sets) query budget) (atoms task) (is_clash task (in_set sets) query) last
     answer_start found budget last is f =
-        answer_found found budget (task.start ∷ []) last (ap (states_of (states_in sets)) is)
+        answer_found found budget (task.start ∷ []) last (ap (states_of (states_listed sets)) is)
         (λ state holds.
         let same : is_same (start_state task) state ≡ true = ap (λ w. in_which task (in_set sets) w state) (sym is) ∙ holds in
         ap (λ b. b || false) same)
@@ -115,10 +115,10 @@ module _ (task : Strips) (sets : List Listing) (query : Query) where
     -- the states of a set of the store
     pub answer_set : (found : Finding) (budget number : ℕ) (set : Listing) (last : List Bool) → AreOver sets (atoms task)
         → o.which ≡ W.Set number → slice_get sets number ≡ Some set
-        → IsFound found budget (atoms task) (is_clash task (in_set sets) query) set.states last
-        → IsAnswer found (StatesPass (states_in sets) query budget) (atoms task) (is_clash task (in_set sets) query) last
+        → IsFoundListed found budget (atoms task) (is_clash task (in_set sets) query) set.states last
+        → IsAnswer found (StatesPass (states_listed sets) query budget) (atoms task) (is_clash task (in_set sets) query) last
     answer_set found budget number set last over is named f =
-        answer_found found budget set.states last (ap (states_of (states_in sets)) is ∙ ap count_found named)
+        answer_found found budget set.states last (ap (states_of (states_listed sets)) is ∙ ap count_found named)
         (λ state holds.
         let among : in_listing set state ≡ true =
         ap (λ s. in_found s state) (sym named) ∙ (ap (λ w. in_which task (in_set sets) w state) (sym is) ∙ holds) in
@@ -128,9 +128,9 @@ module _ (task : Strips) (sets : List Listing) (query : Query) where
 
     -- the empty set has no state
     pub answer_empty : (budget : ℕ) (last : List Bool) → o.which ≡ W.Empty
-        → IsAnswer F.Empty (StatesPass (states_in sets) query budget) (atoms task) (is_clash task (in_set sets) query) last
+        → IsAnswer F.Empty (StatesPass (states_listed sets) query budget) (atoms task) (is_clash task (in_set sets) query) last
     answer_empty budget last is =
-        answer_found F.Empty budget [] last (ap (states_of (states_in sets)) is)
+        answer_found F.Empty budget [] last (ap (states_of (states_listed sets)) is)
         (λ state holds.
         let no : false ≡ true = ap (λ w. in_which task (in_set sets) w state) (sym is) ∙ holds in absurd cc)
         (omega arith, λ k d within. absurd (omega arith))

@@ -13,7 +13,7 @@ use Rattle.hv_sets.specs.Query.{action_of, asked, in_operand, in_which, is_clash
 use Rattle.hv_sets.specs.declared.operand.Operand.{Operand}
 use Rattle.hv_explicit.specs.Codes.{IsBelow}
 use Rattle.hv_explicit.specs.Listing.{in_set}
-use Rattle.hv_explicit.specs.Search.{Stands, in_either, is_fit}
+use Rattle.hv_explicit.specs.Working.Search.{HasJust, in_either, is_fit}
 use Rattle.hv_explicit.specs.declared.search.Search.{Search}
 
 -- an atom past the bound is in no list below it
@@ -24,7 +24,7 @@ pub below_list : (n : ℕ) (held : List ℕ) → AreBelow n held → IsBelow n (
 below_list n held below p past = past_all n held p below past
 
 -- a list stands for its state
-pub stands_list : (task : Strips) (held : List ℕ) → AreBelow (atoms task) held → Stands task (names_atom held) (state_of (atoms task) held)
+pub stands_list : (task : Strips) (held : List ℕ) → AreBelow (atoms task) held → HasJust task (names_atom held) (state_of (atoms task) held)
 stands_list task held below = record {
   of_task = length-state_of (atoms task) held;
   same = λ p. elim (cases_lt p (atoms task)) [
@@ -43,7 +43,7 @@ below_after n action held below over p past =
 
 -- and stands for the successor
 pub stands_after : (task : Strips) (action : Action) (held : List ℕ) → AreBelow (atoms task) held → IsOver (atoms task) action
-    → Stands task (is_after action held) (successor action (state_of (atoms task) held))
+    → HasJust task (is_after action held) (successor action (state_of (atoms task) held))
 stands_after task action held below over =
     let size = length-state_of (atoms task) held in
     let next = length-successor action (state_of (atoms task) held) in

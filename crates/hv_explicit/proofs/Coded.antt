@@ -13,7 +13,8 @@ use Rattle.hv_task.proofs.Rising.{rises_apart, same_rising}
 use Rattle.std.specs.declared.hash.DefaultHasher.{DefaultHasher}
 use Rattle.hv_task.specs.Atoms.{IsNext, Lists}
 use Rattle.hv_task.proofs.Listing.{lists_all}
-use Rattle.hv_explicit.specs.Codes.{IsBelow, IsCode, IsSame, code_of, with_atom, with_atoms}
+use Rattle.hv_explicit.specs.Codes.{IsBelow}
+use Rattle.hv_explicit.specs.Working.Codes.{IsCode, IsSame, code_of, with_atom, with_atoms}
 
 -- one atom more
 pub with_push : (hasher : DefaultHasher) (held : List ℕ) (atom : ℕ) → with_atoms hasher (held ++ atom ∷ []) ≡ with_atom (with_atoms hasher held) atom

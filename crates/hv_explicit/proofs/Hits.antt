@@ -5,12 +5,12 @@ use Rattle.std.proofs.lemmas.List.Folds.{list_all_at}
 use Rattle.std.proofs.lemmas.List.Sums.{list_all-from_AllPass}
 use Rattle.std.specs.List.{All, Contains, list_all}
 use Rattle.hv_task.specs.Strips.{Strips}
-use Rattle.hv_sets.specs.Names.{Names}
+use Rattle.hv_sets.specs.Names.{AsksAbout}
 use Rattle.hv_sets.specs.Query.{IsNamed, IsReady, in_which}
 use Rattle.hv_sets.specs.declared.operand.Operand.{Operand}
 use Rattle.hv_sets.specs.declared.query.Query.{Query}
 use Rattle.hv_sets.specs.declared.operand.Which.{Which}
-use Rattle.hv_explicit.specs.Search.{IsHit, in_either}
+use Rattle.hv_explicit.specs.Working.Search.{IsHit, in_either}
 use Rattle.hv_explicit.proofs.Anchored.{All-second}
 
 -- the negative operands name constants and sets of the store
@@ -20,7 +20,7 @@ negative_named count query operands ready is =
     subst (All (λ (o : Operand). IsNamed count o.which)) (sym is)
     (All-second (λ (o : Operand). IsNamed count o.which) query.positive query.negative ready.named)
 
-pub named_there : (count : ℕ) (query : Query) (which : Which) (after : Bool) → IsReady count query → Names query.negative which after
+pub named_there : (count : ℕ) (query : Query) (which : Which) (after : Bool) → IsReady count query → AsksAbout query.negative which after
     → IsNamed count which
 named_there count query which after ready names =
     subst (IsNamed count) names.2

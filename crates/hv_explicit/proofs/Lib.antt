@@ -7,3 +7,4 @@ pub mod Owned
 pub mod Hits
 pub mod Clashes
 pub mod Wider
+pub mod Holding

@@ -1,7 +1,7 @@
 -- Chains of places, and one place more.
 use Rattle.std.proofs.Common.{◌≡◌, ℕ, ◌-◌, ◌<◌, ◌≤◌, ◌∙◌, List, [], ◌∷◌, ◌++◌, length, get_or, sym, ap, subst, arith}
 use Rattle.std.proofs.lemmas.List.{get_or_append_left}
-use Rattle.hv_explicit.specs.Places.{IsEnd, IsLinked, slot_at, slot_of}
+use Rattle.hv_explicit.specs.Working.Places.{IsEnd, IsLinked, slot_at, slot_of}
 
 -- codes that agree up to the bound give the same ends
 end_agree : (f g : ℕ → ℕ) (x n end : ℕ) → ((k : ℕ) → k < n → f k ≡ g k) → IsEnd f x n end → IsEnd g x n end

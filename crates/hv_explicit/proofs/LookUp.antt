@@ -12,9 +12,11 @@ use Rattle.hv_task.proofs.Places.{beq-Decides, has_atom-state_of, length-state_o
 use Rattle.hv_task.proofs.Next.{unnamed}
 use Rattle.hv_task.proofs.Rising.{same_rising}
 use Rattle.hv_sets.specs.Truth.{in_states, is_same}
-use Rattle.hv_explicit.specs.Codes.{IsBelow, IsCode, IsListed, IsSame, IsSetOf, code_of}
-use Rattle.hv_explicit.specs.Listing.{AreFirsts, AreRising, AreStates, IsFirst, IsIndex, first_at}
-use Rattle.hv_explicit.specs.Places.{IsEnd, code_at}
+use Rattle.hv_explicit.specs.Codes.{IsBelow, IsSetOf}
+use Rattle.hv_explicit.specs.Working.Codes.{IsCode, HasListed, IsSame, code_of}
+use Rattle.hv_explicit.specs.Listing.{AreRising, AreStates}
+use Rattle.hv_explicit.specs.Working.Listing.{AreFirsts, IsEnteredState, IsIndex, first_at}
+use Rattle.hv_explicit.specs.Working.Places.{IsEnd, code_at}
 use Rattle.hv_explicit.proofs.Coded.{code_same, from_same, into_same}
 
 pub here : (states : List (List ℕ)) (k : ℕ) (held : List ℕ) → slice_get states k ≡ Some held → get_or states k [] ≡ held
@@ -65,7 +67,7 @@ none_index states = record { many = refl; code = λ e less. absurd (omega arith)
 
 module _ (states : List (List ℕ)) (firsts : List ℕ) (place : ℕ) (held : List ℕ) (at : slice_get states place ≡ Some held) where
   -- the state is entered already
-  pub firsts_there : AreRising states → AreFirsts states firsts place → IsFirst (names_atom held) states firsts → AreFirsts states firsts (place + 1)
+  pub firsts_there : AreRising states → AreFirsts states firsts place → IsEnteredState (names_atom held) states firsts → AreFirsts states firsts (place + 1)
   firsts_there rise so_far found = record {
     within = λ e less. let below = so_far.within e less in omega arith;
     each = λ k less. elim (cases_lt k place) [
@@ -131,7 +133,7 @@ all_from_firsts P states firsts are each k d within =
 
 -- a state that some entry stands for is listed, and each listed state has an entry
 pub listed_first : (set : ℕ → Bool) (states : List (List ℕ)) (firsts : List ℕ) → AreFirsts states firsts (length states)
-    → IsFirst set states firsts ↔ IsListed set states
+    → IsEnteredState set states firsts ↔ HasListed set states
 listed_first set states firsts are = (
   λ f. (get_or firsts f.0 0, are.within f.0 f.1, f.2),
   λ l. let e = are.each l.0 l.1 in (e.0, e.1, subst (IsSame set) (sym e.2) l.2),
@@ -151,7 +153,7 @@ module _ (n : ℕ) (set : ℕ → Bool) (state : List Bool) (size : length state
       ]
 
   -- the set is listed exactly where its state is
-  pub listed_decides : (states : List (List ℕ)) → AreStates n states → (in_states n states state ≡ true) ↔ IsListed set states
+  pub listed_decides : (states : List (List ℕ)) → AreStates n states → (in_states n states state ≡ true) ↔ HasListed set states
   listed_decides states are =
       let decides = Decides-by_or (λ held. is_same (state_of n held) state) (λ held. state_of n held ≡ state) (λ hs. in_states n hs state)
       (λ held. beq-Decides (state_of n held) state) refl (λ _ _. refl) states in (

@@ -3,14 +3,16 @@ use Rattle.std.proofs.Common.{◌≡◌, ◌∙◌, ◌⊎◌, ◌↔◌, ◌<�
 use Rattle.std.proofs.lemmas.List.Elements.{All-contains, All-push}
 use Rattle.std.proofs.lemmas.Option.{get_or_from_slice_get, slice_get_within}
 use Rattle.std.specs.List.{All, slice_get}
-use Rattle.hv_sets.specs.Names.{Names}
+use Rattle.hv_sets.specs.Names.{AsksAbout}
 use Rattle.hv_sets.specs.Truth.{in_states}
 use Rattle.hv_sets.specs.declared.operand.Operand.{Operand}
 use Rattle.hv_sets.specs.declared.operand.Which.TheVariants as W
-use Rattle.hv_explicit.specs.Codes.{IsBelow, IsCode, IsListed, IsSame, IsSetOf}
-use Rattle.hv_explicit.specs.Listing.{AreFirsts, AreOver, AreRising, AreStates, Listing, first_at, in_found, in_listing, in_set}
-use Rattle.hv_explicit.specs.Owners.{AreEntered, AreListed, IsEntered, IsOwned, IsOwner, IsStore, Keeps, entry_at}
-use Rattle.hv_explicit.specs.Places.{code_at}
+use Rattle.hv_explicit.specs.Codes.{IsBelow, IsSetOf}
+use Rattle.hv_explicit.specs.Working.Codes.{IsCode, HasListed, IsSame}
+use Rattle.hv_explicit.specs.Listing.{AreOver, AreRising, AreStates, Listing, in_found, in_listing, in_set}
+use Rattle.hv_explicit.specs.Working.Listing.{AreFirsts, first_at}
+use Rattle.hv_explicit.specs.Working.Owners.{AreEntered, AreListings, IsEntered, IsOwned, IsOwner, IsStore, KeepsEntries, entry_at}
+use Rattle.hv_explicit.specs.Working.Places.{code_at}
 use Rattle.hv_explicit.specs.declared.owners.Entry.{Entry}
 use Rattle.hv_explicit.proofs.Coded.{code_same}
 use Rattle.hv_explicit.proofs.LookUp.{all_from_firsts, listed_decides}
@@ -25,20 +27,20 @@ set_of sets number state has = by (slice_get sets number) refl
     by None e = let no : false ≡ true = sym (ap (λ s. in_found s state) e) ∙ has in absurd cc
     by (Some set) e = (set, e, sym (ap (λ s. in_found s state) e) ∙ has)
 
-listed_at : (sets : List Listing) (number : ℕ) (set : Listing) → AreListed sets → slice_get sets number ≡ Some set
+listed_at : (sets : List Listing) (number : ℕ) (set : Listing) → AreListings sets → slice_get sets number ≡ Some set
     → AreStates set.atoms set.states × AreRising set.states
 listed_at sets number set listed at =
     All-contains (λ (s : Listing). AreStates s.atoms s.states × AreRising s.states) sets set listed
     (number, slice_get_within sets number set at, get_or_from_slice_get sets number set set at)
 
-module _ (n : ℕ) (sets : List Listing) (operands : List Operand) (after : Bool) (over : AreOver sets n) (listed : AreListed sets)
+module _ (n : ℕ) (sets : List Listing) (operands : List Operand) (after : Bool) (over : AreOver sets n) (listed : AreListings sets)
     (held : ℕ → Bool) (state : List Bool) (size : length state ≡ n) (below : IsBelow n held) (agree : IsSetOf held state) where
   -- whether a set lists the state
-  in_set_is : (number : ℕ) (set : Listing) → slice_get sets number ≡ Some set → (in_listing set state ≡ true) ↔ IsListed held set.states
+  in_set_is : (number : ℕ) (set : Listing) → slice_get sets number ≡ Some set → (in_listing set state ≡ true) ↔ HasListed held set.states
   in_set_is number set at =
       let same : set.atoms ≡ n = over_at sets n number set over at in
       let are : AreStates n set.states = subst (λ m. AreStates m set.states) same (listed_at sets number set listed at).0 in
-      subst (λ m. (in_states m set.states state ≡ true) ↔ IsListed held set.states) (sym same)
+      subst (λ m. (in_states m set.states state ≡ true) ↔ HasListed held set.states) (sym same)
       (listed_decides n held state size below agree set.states are)
 
   -- an entry that was met shows a set
@@ -62,7 +64,7 @@ module _ (n : ℕ) (sets : List Listing) (operands : List Operand) (after : Bool
         (
           set,
           ap (λ k. slice_get sets k) there.2 ∙ found.1,
-          subst (λ k. Names operands (W.Set k) after) (sym there.2) owned.1,
+          subst (λ k. AsksAbout operands (W.Set k) after) (sym there.2) owned.1,
           there.3,
           subst (IsSame held) (sym there.4) at.2,
         ),
@@ -82,7 +84,7 @@ in_pushed (first ∷ sets) last (suc number) set e =
 
 -- the same sets, with more entries
 pub store_kept : (sets : List Listing) (codes codes' : List ℕ) (entries entries' : List Entry) → IsStore sets codes entries
-    → Keeps codes entries codes' entries' → length codes' ≤ length entries' → IsStore sets codes' entries'
+    → KeepsEntries codes entries codes' entries' → length codes' ≤ length entries' → IsStore sets codes' entries'
 store_kept sets codes codes' entries entries' store keeps size = record {
   listed = store.listed;
   entered = λ number set at k d within. keeps number set.states (get_or set.states k d) (store.entered number set at k d within);
@@ -91,7 +93,7 @@ store_kept sets codes codes' entries entries' store keeps size = record {
 
 -- one set more
 pub store_more : (sets : List Listing) (last : Listing) (codes codes' : List ℕ) (entries entries' : List Entry) → IsStore sets codes entries
-    → Keeps codes entries codes' entries' → length codes' ≤ length entries' → AreStates last.atoms last.states × AreRising last.states
+    → KeepsEntries codes entries codes' entries' → length codes' ≤ length entries' → AreStates last.atoms last.states × AreRising last.states
     → All (λ held. IsEntered codes' entries' (length sets) last.states held) last.states → IsStore (sets ++ last ∷ []) codes' entries'
 store_more sets last codes codes' entries entries' store keeps size listed new = record {
   listed = All-push (λ (s : Listing). AreStates s.atoms s.states × AreRising s.states) sets last store.listed listed;

@@ -1,12 +1,10 @@
 -- Explicit sets, whose states are listed one by one.
-use Rattle.std.specs.Prelude.{◌≡◌, ◌<◌, ◌++◌, ℕ, zero, suc, Bool, false, List, [], ◌∷◌, Option, None, Some, length, map, slice_get, slice_index, slice_index_or}
+use Rattle.std.specs.Prelude.{◌≡◌, ◌++◌, ℕ, zero, suc, Bool, false, List, [], ◌∷◌, Option, None, Some, length, map, slice_get}
 use Rattle.std.specs.List.{All}
 use Rattle.std.specs.List.Sorted.{IsStrictlyIncreasing}
 use Rattle.hv_task.specs.State.{AreBelow, names_atom}
 use Rattle.hv_sets.specs.Truth.{in_states}
 use Rattle.hv_sets.specs.declared.literal.Literal.{Literal}
-use Rattle.hv_explicit.specs.Codes.{IsSame, code_of}
-use Rattle.hv_explicit.specs.Places.{code_at}
 
 -- what an explicit set is: how many atoms the task has, and the listed states, each by the atoms
 -- that it holds
@@ -36,34 +34,6 @@ AreStates atoms states = All (λ held. AreBelow atoms held) states
 abbrev pub AreRising : List (List ℕ) → Type 0
 AreRising states = All IsStrictlyIncreasing states
 
--- the state at the place that stands at this entry
-abbrev pub first_at : List (List ℕ) → List ℕ → ℕ → List ℕ
-first_at states firsts e = slice_index_or states (slice_index firsts e) []
-
--- the entries are places of the first so many states of a list, and each of these states stands at
--- one of them
-pub record AreFirsts (states : List (List ℕ)) (firsts : List ℕ) (count : ℕ) : Type 0 where
-  pub within : (e : ℕ) → e < length firsts → slice_index firsts e < count
-  pub each : (k : ℕ) → k < count
-      → (e : ℕ) × (e < length firsts) × (first_at states firsts e ≡ slice_index_or states k [])
-
--- the index has the code of the state at each entry
-pub record IsIndex (codes firsts : List ℕ) (states : List (List ℕ)) : Type 0 where
-  pub many : length codes ≡ length firsts
-  pub code : (e : ℕ) → e < length firsts → code_at codes e ≡ code_of (first_at states firsts e)
-
--- the state at some entry has just these atoms
-abbrev pub IsFirst : (ℕ → Bool) → List (List ℕ) → List ℕ → Type 0
-IsFirst held states firsts =
-    (e : ℕ) × (e < length firsts) × IsSame held (first_at states firsts e)
-
--- what an explicit set keeps
-pub record IsKept (atoms : ℕ) (states : List (List ℕ)) (codes places : List ℕ) : Type 0 where
-  pub below : AreStates atoms states
-  pub rise : AreRising states
-  pub firsts : AreFirsts states places (length states)
-  pub index : IsIndex codes places states
-
 -- A store is a list of explicit sets, by number.
 
 -- the state is in the set, if there is one
@@ -81,8 +51,8 @@ count_found None = 0
 count_found (Some set) = length set.states
 
 -- how many states the set of this number lists
-abbrev pub states_in : List Listing → ℕ → ℕ
-states_in sets number = count_found (slice_get sets number)
+abbrev pub states_listed : List Listing → ℕ → ℕ
+states_listed sets number = count_found (slice_get sets number)
 
 -- the sets are sets of states of a task with so many atoms
 abbrev pub AreOver : List Listing → ℕ → Type 0

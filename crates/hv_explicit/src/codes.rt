@@ -4,7 +4,8 @@ ghost use Rattle.std.specs.Prelude.{◌≡◌, ◌<◌, ◌≤◌, ◌-◌, ◌^
 ghost use Rattle.std.specs.List.Sorted.{IsStrictlyIncreasing};
 ghost use Rattle.std.specs.Hash.DefaultHasher as sip;
 ghost use Rattle.hv_task.specs.State.{AreBelow};
-ghost use Rattle.hv_explicit.specs.Codes.{IsBelow, IsCode, IsSame, code_of, with_atom};
+ghost use Rattle.hv_explicit.specs.Codes.{IsBelow};
+ghost use Rattle.hv_explicit.specs.Working.Codes.{IsCode, IsSame, code_of, with_atom};
 
 use hv_task::{Atoms, Hint};
 use std::hash::{DefaultHasher, Hasher};
@@ -52,7 +53,7 @@ pub(crate) fn is_same<A: Atoms>(list: &[u32], held: &A) -> bool
     held.next(from, &mut hint).is_none()
 }
 
-#[tactic(auto, unfolding(crate::specs::Codes::with_atom))]
+#[tactic(auto, unfolding(crate::specs::Working::Codes::with_atom))]
 fn put_in(hasher: &mut DefaultHasher, atom: u32)
     ensures { hasher.new ≡ with_atom hasher.old atom }
 {

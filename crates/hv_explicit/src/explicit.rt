@@ -1,4 +1,6 @@
-ghost use Rattle.std.specs.Prelude.{◌≡◌, ◌<◌, ◌≤◌, ◌+◌, ◌-◌, ◌^◌, ℕ, Bool, true, List, [], length, min, map, drop, slice_index, slice_index_or, IsTrue, IfOk, OnOk, ⊤, ◌↔◌};
+//! Sets of listed states.
+
+ghost use Rattle.std.specs.Prelude.{◌≡◌, ◌<◌, ◌≤◌, ◌+◌, ◌-◌, ◌^◌, ℕ, Bool, true, List, [], length, min, map, drop, slice_index, slice_index_or, IsTrue, IfOk, IfSome, OnOk, ⊤, ◌↔◌};
 ghost use Rattle.std.specs.List.{Contains};
 ghost use Rattle.std.specs.List.Sorted.{IsStrictlyIncreasing};
 ghost use Rattle.hv_task.specs.State.{AreBelow};
@@ -6,16 +8,23 @@ ghost use Rattle.hv_task.specs.Strips.{atoms};
 ghost use Rattle.hv_sets.specs.Cubes.{SpeakBelow};
 ghost use Rattle.hv_sets.specs.Walks.{IsStateOf, Meets};
 ghost use Rattle.hv_sets.specs.Truth.{in_states};
-ghost use Rattle.hv_explicit.specs.Codes.{IsBelow, IsCode, IsListed, IsSame, IsSetOf};
-ghost use Rattle.hv_explicit.specs.Listing.{AreFirsts, AreRising, AreStates, IsFirst, IsIndex, full_cube, full_cubes, in_listing};
-ghost use Rattle.hv_explicit.specs.Laws as laws;
+ghost use Rattle.hv_explicit.specs.Codes.{IsBelow, IsSetOf};
+ghost use Rattle.hv_explicit.specs.Working.Codes.{IsCode, HasListed, IsSame};
+ghost use Rattle.hv_explicit.specs.Listing.{AreRising, AreStates, full_cube, full_cubes, in_listing};
+ghost use Rattle.hv_explicit.specs.Working.Listing.{AreFirsts, IsEnteredState, IsIndex};
+ghost use Rattle.hv_explicit.specs.Working.Holders.{AreHolders, IsHolderIndex};
+ghost use Rattle.hv_explicit.specs.Working.Laws as laws;
 
 use crate::codes::{code_of, is_same, list_code};
+use crate::holders::{Holders, holders_of, holding, rarest};
 use crate::places::Places;
 use hv_sets::{Cube, Cursor, Inside, Literal, Scratch, StateList, StateSet, Step};
 use hv_task::{AtomList, Atoms, State, Task};
 use std::alloc::{AllocError, Global};
 use std::marker::Model;
+
+// So many states are gone through without a choice.
+const FEW: usize = 64;
 
 /// A set of states of a task that are listed one by one. Each is kept once, as its atoms.
 #[derive(Drop)]
@@ -25,26 +34,29 @@ pub struct Explicit {
     // The places of the states that no earlier one is, and the codes of these, to look one up.
     firsts: Vec<u32>,
     index: Places,
+    // The same places by the atoms that are held, if they are many.
+    holders: Option<Holders>,
 }
 
 impl Model for Explicit {
-    ghost use Rattle.hv_explicit.specs.Listing.{IsKept, Listing};
+    ghost use Rattle.hv_explicit.specs.Working.Holders.{IsKeptListing};
+    ghost use Rattle.hv_explicit.specs.Listing.{Listing};
 
     ghost Value = { Listing };
 
     ghost view = { λ s. record { atoms = s.atoms; states = s.states } };
 
-    ghost invariant = { λ s. IsKept s.atoms s.states s.index s.firsts.items };
+    ghost invariant = { λ s. IsKeptListing s.atoms s.states s.index s.firsts.items s.holders };
 }
 
 impl Explicit {
-    /// The set of these states of the task, which are copied.
+    /// The set of these states of the task, which are shared where the list is, and else copied.
     pub fn new(alloc: Global, task: &Task, states: &StateList) -> Result<Explicit, AllocError>
         requires { AreStates (atoms task.now) states.now }
         ensures { IfOk result (λ set.
             set ≡ record { atoms = atoms task.now; states = states.now }) }
     {
-        Explicit::from_list(alloc, task, copy_of(alloc, states)?)
+        Explicit::from_list(alloc, task, states.copy(alloc)?)
     }
 
     /// The set of these states of the task. There is no room for more than 4,294,967,295.
@@ -56,11 +68,13 @@ impl Explicit {
         let mut firsts = Vec::new(alloc);
         let mut index = Places::new(alloc);
         enter_all(atoms, &states, &mut firsts, &mut index)?;
+        let holders = holders_if_many(alloc, states.as_slice(), &firsts)?;
         Ok(Explicit {
             atoms,
             states,
             firsts,
             index,
+            holders,
         })
     }
 
@@ -78,6 +92,21 @@ impl Explicit {
         ensures { AreFirsts self.now.states result.now (length self.now.states) }
     {
         self.firsts.as_slice()
+    }
+
+    /// Of these atoms one that the fewest states hold: the places of all states that hold it. There
+    /// is none where no atom is given, and where a walk through all states is as short.
+    pub(crate) fn held_by(&self, atoms: &[u32]) -> Option<&[u32]>
+        ensures { IfSome result (λ places. (atom : ℕ) × Contains atoms.now atom
+            × AreHolders self.now.states atom places.now) }
+    {
+        match &self.holders {
+            None => None,
+            Some(holders) => match rarest(holders, atoms) {
+                None => None,
+                Some(atom) => Some(holding(holders, atom)),
+            },
+        }
     }
 
     /// Whether the state of these atoms is listed: of a state, of a list, or of the result of an
@@ -179,16 +208,6 @@ fn fill(cube: &mut Cube, atoms: u32, held: &AtomList) -> Result<(), AllocError>
     Ok(())
 }
 
-fn copy_of(alloc: Global, states: &StateList) -> Result<StateList, AllocError>
-    ensures { IfOk result (λ copy. copy ≡ states.now) }
-{
-    let mut copy = StateList::new(alloc);
-    for held in states.as_slice() {
-        copy.push(held.copy(alloc)?)?;
-    }
-    Ok(copy)
-}
-
 // Lists rise: that is known of a list once it was used.
 fn use_all(states: &[AtomList])
     ensures { AreRising states.now }
@@ -220,6 +239,24 @@ fn enter_all(
         enter(atoms, states, firsts, index, place)?;
     }
     Ok(())
+}
+
+// The holders among the states at these places, if they are many.
+fn holders_if_many(
+    alloc: Global,
+    states: &[AtomList],
+    firsts: &[u32],
+) -> Result<Option<Holders>, AllocError>
+    requires { (e : ℕ) → e < length firsts.now
+        → slice_index firsts.now e < length states.now }
+    ensures { IfOk result (λ found. IfSome found (λ h.
+        IsHolderIndex states.now firsts.now h.codes.items h.places.items)) }
+{
+    if firsts.len() <= FEW || states.len() > u32::MAX as usize {
+        return Ok(None);
+    }
+    let holders = holders_of(alloc, states, firsts)?;
+    Ok(Some(holders))
 }
 
 // Enters the state at a place, unless an earlier one is this state.
@@ -264,7 +301,7 @@ fn look_up<A: Atoms>(
     requires firsts { (e : ℕ) → e < length firsts.now
         → slice_index firsts.now e < length states.now }
     requires index { IsIndex index.now firsts.now states.now }
-    ensures { IsTrue result ↔ IsFirst (A.has held.now) states.now firsts.now }
+    ensures { IsTrue result ↔ IsEnteredState (A.has held.now) states.now firsts.now }
 {
     let mut end = index.last(code);
     while end > 0 {

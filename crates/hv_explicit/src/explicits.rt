@@ -1,10 +1,12 @@
+//! Stores of explicit sets.
+
 ghost use Rattle.std.specs.Prelude.{◌≡◌, ◌<◌, ◌++◌, ◌∷◌, ◌↔◌, ℕ, Bool, List, [], length, slice_get, ⊤, Some, IsTrue, IfOk, IfSome, OnErr};
 ghost use Rattle.hv_task.specs.Strips.{atoms};
 ghost use Rattle.hv_sets.specs.Cost.{StatesPass};
 ghost use Rattle.hv_sets.specs.Query.{HasAnchor, IsReady};
 ghost use Rattle.hv_explicit.specs.Codes.{IsBelow, IsSetOf};
-ghost use Rattle.hv_explicit.specs.Listing.{AreOver, in_set, states_in};
-ghost use Rattle.hv_explicit.specs.Owners.{IsOwned};
+ghost use Rattle.hv_explicit.specs.Listing.{AreOver, in_set, states_listed};
+ghost use Rattle.hv_explicit.specs.Working.Owners.{IsOwned};
 
 use crate::explicit::Explicit;
 use crate::owners::{Owners, enter_set, find_owner};
@@ -24,7 +26,7 @@ pub struct Explicits {
 impl Model for Explicits {
     ghost use Rattle.std.specs.Prelude.{List};
     ghost use Rattle.hv_explicit.specs.Listing.{Listing};
-    ghost use Rattle.hv_explicit.specs.Owners.{IsStore};
+    ghost use Rattle.hv_explicit.specs.Working.Owners.{IsStore};
 
     ghost Value = { List Listing };
 
@@ -115,7 +117,7 @@ impl Family for Explicits {
 
     ghost wants_anchor = { λ _. ⊤ };
 
-    ghost passes = { λ sets _ query budget. StatesPass (states_in sets) query budget };
+    ghost passes = { λ sets _ query budget. StatesPass (states_listed sets) query budget };
 
     fn find(
         &self,

@@ -4,7 +4,9 @@
 mod codes;
 pub mod explicit;
 pub mod explicits;
+mod holders;
 mod owners;
+mod paths;
 mod places;
 mod search;
 

@@ -3,9 +3,11 @@
 ghost use Rattle.std.specs.Prelude.{◌≡◌, ◌<◌, ◌≤◌, ◌+◌, ◌^◌, ◌↔◌, ℕ, Bool, List, [], length, slice_index_or, IsTrue, IfOk, IfSome, OnOk, OnErr};
 ghost use Rattle.std.specs.List.{All};
 ghost use Rattle.hv_sets.specs.declared.operand.Operand.{Operand};
-ghost use Rattle.hv_explicit.specs.Codes.{IsBelow, IsSetOf, code_of};
-ghost use Rattle.hv_explicit.specs.Listing.{AreFirsts, AreOver, Listing};
-ghost use Rattle.hv_explicit.specs.Owners.{AreEntered, IsEntered, IsOwned, IsOwner, IsStore, Keeps};
+ghost use Rattle.hv_explicit.specs.Codes.{IsBelow, IsSetOf};
+ghost use Rattle.hv_explicit.specs.Working.Codes.{code_of};
+ghost use Rattle.hv_explicit.specs.Listing.{AreOver, Listing};
+ghost use Rattle.hv_explicit.specs.Working.Listing.{AreFirsts};
+ghost use Rattle.hv_explicit.specs.Working.Owners.{AreEntered, IsEntered, IsOwned, IsOwner, IsStore, KeepsEntries};
 
 use crate::codes::{code_of, list_code};
 use crate::explicit::Explicit;
@@ -51,7 +53,7 @@ pub(crate) fn enter_set(
     number: u32,
 ) -> Result<(), AllocError>
     requires { length codes.old ≤ length entries.old.items }
-    ensures keeps { Keeps codes.old entries.old.items codes.new entries.new.items }
+    ensures keeps { KeepsEntries codes.old entries.old.items codes.new entries.new.items }
     ensures size { length codes.new ≤ length entries.new.items }
     ensures ok { OnOk result (All (λ held.
         IsEntered codes.new entries.new.items number set.now.states held) set.now.states) }
@@ -75,7 +77,7 @@ fn enter_one(
     entry: Entry,
 ) -> Result<(), AllocError>
     requires { length codes.old ≤ length entries.old.items }
-    ensures keeps { Keeps codes.old entries.old.items codes.new entries.new.items }
+    ensures keeps { KeepsEntries codes.old entries.old.items codes.new entries.new.items }
     ensures size { length codes.new ≤ length entries.new.items }
     ensures ok { OnOk result ((states : List (List ℕ)) → entry.place < length states
         → code ≡ code_of (slice_index_or states entry.place [])

@@ -1,7 +1,7 @@
 //! Places in a list of codes, found by the code.
 
 ghost use Rattle.std.specs.Prelude.{◌≡◌, ◌<◌, ◌≤◌, ◌-◌, ◌+◌, ◌^◌, ◌++◌, ◌∷◌, ℕ, [], length, slice_index, IfOk, OnOk, OnErr};
-ghost use Rattle.hv_explicit.specs.Places.{IsChain, IsEnd, IsLinked, IsTable, code_at, slot_at, slot_of};
+ghost use Rattle.hv_explicit.specs.Working.Places.{IsChain, IsEnd, IsLinked, IsPlaceTable, code_at, slot_at, slot_of};
 
 use std::alloc::{AllocError, Global};
 use std::marker::Model;
@@ -35,13 +35,13 @@ struct Turn {
 
 impl Model for Places {
     ghost use Rattle.std.specs.Prelude.{ℕ, List};
-    ghost use Rattle.hv_explicit.specs.Places.{IsTable};
+    ghost use Rattle.hv_explicit.specs.Working.Places.{IsPlaceTable};
 
     ghost Value = { List ℕ };
 
     ghost view = { λ p. p.codes.items };
 
-    ghost invariant = { λ p. IsTable p.codes.items p.before.items p.heads.items p.turn.factor };
+    ghost invariant = { λ p. IsPlaceTable p.codes.items p.before.items p.heads.items p.turn.factor };
 }
 
 impl Places {
@@ -141,7 +141,7 @@ impl Places {
     }
 }
 
-#[tactic(auto, unfolding(crate::specs::Places::slot_of))]
+#[tactic(auto, unfolding(crate::specs::Working::Places::slot_of))]
 fn slot_of(factor: u64, slots: usize, code: u64) -> usize
     requires { 0 < slots }
     ensures slot { result ≡ slot_of factor slots code }
@@ -175,11 +175,11 @@ fn widen(
     before: &mut Vec<u32>,
     heads: &mut Vec<u32>,
 ) -> Result<Turn, AllocError>
-    requires table { IsTable codes.now before.old.items heads.old.items turn.factor }
+    requires table { IsPlaceTable codes.now before.old.items heads.old.items turn.factor }
     ensures table { IfOk result (λ new.
-        IsTable codes.now before.new.items heads.new.items new.factor) }
+        IsPlaceTable codes.now before.new.items heads.new.items new.factor) }
     ensures room { IfOk result (λ _. 0 < length heads.new.items) }
-    ensures err { OnErr result (IsTable codes.now before.new.items heads.new.items turn.factor) }
+    ensures err { OnErr result (IsPlaceTable codes.now before.new.items heads.new.items turn.factor) }
 {
     if codes.len() < heads.len() {
         return Ok(turn);
@@ -201,8 +201,8 @@ fn lengthen(
     before: &mut Vec<u32>,
     heads: &Vec<u32>,
 ) -> Result<(), AllocError>
-    requires table { IsTable codes.now before.old.items heads.now.items factor }
-    ensures table { IsTable codes.now before.new.items heads.now.items factor }
+    requires table { IsPlaceTable codes.now before.old.items heads.now.items factor }
+    ensures table { IsPlaceTable codes.now before.new.items heads.now.items factor }
     ensures room { OnOk result (length codes.now < length before.new.items) }
 {
     let _ = factor;

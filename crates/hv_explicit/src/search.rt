@@ -8,10 +8,14 @@ ghost use Rattle.hv_sets.specs.Cost.{IsAnswer, StatesPass};
 ghost use Rattle.hv_sets.specs.Query.{CanAnchor, IsAnchor, IsNamed, Rises, in_which, is_clash};
 ghost use Rattle.hv_sets.specs.declared.operand.Operand.{Operand};
 ghost use Rattle.hv_sets.specs.declared.operand.Which.TheVariants as W;
-ghost use Rattle.hv_explicit.specs.Codes.{IsBelow, IsSame};
-ghost use Rattle.hv_explicit.specs.Listing.{AreFirsts, AreRising, AreStates, in_set, states_in};
+ghost use Rattle.hv_explicit.specs.Codes.{IsBelow};
+ghost use Rattle.hv_explicit.specs.Working.Codes.{IsSame};
+ghost use Rattle.hv_explicit.specs.Working.Holders.{AreAllBut};
+ghost use Rattle.hv_explicit.specs.Listing.{AreRising, AreStates, in_set, states_listed};
+ghost use Rattle.hv_explicit.specs.Working.Listing.{AreFirsts};
 
 use crate::codes::is_same;
+use crate::explicit::Explicit;
 use crate::explicits::Explicits;
 use hv_sets::{Finding, Operand, Query, Which};
 use hv_task::{After, AtomList, Atoms, Hint, State, Task};
@@ -29,14 +33,14 @@ pub(crate) struct Search<'a> {
 }
 
 impl Search<'_> {
-    ghost use Rattle.hv_explicit.specs.Search.{IsFound, IsHit, IsHitBy, IsSearch, Stands, in_either, is_fit, is_in_none};
+    ghost use Rattle.hv_explicit.specs.Working.Search.{clashes_at, IsFoundListed, IsHit, IsHitBy, IsListedSearch, HasJust, in_either, is_fit, is_in_none};
 
     /// The exact answer to the query. The state is overwritten.
     pub(crate) fn answer(&self, budget: u64, state: &mut State) -> Finding
-        requires search { IsSearch self.now }
+        requires search { IsListedSearch self.now }
         requires state { IsState self.now.task.now state.old }
         ensures { IsAnswer result
-            (StatesPass (states_in self.now.sets.now) self.now.query.now budget)
+            (StatesPass (states_listed self.now.sets.now) self.now.query.now budget)
             (atoms self.now.task.now)
             (is_clash self.now.task.now (in_set self.now.sets.now) self.now.query.now) state.new }
     {
@@ -48,12 +52,12 @@ impl Search<'_> {
 
     // The answer, where the anchor names this set.
     fn answer_at(&self, anchor: Which, budget: u64, state: &mut State) -> Finding
-        requires search { IsSearch self.now }
+        requires search { IsListedSearch self.now }
         requires anchor { (o : Operand) × IsAnchor self.now.query.now.positive o
             × (o.which ≡ anchor) }
         requires state { IsState self.now.task.now state.old }
         ensures { IsAnswer result
-            (StatesPass (states_in self.now.sets.now) self.now.query.now budget)
+            (StatesPass (states_listed self.now.sets.now) self.now.query.now budget)
             (atoms self.now.task.now)
             (is_clash self.now.task.now (in_set self.now.sets.now) self.now.query.now) state.new }
     {
@@ -63,32 +67,49 @@ impl Search<'_> {
             }
             Which::Set(number) => {
                 let set = self.sets.get(number);
-                self.find_among(set.states(), set.firsts(), budget, state)
+                self.find_among(set.states(), self.places_in(set), budget, state)
             }
             _ => Finding::Empty,
         }
     }
 
-    // Looks for a counterexample among these states, of which the ones at these places are all.
+    // The places of states of the set, such that no other state of it is a counterexample: those
+    // that hold an atom of the action's precondition, or all.
+    fn places_in<'b>(&self, set: &'b Explicit) -> &'b [u32]
+        requires { IsListedSearch self.now }
+        ensures { AreAllBut (clashes_at self.now) set.now.states result.now }
+    {
+        let Some(number) = self.query.action else {
+            return set.firsts();
+        };
+        let action = self.task.action(number);
+        match set.held_by(action.pre.as_slice()) {
+            Some(places) => places,
+            None => set.firsts(),
+        }
+    }
+
+    // Looks for a counterexample among these states, of which none is one but those at these
+    // places.
     fn find_among(
         &self,
         states: &[AtomList],
-        firsts: &[u32],
+        places: &[u32],
         budget: u64,
         state: &mut State,
     ) -> Finding
-        requires search { IsSearch self.now }
+        requires search { IsListedSearch self.now }
         requires states { AreStates (atoms self.now.task.now) states.now }
-        requires firsts { AreFirsts states.now firsts.now (length states.now) }
+        requires places { AreAllBut (clashes_at self.now) states.now places.now }
         requires state { IsState self.now.task.now state.old }
-        ensures { IsFound result budget (atoms self.now.task.now)
+        ensures { IsFoundListed result budget (atoms self.now.task.now)
             (is_clash self.now.task.now (in_set self.now.sets.now) self.now.query.now)
             states.now state.new }
     {
         if states.len() as u64 > budget {
             return Finding::Over;
         }
-        for place in firsts {
+        for place in places {
             let held = &states[*place as usize];
             if self.clashes(held) {
                 state.hold(held);
@@ -100,7 +121,7 @@ impl Search<'_> {
 
     // Whether the state of these atoms is a counterexample.
     fn clashes(&self, held: &AtomList) -> bool
-        requires search { IsSearch self.now }
+        requires search { IsListedSearch self.now }
         requires held { AreBelow (atoms self.now.task.now) held.now }
         ensures { result ≡ is_clash self.now.task.now (in_set self.now.sets.now) self.now.query.now
             (state_of (atoms self.now.task.now) held.now) }
@@ -117,22 +138,22 @@ impl Search<'_> {
     // Whether the states before and after the action are in each positive operand and in no
     // negative one.
     fn fits<B: Atoms, A: Atoms>(&self, before: &B, after: &A) -> bool
-        requires search { IsSearch self.now }
+        requires search { IsListedSearch self.now }
         requires before { IsBelow (atoms self.now.task.now) (B.has before.now) }
         requires after { IsBelow (atoms self.now.task.now) (A.has after.now) }
-        ensures { (b a : List Bool) → Stands self.now.task.now (B.has before.now) b
-            → Stands self.now.task.now (A.has after.now) a → result ≡ is_fit self.now b a }
+        ensures { (b a : List Bool) → HasJust self.now.task.now (B.has before.now) b
+            → HasJust self.now.task.now (A.has after.now) a → result ≡ is_fit self.now b a }
     {
         self.are_all(self.query.positive.as_slice(), before, after) && self.are_none(before, after)
     }
 
     fn are_all<B: Atoms, A: Atoms>(&self, operands: &[Operand], before: &B, after: &A) -> bool
-        requires search { IsSearch self.now }
+        requires search { IsListedSearch self.now }
         requires operands { All (λ o. IsNamed (length self.now.sets.now) o.which) operands.now }
         requires before { IsBelow (atoms self.now.task.now) (B.has before.now) }
         requires after { IsBelow (atoms self.now.task.now) (A.has after.now) }
-        ensures { (b a : List Bool) → Stands self.now.task.now (B.has before.now) b
-            → Stands self.now.task.now (A.has after.now) a
+        ensures { (b a : List Bool) → HasJust self.now.task.now (B.has before.now) b
+            → HasJust self.now.task.now (A.has after.now) a
             → result ≡ list_all (in_either self.now.task.now (in_set self.now.sets.now) b a)
             operands.now }
     {
@@ -145,11 +166,11 @@ impl Search<'_> {
     }
 
     fn are_none<B: Atoms, A: Atoms>(&self, before: &B, after: &A) -> bool
-        requires search { IsSearch self.now }
+        requires search { IsListedSearch self.now }
         requires before { IsBelow (atoms self.now.task.now) (B.has before.now) }
         requires after { IsBelow (atoms self.now.task.now) (A.has after.now) }
-        ensures { (b a : List Bool) → Stands self.now.task.now (B.has before.now) b
-            → Stands self.now.task.now (A.has after.now) a
+        ensures { (b a : List Bool) → HasJust self.now.task.now (B.has before.now) b
+            → HasJust self.now.task.now (A.has after.now) a
             → result ≡ is_in_none self.now b a }
     {
         !self.is_hit(before, false) && (self.query.action.is_none() || !self.is_hit(after, true))
@@ -159,9 +180,9 @@ impl Search<'_> {
     // has the state. Few operands are gone through. Of many only those are asked about that name a
     // set that lists the state, if such sets are fewer.
     fn is_hit<A: Atoms>(&self, held: &A, after: bool) -> bool
-        requires search { IsSearch self.now }
+        requires search { IsListedSearch self.now }
         requires below { IsBelow (atoms self.now.task.now) (A.has held.now) }
-        ensures { (state : List Bool) → Stands self.now.task.now (A.has held.now) state
+        ensures { (state : List Bool) → HasJust self.now.task.now (A.has held.now) state
             → IsTrue result ↔ IsHit self.now.task.now (in_set self.now.sets.now)
             self.now.query.now.negative after state }
     {
@@ -183,10 +204,10 @@ impl Search<'_> {
     }
 
     fn is_hit_among<A: Atoms>(&self, operands: &[Operand], held: &A, after: bool) -> bool
-        requires search { IsSearch self.now }
+        requires search { IsListedSearch self.now }
         requires operands { All (λ o. IsNamed (length self.now.sets.now) o.which) operands.now }
         requires below { IsBelow (atoms self.now.task.now) (A.has held.now) }
-        ensures { (state : List Bool) → Stands self.now.task.now (A.has held.now) state
+        ensures { (state : List Bool) → HasJust self.now.task.now (A.has held.now) state
             → IsTrue result ↔ IsHit self.now.task.now (in_set self.now.sets.now)
             operands.now after state }
     {
@@ -200,21 +221,21 @@ impl Search<'_> {
 
     // Whether this set is a negative operand and has the state.
     fn is_hit_by<A: Atoms>(&self, which: Which, held: &A, after: bool) -> bool
-        requires search { IsSearch self.now }
+        requires search { IsListedSearch self.now }
         requires below { IsBelow (atoms self.now.task.now) (A.has held.now) }
-        ensures { (state : List Bool) → Stands self.now.task.now (A.has held.now) state
+        ensures { (state : List Bool) → HasJust self.now.task.now (A.has held.now) state
             → IsTrue result ↔ IsHitBy self.now which after state }
     {
         self.query.negative.names(which, after) && self.has(which, held)
     }
 
     fn is_in<B: Atoms, A: Atoms>(&self, operand: &Operand, before: &B, after: &A) -> bool
-        requires search { IsSearch self.now }
+        requires search { IsListedSearch self.now }
         requires operand { IsNamed (length self.now.sets.now) operand.now.which }
         requires before { IsBelow (atoms self.now.task.now) (B.has before.now) }
         requires after { IsBelow (atoms self.now.task.now) (A.has after.now) }
-        ensures { (b a : List Bool) → Stands self.now.task.now (B.has before.now) b
-            → Stands self.now.task.now (A.has after.now) a
+        ensures { (b a : List Bool) → HasJust self.now.task.now (B.has before.now) b
+            → HasJust self.now.task.now (A.has after.now) a
             → result ≡ in_either self.now.task.now (in_set self.now.sets.now) b a operand.now }
     {
         if operand.after {
@@ -225,10 +246,10 @@ impl Search<'_> {
     }
 
     fn has<A: Atoms>(&self, which: Which, held: &A) -> bool
-        requires search { IsSearch self.now }
+        requires search { IsListedSearch self.now }
         requires which { IsNamed (length self.now.sets.now) which }
         requires below { IsBelow (atoms self.now.task.now) (A.has held.now) }
-        ensures { (state : List Bool) → Stands self.now.task.now (A.has held.now) state
+        ensures { (state : List Bool) → HasJust self.now.task.now (A.has held.now) state
             → result ≡ in_which self.now.task.now (in_set self.now.sets.now) which state }
     {
         match which {

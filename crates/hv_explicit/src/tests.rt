@@ -1,3 +1,5 @@
+//! Tests of repeated states, and of queries with many sets.
+
 ghost use Rattle.std.specs.Prelude.{◌≡◌, ◌<◌, ◌++◌, ◌∷◌, [], false, None, IfOk, OnOk, length};
 ghost use Rattle.hv_task.specs.State.{AreBelow};
 ghost use Rattle.hv_task.specs.Strips.{atoms};

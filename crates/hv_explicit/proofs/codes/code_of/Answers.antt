@@ -1,7 +1,7 @@
 use Rattle.std.proofs.Common.{◌∙◌, ◌++◌, ◌∷◌, [], arith, ap, sym}
 use Rattle.std.specs.Hash.DefaultHasher as sip
 use Rattle.hv_task.proofs.Listing.{lists_all, lists_next, lists_none}
-use Rattle.hv_explicit.specs.Codes.{with_atom}
+use Rattle.hv_explicit.specs.Working.Codes.{with_atom}
 use Rattle.hv_explicit.proofs.Coded.{with_push, below_from_next}
 use Rattle.hv_explicit.proofs.codes.code_of.Goals as goal
 

@@ -1,7 +1,7 @@
 use Rattle.std.proofs.Common.{◌≡◌, ◌≤◌, ◌-◌, List, ℕ}
 use Rattle.std.specs.Hash.DefaultHasher as sip
 use Rattle.hv_task.specs.Atoms.{Lists}
-use Rattle.hv_explicit.specs.Codes.{with_atoms}
+use Rattle.hv_explicit.specs.Working.Codes.{with_atoms}
 use Rattle.hv_explicit.proofs.codes.code_of.Given as goal
 
 abbrev pub invariant-loop-atom : goal.invariant-loop-atom

@@ -1,7 +1,7 @@
 use Rattle.std.proofs.Common.{◌∙◌, get_or, sym, ap, take}
 use Rattle.std.specs.Hash.DefaultHasher as sip
 use Rattle.std.proofs.lemmas.List.{take_more}
-use Rattle.hv_explicit.specs.Codes.{with_atom, with_atoms}
+use Rattle.hv_explicit.specs.Working.Codes.{with_atom, with_atoms}
 use Rattle.hv_explicit.proofs.Coded.{with_push}
 use Rattle.hv_explicit.proofs.codes.list_code.Goals as goal
 

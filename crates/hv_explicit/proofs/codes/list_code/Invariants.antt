@@ -1,6 +1,6 @@
 use Rattle.std.proofs.Common.{◌≡◌, take}
 use Rattle.std.specs.Hash.DefaultHasher as sip
-use Rattle.hv_explicit.specs.Codes.{with_atoms}
+use Rattle.hv_explicit.specs.Working.Codes.{with_atoms}
 use Rattle.hv_explicit.proofs.codes.list_code.Given as goal
 
 abbrev pub invariant-loop-atom : goal.invariant-loop-atom

@@ -1,8 +1,8 @@
 use Rattle.std.proofs.Common.{◌∙◌, ◌+◌, ◌++◌, ◌∷◌, [], sym, subst, ap}
 use Rattle.std.specs.List.Sorted.{IsStrictlyIncreasing}
 use Rattle.hv_task.specs.State.{names_atom}
-use Rattle.hv_explicit.specs.Codes.{code_of}
-use Rattle.hv_explicit.specs.Listing.{AreFirsts, IsFirst, IsIndex}
+use Rattle.hv_explicit.specs.Working.Codes.{code_of}
+use Rattle.hv_explicit.specs.Working.Listing.{AreFirsts, IsEnteredState, IsIndex}
 use Rattle.hv_explicit.proofs.Coded.{code_of_list}
 use Rattle.hv_explicit.proofs.LookUp.{firsts_more, firsts_there, index_more}
 use Rattle.hv_explicit.proofs.explicit.enter.Goals as goal
@@ -15,7 +15,7 @@ look_up-requires-clause-code c =
 pub returns-then-look_up-clause-firsts : goal.returns-then-look_up-clause-firsts
 returns-then-look_up-clause-firsts c =
     firsts_there c.args.states.now c.args.firsts.now.items c.args.place c.get-held.result.now c.get-held.ensures c.requires.rise c.requires.firsts
-    (subst (IsFirst (names_atom c.get-held.result.now) c.args.states.now) c.as_slice-2.ensures.value (c.look_up.ensures.0 c.if-look_up.true))
+    (subst (IsEnteredState (names_atom c.get-held.result.now) c.args.states.now) c.as_slice-2.ensures.value (c.look_up.ensures.0 c.if-look_up.true))
 
 pub returns-clause-firsts : goal.returns-clause-firsts
 returns-clause-firsts c =

@@ -1,4 +1,4 @@
-use Rattle.hv_explicit.specs.Listing.{AreFirsts, IsIndex}
+use Rattle.hv_explicit.specs.Working.Listing.{AreFirsts, IsIndex}
 use Rattle.hv_explicit.proofs.explicit.enter_all.Given as goal
 
 abbrev pub invariant-loop-place : goal.invariant-loop-place

@@ -1,7 +1,7 @@
 use Rattle.std.proofs.Common.{◌≡◌, ◌<◌, ◌≤◌, ◌-◌, ℕ, length}
-use Rattle.hv_explicit.specs.Codes.{IsSame}
-use Rattle.hv_explicit.specs.Listing.{first_at}
-use Rattle.hv_explicit.specs.Places.{code_at}
+use Rattle.hv_explicit.specs.Working.Codes.{IsSame}
+use Rattle.hv_explicit.specs.Working.Listing.{first_at}
+use Rattle.hv_explicit.specs.Working.Places.{code_at}
 use Rattle.hv_explicit.proofs.explicit.look_up.Given as goal
 
 abbrev pub invariant-loop-end : goal.invariant-loop-end

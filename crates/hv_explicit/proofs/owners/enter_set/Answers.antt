@@ -1,9 +1,9 @@
 use Rattle.std.proofs.Common.{◌≡◌, ◌∙◌, [], get_or, ap, arith, inl, inr, subst}
 use Rattle.std.proofs.lemmas.Bool.{cases_lt}
 use Rattle.std.proofs.lemmas.List.{get_or_default}
-use Rattle.hv_explicit.specs.Codes.{code_of}
-use Rattle.hv_explicit.specs.Listing.{first_at}
-use Rattle.hv_explicit.specs.Owners.{IsEntered}
+use Rattle.hv_explicit.specs.Working.Codes.{code_of}
+use Rattle.hv_explicit.specs.Working.Listing.{first_at}
+use Rattle.hv_explicit.specs.Working.Owners.{IsEntered}
 use Rattle.hv_explicit.proofs.Owned.{all_entered}
 use Rattle.hv_explicit.proofs.owners.enter_set.Goals as goal
 

@@ -1,6 +1,6 @@
 use Rattle.std.proofs.Common.{◌≡◌, ◌<◌, ◌≤◌, ◌-◌, ℕ, length}
-use Rattle.hv_explicit.specs.Owners.{IsOwner, entry_at}
-use Rattle.hv_explicit.specs.Places.{code_at}
+use Rattle.hv_explicit.specs.Working.Owners.{IsOwner, entry_at}
+use Rattle.hv_explicit.specs.Working.Places.{code_at}
 use Rattle.hv_explicit.proofs.owners.find_owner.Given as goal
 
 abbrev pub invariant-entries : goal.invariant-entries

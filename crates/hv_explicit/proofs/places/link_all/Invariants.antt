@@ -1,5 +1,5 @@
 use Rattle.std.proofs.Common.{◌≡◌, length}
-use Rattle.hv_explicit.specs.Places.{IsLinked}
+use Rattle.hv_explicit.specs.Working.Places.{IsLinked}
 use Rattle.hv_explicit.proofs.places.link_all.Given as goal
 
 abbrev pub invariant-loop-place : goal.invariant-loop-place

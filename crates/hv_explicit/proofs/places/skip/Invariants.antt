@@ -1,5 +1,5 @@
 use Rattle.std.proofs.Common.{◌≡◌, ◌<◌, ◌≤◌, ◌-◌, ℕ}
-use Rattle.hv_explicit.specs.Places.{slot_at, slot_of, code_at}
+use Rattle.hv_explicit.specs.Working.Places.{slot_at, slot_of, code_at}
 use Rattle.hv_explicit.proofs.places.skip.Given as goal
 
 abbrev pub invariant-loop-end : goal.invariant-loop-end

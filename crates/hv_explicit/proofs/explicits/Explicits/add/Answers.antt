@@ -1,7 +1,7 @@
 use Rattle.std.proofs.Common.{◌≡◌, length, arith, sym, subst}
 use Rattle.std.specs.List.{All}
 use Rattle.hv_explicit.specs.Listing.{AreRising, AreStates, Listing}
-use Rattle.hv_explicit.specs.Owners.{IsEntered, IsStore}
+use Rattle.hv_explicit.specs.Working.Owners.{IsEntered, IsStore}
 use Rattle.hv_explicit.proofs.Owned.{store_kept, store_more}
 use Rattle.hv_explicit.proofs.explicits.Explicits.add.Goals as goal
 

@@ -3,7 +3,7 @@ use Rattle.std.proofs.lemmas.List.{take_all, take_more}
 use Rattle.std.proofs.lemmas.List.Folds.{list_all-append, list_all_at}
 use Rattle.std.specs.List.{list_all}
 use Rattle.hv_explicit.specs.Listing.{in_set}
-use Rattle.hv_explicit.specs.Search.{in_either}
+use Rattle.hv_explicit.specs.Working.Search.{in_either}
 use Rattle.hv_explicit.proofs.search.Search.are_all.Goals as goal
 
 pub returns-then-not-is_in : goal.returns-then-not-is_in

@@ -3,7 +3,7 @@ use Rattle.std.proofs.lemmas.Bool.{both_ways}
 use Rattle.std.specs.List.{All, Contains}
 use Rattle.hv_task.specs.State.{applicable, state_of, successor}
 use Rattle.hv_task.specs.Strips.{atoms}
-use Rattle.hv_explicit.specs.Search.{is_fit}
+use Rattle.hv_explicit.specs.Working.Search.{is_fit}
 use Rattle.hv_explicit.proofs.Clashes.{applies, applies_not, below_after, below_list, clash_acting, clash_alone, stands_after, stands_list}
 use Rattle.hv_explicit.proofs.search.Search.clashes.Goals as goal
 

@@ -3,15 +3,16 @@ use Rattle.hv_task.specs.State.{AreBelow, state_of}
 use Rattle.hv_task.specs.Strips.{atoms}
 use Rattle.hv_sets.specs.Query.{is_clash}
 use Rattle.hv_explicit.specs.Listing.{in_set}
-use Rattle.hv_explicit.proofs.LookUp.{all_from_firsts}
+use Rattle.hv_explicit.specs.Working.Search.{clashes_at}
+use Rattle.hv_explicit.proofs.Holding.{all_fail}
 use Rattle.hv_explicit.proofs.search.Search.find_among.Goals as goal
 
 pub hold-requires : goal.hold-requires
 hold-requires c =
-    let place = get_or c.args.firsts.now c.loop-place.place-index 0 in
+    let place = get_or c.args.places.now c.loop-place.place-index 0 in
     subst (λ (n : ℕ). AreBelow n c.index-states-place.result) (sym c.loop-place.invariant.state)
     (subst (AreBelow (atoms c.args.self.now.task.now)) (sym c.index-states-place.is)
-    (c.requires.states place c.index-states-place.result (c.requires.firsts.within c.loop-place.place-index c.loop-place-test.true)))
+    (c.requires.states place c.index-states-place.result (c.requires.places.within c.loop-place.place-index c.loop-place-test.true)))
 
 pub returns-then-clashes : goal.returns-then-clashes
 returns-then-clashes c = (
@@ -25,8 +26,6 @@ returns-then-clashes c = (
 pub returns : goal.returns
 returns c = (
   omega (arith, c.if-states-budget.false),
-  all_from_firsts
-      (λ held. is_clash c.args.self.now.task.now (in_set c.args.self.now.sets.now) c.args.self.now.query.now (state_of (atoms c.args.self.now.task.now) held) ≡ false)
-      c.args.states.now c.args.firsts.now c.requires.firsts
+  all_fail (clashes_at c.args.self.now) c.args.states.now c.args.places.now c.requires.places
       (λ e less. c.loop-place.invariant.none e (let over = c.loop-place-test.false in omega arith)),
 )

@@ -5,7 +5,7 @@ use Rattle.hv_task.specs.Strips.{atoms, start_state}
 use Rattle.hv_task.proofs.Places.{has_all-Decides}
 use Rattle.hv_sets.specs.Query.{in_which}
 use Rattle.hv_sets.specs.Truth.{is_same}
-use Rattle.hv_explicit.specs.Codes.{IsSame}
+use Rattle.hv_explicit.specs.Working.Codes.{IsSame}
 use Rattle.hv_explicit.specs.Listing.{in_found, in_set}
 use Rattle.hv_explicit.proofs.Anchored.{over_at}
 use Rattle.hv_explicit.proofs.LookUp.{same_decides, same_tests}

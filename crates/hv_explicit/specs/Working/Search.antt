@@ -7,14 +7,14 @@ use Rattle.hv_sets.specs.declared.finding.Finding.{Finding}
 use Rattle.hv_sets.specs.declared.finding.Finding.TheVariants as F
 use Rattle.hv_sets.specs.declared.operand.Operand.{Operand}
 use Rattle.hv_sets.specs.declared.operand.Which.{Which}
-use Rattle.hv_sets.specs.Names.{Names}
-use Rattle.hv_sets.specs.Query.{HasAnchor, IsReady, in_which}
+use Rattle.hv_sets.specs.Names.{AsksAbout}
+use Rattle.hv_sets.specs.Query.{HasAnchor, IsReady, in_which, is_clash}
 use Rattle.hv_explicit.specs.Codes.{IsSetOf}
 use Rattle.hv_explicit.specs.Listing.{AreOver, in_set}
 use Rattle.hv_explicit.specs.declared.search.Search.{Search}
 
 -- the state is a state of the task, and has just these atoms
-pub record Stands (task : Strips) (held : ℕ → Bool) (state : List Bool) : Type 0 where
+pub record HasJust (task : Strips) (held : ℕ → Bool) (state : List Bool) : Type 0 where
   pub of_task : IsState task state
   pub same : IsSetOf held state
 
@@ -45,20 +45,25 @@ IsHit task sets operands after state =
 -- the set is a negative operand of this side, and has the state
 abbrev pub IsHitBy : Search → Which → Bool → List Bool → Type 0
 IsHitBy s which after state =
-    Names s.query.now.negative which after
+    AsksAbout s.query.now.negative which after
     × (in_which s.task.now (in_set s.sets.now) which state ≡ true)
 
 -- the exact answer of a search through listed states: that there are more than the budget, that a
 -- state of the task passes the test, or that no listed state does
-abbrev pub IsFound : Finding → ℕ → ℕ → (List Bool → Bool) → List (List ℕ) → List Bool → Type 0
-IsFound F.Over budget atoms test states found = budget < length states
-IsFound F.Clash budget atoms test states found =
+abbrev pub IsFoundListed : Finding → ℕ → ℕ → (List Bool → Bool) → List (List ℕ) → List Bool → Type 0
+IsFoundListed F.Over budget atoms test states found = budget < length states
+IsFoundListed F.Clash budget atoms test states found =
     (length states ≤ budget) × (length found ≡ atoms) × (test found ≡ true)
-IsFound F.Empty budget atoms test states found =
+IsFoundListed F.Empty budget atoms test states found =
     (length states ≤ budget) × All (λ held. test (state_of atoms held) ≡ false) states
 
+-- the state of these atoms is a counterexample
+abbrev pub clashes_at : Search → List ℕ → Bool
+clashes_at s held =
+    is_clash s.task.now (in_set s.sets.now) s.query.now (state_of (atoms s.task.now) held)
+
 -- the query can be asked of the sets, which are over the task
-pub record IsSearch (s : Search) : Type 0 where
+pub record IsListedSearch (s : Search) : Type 0 where
   pub over : AreOver s.sets.now (atoms s.task.now)
   pub ready : IsReady (length s.sets.now) s.query.now
   pub anchor : HasAnchor s.query.now

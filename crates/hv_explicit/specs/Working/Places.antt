@@ -32,7 +32,7 @@ pub record IsLinked (codes before heads : List ℕ) (factor slots n : ℕ) : Typ
   pub chain : IsChain codes before factor slots n
 
 -- a table of the places of these codes
-pub record IsTable (codes before heads : List ℕ) (factor : ℕ) : Type 0 where
+pub record IsPlaceTable (codes before heads : List ℕ) (factor : ℕ) : Type 0 where
   pub linked : IsLinked codes before heads factor (length heads) (length codes)
   pub as_many : length codes ≤ length before
   pub some : 0 < length codes → 0 < length heads

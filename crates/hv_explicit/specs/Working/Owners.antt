@@ -1,12 +1,12 @@
 -- Which sets list a state: entries by code.
 use Rattle.std.specs.Prelude.{◌≡◌, ◌<◌, ◌≤◌, ℕ, Bool, true, List, [], length, slice_get, slice_index_or, Some}
 use Rattle.std.specs.List.{All}
-use Rattle.hv_sets.specs.Names.{Names}
+use Rattle.hv_sets.specs.Names.{AsksAbout}
 use Rattle.hv_sets.specs.declared.operand.Operand.{Operand}
 use Rattle.hv_sets.specs.declared.operand.Which.TheVariants as W
-use Rattle.hv_explicit.specs.Codes.{IsSame, code_of}
+use Rattle.hv_explicit.specs.Working.Codes.{IsSame, code_of}
 use Rattle.hv_explicit.specs.Listing.{AreRising, AreStates, Listing, in_set}
-use Rattle.hv_explicit.specs.Places.{code_at}
+use Rattle.hv_explicit.specs.Working.Places.{code_at}
 use Rattle.hv_explicit.specs.declared.owners.Entry.{Entry}
 
 -- the entry at a place
@@ -26,8 +26,8 @@ IsEntered codes entries number states held =
     × (code_at codes e ≡ code_of held)
 
 -- what was entered still is
-abbrev pub Keeps : List ℕ → List Entry → List ℕ → List Entry → Type 0
-Keeps codes entries codes' entries' =
+abbrev pub KeepsEntries : List ℕ → List Entry → List ℕ → List Entry → Type 0
+KeepsEntries codes entries codes' entries' =
     (number : ℕ) (states : List (List ℕ)) (held : List ℕ)
     → IsEntered codes entries number states held → IsEntered codes' entries' number states held
 
@@ -38,12 +38,12 @@ AreEntered codes entries sets =
     → All (λ held. IsEntered codes entries number set.states held) set.states
 
 -- the states of the sets are states of their tasks, by lists that rise
-abbrev pub AreListed : List Listing → Type 0
-AreListed sets = All (λ set. AreStates set.atoms set.states × AreRising set.states) sets
+abbrev pub AreListings : List Listing → Type 0
+AreListings sets = All (λ set. AreStates set.atoms set.states × AreRising set.states) sets
 
 -- what a store of sets keeps
 pub record IsStore (sets : List Listing) (codes : List ℕ) (entries : List Entry) : Type 0 where
-  pub listed : AreListed sets
+  pub listed : AreListings sets
   pub entered : AreEntered codes entries sets
   pub size : length codes ≤ length entries
 
@@ -51,10 +51,10 @@ pub record IsStore (sets : List Listing) (codes : List ℕ) (entries : List Entr
 -- its state has just these atoms
 abbrev pub IsOwner : (ℕ → Bool) → List Listing → List Operand → Bool → Entry → Type 0
 IsOwner held sets operands after entry =
-    (set : Listing) × (slice_get sets entry.set ≡ Some set) × Names operands (W.Set entry.set) after
+    (set : Listing) × (slice_get sets entry.set ≡ Some set) × AsksAbout operands (W.Set entry.set) after
     × (entry.place < length set.states) × IsSame held (state_of_entry set.states entry)
 
 -- some set of the store is among the operands of this side, and has the state
 abbrev pub IsOwned : List Listing → List Operand → Bool → List Bool → Type 0
 IsOwned sets operands after state =
-    (number : ℕ) × Names operands (W.Set number) after × (in_set sets number state ≡ true)
+    (number : ℕ) × AsksAbout operands (W.Set number) after × (in_set sets number state ≡ true)

@@ -1,0 +1,8 @@
+-- Definitions that no public contract cites: those of private contracts and of proofs.
+pub mod Codes
+pub mod Places
+pub mod Listing
+pub mod Holders
+pub mod Owners
+pub mod Laws
+pub mod Search

@@ -1,0 +1,25 @@
+-- Working definitions beside those of `Listing`: what contracts of private functions and proofs say.
+use Rattle.std.specs.Prelude.{◌≡◌, ◌<◌, ℕ, Bool, List, [], length, slice_index, slice_index_or}
+use Rattle.hv_explicit.specs.Working.Codes.{IsSame, code_of}
+use Rattle.hv_explicit.specs.Working.Places.{code_at}
+
+-- the state at the place that stands at this entry
+abbrev pub first_at : List (List ℕ) → List ℕ → ℕ → List ℕ
+first_at states firsts e = slice_index_or states (slice_index firsts e) []
+
+-- the entries are places of the first so many states of a list, and each of these states stands at
+-- one of them
+pub record AreFirsts (states : List (List ℕ)) (firsts : List ℕ) (count : ℕ) : Type 0 where
+  pub within : (e : ℕ) → e < length firsts → slice_index firsts e < count
+  pub each : (k : ℕ) → k < count
+      → (e : ℕ) × (e < length firsts) × (first_at states firsts e ≡ slice_index_or states k [])
+
+-- the index has the code of the state at each entry
+pub record IsIndex (codes firsts : List ℕ) (states : List (List ℕ)) : Type 0 where
+  pub many : length codes ≡ length firsts
+  pub code : (e : ℕ) → e < length firsts → code_at codes e ≡ code_of (first_at states firsts e)
+
+-- the state at some entry has just these atoms
+abbrev pub IsEnteredState : (ℕ → Bool) → List (List ℕ) → List ℕ → Type 0
+IsEnteredState held states firsts =
+    (e : ℕ) × (e < length firsts) × IsSame held (first_at states firsts e)
