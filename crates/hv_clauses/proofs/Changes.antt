@@ -5,9 +5,10 @@ use Rattle.std.proofs.lemmas.List.{length-set}
 use Rattle.std.proofs.lemmas.List.Elements.{All-contains}
 use Rattle.std.specs.List.{Contains}
 use Rattle.hv_task.specs.State.{AreBelow}
-use Rattle.hv_clauses.specs.Effect.{effect_of}
-use Rattle.hv_clauses.specs.Marks.{known, mark_for}
-use Rattle.hv_clauses.specs.Overwriting.{overwrite}
+use Rattle.hv_clauses.specs.Working.Effect.{effect_of}
+use Rattle.hv_clauses.specs.Marks.{known}
+use Rattle.hv_clauses.specs.Working.Marks.{mark_for}
+use Rattle.hv_clauses.specs.Working.Overwriting.{overwrite}
 use Rattle.hv_clauses.proofs.Effects.{length-overwrite}
 use Rattle.hv_clauses.proofs.Trailed.{known-replicate, known-set_other, known-set_same, length-zeros}
 use Rattle.std.specs.Prelude.{slice_set}

@@ -12,15 +12,17 @@ use Rattle.hv_sets.specs.declared.literal.Literal.{Literal}
 use Rattle.hv_sets.specs.Cubes.{SpeakBelow, opposite}
 use Rattle.hv_sets.specs.Truth.{in_clause, in_clauses, in_literal}
 use Rattle.hv_clauses.specs.declared.occurrences.Occurrence.{Occurrence}
-use Rattle.hv_clauses.specs.Chase.{AreKept, IsApart, IsFollowed, IsKept}
-use Rattle.hv_clauses.specs.Choices.{clause_at}
+use Rattle.hv_clauses.specs.Working.Chase.{AreKept, IsApart, IsFollowed, IsKept}
+use Rattle.hv_clauses.specs.Working.Choices.{clause_at}
 use Rattle.hv_clauses.specs.Clausal.{AreClauses}
 use Rattle.hv_clauses.specs.Denial.{names_literal}
-use Rattle.hv_clauses.specs.Laws.{names_literal-Decides}
-use Rattle.hv_clauses.specs.Marks.{known, mark_for, over}
-use Rattle.hv_clauses.specs.Occurrences.{ListsAll}
-use Rattle.hv_clauses.specs.Trail.{Grows, Knowledge, marks_of, written}
-use Rattle.hv_clauses.specs.Units.{AreFalse, AreSettled, IsSettled, first_of, value_of}
+use Rattle.hv_clauses.specs.Working.Laws.{names_literal-Decides}
+use Rattle.hv_clauses.specs.Marks.{known, over}
+use Rattle.hv_clauses.specs.Working.Marks.{mark_for}
+use Rattle.hv_clauses.specs.Working.Occurrences.{ListsAll}
+use Rattle.hv_clauses.specs.Working.Trail.{Grows, Knowledge, marks_of, written}
+use Rattle.hv_clauses.specs.Units.{IsSettled, first_of, value_of}
+use Rattle.hv_clauses.specs.Working.Units.{AreFalse, AreSettled}
 use Rattle.hv_clauses.proofs.Effects.{list_all_get}
 use Rattle.hv_clauses.proofs.Marked.{extends_same, extends_then, extends_write, known_past, value_false, value_marked, value_none}
 use Rattle.hv_clauses.proofs.Rounds.{never}
@@ -32,7 +34,7 @@ written-append [] ys m = refl
 written-append (x ∷ xs) ys m = written-append xs ys (slice_set m x.atom (mark_for x.positive))
 
 -- of each atom the same is known as before, or what a literal of the trail says
-written_or : (ls : List Literal) (m : List ℕ) (p : ℕ)
+pub written_or : (ls : List Literal) (m : List ℕ) (p : ℕ)
     → (known (written ls m) p ≡ known m p) ⊎ ((l : Literal) × Contains ls l × (l.atom ≡ p) × (known (written ls m) p ≡ Some l.positive))
 written_or [] m p = inl refl
 written_or (x ∷ xs) m p =
@@ -130,18 +132,15 @@ has_or clause l = by (names_literal clause l.atom l.positive) refl
     by true e = inl ((names_literal-Decides clause l.atom l.positive).0 e)
     by false e = inr (λ has. let is = (names_literal-Decides clause l.atom l.positive).1 has in never (sym is ∙ e))
 
--- once each clause with the opposite of the next literal of the trail was looked at, what is left
+-- once this is so of each clause with the opposite of the next literal of the trail, what is left
 -- begins behind it
-pub kept_next : (e : List ℕ) (clauses : List (List Literal)) (occurs listed : List Occurrence) (m : Knowledge) (from : ℕ) (literal : Literal)
-    → from < length m.trail → get_or m.trail from literal ≡ literal → AreKept e clauses m from → ListsAll (not literal.positive) clauses occurs
-    → ((o : Occurrence) → Contains occurs o → o.atom ≡ literal.atom → Contains listed o)
-    → ((o : Occurrence) → Contains listed o → IsKept e (clause_at clauses o.place) m (from + 1))
+pub kept_beyond : (e : List ℕ) (clauses : List (List Literal)) (m : Knowledge) (from : ℕ) (literal : Literal)
+    → from < length m.trail → get_or m.trail from literal ≡ literal → AreKept e clauses m from
+    → ((place : ℕ) → place < length clauses → Contains (clause_at clauses place) (opposite literal) → IsKept e (clause_at clauses place) m (from + 1))
     → AreKept e clauses m (from + 1)
-kept_next e clauses occurs listed m from literal h at kept lists all seen place less =
+kept_beyond e clauses m from literal h at kept seen place less =
     elim (has_or (clause_at clauses place) (opposite literal)) [
-      | inl found ↦
-          let o : Occurrence = record { atom = literal.atom; place = place } in
-          seen o (all o (lists place (opposite literal) less found refl) refl)
+      | inl found ↦ seen place less found
       | inr none ↦ λ apart.
           let split : drop from m.trail ≡ literal ∷ drop (from + 1) m.trail =
           drop_more m.trail from literal h ∙ ap (λ y. y ∷ drop (from + 1) m.trail) at in
@@ -156,6 +155,19 @@ kept_next e clauses occurs listed m from literal h at kept lists all seen place 
         by : (k : ℕ) → k < length (literal ∷ drop (from + 1) m.trail) → get_or (literal ∷ drop (from + 1) m.trail) k x ≡ x → ⊥
         by zero less is = none (subst (λ (y : Literal). Contains (clause_at clauses place) (opposite y)) (sym is) within)
         by (suc k) less is = apart x (k, omega arith, is) within
+
+-- once each clause with the opposite of the next literal of the trail was looked at, what is left
+-- begins behind it
+pub kept_next : (e : List ℕ) (clauses : List (List Literal)) (occurs listed : List Occurrence) (m : Knowledge) (from : ℕ) (literal : Literal)
+    → from < length m.trail → get_or m.trail from literal ≡ literal → AreKept e clauses m from → ListsAll (not literal.positive) clauses occurs
+    → ((o : Occurrence) → Contains occurs o → o.atom ≡ literal.atom → Contains listed o)
+    → ((o : Occurrence) → Contains listed o → IsKept e (clause_at clauses o.place) m (from + 1))
+    → AreKept e clauses m (from + 1)
+kept_next e clauses occurs listed m from literal h at kept lists all seen =
+    kept_beyond e clauses m from literal h at kept
+    (λ place less found.
+    let o : Occurrence = record { atom = literal.atom; place = place } in
+    seen o (all o (lists place (opposite literal) less found refl) refl))
 
 -- when nothing is left on the trail, all clauses are settled
 pub settled_end : (e : List ℕ) (clauses : List (List Literal)) (m : Knowledge) (from : ℕ) → length m.trail ≤ from → AreKept e clauses m from

@@ -15,10 +15,13 @@ use Rattle.hv_sets.specs.Cost.{choices_of, clauses_of}
 use Rattle.hv_sets.specs.Cubes.{SpeakBelow}
 use Rattle.hv_sets.specs.Query.{in_which}
 use Rattle.hv_sets.specs.Truth.{in_clause, in_clauses, in_literal}
-use Rattle.hv_clauses.specs.Choices.{AreChosenFalse, Breaks, clause_at}
-use Rattle.hv_clauses.specs.Clausal.{AreClauses, clauses_in, late, sets_of, sizes_of}
-use Rattle.hv_clauses.specs.Marks.{Agrees, Extends, over}
-use Rattle.hv_clauses.specs.Units.{AreFalse, value_of}
+use Rattle.hv_clauses.specs.Working.Choices.{AreChosenFalse, Breaks, clause_at}
+use Rattle.hv_clauses.specs.Clausal.{AreClauses, tests_of, sizes_of}
+use Rattle.hv_clauses.specs.Working.Clausal.{clauses_in, late}
+use Rattle.hv_clauses.specs.Marks.{over}
+use Rattle.hv_clauses.specs.Working.Marks.{Agrees, KeepsKnown}
+use Rattle.hv_clauses.specs.Units.{value_of}
+use Rattle.hv_clauses.specs.Working.Units.{AreFalse}
 use Rattle.hv_clauses.proofs.Marked.{AreFalse_extends, known_within, length-over, through_some, value_false, value_some}
 use Rattle.hv_clauses.proofs.OperandClauses.{clause_at_below, clauses_in_is, clauses_of_is}
 
@@ -40,16 +43,16 @@ module _ (task : Strips) (formulas : ℕ → List (List Literal)) (effect : List
   -- a state, seen through the effect, that is in no negative operand breaks the clauses of some
   -- choice
   pub choose : (operands : List Operand) (state : List Bool) → length state ≡ atoms task
-      → list_all (λ o. not (in_which task (sets_of formulas) o.which (over (late effect o.after) state))) operands ≡ true
+      → list_all (λ o. not (in_which task (tests_of formulas) o.which (over (late effect o.after) state))) operands ≡ true
       → (number : ℕ) × (number < choices_of task (sizes_of formulas) operands) × Breaks task formulas effect operands number state
   choose [] state size e = (0, omega arith, tt)
   choose (o ∷ os) state size e =
       let seen = over (late effect o.after) state in
       let seen_size : length seen ≡ atoms task = length-over (late effect o.after) state ∙ size in
-      let parts = and_parts (not (in_which task (sets_of formulas) o.which seen))
-      (list_all (λ o. not (in_which task (sets_of formulas) o.which (over (late effect o.after) state))) os) e in
+      let parts = and_parts (not (in_which task (tests_of formulas) o.which seen))
+      (list_all (λ o. not (in_which task (tests_of formulas) o.which (over (late effect o.after) state))) os) e in
       let out : in_clauses (clauses_in task formulas o.which) seen ≡ false =
-      sym (clauses_in_is task formulas o.which seen seen_size) ∙ not-true (in_which task (sets_of formulas) o.which seen) parts.0 in
+      sym (clauses_in_is task formulas o.which seen seen_size) ∙ not-true (in_which task (tests_of formulas) o.which seen) parts.0 in
       let broken = broken_clause (clauses_in task formulas o.which) seen out in
       let rest = choose os state size parts.1 in
       let count = length (clauses_in task formulas o.which) in
@@ -67,7 +70,7 @@ module _ (task : Strips) (formulas : ℕ → List (List Literal)) (effect : List
   -- and a state that breaks the clauses of a choice is in no negative operand
   pub chosen : (operands : List Operand) (number : ℕ) (state : List Bool) → length state ≡ atoms task
       → All (λ o. 0 < clauses_of task (sizes_of formulas) o.which) operands → Breaks task formulas effect operands number state
-      → list_all (λ o. not (in_which task (sets_of formulas) o.which (over (late effect o.after) state))) operands ≡ true
+      → list_all (λ o. not (in_which task (tests_of formulas) o.which (over (late effect o.after) state))) operands ≡ true
   chosen [] number state size some breaks = refl
   chosen (o ∷ os) number state size some breaks =
       let seen = over (late effect o.after) state in
@@ -75,12 +78,12 @@ module _ (task : Strips) (formulas : ℕ → List (List Literal)) (effect : List
       let count = length (clauses_in task formulas o.which) in
       let first = All-head (λ o. 0 < clauses_of task (sizes_of formulas) o.which) o os some in
       let positive : 0 < count = subst (λ c. 0 < c) (clauses_of_is task formulas o.which) first in
-      let out : in_which task (sets_of formulas) o.which seen ≡ false =
+      let out : in_which task (tests_of formulas) o.which seen ≡ false =
       clauses_in_is task formulas o.which seen seen_size
       ∙ clauses_broken (clauses_in task formulas o.which) seen (number % count) (mod_below number count positive) breaks.0 in
-      and_from (not (in_which task (sets_of formulas) o.which seen))
-      (list_all (λ o. not (in_which task (sets_of formulas) o.which (over (late effect o.after) state))) os)
-      (not_from_false (in_which task (sets_of formulas) o.which seen) out)
+      and_from (not (in_which task (tests_of formulas) o.which seen))
+      (list_all (λ o. not (in_which task (tests_of formulas) o.which (over (late effect o.after) state))) os)
+      (not_from_false (in_which task (tests_of formulas) o.which seen) out)
       (chosen os (number / count) state size (All-tail (λ o. 0 < clauses_of task (sizes_of formulas) o.which) o os some) breaks.1)
 
 -- literals of which values are known speak of atoms of the state
@@ -146,7 +149,7 @@ module _ (task : Strips) (formulas : ℕ → List (List Literal)) (effect : List
       )
 
   -- what is known to be false stays so
-  pub chosen_false_extends : (operands : List Operand) (number : ℕ) (old new : List ℕ) → Extends old new
+  pub chosen_false_extends : (operands : List Operand) (number : ℕ) (old new : List ℕ) → KeepsKnown old new
       → AreChosenFalse task formulas effect operands number old → AreChosenFalse task formulas effect operands number new
   chosen_false_extends [] number old new grows known = tt
   chosen_false_extends (o ∷ os) number old new grows known =
@@ -174,7 +177,7 @@ module _ (task : Strips) (sizes : ℕ → ℕ) where
         | inr empty ↦ let none = choices_none operands place d within (omega arith) in absurd (omega arith)
       ]
 
-  choices_append : (front back : List Operand)
+  pub choices_append : (front back : List Operand)
       → choices_of task sizes (front ++ back) ≡ choices_of task sizes front * choices_of task sizes back
   choices_append [] back = omega arith
   choices_append (o ∷ front) back =

@@ -2,11 +2,12 @@
 use Rattle.std.proofs.Common.{◌≡◌, ℕ, ◌+◌, ◌∙◌, Bool, true, false, List, length, Option, None, Some, refl, sym, ap, subst, arith, inl, inr}
 use Rattle.std.proofs.lemmas.Bool.{cases_lt}
 use Rattle.hv_task.specs.State.{has_atom}
-use Rattle.hv_clauses.specs.Clausal.{Completes}
+use Rattle.hv_clauses.specs.Working.Clausal.{Completes}
 use Rattle.hv_clauses.specs.declared.completion.Completion.{Completion}
 use Rattle.hv_clauses.specs.declared.completion.Completion.TheVariants as C
-use Rattle.hv_clauses.specs.Completion.{IsAssumed, IsCompleted, IsTried}
-use Rattle.hv_clauses.specs.Marks.{Agrees, AllKnown, Extends, filled, known, low, over}
+use Rattle.hv_clauses.specs.Working.Completion.{IsAssumed, IsCompleted, IsTried}
+use Rattle.hv_clauses.specs.Marks.{filled, known, over}
+use Rattle.hv_clauses.specs.Working.Marks.{Agrees, AllKnown, KeepsKnown, low}
 use Rattle.hv_clauses.proofs.Marked.{agrees_extends, agrees_filled, agrees_low, agrees_over, agrees_write, extends_same, extends_write, length-over}
 
 -- something is known of an atom, and still is when the marks have grown
@@ -38,7 +39,7 @@ module _ (Holds : List Bool → Type 0) (Settled : List ℕ → Type 0) where
               broken state (long ∙ sym size) holds (agrees_write old marked atom value state here others is agrees);
         }
 
-    pub assumed_closed : length closed ≡ length marked → Extends marked closed → Settled closed
+    pub assumed_closed : length closed ≡ length marked → KeepsKnown marked closed → Settled closed
         → IsAssumed Holds Settled atom value old closed true
     assumed_closed long grows settled =
         record {

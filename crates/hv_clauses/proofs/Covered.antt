@@ -10,9 +10,11 @@ use Rattle.hv_sets.specs.Cubes.{SpeakBelow}
 use Rattle.hv_sets.specs.Truth.{in_clause, in_clauses, in_cube, in_literal}
 use Rattle.hv_sets.specs.Walks.{Covers}
 use Rattle.hv_clauses.specs.Clausal.{AreClauses}
-use Rattle.hv_clauses.specs.Laws.{clause_true, in_cube-Decides}
-use Rattle.hv_clauses.specs.Marks.{Agrees, Extends, known, low, over}
-use Rattle.hv_clauses.specs.Units.{AreFalse, AreTrue, IsConcluded, value_of}
+use Rattle.hv_clauses.specs.Working.Laws.{clause_true, in_cube-Decides}
+use Rattle.hv_clauses.specs.Marks.{known, over}
+use Rattle.hv_clauses.specs.Working.Marks.{Agrees, KeepsKnown, low}
+use Rattle.hv_clauses.specs.Units.{value_of}
+use Rattle.hv_clauses.specs.Working.Units.{AreFalse, AreKnownTrue, IsConcluded}
 use Rattle.hv_clauses.proofs.Marked.{agrees_extends, agrees_low, length-low, over-nil, value_false, value_true}
 
 module _ (clause : List Literal) (marks : List ℕ) (state : List Bool) (size : length state ≡ length marks)
@@ -40,13 +42,13 @@ agrees_none marks none state = λ atom value e. let f = none atom in absurd cc
 
 -- a cube that was forced where there is no effect
 pub forced_cube : (e : List ℕ) (cube : List Literal) (m k : List ℕ) (r : Bool) → e ≡ []
-    → IsConcluded (λ state. in_cube cube (over e state) ≡ true) (AreTrue e cube) m k r
-    → IsConcluded (λ state. in_cube cube (over [] state) ≡ true) (AreTrue [] cube) m k r
+    → IsConcluded (λ state. in_cube cube (over e state) ≡ true) (AreKnownTrue e cube) m k r
+    → IsConcluded (λ state. in_cube cube (over [] state) ≡ true) (AreKnownTrue [] cube) m k r
 forced_cube e cube m k r none one =
-    subst (λ x. IsConcluded (λ state. in_cube cube (over x state) ≡ true) (AreTrue x cube) m k r) none one
+    subst (λ x. IsConcluded (λ state. in_cube cube (over x state) ≡ true) (AreKnownTrue x cube) m k r) none one
 
 -- each state that agrees with marks by which the literals of a cube are true is in the cube
-pub cube_holds : (cube : List Literal) (m : List ℕ) (state : List Bool) → AreTrue [] cube m → SpeakBelow (length state) cube → Agrees m state
+pub cube_holds : (cube : List Literal) (m : List ℕ) (state : List Bool) → AreKnownTrue [] cube m → SpeakBelow (length state) cube → Agrees m state
     → in_cube cube state ≡ true
 cube_holds cube m state all speaks agrees =
     (in_cube-Decides cube state).1
@@ -56,7 +58,7 @@ cube_holds cube m state all speaks agrees =
 
 -- marks to which the literals of a cube were forced, from marks that say nothing
 module _ (cube : List Literal) (clear firm : List ℕ) (result : Bool) (none : (p : ℕ) → known clear p ≡ None)
-    (forced : IsConcluded (λ state. in_cube cube (over [] state) ≡ true) (AreTrue [] cube) clear firm result) where
+    (forced : IsConcluded (λ state. in_cube cube (over [] state) ≡ true) (AreKnownTrue [] cube) clear firm result) where
   -- no state is in a cube that can't be forced
   pub cube_empty : result ≡ false → (state : List Bool) → length state ≡ length clear → in_cube cube state ≡ true → ⊥
   cube_empty failed state size inside =
@@ -107,10 +109,10 @@ all_true clauses state each =
 pub outside_found : (atoms : ℕ) (clauses : List (List Literal)) (cube : List Literal) (clear firm trial : List ℕ) (place : ℕ)
     (clause literals : List Literal) (found : List Bool)
     → ((p : ℕ) → known clear p ≡ None)
-    → IsConcluded (λ state. in_cube cube (over [] state) ≡ true) (AreTrue [] cube) clear firm true
+    → IsConcluded (λ state. in_cube cube (over [] state) ≡ true) (AreKnownTrue [] cube) clear firm true
     → length clear ≡ atoms → length trial ≡ atoms → AreClauses atoms clauses → SpeakBelow atoms cube
     → place < length clauses → clause ≡ get_or clauses place clause → literals ≡ clause
-    → AreFalse [] literals trial → Extends firm trial → found ≡ low trial → Covers false atoms (in_clauses clauses) cube found
+    → AreFalse [] literals trial → KeepsKnown firm trial → found ≡ low trial → Covers false atoms (in_clauses clauses) cube found
 outside_found atoms clauses cube clear firm trial place clause literals found none forced clear_size trial_size
     speak cube_speaks within at same lies grows is =
     subst (λ s. Covers false atoms (in_clauses clauses) cube s) (sym is) (record {

@@ -11,14 +11,16 @@ use Rattle.hv_sets.specs.Cost.{choices_of, clauses_of}
 use Rattle.hv_sets.specs.Query.{IsNamed, action_of, may_apply}
 use Rattle.hv_clauses.specs.declared.completion.Completion.{Completion}
 use Rattle.hv_clauses.specs.Kinded.{CompletesClauses, IsShort}
-use Rattle.hv_clauses.specs.Choices.{AreChosenFalse, Breaks}
-use Rattle.hv_clauses.specs.Clausal.{AreClauses, Completes, InAll, sizes_of}
-use Rattle.hv_clauses.specs.Completion.{IsCompleted}
-use Rattle.hv_clauses.specs.Effect.{IsEnabled}
-use Rattle.hv_clauses.specs.Found.{IsBase, IsMet}
-use Rattle.hv_clauses.specs.Marks.{Agrees, known}
-use Rattle.hv_clauses.specs.Problem.{AreAllSettled, Fits}
-use Rattle.hv_clauses.specs.Units.{IsConcluded}
+use Rattle.hv_clauses.specs.Working.Choices.{AreChosenFalse, Breaks}
+use Rattle.hv_clauses.specs.Clausal.{AreClauses, sizes_of}
+use Rattle.hv_clauses.specs.Working.Clausal.{Completes, InAll}
+use Rattle.hv_clauses.specs.Working.Completion.{IsCompleted}
+use Rattle.hv_clauses.specs.Working.Effect.{IsEnabled}
+use Rattle.hv_clauses.specs.Working.Found.{IsBase, IsMet}
+use Rattle.hv_clauses.specs.Marks.{known}
+use Rattle.hv_clauses.specs.Working.Marks.{Agrees}
+use Rattle.hv_clauses.specs.Working.Problem.{AreAllSettled, FitsChoice}
+use Rattle.hv_clauses.specs.Working.Units.{IsConcluded}
 use Rattle.hv_clauses.proofs.Choosing.{breaks_known, chosen_false_extends, some_from_choices}
 use Rattle.hv_clauses.proofs.Kinded.{operands_complete}
 use Rattle.hv_clauses.proofs.Marked.{agrees_extends, extends_then}
@@ -75,19 +77,19 @@ module _ (task : Strips) (formulas : ℕ → List (List Literal)) (effect : List
     module _ (negative : List Operand) (among : negative ≡ query.negative) (number : ℕ) (base m0 m1 : List ℕ)
         (is : IsBase task formulas effect query base) (wide : length base ≡ atoms task) (copied : m0 ≡ base)
         (e_wide : length effect ≡ atoms task) where
-      agrees_base : (state : List Bool) → length state ≡ atoms task → Fits task formulas effect query number state → Agrees m0 state
+      agrees_base : (state : List Bool) → length state ≡ atoms task → FitsChoice task formulas effect query number state → Agrees m0 state
       agrees_base state size fits =
           subst (λ m. Agrees m state) (sym copied) (is.follows state (size ∙ sym wide) fits.applies fits.inside)
 
       m0_wide : length m0 ≡ atoms task
       m0_wide = ap length copied ∙ wide
 
-      breaks_of : (state : List Bool) → Fits task formulas effect query number state → Breaks task formulas effect negative number state
+      breaks_of : (state : List Bool) → FitsChoice task formulas effect query number state → Breaks task formulas effect negative number state
       breaks_of state fits = subst (λ os. Breaks task formulas effect os number state) (sym among) fits.outside
 
       pub not_denied : (found : List Bool)
           → IsConcluded (Breaks task formulas effect negative number) (AreChosenFalse task formulas effect negative number) m0 m1 false
-          → IsMet false (atoms task) (Fits task formulas effect query number) found
+          → IsMet false (atoms task) (FitsChoice task formulas effect query number) found
       not_denied found denied = λ state size fits.
           denied.broken refl state (size ∙ sym m0_wide) (breaks_of state fits) (agrees_base state size fits)
 
@@ -97,14 +99,14 @@ module _ (task : Strips) (formulas : ℕ → List (List Literal)) (effect : List
         m1_wide = denied.size ∙ m0_wide
 
         pub not_closed : (D : List ℕ → Type 0) (found : List Bool) → IsConcluded (InAll task formulas effect positive) D m1 m2 false
-            → IsMet false (atoms task) (Fits task formulas effect query number) found
+            → IsMet false (atoms task) (FitsChoice task formulas effect query number) found
         not_closed D found closed = λ state size fits.
             closed.broken refl state (size ∙ sym m1_wide) (inside_of state fits.inside)
             (denied.follows state (size ∙ sym m0_wide) (breaks_of state fits) (agrees_base state size fits))
 
         pub completed : (D : List ℕ → Type 0) (result : Bool) (built : List Bool) → IsConcluded (InAll task formulas effect positive) D m1 m2 true
             → length built ≡ atoms task → IsCompleted (InAll task formulas effect positive) m2 built result
-            → IsMet result (atoms task) (Fits task formulas effect query number) built
+            → IsMet result (atoms task) (FitsChoice task formulas effect query number) built
         completed D true built closed size one =
             let agrees = (one.found refl).1 in
             let m2_wide : length m2 ≡ atoms task = closed.size ∙ m1_wide in (

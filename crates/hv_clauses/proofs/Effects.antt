@@ -11,10 +11,12 @@ use Rattle.hv_task.specs.Strips.{Strips}
 use Rattle.hv_sets.specs.Query.{action_of, asked, may_apply}
 use Rattle.hv_sets.specs.declared.literal.Literal.{Literal}
 use Rattle.hv_sets.specs.Truth.{in_literal}
-use Rattle.hv_clauses.specs.Effect.{AreIn, IsEffect, IsEnabled}
-use Rattle.hv_clauses.specs.Units.{IsConcluded, value_of}
-use Rattle.hv_clauses.specs.Marks.{Agrees, known, mark_for, mark_of, or_else, over}
-use Rattle.hv_clauses.specs.Overwriting.{overwrite}
+use Rattle.hv_clauses.specs.Working.Effect.{AreMarkedIn, IsEffect, IsEnabled}
+use Rattle.hv_clauses.specs.Units.{value_of}
+use Rattle.hv_clauses.specs.Working.Units.{IsConcluded}
+use Rattle.hv_clauses.specs.Marks.{known, mark_of, or_else, over}
+use Rattle.hv_clauses.specs.Working.Marks.{Agrees, mark_for}
+use Rattle.hv_clauses.specs.Working.Overwriting.{overwrite}
 use Rattle.hv_clauses.proofs.Marked.{over-nil, over-none}
 use Rattle.hv_clauses.proofs.Rounds.{conclude_broken, conclude_same, conclude_then}
 
@@ -132,18 +134,18 @@ module _ (atoms : List ℕ) (i : ℕ) (m k n : List ℕ) where
       before one
 
   pub in_broken : i < length atoms → IsConcluded (HaveBelow atoms i) (InBelow atoms i) m k true → Forced false
-      → IsConcluded (λ state. has_all atoms state ≡ true) (AreIn atoms) m n false
+      → IsConcluded (λ state. has_all atoms state ≡ true) (AreMarkedIn atoms) m n false
   in_broken within before one =
       conclude_broken (HaveBelow atoms i) (λ state. in_literal (lit (get_or atoms i 0)) (over [] state) ≡ true) (λ state. has_all atoms state ≡ true)
-      (InBelow atoms i) (λ marks. value_of [] marks (lit (get_or atoms i 0)) ≡ Some true) (AreIn atoms) m k n
+      (InBelow atoms i) (λ marks. value_of [] marks (lit (get_or atoms i 0)) ≡ Some true) (AreMarkedIn atoms) m k n
       (λ state size holds. all_below state i (omega arith) holds)
       (λ state size holds. one_in state (all_below state (i + 1) (omega arith) holds i (omega arith)))
       before one
 
 pub in_all : (atoms : List ℕ) (i : ℕ) (m k : List ℕ) → length atoms ≤ i → i ≤ length atoms
-    → IsConcluded (HaveBelow atoms i) (InBelow atoms i) m k true → IsConcluded (λ state. has_all atoms state ≡ true) (AreIn atoms) m k true
+    → IsConcluded (HaveBelow atoms i) (InBelow atoms i) m k true → IsConcluded (λ state. has_all atoms state ≡ true) (AreMarkedIn atoms) m k true
 in_all atoms i m k past within before =
-    conclude_same (HaveBelow atoms i) (λ state. has_all atoms state ≡ true) (InBelow atoms i) (AreIn atoms) m k true
+    conclude_same (HaveBelow atoms i) (λ state. has_all atoms state ≡ true) (InBelow atoms i) (AreMarkedIn atoms) m k true
     (λ state size holds. λ q less. list_all_get (λ p. has_atom state p) atoms q 0 holds (omega arith))
     (λ marks size done. λ q d less. subst (λ p. known marks p ≡ Some true) (get_or_default atoms q 0 d less) (done q (omega arith)))
     before
@@ -151,16 +153,16 @@ in_all atoms i m k past within before =
 -- the precondition of an action as the calls give it
 pub enabled_by : (task : Strips) (chosen : Option ℕ) (number : ℕ) (action : Action) (pre m k : List ℕ) (r : Bool)
     → chosen ≡ Some number → slice_get task.actions number ≡ Some action → pre ≡ action.pre
-    → IsConcluded (λ state. has_all pre state ≡ true) (AreIn pre) m k r
+    → IsConcluded (λ state. has_all pre state ≡ true) (AreMarkedIn pre) m k r
     → IsConcluded (λ state. may_apply (action_of task chosen) state ≡ true) (IsEnabled (action_of task chosen)) m k r
 enabled_by task chosen number action pre m k r is named pres one =
     let found : action_of task chosen ≡ Some action = ap (λ c. action_of task c) is ∙ named in
-    conclude_same (λ state. has_all pre state ≡ true) (λ state. may_apply (action_of task chosen) state ≡ true) (AreIn pre)
+    conclude_same (λ state. has_all pre state ≡ true) (λ state. may_apply (action_of task chosen) state ≡ true) (AreMarkedIn pre)
     (IsEnabled (action_of task chosen)) m k r
     (λ state size holds. ap (λ p. has_all p state) pres ∙ sym (ap (λ a. may_apply a state) found) ∙ holds)
     (λ marks size done. λ state agrees.
     ap (λ a. may_apply a state) found ∙ sym (ap (λ p. has_all p state) pres) ∙ has_all_in pre marks state done agrees)
     one
   where
-    has_all_in : (atoms marks : List ℕ) (state : List Bool) → AreIn atoms marks → Agrees marks state → has_all atoms state ≡ true
+    has_all_in : (atoms marks : List ℕ) (state : List Bool) → AreMarkedIn atoms marks → Agrees marks state → has_all atoms state ≡ true
     has_all_in atoms marks state done agrees = list_all_from (λ p. has_atom state p) atoms (λ k d less. agrees (get_or atoms k d) true (done k d less))

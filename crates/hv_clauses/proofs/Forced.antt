@@ -9,10 +9,12 @@ use Rattle.hv_sets.specs.declared.literal.Literal.{Literal}
 use Rattle.hv_sets.specs.Cubes.{atoms_of}
 use Rattle.hv_sets.specs.Truth.{in_clauses}
 use Rattle.hv_sets.proofs.Cubes.{atom_at}
-use Rattle.hv_clauses.specs.Closure.{AreForced, ListsBelow}
-use Rattle.hv_clauses.specs.Marks.{Agrees, known}
-use Rattle.hv_clauses.specs.Trail.{Knowledge, marked, marks_of}
-use Rattle.hv_clauses.specs.Units.{AreSettled, IsSettled, first_of, value_of}
+use Rattle.hv_clauses.specs.Working.Closure.{AreForced, ListsBelow}
+use Rattle.hv_clauses.specs.Marks.{known}
+use Rattle.hv_clauses.specs.Working.Marks.{Agrees}
+use Rattle.hv_clauses.specs.Working.Trail.{Knowledge, marked, marks_of}
+use Rattle.hv_clauses.specs.Units.{IsSettled, first_of, value_of}
+use Rattle.hv_clauses.specs.Working.Units.{AreSettled}
 use Rattle.hv_clauses.proofs.Marked.{known_past}
 use Rattle.hv_clauses.proofs.Trailed.{known-replicate, known-set_other, known-set_same, length-marked, length-marks, written-push, written_none}
 

@@ -15,12 +15,14 @@ use Rattle.hv_sets.specs.declared.operand.Which.{Which}
 use Rattle.hv_sets.specs.declared.operand.Which.TheVariants as W
 use Rattle.hv_sets.specs.Cubes.{SpeakBelow}
 use Rattle.hv_sets.specs.Cost.{clauses_of}
-use Rattle.hv_sets.specs.Names.{Names}
+use Rattle.hv_sets.specs.Names.{AsksAbout}
 use Rattle.hv_sets.specs.Query.{in_which}
 use Rattle.hv_sets.specs.Truth.{in_clause, in_clauses, in_literal}
-use Rattle.hv_clauses.specs.Choices.{Breaks, clause_at}
-use Rattle.hv_clauses.specs.Clausal.{AreClauses, InAll, clauses_in, late, sets_of, sizes_of}
-use Rattle.hv_clauses.specs.Marks.{Agrees, known, over}
+use Rattle.hv_clauses.specs.Working.Choices.{Breaks, clause_at}
+use Rattle.hv_clauses.specs.Clausal.{AreClauses, tests_of, sizes_of}
+use Rattle.hv_clauses.specs.Working.Clausal.{InAll, clauses_in, late}
+use Rattle.hv_clauses.specs.Marks.{known, over}
+use Rattle.hv_clauses.specs.Working.Marks.{Agrees}
 use Rattle.hv_clauses.specs.Units.{first_of, value_of}
 use Rattle.hv_clauses.proofs.Effects.{list_all_get}
 use Rattle.hv_clauses.proofs.Marked.{has_atom-over_none, has_atom-over_some, length-over, over-nil, value_true}
@@ -109,16 +111,16 @@ clause_held e false clause s all holds =
 -- so where its set is a positive operand at the other time, no state of the positive operands
 -- breaks it
 pub framed_true : (task : Strips) (formulas : ℕ → List (List Literal)) (effect : List ℕ) (positive : List Operand) (number : ℕ) (after : Bool)
-    (place : ℕ) (state : List Bool) → place < length (formulas number) → Names positive (W.Set number) (not after)
+    (place : ℕ) (state : List Bool) → place < length (formulas number) → AsksAbout positive (W.Set number) (not after)
     → All (λ l. value_of effect [] l ≡ Some (not after) → ⊥) (clause_at (formulas number) place) → InAll task formulas effect positive state
     → in_clause (clause_at (formulas number) place) (over (late effect after) state) ≡ false → ⊥
 framed_true task formulas effect positive number after place state within named held inside broken =
     let clause = clause_at (formulas number) place in
     let o = named.0 in
-    let holds : in_which task (sets_of formulas) o.which (over (late effect o.after) state) ≡ true =
-    All-contains (λ o. in_which task (sets_of formulas) o.which (over (late effect o.after) state) ≡ true) positive o inside named.1 in
+    let holds : in_which task (tests_of formulas) o.which (over (late effect o.after) state) ≡ true =
+    All-contains (λ o. in_which task (tests_of formulas) o.which (over (late effect o.after) state) ≡ true) positive o inside named.1 in
     let other : in_clauses (formulas number) (over (late effect (not after)) state) ≡ true =
-    sym (ap (λ w. in_which task (sets_of formulas) w (over (late effect o.after) state)) named.2 ∙ ap (λ b. in_clauses (formulas number) (over (late effect b) state)) named.3) ∙ holds in
+    sym (ap (λ w. in_which task (tests_of formulas) w (over (late effect o.after) state)) named.2 ∙ ap (λ b. in_clauses (formulas number) (over (late effect b) state)) named.3) ∙ holds in
     not_both (in_clause clause (over (late effect after) state))
     (clause_held effect after clause state held
     (list_all_get (λ c. in_clause c (over (late effect (not after)) state)) (formulas number) place [] other within)) broken
@@ -160,11 +162,11 @@ module _ (task : Strips) (formulas : ℕ → List (List Literal)) (effect : List
       known_true seen base clause n state speaks size found agrees
       (ap₂ (λ c e. in_clause c (over e state)) clause_is through ∙ broken_is after state broken)
 
-  pub refuted_framed : (after : Bool) (positive : List Operand) (state : List Bool) → Names positive which (not after)
+  pub refuted_framed : (after : Bool) (positive : List Operand) (state : List Bool) → AsksAbout positive which (not after)
       → All (λ l. value_of effect [] l ≡ Some (not after) → ⊥) clause → InAll task formulas effect positive state
       → in_clause (clause_at (clauses_in task formulas which) place) (over (late effect after) state) ≡ false → ⊥
   refuted_framed after positive state named held inside broken =
-      framed_true task formulas effect positive number after place state place_within (subst (λ w. Names positive w (not after)) is named)
+      framed_true task formulas effect positive number after place state place_within (subst (λ w. AsksAbout positive w (not after)) is named)
       (subst (λ c. All (λ l. value_of effect [] l ≡ Some (not after) → ⊥) c) clause_is held) inside (broken_is after state broken)
 
 pub refuted_by : (task : Strips) (formulas : ℕ → List (List Literal)) (effect : List ℕ) (listed operands : List Operand) (place : ℕ) (d : Operand)

@@ -6,8 +6,9 @@ use Rattle.std.proofs.lemmas.List.Elements.{Contains-append_left, Contains-push,
 use Rattle.std.specs.List.{Contains}
 use Rattle.hv_sets.specs.declared.literal.Literal.{Literal}
 use Rattle.std.specs.List.Sorted.{IsStrictlyIncreasing}
-use Rattle.hv_clauses.specs.Negative.{IsNegativeCode, StandsNegatively}
-use Rattle.hv_clauses.specs.Rows.{AreRows, ListsCodes, PutsCodes, code, number_of}
+use Rattle.hv_clauses.specs.Negative.{StandsNegatively}
+use Rattle.hv_clauses.specs.Working.Negative.{IsNegativeCode}
+use Rattle.hv_clauses.specs.Working.Rows.{AreRows, ListsCodes, PutsCodes, code, place_of_code}
 
 -- the codes of one item more
 pub lists_more : (Of : ℕ → ℕ → Type 0) (k : ℕ) (codes new : List ℕ) → ListsCodes Of k codes → PutsCodes (Of k) codes new
@@ -70,7 +71,7 @@ negative_more clause i number literal within is c = (
 -- all codes, in order
 pub negative_rows : (clauses : List (List Literal)) (listed sorted numbers : List ℕ) → length clauses ≤ 4294967296
     → ListsCodes (λ k. IsNegativeCode (get_or clauses k []) k) (length clauses) listed → IsStrictlyIncreasing sorted
-    → ((c : ℕ) → Contains sorted c ↔ Contains listed c) → numbers ≡ map number_of sorted
+    → ((c : ℕ) → Contains sorted c ↔ Contains listed c) → numbers ≡ map place_of_code sorted
     → AreRows (StandsNegatively clauses) sorted numbers
 negative_rows clauses listed sorted numbers few lists rises has are = record {
   rises = rises;

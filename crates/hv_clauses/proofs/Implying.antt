@@ -6,8 +6,10 @@ use Rattle.std.specs.List.{All, Contains}
 use Rattle.std.specs.List.Sorted.{IsStrictlyIncreasing}
 use Rattle.hv_sets.specs.declared.literal.Literal.{Literal}
 use Rattle.hv_sets.specs.Cubes.{SpeakBelow, opposite}
-use Rattle.hv_clauses.specs.Implied.{AreImplied, Implies, ImpliesNumber, IsEither, IsImpliedCode, IsPair, literal_number}
-use Rattle.hv_clauses.specs.Rows.{AreRows, IsRow, ListsCodes, code, number_of}
+use Rattle.hv_clauses.specs.Implied.{AreImplied, Implies, IsEither, IsPair, literal_number}
+use Rattle.hv_clauses.specs.Working.Implied.{ImpliesNumber, IsImpliedCode}
+use Rattle.hv_clauses.specs.Rows.{IsRow}
+use Rattle.hv_clauses.specs.Working.Rows.{AreRows, ListsCodes, code, place_of_code}
 
 opposite_twice : (l : Literal) → opposite (opposite l) ≡ l
 opposite_twice l = let sign = not-not l.positive in λ i. record { atom = l.atom; positive = sign i }
@@ -90,7 +92,7 @@ number_fits l small = by l.positive
 -- all codes, in order
 pub implied_rows : (clauses : List (List Literal)) (listed sorted numbers : List ℕ) → All (SpeakBelow 2147483648) clauses
     → ListsCodes (λ k. IsImpliedCode (get_or clauses k [])) (length clauses) listed → IsStrictlyIncreasing sorted
-    → ((c : ℕ) → Contains sorted c ↔ Contains listed c) → numbers ≡ map number_of sorted
+    → ((c : ℕ) → Contains sorted c ↔ Contains listed c) → numbers ≡ map place_of_code sorted
     → AreRows (ImpliesNumber clauses) sorted numbers
 implied_rows clauses listed sorted numbers speak lists rises has are = record {
   rises = rises;

@@ -8,22 +8,23 @@ use Rattle.std.specs.List.{Contains}
 use Rattle.std.specs.List.Sorted.{IsNonDecreasingBy, IsStrictlyIncreasing}
 use Rattle.std.specs.Prelude.{slice_range}
 use Rattle.hv_task.proofs.Rising.{rises_apart}
-use Rattle.hv_clauses.specs.Rows.{AreRows, IsPartOf, IsEndBefore, IsEndWith, IsRow, code, key_of, number_of}
+use Rattle.hv_clauses.specs.Rows.{IsRow}
+use Rattle.hv_clauses.specs.Working.Rows.{AreRows, IsPartOf, IsEndBefore, IsEndWith, code, key_of, place_of_code}
 
 -- the two parts of a code
 pub key_of-code : (key number : ℕ) → number < 4294967296 → key_of (code key number) ≡ key
 key_of-code key number small = omega arith
 
-pub number_of-code : (key number : ℕ) → number < 4294967296 → number_of (code key number) ≡ number
+pub number_of-code : (key number : ℕ) → number < 4294967296 → place_of_code (code key number) ≡ number
 number_of-code key number small = omega arith
 
-pub code_is : (c : ℕ) → c ≡ code (key_of c) (number_of c)
+pub code_is : (c : ℕ) → c ≡ code (key_of c) (place_of_code c)
 code_is c = omega arith
 
 key_upto : (a b : ℕ) → a ≤ b → key_of a ≤ key_of b
 key_upto a b upto = omega arith
 
-number_less : (a b : ℕ) → a < b → key_of a ≡ key_of b → number_of a < number_of b
+number_less : (a b : ℕ) → a < b → key_of a ≡ key_of b → place_of_code a < place_of_code b
 number_less a b less same = omega arith
 
 -- rising codes have keys that don't fall
@@ -52,7 +53,7 @@ starts_upto codes key from upto starts ends = elim (cases_lt upto from) [
 module _ (Pair : ℕ → ℕ → Type 0) (codes numbers : List ℕ) (rows : AreRows Pair codes numbers) (key from upto : ℕ)
     (starts : IsEndBefore key codes from) (ends : IsEndWith key codes upto) where
   size : length numbers ≡ length codes
-  size = ap length rows.numbers_are ∙ length-map codes number_of
+  size = ap length rows.numbers_are ∙ length-map codes place_of_code
 
   pub row_ends : upto ≤ length numbers
   row_ends = let e = size in let w = ends.within in omega arith
@@ -67,11 +68,11 @@ module _ (Pair : ℕ → ℕ → Type 0) (codes numbers : List ℕ) (rows : AreR
       let high = ends.before (from + k) (omega arith) in
       omega arith
 
-  number_at : (k : ℕ) (d : ℕ) → k < upto - from → get_or (slice_range numbers from upto) k d ≡ number_of (get_or codes (from + k) 0)
+  number_at : (k : ℕ) (d : ℕ) → k < upto - from → get_or (slice_range numbers from upto) k d ≡ place_of_code (get_or codes (from + k) 0)
   number_at k d less =
       get_or-between numbers from upto k d (omega arith)
       ∙ ap (λ xs. get_or xs (from + k) d) rows.numbers_are
-      ∙ get_or-map number_of codes (from + k) 0 d (let w = ends.within in omega arith)
+      ∙ get_or-map place_of_code codes (from + k) 0 d (let w = ends.within in omega arith)
 
   row_rises : IsStrictlyIncreasing (slice_range numbers from upto)
   row_rises k less =
@@ -95,7 +96,7 @@ module _ (Pair : ℕ → ℕ → Type 0) (codes numbers : List ℕ) (rows : AreR
       let x = get_or codes (from + c.0) 0 in
       let found = (rows.has x).0 (Contains-get_or codes (from + c.0) 0 (omega arith)) in
       let number_is : found.1 ≡ number =
-      sym (number_of-code found.0 found.1 found.3) ∙ (ap number_of (sym found.2) ∙ (sym (number_at c.0 number less) ∙ c.2)) in
+      sym (number_of-code found.0 found.1 found.3) ∙ (ap place_of_code (sym found.2) ∙ (sym (number_at c.0 number less) ∙ c.2)) in
       let key_is : found.0 ≡ key = sym (key_of-code found.0 found.1 found.3) ∙ (ap key_of (sym found.2) ∙ key_at c.0 less) in
       subst (λ n. Pair key n) number_is (subst (λ k. Pair k found.1) key_is found.4)
 
@@ -120,8 +121,8 @@ module _ (Pair : ℕ → ℕ → Type 0) (codes numbers : List ℕ) (rows : AreR
         c.0 - from,
         omega arith,
         number_at (c.0 - from) number less
-            ∙ ap (λ k. number_of (get_or codes k 0)) place
-            ∙ ap number_of is
+            ∙ ap (λ k. place_of_code (get_or codes k 0)) place
+            ∙ ap place_of_code is
             ∙ number_of-code key number small,
       )
 

@@ -17,9 +17,12 @@ use Rattle.hv_sets.specs.Query.{IsNamed, in_which}
 use Rattle.hv_sets.specs.Truth.{in_clause, in_clauses, in_literal}
 use Rattle.hv_clauses.specs.declared.completion.Completion.{Completion}
 use Rattle.hv_clauses.specs.declared.completion.Completion.TheVariants as C
-use Rattle.hv_clauses.specs.Clausal.{AreClauses, Completes, InAll, clauses_in, clauses_of_state, late, sets_of, unit}
-use Rattle.hv_clauses.specs.Marks.{Agrees, AllKnown, filled, known, low, or_else, over}
-use Rattle.hv_clauses.specs.Units.{AreSettled, IsSettled, value_of}
+use Rattle.hv_clauses.specs.Clausal.{AreClauses, tests_of}
+use Rattle.hv_clauses.specs.Working.Clausal.{Completes, InAll, clauses_in, clauses_of_state, late, unit}
+use Rattle.hv_clauses.specs.Marks.{filled, known, or_else, over}
+use Rattle.hv_clauses.specs.Working.Marks.{Agrees, AllKnown, low}
+use Rattle.hv_clauses.specs.Units.{IsSettled, value_of}
+use Rattle.hv_clauses.specs.Working.Units.{AreSettled}
 use Rattle.hv_clauses.proofs.Marked.{agrees_filled, agrees_low, agrees_over, has_atom-filled, has_atom-over_none, length-filled, length-low, length-over, value_none, value_open, value_true}
 
 -- a literal that is true makes its clause true
@@ -251,16 +254,16 @@ constants_below task formulas count (W.Set number) goal each named = each number
 module _ (how : Completion) (IsOf : List Literal → Type 0) (law : CompletesClauses how IsOf)
     (short : (clause : List Literal) → IsShort clause → IsOf clause) (task : Strips) (formulas : ℕ → List (List Literal)) (count : ℕ) (effect : List ℕ)
     (same : (which : Which) (state : List Bool) → length state ≡ atoms task
-    → in_which task (sets_of formulas) which state ≡ in_clauses (clauses_in task formulas which) state)
+    → in_which task (tests_of formulas) which state ≡ in_clauses (clauses_in task formulas which) state)
     (goal : AreBelow (atoms task) task.goal) (of_kind : (number : ℕ) → number < count → All IsOf (formulas number))
     (below_all : (number : ℕ) → number < count → AreClauses (atoms task) (formulas number)) where
   operand_completes : (o : Operand) → IsNamed count o.which
-      → Completes how (λ state. in_which task (sets_of formulas) o.which (over (late effect o.after) state) ≡ true)
+      → Completes how (λ state. in_which task (tests_of formulas) o.which (over (late effect o.after) state) ≡ true)
       (AreSettled (late effect o.after) (clauses_in task formulas o.which)) (atoms task)
   operand_completes o named =
       completes_same how (atoms task)
       (λ state. in_clauses (clauses_in task formulas o.which) (over (late effect o.after) state) ≡ true)
-      (λ state. in_which task (sets_of formulas) o.which (over (late effect o.after) state) ≡ true)
+      (λ state. in_which task (tests_of formulas) o.which (over (late effect o.after) state) ≡ true)
       (AreSettled (late effect o.after) (clauses_in task formulas o.which))
       (AreSettled (late effect o.after) (clauses_in task formulas o.which))
       (λ state size e. same o.which (over (late effect o.after) state) (length-over (late effect o.after) state ∙ size) ∙ e)
@@ -277,6 +280,6 @@ module _ (how : Completion) (IsOf : List Literal → Type 0) (law : CompletesCla
       (λ marks. All (λ o. AreSettled (late effect o.after) (clauses_in task formulas o.which) marks) operands) (atoms task)
   operands_complete operands named =
       completes_all how (atoms task) operands
-      (λ o state. in_which task (sets_of formulas) o.which (over (late effect o.after) state) ≡ true)
+      (λ o state. in_which task (tests_of formulas) o.which (over (late effect o.after) state) ≡ true)
       (λ o marks. AreSettled (late effect o.after) (clauses_in task formulas o.which) marks)
       (λ o c. operand_completes o (All-contains (λ o. IsNamed count o.which) operands o named c))

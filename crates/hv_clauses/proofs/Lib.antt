@@ -24,3 +24,8 @@ pub mod Touching
 pub mod Keyed
 pub mod Gathered
 pub mod Implying
+pub mod Besides
+pub mod Untouched
+pub mod Starting
+pub mod Blocks
+pub mod Digits

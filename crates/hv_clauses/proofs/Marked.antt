@@ -10,8 +10,10 @@ use Rattle.hv_task.proofs.Places.{has_atom_past, same_state}
 use Rattle.hv_sets.specs.declared.literal.Literal.{Literal}
 use Rattle.hv_sets.specs.Cubes.{opposite}
 use Rattle.hv_sets.specs.Truth.{in_literal}
-use Rattle.hv_clauses.specs.Marks.{Agrees, Extends, filled, known, low, mark_of, or_else, over}
-use Rattle.hv_clauses.specs.Units.{AreFalse, first_of, known_through, value_of}
+use Rattle.hv_clauses.specs.Marks.{filled, known, mark_of, or_else, over}
+use Rattle.hv_clauses.specs.Working.Marks.{Agrees, KeepsKnown, low}
+use Rattle.hv_clauses.specs.Units.{first_of, known_through, value_of}
+use Rattle.hv_clauses.specs.Working.Units.{AreFalse}
 
 -- past the end nothing is known
 pub known_past : (m : List ℕ) (p : ℕ) → length m ≤ p → known m p ≡ None
@@ -88,18 +90,18 @@ agrees_filled value m = agrees_over m (replicate (length m) value) (sym (length-
 pub agrees_low : (m : List ℕ) → Agrees m (low m)
 agrees_low m = agrees_filled false m
 
-pub extends_same : (m : List ℕ) → Extends m m
+pub extends_same : (m : List ℕ) → KeepsKnown m m
 extends_same m = λ p b h. h
 
-pub extends_then : (m k n : List ℕ) → Extends m k → Extends k n → Extends m n
+pub extends_then : (m k n : List ℕ) → KeepsKnown m k → KeepsKnown k n → KeepsKnown m n
 extends_then m k n first second = λ p b h. second p b (first p b h)
 
-pub agrees_extends : (m k : List ℕ) (s : List Bool) → Extends m k → Agrees k s → Agrees m s
+pub agrees_extends : (m k : List ℕ) (s : List Bool) → KeepsKnown m k → Agrees k s → Agrees m s
 agrees_extends m k s grows agrees = λ p b h. agrees p b (grows p b h)
 
 -- one mark more
 pub extends_write : (m k : List ℕ) (atom : ℕ) → known m atom ≡ None
-    → ((p : ℕ) → (p ≡ atom → ⊥) → known k p ≡ known m p) → Extends m k
+    → ((p : ℕ) → (p ≡ atom → ⊥) → known k p ≡ known m p) → KeepsKnown m k
 extends_write m k atom none others = λ p b h.
     elim (cases_eq p atom) [
       | inl same ↦ let at : known m p ≡ None = ap (known m) same ∙ none in absurd (cc)
@@ -141,7 +143,7 @@ has_atom-through e m s p b h agrees within =
       | inr both ↦ has_atom-over_none e s p both.0 ∙ agrees p b both.1
     ]
 
-pub through_extends : (e m k : List ℕ) (p : ℕ) (b : Bool) → Extends m k → known_through e m p ≡ Some b
+pub through_extends : (e m k : List ℕ) (p : ℕ) (b : Bool) → KeepsKnown m k → known_through e m p ≡ Some b
     → known_through e k p ≡ Some b
 through_extends e m k p b grows h =
     elim (through_some e m p b h) [
@@ -189,13 +191,13 @@ value_open e m l s h within =
     ap (λ f. cond l.positive f (not f)) (has_atom-over_none e s l.atom (value_none e m l h).0)
 
 -- what was known of a literal stays known
-pub value_extends : (e m k : List ℕ) (l : Literal) (b : Bool) → Extends m k → value_of e m l ≡ Some b → value_of e k l ≡ Some b
+pub value_extends : (e m k : List ℕ) (l : Literal) (b : Bool) → KeepsKnown m k → value_of e m l ≡ Some b → value_of e k l ≡ Some b
 value_extends e m k l b grows h =
     let parts = value_some e m l b h in
     ap (option_map (λ value. cond l.positive value (not value))) (through_extends e m k l.atom parts.0 grows parts.1)
     ∙ ap Some parts.2
 
-pub AreFalse_extends : (e : List ℕ) (literals : List Literal) (m k : List ℕ) → Extends m k → AreFalse e literals m
+pub AreFalse_extends : (e : List ℕ) (literals : List Literal) (m k : List ℕ) → KeepsKnown m k → AreFalse e literals m
     → AreFalse e literals k
 AreFalse_extends e literals m k grows all =
     All-weaker (λ l. value_of e m l ≡ Some false) (λ l. value_of e k l ≡ Some false)

@@ -5,11 +5,12 @@ use Rattle.hv_sets.specs.declared.literal.Literal.{Literal}
 use Rattle.hv_sets.specs.Cubes.{SpeakBelow}
 use Rattle.hv_sets.specs.Truth.{in_clauses, in_cube}
 use Rattle.hv_sets.specs.Walks.{Meets}
-use Rattle.hv_clauses.specs.Chase.{IsFollowed}
-use Rattle.hv_clauses.specs.Completion.{IsCompleted}
-use Rattle.hv_clauses.specs.Marks.{Agrees, over}
-use Rattle.hv_clauses.specs.Trail.{Knowledge, marks_of}
-use Rattle.hv_clauses.specs.Units.{AreTrue, IsConcluded}
+use Rattle.hv_clauses.specs.Working.Chase.{IsFollowed}
+use Rattle.hv_clauses.specs.Working.Completion.{IsCompleted}
+use Rattle.hv_clauses.specs.Marks.{over}
+use Rattle.hv_clauses.specs.Working.Marks.{Agrees}
+use Rattle.hv_clauses.specs.Working.Trail.{Knowledge, marks_of}
+use Rattle.hv_clauses.specs.Working.Units.{AreKnownTrue, IsConcluded}
 use Rattle.hv_clauses.proofs.Covered.{cube_holds}
 use Rattle.hv_clauses.proofs.Marked.{agrees_extends, over-nil}
 use Rattle.hv_clauses.proofs.Trailed.{length-marks}
@@ -24,13 +25,13 @@ module _ (atoms : ℕ) (clauses : List (List Literal)) (cube : List Literal) (st
   sized state size = size ∙ sym (length-marks start ∙ wide)
 
   -- no state of the clauses is in the cube
-  pub meets_unforced : IsConcluded (λ state. in_cube cube (over [] state) ≡ true) (AreTrue [] cube) (marks_of start) (marks_of forced) false
+  pub meets_unforced : IsConcluded (λ state. in_cube cube (over [] state) ≡ true) (AreKnownTrue [] cube) (marks_of start) (marks_of forced) false
       → (found : List Bool) → Meets false atoms (in_clauses clauses) cube found
   meets_unforced first found = λ state size inside.
       false_from_ne_true (in_clauses clauses state)
       (λ holds. first.broken refl state (sized state size) (ap (in_cube cube) (over-nil state) ∙ inside) (agrees_start state size holds))
 
-  module _ (first : IsConcluded (λ state. in_cube cube (over [] state) ≡ true) (AreTrue [] cube) (marks_of start) (marks_of forced) true)
+  module _ (first : IsConcluded (λ state. in_cube cube (over [] state) ≡ true) (AreKnownTrue [] cube) (marks_of start) (marks_of forced) true)
       (same : forced.base ≡ start.base) (closed : Knowledge) where
     agrees_forced : (state : List Bool) → length state ≡ atoms → in_cube cube state ≡ true → in_clauses clauses state ≡ true → Agrees (marks_of forced) state
     agrees_forced state size inside holds =

@@ -4,7 +4,7 @@ use Rattle.std.proofs.lemmas.Bool.{cases_lt}
 use Rattle.std.proofs.lemmas.List.{get_or-drop, get_or-take, length-drop, length-take-le}
 use Rattle.std.specs.List.{Contains}
 use Rattle.hv_clauses.specs.declared.occurrences.Occurrence.{Occurrence}
-use Rattle.hv_clauses.specs.Occurrences.{AreLeft}
+use Rattle.hv_clauses.specs.Working.Occurrences.{AreLeft}
 
 -- the part between the two counts has all occurrences of the atom
 pub part_starts : (xs : List Occurrence) (atom from upto : ℕ) → from ≤ length xs → upto ≤ length xs

@@ -18,8 +18,9 @@ use Rattle.hv_sets.specs.Cost.{clauses_of}
 use Rattle.hv_sets.specs.Cubes.{SpeakBelow}
 use Rattle.hv_sets.specs.Query.{in_which}
 use Rattle.hv_sets.specs.Truth.{in_clause, in_clauses, is_same}
-use Rattle.hv_clauses.specs.Choices.{clause_at}
-use Rattle.hv_clauses.specs.Clausal.{AreClauses, clauses_in, clauses_of_state, sets_of, sizes_of, unit}
+use Rattle.hv_clauses.specs.Working.Choices.{clause_at}
+use Rattle.hv_clauses.specs.Clausal.{AreClauses, tests_of, sizes_of}
+use Rattle.hv_clauses.specs.Working.Clausal.{clauses_in, clauses_of_state, unit}
 use Rattle.hv_clauses.specs.Marks.{over}
 use Rattle.hv_clauses.proofs.Marked.{length-over}
 
@@ -113,7 +114,7 @@ clauses_of_goal_are (atom ∷ goal) state =
 
 -- the clauses of an operand are true in just the states of what it names
 pub clauses_in_is : (task : Strips) (formulas : ℕ → List (List Literal)) (which : Which) (state : List Bool)
-    → length state ≡ atoms task → in_which task (sets_of formulas) which state ≡ in_clauses (clauses_in task formulas which) state
+    → length state ≡ atoms task → in_which task (tests_of formulas) which state ≡ in_clauses (clauses_in task formulas which) state
 clauses_in_is task formulas W.Empty state size = refl
 clauses_in_is task formulas W.Start state size = clauses_of_state_is task.start state (atoms task) size
 clauses_in_is task formulas W.Goal state size = clauses_of_goal_are task.goal state

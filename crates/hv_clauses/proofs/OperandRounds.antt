@@ -6,10 +6,11 @@ use Rattle.hv_sets.specs.declared.literal.Literal.{Literal}
 use Rattle.hv_sets.specs.declared.operand.Operand.{Operand}
 use Rattle.hv_sets.specs.Cost.{clauses_of}
 use Rattle.hv_sets.specs.Truth.{in_clause}
-use Rattle.hv_clauses.specs.Choices.{AreChosenFalse, Breaks, clause_at}
-use Rattle.hv_clauses.specs.Clausal.{clauses_in, late, sizes_of}
+use Rattle.hv_clauses.specs.Working.Choices.{AreChosenFalse, Breaks, clause_at}
+use Rattle.hv_clauses.specs.Clausal.{sizes_of}
+use Rattle.hv_clauses.specs.Working.Clausal.{clauses_in, late}
 use Rattle.hv_clauses.specs.Marks.{over}
-use Rattle.hv_clauses.specs.Units.{AreFalse, IsConcluded}
+use Rattle.hv_clauses.specs.Working.Units.{AreFalse, IsConcluded}
 use Rattle.hv_clauses.proofs.Rounds.{conclude_stop, conclude_then}
 use Rattle.hv_clauses.proofs.Choosing.{chosen_false_extends}
 use Rattle.hv_clauses.proofs.OperandClauses.{clauses_of_is}
@@ -50,7 +51,7 @@ module _ (task : Strips) (formulas : ℕ → List (List Literal)) where
       IsConcluded (Breaks task formulas effect operands number) (AreChosenFalse task formulas effect operands number)
 
   module _ (effect : List ℕ) where
-    breaks_parts : (front back : List Operand) (number : ℕ) (state : List Bool)
+    pub breaks_parts : (front back : List Operand) (number : ℕ) (state : List Bool)
         → Breaks task formulas effect (front ++ back) number state
         → Breaks task formulas effect front number state × Breaks task formulas effect back (left_after front number) state
     breaks_parts [] back number state breaks = (tt, breaks)

@@ -11,8 +11,8 @@ use Rattle.hv_sets.specs.declared.literal.Literal.{Literal}
 use Rattle.hv_sets.specs.Cubes.{Adds, SpeakBelow, atoms_of, opposite}
 use Rattle.hv_sets.proofs.Cubes.{atom_at}
 use Rattle.hv_clauses.specs.Clausal.{AreClauses}
-use Rattle.hv_clauses.specs.Denial.{bound_of, denial, denial_at, denial_below, is_tautology, names_literal, step_of}
-use Rattle.hv_clauses.specs.Laws.{below_has, denied, opposite_twice, opposites, tautology_from, tautology_has}
+use Rattle.hv_clauses.specs.Denial.{bound_of, denial, denial_at, denial_below, is_tautology, names_literal, denial_step}
+use Rattle.hv_clauses.specs.Working.Laws.{below_has, denied, opposite_twice, opposites, tautology_from, tautology_has}
 
 -- a greater atom at the end keeps a list rising
 rises-push : (xs : List ℕ) (n : ℕ) → IsStrictlyIncreasing xs → AreBelow n xs → IsStrictlyIncreasing (xs ++ n ∷ [])
@@ -145,7 +145,7 @@ module _ (i : ℕ) (clause cube : List Literal) (within : i < length clause) whe
       tautology_from clause item (Contains-get_or clause i (record { atom = 0; positive = false }) within) earlier
 
 -- all were put in
-pub denied_all : (i : ℕ) (clause cube : List Literal) → length clause ≤ i → IsDenied i clause cube → step_of clause ≡ Some cube
+pub denied_all : (i : ℕ) (clause cube : List Literal) → length clause ≤ i → IsDenied i clause cube → denial_step clause ≡ Some cube
 denied_all i clause cube all so_far = ap (λ t. if t then None else Some (denial clause)) plain ∙ ap Some (sym same)
   where
     has : (a : Literal) → Contains cube a ↔ Contains clause (opposite a)
@@ -174,23 +174,23 @@ denied_all i clause cube all so_far = ap (λ t. if t then None else Some (denial
 module _ (clauses : List (List Literal)) (place : ℕ) (within : place < length clauses) (clause literals : List Literal)
     (at : clause ≡ get_or clauses place clause) (same : literals ≡ clause) where
   -- the next step of a walk is that at the clause
-  next_step : (step : Option (List Literal)) → step_of literals ≡ step
-      → drop place (map step_of clauses) ≡ step ∷ drop (place + 1) (map step_of clauses)
+  next_step : (step : Option (List Literal)) → denial_step literals ≡ step
+      → drop place (map denial_step clauses) ≡ step ∷ drop (place + 1) (map denial_step clauses)
   next_step step is =
-      let size = length-map clauses step_of in
-      drop_more (map step_of clauses) place step (omega arith)
-      ∙ ap (λ s. s ∷ drop (place + 1) (map step_of clauses))
-      (get_or-map step_of clauses place clause step within ∙ (ap step_of (sym at ∙ sym same) ∙ is))
+      let size = length-map clauses denial_step in
+      drop_more (map denial_step clauses) place step (omega arith)
+      ∙ ap (λ s. s ∷ drop (place + 1) (map denial_step clauses))
+      (get_or-map denial_step clauses place clause step within ∙ (ap denial_step (sym at ∙ sym same) ∙ is))
 
-  pub step_taken : (cube : List Literal) → step_of literals ≡ Some cube
-      → drop place (map step_of clauses) ≡ Some cube ∷ drop (place + 1) (map step_of clauses)
+  pub step_taken : (cube : List Literal) → denial_step literals ≡ Some cube
+      → drop place (map denial_step clauses) ≡ Some cube ∷ drop (place + 1) (map denial_step clauses)
   step_taken cube is = next_step (Some cube) is
 
-  pub step_void : is_tautology literals ≡ true → drop place (map step_of clauses) ≡ None ∷ drop (place + 1) (map step_of clauses)
+  pub step_void : is_tautology literals ≡ true → drop place (map denial_step clauses) ≡ None ∷ drop (place + 1) (map denial_step clauses)
   step_void is = next_step None (ap (λ t. if t then None else Some (denial literals)) is)
 
   -- the cube of a step speaks of the atoms of its clause alone
-  pub step_speaks : (n : ℕ) (cube : List Literal) → AreClauses n clauses → step_of literals ≡ Some cube → SpeakBelow n cube
+  pub step_speaks : (n : ℕ) (cube : List Literal) → AreClauses n clauses → denial_step literals ≡ Some cube → SpeakBelow n cube
   step_speaks n cube speaks is = of (is_tautology literals) is
     where
       below : SpeakBelow n literals

@@ -10,14 +10,17 @@ use Rattle.hv_sets.specs.declared.operand.Which.{Which}
 use Rattle.hv_sets.specs.declared.operand.Which.TheVariants as W
 use Rattle.hv_sets.specs.Query.{in_which}
 use Rattle.hv_sets.specs.Truth.{in_clause, in_literal, is_same}
-use Rattle.hv_clauses.specs.Chase.{AreKept, IsFollowed}
-use Rattle.hv_clauses.specs.Choices.{clause_at}
-use Rattle.hv_clauses.specs.Clausal.{InAll, clauses_in, clauses_of_state, late, sets_of}
+use Rattle.hv_clauses.specs.Working.Chase.{AreKept, IsFollowed}
+use Rattle.hv_clauses.specs.Working.Choices.{clause_at}
+use Rattle.hv_clauses.specs.Clausal.{tests_of}
+use Rattle.hv_clauses.specs.Working.Clausal.{InAll, clauses_in, clauses_of_state, late}
 use Rattle.hv_clauses.specs.Kinded.{IsShort}
-use Rattle.hv_clauses.specs.Marks.{Extends, over}
-use Rattle.hv_clauses.specs.Problem.{AreAllLeft, AreAllSettled, IsLeft}
-use Rattle.hv_clauses.specs.Trail.{Grows, Knowledge, marks_of}
-use Rattle.hv_clauses.specs.Units.{AreSettled, IsConcluded, IsSettled, value_of}
+use Rattle.hv_clauses.specs.Marks.{over}
+use Rattle.hv_clauses.specs.Working.Marks.{KeepsKnown}
+use Rattle.hv_clauses.specs.Working.Problem.{AreAllLeft, AreAllSettled, IsLeft}
+use Rattle.hv_clauses.specs.Working.Trail.{Grows, Knowledge, marks_of}
+use Rattle.hv_clauses.specs.Units.{IsSettled, value_of}
+use Rattle.hv_clauses.specs.Working.Units.{AreSettled, IsConcluded}
 use Rattle.hv_clauses.proofs.Chasing.{followed_then, kept_grown, kept_on, kept_settled, settled_end, true_at}
 use Rattle.hv_clauses.proofs.Kinded.{constants_kind}
 use Rattle.hv_clauses.proofs.Marked.{extends_same, value_extends}
@@ -25,14 +28,14 @@ use Rattle.hv_clauses.proofs.OperandClauses.{clause_of_state_at, length-clauses_
 use Rattle.hv_clauses.proofs.Trailed.{length-marks}
 
 -- a settled clause of one literal at most has a true one, which stays true
-settled_short : (e m k : List ℕ) (clause : List Literal) → IsShort clause → Extends m k → IsSettled e m clause → IsSettled e k clause
+settled_short : (e m k : List ℕ) (clause : List Literal) → IsShort clause → KeepsKnown m k → IsSettled e m clause → IsSettled e k clause
 settled_short e m k clause short grows settled =
     elim settled [
       | inl at ↦ inl (at.0, at.1, value_extends e m k at.0 true grows at.2)
       | inr two ↦ absurd (two.4 (short two.0 two.1 two.2 two.3))
     ]
 
-units_stay : (e m k : List ℕ) (clauses : List (List Literal)) → All IsShort clauses → Extends m k → AreSettled e clauses m → AreSettled e clauses k
+units_stay : (e m k : List ℕ) (clauses : List (List Literal)) → All IsShort clauses → KeepsKnown m k → AreSettled e clauses m → AreSettled e clauses k
 units_stay e m k clauses short grows settled = λ j d less.
     settled_short e m k (get_or clauses j d) (short j d less) grows (settled j d less)
 
@@ -137,7 +140,7 @@ start_literal_in n held e p state less size same =
 module _ (task : Strips) (formulas : ℕ → List (List Literal)) (effect : List ℕ) where
   -- the state, seen through the effect where that is meant, is in what the operand names
   abbrev pub InOne : Operand → List Bool → Type 0
-  InOne o state = in_which task (sets_of formulas) o.which (over (late effect o.after) state) ≡ true
+  InOne o state = in_which task (tests_of formulas) o.which (over (late effect o.after) state) ≡ true
 
   -- its clauses tell nothing more than what comes from the trail
   abbrev pub LeftOne : Operand → Knowledge → ℕ → Type 0
@@ -154,11 +157,11 @@ module _ (task : Strips) (formulas : ℕ → List (List Literal)) (effect : List
 
   module _ (xs : List Operand) (i : ℕ) (d : Operand) (within : i < length xs) (seen : List ℕ) (is : seen ≡ late effect (get_or xs i d).after) where
     pub operand_followed : (a b c : Knowledge) (r : Bool) → IsFollowed (InAll task formulas effect xs) a b true
-        → IsFollowed (λ s. in_which task (sets_of formulas) (get_or xs i d).which (over seen s) ≡ true) b c r
+        → IsFollowed (λ s. in_which task (tests_of formulas) (get_or xs i d).which (over seen s) ≡ true) b c r
         → IsFollowed (InAll task formulas effect xs) a c r
     operand_followed a b c r first second =
-        followed_then (InAll task formulas effect xs) (λ s. in_which task (sets_of formulas) (get_or xs i d).which (over seen s) ≡ true) a b c r
-        (λ s size holds. ap (λ e. in_which task (sets_of formulas) (get_or xs i d).which (over e s)) is ∙ holds i d within) first second
+        followed_then (InAll task formulas effect xs) (λ s. in_which task (tests_of formulas) (get_or xs i d).which (over seen s) ≡ true) a b c r
+        (λ s size holds. ap (λ e. in_which task (tests_of formulas) (get_or xs i d).which (over e s)) is ∙ holds i d within) first second
 
     pub operand_left : (k : Knowledge) (from : ℕ) → AreAllLeft task formulas effect xs k from → IsLeft task formulas seen (get_or xs i d).which k from
     operand_left k from left = subst (λ e. IsLeft task formulas e (get_or xs i d).which k from) (sym is) (left i d within)

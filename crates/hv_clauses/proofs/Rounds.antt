@@ -4,8 +4,8 @@ use Rattle.std.proofs.Common.{◌≡◌, ℕ, ◌+◌, ◌<◌, ◌≤◌, ◌�
 use Rattle.std.proofs.lemmas.Bool.{cases_lt}
 use Rattle.std.proofs.lemmas.List.{get_or_default}
 use Rattle.std.specs.List.{All}
-use Rattle.hv_clauses.specs.Marks.{Extends}
-use Rattle.hv_clauses.specs.Units.{IsConcluded}
+use Rattle.hv_clauses.specs.Working.Marks.{KeepsKnown}
+use Rattle.hv_clauses.specs.Working.Units.{IsConcluded}
 use Rattle.hv_clauses.proofs.Marked.{extends_then}
 
 -- no answer is both
@@ -43,7 +43,7 @@ module _ (P Q R : List Bool → Type 0) (S T U : List ℕ → Type 0) (m k : Lis
     pub conclude_then : (r : Bool)
         → ((state : List Bool) → length state ≡ length m → R state → P state)
         → ((state : List Bool) → length state ≡ length m → R state → Q state)
-        → ((old new : List ℕ) → Extends old new → S old → S new)
+        → ((old new : List ℕ) → KeepsKnown old new → S old → S new)
         → ((marks : List ℕ) → length marks ≡ length m → S marks → T marks → U marks)
         → IsConcluded P S m k true → IsConcluded Q T k n r → IsConcluded R U m n r
     conclude_then r first second stays both one two = record {
@@ -106,7 +106,7 @@ module _ {X : Type 0} (P : X → List Bool → Type 0) (S : X → List ℕ → T
   among : (state : List Bool) → All (λ y. P y state) xs → P x state
   among state holds = subst (λ y. P y state) (sym is) (holds i x within)
 
-  pub conclude_more : (m k n : List ℕ) → ((old new : List ℕ) (y : X) → Extends old new → S y old → S y new)
+  pub conclude_more : (m k n : List ℕ) → ((old new : List ℕ) (y : X) → KeepsKnown old new → S y old → S y new)
       → IsConcluded (λ s. Upto (λ y. P y s) xs i) (λ w. Upto (λ y. S y w) xs i) m k true
       → IsConcluded (P x) (S x) k n true
       → IsConcluded (λ s. Upto (λ y. P y s) xs (i + 1)) (λ w. Upto (λ y. S y w) xs (i + 1)) m n true

@@ -9,8 +9,10 @@ use Rattle.std.specs.List.{All, Contains}
 use Rattle.hv_sets.specs.declared.literal.Literal.{Literal}
 use Rattle.hv_sets.specs.Cubes.{opposite}
 use Rattle.hv_sets.specs.Truth.{in_clause, in_literal}
-use Rattle.hv_clauses.specs.Marks.{Agrees, Extends, known, over}
-use Rattle.hv_clauses.specs.Units.{IsConcluded, IsSettled, value_of}
+use Rattle.hv_clauses.specs.Marks.{known, over}
+use Rattle.hv_clauses.specs.Working.Marks.{Agrees, KeepsKnown}
+use Rattle.hv_clauses.specs.Units.{IsSettled, value_of}
+use Rattle.hv_clauses.specs.Working.Units.{IsConcluded}
 use Rattle.hv_clauses.proofs.Marked.{agrees_write, extends_same, extends_write, has_atom-literal, in_literal-opposite, value_false, value_from_opposite, value_marked, value_none, value_open}
 use Rattle.hv_clauses.proofs.Rounds.{Upto, conclude_same, never, read_at, upto_more}
 
@@ -41,7 +43,7 @@ module _ (e m : List ℕ) (l : Literal) where
         agrees_write m k l.atom l.positive state marks.here marks.others
         (has_atom-literal l state (sym (value_open e m l state nothing (omega (arith, size))) ∙ holds)) agrees
 
-    pub grows_write : Extends m k
+    pub grows_write : KeepsKnown m k
     grows_write = extends_write m k l.atom (value_none e m l nothing).1 marks.others
 
     -- a literal of which nothing is known

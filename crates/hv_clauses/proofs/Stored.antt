@@ -4,7 +4,7 @@ use Rattle.std.specs.List.{All}
 use Rattle.std.proofs.lemmas.Option.{slice_get-get_or}
 use Rattle.hv_sets.specs.declared.literal.Literal.{Literal}
 use Rattle.hv_clauses.specs.Clausal.{AreClauses, Formula}
-use Rattle.hv_clauses.specs.Kinded.{IsKinded}
+use Rattle.hv_clauses.specs.Working.Kinded.{IsKinded}
 use Rattle.hv_clauses.specs.Store.{AreOver, clauses_found, formula_at}
 
 module _ (IsOf : List Literal → Type 0) (formulas : List Formula) (kept : All (IsKinded IsOf) formulas) (number : ℕ) (within : number < length formulas) where

@@ -11,16 +11,17 @@ use Rattle.hv_sets.specs.declared.operand.Operand.{Operand}
 use Rattle.hv_sets.specs.declared.operand.Which.TheVariants as W
 use Rattle.hv_sets.specs.declared.query.Query.{Query}
 use Rattle.hv_sets.specs.Cost.{choices_of, clauses_of}
-use Rattle.hv_sets.specs.Names.{Names}
+use Rattle.hv_sets.specs.Names.{AsksAbout}
 use Rattle.hv_sets.specs.Truth.{in_clause}
 use Rattle.hv_clauses.specs.declared.occurrences.Occurrence.{Occurrence}
 use Rattle.hv_clauses.specs.declared.occurrences.Occurrences.{Occurrences}
-use Rattle.hv_clauses.specs.Choices.{Breaks, clause_at}
-use Rattle.hv_clauses.specs.Clausal.{clauses_in, late, sizes_of}
-use Rattle.hv_clauses.specs.Found.{IsFramed, IsMetAmong, IsMetBelow}
+use Rattle.hv_clauses.specs.Working.Choices.{Breaks, clause_at}
+use Rattle.hv_clauses.specs.Clausal.{sizes_of}
+use Rattle.hv_clauses.specs.Working.Clausal.{clauses_in, late}
+use Rattle.hv_clauses.specs.Working.Found.{IsFramed, IsMetAmong, IsMetBelow}
 use Rattle.hv_clauses.specs.Marks.{known, over}
-use Rattle.hv_clauses.specs.Occurrences.{IsIndexOf, signed, turning_sign}
-use Rattle.hv_clauses.specs.Problem.{Fits}
+use Rattle.hv_clauses.specs.Working.Occurrences.{IsIndexOf, signed, turning_sign}
+use Rattle.hv_clauses.specs.Working.Problem.{FitsChoice}
 use Rattle.hv_clauses.specs.Units.{value_of}
 use Rattle.hv_clauses.proofs.Framed.{framed_true}
 use Rattle.hv_clauses.proofs.Marked.{known_past, through_some, value_some}
@@ -33,7 +34,7 @@ is_or (Some false) false = inl refl
 is_or (Some true) false = inr (λ e. absurd cc)
 is_or (Some false) true = inr (λ e. absurd cc)
 
-turned_or : (effect : List ℕ) (v : Bool) (clause : List Literal) → All (λ l. value_of effect [] l ≡ Some v → ⊥) clause
+pub turned_or : (effect : List ℕ) (v : Bool) (clause : List Literal) → All (λ l. value_of effect [] l ≡ Some v → ⊥) clause
     ⊎ ((l : Literal) × Contains clause l × (value_of effect [] l ≡ Some v))
 turned_or effect v [] = inl (All-nil (λ (l : Literal). value_of effect [] l ≡ Some v → ⊥))
 turned_or effect v (l ∷ ls) =
@@ -47,7 +48,7 @@ turned_or effect v (l ∷ ls) =
     ]
 
 -- what an atom of a turned literal is made, and the sign of the literal
-turned_by : (effect : List ℕ) (after : Bool) (l : Literal) → value_of effect [] l ≡ Some (not after)
+pub turned_by : (effect : List ℕ) (after : Bool) (l : Literal) → value_of effect [] l ≡ Some (not after)
     → (v : Bool) × (known effect l.atom ≡ Some v) × (l.positive ≡ turning_sign after v)
 turned_by effect after l h =
     let parts = value_some effect [] l (not after) h in
@@ -125,7 +126,7 @@ module _ (task : Strips) (formulas : ℕ → List (List Literal)) (effect : List
 
   -- no state fits the choice of a clause of which the effect turns no literal
   held_none : (number : ℕ) (state : List Bool) → number < choices_of task (sizes_of formulas) query.negative
-      → All (λ l. value_of effect [] l ≡ Some (not operand.after) → ⊥) (clause_at (formulas set) number) → Fits task formulas effect query number state → ⊥
+      → All (λ l. value_of effect [] l ≡ Some (not operand.after) → ⊥) (clause_at (formulas set) number) → FitsChoice task formulas effect query number state → ⊥
   held_none number state less held fits =
       let within : number < length (formulas set) = omega (arith, choices_are) in
       let breaks = alone_breaks task formulas effect query.negative framed.alone.place operand framed.alone.here framed.alone.before number state fits.outside in
@@ -133,18 +134,18 @@ module _ (task : Strips) (formulas : ℕ → List (List Literal)) (effect : List
       sym (ap (λ w. in_clause (clause_at (clauses_in task formulas w) (number % length (clauses_in task formulas w))) (over (late effect operand.after) state)) is)
       ∙ breaks in
       framed_true task formulas effect query.positive set operand.after number state within
-      (subst (λ w. Names query.positive w (not operand.after)) is framed.named) held fits.inside
+      (subst (λ w. AsksAbout query.positive w (not operand.after)) is framed.named) held fits.inside
       (sym (ap (λ n. in_clause (clause_at (formulas set) n) (over (late effect operand.after) state)) (mod-eq_of_lt within)) ∙ broken)
 
   -- so it is enough to try the clauses of which it turns one
   pub met_from_touched : (occurs : Occurrences) → IsIndexOf (formulas set) occurs
       → (middle found : List Bool)
       → IsMetAmong false (signed occurs (turning_sign operand.after false)) (λ p. known effect p ≡ Some false)
-      (choices_of task (sizes_of formulas) query.negative) (atoms task) (Fits task formulas effect query) middle
+      (choices_of task (sizes_of formulas) query.negative) (atoms task) (FitsChoice task formulas effect query) middle
       → (result : Bool)
       → IsMetAmong result (signed occurs (turning_sign operand.after true)) (λ p. known effect p ≡ Some true)
-      (choices_of task (sizes_of formulas) query.negative) (atoms task) (Fits task formulas effect query) found
-      → IsMetBelow result (choices_of task (sizes_of formulas) query.negative) (atoms task) (Fits task formulas effect query) found
+      (choices_of task (sizes_of formulas) query.negative) (atoms task) (FitsChoice task formulas effect query) found
+      → IsMetBelow result (choices_of task (sizes_of formulas) query.negative) (atoms task) (FitsChoice task formulas effect query) found
   met_from_touched occurs index middle found first true second = second
   met_from_touched occurs index middle found first false second = λ number less state size fits.
       elim (turned_or effect (not operand.after) (clause_at (formulas set) number)) [
@@ -156,9 +157,9 @@ module _ (task : Strips) (formulas : ℕ → List (List Literal)) (effect : List
             either number state size fits (record { atom = some.0.atom; place = number }) refl by.0 by.1 listed
       ]
     where
-      either : (number : ℕ) (state : List Bool) → length state ≡ atoms task → Fits task formulas effect query number state
+      either : (number : ℕ) (state : List Bool) → length state ≡ atoms task → FitsChoice task formulas effect query number state
           → (o : Occurrence) → o.place ≡ number → (v : Bool) → known effect o.atom ≡ Some v → Contains (signed occurs (turning_sign operand.after v)) o → ⊥
       either number state size fits o at true is_known listed =
-          second o listed is_known state size (subst (λ n. Fits task formulas effect query n state) (sym at) fits)
+          second o listed is_known state size (subst (λ n. FitsChoice task formulas effect query n state) (sym at) fits)
       either number state size fits o at false is_known listed =
-          first o listed is_known state size (subst (λ n. Fits task formulas effect query n state) (sym at) fits)
+          first o listed is_known state size (subst (λ n. FitsChoice task formulas effect query n state) (sym at) fits)

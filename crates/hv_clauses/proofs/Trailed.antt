@@ -10,11 +10,13 @@ use Rattle.std.proofs.lemmas.List.Sums.{count_by-le-length, sum_by-set}
 use Rattle.hv_sets.specs.declared.literal.Literal.{Literal}
 use Rattle.std.specs.List.Sorted.{IsStrictlyIncreasing}
 use Rattle.hv_task.proofs.Rising.{rises_apart}
-use Rattle.hv_sets.specs.Cubes.{IsFirstUpto, atoms_of}
+use Rattle.hv_sets.specs.Cubes.{atoms_of}
+use Rattle.hv_sets.specs.Working.Cubes.{IsFirstUpto}
 use Rattle.hv_sets.proofs.Cubes.{atom_at}
-use Rattle.hv_clauses.specs.Marks.{known, mark_for, mark_of, unknown_in}
+use Rattle.hv_clauses.specs.Marks.{known, mark_of}
+use Rattle.hv_clauses.specs.Working.Marks.{mark_for, unknown_in}
 use Rattle.hv_clauses.proofs.Marked.{known_past}
-use Rattle.hv_clauses.specs.Trail.{AreJoined, Knowledge, literal_of, marked, marks_of, trail_of, written}
+use Rattle.hv_clauses.specs.Working.Trail.{AreJoined, Knowledge, literal_of, marked, marks_of, trail_of, written}
 
 pub length-written : (ls : List Literal) (m : List ℕ) → length (written ls m) ≡ length m
 length-written [] m = refl

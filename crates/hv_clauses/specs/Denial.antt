@@ -38,9 +38,9 @@ abbrev pub denial : List Literal → List Literal
 denial clause = denial_below (bound_of clause) clause
 
 -- the step of the walk at a clause: its denial, and for a tautology a step without a cube
-abbrev pub step_of : List Literal → Option (List Literal)
-step_of clause = if is_tautology clause then None else Some (denial clause)
+abbrev pub denial_step : List Literal → Option (List Literal)
+denial_step clause = if is_tautology clause then None else Some (denial clause)
 
 -- the steps of the walk: one for each clause, in order
 abbrev pub steps_of : Formula → List (Option (List Literal))
-steps_of formula = map step_of formula.clauses
+steps_of formula = map denial_step formula.clauses

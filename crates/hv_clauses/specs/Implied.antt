@@ -5,7 +5,6 @@ use Rattle.std.specs.List.{All, Contains}
 use Rattle.std.specs.List.Sorted.{IsStrictlyIncreasing}
 use Rattle.hv_sets.specs.declared.literal.Literal.{Literal}
 use Rattle.hv_sets.specs.Cubes.{opposite}
-use Rattle.hv_clauses.specs.Rows.{code}
 
 -- the number of a literal: twice its atom, and one more where it is negative
 abbrev pub literal_number : Literal → ℕ
@@ -27,12 +26,6 @@ Implies clauses literal other =
     (place : ℕ) × (place < length clauses)
     × IsPair (slice_index_or clauses place []) (opposite literal) other
 
--- the same of the numbers of two literals
-abbrev pub ImpliesNumber : List (List Literal) → ℕ → ℕ → Type 0
-ImpliesNumber clauses key number =
-    (literal : Literal) × (other : Literal) × (key ≡ literal_number literal)
-    × (number ≡ literal_number other) × Implies clauses literal other
-
 -- the numbers, rising, of all literals that the literal implies at once
 pub record AreImplied (clauses : List (List Literal)) (literal : Literal)
     (numbers : List ℕ) : Type 0 where
@@ -40,9 +33,3 @@ pub record AreImplied (clauses : List (List Literal)) (literal : Literal)
   pub has : (number : ℕ)
       → Contains numbers number ↔ ((other : Literal) × (number ≡ literal_number other)
       × Implies clauses literal other)
-
--- the code of what a literal implies by this clause
-abbrev pub IsImpliedCode : List Literal → ℕ → Type 0
-IsImpliedCode clause c =
-    (literal : Literal) × (other : Literal) × IsPair clause (opposite literal) other
-    × (c ≡ code (literal_number literal) (literal_number other))

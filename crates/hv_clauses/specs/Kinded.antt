@@ -1,12 +1,11 @@
 -- Kinds of clauses: what is owed of one, and what is known of a formula of it.
 use Rattle.std.specs.Prelude.{◌≡◌, ℕ, Bool, true, List, length}
-use Rattle.std.specs.List.{All, Contains}
+use Rattle.std.specs.List.{Contains}
 use Rattle.hv_sets.specs.declared.literal.Literal.{Literal}
 use Rattle.hv_sets.specs.Cubes.{SpeakBelow}
 use Rattle.hv_sets.specs.Truth.{in_clause}
 use Rattle.hv_clauses.specs.declared.completion.Completion.{Completion}
 use Rattle.hv_clauses.specs.declared.completion.Completion.TheVariants as C
-use Rattle.hv_clauses.specs.Clausal.{AreClauses, Formula}
 use Rattle.hv_clauses.specs.Marks.{filled, over}
 use Rattle.hv_clauses.specs.Units.{IsSettled}
 
@@ -26,8 +25,3 @@ CompletesClauses C.Try IsOf =
     → (state : List Bool) → length marks ≡ length state → IsOf clause
     → IsSettled effect marks clause → in_clause clause (over effect state) ≡ true
     → in_clause clause (over effect (over marks state)) ≡ true
-
--- each clause is of the kind and over the atoms of the task
-pub record IsKinded (IsOf : List Literal → Type 0) (formula : Formula) : Type 0 where
-  pub of_kind : All IsOf formula.clauses
-  pub below : AreClauses formula.atoms formula.clauses

@@ -1,15 +1,9 @@
 -- Where literals stand.
-use Rattle.std.specs.Prelude.{◌≡◌, ◌<◌, ℕ, false, List, [], length, slice_index_or}
+use Rattle.std.specs.Prelude.{◌<◌, ℕ, false, List, [], length, slice_index_or}
 use Rattle.std.specs.List.{Contains}
 use Rattle.hv_sets.specs.declared.literal.Literal.{Literal}
-use Rattle.hv_clauses.specs.Rows.{code}
 
 -- in the clause of this number the atom stands negatively
 pub record StandsNegatively (clauses : List (List Literal)) (atom number : ℕ) : Type 0 where
   pub among : number < length clauses
   pub has : Contains (slice_index_or clauses number []) (record { atom = atom; positive = false })
-
--- the code of an atom that stands negatively in the clause of this number
-abbrev pub IsNegativeCode : List Literal → ℕ → ℕ → Type 0
-IsNegativeCode clause number c =
-    (atom : ℕ) × Contains clause (record { atom = atom; positive = false }) × (c ≡ code atom number)

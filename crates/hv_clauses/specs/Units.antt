@@ -3,11 +3,11 @@
 -- A clause can be asked about a state through an effect: marks that are put over the state before.
 -- The effect of an action has the atoms that it adds marked as in and the others that it deletes
 -- marked as out; without marks it leaves each state as it is.
-use Rattle.std.specs.Prelude.{◌≡◌, ◌⊎◌, ℕ, Bool, true, false, not, cond, List, length, Option, None}
+use Rattle.std.specs.Prelude.{◌≡◌, ◌⊎◌, ℕ, Bool, true, not, cond, List, Option, None}
 use Rattle.std.specs.Prelude.{Some, option_map}
-use Rattle.std.specs.List.{All, Contains}
+use Rattle.std.specs.List.{Contains}
 use Rattle.hv_sets.specs.declared.literal.Literal.{Literal}
-use Rattle.hv_clauses.specs.Marks.{Agrees, Extends, known}
+use Rattle.hv_clauses.specs.Marks.{known}
 
 -- the first of the two that says something
 abbrev pub first_of : Option Bool → Option Bool → Option Bool
@@ -31,27 +31,3 @@ IsSettled effect marks clause =
     ((l : Literal) × Contains clause l × (value_of effect marks l ≡ Some true))
     ⊎ ((l k : Literal) × Contains clause l × Contains clause k × (l ≡ k → ⊥)
     × (value_of effect marks l ≡ None) × (value_of effect marks k ≡ None))
-
--- each clause is settled
-abbrev pub AreSettled : List ℕ → List (List Literal) → List ℕ → Type 0
-AreSettled effect clauses marks = All (λ clause. IsSettled effect marks clause) clauses
-
--- each literal is known to be false
-abbrev pub AreFalse : List ℕ → List Literal → List ℕ → Type 0
-AreFalse effect literals marks = All (λ l. value_of effect marks l ≡ Some false) literals
-
--- each literal is known to be true
-abbrev pub AreTrue : List ℕ → List Literal → List ℕ → Type 0
-AreTrue effect literals marks = All (λ l. value_of effect marks l ≡ Some true) literals
-
--- all that follows from a condition was marked, so that this is done; or no state that agrees with
--- the marks meets the condition
-pub record IsConcluded (Holds : List Bool → Type 0) (Done : List ℕ → Type 0) (old new : List ℕ)
-    (result : Bool) : Type 0 where
-  pub size : length new ≡ length old
-  pub grows : Extends old new
-  pub follows : (state : List Bool) → length state ≡ length old → Holds state → Agrees old state
-      → Agrees new state
-  pub broken : result ≡ false → (state : List Bool) → length state ≡ length old → Holds state
-      → Agrees old state → ⊥
-  pub done : result ≡ true → Done new

@@ -6,11 +6,11 @@ ghost use Rattle.hv_sets.specs.Cubes.{SpeakBelow};
 ghost use Rattle.hv_sets.specs.Truth.{in_clauses};
 ghost use Rattle.hv_sets.specs.Walks.{Meets};
 ghost use Rattle.hv_clauses.specs.Clausal.{AreClauses};
-ghost use Rattle.hv_clauses.specs.Closure.{IsClosure};
-ghost use Rattle.hv_clauses.specs.Marks.{Agrees};
-ghost use Rattle.hv_clauses.specs.Occurrences.{IsIndexOf};
-ghost use Rattle.hv_clauses.specs.Trail.{marks_of};
-ghost use Rattle.hv_clauses.specs.Units.{AreSettled};
+ghost use Rattle.hv_clauses.specs.Working.Closure.{IsClosure};
+ghost use Rattle.hv_clauses.specs.Working.Marks.{Agrees};
+ghost use Rattle.hv_clauses.specs.Working.Occurrences.{IsIndexOf};
+ghost use Rattle.hv_clauses.specs.Working.Trail.{marks_of};
+ghost use Rattle.hv_clauses.specs.Working.Units.{AreSettled};
 
 use crate::change::Effect;
 use crate::clause_kind::ClauseKind;

@@ -3,11 +3,11 @@
 ghost use Rattle.std.specs.Prelude.{◌≡◌, ◌<◌, ◌↔◌, [], ℕ, IsTrue, IfSome, Some, length};
 ghost use Rattle.std.specs.List.{Contains};
 ghost use Rattle.std.specs.List.Sorted.{IsStrictlyIncreasing};
-ghost use Rattle.hv_task.specs.AtomList.{IsPlaceOf};
+ghost use Rattle.hv_task.specs.Working.AtomList.{IsPlaceOf};
 ghost use Rattle.hv_task.specs.Strips.{atoms};
 ghost use Rattle.hv_sets.specs.Query.{action_of};
-ghost use Rattle.hv_clauses.specs.Clausal.{late};
-ghost use Rattle.hv_clauses.specs.Effect.{IsEffect};
+ghost use Rattle.hv_clauses.specs.Working.Clausal.{late};
+ghost use Rattle.hv_clauses.specs.Working.Effect.{IsEffect};
 ghost use Rattle.hv_clauses.specs.Marks.{known};
 
 use hv_task::Task;
@@ -26,7 +26,7 @@ impl<'a> Model for Effect<'a> {
     ghost use Rattle.std.specs.Prelude.{ℕ, List};
     ghost use Rattle.std.specs.List.Sorted.{IsStrictlyIncreasing};
     ghost use Rattle.hv_task.specs.State.{AreBelow};
-    ghost use Rattle.hv_clauses.specs.Effect.{effect_of};
+    ghost use Rattle.hv_clauses.specs.Working.Effect.{effect_of};
 
     ghost Value = { List ℕ };
 

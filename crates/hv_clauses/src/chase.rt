@@ -1,20 +1,23 @@
 //! Unit propagation that is driven by the trail, over clauses that are seen through an effect.
 
-ghost use Rattle.std.specs.Prelude.{◌≡◌, ◌<◌, ◌+◌, true, length};
+ghost use Rattle.std.specs.Prelude.{◌≡◌, ◌<◌, ◌+◌, Some, false, true, length, slice_index_or};
+ghost use Rattle.std.specs.List.{All, Contains};
 ghost use Rattle.hv_sets.specs.Cubes.{SpeakBelow};
 ghost use Rattle.hv_sets.specs.Truth.{in_clause, in_clauses};
-ghost use Rattle.hv_clauses.specs.Chase.{AreKept, IsFollowed};
+ghost use Rattle.hv_clauses.specs.declared.occurrences.Occurrence.{Occurrence};
+ghost use Rattle.hv_clauses.specs.Working.Chase.{AreKept, IsFollowed, IsKept};
+ghost use Rattle.hv_clauses.specs.Working.Choices.{clause_at};
 ghost use Rattle.hv_clauses.specs.Clausal.{AreClauses};
 ghost use Rattle.hv_clauses.specs.Marks.{over};
-ghost use Rattle.hv_clauses.specs.Occurrences.{IsIndexOf};
-ghost use Rattle.hv_clauses.specs.Scan.{Scans};
-ghost use Rattle.hv_clauses.specs.Trail.{marks_of};
-ghost use Rattle.hv_clauses.specs.Units.{IsSettled};
+ghost use Rattle.hv_clauses.specs.Working.Occurrences.{AreBeside, IsIndexOf};
+ghost use Rattle.hv_clauses.specs.Working.Scan.{Scans};
+ghost use Rattle.hv_clauses.specs.Working.Trail.{marks_of};
+ghost use Rattle.hv_clauses.specs.Units.{IsSettled, value_of};
 
 use crate::change::Effect;
-use crate::literals;
-use crate::occurrences::Occurrences;
+use crate::occurrences::{Occurrences, Standing};
 use crate::trail::Marks;
+use crate::{beside, literals};
 use hv_sets::{Clauses, Literal};
 
 // What a clause says next.
@@ -103,11 +106,73 @@ pub(crate) fn visit(
     ensures kept { result ≡ true → AreKept effect.now clauses.now marks.new (from + 1) }
 {
     let literal = marks.get(from);
-    let listed = occurs.of(literal.atom, !literal.positive);
-    for occurrence in listed {
-        if !step(clauses.get(occurrence.place as usize), effect, marks) {
+    let own = Literal {
+        atom: literal.atom,
+        positive: !literal.positive,
+    };
+    // Something is known of its atom. Where the effect makes it true, so are its clauses.
+    if literals::value(effect, marks, own) != Some(false) {
+        return true;
+    }
+    let standing = occurs.standing(own);
+    visit_all(clauses, &standing, own, effect, marks)
+}
+
+// Looks again at each clause that has a literal that was found false.
+fn visit_all(
+    clauses: &Clauses,
+    standing: &Standing<'_>,
+    own: Literal,
+    effect: &Effect<'_>,
+    marks: &mut Marks<'_>,
+) -> bool
+    requires clauses { AreClauses (length marks.old.base) clauses.now }
+    requires inside { All (λ o. o.place < length clauses.now) standing.now.listed.now }
+    requires here { All (λ o. o.atom ≡ own.atom) standing.now.listed.now }
+    requires beside { AreBeside own.positive clauses.now standing.now.listed.now
+        standing.now.entries.now }
+    requires out { value_of effect.now (marks_of marks.old) own ≡ Some false }
+    ensures followed { IsFollowed (λ state. in_clauses clauses.now (over effect.now state) ≡ true)
+        marks.old marks.new result }
+    ensures kept { result ≡ true → (o : Occurrence) → Contains standing.now.listed.now o
+        → IsKept effect.now (clause_at clauses.now o.place) marks.new (length marks.old.trail) }
+{
+    for index in 0..standing.listed.len() {
+        if !visit_one(clauses, standing, index, own, effect, marks) {
             return false;
         }
     }
     true
+}
+
+// Looks again at one of these clauses. Of two literals, the other one is true: what that is tells
+// the list, without a look into the clause.
+fn visit_one(
+    clauses: &Clauses,
+    standing: &Standing<'_>,
+    index: usize,
+    own: Literal,
+    effect: &Effect<'_>,
+    marks: &mut Marks<'_>,
+) -> bool
+    requires clauses { AreClauses (length marks.old.base) clauses.now }
+    requires inside { All (λ o. o.place < length clauses.now) standing.now.listed.now }
+    requires here { All (λ o. o.atom ≡ own.atom) standing.now.listed.now }
+    requires beside { AreBeside own.positive clauses.now standing.now.listed.now
+        standing.now.entries.now }
+    requires index { index < length standing.now.listed.now }
+    requires out { value_of effect.now (marks_of marks.old) own ≡ Some false }
+    ensures followed { IsFollowed (λ state. in_clauses clauses.now (over effect.now state) ≡ true)
+        marks.old marks.new result }
+    ensures settled { result ≡ true → (o : Occurrence) → IsSettled effect.now (marks_of marks.new)
+        (clause_at clauses.now (slice_index_or standing.now.listed.now index o).place) }
+{
+    match beside::literal_at(standing.entries[index]) {
+        Some(other) => literals::force(other, effect, marks),
+        None => step(
+            clauses.get(standing.listed[index].place as usize),
+            effect,
+            marks,
+        ),
+    }
 }

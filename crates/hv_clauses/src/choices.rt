@@ -7,12 +7,13 @@ ghost use Rattle.hv_task.specs.Strips.{atoms};
 ghost use Rattle.hv_sets.specs.Cost.{choices_of, clauses_of};
 ghost use Rattle.hv_sets.specs.Query.{IsNamed};
 ghost use Rattle.hv_sets.specs.Truth.{in_clause};
-ghost use Rattle.hv_clauses.specs.Choices.{AreChosenFalse, Breaks, clause_at};
-ghost use Rattle.hv_clauses.specs.Clausal.{clauses_in, sizes_of};
+ghost use Rattle.hv_clauses.specs.Working.Choices.{AreChosenFalse, Breaks, clause_at};
+ghost use Rattle.hv_clauses.specs.Clausal.{sizes_of};
+ghost use Rattle.hv_clauses.specs.Working.Clausal.{clauses_in};
 ghost use Rattle.hv_clauses.specs.Marks.{over};
 ghost use Rattle.hv_clauses.specs.Store.{AreOver, formula_at};
-ghost use Rattle.hv_clauses.specs.Trail.{Grows, marks_of};
-ghost use Rattle.hv_clauses.specs.Units.{AreFalse, IsConcluded};
+ghost use Rattle.hv_clauses.specs.Working.Trail.{Grows, marks_of};
+ghost use Rattle.hv_clauses.specs.Working.Units.{AreFalse, IsConcluded};
 
 use crate::change::Effect;
 use crate::clause_kind::ClauseKind;

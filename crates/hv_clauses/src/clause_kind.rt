@@ -1,3 +1,5 @@
+//! Kinds of clauses: which they are, and how knowledge is completed to a state.
+
 ghost use Rattle.std.specs.Prelude.{◌≡◌, ◌↔◌, ℕ, List, IsTrue};
 ghost use Rattle.std.specs.declared.alloc.AllocError.{AllocError};
 ghost use Rattle.hv_sets.specs.declared.literal.Literal.{Literal};

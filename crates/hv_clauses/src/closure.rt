@@ -6,11 +6,12 @@ ghost use Rattle.std.specs.List.Sorted.{IsStrictlyIncreasing};
 ghost use Rattle.hv_sets.specs.Cubes.{atoms_of};
 ghost use Rattle.hv_sets.specs.Truth.{in_clauses};
 ghost use Rattle.hv_clauses.specs.Clausal.{AreClauses};
-ghost use Rattle.hv_clauses.specs.Closure.{AreForced, AreNever, IsClosure, ListsBelow};
-ghost use Rattle.hv_clauses.specs.Marks.{Agrees, known};
-ghost use Rattle.hv_clauses.specs.Occurrences.{IsIndexOf};
-ghost use Rattle.hv_clauses.specs.Trail.{marked, marks_of};
-ghost use Rattle.hv_clauses.specs.Units.{AreSettled};
+ghost use Rattle.hv_clauses.specs.Working.Closure.{AreForced, AreNever, IsClosure, ListsBelow};
+ghost use Rattle.hv_clauses.specs.Marks.{known};
+ghost use Rattle.hv_clauses.specs.Working.Marks.{Agrees};
+ghost use Rattle.hv_clauses.specs.Working.Occurrences.{IsIndexOf};
+ghost use Rattle.hv_clauses.specs.Working.Trail.{marked, marks_of};
+ghost use Rattle.hv_clauses.specs.Working.Units.{AreSettled};
 
 use crate::change::Effect;
 use crate::constraint::Alone;

@@ -2,12 +2,13 @@
 
 ghost use Rattle.std.specs.Prelude.{◌≡◌, ◌<◌, ◌≤◌, ℕ, Bool, List, None, Some, false, true, length};
 ghost use Rattle.hv_task.specs.State.{has_atom};
-ghost use Rattle.hv_clauses.specs.Chase.{IsFollowed};
-ghost use Rattle.hv_clauses.specs.Clausal.{Completes};
+ghost use Rattle.hv_clauses.specs.Working.Chase.{IsFollowed};
+ghost use Rattle.hv_clauses.specs.Working.Clausal.{Completes};
 ghost use Rattle.hv_clauses.specs.declared.completion.Completion.TheVariants as Ways;
-ghost use Rattle.hv_clauses.specs.Completion.{IsAssumed, IsCompleted, IsTried};
-ghost use Rattle.hv_clauses.specs.Marks.{AllKnown, known};
-ghost use Rattle.hv_clauses.specs.Trail.{Grows, marks_of};
+ghost use Rattle.hv_clauses.specs.Working.Completion.{IsAssumed, IsCompleted, IsTried};
+ghost use Rattle.hv_clauses.specs.Marks.{known};
+ghost use Rattle.hv_clauses.specs.Working.Marks.{AllKnown};
+ghost use Rattle.hv_clauses.specs.Working.Trail.{Grows, marks_of};
 
 use crate::completion::Completion;
 use crate::constraint::Constraint;

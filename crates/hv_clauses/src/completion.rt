@@ -1,3 +1,5 @@
+//! The two ways in which knowledge is completed to a state.
+
 /// How settled marks are completed to a state.
 #[derive(Clone, Copy, Debug, PartialEq, Eq)]
 pub enum Completion {

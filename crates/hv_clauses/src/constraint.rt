@@ -2,12 +2,12 @@
 
 ghost use Rattle.std.specs.Prelude.{◌≡◌, ◌<◌, ◌≤◌, ◌+◌, ℕ, Bool, List, [], true, length};
 ghost use Rattle.hv_sets.specs.Truth.{in_clauses};
-ghost use Rattle.hv_clauses.specs.Chase.{AreKept, IsFollowed};
+ghost use Rattle.hv_clauses.specs.Working.Chase.{AreKept, IsFollowed};
 ghost use Rattle.hv_clauses.specs.Clausal.{AreClauses};
 ghost use Rattle.hv_clauses.specs.Marks.{over};
-ghost use Rattle.hv_clauses.specs.Occurrences.{IsIndexOf};
-ghost use Rattle.hv_clauses.specs.Trail.{Grows, Knowledge, marks_of};
-ghost use Rattle.hv_clauses.specs.Units.{AreSettled};
+ghost use Rattle.hv_clauses.specs.Working.Occurrences.{IsIndexOf};
+ghost use Rattle.hv_clauses.specs.Working.Trail.{Grows, Knowledge, marks_of};
+ghost use Rattle.hv_clauses.specs.Working.Units.{AreSettled};
 
 use crate::change::Effect;
 use crate::chase;

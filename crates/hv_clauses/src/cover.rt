@@ -5,9 +5,10 @@ ghost use Rattle.hv_sets.specs.Cubes.{SpeakBelow};
 ghost use Rattle.hv_sets.specs.Truth.{in_clause, in_clauses};
 ghost use Rattle.hv_sets.specs.Walks.{Covers};
 ghost use Rattle.hv_clauses.specs.Clausal.{AreClauses};
-ghost use Rattle.hv_clauses.specs.Marks.{Agrees, known};
-ghost use Rattle.hv_clauses.specs.Trail.{Grows, marks_of};
-ghost use Rattle.hv_clauses.specs.Units.{AreFalse};
+ghost use Rattle.hv_clauses.specs.Marks.{known};
+ghost use Rattle.hv_clauses.specs.Working.Marks.{Agrees};
+ghost use Rattle.hv_clauses.specs.Working.Trail.{Grows, marks_of};
+ghost use Rattle.hv_clauses.specs.Working.Units.{AreFalse};
 
 use crate::change::Effect;
 use crate::literals;

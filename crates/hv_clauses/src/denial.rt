@@ -1,7 +1,7 @@
 //! The cube of the states in which a clause is false.
 
 ghost use Rattle.std.specs.Prelude.{◌≡◌, false, true, Some, IfOk};
-ghost use Rattle.hv_clauses.specs.Denial.{is_tautology, step_of};
+ghost use Rattle.hv_clauses.specs.Denial.{is_tautology, denial_step};
 
 use hv_sets::{Cube, Literal};
 use std::alloc::AllocError;
@@ -9,7 +9,7 @@ use std::alloc::AllocError;
 // Makes the cube that of the states in which the clause is false. The answer is false if it is a
 // tautology.
 pub(crate) fn fill(clause: &[Literal], cube: &mut Cube) -> Result<bool, AllocError>
-    ensures some { IfOk result (λ some. some ≡ true → step_of clause.now ≡ Some cube.new) }
+    ensures some { IfOk result (λ some. some ≡ true → denial_step clause.now ≡ Some cube.new) }
     ensures none { IfOk result (λ some. some ≡ false → is_tautology clause.now ≡ true) }
 {
     cube.clear();

@@ -4,9 +4,9 @@ ghost use Rattle.std.specs.Prelude.{◌≡◌, ◌<◌, true, length, IfSome};
 ghost use Rattle.hv_task.specs.State.{AreBelow, has_all};
 ghost use Rattle.hv_task.specs.Strips.{atoms};
 ghost use Rattle.hv_sets.specs.Query.{action_of, may_apply};
-ghost use Rattle.hv_clauses.specs.Effect.{AreIn, IsEnabled};
-ghost use Rattle.hv_clauses.specs.Trail.{Grows, marks_of};
-ghost use Rattle.hv_clauses.specs.Units.{IsConcluded};
+ghost use Rattle.hv_clauses.specs.Working.Effect.{AreMarkedIn, IsEnabled};
+ghost use Rattle.hv_clauses.specs.Working.Trail.{Grows, marks_of};
+ghost use Rattle.hv_clauses.specs.Working.Units.{IsConcluded};
 
 use crate::change::Effect;
 use crate::literals;
@@ -32,7 +32,7 @@ pub(crate) fn mark_pre(task: &Task, action: Option<u32>, marks: &mut Marks<'_>) 
 // Marks each atom as in. The answer is false if one is known to be out.
 fn force_in(atoms: &[u32], marks: &mut Marks<'_>) -> bool
     requires { AreBelow (length marks.old.base) atoms.now }
-    ensures marked { IsConcluded (λ state. has_all atoms.now state ≡ true) (AreIn atoms.now)
+    ensures marked { IsConcluded (λ state. has_all atoms.now state ≡ true) (AreMarkedIn atoms.now)
         (marks_of marks.old) (marks_of marks.new) result }
     ensures grown { Grows marks.old marks.new }
 {

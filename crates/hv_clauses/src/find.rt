@@ -5,14 +5,15 @@ ghost use Rattle.hv_task.specs.Strips.{atoms};
 ghost use Rattle.hv_sets.specs.Cost.{ClausesPass, IsAnswer, choices_of};
 ghost use Rattle.hv_sets.specs.Query.{IsReady, action_of, is_clash, may_apply};
 ghost use Rattle.hv_sets.specs.Room.{HasRoom, KeepsLengths};
-ghost use Rattle.hv_clauses.specs.Clausal.{InAll, sets_of, sizes_of};
-ghost use Rattle.hv_clauses.specs.Effect.{IsEffect};
-ghost use Rattle.hv_clauses.specs.Found.{IsBased, IsFound, IsMet, IsMetBelow, IsPosed};
-ghost use Rattle.hv_clauses.specs.Marks.{Agrees};
-ghost use Rattle.hv_clauses.specs.Problem.{Fits};
-ghost use Rattle.hv_clauses.specs.Start.{IsBasedOn};
+ghost use Rattle.hv_clauses.specs.Clausal.{tests_of, sizes_of};
+ghost use Rattle.hv_clauses.specs.Working.Clausal.{InAll};
+ghost use Rattle.hv_clauses.specs.Working.Effect.{IsEffect};
+ghost use Rattle.hv_clauses.specs.Working.Found.{IsBased, IsFound, IsMet, IsMetBelow, IsPosed};
+ghost use Rattle.hv_clauses.specs.Working.Marks.{Agrees};
+ghost use Rattle.hv_clauses.specs.Working.Problem.{FitsChoice};
+ghost use Rattle.hv_clauses.specs.Working.Start.{IsBasedOn};
 ghost use Rattle.hv_clauses.specs.Store.{AreOver, formula_at};
-ghost use Rattle.hv_clauses.specs.Trail.{Grows, marks_of};
+ghost use Rattle.hv_clauses.specs.Working.Trail.{Grows, marks_of};
 
 use crate::change::Effect;
 use crate::clause_kind::ClauseKind;
@@ -20,8 +21,8 @@ use crate::constraint::Constraint;
 use crate::formulas::Formulas;
 use crate::problem::{self, Problem};
 use crate::trail::Marks;
-use crate::{choices, complete, effect, frame, start, touched};
-use hv_sets::{Finding, Query, Scratch};
+use crate::{choices, complete, effect, frame, fronts, start, touched};
+use hv_sets::{Finding, Operand, Query, Scratch};
 use hv_task::{State, Task};
 
 /// The exact answer to a query over a store of clauses of one kind: Over exactly where there are
@@ -40,7 +41,7 @@ pub(crate) fn find_in<K: ClauseKind>(
     requires action { IfSome query.now.action (λ a. a < length task.now.actions) }
     requires room { HasRoom (atoms task.now) 0 0 scratch.old }
     ensures answer { IsAnswer result (ClausesPass task.now (sizes_of (formula_at store.now))
-        query.now budget) (atoms task.now) (is_clash task.now (sets_of (formula_at store.now))
+        query.now budget) (atoms task.now) (is_clash task.now (tests_of (formula_at store.now))
         query.now) scratch.new.state }
     ensures state { length scratch.new.state ≡ length scratch.old.state }
     ensures lengths { KeepsLengths scratch.old scratch.new }
@@ -85,7 +86,7 @@ fn search<K: ClauseKind>(
     requires queue { atoms problem.now.task.now ≤ length queue.old }
     requires state { length state.old ≡ atoms problem.now.task.now }
     ensures found { IsFound result (atoms problem.now.task.now)
-        (is_clash problem.now.task.now (sets_of (formula_at problem.now.store.now))
+        (is_clash problem.now.task.now (tests_of (formula_at problem.now.store.now))
         problem.now.query.now) state.new }
     ensures places { length places.new ≡ length places.old }
     ensures queue { length queue.new ≡ length queue.old }
@@ -95,14 +96,15 @@ fn search<K: ClauseKind>(
         return false;
     };
     let atoms = problem.task.atoms() as usize;
-    let mut marks = Marks::over(atoms, start.forced, places, queue);
-    search_from(problem, start.set, cost, &mut marks, state)
+    let based = start.operand;
+    let mut marks = Marks::from(atoms, start.base, places, queue);
+    search_from(problem, based, cost, &mut marks, state)
 }
 
 // Marks what follows from the precondition and the positive operands, and then tries the choices.
 fn search_from<K: ClauseKind>(
     problem: &Problem<'_, K>,
-    based: Option<usize>,
+    based: Option<Operand>,
     cost: u64,
     marks: &mut Marks<'_>,
     state: &mut State,
@@ -117,13 +119,14 @@ fn search_from<K: ClauseKind>(
         (sizes_of (formula_at problem.now.store.now)) problem.now.query.now.negative }
     requires marks { length marks.old.base ≡ atoms problem.now.task.now }
     requires none { marks.old.trail ≡ [] }
-    requires based { IsBasedOn (formula_at problem.now.store.now) based marks.old.base }
+    requires based { IsBasedOn (formula_at problem.now.store.now) problem.now.effect.now based
+        marks.old.base }
     requires follows { (state : List Bool) → length state ≡ atoms problem.now.task.now → InAll
         problem.now.task.now (formula_at problem.now.store.now) problem.now.effect.now
         problem.now.query.now.positive state → Agrees (marks_of marks.old) state }
     requires state { length state.old ≡ atoms problem.now.task.now }
     ensures found { IsFound result (atoms problem.now.task.now)
-        (is_clash problem.now.task.now (sets_of (formula_at problem.now.store.now))
+        (is_clash problem.now.task.now (tests_of (formula_at problem.now.store.now))
         problem.now.query.now) state.new }
     ensures state { length state.new ≡ length state.old }
 {
@@ -137,7 +140,7 @@ fn search_from<K: ClauseKind>(
 // no state meets these.
 fn mark_base<K: ClauseKind>(
     problem: &Problem<'_, K>,
-    based: Option<usize>,
+    based: Option<Operand>,
     marks: &mut Marks<'_>,
 ) -> bool
     requires posed { IsPosed problem.now.task.now problem.now.store.now problem.now.effect.now
@@ -146,7 +149,8 @@ fn mark_base<K: ClauseKind>(
         (λ a. a < length problem.now.task.now.actions) }
     requires marks { length marks.old.base ≡ atoms problem.now.task.now }
     requires none { marks.old.trail ≡ [] }
-    requires based { IsBasedOn (formula_at problem.now.store.now) based marks.old.base }
+    requires based { IsBasedOn (formula_at problem.now.store.now) problem.now.effect.now based
+        marks.old.base }
     requires follows { (state : List Bool) → length state ≡ atoms problem.now.task.now → InAll
         problem.now.task.now (formula_at problem.now.store.now) problem.now.effect.now
         problem.now.query.now.positive state → Agrees (marks_of marks.old) state }
@@ -183,41 +187,14 @@ fn choose<K: ClauseKind>(
     requires state { length state.old ≡ atoms problem.now.task.now }
     ensures met { IsMetBelow result (choices_of problem.now.task.now
         (sizes_of (formula_at problem.now.store.now)) problem.now.query.now.negative)
-        (atoms problem.now.task.now) (Fits problem.now.task.now (formula_at problem.now.store.now)
+        (atoms problem.now.task.now) (FitsChoice problem.now.task.now (formula_at problem.now.store.now)
         problem.now.effect.now problem.now.query.now) state.new }
     ensures state { length state.new ≡ length state.old }
 {
     match frame::framed(problem.query) {
         Some(operand) => touched::choose_touched(problem, operand, marks, state),
-        None => choose_each(problem, cost, marks, state),
+        None => fronts::choose_each(problem, cost, marks, state),
     }
-}
-
-// Tries each choice.
-fn choose_each<K: ClauseKind>(
-    problem: &Problem<'_, K>,
-    cost: u64,
-    marks: &mut Marks<'_>,
-    state: &mut State,
-) -> bool
-    requires posed { IsPosed problem.now.task.now problem.now.store.now problem.now.effect.now
-        problem.now.query.now }
-    requires cost { cost ≡ choices_of problem.now.task.now
-        (sizes_of (formula_at problem.now.store.now)) problem.now.query.now.negative }
-    requires based { IsBased problem.now.task.now (formula_at problem.now.store.now)
-        problem.now.effect.now problem.now.query.now marks.old }
-    requires state { length state.old ≡ atoms problem.now.task.now }
-    ensures met { IsMetBelow result cost (atoms problem.now.task.now)
-        (Fits problem.now.task.now (formula_at problem.now.store.now) problem.now.effect.now
-        problem.now.query.now) state.new }
-    ensures state { length state.new ≡ length state.old }
-{
-    for number in 0..cost {
-        if decide(problem, number, marks, state) {
-            return true;
-        }
-    }
-    false
 }
 
 // Looks for a state that fits this choice: one in which each of the chosen clauses is false. What
@@ -236,7 +213,7 @@ pub(crate) fn decide<K: ClauseKind>(
         problem.now.effect.now problem.now.query.now marks.old }
     requires state { length state.old ≡ atoms problem.now.task.now }
     ensures met { IsMet result (atoms problem.now.task.now)
-        (Fits problem.now.task.now (formula_at problem.now.store.now) problem.now.effect.now
+        (FitsChoice problem.now.task.now (formula_at problem.now.store.now) problem.now.effect.now
         problem.now.query.now number) state.new }
     ensures same { marks.new ≡ marks.old }
     ensures state { length state.new ≡ length state.old }
@@ -265,7 +242,7 @@ fn try_choice<K: ClauseKind>(
         problem.now.effect.now problem.now.query.now marks.old }
     requires state { length state.old ≡ atoms problem.now.task.now }
     ensures met { IsMet result (atoms problem.now.task.now)
-        (Fits problem.now.task.now (formula_at problem.now.store.now) problem.now.effect.now
+        (FitsChoice problem.now.task.now (formula_at problem.now.store.now) problem.now.effect.now
         problem.now.query.now number) state.new }
     ensures grown { Grows marks.old marks.new }
     ensures state { length state.new ≡ length state.old }

@@ -1,3 +1,5 @@
+//! Formulas of one kind of clauses.
+
 ghost use Rattle.std.specs.Prelude.{◌≡◌, ◌<◌, ◌≤◌, ◌+◌, ⊤, length, min, drop, IfOk, IfErr};
 ghost use Rattle.std.specs.Prelude.{MatchOption};
 ghost use Rattle.std.specs.List.{All};
@@ -8,15 +10,15 @@ ghost use Rattle.hv_sets.specs.Room.{HasRoom, KeepsLengths};
 ghost use Rattle.hv_sets.specs.Truth.{in_clause};
 ghost use Rattle.hv_sets.specs.Walks.{Covers, Meets};
 ghost use Rattle.hv_clauses.specs.Clausal.{AreClauses, in_formula};
-ghost use Rattle.hv_clauses.specs.Closure.{AreForced, AreNever};
+ghost use Rattle.hv_clauses.specs.Working.Closure.{AreForced, AreNever};
 ghost use Rattle.hv_clauses.specs.Denial.{steps_of};
 ghost use Rattle.hv_clauses.specs.Implied.{AreImplied};
-ghost use Rattle.hv_clauses.specs.Kinded.{IsKinded};
-ghost use Rattle.hv_clauses.specs.Laws as laws;
+ghost use Rattle.hv_clauses.specs.Working.Kinded.{IsKinded};
+ghost use Rattle.hv_clauses.specs.Working.Laws as laws;
 ghost use Rattle.hv_clauses.specs.Negative.{StandsNegatively};
 ghost use Rattle.hv_clauses.specs.Rows.{IsRow};
 ghost use Rattle.hv_clauses.specs.declared.listing.Listing.TheVariants as L;
-ghost use Rattle.hv_clauses.specs.Occurrences.{IsIndexOf};
+ghost use Rattle.hv_clauses.specs.Working.Occurrences.{IsIndexOf};
 
 use crate::clause_kind::ClauseKind;
 use crate::closure::Closure;
@@ -40,9 +42,9 @@ pub struct Formula<K: ClauseKind> {
 
 impl<K: ClauseKind> Model for Formula<K> {
     ghost use Rattle.hv_clauses.specs.Clausal.{Formula};
-    ghost use Rattle.hv_clauses.specs.Kinded.{IsKinded};
-    ghost use Rattle.hv_clauses.specs.Closure.{IsClosure};
-    ghost use Rattle.hv_clauses.specs.Lists.{AreListsOf};
+    ghost use Rattle.hv_clauses.specs.Working.Kinded.{IsKinded};
+    ghost use Rattle.hv_clauses.specs.Working.Closure.{IsClosure};
+    ghost use Rattle.hv_clauses.specs.Working.Lists.{AreListsOf};
     ghost use Rattle.std.specs.Prelude.{◌≤◌, ◌^◌};
 
     ghost Value = { Formula };

@@ -1,3 +1,5 @@
+//! Stores of formulas.
+
 ghost use Rattle.std.specs.Prelude.{◌≡◌, ◌<◌, ◌+◌, ◌++◌, ◌∷◌, [], ℕ, length, slice_get, Some, IfOk};
 ghost use Rattle.std.specs.Prelude.{IfSome, OnErr};
 ghost use Rattle.std.specs.List.{All};
@@ -5,8 +7,8 @@ ghost use Rattle.hv_task.specs.Strips.{atoms};
 ghost use Rattle.hv_sets.specs.Cost.{ClausesPass, IsAnswer, clauses_among};
 ghost use Rattle.hv_sets.specs.Query.{IsReady, is_clash};
 ghost use Rattle.hv_sets.specs.Room.{HasRoom, KeepsLengths};
-ghost use Rattle.hv_clauses.specs.Clausal.{sets_of, sizes_of};
-ghost use Rattle.hv_clauses.specs.Kinded.{IsKinded};
+ghost use Rattle.hv_clauses.specs.Clausal.{tests_of, sizes_of};
+ghost use Rattle.hv_clauses.specs.Working.Kinded.{IsKinded};
 ghost use Rattle.hv_clauses.specs.Store.{AreOver, formula_at};
 
 use crate::clause_kind::ClauseKind;
@@ -28,7 +30,7 @@ impl<K: ClauseKind> Model for Formulas<K> {
     ghost use Rattle.std.specs.Prelude.{List};
     ghost use Rattle.std.specs.List.{All};
     ghost use Rattle.hv_clauses.specs.Clausal.{Formula};
-    ghost use Rattle.hv_clauses.specs.Kinded.{IsKinded};
+    ghost use Rattle.hv_clauses.specs.Working.Kinded.{IsKinded};
 
     ghost Value = { List Formula };
 
@@ -105,7 +107,7 @@ impl<K: ClauseKind> Formulas<K> {
             scratch.old }
         ensures answer { IsAnswer result
             (ClausesPass task.now (sizes_of (formula_at self.now)) query.now budget)
-            (atoms task.now) (is_clash task.now (sets_of (formula_at self.now)) query.now)
+            (atoms task.now) (is_clash task.now (tests_of (formula_at self.now)) query.now)
             scratch.new.state }
         ensures state { length scratch.new.state ≡ length scratch.old.state }
         ensures lengths { KeepsLengths scratch.old scratch.new }
@@ -115,7 +117,7 @@ impl<K: ClauseKind> Formulas<K> {
 }
 
 impl<K: ClauseKind> Family for Formulas<K> {
-    ghost has = { λ sets. sets_of (formula_at sets) };
+    ghost has = { λ sets. tests_of (formula_at sets) };
 
     ghost is_over = { AreOver };
 

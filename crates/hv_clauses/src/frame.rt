@@ -9,12 +9,14 @@ ghost use Rattle.hv_sets.specs.Query.{IsNamed};
 ghost use Rattle.hv_sets.specs.Truth.{in_clause};
 ghost use Rattle.hv_sets.specs.declared.operand.Operand.{Operand as OperandOf};
 ghost use Rattle.hv_sets.specs.declared.operand.Which.TheVariants as W;
-ghost use Rattle.hv_clauses.specs.Choices.{Breaks, clause_at};
-ghost use Rattle.hv_clauses.specs.Clausal.{InAll, clauses_in, late, sizes_of};
-ghost use Rattle.hv_clauses.specs.Found.{IsAlone, IsFramed};
-ghost use Rattle.hv_clauses.specs.Marks.{Agrees, over};
+ghost use Rattle.hv_clauses.specs.Working.Choices.{Breaks, clause_at};
+ghost use Rattle.hv_clauses.specs.Clausal.{sizes_of};
+ghost use Rattle.hv_clauses.specs.Working.Clausal.{InAll, clauses_in, late};
+ghost use Rattle.hv_clauses.specs.Working.Found.{IsAlone, IsFramed};
+ghost use Rattle.hv_clauses.specs.Marks.{over};
+ghost use Rattle.hv_clauses.specs.Working.Marks.{Agrees};
 ghost use Rattle.hv_clauses.specs.Store.{AreOver, formula_at};
-ghost use Rattle.hv_clauses.specs.Trail.{marks_of};
+ghost use Rattle.hv_clauses.specs.Working.Trail.{marks_of};
 ghost use Rattle.hv_clauses.specs.Units.{value_of};
 
 use crate::change::Effect;
@@ -57,7 +59,7 @@ pub(crate) fn is_refuted<K: ClauseKind>(
 // The same for the clause at a place of an operand: a literal of it is known to be true, or its set
 // is a positive operand at the other time and the effect turns no literal of it against the
 // operand.
-fn is_clause_true<K: ClauseKind>(
+pub(crate) fn is_clause_true<K: ClauseKind>(
     problem: &Problem<'_, K>,
     operand: Operand,
     place: u64,

@@ -5,8 +5,9 @@ ghost use Rattle.std.specs.Prelude.{IfOk, IsTrue, MatchOption, OnOk};
 ghost use Rattle.std.specs.List.{All, Contains};
 ghost use Rattle.hv_sets.specs.declared.literal.Literal.{Literal};
 ghost use Rattle.hv_sets.specs.Cubes.{SpeakBelow, opposite};
-ghost use Rattle.hv_clauses.specs.Implied.{IsEither, IsImpliedCode, IsPair, literal_number};
-ghost use Rattle.hv_clauses.specs.Rows.{ListsCodes, PutsCodes, code};
+ghost use Rattle.hv_clauses.specs.Implied.{IsEither, IsPair, literal_number};
+ghost use Rattle.hv_clauses.specs.Working.Implied.{IsImpliedCode};
+ghost use Rattle.hv_clauses.specs.Working.Rows.{ListsCodes, PutsCodes, code};
 
 use crate::rows;
 use hv_sets::{Clauses, Literal};

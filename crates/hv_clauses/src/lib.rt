@@ -2,6 +2,8 @@
 #![tactic(auto)]
 
 mod alone;
+mod base;
+mod beside;
 mod change;
 mod chase;
 mod choices;
@@ -17,17 +19,20 @@ pub mod find;
 pub mod formula;
 pub mod formulas;
 mod frame;
+mod fronts;
 mod implied;
 pub mod listing;
 mod lists;
 mod literals;
 mod negative;
 mod occurrences;
+mod paths;
 mod problem;
 mod rows;
 mod start;
 mod touched;
 mod trail;
+mod turned;
 
 pub use clause_kind::ClauseKind;
 pub use completion::Completion;

@@ -1,3 +1,5 @@
+//! Which list of where literals stand a kind of formula keeps for its callers.
+
 /// Which lists a formula keeps, to hand them out.
 #[derive(Clone, Copy, Debug, PartialEq, Eq)]
 pub enum Listing {

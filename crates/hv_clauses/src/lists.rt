@@ -3,10 +3,10 @@
 ghost use Rattle.std.specs.Prelude.{◌≡◌, ◌≤◌, ◌^◌, [], length, IfOk};
 ghost use Rattle.std.specs.List.{All};
 ghost use Rattle.hv_sets.specs.Cubes.{SpeakBelow};
-ghost use Rattle.hv_clauses.specs.Implied.{ImpliesNumber};
-ghost use Rattle.hv_clauses.specs.Lists.{AreListsOf};
+ghost use Rattle.hv_clauses.specs.Working.Implied.{ImpliesNumber};
+ghost use Rattle.hv_clauses.specs.Working.Lists.{AreListsOf};
 ghost use Rattle.hv_clauses.specs.Negative.{StandsNegatively};
-ghost use Rattle.hv_clauses.specs.Rows.{AreRows};
+ghost use Rattle.hv_clauses.specs.Working.Rows.{AreRows};
 
 use crate::listing::Listing;
 use crate::{implied, negative, rows};

@@ -6,8 +6,9 @@ ghost use Rattle.hv_sets.specs.declared.literal.Literal.{Literal};
 ghost use Rattle.hv_sets.specs.Cubes.{SpeakBelow};
 ghost use Rattle.hv_sets.specs.Truth.{in_clause, in_cube, in_literal};
 ghost use Rattle.hv_clauses.specs.Marks.{over};
-ghost use Rattle.hv_clauses.specs.Trail.{Grows, marks_of};
-ghost use Rattle.hv_clauses.specs.Units.{AreFalse, AreTrue, IsConcluded, value_of};
+ghost use Rattle.hv_clauses.specs.Working.Trail.{Grows, marks_of};
+ghost use Rattle.hv_clauses.specs.Units.{value_of};
+ghost use Rattle.hv_clauses.specs.Working.Units.{AreFalse, AreKnownTrue, IsConcluded};
 
 use crate::change::Effect;
 use crate::trail::Marks;
@@ -61,7 +62,7 @@ pub(crate) fn force(literal: Literal, effect: &Effect<'_>, marks: &mut Marks<'_>
 pub(crate) fn force_all(literals: &[Literal], effect: &Effect<'_>, marks: &mut Marks<'_>) -> bool
     requires { SpeakBelow (length marks.old.base) literals.now }
     ensures forced { IsConcluded (λ state. in_cube literals.now (over effect.now state) ≡ true)
-        (AreTrue effect.now literals.now) (marks_of marks.old) (marks_of marks.new) result }
+        (AreKnownTrue effect.now literals.now) (marks_of marks.old) (marks_of marks.new) result }
     ensures grown { Grows marks.old marks.new }
 {
     for literal in literals {

@@ -2,8 +2,8 @@
 
 ghost use Rattle.std.specs.Prelude.{◌≡◌, ◌≤◌, ◌^◌, ℕ, false, length, slice_index_or, [], IfOk};
 ghost use Rattle.std.specs.Prelude.{OnOk};
-ghost use Rattle.hv_clauses.specs.Negative.{IsNegativeCode};
-ghost use Rattle.hv_clauses.specs.Rows.{ListsCodes, PutsCodes, code};
+ghost use Rattle.hv_clauses.specs.Working.Negative.{IsNegativeCode};
+ghost use Rattle.hv_clauses.specs.Working.Rows.{ListsCodes, PutsCodes, code};
 
 use crate::rows;
 use hv_sets::{Clauses, Literal};

@@ -3,16 +3,17 @@
 ghost use Rattle.std.specs.Prelude.{◌≡◌, ◌<◌, ◌+◌, ℕ, Some, false, true, length, map};
 ghost use Rattle.std.specs.List.{All};
 ghost use Rattle.hv_task.specs.Strips.{atoms, is_goal, start_state};
-ghost use Rattle.hv_sets.specs.declared.operand.Which.TheVariants as W;
+ghost use Rattle.hv_sets.specs.declared.operand.Operand.{Operand as OperandOf};
 ghost use Rattle.hv_sets.specs.Query.{IsNamed, in_which};
 ghost use Rattle.hv_sets.specs.Truth.{is_same};
-ghost use Rattle.hv_clauses.specs.Chase.{IsFollowed};
-ghost use Rattle.hv_clauses.specs.Clausal.{InAll, clauses_of_state, late, sets_of, unit};
+ghost use Rattle.hv_clauses.specs.Working.Chase.{IsFollowed};
+ghost use Rattle.hv_clauses.specs.Clausal.{tests_of};
+ghost use Rattle.hv_clauses.specs.Working.Clausal.{InAll, clauses_of_state, late, unit};
 ghost use Rattle.hv_clauses.specs.Marks.{over};
-ghost use Rattle.hv_clauses.specs.Problem.{AreAllLeft, AreAllSettled, IsLeft};
-ghost use Rattle.hv_clauses.specs.Trail.{marks_of};
-ghost use Rattle.hv_clauses.specs.Units.{AreSettled};
-ghost use Rattle.hv_clauses.specs.Start.{IsBasedOn};
+ghost use Rattle.hv_clauses.specs.Working.Problem.{AreAllLeft, AreAllSettled, IsLeft};
+ghost use Rattle.hv_clauses.specs.Working.Trail.{marks_of};
+ghost use Rattle.hv_clauses.specs.Working.Units.{AreSettled};
+ghost use Rattle.hv_clauses.specs.Working.Start.{IsBasedOn};
 ghost use Rattle.hv_clauses.specs.Store.{AreOver, formula_at};
 
 use crate::change::Effect;
@@ -20,7 +21,7 @@ use crate::clause_kind::ClauseKind;
 use crate::constraint::Constraint;
 use crate::formulas::Formulas;
 use crate::trail::Marks;
-use crate::{chase, choices, literals};
+use crate::{chase, choices, literals, turned};
 use hv_sets::{Operand, Query, Which};
 use hv_task::Task;
 
@@ -74,7 +75,7 @@ fn visit_which<K: ClauseKind>(
     requires size { length marks.old.base ≡ atoms task.now }
     requires from { from < length marks.old.trail }
     requires left { IsLeft task.now (formula_at store.now) effect.now which marks.old from }
-    ensures followed { IsFollowed (λ state. in_which task.now (sets_of (formula_at store.now)) which
+    ensures followed { IsFollowed (λ state. in_which task.now (tests_of (formula_at store.now)) which
         (over effect.now state) ≡ true) marks.old marks.new result }
     ensures left { result ≡ true → IsLeft task.now (formula_at store.now) effect.now which marks.new
         (from + 1) }
@@ -86,17 +87,19 @@ fn visit_which<K: ClauseKind>(
     chase::visit(set.clauses(), set.occurs(), effect, marks, from)
 }
 
-// Looks at each clause of each positive operand once, but for the set on which all is based.
+// Looks at each clause of each positive operand once; of that on which all is based, at each of
+// which the effect makes a literal false.
 pub(crate) fn start_all<K: ClauseKind>(
     problem: &Problem<'_, K>,
-    based: Option<usize>,
+    based: Option<Operand>,
     marks: &mut Marks<'_>,
 ) -> bool
     requires named { All (λ o. IsNamed (length problem.now.store.now) o.which)
         problem.now.query.now.positive }
     requires over { AreOver problem.now.store.now (atoms problem.now.task.now) }
     requires size { length marks.old.base ≡ atoms problem.now.task.now }
-    requires based { IsBasedOn (formula_at problem.now.store.now) based marks.old.base }
+    requires based { IsBasedOn (formula_at problem.now.store.now) problem.now.effect.now based
+        marks.old.base }
     ensures followed { IsFollowed (InAll problem.now.task.now (formula_at problem.now.store.now)
         problem.now.effect.now problem.now.query.now.positive) marks.old marks.new result }
     ensures left { result ≡ true → AreAllLeft problem.now.task.now
@@ -112,46 +115,45 @@ pub(crate) fn start_all<K: ClauseKind>(
     true
 }
 
-// Looks at each clause of an operand once, unless it is the set on which all is based.
+// Looks at each clause of an operand once; or, if it is that on which all is based, at each of
+// which the effect makes a literal false.
 fn start_operand<K: ClauseKind>(
     problem: &Problem<'_, K>,
     operand: Operand,
-    based: Option<usize>,
+    based: Option<Operand>,
     marks: &mut Marks<'_>,
 ) -> bool
     requires named { IsNamed (length problem.now.store.now) operand.which }
     requires over { AreOver problem.now.store.now (atoms problem.now.task.now) }
     requires size { length marks.old.base ≡ atoms problem.now.task.now }
-    requires based { IsBasedOn (formula_at problem.now.store.now) based marks.old.base }
+    requires based { IsBasedOn (formula_at problem.now.store.now) problem.now.effect.now based
+        marks.old.base }
     ensures followed { IsFollowed (λ state. in_which problem.now.task.now
-        (sets_of (formula_at problem.now.store.now)) operand.which
+        (tests_of (formula_at problem.now.store.now)) operand.which
         (over (late problem.now.effect.now operand.after) state) ≡ true) marks.old marks.new
         result }
     ensures left { result ≡ true → IsLeft problem.now.task.now (formula_at problem.now.store.now)
         (late problem.now.effect.now operand.after) operand.which marks.new 0 }
 {
-    if is_based(operand, based) {
-        return true;
-    }
     let seen = problem.effect.late(operand.after);
+    if let Which::Set(number) = operand.which {
+        if is_based(operand, based) {
+            let set = problem.store.set(number);
+            return turned::start(set.clauses(), set.occurs(), &seen, marks);
+        }
+    }
     start_which(problem.task, problem.store, operand.which, &seen, marks)
 }
 
-// Whether the operand is the set on which all is based.
-fn is_based(operand: Operand, based: Option<usize>) -> bool
-    ensures { result ≡ true → (operand.after ≡ false) × (number : ℕ) ×
-        (operand.which ≡ W.Set number) × (based ≡ Some number) }
+// Whether the operand is that on which all is based.
+fn is_based(operand: Operand, based: Option<Operand>) -> bool
+    ensures { result ≡ true → (base : OperandOf) × (based ≡ Some base) ×
+        (operand.which ≡ base.which) × (operand.after ≡ base.after) }
 {
-    if operand.after {
-        return false;
-    }
-    let Which::Set(number) = operand.which else {
+    let Some(base) = based else {
         return false;
     };
-    let Some(set) = based else {
-        return false;
-    };
-    set == number
+    operand.which == base.which && operand.after == base.after
 }
 
 // Looks at each clause of an operand once.
@@ -165,7 +167,7 @@ fn start_which<K: ClauseKind>(
     requires named { IsNamed (length store.now) which }
     requires over { AreOver store.now (atoms task.now) }
     requires size { length marks.old.base ≡ atoms task.now }
-    ensures followed { IsFollowed (λ state. in_which task.now (sets_of (formula_at store.now)) which
+    ensures followed { IsFollowed (λ state. in_which task.now (tests_of (formula_at store.now)) which
         (over effect.now state) ≡ true) marks.old marks.new result }
     ensures left { result ≡ true → IsLeft task.now (formula_at store.now) effect.now which marks.new
         0 }

@@ -5,7 +5,7 @@ ghost use Rattle.std.specs.Prelude.{◌≡◌, ◌<◌, ◌≤◌, ◌/◌, ◌�
 ghost use Rattle.std.specs.Prelude.{slice_range, IfOk};
 ghost use Rattle.std.specs.List.{Contains};
 ghost use Rattle.std.specs.List.Sorted.{IsStrictlyIncreasing};
-ghost use Rattle.hv_clauses.specs.Rows.{IsEndBefore, IsEndWith, IsPartOf, code, key_of, number_of};
+ghost use Rattle.hv_clauses.specs.Working.Rows.{IsEndBefore, IsEndWith, IsPartOf, code, key_of, place_of_code};
 
 use std::alloc::{AllocError, Global};
 
@@ -29,7 +29,7 @@ pub(crate) fn sort(codes: &mut Vec<u64>)
 
 // The numbers of the codes, in order.
 pub(crate) fn places_of(alloc: Global, codes: &[u64]) -> Result<Vec<usize>, AllocError>
-    ensures { IfOk result (λ places. places.items ≡ map number_of codes.now) }
+    ensures { IfOk result (λ places. places.items ≡ map place_of_code codes.now) }
 {
     let mut places = Vec::with_capacity(alloc, codes.len())?;
     for code in codes {
@@ -40,7 +40,7 @@ pub(crate) fn places_of(alloc: Global, codes: &[u64]) -> Result<Vec<usize>, Allo
 
 // The numbers of the codes, in order.
 pub(crate) fn numbers_of(alloc: Global, codes: &[u64]) -> Result<Vec<u32>, AllocError>
-    ensures { IfOk result (λ numbers. numbers.items ≡ map number_of codes.now) }
+    ensures { IfOk result (λ numbers. numbers.items ≡ map place_of_code codes.now) }
 {
     let mut numbers = Vec::with_capacity(alloc, codes.len())?;
     for code in codes {

@@ -1,27 +1,31 @@
 //! Where the search for a counterexample starts: at what follows from one positive operand alone.
 
-ghost use Rattle.std.specs.Prelude.{◌≡◌, ◌<◌, ℕ, Bool, List, MatchOption, true, length};
-ghost use Rattle.std.specs.List.{All};
+ghost use Rattle.std.specs.Prelude.{◌≡◌, ◌<◌, [], Bool, List, MatchOption, IfSome, None, length};
+ghost use Rattle.std.specs.List.{All, Contains};
 ghost use Rattle.hv_task.specs.Strips.{atoms};
+ghost use Rattle.hv_sets.specs.declared.operand.Which.TheVariants as W;
 ghost use Rattle.hv_sets.specs.Query.{IsNamed};
-ghost use Rattle.hv_sets.specs.Truth.{in_clauses};
-ghost use Rattle.hv_clauses.specs.Clausal.{InAll};
-ghost use Rattle.hv_clauses.specs.Start.{IsStart};
+ghost use Rattle.hv_clauses.specs.Working.Clausal.{InAll};
+ghost use Rattle.hv_clauses.specs.Working.Start.{IsSetAmong, IsStart};
 ghost use Rattle.hv_clauses.specs.Store.{AreOver, formula_at};
 
+use crate::base::Base;
 use crate::clause_kind::ClauseKind;
+use crate::formulas::Formulas;
 use crate::problem::Problem;
-use hv_sets::{Literal, Which};
+use hv_sets::{Operand, Which};
 
-/// Literals that a set of the store forces, if it is based on one.
+/// A positive operand on which all is based, if there is one, and what is known before the search
+/// begins.
 #[derive(Drop)]
 pub(crate) struct Start<'a> {
-    pub set: Option<usize>,
-    pub forced: &'a [Literal],
+    pub operand: Option<Operand>,
+    pub base: Base<'a>,
 }
 
-// What follows from the first positive operand that is a set and is asked about before the action.
-// The answer is None only if no state is in it.
+// What follows from one positive operand that is a set: what the set forces, but for the atoms that
+// the effect makes anew, where the operand is asked about after the action. The answer is None only
+// if no state is in the operand.
 pub(crate) fn start_of<'a, K: ClauseKind>(problem: &Problem<'a, K>) -> Option<Start<'a>>
     requires named { All (λ o. IsNamed (length problem.now.store.now) o.which)
         problem.now.query.now.positive }
@@ -32,35 +36,61 @@ pub(crate) fn start_of<'a, K: ClauseKind>(problem: &Problem<'a, K>) -> Option<St
         (formula_at problem.now.store.now) problem.now.effect.now problem.now.query.now) }
 {
     let positive = problem.query.positive.as_slice();
-    for operand in positive {
+    match largest(problem.store, positive) {
+        None => Some(nothing()),
+        Some(operand) => start_at(problem, operand),
+    }
+}
+
+// Nothing.
+fn nothing<'a>() -> Start<'a>
+    ensures operand { result.operand ≡ None }
+    ensures base { result.base ≡ [] }
+{
+    Start {
+        operand: None,
+        base: Base::of(&[]),
+    }
+}
+
+// The operand with the most clauses, of those that are sets.
+fn largest<K: ClauseKind>(store: &Formulas<K>, operands: &[Operand]) -> Option<Operand>
+    requires { All (λ o. IsNamed (length store.now) o.which) operands.now }
+    ensures { IfSome result (IsSetAmong operands.now) }
+{
+    let mut found = None;
+    let mut most = 0;
+    for operand in operands {
         if let Which::Set(number) = operand.which {
-            if !operand.after {
-                return start_at(problem, number);
+            let count = store.set(number).clauses().len();
+            if count >= most {
+                found = Some(*operand);
+                most = count;
             }
         }
     }
-    Some(Start {
-        set: None,
-        forced: &[],
-    })
+    found
 }
 
-// What follows from the set of this number, in which each state of the positive operands is.
-fn start_at<'a, K: ClauseKind>(problem: &Problem<'a, K>, number: usize) -> Option<Start<'a>>
-    requires number { number < length problem.now.store.now }
+// What follows from this positive operand.
+fn start_at<'a, K: ClauseKind>(problem: &Problem<'a, K>, operand: Operand) -> Option<Start<'a>>
+    requires among { Contains problem.now.query.now.positive operand }
+    requires named { IsNamed (length problem.now.store.now) operand.which }
     requires over { AreOver problem.now.store.now (atoms problem.now.task.now) }
-    requires inside { (state : List Bool) → InAll problem.now.task.now
-        (formula_at problem.now.store.now) problem.now.effect.now problem.now.query.now.positive
-        state → in_clauses (formula_at problem.now.store.now number) state ≡ true }
     ensures { MatchOption result ((state : List Bool) → length state ≡ atoms problem.now.task.now →
         InAll problem.now.task.now (formula_at problem.now.store.now) problem.now.effect.now
         problem.now.query.now.positive state → ⊥) (IsStart problem.now.task.now
         (formula_at problem.now.store.now) problem.now.effect.now problem.now.query.now) }
 {
-    let store = problem.store;
-    let forced = store.set(number).forced()?;
-    Some(Start {
-        set: Some(number),
-        forced,
-    })
+    let Which::Set(number) = operand.which else {
+        return Some(nothing());
+    };
+    let seen = problem.effect.late(operand.after);
+    match problem.store.set(number).forced() {
+        None => None,
+        Some(forced) => Some(Start {
+            operand: Some(operand),
+            base: Base::beside(forced, seen),
+        }),
+    }
 }

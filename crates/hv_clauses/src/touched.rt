@@ -7,10 +7,10 @@ ghost use Rattle.std.specs.List.Sorted.{IsNonDecreasingBy};
 ghost use Rattle.hv_task.specs.Strips.{atoms};
 ghost use Rattle.hv_sets.specs.Cost.{choices_of};
 ghost use Rattle.hv_clauses.specs.Clausal.{sizes_of};
-ghost use Rattle.hv_clauses.specs.Found.{IsBased, IsFramed, IsMetAmong, IsMetBelow, IsPosed};
+ghost use Rattle.hv_clauses.specs.Working.Found.{IsBased, IsFramed, IsMetAmong, IsMetBelow, IsPosed};
 ghost use Rattle.hv_clauses.specs.Marks.{known};
-ghost use Rattle.hv_clauses.specs.Occurrences.{signed, turning_sign};
-ghost use Rattle.hv_clauses.specs.Problem.{Fits};
+ghost use Rattle.hv_clauses.specs.Working.Occurrences.{signed, turning_sign};
+ghost use Rattle.hv_clauses.specs.Working.Problem.{FitsChoice};
 ghost use Rattle.hv_clauses.specs.Store.{formula_at};
 
 use crate::clause_kind::ClauseKind;
@@ -36,7 +36,7 @@ pub(crate) fn choose_touched<K: ClauseKind>(
     requires state { length state.old ≡ atoms problem.now.task.now }
     ensures met { IsMetBelow result (choices_of problem.now.task.now
         (sizes_of (formula_at problem.now.store.now)) problem.now.query.now.negative)
-        (atoms problem.now.task.now) (Fits problem.now.task.now (formula_at problem.now.store.now)
+        (atoms problem.now.task.now) (FitsChoice problem.now.task.now (formula_at problem.now.store.now)
         problem.now.effect.now problem.now.query.now) state.new }
     ensures same { marks.new ≡ marks.old }
     ensures state { length state.new ≡ length state.old }
@@ -74,7 +74,7 @@ fn try_value<K: ClauseKind>(
         (λ p. known problem.now.effect.now p ≡ Some value)
         (choices_of problem.now.task.now (sizes_of (formula_at problem.now.store.now))
         problem.now.query.now.negative) (atoms problem.now.task.now)
-        (Fits problem.now.task.now (formula_at problem.now.store.now) problem.now.effect.now
+        (FitsChoice problem.now.task.now (formula_at problem.now.store.now) problem.now.effect.now
         problem.now.query.now) state.new }
     ensures same { marks.new ≡ marks.old }
     ensures state { length state.new ≡ length state.old }
@@ -115,7 +115,7 @@ fn try_listed<K: ClauseKind>(
     ensures met { IsMetAmong result listed.now (λ _. ⊤)
         (choices_of problem.now.task.now (sizes_of (formula_at problem.now.store.now))
         problem.now.query.now.negative) (atoms problem.now.task.now)
-        (Fits problem.now.task.now (formula_at problem.now.store.now) problem.now.effect.now
+        (FitsChoice problem.now.task.now (formula_at problem.now.store.now) problem.now.effect.now
         problem.now.query.now) state.new }
     ensures same { marks.new ≡ marks.old }
     ensures state { length state.new ≡ length state.old }

@@ -3,10 +3,11 @@
 ghost use Rattle.std.specs.Prelude.{◌≡◌, ◌<◌, ◌≤◌, ◌++◌, ◌^◌, [], ◌∷◌, None, Some, length, take};
 ghost use Rattle.std.specs.Prelude.{slice_get};
 ghost use Rattle.std.specs.List.Sorted.{IsStrictlyIncreasing};
-ghost use Rattle.hv_sets.specs.Cubes.{IsFirstUpto, atoms_of};
+ghost use Rattle.hv_sets.specs.Cubes.{atoms_of};
 ghost use Rattle.hv_clauses.specs.Marks.{filled, known};
-ghost use Rattle.hv_clauses.specs.Trail.{marked, marks_of};
+ghost use Rattle.hv_clauses.specs.Working.Trail.{marked, marks_of};
 
+use crate::base::Base;
 use hv_sets::Literal;
 use hv_task::State;
 use std::marker::Model;
@@ -17,7 +18,7 @@ use std::marker::Model;
 #[derive(Drop)]
 pub(crate) struct Marks<'a> {
     atoms: usize,
-    base: &'a [Literal],
+    base: Base<'a>,
     // For each atom of a literal of the trail the place of its entry, and the entries.
     places: &'a mut [u32],
     queue: &'a mut [u32],
@@ -25,21 +26,18 @@ pub(crate) struct Marks<'a> {
 }
 
 impl<'a> Model for Marks<'a> {
-    ghost use Rattle.std.specs.Prelude.{◌≤◌, ◌^◌, length};
-    ghost use Rattle.std.specs.List.Sorted.{IsStrictlyIncreasing};
-    ghost use Rattle.hv_sets.specs.Cubes.{atoms_of};
-    ghost use Rattle.hv_clauses.specs.Trail.{AreJoined, Knowledge, marked, trail_of};
+    ghost use Rattle.std.specs.Prelude.{◌≤◌, ◌^◌};
+    ghost use Rattle.hv_clauses.specs.Working.Trail.{AreJoined, Knowledge, marked, trail_of};
 
     ghost Value = { Knowledge };
 
     ghost view = { λ s. record {
-      base = marked s.atoms s.base.now;
-      trail = trail_of s.queue.now
-          s.len;
+      base = marked s.atoms s.base;
+      trail = trail_of s.queue.now s.len;
     } };
 
-    ghost invariant = { λ s. (s.atoms ≤ 2 ^ 31) × AreJoined (marked s.atoms s.base.now) s.places.now
-        s.queue.now s.len × IsStrictlyIncreasing (atoms_of s.base.now) };
+    ghost invariant = { λ s. (s.atoms ≤ 2 ^ 31) × AreJoined (marked s.atoms s.base) s.places.now
+        s.queue.now s.len };
 }
 
 impl<'a> Marks<'a> {
@@ -55,6 +53,21 @@ impl<'a> Marks<'a> {
         requires places { atoms ≤ length places.old }
         requires queue { atoms ≤ length queue.old }
         ensures { result ≡ record { base = marked atoms base.now; trail = [] } }
+    {
+        Marks::from(atoms, Base::of(base), places, queue)
+    }
+
+    /// The same of literals beside an effect.
+    pub(crate) fn from(
+        atoms: usize,
+        base: Base<'a>,
+        places: &'a mut [u32],
+        queue: &'a mut [u32],
+    ) -> Marks<'a>
+        requires few { atoms ≤ 2 ^ 31 }
+        requires places { atoms ≤ length places.old }
+        requires queue { atoms ≤ length queue.old }
+        ensures { result ≡ record { base = marked atoms base.entry; trail = [] } }
     {
         Marks {
             atoms,
@@ -99,11 +112,11 @@ impl<'a> Marks<'a> {
         }
         let place = self.places[at] as usize;
         if place >= self.len {
-            return said(self.base, self.atoms, atom);
+            return self.base.read(self.atoms, atom);
         }
         let entry = self.queue[place] as usize;
         if entry / 2 != at {
-            return said(self.base, self.atoms, atom);
+            return self.base.read(self.atoms, atom);
         }
         Some(entry % 2 == 1)
     }
@@ -144,29 +157,4 @@ impl<'a> Marks<'a> {
             state.set(atom, self.read(atom).unwrap_or(value));
         }
     }
-}
-
-// What literals by rising atoms say of an atom.
-fn said(base: &[Literal], atoms: usize, atom: u32) -> Option<bool>
-    requires rises { IsStrictlyIncreasing (atoms_of base.now) }
-    requires atom { atom < atoms }
-    ensures { result ≡ known (marked atoms base.now) atom }
-{
-    let place = place_in(base, atom);
-    if place >= base.len() {
-        return None;
-    }
-    let literal = base[place];
-    if literal.atom != atom {
-        return None;
-    }
-    Some(literal.positive)
-}
-
-// How many literals are of lesser atoms.
-fn place_in(base: &[Literal], atom: u32) -> usize
-    requires { IsStrictlyIncreasing (atoms_of base.now) }
-    ensures { IsFirstUpto (atoms_of base.now) atom result }
-{
-    base.partition_point(|literal| literal.atom < atom)
 }

@@ -1,9 +1,11 @@
+//! Horn formulas: the kind, and the set and the store of it.
+
 ghost use Rattle.std.specs.Prelude.{◌≡◌, ◌↔◌, false, IsTrue};
 ghost use Rattle.hv_sets.specs.Kinds.{IsHornClause};
 ghost use Rattle.hv_clauses.specs.declared.completion.Completion.TheVariants as C;
 ghost use Rattle.hv_clauses.specs.declared.listing.Listing.TheVariants as L;
 ghost use Rattle.hv_horn.specs.Fault.{IsFault, memory_is_fault};
-ghost use Rattle.hv_horn.specs.Laws as laws;
+ghost use Rattle.hv_horn.specs.Working.Laws as laws;
 ghost use Rattle.hv_horn.specs.declared.horn.HornFault.TheVariants as F;
 
 use hv_clauses::{ClauseKind, Completion, Formula, Formulas, Listing};

@@ -9,7 +9,7 @@ use Rattle.std.specs.List.{All, Contains}
 use Rattle.std.specs.Prelude.{◌↔◌}
 use Rattle.hv_sets.specs.declared.literal.Literal.{Literal}
 use Rattle.hv_sets.specs.Kinds.{IsTwoClause}
-use Rattle.hv_twocnf.specs.Either.{IsEither}
+use Rattle.hv_twocnf.specs.Working.Either.{IsEither}
 
 -- whether the two literals are one
 abbrev pub is_same_literal : Literal → Literal → Bool

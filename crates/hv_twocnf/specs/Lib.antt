@@ -1,3 +1,2 @@
-pub mod Either
 pub mod Fault
-pub mod Laws
+pub mod Working

@@ -1,11 +1,13 @@
+//! 2CNF formulas: the kind, and the set and the store of it.
+
 ghost use Rattle.std.specs.Prelude.{◌≡◌, ◌↔◌, IsTrue};
 ghost use Rattle.std.specs.List.{All};
 ghost use Rattle.hv_sets.specs.Kinds.{IsTwoClause};
 ghost use Rattle.hv_clauses.specs.declared.completion.Completion.TheVariants as C;
 ghost use Rattle.hv_clauses.specs.declared.listing.Listing.TheVariants as L;
-ghost use Rattle.hv_twocnf.specs.Either.{IsEither};
+ghost use Rattle.hv_twocnf.specs.Working.Either.{IsEither};
 ghost use Rattle.hv_twocnf.specs.Fault.{IsFault, memory_is_fault};
-ghost use Rattle.hv_twocnf.specs.Laws as laws;
+ghost use Rattle.hv_twocnf.specs.Working.Laws as laws;
 ghost use Rattle.hv_twocnf.specs.declared.two_cnf.TwoCnfFault.TheVariants as F;
 
 use hv_clauses::{ClauseKind, Completion, Formula, Formulas, Listing};

@@ -1,8 +1,8 @@
 use Rattle.std.proofs.Common.{◌∙◌, [], length, sym, ap, subst}
-use Rattle.hv_clauses.specs.Closure.{AreForced}
-use Rattle.hv_clauses.specs.Marks.{Agrees}
-use Rattle.hv_clauses.specs.Trail.{Knowledge, marks_of}
-use Rattle.hv_clauses.specs.Units.{AreSettled}
+use Rattle.hv_clauses.specs.Working.Closure.{AreForced}
+use Rattle.hv_clauses.specs.Working.Marks.{Agrees}
+use Rattle.hv_clauses.specs.Working.Trail.{Knowledge, marks_of}
+use Rattle.hv_clauses.specs.Working.Units.{AreSettled}
 use Rattle.hv_clauses.proofs.Trailed.{length-marked}
 use Rattle.hv_clauses.proofs.alone.meet.Goals as goal
 

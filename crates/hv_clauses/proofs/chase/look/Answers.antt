@@ -1,5 +1,5 @@
 use Rattle.std.proofs.Common.{◌+◌, ◌∙◌, Some, sym, ap, subst}
-use Rattle.hv_clauses.specs.Trail.{marks_of}
+use Rattle.hv_clauses.specs.Working.Trail.{marks_of}
 use Rattle.hv_clauses.proofs.Steps.{Seen, literals_differ, literals_same, seen_again, seen_false, seen_first, seen_two}
 use Rattle.hv_clauses.proofs.chase.look.Goals as goal
 use Rattle.hv_clauses.proofs.chase.look.Goals.{in-Some-false, in-None+in-None-unit, in-None+in-Some+else-ne}

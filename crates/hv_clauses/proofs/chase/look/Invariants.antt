@@ -1,4 +1,4 @@
-use Rattle.hv_clauses.specs.Trail.{marks_of}
+use Rattle.hv_clauses.specs.Working.Trail.{marks_of}
 use Rattle.hv_clauses.proofs.Steps.{Seen}
 use Rattle.hv_clauses.proofs.chase.look.Given as goal
 

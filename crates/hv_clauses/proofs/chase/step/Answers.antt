@@ -1,8 +1,8 @@
 use Rattle.std.proofs.Common.{◌≡◌, true, sym, subst}
 use Rattle.hv_sets.specs.Truth.{in_clause}
-use Rattle.hv_clauses.specs.Chase.{IsFollowed}
+use Rattle.hv_clauses.specs.Working.Chase.{IsFollowed}
 use Rattle.hv_clauses.specs.Marks.{over}
-use Rattle.hv_clauses.specs.Trail.{Knowledge, marks_of}
+use Rattle.hv_clauses.specs.Working.Trail.{Knowledge, marks_of}
 use Rattle.hv_clauses.specs.Units.{IsSettled}
 use Rattle.hv_clauses.proofs.Chasing.{broken_followed, step_followed, step_settled}
 use Rattle.hv_clauses.proofs.chase.step.Goals as goal

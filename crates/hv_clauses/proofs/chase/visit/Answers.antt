@@ -1,80 +1,53 @@
-use Rattle.std.proofs.Common.{◌+◌, ◌<◌, not, length, get_or, refl, ap, arith, below_more, subst}
-use Rattle.std.proofs.lemmas.List.{get_or_default}
+use Rattle.std.proofs.Common.{◌+◌, ◌<◌, ◌≡◌, ◌∙◌, Some, false, not, length, get_or, refl, ap, arith, sym, subst}
 use Rattle.std.proofs.lemmas.List.Elements.{All-contains, Contains-get_or}
+use Rattle.std.proofs.lemmas.Option.{get_or_from_slice_get}
+use Rattle.std.proofs.Math.Bool.{beq}
+use Rattle.std.specs.Option.{option_eq}
 use Rattle.hv_clauses.specs.declared.occurrences.Occurrence.{Occurrence}
-use Rattle.hv_clauses.specs.Chase.{IsKept}
-use Rattle.hv_clauses.specs.Choices.{clause_at}
-use Rattle.hv_clauses.specs.Occurrences.{signed}
-use Rattle.hv_clauses.proofs.Chasing.{clause_below, clause_followed, clause_kept, kept_next, kept_on, longer, read_on}
+use Rattle.hv_clauses.specs.Working.Chase.{IsKept}
+use Rattle.hv_clauses.specs.Working.Choices.{clause_at}
+use Rattle.hv_clauses.specs.Working.Occurrences.{signed}
+use Rattle.hv_clauses.proofs.Besides.{kept_sooner, kept_true}
+use Rattle.hv_clauses.proofs.Chasing.{grown_by, kept_grown, kept_next, longer, read_on}
+use Rattle.hv_clauses.proofs.Rounds.{never}
 use Rattle.hv_clauses.proofs.chase.visit.Goals as goal
 
-pub of-listed-requires : goal.of-listed-requires
-of-listed-requires c = (c.requires.index (not c.get-literal.result.positive)).sorted
+pub returns-then-ne-clause-kept : goal.returns-then-ne-clause-kept
+returns-then-ne-clause-kept c = λ is.
+    let m = c.args.marks.now in
+    let literal = c.get-literal.result in
+    kept_true c.args.effect.now c.args.clauses.now m c.args.from literal c.requires.from
+    (get_or_from_slice_get m.trail c.args.from literal literal c.get-literal.ensures.here) c.get-literal.ensures.below c.requires.kept
+    (λ out.
+    let value = c.value.ensures ∙ out in
+    never (sym c.if-ne.true ∙ (c.ne.ensures ∙ ap (λ v. not (option_eq beq v (Some false))) value)))
 
-pub get-requires : goal.get-requires
-get-requires c =
-    let sign = not c.get-literal.result.positive in
+pub visit_all-requires-clause-inside : goal.visit_all-requires-clause-inside
+visit_all-requires-clause-inside c =
+    let sign = not c.get-literal.result.positive in λ k d less.
     All-contains (λ (o : Occurrence). o.place < length c.args.clauses.now) (signed c.args.occurs.now sign) _ (c.requires.index sign).inside
-    (c.of-listed.ensures.only _ (Contains-get_or c.of-listed.result.now c.loop-occurrence.occurrence-index _ c.loop-occurrence-test.true))
+    (c.standing-standing.ensures.only (get_or c.standing-standing.result.listed.now k d) (Contains-get_or c.standing-standing.result.listed.now k d less))
 
-pub step-requires : goal.step-requires
-step-requires c =
+pub visit_all-requires-clause-beside : goal.visit_all-requires-clause-beside
+visit_all-requires-clause-beside c =
     let sign = not c.get-literal.result.positive in
-    let within = All-contains (λ (o : Occurrence). o.place < length c.args.clauses.now) (signed c.args.occurs.now sign) _ (c.requires.index sign).inside
-    (c.of-listed.ensures.only _ (Contains-get_or c.of-listed.result.now c.loop-occurrence.occurrence-index _ c.loop-occurrence-test.true)) in
-    clause_below c.args.effect.now c.args.clauses.now _ c.get.result.now within c.get.ensures _ _ c.requires.clauses
-    (ap length c.loop-occurrence.invariant.followed.base)
-
-pub returns-then-not-step-clause-followed : goal.returns-then-not-step-clause-followed
-returns-then-not-step-clause-followed c =
-    let sign = not c.get-literal.result.positive in
-    let within = All-contains (λ (o : Occurrence). o.place < length c.args.clauses.now) (signed c.args.occurs.now sign) _ (c.requires.index sign).inside
-    (c.of-listed.ensures.only _ (Contains-get_or c.of-listed.result.now c.loop-occurrence.occurrence-index _ c.loop-occurrence-test.true)) in
-    clause_followed c.args.effect.now c.args.clauses.now _ c.get.result.now within c.get.ensures
-    _ _ _ _ c.loop-occurrence.invariant.followed c.if-not-step.ensures.followed
-
-pub loop-occurrence-preserved : goal.loop-occurrence-preserved
-loop-occurrence-preserved c =
-    let e = c.args.effect.now in
-    let clauses = c.args.clauses.now in
-    let listed = c.of-listed.result.now in
-    let index = c.loop-occurrence.occurrence-index in
-    let old = c.loop-occurrence.marks in
-    let new = c.step.new.marks in
-    let from = c.args.from in
-    let step = c.if-not-step.ensures.followed in
-    let more = longer _ _ _ _ c.loop-occurrence.invariant.followed in
-    let less = c.requires.from in
-    let sign = not c.get-literal.result.positive in
-    let within : (get_or listed index (record { atom = 0; place = 0 })).place < length clauses =
-    All-contains (λ (o : Occurrence). o.place < length clauses) (signed c.args.occurs.now sign) _ (c.requires.index sign).inside
-    (c.of-listed.ensures.only _ (Contains-get_or listed index _ c.loop-occurrence-test.true)) in
-    record {
-      followed = clause_followed e clauses _ c.get.result.now within c.get.ensures _ _ _ _ c.loop-occurrence.invariant.followed step;
-      kept = λ place at. kept_on e (clause_at clauses place) old new from step.base step.more (omega arith)
-          (c.loop-occurrence.invariant.kept place at);
-      seen = below_more (λ k. (d : Occurrence) → IsKept e (clause_at clauses (get_or listed k d).place) new (from + 1)) index
-          (λ k at d. kept_on e (clause_at clauses (get_or listed k d).place) old new (from + 1) step.base step.more (omega arith)
-          (c.loop-occurrence.invariant.seen k at d))
-          (λ d. subst (λ (o : Occurrence). IsKept e (clause_at clauses o.place) new (from + 1))
-          (get_or_default listed index (record { atom = 0; place = 0 }) d c.loop-occurrence-test.true)
-          (clause_kept e clauses _ c.get.result.now within c.get.ensures new (from + 1) (c.if-not-step.ensures.settled refl)));
-    }
+    c.standing-standing.ensures.beside c.args.clauses.now (c.requires.index sign).beside
 
 pub returns-clause-kept : goal.returns-clause-kept
 returns-clause-kept c = λ is.
     let e = c.args.effect.now in
     let clauses = c.args.clauses.now in
-    let listed = c.of-listed.result.now in
-    let m = c.loop-occurrence.marks in
+    let listed = c.standing-standing.result.listed.now in
+    let old = c.args.marks.now in
+    let new = c.visit_all.new.marks in
     let from = c.args.from in
-    let more = longer _ _ _ _ c.loop-occurrence.invariant.followed in
+    let followed = c.visit_all.ensures.followed in
+    let grown = grown_by _ old new c.visit_all.result followed in
+    let more = longer _ _ _ _ followed in
     let less = c.requires.from in
-    let end = c.loop-occurrence-test.false in
-    let sign = not c.get-literal.result.positive in
-    kept_next e clauses (signed c.args.occurs.now sign) listed m from c.get-literal.result (omega arith)
-    (read_on c.args.marks.now.trail m.trail c.loop-occurrence.invariant.followed.more.0 from c.get-literal.result less
-    c.loop-occurrence.invariant.followed.more.1 c.get-literal.ensures.here)
-    c.loop-occurrence.invariant.kept (c.requires.index sign).all c.of-listed.ensures.all
-    (λ o has. subst (λ (o : Occurrence). IsKept e (clause_at clauses o.place) m (from + 1)) has.2
-    (c.loop-occurrence.invariant.seen has.0 (let at : has.0 < length listed = has.1 in omega arith) o))
+    let literal = c.get-literal.result in
+    let sign = not literal.positive in
+    kept_next e clauses (signed c.args.occurs.now sign) listed new from literal (omega arith)
+    (read_on old.trail new.trail followed.more.0 from literal less followed.more.1 c.get-literal.ensures.here)
+    (kept_grown e clauses old new from grown (omega arith) c.requires.kept) (c.requires.index sign).all c.standing-standing.ensures.all
+    (λ o has. kept_sooner e (clause_at clauses o.place) new (from + 1) (length old.trail) (omega arith) more (c.visit_all.ensures.kept is o has))

@@ -1,9 +1,10 @@
 use Rattle.std.proofs.Common.{◌≡◌, ◌∙◌, [], true, Bool, List, ℕ, None, length, refl, sym, ap, arith, subst}
 use Rattle.hv_sets.specs.declared.literal.Literal.{Literal}
 use Rattle.hv_sets.specs.Truth.{in_clauses}
-use Rattle.hv_clauses.specs.Chase.{AreKept}
-use Rattle.hv_clauses.specs.Marks.{Agrees, known, over}
-use Rattle.hv_clauses.specs.Trail.{Knowledge, marks_of}
+use Rattle.hv_clauses.specs.Working.Chase.{AreKept}
+use Rattle.hv_clauses.specs.Marks.{known, over}
+use Rattle.hv_clauses.specs.Working.Marks.{Agrees}
+use Rattle.hv_clauses.specs.Working.Trail.{Knowledge, marks_of}
 use Rattle.hv_clauses.proofs.Chasing.{longer}
 use Rattle.hv_clauses.proofs.Covered.{agrees_none}
 use Rattle.hv_clauses.proofs.Marked.{over-nil}

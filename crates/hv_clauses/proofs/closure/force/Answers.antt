@@ -1,5 +1,5 @@
 use Rattle.std.proofs.Common.{◌∙◌, [], length, sym, ap, refl}
-use Rattle.hv_clauses.specs.Trail.{Knowledge}
+use Rattle.hv_clauses.specs.Working.Trail.{Knowledge}
 use Rattle.hv_clauses.proofs.Forced.{forced_from}
 use Rattle.hv_clauses.proofs.Trailed.{length-marked}
 use Rattle.hv_clauses.proofs.closure.force.Goals as goal

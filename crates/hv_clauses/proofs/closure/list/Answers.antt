@@ -1,7 +1,7 @@
 use Rattle.std.proofs.Common.{◌≡◌, ◌∙◌, length, arith, inl, inr, refl, subst}
 use Rattle.std.proofs.lemmas.Bool.{cases_lt}
 use Rattle.hv_clauses.specs.Marks.{known}
-use Rattle.hv_clauses.specs.Trail.{marked, marks_of}
+use Rattle.hv_clauses.specs.Working.Trail.{marked, marks_of}
 use Rattle.hv_clauses.proofs.Forced.{said_everywhere}
 use Rattle.hv_clauses.proofs.closure.list.Goals as goal
 

@@ -1,7 +1,7 @@
 use Rattle.std.proofs.Common.{◌≡◌, ℕ, ◌<◌, length}
-use Rattle.hv_clauses.specs.Closure.{ListsBelow}
+use Rattle.hv_clauses.specs.Working.Closure.{ListsBelow}
 use Rattle.hv_clauses.specs.Marks.{known}
-use Rattle.hv_clauses.specs.Trail.{marked, marks_of}
+use Rattle.hv_clauses.specs.Working.Trail.{marked, marks_of}
 use Rattle.hv_clauses.proofs.closure.list.Given as goal
 
 abbrev pub invariant-loop-atom : goal.invariant-loop-atom

@@ -1,7 +1,7 @@
 use Rattle.std.proofs.Common.{◌∙◌, ◌+◌, refl, sym, ap, arith, subst}
-use Rattle.hv_clauses.specs.Closure.{ListsBelow}
+use Rattle.hv_clauses.specs.Working.Closure.{ListsBelow}
 use Rattle.hv_clauses.specs.Marks.{known}
-use Rattle.hv_clauses.specs.Trail.{marked}
+use Rattle.hv_clauses.specs.Working.Trail.{marked}
 use Rattle.hv_clauses.proofs.Forced.{listed_more, none_from, said_more, said_others}
 use Rattle.hv_clauses.proofs.closure.put.Goals as goal
 

@@ -1,8 +1,8 @@
 use Rattle.std.proofs.Common.{◌≡◌, ◌∙◌, ◌<◌, ◌++◌, [], ◌∷◌, ℕ, None, false, length, take, sym, ap, arith, refl, subst}
 use Rattle.hv_sets.specs.declared.literal.Literal.{Literal}
 use Rattle.hv_clauses.specs.Marks.{known}
-use Rattle.hv_clauses.specs.Completion.{IsAssumed}
-use Rattle.hv_clauses.specs.Trail.{Grows, Knowledge, marks_of}
+use Rattle.hv_clauses.specs.Working.Completion.{IsAssumed}
+use Rattle.hv_clauses.specs.Working.Trail.{Grows, Knowledge, marks_of}
 use Rattle.hv_clauses.proofs.Chasing.{grown_by, grown_more, grows_same, grows_then, marked_more, undone_same}
 use Rattle.hv_clauses.proofs.Completing.{assumed_broken, assumed_closed}
 use Rattle.hv_clauses.proofs.Steps.{IsMarked}

@@ -1,5 +1,5 @@
 use Rattle.std.proofs.Common.{◌≤◌, ◌-◌, true, length}
-use Rattle.hv_clauses.specs.Chase.{IsFollowed}
+use Rattle.hv_clauses.specs.Working.Chase.{IsFollowed}
 use Rattle.hv_clauses.proofs.complete.close.Given as goal
 
 abbrev pub invariant-loop-place : goal.invariant-loop-place

@@ -1,8 +1,8 @@
 use Rattle.std.proofs.Common.{◌∙◌, true, false, length, sym, ap, arith, refl, subst}
-use Rattle.hv_clauses.specs.Clausal.{Completes}
-use Rattle.hv_clauses.specs.Completion.{IsTried}
-use Rattle.hv_clauses.specs.Marks.{AllKnown}
-use Rattle.hv_clauses.specs.Trail.{marks_of}
+use Rattle.hv_clauses.specs.Working.Clausal.{Completes}
+use Rattle.hv_clauses.specs.Working.Completion.{IsTried}
+use Rattle.hv_clauses.specs.Working.Marks.{AllKnown}
+use Rattle.hv_clauses.specs.Working.Trail.{marks_of}
 use Rattle.hv_clauses.proofs.Completing.{completed_filled, completed_tried}
 use Rattle.hv_clauses.proofs.Marked.{length-filled}
 use Rattle.hv_clauses.proofs.Trailed.{length-marks}

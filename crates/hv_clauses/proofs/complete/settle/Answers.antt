@@ -1,7 +1,7 @@
 use Rattle.std.proofs.Common.{length, arith, sym, subst}
-use Rattle.hv_clauses.specs.Clausal.{Completes}
+use Rattle.hv_clauses.specs.Working.Clausal.{Completes}
 use Rattle.hv_clauses.specs.declared.completion.Completion.TheVariants as C
-use Rattle.hv_clauses.specs.Trail.{marks_of}
+use Rattle.hv_clauses.specs.Working.Trail.{marks_of}
 use Rattle.hv_clauses.proofs.Chasing.{grows_then}
 use Rattle.hv_clauses.proofs.Completing.{tried_both}
 use Rattle.hv_clauses.proofs.Trailed.{length-marks}

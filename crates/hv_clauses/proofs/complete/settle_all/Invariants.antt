@@ -1,7 +1,7 @@
 use Rattle.std.proofs.Common.{length, true}
-use Rattle.hv_clauses.specs.Completion.{IsTried}
-use Rattle.hv_clauses.specs.Marks.{AllKnown}
-use Rattle.hv_clauses.specs.Trail.{Grows, marks_of}
+use Rattle.hv_clauses.specs.Working.Completion.{IsTried}
+use Rattle.hv_clauses.specs.Working.Marks.{AllKnown}
+use Rattle.hv_clauses.specs.Working.Trail.{Grows, marks_of}
 use Rattle.hv_clauses.proofs.complete.settle_all.Given as goal
 
 abbrev pub invariant-loop-atom : goal.invariant-loop-atom

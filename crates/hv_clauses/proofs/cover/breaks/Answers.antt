@@ -4,8 +4,9 @@ use Rattle.hv_sets.specs.declared.literal.Literal.{Literal}
 use Rattle.hv_sets.specs.Cubes.{SpeakBelow}
 use Rattle.hv_sets.specs.Truth.{in_clause}
 use Rattle.hv_clauses.specs.Marks.{over}
-use Rattle.hv_clauses.specs.Trail.{Knowledge, marks_of}
-use Rattle.hv_clauses.specs.Units.{AreFalse, value_of}
+use Rattle.hv_clauses.specs.Working.Trail.{Knowledge, marks_of}
+use Rattle.hv_clauses.specs.Units.{value_of}
+use Rattle.hv_clauses.specs.Working.Units.{AreFalse}
 use Rattle.hv_clauses.proofs.Chasing.{undone_same}
 use Rattle.hv_clauses.proofs.Covered.{true_where_known, true_where_undenied}
 use Rattle.hv_clauses.proofs.Trailed.{length-marks}

@@ -2,9 +2,9 @@ use Rattle.std.proofs.Common.{◌≡◌, ◌∙◌, ◌<◌, [], true, length, r
 use Rattle.std.proofs.lemmas.List.{get_or_default}
 use Rattle.std.proofs.lemmas.Option.{get_or_from_slice_get}
 use Rattle.hv_sets.specs.Truth.{in_clause}
-use Rattle.hv_clauses.specs.Choices.{clause_at}
-use Rattle.hv_clauses.specs.Marks.{Agrees, Extends}
-use Rattle.hv_clauses.specs.Trail.{Knowledge, marks_of}
+use Rattle.hv_clauses.specs.Working.Choices.{clause_at}
+use Rattle.hv_clauses.specs.Working.Marks.{Agrees, KeepsKnown}
+use Rattle.hv_clauses.specs.Working.Trail.{Knowledge, marks_of}
 use Rattle.hv_clauses.proofs.Chasing.{clause_below}
 use Rattle.hv_clauses.proofs.Covered.{all_true, cube_agrees, cube_empty, forced_cube, outside_found}
 use Rattle.hv_clauses.proofs.Marked.{length-low}
@@ -40,7 +40,7 @@ returns-then-breaks-clause-covers c =
     (length-marks c.args.marks.now ∙ c.requires.marks) (length-marks c.breaks.new.marks ∙ (ap length lies.1.base ∙ wide))
     c.requires.clauses c.requires.cube less
     (sym (get_or_from_slice_get c.args.clauses.now c.loop-place.place c.get.result.now c.get.result.now c.get.ensures)) refl lies.0
-    (subst (λ (k : Knowledge). Extends (marks_of k) (marks_of c.breaks.new.marks)) same lies.1.grows) c.fill.ensures
+    (subst (λ (k : Knowledge). KeepsKnown (marks_of k) (marks_of c.breaks.new.marks)) same lies.1.grows) c.fill.ensures
 
 pub returns-then-breaks-clause-state : goal.returns-then-breaks-clause-state
 returns-then-breaks-clause-state c =

@@ -1,6 +1,6 @@
 use Rattle.std.proofs.Common.{arith, get_or}
 use Rattle.hv_clauses.proofs.Effects.{forced_plain, lit, in_all, in_broken, in_more}
-use Rattle.hv_clauses.specs.Trail.{marks_of}
+use Rattle.hv_clauses.specs.Working.Trail.{marks_of}
 use Rattle.hv_clauses.proofs.Chasing.{grows_then}
 use Rattle.hv_clauses.proofs.effect.force_in.Goals as goal
 

@@ -1,6 +1,6 @@
 use Rattle.std.proofs.Common.{◌∙◌, length, take, refl, sym, ap}
 use Rattle.hv_clauses.specs.Store.{formula_at}
-use Rattle.hv_clauses.specs.Trail.{Knowledge}
+use Rattle.hv_clauses.specs.Working.Trail.{Knowledge}
 use Rattle.hv_clauses.proofs.Chasing.{undone_same}
 use Rattle.hv_clauses.proofs.Deciding.{named_second, some_clauses}
 use Rattle.hv_clauses.proofs.Trailed.{length-marks}

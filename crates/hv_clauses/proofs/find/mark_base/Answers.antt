@@ -1,7 +1,7 @@
 use Rattle.std.proofs.Common.{◌∙◌, length, refl, sym, ap, subst}
-use Rattle.hv_clauses.specs.Start.{IsBasedOn}
+use Rattle.hv_clauses.specs.Working.Start.{IsBasedOn}
 use Rattle.hv_clauses.specs.Store.{formula_at}
-use Rattle.hv_clauses.specs.Trail.{marks_of}
+use Rattle.hv_clauses.specs.Working.Trail.{marks_of}
 use Rattle.hv_clauses.proofs.Deciding.{named_first}
 use Rattle.hv_clauses.proofs.Marked.{agrees_extends, extends_then}
 use Rattle.hv_clauses.proofs.Trailed.{length-marks}
@@ -22,7 +22,7 @@ start_all-requires-clause-size g c = ap length c.if-not-mark_pre.ensures.grown.b
 
 pub start_all-requires-clause-based : goal.start_all-requires-clause-based
 start_all-requires-clause-based g c =
-    subst (λ b. IsBasedOn (formula_at c.args.problem.now.store.now) c.args.based b) (sym c.if-not-mark_pre.ensures.grown.base) c.requires.based
+    subst (λ b. IsBasedOn (formula_at c.args.problem.now.store.now) c.args.problem.now.effect.now c.args.based b) (sym c.if-not-mark_pre.ensures.grown.base) c.requires.based
 
 pub returns-then-not-start_all-clause-never : goal.returns-then-not-start_all-clause-never
 returns-then-not-start_all-clause-never g c = λ _ state size applies inside.

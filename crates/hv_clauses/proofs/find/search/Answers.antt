@@ -2,7 +2,7 @@ use Rattle.std.proofs.Common.{◌≡◌, ◌∙◌, Option, None, length, ap, su
 use Rattle.std.specs.Option.{MatchOption}
 use Rattle.hv_clauses.specs.declared.start.Start.{Start}
 use Rattle.hv_clauses.specs.Store.{formula_at}
-use Rattle.hv_clauses.specs.Trail.{Knowledge}
+use Rattle.hv_clauses.specs.Working.Trail.{Knowledge}
 use Rattle.hv_clauses.proofs.Searching.{none_from_base}
 use Rattle.hv_clauses.proofs.Trailed.{length-marked}
 use Rattle.hv_clauses.proofs.find.search.Goals as goal
@@ -19,4 +19,4 @@ returns-in_default-clause-found g c =
 
 pub search_from-requires-clause-marks : goal.search_from-requires-clause-marks
 search_from-requires-clause-marks g c =
-    ap (λ (k : Knowledge). length k.base) c.over-marks.ensures ∙ (length-marked c.atoms-atoms.result c.in-Some.start.forced.now ∙ c.atoms-atoms.ensures.atoms)
+    ap (λ (k : Knowledge). length k.base) c.from-marks.ensures ∙ (length-marked c.atoms-atoms.result c.in-Some.start.base ∙ c.atoms-atoms.ensures.atoms)

@@ -1,11 +1,11 @@
 use Rattle.std.proofs.Common.{◌≡◌, ◌∙◌, true, false, Bool, List, ℕ, length, refl, sym, ap, arith, subst}
-use Rattle.hv_clauses.specs.Chase.{IsFollowed}
-use Rattle.hv_clauses.specs.Clausal.{InAll}
+use Rattle.hv_clauses.specs.Working.Chase.{IsFollowed}
+use Rattle.hv_clauses.specs.Working.Clausal.{InAll}
 use Rattle.hv_clauses.specs.Kinded.{CompletesClauses}
-use Rattle.hv_clauses.specs.Problem.{AreAllLeft, AreAllSettled}
+use Rattle.hv_clauses.specs.Working.Problem.{AreAllLeft, AreAllSettled}
 use Rattle.hv_clauses.specs.Store.{formula_at}
-use Rattle.hv_clauses.specs.Trail.{Knowledge, marks_of}
-use Rattle.hv_clauses.specs.Units.{IsConcluded}
+use Rattle.hv_clauses.specs.Working.Trail.{Knowledge, marks_of}
+use Rattle.hv_clauses.specs.Working.Units.{IsConcluded}
 use Rattle.hv_clauses.proofs.Chasing.{grown_by, grows_then}
 use Rattle.hv_clauses.proofs.Deciding.{completed, named_first, named_second, not_closed, not_denied, positive_completes, some_clauses}
 use Rattle.hv_clauses.proofs.Stored.{stored_below, stored_kind}

@@ -1,5 +1,5 @@
 use Rattle.std.proofs.Common.{refl, subst}
-use Rattle.hv_clauses.specs.Found.{IsAlone}
+use Rattle.hv_clauses.specs.Working.Found.{IsAlone}
 use Rattle.hv_clauses.proofs.frame.framed.Goals as goal
 
 pub returns : goal.returns

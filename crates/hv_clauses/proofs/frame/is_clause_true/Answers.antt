@@ -1,7 +1,7 @@
 use Rattle.std.proofs.Common.{refl, sym}
 use Rattle.std.proofs.lemmas.Option.{get_or_from_slice_get}
 use Rattle.hv_clauses.specs.Store.{formula_at}
-use Rattle.hv_clauses.specs.Trail.{marks_of}
+use Rattle.hv_clauses.specs.Working.Trail.{marks_of}
 use Rattle.hv_clauses.proofs.Framed.{refuted_framed, refuted_known}
 use Rattle.hv_clauses.proofs.frame.is_clause_true.Goals as goal
 

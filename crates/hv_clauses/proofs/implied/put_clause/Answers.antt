@@ -1,7 +1,8 @@
 use Rattle.std.proofs.Common.{◌≡◌, ℕ, inl, inr}
 use Rattle.hv_sets.specs.Cubes.{opposite}
-use Rattle.hv_clauses.specs.Implied.{IsImpliedCode, literal_number}
-use Rattle.hv_clauses.specs.Rows.{code}
+use Rattle.hv_clauses.specs.Implied.{literal_number}
+use Rattle.hv_clauses.specs.Working.Implied.{IsImpliedCode}
+use Rattle.hv_clauses.specs.Working.Rows.{code}
 use Rattle.hv_clauses.proofs.Implying.{none_codes, pair_codes}
 use Rattle.hv_clauses.proofs.Gathered.{puts_both}
 use Rattle.hv_clauses.proofs.implied.put_clause.Goals as goal

@@ -2,11 +2,12 @@ use Rattle.std.proofs.Common.{◌≡◌, true, false, Some, arith}
 use Rattle.std.specs.List.{All}
 use Rattle.hv_sets.specs.Truth.{in_literal}
 use Rattle.hv_clauses.specs.Marks.{over}
-use Rattle.hv_clauses.specs.Units.{AreFalse, value_of}
+use Rattle.hv_clauses.specs.Units.{value_of}
+use Rattle.hv_clauses.specs.Working.Units.{AreFalse}
 use Rattle.hv_clauses.proofs.Marked.{value_extends}
 use Rattle.hv_clauses.proofs.Rounds.{conclude_all, conclude_fails, conclude_more, conclude_same, read_at}
 use Rattle.hv_clauses.proofs.Steps.{all_false, deny_one}
-use Rattle.hv_clauses.specs.Trail.{marks_of}
+use Rattle.hv_clauses.specs.Working.Trail.{marks_of}
 use Rattle.hv_clauses.proofs.Chasing.{grows_then}
 use Rattle.hv_clauses.proofs.literals.deny.Goals as goal
 

@@ -2,8 +2,9 @@ use Rattle.std.proofs.Common.{◌≡◌, ◌<◌, ℕ, false, true, Some, get_or
 use Rattle.hv_sets.specs.declared.literal.Literal.{Literal}
 use Rattle.hv_sets.specs.Truth.{in_literal}
 use Rattle.hv_clauses.specs.Marks.{over}
-use Rattle.hv_clauses.specs.Units.{IsConcluded, value_of}
-use Rattle.hv_clauses.specs.Trail.{Grows, marks_of}
+use Rattle.hv_clauses.specs.Units.{value_of}
+use Rattle.hv_clauses.specs.Working.Units.{IsConcluded}
+use Rattle.hv_clauses.specs.Working.Trail.{Grows, marks_of}
 use Rattle.hv_clauses.proofs.literals.deny.Given as goal
 
 abbrev pub invariant-loop-literal : goal.invariant-loop-literal

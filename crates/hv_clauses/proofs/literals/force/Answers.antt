@@ -1,8 +1,9 @@
 use Rattle.std.proofs.Common.{◌≡◌, ◌∙◌, Some, arith, sym, subst, true}
 use Rattle.hv_sets.specs.Truth.{in_literal}
 use Rattle.hv_clauses.specs.Marks.{over}
-use Rattle.hv_clauses.specs.Trail.{Grows, Knowledge, marks_of}
-use Rattle.hv_clauses.specs.Units.{IsConcluded, value_of}
+use Rattle.hv_clauses.specs.Working.Trail.{Grows, Knowledge, marks_of}
+use Rattle.hv_clauses.specs.Units.{value_of}
+use Rattle.hv_clauses.specs.Working.Units.{IsConcluded}
 use Rattle.hv_clauses.proofs.Chasing.{grown_more, marked_more}
 use Rattle.hv_clauses.proofs.Marked.{value_none}
 use Rattle.hv_clauses.proofs.Steps.{force_known, force_open}

@@ -3,10 +3,11 @@ use Rattle.std.proofs.lemmas.List.Sums.{AllPass-from_list_all}
 use Rattle.std.specs.List.{All}
 use Rattle.hv_sets.specs.Truth.{in_literal}
 use Rattle.hv_clauses.specs.Marks.{over}
-use Rattle.hv_clauses.specs.Units.{AreTrue, value_of}
+use Rattle.hv_clauses.specs.Units.{value_of}
+use Rattle.hv_clauses.specs.Working.Units.{AreKnownTrue}
 use Rattle.hv_clauses.proofs.Marked.{value_extends}
 use Rattle.hv_clauses.proofs.Rounds.{conclude_all, conclude_fails, conclude_more, conclude_same, read_at}
-use Rattle.hv_clauses.specs.Trail.{marks_of}
+use Rattle.hv_clauses.specs.Working.Trail.{marks_of}
 use Rattle.hv_clauses.proofs.Chasing.{grows_then}
 use Rattle.hv_clauses.proofs.literals.force_all.Goals as goal
 
@@ -14,7 +15,7 @@ pub returns-then-not-force-clause-forced : goal.returns-then-not-force-clause-fo
 returns-then-not-force-clause-forced c =
     let e = c.args.effect.now in
     let literals = c.args.literals.now in
-    conclude_same (λ s. All (λ x. in_literal x (over e s) ≡ true) literals) _ (AreTrue e literals) _
+    conclude_same (λ s. All (λ x. in_literal x (over e s) ≡ true) literals) _ (AreKnownTrue e literals) _
     (marks_of c.args.marks.now) (marks_of c.force.new.marks) _
     (λ s size holds. AllPass-from_list_all (λ x. in_literal x (over e s)) literals holds) (λ w size all. all)
     (conclude_fails (λ x s. in_literal x (over e s) ≡ true) (λ x w. value_of e w x ≡ Some true) literals
@@ -39,7 +40,7 @@ pub returns-clause-forced : goal.returns-clause-forced
 returns-clause-forced c =
     let e = c.args.effect.now in
     let literals = c.args.literals.now in
-    conclude_same (λ s. All (λ x. in_literal x (over e s) ≡ true) literals) _ (AreTrue e literals) _
+    conclude_same (λ s. All (λ x. in_literal x (over e s) ≡ true) literals) _ (AreKnownTrue e literals) _
     (marks_of c.args.marks.now) (marks_of c.loop-literal.marks) true
     (λ s size holds. AllPass-from_list_all (λ x. in_literal x (over e s)) literals holds) (λ w size all. all)
     (conclude_all (λ x s. in_literal x (over e s) ≡ true) (λ x w. value_of e w x ≡ Some true) literals

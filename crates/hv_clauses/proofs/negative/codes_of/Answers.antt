@@ -1,8 +1,8 @@
 use Rattle.std.proofs.Common.{◌≡◌, ℕ, List, [], get_or, length, arith, sym, subst}
 use Rattle.std.proofs.lemmas.Option.{get_or_from_slice_get}
 use Rattle.hv_sets.specs.declared.literal.Literal.{Literal}
-use Rattle.hv_clauses.specs.Negative.{IsNegativeCode}
-use Rattle.hv_clauses.specs.Rows.{ListsCodes, PutsCodes}
+use Rattle.hv_clauses.specs.Working.Negative.{IsNegativeCode}
+use Rattle.hv_clauses.specs.Working.Rows.{ListsCodes, PutsCodes}
 use Rattle.hv_clauses.proofs.Gathered.{lists_more}
 use Rattle.hv_clauses.proofs.negative.codes_of.Goals as goal
 

@@ -1,6 +1,6 @@
 use Rattle.std.specs.Prelude.{slice_index_or, []}
-use Rattle.hv_clauses.specs.Negative.{IsNegativeCode}
-use Rattle.hv_clauses.specs.Rows.{ListsCodes}
+use Rattle.hv_clauses.specs.Working.Negative.{IsNegativeCode}
+use Rattle.hv_clauses.specs.Working.Rows.{ListsCodes}
 use Rattle.hv_clauses.proofs.negative.codes_of.Given as goal
 
 abbrev pub invariant-loop-place : goal.invariant-loop-place

@@ -1,8 +1,8 @@
 use Rattle.std.proofs.Common.{◌≡◌, ℕ, List, false, ◌+◌, ◌<◌, get_or, length, take, arith, subst}
 use Rattle.std.proofs.lemmas.List.{get_or_default, take_all}
 use Rattle.hv_sets.specs.declared.literal.Literal.{Literal}
-use Rattle.hv_clauses.specs.Negative.{IsNegativeCode}
-use Rattle.hv_clauses.specs.Rows.{PutsCodes, code}
+use Rattle.hv_clauses.specs.Working.Negative.{IsNegativeCode}
+use Rattle.hv_clauses.specs.Working.Rows.{PutsCodes, code}
 use Rattle.hv_clauses.proofs.Gathered.{negative_more, puts_both}
 use Rattle.hv_clauses.proofs.negative.put_all.Goals as goal
 

@@ -1,6 +1,6 @@
 use Rattle.std.proofs.Common.{take}
-use Rattle.hv_clauses.specs.Negative.{IsNegativeCode}
-use Rattle.hv_clauses.specs.Rows.{PutsCodes}
+use Rattle.hv_clauses.specs.Working.Negative.{IsNegativeCode}
+use Rattle.hv_clauses.specs.Working.Rows.{PutsCodes}
 use Rattle.hv_clauses.proofs.negative.put_all.Given as goal
 
 abbrev pub invariant-loop-literal : goal.invariant-loop-literal

@@ -4,7 +4,7 @@ use Rattle.std.proofs.lemmas.List.Sorted.{All-permutation, Contains-permutation,
 use Rattle.std.specs.List.{Contains}
 use Rattle.hv_sets.specs.declared.literal.Literal.{Literal}
 use Rattle.hv_clauses.specs.declared.occurrences.Occurrence.{Occurrence}
-use Rattle.hv_clauses.specs.Choices.{clause_at}
+use Rattle.hv_clauses.specs.Working.Choices.{clause_at}
 use Rattle.hv_clauses.proofs.occurrences.list_of.Goals as goal
 
 pub loop-place-preserved : goal.loop-place-preserved
@@ -21,11 +21,15 @@ loop-place-preserved c =
       inside = c.in_ok-put_all.ensures.inside (length clauses) less c.loop-place.invariant.inside;
     }
 
-pub returns : goal.returns
-returns c = record {
-  sorted = IsNonDecreasingBy-from_sort_by_key (λ (o : Occurrence). o.atom) _ c.sort_unstable_by_key.ensures.sorted (λ a r q k. search rules);
-  inside = All-permutation (λ (o : Occurrence). o.place < length c.args.clauses.now) _ _ c.sort_unstable_by_key.ensures.permutation c.loop-place.invariant.inside;
-  all = λ place l less has same.
-      let end = c.loop-place-test.false in let all = c.len-place-end.ensures in
-      Contains-permutation _ _ _ c.sort_unstable_by_key.ensures.permutation (c.loop-place.invariant.all place (omega arith) l has same);
-}
+pub returns-clause-sorted : goal.returns-clause-sorted
+returns-clause-sorted c =
+    IsNonDecreasingBy-from_sort_by_key (λ (o : Occurrence). o.atom) _ c.sort_unstable_by_key.ensures.sorted (λ a r q k. search rules)
+
+pub returns-clause-inside : goal.returns-clause-inside
+returns-clause-inside c =
+    All-permutation (λ (o : Occurrence). o.place < length c.args.clauses.now) _ _ c.sort_unstable_by_key.ensures.permutation c.loop-place.invariant.inside
+
+pub returns-clause-all : goal.returns-clause-all
+returns-clause-all c = λ place l less has same.
+    let end = c.loop-place-test.false in let all = c.len-place-end.ensures in
+    Contains-permutation _ _ _ c.sort_unstable_by_key.ensures.permutation (c.loop-place.invariant.all place (omega arith) l has same)

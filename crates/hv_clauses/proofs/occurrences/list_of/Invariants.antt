@@ -2,7 +2,7 @@ use Rattle.std.proofs.Common.{◌≡◌, ℕ, ◌<◌, length}
 use Rattle.std.specs.List.{All, Contains}
 use Rattle.hv_sets.specs.declared.literal.Literal.{Literal}
 use Rattle.hv_clauses.specs.declared.occurrences.Occurrence.{Occurrence}
-use Rattle.hv_clauses.specs.Choices.{clause_at}
+use Rattle.hv_clauses.specs.Working.Choices.{clause_at}
 use Rattle.hv_clauses.proofs.occurrences.list_of.Given as goal
 
 abbrev pub invariant-loop-place : goal.invariant-loop-place

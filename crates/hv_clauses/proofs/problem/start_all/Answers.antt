@@ -1,8 +1,8 @@
 use Rattle.std.proofs.Common.{◌∙◌, true, false, length, refl, sym, ap, arith, subst}
-use Rattle.hv_clauses.specs.Chase.{IsFollowed}
-use Rattle.hv_clauses.specs.Clausal.{InAll}
-use Rattle.hv_clauses.specs.Problem.{AreAllLeft}
-use Rattle.hv_clauses.specs.Start.{IsBasedOn}
+use Rattle.hv_clauses.specs.Working.Chase.{IsFollowed}
+use Rattle.hv_clauses.specs.Working.Clausal.{InAll}
+use Rattle.hv_clauses.specs.Working.Problem.{AreAllLeft}
+use Rattle.hv_clauses.specs.Working.Start.{IsBasedOn}
 use Rattle.hv_clauses.specs.Store.{formula_at}
 use Rattle.hv_clauses.proofs.Chasing.{followed_none, grown_by}
 use Rattle.hv_clauses.proofs.Problems.{operand_followed, operand_seen}
@@ -20,7 +20,7 @@ start_operand-requires-clause-size g c = ap length c.loop-operand.invariant.foll
 
 pub start_operand-requires-clause-based : goal.start_operand-requires-clause-based
 start_operand-requires-clause-based g c =
-    subst (λ b. IsBasedOn (formula_at c.args.problem.now.store.now) c.args.based b) (sym c.loop-operand.invariant.followed.base) c.requires.based
+    subst (λ b. IsBasedOn (formula_at c.args.problem.now.store.now) c.args.problem.now.effect.now c.args.based b) (sym c.loop-operand.invariant.followed.base) c.requires.based
 
 pub returns-then-not-start_operand-clause-followed : goal.returns-then-not-start_operand-clause-followed
 returns-then-not-start_operand-clause-followed g c =

@@ -1,7 +1,7 @@
 use Rattle.std.proofs.Common.{ℕ, ◌<◌, true, get_or}
 use Rattle.hv_sets.specs.declared.operand.Operand.{Operand}
-use Rattle.hv_clauses.specs.Chase.{IsFollowed}
-use Rattle.hv_clauses.specs.Clausal.{InAll}
+use Rattle.hv_clauses.specs.Working.Chase.{IsFollowed}
+use Rattle.hv_clauses.specs.Working.Clausal.{InAll}
 use Rattle.hv_clauses.specs.Store.{formula_at}
 use Rattle.hv_clauses.proofs.Problems.{LeftOne}
 use Rattle.hv_clauses.proofs.problem.start_all.Given as goal

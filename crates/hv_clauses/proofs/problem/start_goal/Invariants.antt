@@ -1,8 +1,8 @@
 use Rattle.std.proofs.Common.{◌≡◌, ℕ, ◌<◌, Some, true, get_or}
 use Rattle.hv_task.specs.Strips.{is_goal}
-use Rattle.hv_clauses.specs.Chase.{IsFollowed}
+use Rattle.hv_clauses.specs.Working.Chase.{IsFollowed}
 use Rattle.hv_clauses.specs.Marks.{over}
-use Rattle.hv_clauses.specs.Trail.{marks_of}
+use Rattle.hv_clauses.specs.Working.Trail.{marks_of}
 use Rattle.hv_clauses.specs.Units.{value_of}
 use Rattle.hv_clauses.proofs.problem.start_goal.Given as goal
 

@@ -3,9 +3,9 @@ use Rattle.hv_task.specs.State.{names_atom}
 use Rattle.hv_task.specs.Strips.{atoms}
 use Rattle.hv_sets.specs.declared.literal.Literal.{Literal}
 use Rattle.hv_sets.specs.Truth.{in_literal}
-use Rattle.hv_clauses.specs.Clausal.{clauses_of_state}
+use Rattle.hv_clauses.specs.Working.Clausal.{clauses_of_state}
 use Rattle.hv_clauses.specs.Marks.{over}
-use Rattle.hv_clauses.specs.Trail.{marks_of}
+use Rattle.hv_clauses.specs.Working.Trail.{marks_of}
 use Rattle.hv_clauses.specs.Units.{value_of}
 use Rattle.hv_clauses.proofs.Chasing.{followed_then}
 use Rattle.hv_clauses.proofs.Marked.{value_extends}

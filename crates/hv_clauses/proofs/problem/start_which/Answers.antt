@@ -1,10 +1,10 @@
 use Rattle.std.proofs.Common.{◌≡◌, ◌∙◌, true, false, length, sym, arith, subst}
 use Rattle.hv_sets.specs.Query.{in_which}
 use Rattle.hv_sets.specs.Truth.{in_clauses}
-use Rattle.hv_clauses.specs.Chase.{AreKept, IsFollowed}
-use Rattle.hv_clauses.specs.Clausal.{sets_of}
+use Rattle.hv_clauses.specs.Working.Chase.{AreKept, IsFollowed}
+use Rattle.hv_clauses.specs.Clausal.{tests_of}
 use Rattle.hv_clauses.specs.Marks.{over}
-use Rattle.hv_clauses.specs.Problem.{IsLeft}
+use Rattle.hv_clauses.specs.Working.Problem.{IsLeft}
 use Rattle.hv_clauses.specs.Store.{formula_at}
 use Rattle.hv_clauses.proofs.Chasing.{longer}
 use Rattle.hv_clauses.proofs.Problems.{followed_empty, kept_earlier}
@@ -12,12 +12,12 @@ use Rattle.hv_clauses.proofs.problem.start_which.Goals as goal
 
 pub returns-in-Empty-clause-followed : goal.returns-in-Empty-clause-followed
 returns-in-Empty-clause-followed g c =
-    subst (λ w. IsFollowed (λ s. in_which c.args.task.now (sets_of (formula_at c.args.store.now)) w (over c.args.effect.now s) ≡ true) c.args.marks.now c.args.marks.now false)
+    subst (λ w. IsFollowed (λ s. in_which c.args.task.now (tests_of (formula_at c.args.store.now)) w (over c.args.effect.now s) ≡ true) c.args.marks.now c.args.marks.now false)
     (sym c.in-Empty.is) (followed_empty _ c.args.marks.now (λ state holds. let f : false ≡ true = holds in absurd cc))
 
 pub returns-in-Start-clause-followed : goal.returns-in-Start-clause-followed
 returns-in-Start-clause-followed g c =
-    subst (λ w. IsFollowed (λ s. in_which c.args.task.now (sets_of (formula_at c.args.store.now)) w (over c.args.effect.now s) ≡ true) c.args.marks.now c.start_start.new.marks c.start_start.result)
+    subst (λ w. IsFollowed (λ s. in_which c.args.task.now (tests_of (formula_at c.args.store.now)) w (over c.args.effect.now s) ≡ true) c.args.marks.now c.start_start.new.marks c.start_start.result)
     (sym c.in-Start.is) c.start_start.ensures.followed
 
 pub returns-in-Start-clause-left : goal.returns-in-Start-clause-left
@@ -26,7 +26,7 @@ returns-in-Start-clause-left g c = λ is.
 
 pub returns-in-Goal-clause-followed : goal.returns-in-Goal-clause-followed
 returns-in-Goal-clause-followed g c =
-    subst (λ w. IsFollowed (λ s. in_which c.args.task.now (sets_of (formula_at c.args.store.now)) w (over c.args.effect.now s) ≡ true) c.args.marks.now c.start_goal.new.marks c.start_goal.result)
+    subst (λ w. IsFollowed (λ s. in_which c.args.task.now (tests_of (formula_at c.args.store.now)) w (over c.args.effect.now s) ≡ true) c.args.marks.now c.start_goal.new.marks c.start_goal.result)
     (sym c.in-Goal.is) c.start_goal.ensures.followed
 
 pub returns-in-Goal-clause-left : goal.returns-in-Goal-clause-left
@@ -37,7 +37,7 @@ pub returns-in-Set-clause-followed : goal.returns-in-Set-clause-followed
 returns-in-Set-clause-followed g c =
     let formulas = formula_at c.args.store.now in
     let e = c.args.effect.now in
-    subst (λ w. IsFollowed (λ s. in_which c.args.task.now (sets_of formulas) w (over e s) ≡ true) c.args.marks.now c.start.new.marks c.start.result) (sym c.in-Set.is)
+    subst (λ w. IsFollowed (λ s. in_which c.args.task.now (tests_of formulas) w (over e s) ≡ true) c.args.marks.now c.start.new.marks c.start.result) (sym c.in-Set.is)
     (subst (λ clauses. IsFollowed (λ s. in_clauses clauses (over e s) ≡ true) c.args.marks.now c.start.new.marks c.start.result)
     (c.clauses.ensures.clauses ∙ c.set.ensures.clauses) c.start.ensures.followed)
 

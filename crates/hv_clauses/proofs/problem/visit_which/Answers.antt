@@ -2,11 +2,11 @@ use Rattle.std.proofs.Common.{◌≡◌, ◌∙◌, ◌+◌, true, sym, subst}
 use Rattle.hv_sets.specs.declared.operand.Which.TheVariants as W
 use Rattle.hv_sets.specs.Query.{in_which}
 use Rattle.hv_sets.specs.Truth.{in_clauses}
-use Rattle.hv_clauses.specs.Chase.{AreKept, IsFollowed}
-use Rattle.hv_clauses.specs.Clausal.{sets_of}
+use Rattle.hv_clauses.specs.Working.Chase.{AreKept, IsFollowed}
+use Rattle.hv_clauses.specs.Clausal.{tests_of}
 use Rattle.hv_clauses.specs.Marks.{over}
-use Rattle.hv_clauses.specs.Occurrences.{IsIndexOf}
-use Rattle.hv_clauses.specs.Problem.{IsLeft}
+use Rattle.hv_clauses.specs.Working.Occurrences.{IsIndexOf}
+use Rattle.hv_clauses.specs.Working.Problem.{IsLeft}
 use Rattle.hv_clauses.specs.Store.{formula_at}
 use Rattle.hv_clauses.proofs.problem.visit_which.Goals as goal
 
@@ -25,7 +25,7 @@ pub returns-clause-followed : goal.returns-clause-followed
 returns-clause-followed g c =
     let formulas = formula_at c.args.store.now in
     let e = c.args.effect.now in
-    subst (λ w. IsFollowed (λ s. in_which c.args.task.now (sets_of formulas) w (over e s) ≡ true) c.args.marks.now c.visit.new.marks c.visit.result) (sym c.in-Set.is)
+    subst (λ w. IsFollowed (λ s. in_which c.args.task.now (tests_of formulas) w (over e s) ≡ true) c.args.marks.now c.visit.new.marks c.visit.result) (sym c.in-Set.is)
     (subst (λ clauses. IsFollowed (λ s. in_clauses clauses (over e s) ≡ true) c.args.marks.now c.visit.new.marks c.visit.result)
     (c.clauses.ensures.clauses ∙ c.set-set.ensures.clauses) c.visit.ensures.followed)
 

@@ -1,7 +1,7 @@
 use Rattle.std.proofs.Common.{ℕ, leb, rules, arith}
 use Rattle.std.proofs.lemmas.Bool.{leb-true, leb-false}
 use Rattle.std.proofs.lemmas.List.Sorted.{IsPartitionPoint-from_clause, IsPartitionedBy-leb}
-use Rattle.hv_clauses.specs.Rows.{key_of}
+use Rattle.hv_clauses.specs.Working.Rows.{key_of}
 use Rattle.hv_clauses.proofs.Keyed.{keys_upto}
 use Rattle.hv_clauses.proofs.rows.end_of.Goals as goal
 

@@ -1,6 +1,6 @@
 use Rattle.std.proofs.Common.{◌≡◌, map, take}
-use Rattle.hv_clauses.specs.Rows.{number_of}
+use Rattle.hv_clauses.specs.Working.Rows.{place_of_code}
 use Rattle.hv_clauses.proofs.rows.numbers_of.Given as goal
 
 abbrev pub invariant-loop-code : goal.invariant-loop-code
-invariant-loop-code l = l.numbers.items ≡ map number_of (take l.code-index l.codes)
+invariant-loop-code l = l.numbers.items ≡ map place_of_code (take l.code-index l.codes)

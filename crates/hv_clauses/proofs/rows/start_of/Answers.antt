@@ -1,6 +1,6 @@
 use Rattle.std.proofs.Common.{ℕ, ltb, ltb-true, ltb-false, rules, arith}
 use Rattle.std.proofs.lemmas.List.Sorted.{IsPartitionPoint-from_clause, IsPartitionedBy-ltb}
-use Rattle.hv_clauses.specs.Rows.{key_of}
+use Rattle.hv_clauses.specs.Working.Rows.{key_of}
 use Rattle.hv_clauses.proofs.Keyed.{keys_upto}
 use Rattle.hv_clauses.proofs.rows.start_of.Goals as goal
 

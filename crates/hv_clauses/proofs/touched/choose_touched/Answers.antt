@@ -1,5 +1,5 @@
 use Rattle.std.proofs.Common.{arith, subst}
-use Rattle.hv_clauses.specs.Occurrences.{IsIndexOf}
+use Rattle.hv_clauses.specs.Working.Occurrences.{IsIndexOf}
 use Rattle.hv_clauses.specs.Store.{formula_at}
 use Rattle.hv_clauses.proofs.Touching.{choices_are, met_from_touched}
 use Rattle.hv_clauses.proofs.touched.choose_touched.Goals as goal

@@ -2,10 +2,10 @@ use Rattle.std.proofs.Common.{◌≡◌, ◌<◌, ◌∙◌, Bool, List, length,
 use Rattle.std.proofs.lemmas.List.{get_or_default}
 use Rattle.hv_task.specs.Strips.{atoms}
 use Rattle.hv_clauses.specs.declared.occurrences.Occurrence.{Occurrence}
-use Rattle.hv_clauses.specs.Found.{IsBased}
-use Rattle.hv_clauses.specs.Problem.{Fits}
+use Rattle.hv_clauses.specs.Working.Found.{IsBased}
+use Rattle.hv_clauses.specs.Working.Problem.{FitsChoice}
 use Rattle.hv_clauses.specs.Store.{formula_at}
-use Rattle.hv_clauses.specs.Trail.{Knowledge}
+use Rattle.hv_clauses.specs.Working.Trail.{Knowledge}
 use Rattle.hv_clauses.proofs.touched.try_listed.Goals as goal
 
 pub decide-requires-clause-number : goal.decide-requires-clause-number
@@ -30,10 +30,10 @@ loop-occurrence-preserved g c =
     let p = c.args.problem.now in
     record {
       none = below_more (λ k. (d : Occurrence) → (state : List Bool) → length state ≡ atoms p.task.now
-          → Fits p.task.now (formula_at p.store.now) p.effect.now p.query.now (get_or listed k d).place state → ⊥)
+          → FitsChoice p.task.now (formula_at p.store.now) p.effect.now p.query.now (get_or listed k d).place state → ⊥)
           c.loop-occurrence.occurrence-index c.loop-occurrence.invariant.none
           (λ d state size fits. c.if-decide.ensures.met state size
-          (subst (λ (o : Occurrence). Fits p.task.now (formula_at p.store.now) p.effect.now p.query.now o.place state)
+          (subst (λ (o : Occurrence). FitsChoice p.task.now (formula_at p.store.now) p.effect.now p.query.now o.place state)
           (get_or_default listed c.loop-occurrence.occurrence-index d _ c.loop-occurrence-test.true) fits));
       same = c.if-decide.ensures.same ∙ c.loop-occurrence.invariant.same;
       state = c.if-decide.ensures.state ∙ c.loop-occurrence.invariant.state;
@@ -46,4 +46,4 @@ returns-clause-met g c = λ o has e state size fits.
     let within : k < length c.args.listed.now = has.1 in
     let end = c.loop-occurrence-test.false in
     c.loop-occurrence.invariant.none k (omega arith) o state size
-    (subst (λ (o : Occurrence). Fits p.task.now (formula_at p.store.now) p.effect.now p.query.now o.place state) (sym has.2) fits)
+    (subst (λ (o : Occurrence). FitsChoice p.task.now (formula_at p.store.now) p.effect.now p.query.now o.place state) (sym has.2) fits)

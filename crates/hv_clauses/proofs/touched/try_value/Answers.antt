@@ -6,11 +6,11 @@ use Rattle.hv_task.specs.Strips.{atoms}
 use Rattle.hv_sets.specs.Cost.{choices_of}
 use Rattle.hv_clauses.specs.declared.occurrences.Occurrence.{Occurrence}
 use Rattle.hv_clauses.specs.Clausal.{sizes_of}
-use Rattle.hv_clauses.specs.Found.{IsBased}
-use Rattle.hv_clauses.specs.Occurrences.{signed}
-use Rattle.hv_clauses.specs.Problem.{Fits}
+use Rattle.hv_clauses.specs.Working.Found.{IsBased}
+use Rattle.hv_clauses.specs.Working.Occurrences.{signed}
+use Rattle.hv_clauses.specs.Working.Problem.{FitsChoice}
 use Rattle.hv_clauses.specs.Store.{formula_at}
-use Rattle.hv_clauses.specs.Trail.{Knowledge}
+use Rattle.hv_clauses.specs.Working.Trail.{Knowledge}
 use Rattle.hv_clauses.proofs.touched.try_value.Goals as goal
 
 pub try_listed-requires-clause-inside : goal.try_listed-requires-clause-inside
@@ -30,7 +30,7 @@ loop-atom-preserved g c =
     let p = c.args.problem.now in
     record {
       none = below_more (λ k. (o : Occurrence) → Contains (signed c.args.occurs.now c.turning_sign-sign.result) o → o.atom ≡ get_or c.turned-turned.result.now k 0
-          → (state : List Bool) → length state ≡ atoms p.task.now → Fits p.task.now (formula_at p.store.now) p.effect.now p.query.now o.place state → ⊥)
+          → (state : List Bool) → length state ≡ atoms p.task.now → FitsChoice p.task.now (formula_at p.store.now) p.effect.now p.query.now o.place state → ⊥)
           c.loop-atom.atom-index c.loop-atom.invariant.none
           (λ o has at state size fits. c.if-try_listed.ensures.met o (c.of-listed.ensures.all o has at) tt state size fits);
       same = c.if-try_listed.ensures.same ∙ c.loop-atom.invariant.same;

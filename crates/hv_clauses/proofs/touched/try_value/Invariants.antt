@@ -2,8 +2,8 @@ use Rattle.std.proofs.Common.{◌≡◌, ℕ, ◌<◌, Bool, List, length, get_o
 use Rattle.std.specs.List.{Contains}
 use Rattle.hv_task.specs.Strips.{atoms}
 use Rattle.hv_clauses.specs.declared.occurrences.Occurrence.{Occurrence}
-use Rattle.hv_clauses.specs.Occurrences.{signed}
-use Rattle.hv_clauses.specs.Problem.{Fits}
+use Rattle.hv_clauses.specs.Working.Occurrences.{signed}
+use Rattle.hv_clauses.specs.Working.Problem.{FitsChoice}
 use Rattle.hv_clauses.specs.Store.{formula_at}
 use Rattle.hv_clauses.proofs.touched.try_value.Given as goal
 
@@ -11,7 +11,7 @@ abbrev pub invariant-loop-atom : goal.invariant-loop-atom
 invariant-loop-atom g l = record {
   none : (k : ℕ) → k < l.atom-index → (o : Occurrence) → Contains (signed l.occurs l.sign) o → o.atom ≡ get_or l.turned k 0
       → (state : List Bool) → length state ≡ atoms l.problem.task.now
-      → Fits l.problem.task.now (formula_at l.problem.store.now) l.problem.effect.now l.problem.query.now o.place state → ⊥;
+      → FitsChoice l.problem.task.now (formula_at l.problem.store.now) l.problem.effect.now l.problem.query.now o.place state → ⊥;
   same : l.marks ≡ l.fn.marks;
   state : length l.state ≡ length l.fn.state;
 }

@@ -1,5 +1,5 @@
 use Rattle.std.proofs.Common.{◌∙◌, replicate, false, refl}
-use Rattle.hv_clauses.specs.Overwriting.{overwrite}
+use Rattle.hv_clauses.specs.Working.Overwriting.{overwrite}
 use Rattle.hv_clauses.proofs.Changes.{length-effect}
 use Rattle.hv_clauses.proofs.Effects.{effect_of_none, effect_of_some}
 use Rattle.hv_clauses.proofs.Trailed.{known-replicate}

@@ -1,8 +1,10 @@
 use Rattle.std.proofs.Common.{ℕ, ap, arith, subst}
 use Rattle.hv_clauses.specs.Clausal.{Formula}
-use Rattle.hv_clauses.specs.Implied.{AreImplied, ImpliesNumber}
-use Rattle.hv_clauses.specs.Lists.{AreListsOf}
-use Rattle.hv_clauses.specs.Rows.{AreRows, IsRow}
+use Rattle.hv_clauses.specs.Implied.{AreImplied}
+use Rattle.hv_clauses.specs.Working.Implied.{ImpliesNumber}
+use Rattle.hv_clauses.specs.Working.Lists.{AreListsOf}
+use Rattle.hv_clauses.specs.Rows.{IsRow}
+use Rattle.hv_clauses.specs.Working.Rows.{AreRows}
 use Rattle.hv_clauses.proofs.Implying.{implied_is}
 use Rattle.hv_clauses.proofs.Keyed.{row_from}
 use Rattle.hv_clauses.proofs.formula.Formula.implied.Goals as goal

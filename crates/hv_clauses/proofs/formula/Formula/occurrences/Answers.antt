@@ -1,8 +1,9 @@
 use Rattle.std.proofs.Common.{ap, subst}
 use Rattle.hv_clauses.specs.Clausal.{Formula}
-use Rattle.hv_clauses.specs.Lists.{AreListsOf}
+use Rattle.hv_clauses.specs.Working.Lists.{AreListsOf}
 use Rattle.hv_clauses.specs.Negative.{StandsNegatively}
-use Rattle.hv_clauses.specs.Rows.{AreRows, IsRow}
+use Rattle.hv_clauses.specs.Rows.{IsRow}
+use Rattle.hv_clauses.specs.Working.Rows.{AreRows}
 use Rattle.hv_clauses.proofs.Keyed.{row_from}
 use Rattle.hv_clauses.proofs.formula.Formula.occurrences.Goals as goal
 

@@ -1,7 +1,7 @@
 use Rattle.std.proofs.Common.{◌∙◌, ◌+◌, true, false, length, refl, sym, ap, arith, subst}
-use Rattle.hv_clauses.specs.Chase.{IsFollowed}
-use Rattle.hv_clauses.specs.Clausal.{InAll}
-use Rattle.hv_clauses.specs.Problem.{AreAllLeft}
+use Rattle.hv_clauses.specs.Working.Chase.{IsFollowed}
+use Rattle.hv_clauses.specs.Working.Clausal.{InAll}
+use Rattle.hv_clauses.specs.Working.Problem.{AreAllLeft}
 use Rattle.hv_clauses.specs.Store.{formula_at}
 use Rattle.hv_clauses.proofs.Chasing.{followed_none, grown_by, longer}
 use Rattle.hv_clauses.proofs.Problems.{all_stay, operand_followed, operand_left, operand_seen}

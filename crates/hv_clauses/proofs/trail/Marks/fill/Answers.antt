@@ -5,7 +5,7 @@ use Rattle.std.specs.Prelude.{unwrap_or}
 use Rattle.hv_task.specs.State.{has_atom}
 use Rattle.hv_task.proofs.Places.{same_state}
 use Rattle.hv_clauses.specs.Marks.{filled, or_else}
-use Rattle.hv_clauses.specs.Trail.{marks_of}
+use Rattle.hv_clauses.specs.Working.Trail.{marks_of}
 use Rattle.hv_clauses.proofs.Trailed.{length-marks}
 use Rattle.hv_clauses.proofs.Marked.{has_atom-filled, length-filled}
 use Rattle.hv_clauses.proofs.trail.Marks.fill.Goals as goal

@@ -1,7 +1,7 @@
 use Rattle.std.proofs.Common.{◌≡◌, ◌<◌, ℕ, length}
 use Rattle.hv_task.specs.State.{has_atom}
 use Rattle.hv_clauses.specs.Marks.{filled}
-use Rattle.hv_clauses.specs.Trail.{marks_of}
+use Rattle.hv_clauses.specs.Working.Trail.{marks_of}
 use Rattle.hv_clauses.proofs.trail.Marks.fill.Given as goal
 
 abbrev pub invariant-loop-atom : goal.invariant-loop-atom

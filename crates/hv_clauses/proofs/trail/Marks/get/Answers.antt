@@ -1,7 +1,7 @@
 use Rattle.std.proofs.Common.{◌∙◌, Some, length, slice_get, ap, sym, arith}
 use Rattle.std.proofs.lemmas.Option.{slice_get-get_or}
 use Rattle.hv_sets.specs.declared.literal.Literal.{Literal}
-use Rattle.hv_clauses.specs.Trail.{Knowledge, literal_of, trail_of}
+use Rattle.hv_clauses.specs.Working.Trail.{Knowledge, literal_of, trail_of}
 use Rattle.hv_clauses.proofs.Trailed.{length-trail, trail_at}
 use Rattle.hv_clauses.proofs.trail.Marks.get.Goals as goal
 

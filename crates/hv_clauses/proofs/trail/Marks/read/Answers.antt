@@ -2,7 +2,7 @@ use Rattle.std.proofs.Common.{◌∙◌, ◌<◌, get_or, length, sym, ap, arith
 use Rattle.std.proofs.lemmas.List.{get_or_default}
 use Rattle.hv_clauses.specs.Marks.{known}
 use Rattle.hv_clauses.proofs.Marked.{known_past}
-use Rattle.hv_clauses.specs.Trail.{Knowledge, marked, marks_of, trail_of}
+use Rattle.hv_clauses.specs.Working.Trail.{Knowledge, marked, marks_of, trail_of}
 use Rattle.hv_clauses.proofs.Trailed.{no_entry_other, no_entry_past, read_none, read_entry}
 use Rattle.hv_clauses.proofs.Trailed.{length-marked, length-written}
 use Rattle.hv_clauses.proofs.trail.Marks.read.Goals as goal
@@ -11,20 +11,20 @@ pub returns-then-at-self : goal.returns-then-at-self
 returns-then-at-self c =
     let s = c.self.inside in
     let past = c.if-at-self.true in
-    let wide = length-marked s.atoms s.base.now in
-    let size = length-written (trail_of s.queue.now s.len) (marked s.atoms s.base.now) in
-    sym (known_past (marks_of (record { base = (marked s.atoms s.base.now); trail = trail_of s.queue.now s.len })) c.args.atom (omega arith))
+    let wide = length-marked s.atoms s.base in
+    let size = length-written (trail_of s.queue.now s.len) (marked s.atoms s.base) in
+    sym (known_past (marks_of (record { base = (marked s.atoms s.base); trail = trail_of s.queue.now s.len })) c.args.atom (omega arith))
     ∙ ap (λ (m : Knowledge). known (marks_of m) c.args.atom) c.self.view_is
 
 pub returns-then-place-self : goal.returns-then-place-self
 returns-then-place-self c =
     let s = c.self.inside in
     let joined = c.self.invariant.1 in
-    let wide = length-marked s.atoms s.base.now in
-    let low : c.args.atom < length (marked s.atoms s.base.now) = (let less = c.if-at-self.false in omega arith) in
-    c.said.ensures
-    ∙ (sym (read_none (marked s.atoms s.base.now) s.places.now s.queue.now s.len c.args.atom joined
-    (no_entry_past (marked s.atoms s.base.now) s.places.now s.queue.now s.len c.args.atom (get_or s.places.now c.args.atom 0) joined low
+    let wide = length-marked s.atoms s.base in
+    let low : c.args.atom < length (marked s.atoms s.base) = (let less = c.if-at-self.false in omega arith) in
+    c.read.ensures
+    ∙ (sym (read_none (marked s.atoms s.base) s.places.now s.queue.now s.len c.args.atom joined
+    (no_entry_past (marked s.atoms s.base) s.places.now s.queue.now s.len c.args.atom (get_or s.places.now c.args.atom 0) joined low
     (let room = joined.places_room in let less = c.if-at-self.false in get_or_default s.places.now c.args.atom 0 _ (omega arith)) c.if-place-self.true))
     ∙ ap (λ (m : Knowledge). known (marks_of m) c.args.atom) c.self.view_is)
 
@@ -32,11 +32,11 @@ pub returns-then-entry-at : goal.returns-then-entry-at
 returns-then-entry-at c =
     let s = c.self.inside in
     let joined = c.self.invariant.1 in
-    let wide = length-marked s.atoms s.base.now in
-    let low : c.args.atom < length (marked s.atoms s.base.now) = (let less = c.if-at-self.false in omega arith) in
-    c.said-then-entry-at.ensures
-    ∙ (sym (read_none (marked s.atoms s.base.now) s.places.now s.queue.now s.len c.args.atom joined
-    (no_entry_other (marked s.atoms s.base.now) s.places.now s.queue.now s.len c.args.atom (get_or s.places.now c.args.atom 0)
+    let wide = length-marked s.atoms s.base in
+    let low : c.args.atom < length (marked s.atoms s.base) = (let less = c.if-at-self.false in omega arith) in
+    c.read-then-entry-at.ensures
+    ∙ (sym (read_none (marked s.atoms s.base) s.places.now s.queue.now s.len c.args.atom joined
+    (no_entry_other (marked s.atoms s.base) s.places.now s.queue.now s.len c.args.atom (get_or s.places.now c.args.atom 0)
     (get_or s.queue.now (get_or s.places.now c.args.atom 0) 0) joined low
     (let room = joined.places_room in let less = c.if-at-self.false in get_or_default s.places.now c.args.atom 0 _ (omega arith)) c.if-place-self.false
     (let room = joined.within in let less = c.if-place-self.false in get_or_default s.queue.now (get_or s.places.now c.args.atom 0) 0 _ (omega arith)) c.if-entry-at.true))
@@ -46,9 +46,9 @@ pub returns : goal.returns
 returns c =
     let s = c.self.inside in
     let joined = c.self.invariant.1 in
-    let wide = length-marked s.atoms s.base.now in
-    let low : c.args.atom < length (marked s.atoms s.base.now) = (let less = c.if-at-self.false in omega arith) in
-    sym (read_entry (marked s.atoms s.base.now) s.places.now s.queue.now s.len c.args.atom (get_or s.places.now c.args.atom 0)
+    let wide = length-marked s.atoms s.base in
+    let low : c.args.atom < length (marked s.atoms s.base) = (let less = c.if-at-self.false in omega arith) in
+    sym (read_entry (marked s.atoms s.base) s.places.now s.queue.now s.len c.args.atom (get_or s.places.now c.args.atom 0)
     (get_or s.queue.now (get_or s.places.now c.args.atom 0) 0) joined c.if-place-self.false
     (let room = joined.within in let less = c.if-place-self.false in get_or_default s.queue.now (get_or s.places.now c.args.atom 0) 0 _ (omega arith)) c.if-entry-at.false)
     ∙ ap (λ (m : Knowledge). known (marks_of m) c.args.atom) c.self.view_is
@@ -58,6 +58,6 @@ bounds-self-inside-at c =
     let s = c.self.inside in
     let joined = c.self.invariant.1 in
     let room = joined.places_room in
-    let wide = length-marked s.atoms s.base.now in
+    let wide = length-marked s.atoms s.base in
     let less = c.if-at-self.false in
     omega arith

@@ -1,0 +1,24 @@
+-- Definitions that no public contract cites: those of private contracts and of proofs.
+pub mod Marks
+pub mod Units
+pub mod Clausal
+pub mod Choices
+pub mod Scan
+pub mod Completion
+pub mod Effect
+pub mod Problem
+pub mod Found
+pub mod Overwriting
+pub mod Laws
+pub mod Kinded
+pub mod Trail
+pub mod Occurrences
+pub mod Chase
+pub mod Closure
+pub mod Start
+pub mod Rows
+pub mod Negative
+pub mod Implied
+pub mod Lists
+pub mod Base
+pub mod Front

@@ -1,0 +1,305 @@
+//! Choices of one clause of each negative operand, gone through from the last operand to the
+//! first: where no state fits the clauses chosen of the last operands, all choices with these are
+//! left out.
+
+ghost use Rattle.std.specs.Prelude.{◌≡◌, ◌<◌, ◌≤◌, ◌+◌, ◌*◌, ◌/◌, ◌%◌, ◌^◌, ℕ, Bool, List, Some};
+ghost use Rattle.std.specs.Prelude.{MatchOption, false, true, length, slice_get};
+ghost use Rattle.hv_task.specs.Strips.{atoms};
+ghost use Rattle.hv_sets.specs.Cost.{choices_of, clauses_of};
+ghost use Rattle.hv_sets.specs.Query.{IsNamed};
+ghost use Rattle.hv_clauses.specs.Working.Choices.{clause_at};
+ghost use Rattle.hv_clauses.specs.Clausal.{sizes_of};
+ghost use Rattle.hv_clauses.specs.Working.Clausal.{InAll, clauses_in, late};
+ghost use Rattle.hv_clauses.specs.Working.Found.{IsBased, IsMet, IsMetBelow, IsPosed};
+ghost use Rattle.hv_clauses.specs.Working.Front.{AreRefuted, IsAdvanced, IsFront, IsNever, MissesClause};
+ghost use Rattle.hv_clauses.specs.Working.Front.{block_end, block_size};
+ghost use Rattle.hv_clauses.specs.Working.Marks.{Agrees};
+ghost use Rattle.hv_clauses.specs.Working.Problem.{AreAllLeft, FitsChoice};
+ghost use Rattle.hv_clauses.specs.Store.{formula_at};
+ghost use Rattle.hv_clauses.specs.Working.Trail.{Grows, marks_of};
+ghost use Rattle.hv_clauses.specs.Working.Units.{AreFalse};
+
+use crate::clause_kind::ClauseKind;
+use crate::constraint::Constraint;
+use crate::problem::Problem;
+use crate::trail::Marks;
+use crate::{choices, complete, frame};
+use hv_sets::Operand;
+use hv_task::State;
+
+// Tries each choice. The answer is true once one fits some state, which is then written.
+pub(crate) fn choose_each<K: ClauseKind>(
+    problem: &Problem<'_, K>,
+    cost: u64,
+    marks: &mut Marks<'_>,
+    state: &mut State,
+) -> bool
+    requires posed { IsPosed problem.now.task.now problem.now.store.now problem.now.effect.now
+        problem.now.query.now }
+    requires cost { cost ≡ choices_of problem.now.task.now
+        (sizes_of (formula_at problem.now.store.now)) problem.now.query.now.negative }
+    requires based { IsBased problem.now.task.now (formula_at problem.now.store.now)
+        problem.now.effect.now problem.now.query.now marks.old }
+    requires state { length state.old ≡ atoms problem.now.task.now }
+    ensures met { IsMetBelow result cost (atoms problem.now.task.now)
+        (FitsChoice problem.now.task.now (formula_at problem.now.store.now) problem.now.effect.now
+        problem.now.query.now) state.new }
+    ensures state { length state.new ≡ length state.old }
+{
+    let mut number = 0;
+    while number < cost {
+        match explore(problem, number, cost, marks, state) {
+            None => return true,
+            Some(next) => number = next,
+        }
+    }
+    false
+}
+
+// Tries choices from this number on. The answer is None if one fits some state, which is then
+// written; or else a number up to which no choice fits any. What is known stays as it was.
+fn explore<K: ClauseKind>(
+    problem: &Problem<'_, K>,
+    number: u64,
+    cost: u64,
+    marks: &mut Marks<'_>,
+    state: &mut State,
+) -> Option<u64>
+    requires posed { IsPosed problem.now.task.now problem.now.store.now problem.now.effect.now
+        problem.now.query.now }
+    requires cost { cost ≡ choices_of problem.now.task.now
+        (sizes_of (formula_at problem.now.store.now)) problem.now.query.now.negative }
+    requires number { number < cost }
+    requires based { IsBased problem.now.task.now (formula_at problem.now.store.now)
+        problem.now.effect.now problem.now.query.now marks.old }
+    requires state { length state.old ≡ atoms problem.now.task.now }
+    ensures tried { MatchOption result (IsMetBelow true cost (atoms problem.now.task.now)
+        (FitsChoice problem.now.task.now (formula_at problem.now.store.now) problem.now.effect.now
+        problem.now.query.now) state.new)
+        (λ upto. (number < upto) × AreRefuted problem.now.task.now
+        (formula_at problem.now.store.now) problem.now.effect.now problem.now.query.now number
+        upto) }
+    ensures same { marks.new ≡ marks.old }
+    ensures state { length state.new ≡ length state.old }
+{
+    let point = marks.len();
+    let tried = explore_on(problem, number, cost, marks, state);
+    marks.undo(point);
+    tried
+}
+
+// The same, with what follows left on the trail.
+fn explore_on<K: ClauseKind>(
+    problem: &Problem<'_, K>,
+    number: u64,
+    cost: u64,
+    marks: &mut Marks<'_>,
+    state: &mut State,
+) -> Option<u64>
+    requires posed { IsPosed problem.now.task.now problem.now.store.now problem.now.effect.now
+        problem.now.query.now }
+    requires cost { cost ≡ choices_of problem.now.task.now
+        (sizes_of (formula_at problem.now.store.now)) problem.now.query.now.negative }
+    requires number { number < cost }
+    requires based { IsBased problem.now.task.now (formula_at problem.now.store.now)
+        problem.now.effect.now problem.now.query.now marks.old }
+    requires state { length state.old ≡ atoms problem.now.task.now }
+    ensures tried { MatchOption result (IsMetBelow true cost (atoms problem.now.task.now)
+        (FitsChoice problem.now.task.now (formula_at problem.now.store.now) problem.now.effect.now
+        problem.now.query.now) state.new)
+        (λ upto. (number < upto) × AreRefuted problem.now.task.now
+        (formula_at problem.now.store.now) problem.now.effect.now problem.now.query.now number
+        upto) }
+    ensures grown { Grows marks.old marks.new }
+    ensures state { length state.new ≡ length state.old }
+{
+    let negative = problem.query.negative.as_slice();
+    let count = negative.len();
+    let mut next = number;
+    let mut block = cost;
+    for fixed in 0..count {
+        let place = count - 1 - fixed;
+        let part = block / choices::count_of(problem.task, problem.store, negative[place].which);
+        match first_open(problem, negative[place], place, next, part, marks) {
+            None => return Some((next / block + 1) * block),
+            Some(found) => next = found,
+        }
+        block = part;
+    }
+    if finish(problem, next, marks, state) {
+        return None;
+    }
+    Some(next + 1)
+}
+
+// The first choice from this one on, among those with the same clauses of the operands behind this
+// one, whose clause of this operand isn't refuted at once; it is followed up. Each clause of it
+// stands for so many numbers. The answer is None if each is refuted: then no such choice fits any
+// state.
+fn first_open<K: ClauseKind>(
+    problem: &Problem<'_, K>,
+    operand: Operand,
+    place: usize,
+    next: u64,
+    part: u64,
+    marks: &mut Marks<'_>,
+) -> Option<u64>
+    requires posed { IsPosed problem.now.task.now problem.now.store.now problem.now.effect.now
+        problem.now.query.now }
+    requires here { slice_get problem.now.query.now.negative place ≡ Some operand }
+    requires next { next < choices_of problem.now.task.now
+        (sizes_of (formula_at problem.now.store.now)) problem.now.query.now.negative }
+    requires few { choices_of problem.now.task.now (sizes_of (formula_at problem.now.store.now))
+        problem.now.query.now.negative < 2 ^ 64 }
+    requires part { part ≡ block_size problem.now.task.now (formula_at problem.now.store.now)
+        problem.now.query.now place }
+    requires front { IsFront problem.now.task.now (formula_at problem.now.store.now)
+        problem.now.effect.now problem.now.query.now (place + 1) (next / block_size
+        problem.now.task.now (formula_at problem.now.store.now) problem.now.query.now (place + 1))
+        marks.old }
+    ensures open { MatchOption result (AreRefuted problem.now.task.now
+        (formula_at problem.now.store.now) problem.now.effect.now problem.now.query.now next
+        (block_end next (block_size problem.now.task.now (formula_at problem.now.store.now)
+        problem.now.query.now (place + 1))))
+        (λ found. IsAdvanced problem.now.task.now (formula_at problem.now.store.now)
+        problem.now.effect.now problem.now.query.now place next found marks.new) }
+    ensures grown { Grows marks.old marks.new }
+{
+    let count = choices::count_of(problem.task, problem.store, operand.which);
+    let first = next / part;
+    let end = (first / count + 1) * count;
+    for rest in first..end {
+        if fix(problem, operand, place, rest, marks) {
+            return Some(first_in(next, rest, part));
+        }
+    }
+    None
+}
+
+// The first number from this one on that is in a block: that of the numbers which, divided by its
+// size, give its place.
+fn first_in(next: u64, block: u64, size: u64) -> u64
+    requires some { 0 < size }
+    requires ahead { next / size ≤ block }
+    requires few { block * size < 2 ^ 64 }
+    ensures inside { result / size ≡ block }
+    ensures ahead { next ≤ result }
+    ensures before { (number : ℕ) → next ≤ number → number < result → number / size < block }
+{
+    let start = block * size;
+    if start < next { next } else { start }
+}
+
+// Follows up that the clause of this digit of an operand is false, beside what is known of the
+// operands behind it. The answer is false only if no state fits; what is known then stays as it
+// was.
+fn fix<K: ClauseKind>(
+    problem: &Problem<'_, K>,
+    operand: Operand,
+    place: usize,
+    rest: u64,
+    marks: &mut Marks<'_>,
+) -> bool
+    requires posed { IsPosed problem.now.task.now problem.now.store.now problem.now.effect.now
+        problem.now.query.now }
+    requires here { slice_get problem.now.query.now.negative place ≡ Some operand }
+    requires some { 0 < clauses_of problem.now.task.now
+        (sizes_of (formula_at problem.now.store.now)) operand.which }
+    requires front { IsFront problem.now.task.now (formula_at problem.now.store.now)
+        problem.now.effect.now problem.now.query.now (place + 1)
+        (rest / clauses_of problem.now.task.now (sizes_of (formula_at problem.now.store.now))
+        operand.which) marks.old }
+    ensures front { result ≡ true → IsFront problem.now.task.now
+        (formula_at problem.now.store.now) problem.now.effect.now problem.now.query.now place rest
+        marks.new }
+    ensures never { result ≡ false → IsNever problem.now.task.now
+        (formula_at problem.now.store.now) problem.now.effect.now problem.now.query.now place
+        rest }
+    ensures same { result ≡ false → marks.new ≡ marks.old }
+    ensures grown { Grows marks.old marks.new }
+{
+    let digit = rest % choices::count_of(problem.task, problem.store, operand.which);
+    if frame::is_clause_true(problem, operand, digit, marks) {
+        return false;
+    }
+    let point = marks.len();
+    if deny(problem, operand, digit, marks) {
+        return true;
+    }
+    marks.undo(point);
+    false
+}
+
+// Marks the clause at this place of an operand as false, with all that follows. The answer is false
+// only if no state that agrees with what was known fits.
+fn deny<K: ClauseKind>(
+    problem: &Problem<'_, K>,
+    operand: Operand,
+    digit: u64,
+    marks: &mut Marks<'_>,
+) -> bool
+    requires posed { IsPosed problem.now.task.now problem.now.store.now problem.now.effect.now
+        problem.now.query.now }
+    requires named { IsNamed (length problem.now.store.now) operand.which }
+    requires digit { digit < clauses_of problem.now.task.now
+        (sizes_of (formula_at problem.now.store.now)) operand.which }
+    requires wide { length marks.old.base ≡ atoms problem.now.task.now }
+    requires left { AreAllLeft problem.now.task.now (formula_at problem.now.store.now)
+        problem.now.effect.now problem.now.query.now.positive marks.old (length marks.old.trail) }
+    ensures follows { (state : List Bool) → length state ≡ atoms problem.now.task.now
+        → InAll problem.now.task.now (formula_at problem.now.store.now) problem.now.effect.now
+        problem.now.query.now.positive state → MissesClause problem.now.task.now
+        (formula_at problem.now.store.now) problem.now.effect.now operand digit state
+        → Agrees (marks_of marks.old) state → Agrees (marks_of marks.new) state }
+    ensures never { result ≡ false → (state : List Bool) → length state ≡ atoms problem.now.task.now
+        → InAll problem.now.task.now (formula_at problem.now.store.now) problem.now.effect.now
+        problem.now.query.now.positive state → MissesClause problem.now.task.now
+        (formula_at problem.now.store.now) problem.now.effect.now operand digit state
+        → Agrees (marks_of marks.old) state → ⊥ }
+    ensures denied { result ≡ true → AreFalse (late problem.now.effect.now operand.after)
+        (clause_at (clauses_in problem.now.task.now (formula_at problem.now.store.now)
+        operand.which) digit) (marks_of marks.new) }
+    ensures left { result ≡ true → AreAllLeft problem.now.task.now
+        (formula_at problem.now.store.now) problem.now.effect.now problem.now.query.now.positive
+        marks.new (length marks.new.trail) }
+    ensures grown { Grows marks.old marks.new }
+{
+    problem.laws();
+    let seen = problem.effect.late(operand.after);
+    let point = marks.len();
+    if !choices::deny_which(
+        problem.task,
+        problem.store,
+        operand.which,
+        digit,
+        &seen,
+        marks,
+    ) {
+        return false;
+    }
+    complete::close(problem, marks, point)
+}
+
+// Completes what is known where a clause of each negative operand is chosen.
+fn finish<K: ClauseKind>(
+    problem: &Problem<'_, K>,
+    number: u64,
+    marks: &mut Marks<'_>,
+    state: &mut State,
+) -> bool
+    requires posed { IsPosed problem.now.task.now problem.now.store.now problem.now.effect.now
+        problem.now.query.now }
+    requires front { IsFront problem.now.task.now (formula_at problem.now.store.now)
+        problem.now.effect.now problem.now.query.now 0 number marks.old }
+    requires state { length state.old ≡ atoms problem.now.task.now }
+    ensures met { IsMet result (atoms problem.now.task.now)
+        (FitsChoice problem.now.task.now (formula_at problem.now.store.now) problem.now.effect.now
+        problem.now.query.now number) state.new }
+    ensures grown { Grows marks.old marks.new }
+    ensures state { length state.new ≡ length state.old }
+{
+    let how = problem.store.completion();
+    let _atoms = problem.task.atoms();
+    problem.laws();
+    complete::complete(how, problem, marks, state)
+}

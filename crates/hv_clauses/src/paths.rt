@@ -1,0 +1,30 @@
+//! Formulas walked over and asked about along paths.
+
+use crate::clause_kind::ClauseKind;
+use crate::formula::Formula;
+use hv_paths::{InsideAsk, InsideAsked, OutsideAsk, OutsideAsked, OutsideWalk, OutsideWalked};
+use std::alloc::{AllocError, Global};
+
+impl<'a, K: ClauseKind + 'a> OutsideWalked<'a> for Formula<K> {
+    type Walk = OutsideWalk<'a, Formula<K>>;
+
+    fn walk_outside(&'a self, alloc: Global) -> Result<OutsideWalk<'a, Formula<K>>, AllocError> {
+        Ok(OutsideWalk::new(alloc, self))
+    }
+}
+
+impl<'a, K: ClauseKind + 'a> InsideAsked<'a> for Formula<K> {
+    type Ask = InsideAsk<'a, Formula<K>>;
+
+    fn ask_inside(&'a self, alloc: Global) -> Result<InsideAsk<'a, Formula<K>>, AllocError> {
+        Ok(InsideAsk::new(alloc, self))
+    }
+}
+
+impl<'a, K: ClauseKind + 'a> OutsideAsked<'a> for Formula<K> {
+    type Ask = OutsideAsk<'a, Formula<K>>;
+
+    fn ask_outside(&'a self, alloc: Global) -> Result<OutsideAsk<'a, Formula<K>>, AllocError> {
+        Ok(OutsideAsk::new(alloc, self))
+    }
+}
