@@ -19,15 +19,15 @@ use Rattle.hv_sets.specs.declared.query.Query.{Query}
 use Rattle.hv_bdd.specs.declared.asked.Asked.{Asked}
 use Rattle.hv_bdd.specs.Nodes.{NodeList, in_node}
 use Rattle.hv_bdd.specs.Order.{atom_at, place}
-use Rattle.hv_bdd.specs.Live.{Setting, asked_of, asks_goal, changed_by, is_marked, mark_of, needed_by, operands_of, root, roots, setting_of, start_bit}
-use Rattle.hv_bdd.specs.Graphs.{Agrees, Suits, in_asked, in_graph, matches, over}
+use Rattle.hv_bdd.specs.Live.{TupleSetting, asked_of, asks_goal, changed_by, is_marked, bit_mark_of, needed_by, operands_of, root, roots, tuple_setting_of, start_bit}
+use Rattle.hv_bdd.specs.Working.Graphs.{AgreesWithNodes, Suits, in_asked, in_graph, matches, with_marks}
 use Rattle.hv_bdd.proofs.Chained.{first_is, match_at, match_from}
 use Rattle.hv_bdd.proofs.Marked.{mark_of-needed, mark_of-no_marks, over_action, over_none}
-use Rattle.hv_bdd.specs.Ordered.{order_of}
+use Rattle.hv_bdd.specs.Working.Ordered.{order_of}
 
 module _ (list : NodeList) (task : Strips) (query : Query) (size : list.atoms ≡ atoms task) where
-  abbrev pub S : Setting
-  S = setting_of list task query
+  abbrev pub S : TupleSetting
+  S = tuple_setting_of list task query
 
   abbrev pub sets : ℕ → List Bool → Bool
   sets = in_node list
@@ -90,7 +90,7 @@ module _ (list : NodeList) (task : Strips) (query : Query) (size : list.atoms �
 
   -- the state about which an operand is asked
   side_is : (action : Option Action) (after : Bool) (s : List Bool) → length s ≡ atoms task
-      → cond after (over (changed_by (atoms task) action) s) s ≡ asked action after s
+      → cond after (with_marks (changed_by (atoms task) action) s) s ≡ asked action after s
   side_is (Some action) true s in_s = over_action (atoms task) action s in_s
   side_is None true s in_s = over_none (atoms task) s in_s
   side_is (Some action) false s in_s = refl
@@ -122,38 +122,38 @@ module _ (list : NodeList) (task : Strips) (query : Query) (size : list.atoms �
 
   agrees_from : (b : Bool) (os : List Operand) (s : List Bool) → AreBelow (atoms task) task.goal → length s ≡ list.atoms
       → list_all (λ o. says b (in_operand task sets (action_of task query.action) s o)) os ≡ true
-      → Agrees (in_asked S) (λ o. o.positive) s (map (asked_of b) os) (roots S (map (asked_of b) os))
+      → AgreesWithNodes (in_asked S) (λ o. o.positive) s (map (asked_of b) os) (roots S (map (asked_of b) os))
   agrees_from b [] s below in_s all = tt
   agrees_from b (o ∷ os) s below in_s all =
       let parts = and_parts (says b (in_operand task sets (action_of task query.action) s o)) (list_all (λ o. says b (in_operand task sets (action_of task query.action) s o)) os) all in
       (each_is b o s below in_s ∙ says_is b (in_operand task sets (action_of task query.action) s o) parts.0, agrees_from b os s below in_s parts.1)
 
   from_agrees : (b : Bool) (os : List Operand) (s : List Bool) → AreBelow (atoms task) task.goal → length s ≡ list.atoms
-      → Agrees (in_asked S) (λ o. o.positive) s (map (asked_of b) os) (roots S (map (asked_of b) os))
+      → AgreesWithNodes (in_asked S) (λ o. o.positive) s (map (asked_of b) os) (roots S (map (asked_of b) os))
       → list_all (λ o. says b (in_operand task sets (action_of task query.action) s o)) os ≡ true
   from_agrees b [] s below in_s agrees = refl
   from_agrees b (o ∷ os) s below in_s agrees =
       and_from (says b (in_operand task sets (action_of task query.action) s o)) (list_all (λ o. says b (in_operand task sets (action_of task query.action) s o)) os)
       (is_says b (in_operand task sets (action_of task query.action) s o) (sym (each_is b o s below in_s) ∙ agrees.0)) (from_agrees b os s below in_s agrees.1)
 
-  both_sides : (os ps : List Asked) (s : List Bool) → Agrees (in_asked S) (λ o. o.positive) s os (roots S os)
-      → Agrees (in_asked S) (λ o. o.positive) s ps (roots S ps) → Agrees (in_asked S) (λ o. o.positive) s (os ++ ps) (roots S (os ++ ps))
+  both_sides : (os ps : List Asked) (s : List Bool) → AgreesWithNodes (in_asked S) (λ o. o.positive) s os (roots S os)
+      → AgreesWithNodes (in_asked S) (λ o. o.positive) s ps (roots S ps) → AgreesWithNodes (in_asked S) (λ o. o.positive) s (os ++ ps) (roots S (os ++ ps))
   both_sides [] ps s first second = second
   both_sides (o ∷ os) ps s first second = (first.0, both_sides os ps s first.1 second)
 
-  first_side : (os ps : List Asked) (s : List Bool) → Agrees (in_asked S) (λ o. o.positive) s (os ++ ps) (roots S (os ++ ps))
-      → Agrees (in_asked S) (λ o. o.positive) s os (roots S os)
+  first_side : (os ps : List Asked) (s : List Bool) → AgreesWithNodes (in_asked S) (λ o. o.positive) s (os ++ ps) (roots S (os ++ ps))
+      → AgreesWithNodes (in_asked S) (λ o. o.positive) s os (roots S os)
   first_side [] ps s all = tt
   first_side (o ∷ os) ps s all = (all.0, first_side os ps s all.1)
 
-  second_side : (os ps : List Asked) (s : List Bool) → Agrees (in_asked S) (λ o. o.positive) s (os ++ ps) (roots S (os ++ ps))
-      → Agrees (in_asked S) (λ o. o.positive) s ps (roots S ps)
+  second_side : (os ps : List Asked) (s : List Bool) → AgreesWithNodes (in_asked S) (λ o. o.positive) s (os ++ ps) (roots S (os ++ ps))
+      → AgreesWithNodes (in_asked S) (λ o. o.positive) s ps (roots S ps)
   second_side [] ps s all = all
   second_side (o ∷ os) ps s all = second_side os ps s all.1
 
   -- the bits that an action needs
   needs : (action : Option Action) (s : List Bool) (a : ℕ) → a < atoms task → may_apply action s ≡ true
-      → is_marked (mark_of (needed_by (atoms task) action) a) (has_atom s a) ≡ true
+      → is_marked (bit_mark_of (needed_by (atoms task) action) a) (has_atom s a) ≡ true
   needs None s a less may = ap (λ m. is_marked m (has_atom s a)) (mark_of-no_marks (atoms task) a less)
   needs (Some action) s a less may =
       ap (λ m. is_marked m (has_atom s a)) (mark_of-needed (atoms task) a action less)
@@ -164,14 +164,14 @@ module _ (list : NodeList) (task : Strips) (query : Query) (size : list.atoms �
       by false held = refl
 
   applies : (action : Option Action) (s : List Bool) → ((a : Action) → action ≡ Some a → AreBelow (atoms task) a.pre)
-      → ((a : ℕ) → a < atoms task → is_marked (mark_of (needed_by (atoms task) action) a) (has_atom s a) ≡ true) → may_apply action s ≡ true
-  applies None s over has = refl
-  applies (Some action) s over has =
+      → ((a : ℕ) → a < atoms task → is_marked (bit_mark_of (needed_by (atoms task) action) a) (has_atom s a) ≡ true) → may_apply action s ≡ true
+  applies None s with_marks has = refl
+  applies (Some action) s with_marks has =
       (has_all-Decides action.pre s).1
       (All-from_get_or (λ p. has_atom s p ≡ true) action.pre 0
       (λ k less.
       let a = get_or action.pre k 0 in
-      let within : a < atoms task = All-get_or (λ n. n < atoms task) action.pre k 0 less (over action refl) in
+      let within : a < atoms task = All-get_or (λ n. n < atoms task) action.pre k 0 less (with_marks action refl) in
       let named = (names_atom-Decides action.pre a).1 (Contains-get_or action.pre k 0 less) in
       let mark = mark_of-needed (atoms task) a action within ∙ ap (λ b. cond b (Some true) None) named in
       sym ((booleans_Decides true (has_atom s a)).0 (ap (λ m. is_marked m (has_atom s a)) (sym mark) ∙ has a within))))
@@ -208,7 +208,7 @@ module _ (list : NodeList) (task : Strips) (query : Query) (size : list.atoms �
       (λ a less.
       let within : a < list.atoms = omega arith in
       let in_order = (order_of list).place_in a within in
-      subst (λ x. is_marked (mark_of (needed_by (atoms task) (action_of task query.action)) x) (has_atom s x) ≡ true)
+      subst (λ x. is_marked (bit_mark_of (needed_by (atoms task) (action_of task query.action)) x) (has_atom s x) ≡ true)
       ((order_of list).there a within) (suits.0.1 (place list a) in_order)))
       (and_from (list_all (λ o. in_operand task sets (action_of task query.action) s o) query.positive)
       (list_all (λ o. not (in_operand task sets (action_of task query.action) s o)) query.negative)

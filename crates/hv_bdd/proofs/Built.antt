@@ -7,11 +7,12 @@ use Rattle.std.specs.List.{list_any}
 use Rattle.hv_bdd.specs.declared.node.Node.{Node}
 use Rattle.hv_bdd.specs.declared.fault.NodeKind.{NodeKind}
 use Rattle.hv_bdd.specs.declared.fault.NodeKind.TheVariants as N
-use Rattle.hv_bdd.specs.Building.{fault_of, is_later, or_twin, same_node, with_node}
+use Rattle.hv_bdd.specs.Building.{fault_of, is_later, or_twin, same_node}
+use Rattle.hv_bdd.specs.Working.Building.{with_node}
 use Rattle.hv_bdd.specs.Nodes.{NodeList, node_count}
 use Rattle.hv_bdd.specs.Order.{place}
 use Rattle.hv_bdd.specs.Reduced.{IsReduced, node_at, top}
-use Rattle.hv_bdd.specs.Walking.{top_inner}
+use Rattle.hv_bdd.specs.Working.Walking.{top_inner}
 
 -- what a node without faults passes
 pub record Passes (list : NodeList) (node : Node) : Type 0 where

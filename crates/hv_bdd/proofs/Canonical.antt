@@ -5,7 +5,7 @@ use Rattle.std.proofs.lemmas.List.{length-replicate, length-set}
 use Rattle.hv_bdd.specs.Nodes.{NodeList, in_node, node_count}
 use Rattle.hv_bdd.specs.Order.{atom_at}
 use Rattle.hv_bdd.specs.Reduced.{AreOneSet, IsReduced, child, node_at, top}
-use Rattle.hv_bdd.specs.Walking.{atom_at_top, child_less, cofactor, free, in_end, top_end, top_less}
+use Rattle.hv_bdd.specs.Working.Walking.{atom_at_top, child_less, cofactor, free, in_end, top_end, top_less}
 
 -- the ends are two sets
 ends_apart : (i j : ℕ) → i < 2 → j < 2 → eqb i 1 ≡ eqb j 1 → i ≡ j

@@ -4,7 +4,7 @@ use Rattle.std.proofs.lemmas.Bool.{and_from, and_parts, cases_eq, cases_lt, cond
 use Rattle.std.proofs.lemmas.List.{get_or-set_other}
 use Rattle.std.proofs.Math.Bool.{beq}
 use Rattle.hv_task.specs.State.{has_atom}
-use Rattle.hv_bdd.specs.Graphs.{in_chain as in_chain_of, matches as matches_of}
+use Rattle.hv_bdd.specs.Working.Graphs.{in_chain as in_chain_of, matches as matches_of}
 use Rattle.hv_bdd.specs.Live.{chain_child, chain_top, first_asked}
 
 module _ (n : ℕ) (atom_at : ℕ → ℕ) (asks bits : ℕ → Bool) where

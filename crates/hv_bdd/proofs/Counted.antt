@@ -3,7 +3,7 @@ use Rattle.std.proofs.Common.{◌≡◌, ℕ, ◌<◌, ◌+◌, ◌∙◌, [], �
 use Rattle.std.proofs.lemmas.Bool.{eq-eqb, ne_eqb}
 use Rattle.hv_bdd.specs.Nodes.{NodeList}
 use Rattle.hv_bdd.specs.Paths.{paths}
-use Rattle.hv_bdd.specs.Laws.{paths_end}
+use Rattle.hv_bdd.specs.Working.Laws.{paths_end}
 
 pub count_end : (list : NodeList) (end node cap : ℕ) → node < 2 → node ≡ end
     → 1 ≡ min (length (paths list end node)) (cap + 1)

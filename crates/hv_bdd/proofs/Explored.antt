@@ -14,7 +14,7 @@ use Rattle.std.specs.Cmp.Lexicographic.{nat_list_eq_equiv, pointwise}
 use Rattle.std.specs.List.{All, Contains, list_any}
 use Rattle.smallvec.specs.SmallVec.{SmallVec}
 use Rattle.hv_bdd.specs.declared.search.Link.{Link}
-use Rattle.hv_bdd.specs.Search.{IsExplored, IsPut, IsPutSome, link_at, tuple_at}
+use Rattle.hv_bdd.specs.Working.Search.{IsExplored, IsPut, IsPutSome, link_at, tuple_at}
 use Rattle.hv_bdd.specs.Tuples.{IsReached, Moves, TuplesPass, if_live, next}
 use Rattle.hv_bdd.proofs.Moved.{reached_in, reached_next}
 

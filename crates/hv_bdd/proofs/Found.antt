@@ -7,21 +7,21 @@ use Rattle.smallvec.specs.SmallVec.{SmallVec}
 use Rattle.hv_bdd.specs.declared.asked.Asked.{Asked}
 use Rattle.hv_bdd.specs.declared.search.Link.{Link}
 use Rattle.hv_bdd.specs.declared.search.Search.{Search}
-use Rattle.hv_bdd.specs.Graphs.{Agrees, Fits, Suits, in_asked}
+use Rattle.hv_bdd.specs.Working.Graphs.{AgreesWithNodes, FitsBits, Suits, in_asked}
 use Rattle.hv_bdd.specs.Live.{moves, roots}
 use Rattle.hv_bdd.specs.Order.{atom_at}
-use Rattle.hv_bdd.specs.Search.{IsEnd, IsExplored, IsSearch, IsTuple, link_at, setting, tuple_at}
+use Rattle.hv_bdd.specs.Working.Search.{IsEndTuple, IsExplored, IsTupleSearch, IsTuple, link_at, setting, tuple_at}
 use Rattle.hv_bdd.specs.Tuples.{IsReached, TuplesPass, is_live, least, move_all, next}
 use Rattle.hv_bdd.proofs.Explored.{all_there, item_at, items, passes, within_budget}
 use Rattle.hv_bdd.proofs.Moved.{back, back_fits, complete_from, ended, next_is}
-use Rattle.hv_bdd.specs.Ordered.{order_of}
+use Rattle.hv_bdd.specs.Working.Ordered.{order_of}
 use Rattle.hv_bdd.proofs.Steps.{least_below}
 use Rattle.hv_bdd.proofs.Tupled.{lim, nodes_of, reached_live, reached_tuple, roots_nodes, truths}
 
-module _ (s : Search) (search : IsSearch s) (done : ℕ) (keys : List (SmallVec ℕ)) (ls : List Link)
+module _ (s : Search) (search : IsTupleSearch s) (done : ℕ) (keys : List (SmallVec ℕ)) (ls : List Link)
     (known : IsExplored (moves (setting s)) s.asked.now (roots (setting s) s.asked.now) done (items keys) ls) where
   abbrev pub agrees : List Bool → List ℕ → Type 0
-  agrees state ts = Agrees (in_asked (setting s)) (λ (o : Asked). o.positive) state s.asked.now ts
+  agrees state ts = AgreesWithNodes (in_asked (setting s)) (λ (o : Asked). o.positive) state s.asked.now ts
 
   pub len : length (items keys) ≡ length keys
   len = length-map keys (λ (v : SmallVec ℕ). v.items)
@@ -82,12 +82,12 @@ module _ (s : Search) (search : IsSearch s) (done : ℕ) (keys : List (SmallVec 
           let less = (order_of s.nodes.now).atom_in (least (moves (setting s)) s.asked.now v.items) says.0 in
           let same = atom_here in omega arith
 
-      pub fits_back : (state new : List Bool) → new ≡ set state atom link.bit → Fits (moves (setting s)) state → Fits (moves (setting s)) new
+      pub fits_back : (state new : List Bool) → new ≡ set state atom link.bit → FitsBits (moves (setting s)) state → FitsBits (moves (setting s)) new
       fits_back state new is_new fits =
-          subst (Fits (moves (setting s))) (sym (is_new ∙ ap (λ a. set state a link.bit) atom_here))
+          subst (FitsBits (moves (setting s))) (sym (is_new ∙ ap (λ a. set state a link.bit) atom_here))
           (back_fits (moves (setting s)) (lim s) (in_asked (setting s)) (truths s search) state (least (moves (setting s)) s.asked.now v.items) link.bit says.0 says.1 fits)
 
-      pub agrees_back : (state new : List Bool) → new ≡ set state atom link.bit → Fits (moves (setting s)) state → agrees state (tuple_at (items keys) at)
+      pub agrees_back : (state new : List Bool) → new ≡ set state atom link.bit → FitsBits (moves (setting s)) state → agrees state (tuple_at (items keys) at)
           → agrees new (tuple_at (items keys) link.parent)
       agrees_back state new is_new fits old =
           let less = parent_less in
@@ -99,7 +99,7 @@ module _ (s : Search) (search : IsSearch s) (done : ℕ) (keys : List (SmallVec 
           (subst (λ ts. agrees state ts) (sym says.3) old)))
 
   -- at the first tuple stand the roots
-  pub suits_root : (state : List Bool) → 0 < length keys → Fits (moves (setting s)) state → agrees state (tuple_at (items keys) 0)
+  pub suits_root : (state : List Bool) → 0 < length keys → FitsBits (moves (setting s)) state → agrees state (tuple_at (items keys) 0)
       → Suits (setting s) s.asked.now state
   suits_root state some fits old =
       let size = len in
@@ -111,25 +111,25 @@ module _ (s : Search) (search : IsSearch s) (done : ℕ) (keys : List (SmallVec 
       root_is false e = absurd cc
 
   -- each state is in a live tuple of ends
-  pub end_agrees : (k : ℕ) (state : List Bool) → k < length keys → IsEnd s (tuple_at (items keys) k) → agrees state (tuple_at (items keys) k)
+  pub end_agrees : (k : ℕ) (state : List Bool) → k < length keys → IsEndTuple s (tuple_at (items keys) k) → agrees state (tuple_at (items keys) k)
   end_agrees k state within end =
       ended (moves (setting s)) (lim s) (in_asked (setting s)) (truths s search) state s.asked.now (tuple_at (items keys) k)
       (nodes_of s (tuple_at (items keys) k) (tuple_here k within)) (omega arith) (reached_live s search (tuple_at (items keys) k) (reached_at k within))
 
   -- where no tuple ends, no state suits the operands
-  pub no_state : length keys ≤ done → All (λ (t : SmallVec ℕ). IsEnd s t.items → ⊥) keys → (state : List Bool) → Suits (setting s) s.asked.now state → ⊥
+  pub no_state : length keys ≤ done → All (λ (t : SmallVec ℕ). IsEndTuple s t.items → ⊥) keys → (state : List Bool) → Suits (setting s) s.asked.now state → ⊥
   no_state past none state suits =
       let size = len in
       let found = complete_from (moves (setting s)) (lim s) (in_asked (setting s)) (truths s search) state s.asked.now (roots (setting s) s.asked.now)
       suits.0 (roots_nodes s search) suits.1 in
       let there = all_there (moves (setting s)) s.asked.now (roots (setting s) s.asked.now) done (items keys) ls known (omega arith) found.0 found.1 in
       let below = least_below (moves (setting s)) s.asked.now found.0 in
-      let end : IsEnd s found.0 = omega (arith, found.2) in
+      let end : IsEndTuple s found.0 = omega (arith, found.2) in
       let v : SmallVec ℕ = record { items = []; capacity = 0 } in
       let inside : there.0 < length keys = omega (arith, there.1) in
       let same = sym there.2 ∙ get_or_default (items keys) there.0 found.0 [] there.1
       ∙ item_at keys there.0 (get_or keys there.0 v) inside (get_or_default keys there.0 (get_or keys there.0 v) v inside) in
-      none there.0 v inside (subst (IsEnd s) same end)
+      none there.0 v inside (subst (IsEndTuple s) same end)
 
   pub over_budget : (budget : ℕ) → budget < length keys → TuplesPass (moves (setting s)) s.asked.now (roots (setting s) s.asked.now) budget
   over_budget budget over =

@@ -10,15 +10,15 @@ use Rattle.hv_bdd.specs.declared.asked.Asked.{Asked}
 use Rattle.hv_bdd.specs.Nodes.{in_node}
 use Rattle.hv_bdd.specs.Order.{atom_at, place}
 use Rattle.hv_bdd.specs.Reduced.{IsReduced}
-use Rattle.hv_bdd.specs.Graphs.{in_asked, in_graph as in_graph_of, limit as limit_of, over}
-use Rattle.hv_bdd.specs.Live.{Setting, asks_goal, child, mark_of, moves, or_else, start_bit, top}
+use Rattle.hv_bdd.specs.Working.Graphs.{in_asked, in_graph as in_graph_of, limit as limit_of, with_marks}
+use Rattle.hv_bdd.specs.Live.{TupleSetting, asks_goal, child, bit_mark_of, moves, or_else, start_bit, top}
 use Rattle.hv_bdd.proofs.Chained.{chain_end, chain_free, chain_later, chain_step, chain_within, top_end as chain_top_end, top_inner as chain_top_inner}
 use Rattle.hv_bdd.proofs.Marked.{has_atom-over, length-over}
 use Rattle.hv_bdd.proofs.Moved.{IsTrueTo}
-use Rattle.hv_bdd.specs.Ordered.{order_of}
-use Rattle.hv_bdd.specs.Walking.{atom_at_top, child_later, child_less, free, in_end, in_inner, top_end, top_less}
+use Rattle.hv_bdd.specs.Working.Ordered.{order_of}
+use Rattle.hv_bdd.specs.Working.Walking.{atom_at_top, child_later, child_less, free, in_end, in_inner, top_end, top_less}
 
-module _ (S : Setting) where
+module _ (S : TupleSetting) where
   abbrev pub limit : Which → ℕ
   limit = limit_of S
 
@@ -108,7 +108,7 @@ module _ (S : Setting) where
 
     -- the state about which an operand is asked
     abbrev pub side : Bool → List Bool → List Bool
-    side after s = cond after (over S.changed s) s
+    side after s = cond after (with_marks S.changed s) s
 
     abbrev pub truth : Asked → List Bool → ℕ → Bool
     truth = in_asked S
@@ -118,7 +118,7 @@ module _ (S : Setting) where
     size_side false s = refl
 
     bit_side : (after : Bool) (s : List Bool) (a : ℕ) → length s ≡ S.list.atoms → a < S.list.atoms
-        → has_atom (side after s) a ≡ cond after (or_else (mark_of S.changed a) (has_atom s a)) (has_atom s a)
+        → has_atom (side after s) a ≡ cond after (or_else (bit_mark_of S.changed a) (has_atom s a)) (has_atom s a)
     bit_side true s a size within = has_atom-over S.changed s a (omega arith)
     bit_side false s a size within = refl
 
@@ -132,7 +132,7 @@ module _ (S : Setting) where
         let len_set = length-set s (atom_at S.list v) b in
         let there : a < S.list.atoms = omega arith in
         bit_side after (set s (atom_at S.list v) b) a (len_set ∙ size) there
-        ∙ (ap (λ x. cond after (or_else (mark_of S.changed a) x) x) (get_or-set_other s (atom_at S.list v) a b false other)
+        ∙ (ap (λ x. cond after (or_else (bit_mark_of S.changed a) x) x) (get_or-set_other s (atom_at S.list v) a b false other)
         ∙ sym (bit_side after s a size there)))
 
     pub is_true_to : IsTrueTo Asked (moves S) (λ o. limit o.which) truth

@@ -9,6 +9,7 @@ pub mod Steps
 pub mod Tupled
 pub mod Explored
 pub mod Found
+pub mod Fronted
 pub mod Queried
 pub mod Within
 pub mod Built

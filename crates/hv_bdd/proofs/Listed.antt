@@ -11,10 +11,11 @@ use Rattle.std.specs.List.Sorted.{IsStrictlyIncreasing}
 use Rattle.hv_task.specs.State.{AreBelow, has_atom, names_atom, state_of}
 use Rattle.hv_task.proofs.Places.{has_atom-state_of, length-state_of, names_atom-Decides}
 use Rattle.hv_task.proofs.Rising.{rises_apart}
-use Rattle.hv_sets.specs.Cubes.{IsFirstUpto, atoms_of}
+use Rattle.hv_sets.specs.Cubes.{atoms_of}
+use Rattle.hv_sets.specs.Working.Cubes.{IsFirstUpto}
 use Rattle.hv_sets.specs.declared.literal.Literal.{Literal}
-use Rattle.hv_bdd.specs.Live.{first_asked, mark_of, no_marks}
-use Rattle.hv_bdd.specs.Marked.{IsSignOf, listed_mark, listed_marks, literal_at}
+use Rattle.hv_bdd.specs.Live.{first_asked, bit_mark_of, no_marks}
+use Rattle.hv_bdd.specs.Working.Marked.{IsSignOf, listed_mark, listed_marks, literal_at}
 use Rattle.hv_bdd.specs.Sets.{mark_literals}
 use Rattle.hv_bdd.proofs.Marked.{length-no_marks, mark_of-no_marks}
 
@@ -32,7 +33,7 @@ no_listed atoms =
 
 -- the mark of an atom by the lists
 pub mark_of-listed : (atoms p : ℕ) (ones zeros : List ℕ) → p < atoms
-    → mark_of (listed_marks atoms ones zeros) p ≡ listed_mark ones zeros p
+    → bit_mark_of (listed_marks atoms ones zeros) p ≡ listed_mark ones zeros p
 mark_of-listed atoms p ones zeros less =
     get_or-map-range_with_len (listed_mark ones zeros) 0 atoms p p None less
     (let f : 0 + p ≡ p = omega arith in f)
@@ -46,7 +47,7 @@ length-literals (l ∷ ls) marks =
 -- literals of other atoms leave a mark alone
 pub unsigned : (ls : List Literal) (marks : List (Option Bool)) (a : ℕ)
     → ((k : ℕ) → k < length ls → (literal_at ls k).atom ≡ a → ⊥)
-    → mark_of (mark_literals ls marks) a ≡ mark_of marks a
+    → bit_mark_of (mark_literals ls marks) a ≡ bit_mark_of marks a
 unsigned [] marks a none = refl
 unsigned (l ∷ ls) marks a none =
     unsigned ls (set marks l.atom (Some l.positive)) a (λ k less same. none (suc k) (omega arith) same)
@@ -56,12 +57,12 @@ unsigned (l ∷ ls) marks a none =
 pub signed : (ls : List Literal) (marks : List (Option Bool)) (a i : ℕ)
     → ((j k : ℕ) → j < k → k < length ls → (literal_at ls j).atom < (literal_at ls k).atom)
     → i < length ls → (literal_at ls i).atom ≡ a → a < length marks
-    → mark_of (mark_literals ls marks) a ≡ Some (literal_at ls i).positive
+    → bit_mark_of (mark_literals ls marks) a ≡ Some (literal_at ls i).positive
 signed [] marks a i rises less here within = absurd (omega arith)
 signed (l ∷ ls) marks a zero rises less here within =
     unsigned ls (set marks l.atom (Some l.positive)) a
     (λ k inside same. let later = rises 0 (suc k) (omega arith) (omega arith) in omega arith)
-    ∙ (ap (mark_of (set marks l.atom (Some l.positive))) (sym here)
+    ∙ (ap (bit_mark_of (set marks l.atom (Some l.positive))) (sym here)
     ∙ get_or-set_same marks l.atom (Some l.positive) None (omega arith))
 signed (l ∷ ls) marks a (suc i) rises less here within =
     let size = length-set marks l.atom (Some l.positive) in
@@ -157,7 +158,7 @@ next_agrees f g from (Some a) same is =
 pub read_listed : (ls : List Literal) (atoms a : ℕ) (ones zeros : List ℕ)
     → a < length (mark_literals ls (listed_marks atoms ones zeros))
     → ((k : ℕ) → k < length ls → (literal_at ls k).atom ≡ a → ⊥)
-    → mark_of (mark_literals ls (listed_marks atoms ones zeros)) a ≡ listed_mark ones zeros a
+    → bit_mark_of (mark_literals ls (listed_marks atoms ones zeros)) a ≡ listed_mark ones zeros a
 read_listed ls atoms a ones zeros within none =
     let size = length-literals ls (listed_marks atoms ones zeros) in
     let len = length-map-range_with_len (listed_mark ones zeros) 0 atoms in
@@ -167,7 +168,7 @@ read_listed ls atoms a ones zeros within none =
 pub read_signed : (ls : List Literal) (atoms a : ℕ) (ones zeros : List ℕ) (sign : Bool)
     → IsStrictlyIncreasing (atoms_of ls)
     → a < length (mark_literals ls (listed_marks atoms ones zeros)) → IsSignOf ls a (Some sign)
-    → mark_of (mark_literals ls (listed_marks atoms ones zeros)) a ≡ Some sign
+    → bit_mark_of (mark_literals ls (listed_marks atoms ones zeros)) a ≡ Some sign
 read_signed ls atoms a ones zeros sign rises within is =
     let size = length-literals ls (listed_marks atoms ones zeros) in
     signed ls (listed_marks atoms ones zeros) a is.0 (rising ls rises) is.1 is.2

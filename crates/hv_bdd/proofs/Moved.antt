@@ -4,7 +4,7 @@ use Rattle.std.proofs.Common.{◌≡◌, ℕ, zero, suc, ◌<◌, ◌≤◌, ◌
 use Rattle.std.proofs.lemmas.Bool.{cases_eq, cases_lt, cond-false, cond-true, and_from, and_parts, eq-eqb, lt-ltb, ltb-true, ne_eqb}
 use Rattle.std.proofs.lemmas.List.{get_or-set_other, get_or-set_same, length-set}
 use Rattle.hv_task.specs.State.{has_atom}
-use Rattle.hv_bdd.specs.Graphs.{Agrees, AreNodes, Fits}
+use Rattle.hv_bdd.specs.Working.Graphs.{AgreesWithNodes, AreNodes, FitsBits}
 use Rattle.hv_bdd.specs.Tuples.{IsReached, Moves, follow, if_live, is_live, least, move_all, move_one, next}
 
 pub record IsTrueTo (O : Type 0) (m : Moves O) (limit : O → ℕ) (truth : O → List Bool → ℕ → Bool) : Type 0 where
@@ -85,7 +85,7 @@ module _ {O : Type 0} (m : Moves O) (limit : O → ℕ) (truth : O → List Bool
       ]
 
   pub forth : (s : List Bool) (v : ℕ) (os : List O) (nodes : List ℕ) → length s ≡ m.atoms → v < m.atoms → AreNodes limit os nodes
-      → Agrees truth m.wants s os nodes → Agrees truth m.wants s os (move_all m v (has_atom s (m.atom_at v)) os nodes)
+      → AgreesWithNodes truth m.wants s os nodes → AgreesWithNodes truth m.wants s os (move_all m v (has_atom s (m.atom_at v)) os nodes)
   forth s v [] nodes size less are agrees = agrees
   forth s v (o ∷ os) [] size less are agrees = agrees
   forth s v (o ∷ os) (i ∷ nodes) size less are agrees =
@@ -111,14 +111,14 @@ module _ {O : Type 0} (m : Moves O) (limit : O → ℕ) (truth : O → List Bool
       ]
 
   pub back : (s : List Bool) (v : ℕ) (b : Bool) (os : List O) (nodes : List ℕ) → length s ≡ m.atoms → v < m.atoms
-      → AreNodes limit os nodes → v ≤ least m os nodes → Agrees truth m.wants s os (move_all m v b os nodes)
-      → Agrees truth m.wants (set s (m.atom_at v) b) os nodes
+      → AreNodes limit os nodes → v ≤ least m os nodes → AgreesWithNodes truth m.wants s os (move_all m v b os nodes)
+      → AgreesWithNodes truth m.wants (set s (m.atom_at v) b) os nodes
   back s v b [] nodes size less are upto agrees = agrees
   back s v b (o ∷ os) [] size less are upto agrees = agrees
   back s v b (o ∷ os) (i ∷ nodes) size less are upto agrees =
       (one_back s v b o i size less are.0 (omega arith) ∙ agrees.0, back s v b os nodes size less are.1 (omega arith) agrees.1)
 
-  pub back_fits : (s : List Bool) (v : ℕ) (b : Bool) → v < m.atoms → m.allows v b ≡ true → Fits m s → Fits m (set s (m.atom_at v) b)
+  pub back_fits : (s : List Bool) (v : ℕ) (b : Bool) → v < m.atoms → m.allows v b ≡ true → FitsBits m s → FitsBits m (set s (m.atom_at v) b)
   back_fits s v b less allowed fits = (
     length-set s (m.atom_at v) b ∙ fits.0,
     λ w within.
@@ -142,7 +142,7 @@ module _ {O : Type 0} (m : Moves O) (limit : O → ℕ) (truth : O → List Bool
   one_live false (suc zero) says = let f : true ≡ false = says (omega arith) in absurd cc
   one_live false (suc (suc i)) says = ap not (ne_eqb (suc (suc i)) 1 (λ e. omega arith))
 
-  pub live : (s : List Bool) (os : List O) (nodes : List ℕ) → AreNodes limit os nodes → Agrees truth m.wants s os nodes
+  pub live : (s : List Bool) (os : List O) (nodes : List ℕ) → AreNodes limit os nodes → AgreesWithNodes truth m.wants s os nodes
       → is_live m os nodes ≡ true
   live s [] nodes are agrees = refl
   live s (o ∷ os) [] are agrees = refl
@@ -159,7 +159,7 @@ module _ {O : Type 0} (m : Moves O) (limit : O → ℕ) (truth : O → List Bool
   one_end w (suc (suc i)) end says = absurd (omega arith)
 
   pub ended : (s : List Bool) (os : List O) (nodes : List ℕ) → AreNodes limit os nodes → m.atoms ≤ least m os nodes
-      → is_live m os nodes ≡ true → Agrees truth m.wants s os nodes
+      → is_live m os nodes ≡ true → AgreesWithNodes truth m.wants s os nodes
   ended s [] nodes are past alive = tt
   ended s (o ∷ os) [] are past alive = tt
   ended s (o ∷ os) (i ∷ nodes) are past alive =
@@ -196,8 +196,8 @@ module _ {O : Type 0} (m : Moves O) (limit : O → ℕ) (truth : O → List Bool
       ∙ cond-true (is_live m os (move_all m (least m os nodes) b os nodes)) (Some (move_all m (least m os nodes) b os nodes)) None alive
 
   -- from a tuple that a state is in, its bits lead to a live tuple of ends
-  pub complete : (bound : ℕ) (s : List Bool) (os : List O) (nodes : List ℕ) → m.atoms < least m os nodes + bound → Fits m s
-      → AreNodes limit os nodes → Agrees truth m.wants s os nodes
+  pub complete : (bound : ℕ) (s : List Bool) (os : List O) (nodes : List ℕ) → m.atoms < least m os nodes + bound → FitsBits m s
+      → AreNodes limit os nodes → AgreesWithNodes truth m.wants s os nodes
       → (bits : List Bool) × (u : List ℕ) × (follow m os bits (Some nodes) ≡ Some u) × (m.atoms ≤ least m os u)
   complete zero s os nodes few fits are agrees = let upto = least_upto os nodes in absurd (omega arith)
   complete (suc bound) s os nodes few fits are agrees =
@@ -235,7 +235,7 @@ module _ {O : Type 0} (m : Moves O) (limit : O → ℕ) (truth : O → List Bool
       by false e n is = let f : ◌≡◌ {A = Option (List ℕ)} None (Some n) = is in absurd cc
 
   -- from the tuple of roots
-  pub complete_from : (s : List Bool) (os : List O) (root : List ℕ) → Fits m s → AreNodes limit os root → Agrees truth m.wants s os root
+  pub complete_from : (s : List Bool) (os : List O) (root : List ℕ) → FitsBits m s → AreNodes limit os root → AgreesWithNodes truth m.wants s os root
       → (u : List ℕ) × IsReached m os root u × (m.atoms ≤ least m os u)
   complete_from s os root fits are agrees =
       let rest = complete (suc m.atoms) s os root (omega arith) fits are agrees in

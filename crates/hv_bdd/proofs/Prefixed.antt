@@ -13,7 +13,7 @@ use Rattle.hv_bdd.specs.NodeText.{IsTriple, list_over, node_line}
 use Rattle.hv_bdd.specs.Nodes.{NodeList, node_count}
 use Rattle.hv_bdd.specs.Order.{place}
 use Rattle.hv_bdd.specs.Reduced.{IsReduced, node_at, top}
-use Rattle.hv_bdd.specs.Walking.{top_inner}
+use Rattle.hv_bdd.specs.Working.Walking.{top_inner}
 use Rattle.hv_bdd.proofs.Built.{Passes}
 use Rattle.hv_bdd.proofs.Tripled.{one_triple, same_node as node_by_parts}
 

@@ -17,15 +17,15 @@ use Rattle.hv_bdd.specs.declared.asked.Asked.{Asked}
 use Rattle.hv_bdd.specs.declared.search.Search.{Search}
 use Rattle.hv_bdd.specs.Nodes.{NodeList, in_node, node_count}
 use Rattle.hv_bdd.specs.Reduced.{IsReduced}
-use Rattle.hv_bdd.specs.Live.{LivePass, asked_of, operands_of, setting_of}
-use Rattle.hv_bdd.specs.Graphs.{IsLiveAnswer}
-use Rattle.hv_bdd.specs.Search.{IsAskable, IsFor, IsSearch, setting}
+use Rattle.hv_bdd.specs.Live.{LivePass, asked_of, operands_of, tuple_setting_of}
+use Rattle.hv_bdd.specs.Working.Graphs.{IsLiveAnswer}
+use Rattle.hv_bdd.specs.Working.Search.{IsAskable, IsSearchFor, IsTupleSearch, setting}
 use Rattle.hv_bdd.proofs.Asking.{clash_from, suits_from}
 use Rattle.hv_bdd.proofs.Marked.{length-changed_by, length-needed_by}
 use Rattle.hv_bdd.proofs.Explored.{first_and_second}
 
 module _ (list : NodeList) (task : Strips) (query : Query) (s : Search)
-    (for : IsFor list task query s) (t : IsTask task) (size : list.atoms ≡ atoms task) where
+    (for : IsSearchFor list task query s) (t : IsTask task) (size : list.atoms ≡ atoms task) where
   size_now : s.nodes.now.atoms ≡ atoms task
   size_now = ap (λ (l : NodeList). l.atoms) for.nodes ∙ size
 
@@ -51,7 +51,7 @@ module _ (list : NodeList) (task : Strips) (query : Query) (s : Search)
       All-map (λ (o : Asked). IsNamed (node_count list) o.which) (asked_of b) os named
 
   -- the search can be made
-  pub can_search : IsReduced s.nodes.now → IsReady (node_count list) query → IsSearch s
+  pub can_search : IsReduced s.nodes.now → IsReady (node_count list) query → IsTupleSearch s
   can_search reduced ready =
       let parts =
       first_and_second (λ (o : Operand). IsNamed (node_count list) o.which) query.positive
@@ -72,7 +72,7 @@ module _ (list : NodeList) (task : Strips) (query : Query) (s : Search)
         asked = λ k d less. askable (get_or s.asked.now k d).which (named k d less);
       }
 
-  setting_is : setting s ≡ setting_of list task query
+  setting_is : setting s ≡ tuple_setting_of list task query
   setting_is = λ k. record {
     list = for.nodes k;
     start = for.start k;
@@ -86,7 +86,7 @@ module _ (list : NodeList) (task : Strips) (query : Query) (s : Search)
   unless false f = refl
 
   by_answer : (found : Finding) (budget : ℕ) (state : List Bool)
-      → IsLiveAnswer found (setting_of list task query) (operands_of query) budget state
+      → IsLiveAnswer found (tuple_setting_of list task query) (operands_of query) budget state
       → IsAnswer found (LivePass list task query budget) (atoms task)
       (is_clash task (in_node list) query) state
   by_answer F.Over budget state says = says
@@ -107,6 +107,6 @@ module _ (list : NodeList) (task : Strips) (query : Query) (s : Search)
       (is_clash task (in_node list) query) state)
   answer_is (Ok found) budget state says =
       by_answer found budget state
-      (subst (λ os. IsLiveAnswer found (setting_of list task query) os budget state) for.asked
+      (subst (λ os. IsLiveAnswer found (tuple_setting_of list task query) os budget state) for.asked
       (subst (λ S. IsLiveAnswer found S s.asked.now budget state) setting_is says))
   answer_is (Err e) budget state says = says

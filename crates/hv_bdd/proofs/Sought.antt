@@ -5,7 +5,8 @@ use Rattle.std.proofs.lemmas.List.{get_or_default}
 use Rattle.std.proofs.lemmas.List.Folds.{Any-from_list_any, list_any_at}
 use Rattle.std.specs.List.{list_any}
 use Rattle.hv_bdd.specs.Building.{same_node}
-use Rattle.hv_bdd.specs.Chains.{AreAllBelow, IsListed, listed_at}
+use Rattle.hv_bdd.specs.Chains.{listed_at}
+use Rattle.hv_bdd.specs.Working.Chains.{AreAllBelow, IsListedNode}
 use Rattle.hv_bdd.specs.declared.node.Node.{Node}
 use Rattle.hv_bdd.proofs.Tripled.{same_node as node_by_parts}
 
@@ -26,7 +27,7 @@ one_node n x e =
 
 -- what was found is whether one of the nodes is this one
 pub any_listed : (nodes : List Node) (node : Node) (found : Bool)
-    → (found ≡ true → IsListed nodes node) → (found ≡ false → AreAllBelow nodes node 0)
+    → (found ≡ true → IsListedNode nodes node) → (found ≡ false → AreAllBelow nodes node 0)
     → found ≡ list_any (same_node node) nodes
 any_listed nodes node true listed absent =
     let is = listed refl in

@@ -6,9 +6,10 @@ use Rattle.std.proofs.Math.Seq.{take-length, take-suc}
 use Rattle.hv_sets.specs.declared.cursor.Cursor.{Cursor}
 use Rattle.hv_sets.specs.declared.literal.Literal.{Literal}
 use Rattle.hv_bdd.specs.Nodes.{NodeList, node_count}
-use Rattle.hv_bdd.specs.Paths.{IsStack, is_high, last_of, left_at, left_of, literals_of, paths, with_bit}
+use Rattle.hv_bdd.specs.Paths.{IsStack, is_high, last_of, left_at, left_of, paths, with_bit}
+use Rattle.hv_bdd.specs.Working.Paths.{literals_of}
 use Rattle.hv_bdd.specs.Reduced.{IsReduced, node_at}
-use Rattle.hv_bdd.specs.Laws.{paths_end, paths_inner}
+use Rattle.hv_bdd.specs.Working.Laws.{paths_end, paths_inner}
 
 module _ (list : NodeList) (e : ℕ) where
   alone : (n : ℕ) (inner : List (List Literal)) → left_of list e (n ∷ []) inner ≡ inner

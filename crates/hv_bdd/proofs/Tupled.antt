@@ -6,9 +6,9 @@ use Rattle.hv_sets.specs.declared.operand.Which.{Which}
 use Rattle.hv_sets.specs.declared.operand.Which.TheVariants as W
 use Rattle.hv_bdd.specs.declared.asked.Asked.{Asked}
 use Rattle.hv_bdd.specs.declared.search.Search.{Search}
-use Rattle.hv_bdd.specs.Graphs.{AreNodes, in_asked, limit}
+use Rattle.hv_bdd.specs.Working.Graphs.{AreNodes, in_asked, limit}
 use Rattle.hv_bdd.specs.Live.{asks_goal, moves, root, roots}
-use Rattle.hv_bdd.specs.Search.{IsAskable, IsSearch, IsTuple, setting}
+use Rattle.hv_bdd.specs.Working.Search.{IsAskable, IsTupleSearch, IsTuple, setting}
 use Rattle.hv_bdd.specs.Tuples.{IsReached, is_live, move_all}
 use Rattle.hv_bdd.proofs.Chained.{first_within}
 use Rattle.hv_bdd.proofs.Graphs.{is_true_to}
@@ -48,7 +48,7 @@ module _ (s : Search) where
   pub tuple_of : (ts : List ℕ) → AreNodes lim s.asked.now ts → IsTuple s ts
   tuple_of ts are = record { size = size_from lim s.asked.now ts are; each = each_from lim s.asked.now ts are }
 
-  module _ (search : IsSearch s) where
+  module _ (search : IsTupleSearch s) where
     pub truths : IsTrueTo Asked (moves (setting s)) lim (in_asked (setting s))
     truths = is_true_to (setting s) search.reduced
 

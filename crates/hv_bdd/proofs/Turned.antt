@@ -2,10 +2,12 @@
 use Rattle.std.proofs.Common.{◌≡◌, ℕ, ◌+◌, ◌<◌, List, [], ◌∷◌, ◌++◌, Option, None, Some, Result, Ok, Err, IfSome, length, map, refl, sym, ◌∙◌, ap, subst, arith, append-nil, append_assoc, inl, inr}
 use Rattle.std.specs.Io.KnownBytes.{IsAtEnd}
 use Rattle.std.proofs.lemmas.List.{length_push, map-append, map_push}
-use Rattle.hv_bytes.specs.Files.{Names, Opens, file_of}
-use Rattle.hv_bytes.specs.FirstLine.{BeginsLong, FitsLimits, Passes as PassesBytes, TakesLine}
+use Rattle.hv_bytes.specs.Files.{Names, Opens}
+use Rattle.hv_bytes.specs.Working.Files.{file_of}
+use Rattle.hv_bytes.specs.FirstLine.{BeginsLong, FitsLimits, MovesBytes as PassesBytes, TakesLine}
 use Rattle.hv_bytes.specs.LineCuts.{lines_of}
-use Rattle.hv_bytes.specs.Pieces.{ComesNext, GaveLines, Piece, as_pieces, pieces_after, pieces_of}
+use Rattle.hv_bytes.specs.Pieces.{ComesNext, Piece, as_pieces, pieces_after, pieces_of}
+use Rattle.hv_bytes.specs.Working.Pieces.{GaveLines}
 use Rattle.hv_bytes.specs.States.{LinesState, coming_of, no_lines as no_input}
 use Rattle.hv_bytes.specs.declared.cutting.Limits.{Limits}
 use Rattle.hv_bytes.specs.declared.cutting.LineFault.{LineFault}
@@ -19,8 +21,8 @@ use Rattle.hv_bdd.specs.declared.reader.Reader.{Reader}
 use Rattle.hv_bdd.specs.Building.{fault_of}
 use Rattle.hv_bdd.specs.Nodes.{NodeList}
 use Rattle.hv_bdd.specs.NodeText.{AreLegal, Beginning, EndsEarly, IsLegal, IsReadFrom, IsTextOf, IsTriple, at_node, header_line, lines_before, list_over, node_line}
-use Rattle.hv_bdd.specs.Reading.{AreBegun, Ends, Feeds, IsReady, Stops, StopsAt, begun, line_fault_at, read_by}
-use Rattle.hv_bdd.specs.Reading.{lines_of as nodes_of}
+use Rattle.hv_bdd.specs.Working.Reading.{AreBegun, Ends, Feeds, IsReading, Stops, StopsAt, begun, line_fault_at, read_by}
+use Rattle.hv_bdd.specs.Working.Reading.{node_lines_of as nodes_of}
 use Rattle.hv_bdd.proofs.Built.{passes_from, reduced_more}
 
 -- one node more
@@ -55,13 +57,13 @@ weaker (Some bytes) P Q f h = f bytes h
 -- the reader has read the lines that were given
 pub record Follows (limits : Limits) (file : Option (List ℕ)) (reader : Reader) (number earlier : ℕ)
     (coming : Option (List ℕ)) : Type 0 where
-  pub ready : IsReady reader
+  pub ready : IsReading reader
   pub counted : number ≡ length (read_by reader)
   pub gave : GaveLines limits file (read_by reader) coming earlier
 
 pub follows_first : (files : Option Names) (name : List ℕ) (limits : Limits)
     (left : Option (List ℕ)) (reader : Reader) (lines : LinesState) → Opens files name left
-    → IsReady reader → reader.count ≡ None → lines ≡ no_input limits
+    → IsReading reader → reader.count ≡ None → lines ≡ no_input limits
     → Follows limits (file_of files name) reader lines.number lines.earlier (coming_of lines left)
 follows_first files name limits left reader lines o ready none e =
     let nothing : read_by reader ≡ [] =

@@ -13,11 +13,12 @@ use Rattle.hv_bdd.specs.declared.fault.NodesFault.TheVariants as F
 use Rattle.hv_bdd.specs.declared.node.Node.{Node}
 use Rattle.hv_bdd.specs.declared.numbers.Triple.{Triple}
 use Rattle.hv_bdd.specs.declared.reader.Reader.{Reader}
-use Rattle.hv_bdd.specs.Building.{as_node, fault_of}
+use Rattle.hv_bdd.specs.Building.{fault_of}
+use Rattle.hv_bdd.specs.Working.Building.{as_node}
 use Rattle.hv_bdd.specs.Chains.{IsChained}
 use Rattle.hv_bdd.specs.Nodes.{NodeList}
 use Rattle.hv_bdd.specs.NodeText.{AreLegal, FailsLine, IsHeader, IsLegal, IsTriple, at_header, at_node, header_line, lines_before, list_over, node_line}
-use Rattle.hv_bdd.specs.Reading.{Adds, AddsAll, AreBegun, Ends, Feeds, IsReady, IsShort, Settles, Stops, StopsAt, begun, begun_by, line_fault_at, lines_of, read_by}
+use Rattle.hv_bdd.specs.Working.Reading.{AddsNodes, AddsAll, AreBegun, Ends, Feeds, IsReading, IsShortTriple, Settles, Stops, StopsAt, begun, begun_by, line_fault_at, node_lines_of, read_by}
 use Rattle.hv_bdd.specs.Reduced.{IsReduced}
 use Rattle.hv_bdd.proofs.Turned.{more_legal, more_lines}
 
@@ -51,29 +52,29 @@ pub size_before : (count : ℕ) (nodes : List Node)
 size_before count nodes = let size = length-map nodes node_line in omega arith
 
 module _ (atoms count : ℕ) (nodes : List Node) (triple : Triple) (rest : List Triple)
-    (legal : AreLegal atoms count nodes) (less : length nodes < count) (short : IsShort triple) where
+    (legal : AreLegal atoms count nodes) (less : length nodes < count) (short : IsShortTriple triple) where
   -- a node that waits and has no fault is listed
   pub listed_legal : fault_of (list_over atoms nodes) (as_node triple) ≡ None
       → AreLegal atoms count (nodes ++ as_node triple ∷ [])
   listed_legal good = more_legal atoms count nodes (as_node triple) legal (λ e. omega arith) good
 
-  pub listed_lines : lines_before (at_node count (nodes ++ as_node triple ∷ [])) ++ lines_of rest
-      ≡ lines_before (at_node count nodes) ++ lines_of (triple ∷ rest)
+  pub listed_lines : lines_before (at_node count (nodes ++ as_node triple ∷ [])) ++ node_lines_of rest
+      ≡ lines_before (at_node count nodes) ++ node_lines_of (triple ∷ rest)
   listed_lines =
-      ap (λ ls. ls ++ lines_of rest)
+      ap (λ ls. ls ++ node_lines_of rest)
       (more_lines atoms count nodes (as_node triple) (node_line (as_node triple)) short)
       ∙ append_assoc (lines_before (at_node count nodes)) (node_line (as_node triple) ∷ [])
-      (lines_of rest)
+      (node_lines_of rest)
 
   -- and otherwise its line has the fault
   pub stops_here : (lines : List (List ℕ)) (kind : NodeKind) (number : ℕ)
-      → lines_before (at_node count nodes) ++ lines_of (triple ∷ rest) ≡ lines
+      → lines_before (at_node count nodes) ++ node_lines_of (triple ∷ rest) ≡ lines
       → fault_of (list_over atoms nodes) (as_node triple) ≡ Some kind → number ≡ length nodes + 2
       → StopsAt atoms lines (F.Place number kind)
   stops_here lines kind number same bad at = (
     at_node count nodes,
     node_line (as_node triple),
-    lines_of rest,
+    node_lines_of rest,
     legal,
     sym same,
     (let size = size_before count nodes in omega arith),
@@ -81,14 +82,14 @@ module _ (atoms count : ℕ) (nodes : List Node) (triple : Triple) (rest : List 
   )
 
 -- The reader of so many nodes.
-module _ (count : ℕ) (r : Reader) (is : r.count ≡ Some count) (ready : IsReady r) where
+module _ (count : ℕ) (r : Reader) (is : r.count ≡ Some count) (ready : IsReading r) where
   -- what it has tested
   pub legal_by : AreLegal r.list.atoms count r.list.nodes
   legal_by = subst (λ o. IsLegal r.list.atoms (begun o r.list.nodes)) is ready.legal
 
   pub read_is : read_by r
-      ≡ lines_before (at_node count r.list.nodes) ++ lines_of r.waiting.items
-  read_is = ap (λ o. lines_before (begun o r.list.nodes) ++ lines_of r.waiting.items) is
+      ≡ lines_before (at_node count r.list.nodes) ++ node_lines_of r.waiting.items
+  read_is = ap (λ o. lines_before (begun o r.list.nodes) ++ node_lines_of r.waiting.items) is
 
   -- where all that wait are listed
   module _ (new : Reader) (all : AddsAll count r.list r.waiting.items new.list)
@@ -98,8 +99,8 @@ module _ (count : ℕ) (r : Reader) (is : r.count ≡ Some count) (ready : IsRea
 
     pub read_still : read_by new ≡ read_by r
     read_still =
-        ap (λ o. lines_before (begun o new.list.nodes) ++ lines_of new.waiting.items) same
-        ∙ (ap (λ w. lines_before (at_node count new.list.nodes) ++ lines_of w) none
+        ap (λ o. lines_before (begun o new.list.nodes) ++ node_lines_of new.waiting.items) same
+        ∙ (ap (λ w. lines_before (at_node count new.list.nodes) ++ node_lines_of w) none
         ∙ (append-nil (lines_before (at_node count new.list.nodes)) ∙ read_all))
 
     some_none : ◌≡◌ {A = Option ℕ} (Some count) None → ⊥
@@ -108,7 +109,7 @@ module _ (count : ℕ) (r : Reader) (is : r.count ≡ Some count) (ready : IsRea
     one_count : (other : ℕ) → ◌≡◌ {A = Option ℕ} (Some count) (Some other) → count ≡ other
     one_count other e = cc
 
-    pub settled : IsChained new.list.nodes new.seen → IsReady new
+    pub settled : IsChained new.list.nodes new.seen → IsReading new
     settled seen = record {
       legal = subst (λ o. IsLegal new.list.atoms (begun o new.list.nodes)) (sym same) all.legal;
       none = λ e. absurd (some_none (sym same ∙ e));
@@ -117,7 +118,7 @@ module _ (count : ℕ) (r : Reader) (is : r.count ≡ Some count) (ready : IsRea
           let size = all.size in
           let nothing = ap length none in
           let one = one_count other (sym same ∙ e) in omega arith;
-      short = subst (All IsShort) (sym none) (All-nil IsShort);
+      short = subst (All IsShortTriple) (sym none) (All-nil IsShortTriple);
       seen = seen;
     }
 
@@ -138,7 +139,7 @@ module _ (count : ℕ) (r : Reader) (is : r.count ≡ Some count) (ready : IsRea
 
   -- a fault among them is one of the lines that were read
   pub unsettled : (new : NodeList) (fault : NodesFault)
-      → Adds (Err fault) count r.list r.waiting.items new → StopsAt r.list.atoms (read_by r) fault
+      → AddsNodes (Err fault) count r.list r.waiting.items new → StopsAt r.list.atoms (read_by r) fault
   unsettled new fault adds =
       subst (λ ls. StopsAt r.list.atoms ls fault) (sym read_is) adds
 
@@ -150,7 +151,7 @@ module _ (count : ℕ) (r : Reader) (is : r.count ≡ Some count) (ready : IsRea
       → IsTriple line (as_node triple) → Feeds (Ok tt) r line new
   waits new triple line same list seen more open_one spelled =
       let upto = ready.upto count is in
-      let short : IsShort triple = record {
+      let short : IsShortTriple triple = record {
         spelled = refl;
         atom = spelled.atom;
         low = spelled.low;
@@ -165,15 +166,15 @@ module _ (count : ℕ) (r : Reader) (is : r.count ≡ Some count) (ready : IsRea
               let one = one_of other (sym is ∙ (sym same ∙ e)) in
               let longer = ap length more in
               let nodes = ap (λ (l : NodeList). length l.nodes) list in omega (arith, open_one);
-          short = subst (All IsShort) (sym more) (All-push IsShort r.waiting.items triple ready.short short);
+          short = subst (All IsShortTriple) (sym more) (All-push IsShortTriple r.waiting.items triple ready.short short);
           seen = subst (λ (l : NodeList). IsChained l.nodes new.seen) (sym list)
               (subst (IsChained r.list.nodes) (sym seen) ready.seen);
         },
         ap (λ (l : NodeList). l.atoms) list,
-        ap (λ o. lines_before (begun o new.list.nodes) ++ lines_of new.waiting.items) same
-            ∙ (ap (λ (l : NodeList). lines_before (begun r.count l.nodes) ++ lines_of new.waiting.items) list
+        ap (λ o. lines_before (begun o new.list.nodes) ++ node_lines_of new.waiting.items) same
+            ∙ (ap (λ (l : NodeList). lines_before (begun r.count l.nodes) ++ node_lines_of new.waiting.items) list
             ∙ (ap (λ w. lines_before (begun_by r) ++ w) (lines_more more)
-            ∙ sym (append_assoc (lines_before (begun_by r)) (lines_of r.waiting.items) (line ∷ [])))),
+            ∙ sym (append_assoc (lines_before (begun_by r)) (node_lines_of r.waiting.items) (line ∷ [])))),
       )
     where
       no_count : ◌≡◌ {A = Option ℕ} (Some count) None → ⊥
@@ -183,15 +184,15 @@ module _ (count : ℕ) (r : Reader) (is : r.count ≡ Some count) (ready : IsRea
       one_of other e = cc
 
       lines_more : new.waiting.items ≡ r.waiting.items ++ triple ∷ []
-          → lines_of new.waiting.items ≡ lines_of r.waiting.items ++ line ∷ []
+          → node_lines_of new.waiting.items ≡ node_lines_of r.waiting.items ++ line ∷ []
       lines_more e =
-          ap lines_of e
+          ap node_lines_of e
           ∙ (map_push (λ (t : Triple). node_line (as_node t)) r.waiting.items triple
-          ∙ ap (λ l. lines_of r.waiting.items ++ l ∷ []) (sym spelled.spelled))
+          ∙ ap (λ l. node_lines_of r.waiting.items ++ l ∷ []) (sym spelled.spelled))
 
 -- what is said of a reader that tested what waited is said of the one before
 pub feed_through : (count : ℕ) (r mid new : Reader) (line : List ℕ)
-    (result : Result (Unit {0}) NodesFault) → r.count ≡ Some count → IsReady r
+    (result : Result (Unit {0}) NodesFault) → r.count ≡ Some count → IsReading r
     → Settles (Ok tt) count r mid → Feeds result mid line new → Feeds result r line new
 feed_through count r mid new line (Ok unit) is ready s feeds = (
   feeds.0,
@@ -204,11 +205,11 @@ feed_through count r mid new line (Err fault) is ready s feeds =
     (read_still count r is ready mid s.1 s.2 s.3) feeds)
 
 -- The reader of the first line.
-module _ (r : Reader) (none : r.count ≡ None) (ready : IsReady r) where
+module _ (r : Reader) (none : r.count ≡ None) (ready : IsReading r) where
   pub read_none : read_by r ≡ []
   read_none =
-      ap (λ o. lines_before (begun o r.list.nodes) ++ lines_of r.waiting.items) none
-      ∙ ap lines_of (ready.none none).1
+      ap (λ o. lines_before (begun o r.list.nodes) ++ node_lines_of r.waiting.items) none
+      ∙ ap node_lines_of (ready.none none).1
 
   pub header_fault : (line : List ℕ) → ((count : ℕ) → IsHeader line count → ⊥)
       → StopsAt r.list.atoms (read_by r ++ line ∷ []) (F.Place 1 K.Header)
@@ -236,13 +237,13 @@ module _ (r : Reader) (none : r.count ≡ None) (ready : IsReady r) where
               let size = ap length nodes in
               let same = ap (λ (l : NodeList). length l.nodes) list in
               let nothing = ap length (waiting ∙ empty) in omega arith;
-          short = subst (All IsShort) (sym (waiting ∙ empty)) (All-nil IsShort);
+          short = subst (All IsShortTriple) (sym (waiting ∙ empty)) (All-nil IsShortTriple);
           seen = subst (λ (l : NodeList). IsChained l.nodes new.seen) (sym list)
               (subst (IsChained r.list.nodes) (sym seen) ready.seen);
         },
         ap (λ (l : NodeList). l.atoms) list,
-        ap (λ o. lines_before (begun o new.list.nodes) ++ lines_of new.waiting.items) some
-            ∙ (ap₂ (λ (l : NodeList) w. lines_before (at_node count l.nodes) ++ lines_of w) list (waiting ∙ empty)
+        ap (λ o. lines_before (begun o new.list.nodes) ++ node_lines_of new.waiting.items) some
+            ∙ (ap₂ (λ (l : NodeList) w. lines_before (at_node count l.nodes) ++ node_lines_of w) list (waiting ∙ empty)
             ∙ (ap (λ ns. (header_line count ∷ map node_line ns) ++ []) nodes
             ∙ (ap (λ l. l ∷ []) (sym is.spelled) ∙ ap (λ ls. ls ++ line ∷ []) (sym read_none)))),
       )
@@ -260,7 +261,7 @@ module _ (r : Reader) (none : r.count ≡ None) (ready : IsReady r) where
       inr (at_header, (tt, read_none), is ∙ ap (λ (ls : List (List ℕ)). line_fault_at (length ls + 1) fault) (sym read_none))
 
 -- The end behind the nodes.
-module _ (count : ℕ) (r : Reader) (is : r.count ≡ Some count) (ready : IsReady r) (new : Reader)
+module _ (count : ℕ) (r : Reader) (is : r.count ≡ Some count) (ready : IsReading r) (new : Reader)
     (s : Settles (Ok tt) count r new) where
   begun_all : AreBegun r.list.atoms (read_by r) (at_node count new.list.nodes)
   begun_all = (

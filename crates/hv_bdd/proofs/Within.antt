@@ -19,17 +19,18 @@ use Rattle.hv_sets.specs.declared.literal.Literal.{Literal}
 use Rattle.hv_sets.specs.declared.operand.Which.TheVariants as W
 use Rattle.hv_bdd.specs.declared.asked.Asked.{Asked}
 use Rattle.hv_bdd.specs.declared.search.Search.{Search}
-use Rattle.hv_bdd.specs.Graphs.{IsLiveAnswer, Suits, limit}
-use Rattle.hv_bdd.specs.Live.{is_marked, mark_of, moves, no_marks, roots}
+use Rattle.hv_bdd.specs.Working.Graphs.{IsLiveAnswer, Suits, limit}
+use Rattle.hv_bdd.specs.Live.{is_marked, bit_mark_of, moves, no_marks, roots}
 use Rattle.hv_bdd.specs.Nodes.{in_node, node_count}
 use Rattle.hv_bdd.specs.Order.{atom_at, place}
 use Rattle.hv_bdd.specs.Reduced.{IsReduced}
-use Rattle.hv_bdd.specs.Search.{IsAskable, IsSearch, IsWithin, setting}
-use Rattle.hv_bdd.specs.Sets.{Finds, mark_literals}
+use Rattle.hv_bdd.specs.Working.Search.{IsAskable, IsTupleSearch, SearchesCube, setting}
+use Rattle.hv_bdd.specs.Sets.{mark_literals}
+use Rattle.hv_bdd.specs.Working.Sets.{Finds}
 use Rattle.hv_bdd.specs.Tuples.{IsReached, TuplesPass}
 use Rattle.hv_bdd.proofs.Listed.{length-literals}
 use Rattle.hv_bdd.proofs.Marked.{length-no_marks, mark_of-no_marks}
-use Rattle.hv_bdd.specs.Ordered.{order_of}
+use Rattle.hv_bdd.specs.Working.Ordered.{order_of}
 use Rattle.hv_bdd.proofs.Tupled.{reached_tuple}
 
 -- a state of the cube has the marked bits
@@ -42,8 +43,8 @@ bit_literal true h e = sym ((booleans_Decides true h).0 e)
 bit_literal false h e = ap not (sym ((booleans_Decides false h).0 e))
 
 cube_marks : (ls : List Literal) (marks : List (Option Bool)) (s : List Bool) → in_cube ls s ≡ true
-    → ((a : ℕ) → a < length marks → is_marked (mark_of marks a) (has_atom s a) ≡ true)
-    → (a : ℕ) → a < length marks → is_marked (mark_of (mark_literals ls marks) a) (has_atom s a) ≡ true
+    → ((a : ℕ) → a < length marks → is_marked (bit_mark_of marks a) (has_atom s a) ≡ true)
+    → (a : ℕ) → a < length marks → is_marked (bit_mark_of (mark_literals ls marks) a) (has_atom s a) ≡ true
 cube_marks [] marks s all old a less = old a less
 cube_marks (l ∷ ls) marks s all old a less =
     let parts = and_parts (in_literal l s) (in_cube ls s) all in
@@ -52,7 +53,7 @@ cube_marks (l ∷ ls) marks s all old a less =
     (λ b within.
     elim (cases_eq b l.atom) [
       | inl e ↦
-          ap (λ m. is_marked m (has_atom s b)) (ap (mark_of (set marks l.atom (Some l.positive))) e ∙ get_or-set_same marks l.atom (Some l.positive) None (omega arith))
+          ap (λ m. is_marked m (has_atom s b)) (ap (bit_mark_of (set marks l.atom (Some l.positive))) e ∙ get_or-set_same marks l.atom (Some l.positive) None (omega arith))
           ∙ (ap (λ x. is_marked (Some l.positive) (has_atom s x)) e ∙ literal_bit l.positive (has_atom s l.atom) parts.0)
       | inr e ↦
           ap (λ m. is_marked m (has_atom s b)) (get_or-set_other marks l.atom b (Some l.positive) None e) ∙ old b (omega arith)
@@ -61,7 +62,7 @@ cube_marks (l ∷ ls) marks s all old a less =
 
 -- and the other way round
 mark_kept : (ls : List Literal) (marks : List (Option Bool)) (a : ℕ) → All (λ (l : Literal). a < l.atom) ls
-    → mark_of (mark_literals ls marks) a ≡ mark_of marks a
+    → bit_mark_of (mark_literals ls marks) a ≡ bit_mark_of marks a
 mark_kept [] marks a later = refl
 mark_kept (l ∷ ls) marks a later =
     let less = All-head (λ (l : Literal). a < l.atom) l ls later in
@@ -70,7 +71,7 @@ mark_kept (l ∷ ls) marks a later =
 
 marks_cube : (ls : List Literal) (marks : List (Option Bool)) (s : List Bool)
     → ((i j : ℕ) → i < j → j < length (atoms_of ls) → get_or (atoms_of ls) i 0 < get_or (atoms_of ls) j 0) → SpeakBelow (length marks) ls
-    → ((a : ℕ) → a < length marks → is_marked (mark_of (mark_literals ls marks) a) (has_atom s a) ≡ true) → in_cube ls s ≡ true
+    → ((a : ℕ) → a < length marks → is_marked (bit_mark_of (mark_literals ls marks) a) (has_atom s a) ≡ true) → in_cube ls s ≡ true
 marks_cube [] marks s rises below all = refl
 marks_cube (l ∷ ls) marks s rises below all =
     let within = All-head (λ (l : Literal). l.atom < length marks) l ls below in
@@ -89,8 +90,8 @@ marks_cube (l ∷ ls) marks s rises below all =
 
 -- the search for a state of a cube can be made
 pub can_look : (s : Search) (node : ℕ) (inside : Bool) (cube : List Literal)
-    → IsWithin node inside cube s → IsReduced s.nodes.now → node < node_count s.nodes.now
-    → length s.changed ≡ s.nodes.now.atoms → IsSearch s
+    → SearchesCube node inside cube s → IsReduced s.nodes.now → node < node_count s.nodes.now
+    → length s.changed ≡ s.nodes.now.atoms → IsTupleSearch s
 can_look s node inside cube for reduced within changed = record {
   reduced = reduced;
   needed = ap length for.needed
@@ -102,7 +103,7 @@ can_look s node inside cube for reduced within changed = record {
       (All-nil (λ (o : Asked). IsAskable s o.which)));
 }
 
-module _ (s : Search) (search : IsSearch s) (node : ℕ) (inside : Bool) (cube : List Literal) (for : IsWithin node inside cube s)
+module _ (s : Search) (search : IsTupleSearch s) (node : ℕ) (inside : Bool) (cube : List Literal) (for : SearchesCube node inside cube s)
     (rises : IsStrictlyIncreasing (atoms_of cube)) (below : SpeakBelow s.nodes.now.atoms cube) where
   abbrev pub one : List Asked
   one = record { which = W.Set node; after = false; positive = inside } ∷ []
@@ -119,7 +120,7 @@ module _ (s : Search) (search : IsSearch s) (node : ℕ) (inside : Bool) (cube :
       λ v less.
           let at = (order_of s.nodes.now).atom_in v less in
           let len = marks_size in
-          ap (λ m. is_marked (mark_of m (atom_at s.nodes.now v)) (has_atom state (atom_at s.nodes.now v))) for.needed
+          ap (λ m. is_marked (bit_mark_of m (atom_at s.nodes.now v)) (has_atom state (atom_at s.nodes.now v))) for.needed
           ∙ cube_marks cube (no_marks s.nodes.now.atoms) state in_c
           (λ a within. ap (λ m. is_marked m (has_atom state a)) (mark_of-no_marks s.nodes.now.atoms a (omega arith)))
           (atom_at s.nodes.now v) (omega arith),
@@ -134,9 +135,9 @@ module _ (s : Search) (search : IsSearch s) (node : ℕ) (inside : Bool) (cube :
       (λ a less.
       let within : a < s.nodes.now.atoms = omega arith in
       let in_order = (order_of s.nodes.now).place_in a within in
-      subst (λ x. is_marked (mark_of (mark_literals cube (no_marks s.nodes.now.atoms)) x) (has_atom state x) ≡ true)
+      subst (λ x. is_marked (bit_mark_of (mark_literals cube (no_marks s.nodes.now.atoms)) x) (has_atom state x) ≡ true)
       ((order_of s.nodes.now).there a within)
-      (ap (λ m. is_marked (mark_of m (atom_at s.nodes.now (place s.nodes.now a))) (has_atom state (atom_at s.nodes.now (place s.nodes.now a)))) (sym for.needed)
+      (ap (λ m. is_marked (bit_mark_of m (atom_at s.nodes.now (place s.nodes.now a))) (has_atom state (atom_at s.nodes.now (place s.nodes.now a)))) (sym for.needed)
       ∙ suits.0.1 (place s.nodes.now a) in_order))
 
   -- there are no more tuples than nodes

@@ -1,8 +1,7 @@
 -- Node lists that grow by one node after the other.
-use Rattle.std.specs.Prelude.{◌++◌, ◌&&◌, ℕ, Bool, [], ◌∷◌, Option, None, Some, cond, nat_eq, nat_lt}
+use Rattle.std.specs.Prelude.{◌&&◌, ℕ, Bool, Option, None, Some, cond, nat_eq, nat_lt}
 use Rattle.std.specs.List.{list_any}
 use Rattle.hv_bdd.specs.declared.node.Node.{Node}
-use Rattle.hv_bdd.specs.declared.numbers.Triple.{Triple}
 use Rattle.hv_bdd.specs.declared.fault.NodeKind.{NodeKind}
 use Rattle.hv_bdd.specs.declared.fault.NodeKind.TheVariants as N
 use Rattle.hv_bdd.specs.Nodes.{NodeList, node_count}
@@ -36,11 +35,3 @@ or_twin list node (Some fault) = Some fault
 -- the first of the faults that a further node has, if it has one
 abbrev pub fault_of : NodeList → Node → Option NodeKind
 fault_of list node = or_twin list node (plain_fault list node)
-
--- the node of these numbers
-abbrev pub as_node : Triple → Node
-as_node triple = record { atom = triple.atom; low = triple.low; high = triple.high }
-
--- the list with one node more
-abbrev pub with_node : NodeList → Node → NodeList
-with_node list node = record { atoms = list.atoms; nodes = list.nodes ++ node ∷ [] }

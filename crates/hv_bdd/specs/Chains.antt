@@ -7,14 +7,6 @@ use Rattle.hv_bdd.specs.declared.node.Node.{Node}
 abbrev pub listed_at : List Node → ℕ → Node
 listed_at nodes k = slice_index_or nodes k record { atom = 0; low = 0; high = 0 }
 
--- the node is listed
-abbrev pub IsListed : List Node → Node → Type 0
-IsListed nodes node = (k : ℕ) × (k < length nodes) × (listed_at nodes k ≡ node)
-
--- the node is listed at places below this one alone
-abbrev pub AreAllBelow : List Node → Node → ℕ → Type 0
-AreAllBelow nodes node bound = (k : ℕ) → k < length nodes → listed_at nodes k ≡ node → k < bound
-
 -- into which of so many slots a node falls, by this factor
 unfoldable pub slot_of : ℕ → ℕ → Node → ℕ
 slot_of factor slots node =

@@ -23,8 +23,8 @@ abbrev pub no_marks : ℕ → List (Option Bool)
 no_marks atoms = replicate atoms None
 
 -- the mark of an atom
-abbrev pub mark_of : List (Option Bool) → ℕ → Option Bool
-mark_of marks atom = slice_index_or marks atom None
+abbrev pub bit_mark_of : List (Option Bool) → ℕ → Option Bool
+bit_mark_of marks atom = slice_index_or marks atom None
 
 -- the marked bit, or else this one
 abbrev pub or_else : Option Bool → Bool → Bool
@@ -75,7 +75,7 @@ chain_child atoms asks bits node bit =
 
 -- what tuples move through: the nodes, the initial state and the goal as flags by atom, what the
 -- state before the action needs, and what the action changes
-pub record Setting : Type 0 where
+pub record TupleSetting : Type 0 where
   pub list : NodeList
   pub start : List Bool
   pub goal : List Bool
@@ -83,43 +83,43 @@ pub record Setting : Type 0 where
   pub changed : List (Option Bool)
 
 -- the chain of the initial state asks for every place, and wants the bits of that state
-abbrev pub start_bit : Setting → ℕ → Bool
+abbrev pub start_bit : TupleSetting → ℕ → Bool
 start_bit s v = has_atom s.start (atom_at s.list v)
 
 -- the chain of the goal asks for the places of its atoms, and wants the bit 1 at each
-abbrev pub asks_goal : Setting → ℕ → Bool
+abbrev pub asks_goal : TupleSetting → ℕ → Bool
 asks_goal s v = has_atom s.goal (atom_at s.list v)
 
-abbrev pub root : Setting → Which → ℕ
+abbrev pub root : TupleSetting → Which → ℕ
 root s W.Empty = 0
 root s W.Start = first_asked (λ v. true) s.list.atoms 0
 root s W.Goal = first_asked (asks_goal s) s.list.atoms 0
 root s (W.Set number) = number
 
-abbrev pub top : Setting → Which → ℕ → ℕ
+abbrev pub top : TupleSetting → Which → ℕ → ℕ
 top s (W.Set number) node = diagram.top s.list node
 top s which node = chain_top s.list.atoms node
 
-abbrev pub child : Setting → Which → ℕ → Bool → ℕ
+abbrev pub child : TupleSetting → Which → ℕ → Bool → ℕ
 child s W.Empty node bit = 0
 child s W.Start node bit = chain_child s.list.atoms (λ v. true) (start_bit s) node bit
 child s W.Goal node bit = chain_child s.list.atoms (asks_goal s) (λ v. true) node bit
 child s (W.Set number) node bit = diagram.child s.list node bit
 
 -- the moves: an operand that is asked after the action sees the changed bit
-abbrev pub moves : Setting → Moves Asked
+abbrev pub moves : TupleSetting → Moves Asked
 moves s = record {
   atoms = s.list.atoms;
   atom_at = atom_at s.list;
   top = λ o node. top s o.which node;
   child = λ o node bit. child s o.which node bit;
   wants = λ o. o.positive;
-  seen = λ o v bit. cond o.after (or_else (mark_of s.changed (atom_at s.list v)) bit) bit;
-  allows = λ v bit. is_marked (mark_of s.needed (atom_at s.list v)) bit;
+  seen = λ o v bit. cond o.after (or_else (bit_mark_of s.changed (atom_at s.list v)) bit) bit;
+  allows = λ v bit. is_marked (bit_mark_of s.needed (atom_at s.list v)) bit;
 }
 
 -- the tuple of the roots
-abbrev pub roots : Setting → List Asked → List ℕ
+abbrev pub roots : TupleSetting → List Asked → List ℕ
 roots s os = map (λ o. root s o.which) os
 
 -- an operand of a query in a tuple
@@ -131,8 +131,8 @@ abbrev pub operands_of : Query → List Asked
 operands_of query = map (asked_of true) query.positive ++ map (asked_of false) query.negative
 
 -- what the tuples of a query move through
-abbrev pub setting_of : NodeList → Strips → Query → Setting
-setting_of list task query = record {
+abbrev pub tuple_setting_of : NodeList → Strips → Query → TupleSetting
+tuple_setting_of list task query = record {
   list = list;
   start = start_state task;
   goal = state_of (atoms task) task.goal;
@@ -143,5 +143,5 @@ setting_of list task query = record {
 -- the cost of a query is the number of live tuples: more than the budget are reached
 abbrev pub LivePass : NodeList → Strips → Query → ℕ → Type 0
 LivePass list task query budget =
-    TuplesPass (moves (setting_of list task query)) (operands_of query)
-    (roots (setting_of list task query) (operands_of query)) budget
+    TuplesPass (moves (tuple_setting_of list task query)) (operands_of query)
+    (roots (tuple_setting_of list task query) (operands_of query)) budget

@@ -1,5 +1,5 @@
 -- Paths: the walks from a node to an end, by the bits that they take.
-use Rattle.std.specs.Prelude.{◌≡◌, ◌<◌, ◌≤◌, ◌+◌, ◌-◌, ◌≢◌, ℕ, zero, suc, Bool, true, false, List, [], ◌∷◌, ◌++◌, cond, length, map, min, nat_eq, nat_lt, slice_index_or}
+use Rattle.std.specs.Prelude.{◌≡◌, ◌<◌, ◌≤◌, ◌+◌, ◌-◌, ◌≢◌, ℕ, zero, suc, Bool, true, false, List, [], ◌∷◌, ◌++◌, cond, length, map, nat_eq, nat_lt, slice_index_or}
 use Rattle.hv_sets.specs.Cubes.{cube_of}
 use Rattle.hv_sets.specs.declared.cursor.Cursor.{Cursor}
 use Rattle.hv_sets.specs.declared.literal.Literal.{Literal}
@@ -47,19 +47,6 @@ left_of list end (n ∷ m ∷ more) inner =
     ++ cond (is_high list n m) []
     (with_bit (node_at list n).atom true (paths list end (node_at list n).high))
 
--- the bits that lead from each node of the stack to the next
-unfoldable pub literals_of : NodeList → List ℕ → List Literal
-literals_of list [] = []
-literals_of list (n ∷ []) = []
-literals_of list (n ∷ m ∷ more) =
-    record { atom = (node_at list n).atom; positive = is_high list n m }
-    ∷ literals_of list (m ∷ more)
-
--- the counts are those of the first nodes, exact up to the cap, and one more beyond
-abbrev pub AreCounted : NodeList → ℕ → ℕ → List ℕ → Type 0
-AreCounted list end cap counts = (k : ℕ) → k < length counts
-    → slice_index_or counts k 0 ≡ min (length (paths list end k)) (cap + 1)
-
 -- the last node of a stack
 abbrev pub last_of : List ℕ → ℕ
 last_of stack = slice_index_or stack (length stack - 1) 0
@@ -72,7 +59,7 @@ pub record IsStack (list : NodeList) (stack : List ℕ) : Type 0 where
 
 -- the cursor stands for a walk over paths to this end: its path is empty, and so it is before the
 -- first step, or it leads there
-pub record Stands (list : NodeList) (end : ℕ) (cursor : Cursor) : Type 0 where
+pub record StandsForWalk (list : NodeList) (end : ℕ) (cursor : Cursor) : Type 0 where
   pub first : cursor.place ≡ 0 → cursor.path.items ≡ []
   pub stack : cursor.path.items ≢ [] → IsStack list cursor.path.items
   pub last : cursor.path.items ≢ [] → last_of cursor.path.items ≡ end

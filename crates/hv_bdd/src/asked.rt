@@ -1,3 +1,5 @@
+//! What a query of diagrams asks: the nodes of its operands, and what its action needs and changes.
+
 use hv_sets::Which;
 
 /// An operand of a query as a place of its tuples.

@@ -1,7 +1,8 @@
 //! Node lists that grow by one node after the other.
 
 ghost use Rattle.std.specs.Prelude.{◌≡◌, ◌<◌, None, IfOk, OnOk, IfSome, length};
-ghost use Rattle.hv_bdd.specs.Building.{as_node, fault_of, with_node};
+ghost use Rattle.hv_bdd.specs.Building.{fault_of};
+ghost use Rattle.hv_bdd.specs.Working.Building.{as_node, with_node};
 ghost use Rattle.hv_bdd.specs.Chains.{IsChained};
 
 use crate::chains::Chains;

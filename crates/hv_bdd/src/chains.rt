@@ -3,7 +3,8 @@
 ghost use Rattle.std.specs.Prelude.{◌≡◌, ◌<◌, ◌≤◌, ◌-◌, ◌+◌, ◌^◌, ◌++◌, ◌∷◌, ℕ, [], false, length, slice_index, IsTrue, OnOk};
 ghost use Rattle.std.specs.List.{list_any};
 ghost use Rattle.hv_bdd.specs.Building.{same_node};
-ghost use Rattle.hv_bdd.specs.Chains.{AreAllBelow, IsChain, IsChained, IsLinked, IsListed, listed_at, slot_at, slot_of};
+ghost use Rattle.hv_bdd.specs.Chains.{IsChain, IsChained, IsLinked, listed_at, slot_at, slot_of};
+ghost use Rattle.hv_bdd.specs.Working.Chains.{AreAllBelow, IsListedNode};
 
 use crate::node::Node;
 use std::alloc::{AllocError, Global};
@@ -144,7 +145,7 @@ fn seek_from(
     requires slot { 0 < start
         → slot_at nodes.now factor slots (start - 1) ≡ slot_of factor slots node.now }
     requires all { AreAllBelow nodes.now node.now start }
-    ensures listed { IsTrue result.listed → IsListed nodes.now node.now }
+    ensures listed { IsTrue result.listed → IsListedNode nodes.now node.now }
     ensures absent { result.listed ≡ false → AreAllBelow nodes.now node.now 0 }
 {
     let _ = factor;

@@ -2,7 +2,8 @@
 
 ghost use Rattle.std.specs.Prelude.{◌≡◌, ◌<◌, ◌≤◌, ◌+◌, IfOk, length, min};
 ghost use Rattle.hv_bdd.specs.Nodes.{IsNode};
-ghost use Rattle.hv_bdd.specs.Paths.{AreCounted, paths};
+ghost use Rattle.hv_bdd.specs.Paths.{paths};
+ghost use Rattle.hv_bdd.specs.Working.Paths.{AreCounted};
 
 use crate::diagrams::Diagrams;
 use std::alloc::{AllocError, Global};

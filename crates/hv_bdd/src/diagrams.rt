@@ -1,7 +1,10 @@
+//! Lists of nodes of decision diagrams, and which states a node holds.
+
 ghost use Rattle.std.specs.Prelude.{◌≡◌, ◌<◌, ◌≤◌, ◌↔◌, ◌&&◌, None, Some, IfSome, IsTrue, MatchResult, OnErr, OnOk, length, nat_lt};
 ghost use Rattle.hv_task.specs.Atoms.{IsNext};
 ghost use Rattle.hv_task.specs.State.{has_atom};
-ghost use Rattle.hv_bdd.specs.Building.{as_node, fault_of, is_later, plain_fault, with_node};
+ghost use Rattle.hv_bdd.specs.Building.{fault_of, is_later, plain_fault};
+ghost use Rattle.hv_bdd.specs.Working.Building.{as_node, with_node};
 ghost use Rattle.hv_bdd.specs.Nodes.{IsNode, in_node, no_nodes, node_count};
 ghost use Rattle.hv_bdd.specs.Order.{atom_at, place};
 ghost use Rattle.hv_bdd.specs.Reduced.{AreOneSet, IsReduced, child, node_at, top};

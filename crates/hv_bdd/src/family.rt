@@ -51,7 +51,7 @@ impl Family for Diagrams {
 }
 
 impl Search<'_> {
-    ghost use Rattle.hv_bdd.specs.Search.{IsFor, IsSearch};
+    ghost use Rattle.hv_bdd.specs.Working.Search.{IsSearchFor, IsTupleSearch};
 
     // The answer to the query that it is for.
     fn answer(
@@ -62,8 +62,8 @@ impl Search<'_> {
         budget: u64,
         state: &mut State,
     ) -> Result<Finding, AllocError>
-        requires search { IsSearch self.now }
-        requires query { IsFor self.now.nodes.now task.now query.now self.now }
+        requires search { IsTupleSearch self.now }
+        requires query { IsSearchFor self.now.nodes.now task.now query.now self.now }
         requires task { self.now.nodes.now.atoms ≡ atoms task.now }
         requires state { length state.old ≡ atoms task.now }
         ensures { IfOk result (λ found.

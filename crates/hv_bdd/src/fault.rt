@@ -1,3 +1,5 @@
+//! Kinds of places and limits of a node file, and why one isn't read.
+
 ghost use Rattle.std.specs.Prelude.{◌≡◌};
 ghost use Rattle.hv_bdd.specs.declared.fault.NodesFault.TheVariants as F;
 ghost use Rattle.hv_bdd.specs.Words.{kind_word, limit_word};

@@ -1,3 +1,5 @@
+//! That a file has one answer, as the contract of a function that does nothing.
+
 ghost use Rattle.std.specs.Prelude.{◌≡◌, ◌<◌, ◌^◌, ℕ, List};
 ghost use Rattle.hv_bytes.specs.Pieces.{Piece};
 ghost use Rattle.hv_bdd.specs.NodeText.{AreTextOf, IsFirstFault};

@@ -3,12 +3,13 @@
 ghost use Rattle.std.specs.Prelude.{◌≡◌, ◌<◌, ◌↔◌, IfSome, IsTrue, length};
 ghost use Rattle.std.specs.List.{Contains};
 ghost use Rattle.std.specs.List.Sorted.{IsStrictlyIncreasing};
-ghost use Rattle.hv_task.specs.AtomList.{IsPlaceOf};
+ghost use Rattle.hv_task.specs.Working.AtomList.{IsPlaceOf};
 ghost use Rattle.hv_task.specs.Atoms.{IsNext};
 ghost use Rattle.hv_task.specs.State.{AreBelow, has_atom, state_of};
-ghost use Rattle.hv_sets.specs.Cubes.{IsFirstUpto, atoms_of};
-ghost use Rattle.hv_bdd.specs.Live.{changed_by, mark_of, needed_by, no_marks};
-ghost use Rattle.hv_bdd.specs.Marked.{IsSignOf};
+ghost use Rattle.hv_sets.specs.Cubes.{atoms_of};
+ghost use Rattle.hv_sets.specs.Working.Cubes.{IsFirstUpto};
+ghost use Rattle.hv_bdd.specs.Live.{changed_by, bit_mark_of, needed_by, no_marks};
+ghost use Rattle.hv_bdd.specs.Working.Marked.{IsSignOf};
 ghost use Rattle.hv_bdd.specs.Sets.{mark_literals};
 
 use hv_sets::{Cube, Literal};
@@ -73,7 +74,7 @@ impl<'a> Model for Marks<'a> {
     ghost use Rattle.std.specs.Prelude.{Bool, List, Option};
     ghost use Rattle.std.specs.List.Sorted.{IsStrictlyIncreasing};
     ghost use Rattle.hv_sets.specs.Cubes.{atoms_of};
-    ghost use Rattle.hv_bdd.specs.Marked.{listed_marks};
+    ghost use Rattle.hv_bdd.specs.Working.Marked.{listed_marks};
     ghost use Rattle.hv_bdd.specs.Sets.{mark_literals};
 
     ghost Value = { List (Option Bool) };
@@ -140,7 +141,7 @@ impl<'a> Marks<'a> {
     /// The bit of an atom, if it has one.
     pub fn read(&self, atom: u32) -> Option<bool>
         requires { atom < length self.now }
-        ensures { result ≡ mark_of self.now atom }
+        ensures { result ≡ bit_mark_of self.now atom }
     {
         if let Some(sign) = sign_of(self.literals, atom) {
             return Some(sign);

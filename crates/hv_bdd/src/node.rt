@@ -1,3 +1,5 @@
+//! Nodes of decision diagrams.
+
 /// A node of a decision diagram: the walk goes to `high` where the state holds the atom, and to
 /// `low` otherwise.
 #[derive(Clone, Copy, Debug, PartialEq, Eq, Hash)]

@@ -2,7 +2,7 @@
 
 ghost use Rattle.std.specs.Prelude.{◌≡◌, ℕ, ◌∷◌, [], ◌++◌, List, MatchOption};
 ghost use Rattle.hv_bytes.specs.Fields.{cut_fields};
-ghost use Rattle.hv_bdd.specs.Building.{as_node};
+ghost use Rattle.hv_bdd.specs.Working.Building.{as_node};
 ghost use Rattle.hv_bdd.specs.NodeText.{IsHeader, IsTriple};
 ghost use Rattle.hv_bdd.specs.declared.node.Node.{Node};
 

@@ -3,7 +3,7 @@
 
 ghost use Rattle.std.specs.Prelude.{◌≡◌, ◌<◌, ◌+◌, ℕ, List, length, map, option_map, slice_index_or, [], IfOk, MatchOption, OnOk};
 ghost use Rattle.std.specs.List.{All};
-ghost use Rattle.hv_bdd.specs.Graphs.{Agrees, Fits, IsLiveAnswer, Suits, in_asked};
+ghost use Rattle.hv_bdd.specs.Working.Graphs.{AgreesWithNodes, FitsBits, IsLiveAnswer, Suits, in_asked};
 ghost use Rattle.hv_bdd.specs.Live.{moves, roots};
 ghost use Rattle.hv_bdd.specs.Tuples.{if_live};
 
@@ -21,7 +21,7 @@ pub(crate) struct Reached {
 }
 
 impl Reached {
-    ghost use Rattle.hv_bdd.specs.Search.{IsPutSome, tuples_of};
+    ghost use Rattle.hv_bdd.specs.Working.Search.{IsPutSome, tuples_of};
 
     // Puts the tuple last, if there is one and it isn't there.
     fn put(&mut self, tuple: Option<Tuple>, parent: usize, bit: bool) -> Result<(), AllocError>
@@ -40,7 +40,7 @@ impl Reached {
 }
 
 impl Search<'_> {
-    ghost use Rattle.hv_bdd.specs.Search.{Explored, IsDone, IsEnd, IsSearch, IsTuple, setting, tuple_at, tuples_of};
+    ghost use Rattle.hv_bdd.specs.Working.Search.{Explored, IsDone, IsEndTuple, IsTupleSearch, IsTuple, setting, tuple_at, tuples_of};
 
     /// Looks for a state that suits the operands.
     pub(crate) fn find(
@@ -49,7 +49,7 @@ impl Search<'_> {
         budget: u64,
         state: &mut State,
     ) -> Result<Finding, AllocError>
-        requires search { IsSearch self.now }
+        requires search { IsTupleSearch self.now }
         requires state { length state.old ≡ self.now.nodes.now.atoms }
         ensures { IfOk result (λ found.
             IsLiveAnswer found (setting self.now) self.now.asked.now budget state.new) }
@@ -70,7 +70,7 @@ impl Search<'_> {
 
     // All live tuples that are reached, or more of them than the budget.
     fn reach(&self, alloc: Global, budget: u64) -> Result<Reached, AllocError>
-        requires { IsSearch self.now }
+        requires { IsTupleSearch self.now }
         ensures { IfOk result (λ reached. IsDone self.now budget reached) }
     {
         let mut reached = Reached {
@@ -89,7 +89,7 @@ impl Search<'_> {
 
     // The tuple of the roots, if it is live.
     fn live_root(&self, alloc: Global) -> Result<Option<Tuple>, AllocError>
-        requires { IsSearch self.now }
+        requires { IsTupleSearch self.now }
         ensures { IfOk result (λ root.
             option_map (λ t. t.items) root
             ≡ if_live (moves (setting self.now)) self.now.asked.now
@@ -104,7 +104,7 @@ impl Search<'_> {
 
     // Puts in what the bits lead to from one more tuple.
     fn expand(&self, alloc: Global, done: usize, reached: &mut Reached) -> Result<(), AllocError>
-        requires search { IsSearch self.now }
+        requires search { IsTupleSearch self.now }
         requires explored { Explored self.now done reached.old }
         requires done { done < length reached.old.tuples.keys }
         ensures { OnOk result (Explored self.now (done + 1) reached.new) }
@@ -120,10 +120,10 @@ impl Search<'_> {
 
     // The first tuple of ends.
     fn first_end(&self, tuples: &[Tuple]) -> Option<usize>
-        requires search { IsSearch self.now }
+        requires search { IsTupleSearch self.now }
         requires tuples { All (λ t. IsTuple self.now t.items) tuples.now }
-        ensures { MatchOption result (All (λ t. IsEnd self.now t.items → ⊥) tuples.now) (λ k.
-            (k < length tuples.now) × IsEnd self.now (tuple_at (map (λ t. t.items) tuples.now) k)) }
+        ensures { MatchOption result (All (λ t. IsEndTuple self.now t.items → ⊥) tuples.now) (λ k.
+            (k < length tuples.now) × IsEndTuple self.now (tuple_at (map (λ t. t.items) tuples.now) k)) }
     {
         for (k, tuple) in tuples.iter().enumerate() {
             if self.least(tuple.as_slice()) == self.nodes.atoms() {
@@ -135,9 +135,9 @@ impl Search<'_> {
 
     // Makes the state the one that has the needed atoms and no other.
     fn fill(&self, state: &mut State)
-        requires search { IsSearch self.now }
+        requires search { IsTupleSearch self.now }
         requires state { length state.old ≡ self.now.nodes.now.atoms }
-        ensures { Fits (moves (setting self.now)) state.new }
+        ensures { FitsBits (moves (setting self.now)) state.new }
     {
         for atom in 0..self.nodes.atoms() {
             state.set(atom, self.needed.read(atom) == Some(true));
@@ -146,11 +146,11 @@ impl Search<'_> {
 
     // Writes the bits into the state that lead to a tuple.
     fn take_bits(&self, reached: &Reached, end: usize, state: &mut State)
-        requires search { IsSearch self.now }
+        requires search { IsTupleSearch self.now }
         requires explored { (done : ℕ) × Explored self.now done reached.now }
         requires end { end < length reached.now.tuples.keys }
-        requires fits { Fits (moves (setting self.now)) state.old }
-        requires agrees { Agrees (in_asked (setting self.now)) (λ o. o.positive) state.old
+        requires fits { FitsBits (moves (setting self.now)) state.old }
+        requires agrees { AgreesWithNodes (in_asked (setting self.now)) (λ o. o.positive) state.old
             self.now.asked.now (tuple_at (tuples_of reached.now.tuples) end) }
         ensures { Suits (setting self.now) self.now.asked.now state.new }
     {

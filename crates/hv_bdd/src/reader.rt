@@ -1,3 +1,5 @@
+//! What has been read of a node file so far, and what each further line adds.
+
 ghost use Rattle.std.specs.Prelude.{◌≡◌, ◌≤◌, ◌+◌, None, Some, [], IfOk, OnOk, length};
 ghost use Rattle.std.specs.List.{All};
 ghost use Rattle.hv_bytes.specs.declared.cutting.LineFault.TheVariants as L;
@@ -5,7 +7,7 @@ ghost use Rattle.hv_bdd.specs.declared.fault.NodesFault.TheVariants as F;
 ghost use Rattle.hv_bdd.specs.Chains.{IsChained};
 ghost use Rattle.hv_bdd.specs.NodeText.{AreLegal};
 ghost use Rattle.hv_bdd.specs.Nodes.{no_nodes};
-ghost use Rattle.hv_bdd.specs.Reading.{Adds, Ends, FaultBehind, Feeds, IsReady, IsShort, Settles, Stops, line_fault_at};
+ghost use Rattle.hv_bdd.specs.Working.Reading.{AddsNodes, Ends, FaultBehind, Feeds, IsReading, IsShortTriple, Settles, Stops, line_fault_at};
 
 use crate::building::add;
 use crate::chains::Chains;
@@ -37,7 +39,7 @@ pub struct Reader {
 impl Reader {
     /// A reader that has read nothing.
     pub fn new(alloc: Global, atoms: u32) -> Reader
-        ensures ready { IsReady result }
+        ensures ready { IsReading result }
         ensures count { result.count ≡ None }
         ensures list { result.list ≡ no_nodes atoms }
         ensures waiting { result.waiting.items ≡ [] }
@@ -52,7 +54,7 @@ impl Reader {
 
     /// Takes one more line.
     pub fn feed(&mut self, line: &[u8]) -> Result<(), NodesFault>
-        requires { IsReady self.old }
+        requires { IsReading self.old }
         ensures { Feeds result self.old line.now self.new }
     {
         match self.count {
@@ -63,7 +65,7 @@ impl Reader {
 
     // The line that says how many nodes follow.
     fn header(&mut self, line: &[u8]) -> Result<(), NodesFault>
-        requires ready { IsReady self.old }
+        requires ready { IsReading self.old }
         requires none { self.old.count ≡ None }
         ensures { Feeds result self.old line.now self.new }
     {
@@ -80,7 +82,7 @@ impl Reader {
 
     // The line of a node, of so many.
     fn node(&mut self, line: &[u8], count: u32) -> Result<(), NodesFault>
-        requires ready { IsReady self.old }
+        requires ready { IsReading self.old }
         requires count { self.old.count ≡ Some count }
         ensures { Feeds result self.old line.now self.new }
     {
@@ -95,7 +97,7 @@ impl Reader {
 
     // Takes the line of a node as one that waits.
     fn wait(&mut self, line: &[u8], count: u32) -> Result<(), NodesFault>
-        requires ready { IsReady self.old }
+        requires ready { IsReading self.old }
         requires count { self.old.count ≡ Some count }
         ensures { Feeds result self.old line.now self.new }
     {
@@ -113,7 +115,7 @@ impl Reader {
 
     // The fault where the next line has one of this kind: that, or one of a node that waits.
     fn fault_behind(&mut self, count: u32, kind: NodeKind) -> NodesFault
-        requires ready { IsReady self.old }
+        requires ready { IsReading self.old }
         requires count { self.old.count ≡ Some count }
         ensures { FaultBehind count self.old kind result }
     {
@@ -125,7 +127,7 @@ impl Reader {
 
     // Tests the nodes that wait, of so many, and lists them.
     fn settle(&mut self, count: u32) -> Result<(), NodesFault>
-        requires ready { IsReady self.old }
+        requires ready { IsReading self.old }
         requires count { self.old.count ≡ Some count }
         ensures { Settles result count self.old self.new }
     {
@@ -141,7 +143,7 @@ impl Reader {
 
     /// The list of the nodes, where the text ends here.
     pub fn end(mut self) -> Result<Diagrams, NodesFault>
-        requires { IsReady self }
+        requires { IsReading self }
         ensures { Ends result self }
     {
         let Some(count) = self.count else {
@@ -157,7 +159,7 @@ impl Reader {
     /// The fault of the text, where the next line can't be had: that of an earlier line, or this
     /// one.
     pub fn stop(&mut self, fault: LineFault) -> NodesFault
-        requires { IsReady self.old }
+        requires { IsReading self.old }
         ensures stops { Stops fault self.old result }
         ensures failed { result ≡ F.ReadFault → fault ≡ L.Failed }
     {
@@ -169,7 +171,7 @@ impl Reader {
 
     // The same, behind the first line.
     fn stop_behind(&mut self, count: u32, fault: LineFault) -> NodesFault
-        requires ready { IsReady self.old }
+        requires ready { IsReading self.old }
         requires count { self.old.count ≡ Some count }
         ensures stops { Stops fault self.old result }
         ensures failed { result ≡ F.ReadFault → fault ≡ L.Failed }
@@ -201,9 +203,9 @@ fn add_all(
 ) -> Result<(), NodesFault>
     requires legal { AreLegal list.old.atoms count list.old.nodes }
     requires upto { length list.old.nodes + length triples.now ≤ count }
-    requires short { All IsShort triples.now }
+    requires short { All IsShortTriple triples.now }
     requires seen { IsChained list.old.nodes seen.old }
-    ensures adds { Adds result count list.old triples.now list.new }
+    ensures adds { AddsNodes result count list.old triples.now list.new }
     ensures seen { OnOk result (IsChained list.new.nodes seen.new) }
 {
     let _ = count;

@@ -2,8 +2,8 @@
 
 ghost use Rattle.std.specs.Prelude.{◌≡◌, ◌<◌, ◌≤◌, ◌-◌, true, cond, option_map, IfOk};
 ghost use Rattle.hv_sets.specs.declared.operand.Which.TheVariants as W;
-ghost use Rattle.hv_bdd.specs.Graphs.{limit};
-ghost use Rattle.hv_bdd.specs.Live.{asks_goal, child, first_asked, is_marked, mark_of, moves, or_else, root, roots, top};
+ghost use Rattle.hv_bdd.specs.Working.Graphs.{limit};
+ghost use Rattle.hv_bdd.specs.Live.{asks_goal, child, first_asked, is_marked, bit_mark_of, moves, or_else, root, roots, top};
 ghost use Rattle.hv_bdd.specs.Order.{atom_at};
 ghost use Rattle.hv_bdd.specs.Tuples.{is_live, least, move_all, move_one, next};
 
@@ -40,11 +40,11 @@ pub(crate) struct Search<'a> {
 }
 
 impl Search<'_> {
-    ghost use Rattle.hv_bdd.specs.Search.{IsAskable, IsSearch, IsTuple, setting};
+    ghost use Rattle.hv_bdd.specs.Working.Search.{IsAskable, IsTupleSearch, IsTuple, setting};
 
     // The root of an operand.
     pub(crate) fn root(&self, which: Which) -> u32
-        requires search { IsSearch self.now }
+        requires search { IsTupleSearch self.now }
         requires askable { IsAskable self.now which }
         ensures { result ≡ root (setting self.now) which }
     {
@@ -58,7 +58,7 @@ impl Search<'_> {
 
     // The place for which a node of an operand asks.
     pub(crate) fn top(&self, which: Which, node: u32) -> u32
-        requires search { IsSearch self.now }
+        requires search { IsTupleSearch self.now }
         requires node { node < limit (setting self.now) which }
         ensures { result ≡ top (setting self.now) which node }
     {
@@ -71,7 +71,7 @@ impl Search<'_> {
 
     // The node to which a bit leads.
     pub(crate) fn child(&self, which: Which, node: u32, bit: bool) -> u32
-        requires search { IsSearch self.now }
+        requires search { IsTupleSearch self.now }
         requires askable { IsAskable self.now which }
         requires inner { 2 ≤ node }
         requires node { node < limit (setting self.now) which }
@@ -135,11 +135,11 @@ impl Search<'_> {
 
     // The bit that an operand sees where the state before the action has this bit at a place.
     fn seen(&self, after: bool, place: u32, bit: bool) -> bool
-        requires search { IsSearch self.now }
+        requires search { IsTupleSearch self.now }
         requires place { place < self.now.nodes.now.atoms }
         ensures { result
             ≡ cond after
-            (or_else (mark_of self.now.changed (atom_at self.now.nodes.now place)) bit) bit }
+            (or_else (bit_mark_of self.now.changed (atom_at self.now.nodes.now place)) bit) bit }
     {
         if after {
             or_else(self.changed.read(self.nodes.atom_at(place)), bit)
@@ -150,17 +150,17 @@ impl Search<'_> {
 
     // Whether the state may have this bit at a place.
     fn allows(&self, place: u32, bit: bool) -> bool
-        requires search { IsSearch self.now }
+        requires search { IsTupleSearch self.now }
         requires place { place < self.now.nodes.now.atoms }
         ensures { result
-            ≡ is_marked (mark_of self.now.needed (atom_at self.now.nodes.now place)) bit }
+            ≡ is_marked (bit_mark_of self.now.needed (atom_at self.now.nodes.now place)) bit }
     {
         is_marked(self.needed.read(self.nodes.atom_at(place)), bit)
     }
 
     /// The least place for which a node of the tuple asks, or the place past all atoms.
     pub(crate) fn least(&self, tuple: &[u32]) -> u32
-        requires search { IsSearch self.now }
+        requires search { IsTupleSearch self.now }
         requires tuple { IsTuple self.now tuple.now }
         ensures { result ≡ least (moves (setting self.now)) self.now.asked.now tuple.now }
     {
@@ -173,7 +173,7 @@ impl Search<'_> {
 
     // Whether no place rules its operand out.
     pub(crate) fn is_live(&self, tuple: &[u32]) -> bool
-        requires search { IsSearch self.now }
+        requires search { IsTupleSearch self.now }
         requires tuple { IsTuple self.now tuple.now }
         ensures { result ≡ is_live (moves (setting self.now)) self.now.asked.now tuple.now }
     {
@@ -193,7 +193,7 @@ impl Search<'_> {
         place: u32,
         bit: bool,
     ) -> Result<Tuple, AllocError>
-        requires search { IsSearch self.now }
+        requires search { IsTupleSearch self.now }
         requires tuple { IsTuple self.now tuple.now }
         requires place { place < self.now.nodes.now.atoms }
         ensures { IfOk result (λ moved.
@@ -209,7 +209,7 @@ impl Search<'_> {
 
     // The node to which a bit at a place leads.
     fn move_one(&self, asked: &Asked, node: u32, place: u32, bit: bool) -> u32
-        requires search { IsSearch self.now }
+        requires search { IsTupleSearch self.now }
         requires askable { IsAskable self.now asked.now.which }
         requires node { node < limit (setting self.now) asked.now.which }
         requires place { place < self.now.nodes.now.atoms }
@@ -230,7 +230,7 @@ impl Search<'_> {
         place: u32,
         bit: bool,
     ) -> Result<Option<Tuple>, AllocError>
-        requires search { IsSearch self.now }
+        requires search { IsTupleSearch self.now }
         requires tuple { IsTuple self.now tuple.now }
         requires least { place ≡ least (moves (setting self.now)) self.now.asked.now tuple.now }
         ensures { IfOk result (λ to.
@@ -249,7 +249,7 @@ impl Search<'_> {
 
     // The tuple of the roots.
     pub(crate) fn roots(&self, alloc: Global) -> Result<Tuple, AllocError>
-        requires search { IsSearch self.now }
+        requires search { IsTupleSearch self.now }
         ensures { IfOk result (λ tuple. tuple.items ≡ roots (setting self.now) self.now.asked.now) }
     {
         let mut tuple = SmallVec::new(alloc);

@@ -1,11 +1,13 @@
+//! Sets that nodes stand for.
+
 ghost use Rattle.std.specs.Prelude.{◌≡◌, length, map, Some, IfOk};
 ghost use Rattle.std.proofs.Common.{ap};
 ghost use Rattle.hv_sets.specs.Cubes.{SpeakBelow, cube_of};
 ghost use Rattle.hv_bdd.specs.Nodes.{IsNode, in_node};
-ghost use Rattle.hv_bdd.specs.Paths.{Stands, left_at, path_cubes};
+ghost use Rattle.hv_bdd.specs.Paths.{StandsForWalk, left_at, path_cubes};
 ghost use Rattle.hv_bdd.specs.Reduced.{IsReduced};
-ghost use Rattle.hv_bdd.specs.Sets.{Finds};
-ghost use Rattle.hv_bdd.specs.Laws as laws;
+ghost use Rattle.hv_bdd.specs.Working.Sets.{Finds};
+ghost use Rattle.hv_bdd.specs.Working.Laws as laws;
 
 use crate::asked::Asked;
 use crate::counts::path_count;
@@ -47,7 +49,7 @@ impl StateSet for DiagramSet<'_> {
 impl Outside for DiagramSet<'_> {
     ghost outside = { λ set. map (λ cube. Some cube) (path_cubes set.nodes.now 0 set.node) };
 
-    ghost stands_outside = { λ set cursor. Stands set.nodes.now 0 cursor };
+    ghost stands_outside = { λ set cursor. StandsForWalk set.nodes.now 0 cursor };
 
     ghost outside_left = { λ set cursor.
         map (λ cube. Some cube) (map cube_of (left_at set.nodes.now 0 set.node cursor)) };
@@ -73,7 +75,7 @@ impl Outside for DiagramSet<'_> {
 impl Inside for DiagramSet<'_> {
     ghost inside = { λ set. path_cubes set.nodes.now 1 set.node };
 
-    ghost stands_inside = { λ set cursor. Stands set.nodes.now 1 cursor };
+    ghost stands_inside = { λ set cursor. StandsForWalk set.nodes.now 1 cursor };
 
     ghost inside_left = { λ set cursor. map cube_of (left_at set.nodes.now 1 set.node cursor) };
 
@@ -149,7 +151,7 @@ fn find(
 }
 
 impl Search<'_> {
-    ghost use Rattle.hv_bdd.specs.Search.{IsSearch, IsWithin};
+    ghost use Rattle.hv_bdd.specs.Working.Search.{IsTupleSearch, SearchesCube};
 
     // Whether some state of the cube is in the node or outside it, where the search is for that.
     fn finds(
@@ -160,8 +162,8 @@ impl Search<'_> {
         inside: bool,
         state: &mut State,
     ) -> Result<bool, AllocError>
-        requires search { IsSearch self.now }
-        requires within { IsWithin node inside cube.now self.now }
+        requires search { IsTupleSearch self.now }
+        requires within { SearchesCube node inside cube.now self.now }
         requires cube { SpeakBelow self.now.nodes.now.atoms cube.now }
         requires state { length state.old ≡ self.now.nodes.now.atoms }
         ensures { IfOk result (λ yes.

@@ -1,3 +1,5 @@
+//! Tests of node files, of sets by nodes, and of queries over them.
+
 ghost use Rattle.std.specs.Prelude.{◌≡◌, ◌<◌, ◌≤◌, ◌^◌, false, None, IfOk, OnOk, length};
 ghost use Rattle.hv_task.specs.State.{AreBelow};
 ghost use Rattle.hv_task.specs.Strips.{atoms};
@@ -8,6 +10,7 @@ ghost use Rattle.hv_bdd.specs.Nodes.{node_count};
 
 use crate::{Diagrams, NodesFault, read_nodes};
 use hv_bytes::{Limits, MemoryShelf, SureShelf};
+use hv_paths::{InsideAsked, InsideWalked, OutsideAsked, OutsideWalked, meet_along};
 use hv_sets::{
     Covering, Cube, Cursor, Family, Finding, Inside, Literal, Operand, Operands, Outside, Query,
     Scratch, StateSet, Step, Which,
@@ -662,6 +665,83 @@ fn cubes_are_met_and_covered_as_all_states_say(rt: HostRuntime) -> Result<(), Fa
             assert!(rt; met, "{cube} met by {node}");
             let covered = is_covered(rt.alloc(), &list, node, cube)?;
             assert!(rt; covered, "{cube} covered by {node}");
+        }
+    }
+    Ok(())
+}
+
+// Whether some state is in both nodes, or in neither.
+fn is_some_of_both(left: usize, right: usize, inside: bool) -> bool
+    requires left { left < 8 }
+    requires right { right < 8 }
+{
+    for number in 0..8 {
+        if is_in(left, number) == inside && is_in(right, number) == inside {
+            return true;
+        }
+    }
+    false
+}
+
+// Whether a walk over the one node meets the other exactly where they have a state in common, and
+// shows one.
+fn is_met_along(
+    alloc: Global,
+    list: &Diagrams,
+    left: usize,
+    right: usize,
+) -> Result<bool, AllocError>
+    requires atoms { list.now.atoms ≡ 3 }
+    requires nodes { node_count list.now ≡ 8 }
+    requires left { left < 8 }
+    requires right { right < 8 }
+{
+    let walked = list.set(left as u32);
+    let other = list.set(right as u32);
+    let mut walk = walked.walk_inside(alloc)?;
+    let mut asked = other.ask_inside(alloc)?;
+    let mut scratch = Scratch::new(alloc)?;
+    if meet_along(alloc, &mut walk, &mut asked, &mut scratch)? {
+        let number = number_of(scratch.state());
+        return Ok(is_in(left, number) && is_in(right, number));
+    }
+    Ok(!is_some_of_both(left, right, true))
+}
+
+// The same of their complements.
+fn is_met_outside(
+    alloc: Global,
+    list: &Diagrams,
+    left: usize,
+    right: usize,
+) -> Result<bool, AllocError>
+    requires atoms { list.now.atoms ≡ 3 }
+    requires nodes { node_count list.now ≡ 8 }
+    requires left { left < 8 }
+    requires right { right < 8 }
+{
+    let walked = list.set(left as u32);
+    let other = list.set(right as u32);
+    let mut walk = walked.walk_outside(alloc)?;
+    let mut asked = other.ask_outside(alloc)?;
+    let mut scratch = Scratch::new(alloc)?;
+    if meet_along(alloc, &mut walk, &mut asked, &mut scratch)? {
+        let number = number_of(scratch.state());
+        return Ok(!is_in(left, number) && !is_in(right, number));
+    }
+    Ok(!is_some_of_both(left, right, false))
+}
+
+#[test]
+fn paths_are_walked_as_all_states_say(rt: HostRuntime) -> Result<(), Fail> {
+    let list = read(rt.alloc(), SIX, 3, Limits::STANDARD)?;
+    assert_eq!(rt; list.count(), 8);
+    for left in 0..8 {
+        for right in 0..8 {
+            let inside = is_met_along(rt.alloc(), &list, left, right)?;
+            assert!(rt; inside, "{left} and {right}");
+            let outside = is_met_outside(rt.alloc(), &list, left, right)?;
+            assert!(rt; outside, "outside {left} and {right}");
         }
     }
     Ok(())

@@ -1,12 +1,15 @@
 //! Walks over the paths from a node to an end: a cursor has the nodes of the present path, and a
 //! step changes what follows the last of them where the walk can still turn.
 
-ghost use Rattle.std.specs.Prelude.{◌≡◌, ◌<◌, ◌≤◌, ◌≢◌, ◌++◌, ◌∷◌, [], ◌-◌, ℕ, List, Ok, false, true, map, IsTrue, IfNone, IfOk, IfSome, OnOk};
+ghost use Rattle.std.specs.Prelude.{◌≡◌, ◌<◌, ◌≤◌, ◌≢◌, ◌++◌, ◌∷◌, [], ◌-◌, ℕ, List, Ok, false, true, length, map, take, IsTrue, IfNone, IfOk, IfSome, OnOk};
 ghost use Rattle.hv_sets.specs.Cubes.{SpeakBelow, cube_of};
-ghost use Rattle.hv_sets.specs.Walks.{SpeaksBelow, TakesCube};
+ghost use Rattle.hv_sets.specs.Walks.{StepSpeaksBelow, TakesCube};
 ghost use Rattle.hv_bdd.specs.Nodes.{IsNode};
-ghost use Rattle.hv_bdd.specs.Paths.{IsStack, Stands, last_of, left_at, left_of, literals_of, paths};
+ghost use Rattle.hv_bdd.specs.Paths.{IsStack, StandsForWalk, last_of, left_at, left_of, paths};
+ghost use Rattle.hv_bdd.specs.Working.Paths.{literals_of};
 ghost use Rattle.hv_bdd.specs.Reduced.{node_at};
+ghost use Rattle.hv_bdd.specs.Working.Turning.{TurnsTo};
+ghost use Rattle.hv_paths.specs.Along.{KeepsFront};
 
 use crate::diagrams::Diagrams;
 use hv_sets::{Cube, Cursor, Literal, Step};
@@ -22,37 +25,47 @@ pub(crate) fn next(
 ) -> Result<Step, AllocError>
     requires end { end < 2 }
     requires root { IsNode nodes.now root }
-    requires stands { Stands nodes.now end cursor.old }
+    requires stands { StandsForWalk nodes.now end cursor.old }
     ensures step { IfOk result (λ step. TakesCube step cube.new
         (map cube_of (left_at nodes.now end root cursor.old))
         (map cube_of (left_at nodes.now end root cursor.new))) }
-    ensures stands { OnOk result (Stands nodes.now end cursor.new) }
-    ensures cube { IfOk result (λ step. SpeaksBelow nodes.now.atoms step cube.new) }
+    ensures stands { OnOk result (StandsForWalk nodes.now end cursor.new) }
+    ensures cube { IfOk result (λ step. StepSpeaksBelow nodes.now.atoms step cube.new) }
 {
-    if !advance(nodes, root, end, cursor)? {
+    if advance(nodes, root, end, cursor)?.is_none() {
         return Ok(Step::End);
     }
     fill(nodes, cursor.path.as_slice(), cube)?;
     Ok(Step::Cube)
 }
 
-// Goes to the next path. The answer is false where there is none.
-fn advance(nodes: &Diagrams, root: u32, end: u32, cursor: &mut Cursor) -> Result<bool, AllocError>
+/// Goes to the next path, and tells how many literals at the front of the path before it has.
+pub(crate) fn advance(
+    nodes: &Diagrams,
+    root: u32,
+    end: u32,
+    cursor: &mut Cursor,
+) -> Result<Option<usize>, AllocError>
     requires end { end < 2 }
     requires root { IsNode nodes.now root }
-    requires stands { Stands nodes.now end cursor.old }
-    ensures stands { OnOk result (Stands nodes.now end cursor.new) }
-    ensures stack { result ≡ Ok true → IsStack nodes.now cursor.new.path.items }
-    ensures more { result ≡ Ok true → left_at nodes.now end root cursor.old
-        ≡ literals_of nodes.now cursor.new.path.items ∷ left_at nodes.now end root cursor.new }
-    ensures none { result ≡ Ok false → left_at nodes.now end root cursor.old ≡ [] }
-    ensures over { result ≡ Ok false → left_at nodes.now end root cursor.new ≡ [] }
+    requires stands { StandsForWalk nodes.now end cursor.old }
+    ensures stands { OnOk result (StandsForWalk nodes.now end cursor.new) }
+    ensures stack { IfOk result (λ next. IfSome next (λ _.
+        IsStack nodes.now cursor.new.path.items)) }
+    ensures front { IfOk result (λ next. IfSome next (λ kept. KeepsFront kept
+        (literals_of nodes.now cursor.old.path.items)
+        (literals_of nodes.now cursor.new.path.items))) }
+    ensures more { IfOk result (λ next. IfSome next (λ _. left_at nodes.now end root cursor.old
+        ≡ literals_of nodes.now cursor.new.path.items ∷ left_at nodes.now end root cursor.new)) }
+    ensures none { IfOk result (λ next. IfNone next (left_at nodes.now end root cursor.old ≡ [])) }
+    ensures over { IfOk result (λ next. IfNone next (left_at nodes.now end root cursor.new ≡ [])) }
 {
     if !start_or_turn(nodes, root, end, cursor)? {
-        return Ok(false);
+        return Ok(None);
     }
+    let kept = cursor.path.len().saturating_sub(2);
     descend(nodes, &mut cursor.path, end)?;
-    Ok(true)
+    Ok(Some(kept))
 }
 
 // Puts the root on a new path, or turns the path that is there. The answer is false where no path
@@ -65,13 +78,14 @@ fn start_or_turn(
 ) -> Result<bool, AllocError>
     requires end { end < 2 }
     requires root { IsNode nodes.now root }
-    requires stands { Stands nodes.now end cursor.old }
+    requires stands { StandsForWalk nodes.now end cursor.old }
     ensures place { OnOk result (cursor.new.place ≢ 0) }
     ensures stack { result ≡ Ok true → IsStack nodes.now cursor.new.path.items }
     ensures other { result ≡ Ok true → last_of cursor.new.path.items ≢ 1 - end }
     ensures more { result ≡ Ok true → left_of nodes.now end cursor.new.path.items
         (paths nodes.now end (last_of cursor.new.path.items))
         ≡ left_at nodes.now end root cursor.old }
+    ensures front { result ≡ Ok true → TurnsTo cursor.old.path.items cursor.new.path.items }
     ensures empty { result ≡ Ok false → cursor.new.path.items ≡ [] }
     ensures none { result ≡ Ok false → left_at nodes.now end root cursor.old ≡ [] }
 {
@@ -93,6 +107,7 @@ fn descend(nodes: &Diagrams, path: &mut Vec<u32>, end: u32) -> Result<(), AllocE
     requires other { last_of path.old.items ≢ 1 - end }
     ensures stack { OnOk result (IsStack nodes.now path.new.items) }
     ensures end { OnOk result (last_of path.new.items ≡ end) }
+    ensures front { OnOk result (take (length path.old.items) path.new.items ≡ path.old.items) }
     ensures left { OnOk result (left_of nodes.now end path.new.items (paths nodes.now end end)
         ≡ left_of nodes.now end path.old.items (paths nodes.now end (last_of path.old.items))) }
 {
@@ -135,6 +150,7 @@ fn turn(nodes: &Diagrams, path: &mut Vec<u32>, end: u32) -> bool
     ensures other { IsTrue result → last_of path.new.items ≢ 1 - end }
     ensures left { IsTrue result → left_of nodes.now end path.new.items
         (paths nodes.now end (last_of path.new.items)) ≡ left_of nodes.now end path.old.items [] }
+    ensures front { IsTrue result → TurnsTo path.old.items path.new.items }
     ensures empty { result ≡ false → path.new.items ≡ [] }
     ensures none { result ≡ false → left_of nodes.now end path.old.items [] ≡ [] }
 {
@@ -177,6 +193,30 @@ fn sibling(nodes: &Diagrams, node: u32, child: u32, end: u32) -> Option<u32>
         return None;
     }
     Some(high)
+}
+
+/// Puts the literals of the rest of a path behind those that are there.
+pub(crate) fn extend(
+    nodes: &Diagrams,
+    path: &[u32],
+    literals: &mut Vec<Literal>,
+) -> Result<(), AllocError>
+    requires stack { IsStack nodes.now path.now }
+    requires front { literals.old.items
+        ≡ take (length literals.old.items) (literals_of nodes.now path.now) }
+    requires below { SpeakBelow nodes.now.atoms literals.old.items }
+    ensures literals { OnOk result (literals.new.items ≡ literals_of nodes.now path.now) }
+    ensures below { OnOk result (SpeakBelow nodes.now.atoms literals.new.items) }
+{
+    let _atoms = nodes.atoms();
+    for at in literals.len()..path.len() - 1 {
+        let node = nodes.node(path[at]);
+        literals.push(Literal {
+            atom: node.atom,
+            positive: path[at + 1] == node.high,
+        })?;
+    }
+    Ok(())
 }
 
 // Makes the cube that of a path.

@@ -2,7 +2,7 @@ use Rattle.std.proofs.Common.{ap, arith, get_or}
 use Rattle.hv_bdd.specs.declared.node.Node.{Node}
 use Rattle.hv_bdd.specs.Reduced.{node_at}
 use Rattle.hv_bdd.proofs.Counted.{count_end, count_other}
-use Rattle.hv_bdd.specs.Laws.{count_inner}
+use Rattle.hv_bdd.specs.Working.Laws.{count_inner}
 use Rattle.hv_bdd.proofs.counts.count_at.Goals as goal
 
 pub returns-then-node-end : goal.returns-then-node-end

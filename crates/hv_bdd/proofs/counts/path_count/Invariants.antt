@@ -1,5 +1,5 @@
 use Rattle.std.proofs.Common.{◌≡◌, length}
-use Rattle.hv_bdd.specs.Paths.{AreCounted}
+use Rattle.hv_bdd.specs.Working.Paths.{AreCounted}
 use Rattle.hv_bdd.proofs.counts.path_count.Given as goal
 
 abbrev pub invariant-loop-lesser : goal.invariant-loop-lesser

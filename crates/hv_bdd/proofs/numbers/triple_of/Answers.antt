@@ -1,7 +1,7 @@
 use Rattle.std.proofs.Common.{Option, MatchOption, sym, subst}
 use Rattle.hv_bdd.specs.declared.node.Node.{Node}
 use Rattle.hv_bdd.specs.declared.numbers.Triple.{Triple}
-use Rattle.hv_bdd.specs.Building.{as_node}
+use Rattle.hv_bdd.specs.Working.Building.{as_node}
 use Rattle.hv_bdd.specs.NodeText.{IsTriple}
 use Rattle.hv_bdd.proofs.Tripled.{no_atom, no_fields, no_high, no_low, triple_from}
 use Rattle.hv_bdd.proofs.numbers.triple_of.Goals as goal

@@ -1,5 +1,5 @@
 use Rattle.std.proofs.Common.{◌≡◌, ◌≤◌, ◌-◌, true}
-use Rattle.hv_bytes.specs.Files.{file_of}
+use Rattle.hv_bytes.specs.Working.Files.{file_of}
 use Rattle.hv_bytes.specs.States.{coming_of}
 use Rattle.hv_bdd.proofs.Turned.{Follows}
 use Rattle.hv_bdd.proofs.read.read_nodes.Given as goal

@@ -4,10 +4,11 @@ use Rattle.std.proofs.lemmas.List.{drop_more, length_push}
 use Rattle.hv_bdd.specs.declared.fault.NodesFault.TheVariants as F
 use Rattle.hv_bdd.specs.declared.node.Node.{Node}
 use Rattle.hv_bdd.specs.declared.numbers.Triple.{Triple}
-use Rattle.hv_bdd.specs.Building.{as_node, fault_of, with_node}
+use Rattle.hv_bdd.specs.Building.{fault_of}
+use Rattle.hv_bdd.specs.Working.Building.{as_node, with_node}
 use Rattle.hv_bdd.specs.NodeText.{AreLegal, at_node, lines_before}
 use Rattle.hv_bdd.specs.Nodes.{NodeList}
-use Rattle.hv_bdd.specs.Reading.{StopsAt, lines_of}
+use Rattle.hv_bdd.specs.Working.Reading.{StopsAt, node_lines_of}
 use Rattle.hv_bdd.proofs.Waiting.{listed_legal, listed_lines, stops_here}
 use Rattle.hv_bdd.proofs.reader.add_all.Goals as goal
 
@@ -28,13 +29,13 @@ returns-in-Some-clause-adds c =
     let bad : fault_of list (as_node t) ≡ Some c.in-Some.kind = sym c.in_ok-kind.ensures.fault
     ∙ c.in-Some.is in
     subst (λ n.
-    StopsAt n (lines_before (at_node count c.args.list.now.nodes) ++ lines_of triples)
+    StopsAt n (lines_before (at_node count c.args.list.now.nodes) ++ node_lines_of triples)
     (F.Place (length c.listed.result.now + 2) c.in-Some.kind)) c.loop-triple.invariant.atoms
     (stops_here list.atoms count list.nodes t (drop (k + 1) triples) c.loop-triple.invariant.legal
     less (c.requires.short k d within)
-    (lines_before (at_node count c.args.list.now.nodes) ++ lines_of triples) c.in-Some.kind
+    (lines_before (at_node count c.args.list.now.nodes) ++ node_lines_of triples) c.in-Some.kind
     (length c.listed.result.now + 2)
-    (ap (λ (ts : List Triple). lines_before (at_node count list.nodes) ++ lines_of ts)
+    (ap (λ (ts : List Triple). lines_before (at_node count list.nodes) ++ node_lines_of ts)
     (sym (drop_more triples k d within))
     ∙ c.loop-triple.invariant.lines)
     bad
@@ -65,10 +66,10 @@ loop-triple-preserved c =
       seen = c.in_ok-kind.ensures.seen;
       size = omega arith;
       lines = ap (λ (l : NodeList).
-          lines_before (at_node count l.nodes) ++ lines_of (drop (k + 1) triples)) added
+          lines_before (at_node count l.nodes) ++ node_lines_of (drop (k + 1) triples)) added
           ∙ (listed_lines list.atoms count list.nodes t (drop (k + 1) triples)
           c.loop-triple.invariant.legal less (c.requires.short k d within)
-          ∙ (ap (λ (ts : List Triple). lines_before (at_node count list.nodes) ++ lines_of ts)
+          ∙ (ap (λ (ts : List Triple). lines_before (at_node count list.nodes) ++ node_lines_of ts)
           (sym (drop_more triples k d within))
           ∙ c.loop-triple.invariant.lines));
     }

@@ -1,7 +1,7 @@
 use Rattle.std.proofs.Common.{◌<◌, eqb, sym, subst}
 use Rattle.hv_sets.specs.Cubes.{SpeakBelow}
 use Rattle.hv_sets.specs.declared.literal.Literal.{Literal}
-use Rattle.hv_bdd.specs.Cubed.{All-put}
+use Rattle.hv_bdd.specs.Working.Cubed.{All-put}
 use Rattle.hv_bdd.proofs.tests.put_literal.Goals as goal
 
 pub returns : goal.returns

@@ -1,10 +1,12 @@
 use Rattle.std.proofs.Common.{◌∙◌, ◌∷◌, [], Ok, sym, ap, arith}
-use Rattle.hv_bdd.specs.Paths.{left_of, literals_of}
+use Rattle.hv_bdd.specs.Paths.{left_of}
+use Rattle.hv_bdd.specs.Working.Paths.{literals_of}
+use Rattle.hv_bdd.proofs.Fronted.{keeps_front}
 use Rattle.hv_bdd.proofs.Stacked.{gives, left_later, none_left}
 use Rattle.hv_bdd.proofs.walk.advance.Goals as goal
 
 pub returns-then-not-branch-clause-over : goal.returns-then-not-branch-clause-over
-returns-then-not-branch-clause-over c = λ _.
+returns-then-not-branch-clause-over c =
     let list = c.args.nodes.now in
     let e = c.args.end in
     let clauses = c.in_ok-start_or_turn.ensures in
@@ -13,7 +15,7 @@ returns-then-not-branch-clause-over c = λ _.
     ∙ none_left list e [] (omega arith))
 
 pub returns-clause-more : goal.returns-clause-more
-returns-clause-more c = λ _.
+returns-clause-more c =
     let list = c.args.nodes.now in
     let e = c.args.end in
     let clauses = c.in_ok-start_or_turn.ensures in
@@ -26,3 +28,12 @@ returns-clause-more c = λ _.
     (sym (left_later list e c.args.root
     (record { place = c.start_or_turn.new.cursor.place; path = c.descend.new.path })
     clauses.place))))
+
+pub returns-clause-front : goal.returns-clause-front
+returns-clause-front c =
+    let clauses = c.in_ok-start_or_turn.ensures in
+    keeps_front c.args.nodes.now c.args.cursor.now.path.items
+    c.start_or_turn.new.cursor.path.items c.descend.new.path.items
+    c.saturating_sub-kept.result (clauses.front (ap (λ b. Ok b) c.if-not-branch.false))
+    c.in_ok-descend.ensures.front
+    (omega arith)

@@ -5,8 +5,9 @@ use Rattle.std.proofs.lemmas.List.Sums.{fold-append}
 use Rattle.hv_sets.specs.Cubes.{SpeakBelow, cube_of, put_in}
 use Rattle.hv_sets.specs.declared.literal.Literal.{Literal}
 use Rattle.hv_bdd.specs.declared.node.Node.{Node}
-use Rattle.hv_bdd.specs.Cubed.{All-put}
-use Rattle.hv_bdd.specs.Paths.{is_high, literals_of}
+use Rattle.hv_bdd.specs.Working.Cubed.{All-put}
+use Rattle.hv_bdd.specs.Paths.{is_high}
+use Rattle.hv_bdd.specs.Working.Paths.{literals_of}
 use Rattle.hv_bdd.specs.Reduced.{node_at}
 use Rattle.hv_bdd.proofs.Stacked.{last_one, last_two, literals_few, literals_push}
 use Rattle.hv_bdd.proofs.walk.fill.Goals as goal

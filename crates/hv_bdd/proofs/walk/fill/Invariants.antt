@@ -1,6 +1,6 @@
 use Rattle.std.proofs.Common.{◌≡◌, take}
 use Rattle.hv_sets.specs.Cubes.{SpeakBelow, cube_of}
-use Rattle.hv_bdd.specs.Paths.{literals_of}
+use Rattle.hv_bdd.specs.Working.Paths.{literals_of}
 use Rattle.hv_bdd.proofs.walk.fill.Given as goal
 
 abbrev pub invariant-loop-at : goal.invariant-loop-at

@@ -1,5 +1,5 @@
 use Rattle.std.proofs.Common.{◌≡◌, ◌∙◌, ◌++◌, ◌∷◌, [], List, ℕ, sym, ap, subst}
-use Rattle.hv_bdd.specs.Laws.{left_first}
+use Rattle.hv_bdd.specs.Working.Laws.{left_first}
 use Rattle.hv_bdd.specs.Paths.{last_of, left_at, left_of, paths}
 use Rattle.hv_bdd.proofs.Stacked.{no_paths, root_left}
 use Rattle.hv_bdd.proofs.walk.start_or_turn.Goals as goal

@@ -3,7 +3,7 @@ use Rattle.hv_task.specs.State.{has_atom}
 use Rattle.hv_bdd.specs.declared.node.Node.{Node}
 use Rattle.hv_bdd.specs.Nodes.{in_node}
 use Rattle.hv_bdd.specs.Reduced.{child}
-use Rattle.hv_bdd.specs.Walking.{in_end, in_inner}
+use Rattle.hv_bdd.specs.Working.Walking.{in_end, in_inner}
 use Rattle.hv_bdd.proofs.diagrams.Diagrams.holds.Goals as goal
 
 pub has-requires : goal.has-requires

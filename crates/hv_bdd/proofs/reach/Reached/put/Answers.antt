@@ -1,6 +1,6 @@
 use Rattle.std.proofs.Common.{◌≡◌, true, false, ℕ, ◌∙◌, refl, sym, subst, option_map}
 use Rattle.smallvec.specs.SmallVec.{SmallVec}
-use Rattle.hv_bdd.specs.Search.{IsPutSome, tuples_of}
+use Rattle.hv_bdd.specs.Working.Search.{IsPutSome, tuples_of}
 use Rattle.hv_bdd.proofs.Explored.{put_is}
 use Rattle.hv_bdd.proofs.reach.Reached.put.Goals as goal
 

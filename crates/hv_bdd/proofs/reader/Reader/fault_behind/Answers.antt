@@ -1,5 +1,5 @@
 use Rattle.std.proofs.Common.{[], ◌∷◌}
-use Rattle.hv_bdd.specs.Reading.{read_by}
+use Rattle.hv_bdd.specs.Working.Reading.{read_by}
 use Rattle.hv_bdd.proofs.Waiting.{stops_more}
 use Rattle.hv_bdd.proofs.reader.Reader.fault_behind.Goals as goal
 

@@ -1,5 +1,5 @@
 use Rattle.std.proofs.Common.{arith}
-use Rattle.hv_bdd.specs.Ordered.{order_of}
+use Rattle.hv_bdd.specs.Working.Ordered.{order_of}
 use Rattle.hv_bdd.proofs.search.Search.allows.Goals as goal
 
 pub read-requires : goal.read-requires

@@ -2,7 +2,7 @@ use Rattle.std.proofs.Common.{◌∙◌, ℕ, ap, sym, arith, false, true, get_o
 use Rattle.std.proofs.lemmas.List.{length-map}
 use Rattle.smallvec.specs.SmallVec.{SmallVec}
 use Rattle.hv_bdd.specs.Live.{moves, roots}
-use Rattle.hv_bdd.specs.Search.{setting}
+use Rattle.hv_bdd.specs.Working.Search.{setting}
 use Rattle.hv_bdd.specs.Tuples.{next}
 use Rattle.hv_bdd.proofs.Explored.{expanded, item_at, items}
 use Rattle.hv_bdd.proofs.Found.{tuple_read}

@@ -1,10 +1,10 @@
 use Rattle.std.proofs.Common.{◌≡◌, ◌<◌, ℕ, true, length}
 use Rattle.hv_task.specs.State.{has_atom}
-use Rattle.hv_bdd.specs.Live.{is_marked, mark_of}
+use Rattle.hv_bdd.specs.Live.{is_marked, bit_mark_of}
 use Rattle.hv_bdd.proofs.search.Search.fill.Given as goal
 
 abbrev pub invariant-loop-atom : goal.invariant-loop-atom
 invariant-loop-atom l = record {
   size : length l.state ≡ l.self.nodes.now.atoms;
-  done : (a : ℕ) → a < l.atom → is_marked (mark_of l.self.needed a) (has_atom l.state a) ≡ true;
+  done : (a : ℕ) → a < l.atom → is_marked (bit_mark_of l.self.needed a) (has_atom l.state a) ≡ true;
 }

@@ -1,7 +1,7 @@
 use Rattle.std.proofs.Common.{◌≤◌, ◌<◌, ℕ, List, length, sym, subst, arith}
 use Rattle.smallvec.specs.SmallVec.{SmallVec}
 use Rattle.std.specs.List.{All}
-use Rattle.hv_bdd.specs.Search.{IsDone, IsEnd, IsTuple, tuple_at}
+use Rattle.hv_bdd.specs.Working.Search.{IsDone, IsEndTuple, IsTuple, tuple_at}
 use Rattle.hv_bdd.proofs.Explored.{items}
 use Rattle.hv_bdd.proofs.Found.{all_tuples, end_agrees, is_past, no_state, not_over, over_budget}
 use Rattle.hv_bdd.proofs.search.Search.find.Goals as goal
@@ -24,8 +24,8 @@ returns-in-None c =
     let e : IsDone c.args.self.now c.args.budget c.in_ok-reached.reached = c.in_ok-reached.ensures in
     let len = c.len.ensures.len in
     let few : length c.in_ok-reached.reached.tuples.keys ≤ c.args.budget = let upto = c.if-len-budget.false in omega arith in
-    let none : All (λ (t : SmallVec ℕ). IsEnd c.args.self.now t.items → ⊥) c.in_ok-reached.reached.tuples.keys =
-    subst (All (λ (t : SmallVec ℕ). IsEnd c.args.self.now t.items → ⊥)) c.as_slice.ensures.keys c.in-None.ensures in (
+    let none : All (λ (t : SmallVec ℕ). IsEndTuple c.args.self.now t.items → ⊥) c.in_ok-reached.reached.tuples.keys =
+    subst (All (λ (t : SmallVec ℕ). IsEndTuple c.args.self.now t.items → ⊥)) c.as_slice.ensures.keys c.in-None.ensures in (
       not_over c.args.self.now c.requires.search e.0 c.in_ok-reached.reached.tuples.keys c.in_ok-reached.reached.links.items e.1 c.args.budget few e.2,
       no_state c.args.self.now c.requires.search e.0 c.in_ok-reached.reached.tuples.keys c.in_ok-reached.reached.links.items e.1
           (is_past c.args.self.now c.requires.search e.0 c.in_ok-reached.reached.tuples.keys c.in_ok-reached.reached.links.items e.1 c.args.budget few e.2) none,
@@ -34,7 +34,7 @@ returns-in-None c =
 pub take_bits-requires-clause-agrees : goal.take_bits-requires-clause-agrees
 take_bits-requires-clause-agrees c =
     let e : IsDone c.args.self.now c.args.budget c.in_ok-reached.reached = c.in_ok-reached.ensures in
-    let found = subst (λ (keys : List (SmallVec ℕ)). (c.in-Some.end < length keys) × IsEnd c.args.self.now (tuple_at (items keys) c.in-Some.end))
+    let found = subst (λ (keys : List (SmallVec ℕ)). (c.in-Some.end < length keys) × IsEndTuple c.args.self.now (tuple_at (items keys) c.in-Some.end))
     c.as_slice.ensures.keys c.in-Some.ensures in
     end_agrees c.args.self.now c.requires.search e.0 c.in_ok-reached.reached.tuples.keys c.in_ok-reached.reached.links.items e.1
     c.in-Some.end c.fill.new.state found.0 found.1

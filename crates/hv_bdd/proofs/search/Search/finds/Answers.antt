@@ -3,8 +3,8 @@ use Rattle.std.specs.List.Sorted.{IsStrictlyIncreasing}
 use Rattle.hv_sets.specs.Cubes.{atoms_of}
 use Rattle.hv_sets.specs.declared.finding.Finding.{Finding}
 use Rattle.hv_sets.specs.declared.literal.Literal.{Literal}
-use Rattle.hv_bdd.specs.Graphs.{IsLiveAnswer}
-use Rattle.hv_bdd.specs.Search.{setting}
+use Rattle.hv_bdd.specs.Working.Graphs.{IsLiveAnswer}
+use Rattle.hv_bdd.specs.Working.Search.{setting}
 use Rattle.hv_bdd.proofs.Within.{few_tuples, found_in, none_in}
 use Rattle.hv_bdd.proofs.search.Search.finds.Goals as goal
 

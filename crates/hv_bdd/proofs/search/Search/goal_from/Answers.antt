@@ -1,6 +1,6 @@
 use Rattle.std.proofs.Common.{◌-◌, sym, arith}
 use Rattle.hv_bdd.specs.Live.{asks_goal}
-use Rattle.hv_bdd.specs.Search.{setting}
+use Rattle.hv_bdd.specs.Working.Search.{setting}
 use Rattle.hv_bdd.proofs.Listed.{first_next, first_none}
 use Rattle.hv_bdd.proofs.search.Search.goal_from.Goals as goal
 

@@ -1,6 +1,6 @@
 use Rattle.std.proofs.Common.{◌≡◌, drop}
 use Rattle.hv_bdd.specs.Live.{moves}
-use Rattle.hv_bdd.specs.Search.{setting}
+use Rattle.hv_bdd.specs.Working.Search.{setting}
 use Rattle.hv_bdd.specs.Tuples.{is_live}
 use Rattle.hv_bdd.proofs.search.Search.is_live.Given as goal
 

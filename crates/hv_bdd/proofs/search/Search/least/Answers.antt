@@ -1,6 +1,6 @@
 use Rattle.std.proofs.Common.{arith}
 use Rattle.hv_bdd.specs.Live.{moves}
-use Rattle.hv_bdd.specs.Search.{setting}
+use Rattle.hv_bdd.specs.Working.Search.{setting}
 use Rattle.hv_bdd.proofs.Steps.{least_below}
 use Rattle.hv_bdd.proofs.search.Search.least.Goals as goal
 

@@ -1,6 +1,6 @@
 use Rattle.std.proofs.Common.{◌≡◌, ◌≤◌, drop, min}
 use Rattle.hv_bdd.specs.Live.{moves}
-use Rattle.hv_bdd.specs.Search.{setting}
+use Rattle.hv_bdd.specs.Working.Search.{setting}
 use Rattle.hv_bdd.specs.Tuples.{least}
 use Rattle.hv_bdd.proofs.search.Search.least.Given as goal
 

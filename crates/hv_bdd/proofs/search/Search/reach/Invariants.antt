@@ -1,5 +1,5 @@
 use Rattle.std.proofs.Common.{◌-◌}
-use Rattle.hv_bdd.specs.Search.{Explored}
+use Rattle.hv_bdd.specs.Working.Search.{Explored}
 use Rattle.hv_bdd.proofs.search.Search.reach.Given as goal
 
 abbrev pub invariant-loop-done : goal.invariant-loop-done

@@ -1,6 +1,6 @@
 use Rattle.std.proofs.Common.{◌≡◌, take}
 use Rattle.hv_bdd.specs.Live.{roots}
-use Rattle.hv_bdd.specs.Search.{setting}
+use Rattle.hv_bdd.specs.Working.Search.{setting}
 use Rattle.hv_bdd.proofs.search.Search.roots.Given as goal
 
 abbrev pub invariant-loop-asked : goal.invariant-loop-asked

@@ -1,6 +1,6 @@
 use Rattle.std.proofs.Common.{◌∙◌, ap, sym, arith, get_or}
 use Rattle.hv_bdd.specs.Live.{moves}
-use Rattle.hv_bdd.specs.Search.{setting}
+use Rattle.hv_bdd.specs.Working.Search.{setting}
 use Rattle.hv_bdd.specs.Tuples.{least}
 use Rattle.hv_bdd.proofs.Found.{agrees_back, atom_less, fits_back, parent_less, tuple_read}
 use Rattle.hv_bdd.proofs.search.Search.take_bits.Goals as goal

@@ -15,10 +15,10 @@ use Rattle.hv_sets.specs.declared.cursor.Cursor.{Cursor}
 use Rattle.hv_sets.specs.declared.literal.Literal.{Literal}
 use Rattle.hv_bdd.specs.Nodes.{NodeList, in_node, node_count}
 use Rattle.hv_bdd.specs.Order.{place}
-use Rattle.hv_bdd.specs.Paths.{Stands, at_end, left_at, left_of, path_cubes, paths, paths_in, with_bit}
+use Rattle.hv_bdd.specs.Paths.{StandsForWalk, at_end, left_at, left_of, path_cubes, paths, paths_in, with_bit}
 use Rattle.hv_bdd.specs.Reduced.{IsReduced, child, node_at, top}
-use Rattle.hv_bdd.specs.Cubed.{Rises, in_cube_of}
-use Rattle.hv_bdd.specs.Walking.{in_end, in_inner, top_inner}
+use Rattle.hv_bdd.specs.Working.Cubed.{RisesPast, in_cube_of}
+use Rattle.hv_bdd.specs.Working.Walking.{in_end, in_inner, top_inner}
 
 -- a node's paths, by those of its children
 abbrev pub both : NodeList → (ℕ → List (List Literal)) → ℕ → List (List Literal)
@@ -116,16 +116,16 @@ module _ (list : NodeList) (e : ℕ) where
 
     -- the atoms of a path rise in the order
     rise_by : (bound node v : ℕ) → node < bound → node < node_count list → v ≤ top list node
-        → All (Rises list v) (paths list e node)
+        → All (RisesPast list v) (paths list e node)
     rise_by zero node v few within upto = absurd (omega arith)
     rise_by (suc bound) node v few within upto =
         elim (cases_lt node 2) [
-          | inl end ↦ subst (All (Rises list v)) (sym (paths_end node end)) (ends (eqb node e))
+          | inl end ↦ subst (All (RisesPast list v)) (sym (paths_end node end)) (ends (eqb node e))
           | inr inner ↦
               let low = reduced.low node inner within in
               let high = reduced.high node inner within in
-              subst (All (Rises list v)) (sym (paths_inner node inner within))
-              (All-append (Rises list v)
+              subst (All (RisesPast list v)) (sym (paths_inner node inner within))
+              (All-append (RisesPast list v)
               (with_bit (node_at list node).atom false (paths list e (node_at list node).low))
               (with_bit (node_at list node).atom true (paths list e (node_at list node).high))
               (bit inner (node_at list node).low false
@@ -138,30 +138,30 @@ module _ (list : NodeList) (e : ℕ) where
               (omega arith) (omega arith) (omega arith))))
         ]
       where
-        ends : (b : Bool) → All (Rises list v) (cond b ([] ∷ []) [])
-        ends true = All-cons (Rises list v) [] [] tt (All-nil (Rises list v))
-        ends false = All-nil (Rises list v)
+        ends : (b : Bool) → All (RisesPast list v) (cond b ([] ∷ []) [])
+        ends true = All-cons (RisesPast list v) [] [] tt (All-nil (RisesPast list v))
+        ends false = All-nil (RisesPast list v)
 
         bit : 2 ≤ node → (c : ℕ) (b : Bool) → top list node < top list c
-            → All (Rises list (top list c)) (paths list e c)
-            → All (Rises list v) (with_bit (node_at list node).atom b (paths list e c))
+            → All (RisesPast list (top list c)) (paths list e c)
+            → All (RisesPast list v) (with_bit (node_at list node).atom b (paths list e c))
         bit inner c b less rest =
             let at = top_inner list node inner in
-            All-map (Rises list v) (λ p.
+            All-map (RisesPast list v) (λ p.
             record { atom = (node_at list node).atom; positive = b } ∷ p) (paths list e c)
-            (All-weaker (Rises list (top list c)) (λ p.
-            Rises list v (record { atom = (node_at list node).atom; positive = b } ∷ p))
+            (All-weaker (RisesPast list (top list c)) (λ p.
+            RisesPast list v (record { atom = (node_at list node).atom; positive = b } ∷ p))
             (λ p rises. (omega arith, reduced.atom node inner within, from p rises (omega arith)))
             (paths list e c) rest)
           where
-            from : (p : List Literal) → Rises list (top list c) p
+            from : (p : List Literal) → RisesPast list (top list c) p
                 → place list (node_at list node).atom + 1 ≤ top list c
-                → Rises list (place list (node_at list node).atom + 1) p
+                → RisesPast list (place list (node_at list node).atom + 1) p
             from [] rises upto = tt
             from (l ∷ ls) rises upto = (let x = rises.0 in omega arith, rises.1, rises.2)
 
     pub paths_rise : (node : ℕ) → node < node_count list
-        → All (Rises list (top list node)) (paths list e node)
+        → All (RisesPast list (top list node)) (paths list e node)
     paths_rise node within =
         rise_by (suc node) node (top list node) (omega arith) within (omega arith)
 
@@ -232,18 +232,22 @@ module _ (list : NodeList) (e : ℕ) (reduced : IsReduced list) (end : e < 2) (s
       by true = refl
       by false = or_false (beq (in_node list (node_at list node).low s) (eqb e 1))
 
-  cubes_by : (v : ℕ) (ps : List (List Literal)) → All (Rises list v) ps
+  pub in_paths : (node : ℕ) → node < node_count list
+      → in_cubes (paths list e node) s ≡ beq (in_node list node s) (eqb e 1)
+  in_paths node within = in_by (suc node) node (omega arith) within
+
+  cubes_by : (v : ℕ) (ps : List (List Literal)) → All (RisesPast list v) ps
       → in_cubes (map cube_of ps) s ≡ list_any (λ p. in_cube p s) ps
   cubes_by v [] rise = refl
   cubes_by v (p ∷ ps) rise =
-      ap₂ (λ x y. x || y) (in_cube_of list p v s (All-head (Rises list v) p ps rise))
-      (cubes_by v ps (All-tail (Rises list v) p ps rise))
+      ap₂ (λ x y. x || y) (in_cube_of list p v s (All-head (RisesPast list v) p ps rise))
+      (cubes_by v ps (All-tail (RisesPast list v) p ps rise))
 
   pub in_path_cubes : (node : ℕ) → node < node_count list
       → in_cubes (path_cubes list e node) s ≡ beq (in_node list node s) (eqb e 1)
   in_path_cubes node within =
       cubes_by (top list node) (paths list e node) (paths_rise list e reduced node within)
-      ∙ in_by (suc node) node (omega arith) within
+      ∙ in_paths node within
 
 pub steps_are : (cubes : List (List Literal)) (s : List Bool)
     → in_steps (map Some cubes) s ≡ in_cubes cubes s
@@ -272,7 +276,7 @@ outside_is list node reduced within s =
     ∙ (in_path_cubes list 0 reduced (omega arith) s node within ∙ beq_false (in_node list node s))
 
 -- a cursor that no walk has moved
-pub stands_first : (list : NodeList) (e : ℕ) (cursor : Cursor) → IsNew cursor → Stands list e cursor
+pub stands_first : (list : NodeList) (e : ℕ) (cursor : Cursor) → IsNew cursor → StandsForWalk list e cursor
 stands_first list e cursor new = record {
   first = λ _. new.1;
   stack = λ some. absurd (some new.1);

@@ -10,7 +10,7 @@ use Rattle.hv_bdd.specs.declared.fault.NodesFault.TheVariants as F
 use Rattle.hv_bdd.specs.declared.node.Node.{Node}
 use Rattle.hv_bdd.specs.declared.numbers.Triple.{Triple}
 use Rattle.hv_bdd.specs.declared.reader.Reader.{Reader}
-use Rattle.hv_bdd.specs.Building.{as_node}
+use Rattle.hv_bdd.specs.Working.Building.{as_node}
 use Rattle.hv_bdd.specs.Chains.{IsChained}
 use Rattle.hv_bdd.specs.Nodes.{NodeList}
 use Rattle.hv_bdd.specs.NodeText.{AreLegal, Beginning, EndsEarly, FailsLine, IsLegal, IsTriple, PassesLimit, at_header, at_node, lines_before, node_line}
@@ -24,24 +24,24 @@ abbrev pub begun_by : Reader → Beginning
 begun_by r = begun r.count r.list.nodes
 
 -- the lines of these nodes
-abbrev pub lines_of : List Triple → List (List ℕ)
-lines_of triples = map (λ (t : Triple). node_line (as_node t)) triples
+abbrev pub node_lines_of : List Triple → List (List ℕ)
+node_lines_of triples = map (λ (t : Triple). node_line (as_node t)) triples
 
 -- the lines that the reader has read: those of the nodes that it has tested, and of those that wait
 abbrev pub read_by : Reader → List (List ℕ)
-read_by r = lines_before (begun_by r) ++ lines_of r.waiting.items
+read_by r = lines_before (begun_by r) ++ node_lines_of r.waiting.items
 
 -- the numbers are short enough for a line
-abbrev pub IsShort : Triple → Type 0
-IsShort triple = IsTriple (node_line (as_node triple)) (as_node triple)
+abbrev pub IsShortTriple : Triple → Type 0
+IsShortTriple triple = IsTriple (node_line (as_node triple)) (as_node triple)
 
 -- what the reader's methods ask of it
-pub record IsReady (r : Reader) : Type 0 where
+pub record IsReading (r : Reader) : Type 0 where
   pub legal : IsLegal r.list.atoms (begun_by r)
   pub none : r.count ≡ None → (r.list.nodes ≡ []) × (r.waiting.items ≡ [])
   pub upto : (count : ℕ) → r.count ≡ Some count
       → length r.list.nodes + length r.waiting.items ≤ count
-  pub short : All IsShort r.waiting.items
+  pub short : All IsShortTriple r.waiting.items
   pub seen : IsChained r.list.nodes r.seen
 
 -- one of these lines has this fault, and what stands before it is legal
@@ -64,26 +64,26 @@ pub record AddsAll (count : ℕ) (old : NodeList) (triples : List Triple) (new :
     pub atoms : new.atoms ≡ old.atoms
     pub size : length new.nodes ≡ length old.nodes + length triples
     pub lines : lines_before (at_node count new.nodes)
-        ≡ lines_before (at_node count old.nodes) ++ lines_of triples
+        ≡ lines_before (at_node count old.nodes) ++ node_lines_of triples
 
 -- what it answers to nodes that are to be added: they are, or one of them has a fault
-abbrev pub Adds : Result (Unit {0}) NodesFault → ℕ → NodeList → List Triple → NodeList → Type 0
-Adds (Ok _) count old triples new = AddsAll count old triples new
-Adds (Err fault) count old triples new =
-    StopsAt old.atoms (lines_before (at_node count old.nodes) ++ lines_of triples) fault
+abbrev pub AddsNodes : Result (Unit {0}) NodesFault → ℕ → NodeList → List Triple → NodeList → Type 0
+AddsNodes (Ok _) count old triples new = AddsAll count old triples new
+AddsNodes (Err fault) count old triples new =
+    StopsAt old.atoms (lines_before (at_node count old.nodes) ++ node_lines_of triples) fault
 
 -- what the reader answers when it tests the nodes that wait, of so many: none waits any more, or
 -- one of the lines that were read has a fault
 abbrev pub Settles : Result (Unit {0}) NodesFault → ℕ → Reader → Reader → Type 0
 Settles (Ok _) count r new =
-    IsReady new × AddsAll count r.list r.waiting.items new.list × (new.count ≡ Some count)
+    IsReading new × AddsAll count r.list r.waiting.items new.list × (new.count ≡ Some count)
     × (new.waiting.items ≡ [])
 Settles (Err fault) count r new = StopsAt r.list.atoms (read_by r) fault
 
 -- what the reader answers to one line: it takes it; or this line or an earlier one has a fault
 abbrev pub Feeds : Result (Unit {0}) NodesFault → Reader → List ℕ → Reader → Type 0
 Feeds (Ok _) r line new =
-    IsReady new × (new.list.atoms ≡ r.list.atoms) × (read_by new ≡ read_by r ++ line ∷ [])
+    IsReading new × (new.list.atoms ≡ r.list.atoms) × (read_by new ≡ read_by r ++ line ∷ [])
 Feeds (Err fault) r line new = StopsAt r.list.atoms (read_by r ++ line ∷ []) fault
 
 -- the fault of a reader of so many nodes where the next line has one of this kind

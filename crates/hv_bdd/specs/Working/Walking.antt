@@ -8,7 +8,7 @@ use Rattle.hv_task.specs.State.{has_atom}
 use Rattle.hv_bdd.specs.Nodes.{NodeList, child_of, in_node, next_node, node_count, walk}
 use Rattle.hv_bdd.specs.Order.{atom_at, place}
 use Rattle.hv_bdd.specs.Reduced.{IsReduced, child, node_at, top}
-use Rattle.hv_bdd.specs.Ordered.{order_of}
+use Rattle.hv_bdd.specs.Working.Ordered.{order_of}
 
 -- the ends have the place past all atoms, and the others that of their atoms
 pub top_end : (list : NodeList) (i : ℕ) → i < 2 → top list i ≡ list.atoms

@@ -9,10 +9,10 @@ use Rattle.hv_sets.specs.declared.operand.Which.TheVariants as W
 use Rattle.hv_bdd.specs.declared.asked.Asked.{Asked}
 use Rattle.hv_bdd.specs.Nodes.{in_node, node_count}
 use Rattle.hv_bdd.specs.Order.{atom_at}
-use Rattle.hv_bdd.specs.Live.{Setting, asks_goal, moves, or_else, roots, start_bit}
+use Rattle.hv_bdd.specs.Live.{TupleSetting, asks_goal, moves, or_else, roots, start_bit}
 use Rattle.hv_bdd.specs.Tuples.{Moves, TuplesPass}
 
--- In a chain over so many places with these atoms, some places are asked for, each with the bit
+-- In a chain with_marks so many places with these atoms, some places are asked for, each with the bit
 -- that is wanted there.
 module _ (n : ℕ) (atom_at : ℕ → ℕ) (asks bits : ℕ → Bool) where
   -- the state has the wanted bit at each place that is asked for, of so many from one on
@@ -27,12 +27,12 @@ module _ (n : ℕ) (atom_at : ℕ → ℕ) (asks bits : ℕ → Bool) where
       (beq (has_atom s (atom_at (i - 2))) (bits (i - 2)) && matches s (n - (i - 1)) (i - 1))
 
 -- the state with the marked bits
-abbrev pub over : List (Option Bool) → List Bool → List Bool
-over marks [] = []
-over [] (bit ∷ bits) = bit ∷ bits
-over (mark ∷ marks) (bit ∷ bits) = or_else mark bit ∷ over marks bits
+abbrev pub with_marks : List (Option Bool) → List Bool → List Bool
+with_marks marks [] = []
+with_marks [] (bit ∷ bits) = bit ∷ bits
+with_marks (mark ∷ marks) (bit ∷ bits) = or_else mark bit ∷ with_marks marks bits
 
-module _ (S : Setting) where
+module _ (S : TupleSetting) where
   -- how many nodes the graph of an operand has
   abbrev pub limit : Which → ℕ
   limit W.Empty = 2
@@ -49,7 +49,7 @@ module _ (S : Setting) where
 
   -- the same, where the operand may be asked about the state after the action
   abbrev pub in_asked : Asked → List Bool → ℕ → Bool
-  in_asked o s i = in_graph o.which (cond o.after (over S.changed s) s) i
+  in_asked o s i = in_graph o.which (cond o.after (with_marks S.changed s) s) i
 
 module _ {O : Type 0} (limit : O → ℕ) where
   -- the tuple has a node of each operand
@@ -61,22 +61,22 @@ module _ {O : Type 0} (limit : O → ℕ) where
 
 module _ {O : Type 0} (truth : O → List Bool → ℕ → Bool) (wants : O → Bool) where
   -- the state is in the nodes of the positive operands, and in none of the negative ones
-  abbrev pub Agrees : List Bool → List O → List ℕ → Type 0
-  Agrees s [] nodes = ⊤
-  Agrees s (o ∷ os) [] = ⊤
-  Agrees s (o ∷ os) (i ∷ nodes) = (truth o s i ≡ wants o) × Agrees s os nodes
+  abbrev pub AgreesWithNodes : List Bool → List O → List ℕ → Type 0
+  AgreesWithNodes s [] nodes = ⊤
+  AgreesWithNodes s (o ∷ os) [] = ⊤
+  AgreesWithNodes s (o ∷ os) (i ∷ nodes) = (truth o s i ≡ wants o) × AgreesWithNodes s os nodes
 
 -- the state is one of the task and has the bits that are needed
-abbrev pub Fits : {O : Type 0} → Moves O → List Bool → Type 0
-Fits m s =
+abbrev pub FitsBits : {O : Type 0} → Moves O → List Bool → Type 0
+FitsBits m s =
     (length s ≡ m.atoms) × ((v : ℕ) → v < m.atoms → m.allows v (has_atom s (m.atom_at v)) ≡ true)
 
 -- the state has the bits that are needed, and is in each positive operand and in no negative one
-abbrev pub Suits : Setting → List Asked → List Bool → Type 0
-Suits S os s = Fits (moves S) s × Agrees (in_asked S) (λ o. o.positive) s os (roots S os)
+abbrev pub Suits : TupleSetting → List Asked → List Bool → Type 0
+Suits S os s = FitsBits (moves S) s × AgreesWithNodes (in_asked S) (λ o. o.positive) s os (roots S os)
 
 -- the exact answer of a search through live tuples
-abbrev pub IsLiveAnswer : Finding → Setting → List Asked → ℕ → List Bool → Type 0
+abbrev pub IsLiveAnswer : Finding → TupleSetting → List Asked → ℕ → List Bool → Type 0
 IsLiveAnswer F.Over S os budget found = TuplesPass (moves S) os (roots S os) budget
 IsLiveAnswer F.Clash S os budget found =
     (TuplesPass (moves S) os (roots S os) budget → ⊥) × Suits S os found

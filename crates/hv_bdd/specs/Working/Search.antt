@@ -16,13 +16,13 @@ use Rattle.hv_bdd.specs.declared.search.Link.{Link}
 use Rattle.hv_bdd.specs.declared.search.Search.{Search}
 use Rattle.hv_bdd.specs.Nodes.{NodeList, node_count}
 use Rattle.hv_bdd.specs.Reduced.{IsReduced}
-use Rattle.hv_bdd.specs.Live.{Setting, changed_by, moves, needed_by, no_marks, operands_of, roots}
-use Rattle.hv_bdd.specs.Graphs.{limit}
+use Rattle.hv_bdd.specs.Live.{TupleSetting, changed_by, moves, needed_by, no_marks, operands_of, roots}
+use Rattle.hv_bdd.specs.Working.Graphs.{limit}
 use Rattle.hv_bdd.specs.Sets.{mark_literals}
 use Rattle.hv_bdd.specs.Tuples.{IsReached, Moves, if_live, least, next}
 
 -- what the tuples of the search move through
-abbrev pub setting : Search → Setting
+abbrev pub setting : Search → TupleSetting
 setting s = record {
   list = s.nodes.now;
   start = s.start;
@@ -39,7 +39,7 @@ IsAskable s W.Goal = (length s.goal ≡ s.nodes.now.atoms) × (s.nodes.now.atoms
 IsAskable s (W.Set number) = number < node_count s.nodes.now
 
 -- the search can be made
-pub record IsSearch (s : Search) : Type 0 where
+pub record IsTupleSearch (s : Search) : Type 0 where
   pub reduced : IsReduced s.nodes.now
   pub needed : length s.needed ≡ s.nodes.now.atoms
   pub changed : length s.changed ≡ s.nodes.now.atoms
@@ -108,11 +108,11 @@ IsDone s budget reached =
     × ((budget < length reached.tuples.keys) ⊎ (length reached.tuples.keys ≤ done))
 
 -- a tuple of ends
-abbrev pub IsEnd : Search → List ℕ → Type 0
-IsEnd s nodes = least (moves (setting s)) s.asked.now nodes ≡ s.nodes.now.atoms
+abbrev pub IsEndTuple : Search → List ℕ → Type 0
+IsEndTuple s nodes = least (moves (setting s)) s.asked.now nodes ≡ s.nodes.now.atoms
 
 -- what a query gives to the search
-pub record IsFor (list : NodeList) (task : Strips) (query : Query) (s : Search) : Type 0 where
+pub record IsSearchFor (list : NodeList) (task : Strips) (query : Query) (s : Search) : Type 0 where
   pub nodes : s.nodes.now ≡ list
   pub start : s.start ≡ start_state task
   pub goal : s.goal ≡ state_of (atoms task) task.goal
@@ -121,6 +121,6 @@ pub record IsFor (list : NodeList) (task : Strips) (query : Query) (s : Search) 
   pub asked : s.asked.now ≡ operands_of query
 
 -- the search is for a state of the cube that is in the node or outside it
-pub record IsWithin (node : ℕ) (inside : Bool) (cube : List Literal) (s : Search) : Type 0 where
+pub record SearchesCube (node : ℕ) (inside : Bool) (cube : List Literal) (s : Search) : Type 0 where
   pub needed : s.needed ≡ mark_literals cube (no_marks s.nodes.now.atoms)
   pub asked : s.asked.now ≡ record { which = W.Set node; after = false; positive = inside } ∷ []

@@ -54,12 +54,12 @@ module _ (l : Literal) where
 
 -- literals whose atoms rise in the order, from this place on
 module _ (list : NodeList) where
-  abbrev pub Rises : ℕ → List Literal → Type 0
-  Rises v [] = ⊤
-  Rises v (l ∷ ls) =
-      (v ≤ place list l.atom) × (l.atom < list.atoms) × Rises (place list l.atom + 1) ls
+  abbrev pub RisesPast : ℕ → List Literal → Type 0
+  RisesPast v [] = ⊤
+  RisesPast v (l ∷ ls) =
+      (v ≤ place list l.atom) × (l.atom < list.atoms) × RisesPast (place list l.atom + 1) ls
 
-  pub rises_from : (v w : ℕ) (ls : List Literal) → w ≤ v → Rises v ls → Rises w ls
+  pub rises_from : (v w : ℕ) (ls : List Literal) → w ≤ v → RisesPast v ls → RisesPast w ls
   rises_from v w [] less rises = tt
   rises_from v w (l ∷ ls) less rises = (let upto = rises.0 in omega arith, rises.1, rises.2)
 
@@ -67,7 +67,7 @@ module _ (list : NodeList) where
   Before v l = place list l.atom < v
 
   in_folded : (ls : List Literal) (cube : List Literal) (v : ℕ) (s : List Bool)
-      → All (Before v) cube → Rises v ls
+      → All (Before v) cube → RisesPast v ls
       → in_cube (fold (λ c l. put_in l c) cube ls) s ≡ (in_cube cube s && in_cube ls s)
   in_folded [] cube v s before rises = by (in_cube cube s)
     where
@@ -89,20 +89,20 @@ module _ (list : NodeList) where
       ∙ and_swap (in_literal l s) (in_cube cube s) (in_cube ls s)))
 
   -- so the cube of such literals is what they say together
-  pub in_cube_of : (ls : List Literal) (v : ℕ) (s : List Bool) → Rises v ls
+  pub in_cube_of : (ls : List Literal) (v : ℕ) (s : List Bool) → RisesPast v ls
       → in_cube (cube_of ls) s ≡ in_cube ls s
   in_cube_of ls v s rises = in_folded ls [] v s (All-nil (Before v)) rises
 
   -- and speaks of atoms of the task
   below_folded : (ls : List Literal) (cube : List Literal) (v : ℕ)
-      → All (λ (l : Literal). l.atom < list.atoms) cube → Rises v ls
+      → All (λ (l : Literal). l.atom < list.atoms) cube → RisesPast v ls
       → All (λ (l : Literal). l.atom < list.atoms) (fold (λ c l. put_in l c) cube ls)
   below_folded [] cube v below rises = below
   below_folded (l ∷ ls) cube v below rises =
       below_folded ls (put_in l cube) (place list l.atom + 1)
       (All-put l (λ (k : Literal). k.atom < list.atoms) cube rises.1 below) rises.2
 
-  pub below_cube_of : (ls : List Literal) (v : ℕ) → Rises v ls
+  pub below_cube_of : (ls : List Literal) (v : ℕ) → RisesPast v ls
       → All (λ (l : Literal). l.atom < list.atoms) (cube_of ls)
   below_cube_of ls v rises =
       below_folded ls [] v (All-nil (λ (l : Literal). l.atom < list.atoms)) rises

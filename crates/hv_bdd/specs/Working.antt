@@ -1,0 +1,15 @@
+-- Definitions that no public contract cites: those of private contracts and of proofs.
+pub mod Order
+pub mod Graphs
+pub mod Sets
+pub mod Marked
+pub mod Search
+pub mod Building
+pub mod Chains
+pub mod Paths
+pub mod Turning
+pub mod Reading
+pub mod Ordered
+pub mod Walking
+pub mod Cubed
+pub mod Laws
