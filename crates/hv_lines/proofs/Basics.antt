@@ -9,14 +9,15 @@ use Rattle.hv_task.specs.State.{applicable, successor}
 use Rattle.hv_task.specs.Strips.{IsState, atoms}
 use Rattle.hv_sets.specs.Cost.{choices_of, clauses_of}
 use Rattle.hv_sets.specs.Query.{action_of, asked, in_operand, in_which, is_clash, may_apply}
-use Rattle.hv_lines.specs.Good.{IsBasicWord, IsFormed, IsGood, IsRuleWord}
+use Rattle.hv_lines.specs.Good.{IsBasicWord, IsGood, IsRuleWord}
+use Rattle.hv_lines.specs.Working.Good.{IsFormed}
 use Rattle.hv_lines.specs.Literals.{IsPlainExpr, IsPlainSet}
 use Rattle.hv_lines.specs.Meaning.{sets_of}
 use Rattle.hv_lines.specs.Numbering.{IsTable, expr_at}
 use Rattle.hv_lines.specs.Queries.{asked_actions, has_of, horn_in, horns_of, operand_of, query_of, which_at, PassesBudget}
 use Rattle.hv_lines.specs.Setting.{Setting}
 use Rattle.hv_lines.specs.Shapes.{AskedBefore, Askings, AskingsRise, HasSides, IsAndLeaf, IsAsked, IsLeaf, IsLeftLeaf, IsLiteralOf, IsQuestion, IsStep, OfSets, Question, and_parts, asks_sides_after, family_of, or_parts, alone, of_left, of_right}
-use Rattle.hv_lines.specs.Verdicts.{IsSettled, IsVerdict}
+use Rattle.hv_lines.specs.Verdicts.{DecidesNothing, IsVerdict}
 use Rattle.hv_lines.specs.declared.family.FormulaFamily.TheVariants as F
 use Rattle.hv_lines.specs.declared.line.Constant.TheVariants as C
 use Rattle.hv_lines.specs.declared.line.Expr.{Expr}
@@ -28,26 +29,12 @@ use Rattle.hv_lines.specs.declared.line.Word.{Word}
 use Rattle.hv_lines.specs.declared.line.Word.TheVariants as W
 use Rattle.hv_lines.specs.declared.verdict.Verdict.TheVariants as V
 use Rattle.hv_sets.specs.declared.literal.Literal.{Literal}
+use Rattle.hv_lines.proofs.Elements.{cons_cases, head_in, nothing_in, tail_in}
 use Rattle.hv_lines.proofs.Judging.{good_basic}
 use Rattle.hv_lines.proofs.Named.{found_number, plain_in, which_is}
 use Rattle.hv_lines.proofs.Questions.{alone_no_step}
 use Rattle.hv_lines.proofs.Ready.{some_below}
 use Rattle.hv_lines.proofs.Shaped.{literal_from, literal_once, step_no_literal, step_once}
-
--- lists
-
-head_in : {X : Type 0} (x : X) (xs : List X) → Contains (x ∷ xs) x
-head_in x xs = (0, omega arith, refl)
-
-tail_in : {X : Type 0} (x : X) (xs : List X) (y : X) → Contains xs y → Contains (x ∷ xs) y
-tail_in x xs y c = (suc c.0, omega (arith, c.1), c.2)
-
-cons_cases : {X : Type 0} (x : X) (xs : List X) (y : X) → Contains (x ∷ xs) y → (x ≡ y) ⊎ Contains xs y
-cons_cases x xs y (zero, within, e) = inl e
-cons_cases x xs y (suc k, within, e) = inr (k, omega (arith, within), e)
-
-nothing_in : {X : Type 0} (y : X) → Contains [] y → ⊥
-nothing_in y c = omega (arith, c.1)
 
 -- each of these numbers, asked about after the action or before it
 abbrev pub asked_all : Bool → List ℕ → Askings
@@ -383,7 +370,7 @@ module _ (setting : Setting) (lines : List Line) (id left right : ℕ) (word : W
       λ place query at.
           let actions = asked_actions setting.task lines acts in
           let w = got_mapped (query_of lines q) (slice_get actions place) query (sym (slice_get-map (query_of lines q) actions place) ∙ at) in
-          subst (IsSettled (PassesBudget setting lines F.Horn) (is_clash setting.task (has_of setting lines F.Horn)) (atoms setting.task)) w.2 (
+          subst (DecidesNothing (PassesBudget setting lines F.Horn) (is_clash setting.task (has_of setting lines F.Horn)) (atoms setting.task)) w.2 (
             λ over. omega (arith, over, within, choices_product setting lines (asks_sides_after word) rights),
             settled w.0 (got_in actions place w.0 w.1),
           ),

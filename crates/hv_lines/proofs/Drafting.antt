@@ -5,7 +5,8 @@ use Rattle.std.specs.List.{All}
 use Rattle.hv_task.specs.State.{AreBelow}
 use Rattle.hv_task.specs.Strips.{Strips}
 use Rattle.hv_lines.specs.Drafts.{IsGoodNext, IsGoodTable, conclusion, draft_setting, onto, prelude}
-use Rattle.hv_lines.specs.Good.{AreGood, ExprIsWithin, IsBasicWord, IsFormed, IsGood, IsOfItsFamily}
+use Rattle.hv_lines.specs.Good.{AreGood, ExprIsWithin, IsBasicWord, IsGood, IsOfItsFamily}
+use Rattle.hv_lines.specs.Working.Good.{IsFormed}
 use Rattle.hv_lines.specs.Judged.{Concludes}
 use Rattle.hv_lines.specs.Numbering.{ExprRefersBelow, IsTable, SpeaksBelow, acts_count, expr_at, expr_count, known_count, statement_at}
 use Rattle.hv_lines.specs.Rules.{Fits}
@@ -25,7 +26,8 @@ use Rattle.hv_lines.specs.declared.line.Word.{Word}
 use Rattle.hv_lines.specs.declared.line.Word.TheVariants as W
 use Rattle.hv_lines.proofs.Laws.{expr_below, known_below, statement_at_here}
 use Rattle.hv_lines.proofs.Carried.{known_onto}
-use Rattle.hv_lines.proofs.Lengths.{decimal_short, short_by, short_constant, short_known}
+use Rattle.hv_lines.proofs.Lengths.{decimal_short, short_by}
+use Rattle.hv_lines.proofs.Nexts.{next_claim, next_made}
 use Rattle.hv_lines.proofs.Reasons.{good_line, good_next}
 
 -- the lines of a good draft are a table
@@ -104,23 +106,19 @@ module _ (task : Strips) where
 
   constant_next : (lines : List Line) (id : ℕ) (constant : Constant) → id < 10
       → id ≡ expr_count lines → IsGoodNext task lines (L.Expr id (E.Constant constant))
-  constant_next lines id constant small is = record {
-    good = good_expr (draft_setting task) lines id (E.Constant constant)
-        (formed_expr (draft_setting task) lines id (E.Constant constant) (small_number id small) tt is tt tt tt);
-    short = short_constant id constant (small_number id small);
-  }
+  constant_next lines id constant small is =
+      next_made task lines id (E.Constant constant) tt
+      (good_expr (draft_setting task) lines id (E.Constant constant)
+      (formed_expr (draft_setting task) lines id (E.Constant constant) (small_number id small) tt is tt tt tt))
 
   -- the lines with which every draft begins are good
   pub good_prelude : IsGoodTable task (onto prelude [])
   good_prelude = (
-    record {
-      good = good_rule (draft_setting task) with_goal 0 (T.Dead 0) W.Ed [] (λ basic. basic)
-          (formed_known (draft_setting task) with_goal 0 (T.Dead 0) W.Ed [] (small_number 0 (omega arith)) (small_number 0 (omega arith))
-          (All-nil FitsDecimal) refl refl (omega arith) (All-nil (λ x. x < 0)))
-          refl;
-      short = short_known 0 (T.Dead 0) W.Ed [] (small_number 0 (omega arith)) (small_number 0 (omega arith)) (All-nil FitsDecimal)
-          (omega arith) (omega arith);
-    },
+    next_claim task with_goal 0 (T.Dead 0) W.Ed []
+        (good_rule (draft_setting task) with_goal 0 (T.Dead 0) W.Ed [] (λ basic. basic)
+        (formed_known (draft_setting task) with_goal 0 (T.Dead 0) W.Ed [] (small_number 0 (omega arith)) (small_number 0 (omega arith))
+        (All-nil FitsDecimal) refl refl (omega arith) (All-nil (λ x. x < 0)))
+        refl),
     (
       constant_next with_start 2 C.Goal (omega arith) refl,
       (
@@ -166,30 +164,19 @@ module _ (task : Strips) where
     start_below = expr_below old 1 (E.Constant C.Start) table start
 
     good1 : IsGoodTable task with_inclusion
-    good1 = (
-      record {
-        good = first;
-        short = short_known k (T.Sub 1 dead) W.B1 [] (omega (arith, few)) (small_number 1 (omega arith), dead_fits)
-            (All-nil FitsDecimal) (omega arith) (omega arith);
-      },
-      good,
-    )
+    good1 = (next_claim task old k (T.Sub 1 dead) W.B1 [] first, good)
 
     says1 : statement_at with_inclusion by ≡ Some (T.Dead dead)
     says1 = known_onto (L.Known k (T.Sub 1 dead) W.B1 [] ∷ []) old by (T.Dead dead) (table_of task with_inclusion good1) says
 
     good2 : IsGoodTable task with_dead_start
     good2 = (
-      record {
-        good = good_rule (draft_setting task) with_inclusion (k + 1) (T.Dead 1) W.Sd (k ∷ by ∷ []) (λ basic. basic)
-            (formed_known (draft_setting task) with_inclusion (k + 1) (T.Dead 1) W.Sd (k ∷ by ∷ []) (omega (arith, few)) (small_number 1 (omega arith))
-            (All-cons FitsDecimal k (by ∷ []) (omega (arith, few)) (All-cons FitsDecimal by [] (omega (arith, few, by_below)) (All-nil FitsDecimal)))
-            refl (omega (arith, is)) start_below (below_two (known_count with_inclusion) k by (omega (arith, is)) (omega (arith, is, by_below))))
-            (dead, statement_at_here k (T.Sub 1 dead) W.B1 [] old, says1);
-        short = short_known (k + 1) (T.Dead 1) W.Sd (k ∷ by ∷ []) (omega (arith, few)) (small_number 1 (omega arith))
-            (All-cons FitsDecimal k (by ∷ []) (omega (arith, few)) (All-cons FitsDecimal by [] (omega (arith, few, by_below)) (All-nil FitsDecimal)))
-            (omega arith) (omega arith);
-      },
+      next_claim task with_inclusion (k + 1) (T.Dead 1) W.Sd (k ∷ by ∷ [])
+          (good_rule (draft_setting task) with_inclusion (k + 1) (T.Dead 1) W.Sd (k ∷ by ∷ []) (λ basic. basic)
+          (formed_known (draft_setting task) with_inclusion (k + 1) (T.Dead 1) W.Sd (k ∷ by ∷ []) (omega (arith, few)) (small_number 1 (omega arith))
+          (All-cons FitsDecimal k (by ∷ []) (omega (arith, few)) (All-cons FitsDecimal by [] (omega (arith, few, by_below)) (All-nil FitsDecimal)))
+          refl (omega (arith, is)) start_below (below_two (known_count with_inclusion) k by (omega (arith, is)) (omega (arith, is, by_below))))
+          (dead, statement_at_here k (T.Sub 1 dead) W.B1 [] old, says1)),
       good1,
     )
 
@@ -198,15 +185,12 @@ module _ (task : Strips) where
 
     pub good_conclusion : IsGoodTable task (onto (conclusion k dead by) old)
     good_conclusion = (
-      record {
-        good = good_rule (draft_setting task) with_dead_start (k + 2) T.Unsolvable W.Ci ((k + 1) ∷ []) (λ basic. basic)
-            (formed_known (draft_setting task) with_dead_start (k + 2) T.Unsolvable W.Ci ((k + 1) ∷ []) (omega (arith, few)) tt
-            (All-cons FitsDecimal (k + 1) [] (omega (arith, few)) (All-nil FitsDecimal))
-            refl (omega (arith, is)) tt (below_one (known_count with_dead_start) (k + 1) (omega (arith, is))))
-            (1, statement_at_here (k + 1) (T.Dead 1) W.Sd (k ∷ by ∷ []) with_inclusion, start2);
-        short = short_known (k + 2) T.Unsolvable W.Ci ((k + 1) ∷ []) (omega (arith, few)) tt
-            (All-cons FitsDecimal (k + 1) [] (omega (arith, few)) (All-nil FitsDecimal)) (omega arith) (omega arith);
-      },
+      next_claim task with_dead_start (k + 2) T.Unsolvable W.Ci ((k + 1) ∷ [])
+          (good_rule (draft_setting task) with_dead_start (k + 2) T.Unsolvable W.Ci ((k + 1) ∷ []) (λ basic. basic)
+          (formed_known (draft_setting task) with_dead_start (k + 2) T.Unsolvable W.Ci ((k + 1) ∷ []) (omega (arith, few)) tt
+          (All-cons FitsDecimal (k + 1) [] (omega (arith, few)) (All-nil FitsDecimal))
+          refl (omega (arith, is)) tt (below_one (known_count with_dead_start) (k + 1) (omega (arith, is))))
+          (1, statement_at_here (k + 1) (T.Dead 1) W.Sd (k ∷ by ∷ []) with_inclusion, start2)),
       good2,
     )
 

@@ -10,8 +10,8 @@ use Rattle.hv_lines.specs.declared.line.Line.{Line}
 use Rattle.hv_lines.specs.declared.line.Line.TheVariants as L
 use Rattle.hv_lines.specs.declared.line.Statement.{Statement}
 use Rattle.hv_lines.specs.declared.line.Word.{Word}
-use Rattle.hv_lines.specs.Numbering.{acts_count, expr_count, known_count, IsNext, IsTable}
-use Rattle.hv_lines.specs.TableState.{IsActsLine, IsExprLine, IsKnownLine, LeadsToLines, IsIndexed}
+use Rattle.hv_lines.specs.Numbering.{acts_count, expr_count, known_count, MayFollow, IsTable}
+use Rattle.hv_lines.specs.Working.TableState.{IsActsLine, IsExprLine, IsKnownLine, LeadsToLines, IsIndexed}
 use Rattle.hv_lines.proofs.Laws.{acts_at_more, expr_at_more, statement_at_more, word_at_more, premises_at_more, acts_at_here, expr_at_here, statement_at_here, word_at_here, premises_at_here}
 
 -- what stands at a place of a list stands there in a longer list
@@ -55,15 +55,15 @@ found_push pushed places line IsLine IsLater later here found id below =
 
 -- the line of an earlier identifier stays its line
 
-later_acts : (line : Line) (lines : List Line) (n : ℕ) → IsNext lines line → n ≡ acts_count lines → (id : ℕ) (l : Line) → id < n
+later_acts : (line : Line) (lines : List Line) (n : ℕ) → MayFollow lines line → n ≡ acts_count lines → (id : ℕ) (l : Line) → id < n
     → IsActsLine lines id l → IsActsLine (line ∷ lines) id l
 later_acts line lines n next same id l below is = (is.0, is.1, acts_at_more line lines id next (omega arith) ∙ is.2)
 
-later_expr : (line : Line) (lines : List Line) (n : ℕ) → IsNext lines line → n ≡ expr_count lines → (id : ℕ) (l : Line) → id < n
+later_expr : (line : Line) (lines : List Line) (n : ℕ) → MayFollow lines line → n ≡ expr_count lines → (id : ℕ) (l : Line) → id < n
     → IsExprLine lines id l → IsExprLine (line ∷ lines) id l
 later_expr line lines n next same id l below is = (is.0, is.1, expr_at_more line lines id next (omega arith) ∙ is.2)
 
-later_known : (line : Line) (lines : List Line) (n : ℕ) → IsNext lines line → n ≡ known_count lines → (id : ℕ) (l : Line) → id < n
+later_known : (line : Line) (lines : List Line) (n : ℕ) → MayFollow lines line → n ≡ known_count lines → (id : ℕ) (l : Line) → id < n
     → IsKnownLine lines id l → IsKnownLine (line ∷ lines) id l
 later_known line lines n next same id l below is =
     let earlier : id < known_count lines = omega arith in (
@@ -90,7 +90,7 @@ indexed_none = record {
 }
 
 module _ (pushed lines : List Line) (acts exprs knowns : List ℕ) (i : IsIndexed pushed lines acts exprs knowns) where
-  pub indexed_acts : (id : ℕ) (x : Acts) → IsNext lines (L.Acts id x)
+  pub indexed_acts : (id : ℕ) (x : Acts) → MayFollow lines (L.Acts id x)
       → IsIndexed (pushed ++ L.Acts id x ∷ []) (L.Acts id x ∷ lines) (acts ++ length pushed ∷ []) exprs knowns
   indexed_acts id x next =
       let line = L.Acts id x in
@@ -109,7 +109,7 @@ module _ (pushed lines : List Line) (acts exprs knowns : List ℕ) (i : IsIndexe
             found_kept pushed knowns line (IsKnownLine lines) (IsKnownLine (line ∷ lines)) (later_known line lines (length knowns) next i.knowns_length) i.knowns_found;
       }
 
-  pub indexed_expr : (id : ℕ) (x : Expr) → IsNext lines (L.Expr id x)
+  pub indexed_expr : (id : ℕ) (x : Expr) → MayFollow lines (L.Expr id x)
       → IsIndexed (pushed ++ L.Expr id x ∷ []) (L.Expr id x ∷ lines) acts (exprs ++ length pushed ∷ []) knowns
   indexed_expr id x next =
       let line = L.Expr id x in
@@ -128,7 +128,7 @@ module _ (pushed lines : List Line) (acts exprs knowns : List ℕ) (i : IsIndexe
             found_kept pushed knowns line (IsKnownLine lines) (IsKnownLine (line ∷ lines)) (later_known line lines (length knowns) next i.knowns_length) i.knowns_found;
       }
 
-  pub indexed_known : (id : ℕ) (st : Statement) (w : Word) (ps : List ℕ) → IsNext lines (L.Known id st w ps)
+  pub indexed_known : (id : ℕ) (st : Statement) (w : Word) (ps : List ℕ) → MayFollow lines (L.Known id st w ps)
       → IsIndexed (pushed ++ L.Known id st w ps ∷ []) (L.Known id st w ps ∷ lines) acts exprs (knowns ++ length pushed ∷ [])
   indexed_known id st w ps next =
       let line = L.Known id st w ps in
@@ -189,12 +189,12 @@ module _ (pushed now : List Line) (acts exprs knowns : List ℕ) (i : IsIndexed 
 grown : (old new now : List Line) (line : Line) → new ≡ old ++ line ∷ [] → reverse old ≡ now → line ∷ reverse old ≡ reverse new
 grown old new now line longer same = sym (ap reverse longer ∙ reverse-append old (line ∷ []))
 
-module _ (old new now : List Line) (line : Line) (same : reverse old ≡ now) (next : IsNext now line) (longer : new ≡ old ++ line ∷ [])
+module _ (old new now : List Line) (line : Line) (same : reverse old ≡ now) (next : MayFollow now line) (longer : new ≡ old ++ line ∷ [])
     (place : ℕ) (last : place ≡ length old) where
   pub push_acts : (acts more exprs knowns : List ℕ) → IsIndexed old (reverse old) acts exprs knowns → (id : ℕ) (x : Acts) → line ≡ L.Acts id x
       → more ≡ acts ++ place ∷ [] → IsIndexed new (reverse new) more exprs knowns
   push_acts acts more exprs knowns i id x is added =
-      let next_old : IsNext (reverse old) (L.Acts id x) = subst (λ l. IsNext (reverse old) l) is (subst (λ lines. IsNext lines line) (sym same) next) in
+      let next_old : MayFollow (reverse old) (L.Acts id x) = subst (λ l. MayFollow (reverse old) l) is (subst (λ lines. MayFollow lines line) (sym same) next) in
       let at = indexed_acts old (reverse old) acts exprs knowns i id x next_old in
       let places : acts ++ length old ∷ [] ≡ more = ap (λ n. acts ++ n ∷ []) (sym last) ∙ sym added in
       subst (λ lines. IsIndexed new lines more exprs knowns) (grown old new now line longer same)
@@ -205,7 +205,7 @@ module _ (old new now : List Line) (line : Line) (same : reverse old ≡ now) (n
   pub push_expr : (acts exprs more knowns : List ℕ) → IsIndexed old (reverse old) acts exprs knowns → (id : ℕ) (x : Expr) → line ≡ L.Expr id x
       → more ≡ exprs ++ place ∷ [] → IsIndexed new (reverse new) acts more knowns
   push_expr acts exprs more knowns i id x is added =
-      let next_old : IsNext (reverse old) (L.Expr id x) = subst (λ l. IsNext (reverse old) l) is (subst (λ lines. IsNext lines line) (sym same) next) in
+      let next_old : MayFollow (reverse old) (L.Expr id x) = subst (λ l. MayFollow (reverse old) l) is (subst (λ lines. MayFollow lines line) (sym same) next) in
       let at = indexed_expr old (reverse old) acts exprs knowns i id x next_old in
       let places : exprs ++ length old ∷ [] ≡ more = ap (λ n. exprs ++ n ∷ []) (sym last) ∙ sym added in
       subst (λ lines. IsIndexed new lines acts more knowns) (grown old new now line longer same)
@@ -216,7 +216,7 @@ module _ (old new now : List Line) (line : Line) (same : reverse old ≡ now) (n
   pub push_known : (acts exprs knowns more : List ℕ) → IsIndexed old (reverse old) acts exprs knowns → (id : ℕ) (st : Statement) (w : Word) (ps : List ℕ)
       → line ≡ L.Known id st w ps → more ≡ knowns ++ place ∷ [] → IsIndexed new (reverse new) acts exprs more
   push_known acts exprs knowns more i id st w ps is added =
-      let next_old : IsNext (reverse old) (L.Known id st w ps) = subst (λ l. IsNext (reverse old) l) is (subst (λ lines. IsNext lines line) (sym same) next) in
+      let next_old : MayFollow (reverse old) (L.Known id st w ps) = subst (λ l. MayFollow (reverse old) l) is (subst (λ lines. MayFollow lines line) (sym same) next) in
       let at = indexed_known old (reverse old) acts exprs knowns i id st w ps next_old in
       let places : knowns ++ length old ∷ [] ≡ more = ap (λ n. knowns ++ n ∷ []) (sym last) ∙ sym added in
       subst (λ lines. IsIndexed new lines acts exprs more) (grown old new now line longer same)

@@ -1,6 +1,7 @@
 -- A line that is justified by a basic statement: its reason, or that it is good, by its verdict.
 use Rattle.std.proofs.Common.{ℕ, List, refl}
-use Rattle.hv_lines.specs.Good.{HasNotVerdict, IsBasicWord, IsFormed, IsGood, IsReasonOf, RuleHolds, WhereBasic}
+use Rattle.hv_lines.specs.Good.{HasNotVerdict, IsBasicWord, IsGood, RuleHolds, WhereBasic}
+use Rattle.hv_lines.specs.Working.Good.{IsFormed, IsReasonOf}
 use Rattle.hv_lines.specs.Order as O
 use Rattle.hv_lines.specs.Setting.{Setting}
 use Rattle.hv_lines.specs.Shapes.{HasShape}

@@ -6,24 +6,24 @@ use Rattle.hv_lines.specs.declared.line.Line.{Line}
 use Rattle.hv_lines.specs.declared.line.Line.TheVariants as L
 use Rattle.hv_lines.specs.declared.line.Statement.{Statement}
 use Rattle.hv_lines.specs.declared.line.Statement.TheVariants as T
-use Rattle.hv_lines.specs.Numbering.{acts_count, expr_count, statement_at, SpeaksBelow, IsNext, IsTable}
+use Rattle.hv_lines.specs.Numbering.{acts_count, expr_count, statement_at, SpeaksBelow, MayFollow, IsTable}
 use Rattle.hv_lines.specs.Meaning.{StateSet, ActionSet, sets_of, IsTrueStatement, AllTrue}
 use Rattle.hv_lines.proofs.Laws.{acts_more, sets_more, speaks_at, found_cases}
 
 module _ (task : Strips) (nodes : NodeList) where
   -- an earlier set has the same states after a line was added
-  pub kept_in : (line : Line) (older : List Line) (e : ℕ) → IsNext older line → e < expr_count older → (state : List Bool)
+  pub kept_in : (line : Line) (older : List Line) (e : ℕ) → MayFollow older line → e < expr_count older → (state : List Bool)
       → sets_of task nodes older e state → sets_of task nodes (line ∷ older) e state
   kept_in line older e next below state inside =
       subst (λ (S : StateSet). S state) (sym (sets_more task nodes line older e next below)) inside
 
-  pub kept_out : (line : Line) (older : List Line) (e : ℕ) → IsNext older line → e < expr_count older → (state : List Bool)
+  pub kept_out : (line : Line) (older : List Line) (e : ℕ) → MayFollow older line → e < expr_count older → (state : List Bool)
       → sets_of task nodes (line ∷ older) e state → sets_of task nodes older e state
   kept_out line older e next below state inside =
       subst (λ (S : StateSet). S state) (sets_more task nodes line older e next below) inside
 
   -- a true statement stays true
-  pub kept_true : (line : Line) (older : List Line) (st : Statement) → IsNext older line
+  pub kept_true : (line : Line) (older : List Line) (st : Statement) → MayFollow older line
       → SpeaksBelow (acts_count older) (expr_count older) st → IsTrueStatement task nodes older st
       → IsTrueStatement task nodes (line ∷ older) st
   kept_true line older (T.Sub e f) next speaks holds = λ state is_state inside.

@@ -15,7 +15,7 @@ use Rattle.hv_lines.specs.declared.line.Line.TheVariants as L
 use Rattle.hv_lines.specs.declared.line.Statement.{Statement}
 use Rattle.hv_lines.specs.declared.line.Statement.TheVariants as T
 use Rattle.hv_lines.specs.declared.line.Word.{Word}
-use Rattle.hv_lines.specs.Numbering.{acts_count, expr_count, known_count, acts_at, expr_at, statement_at, word_at, premises_at, ActsReferBelow, ExprRefersBelow, SpeaksBelow, IsNext, IsTable}
+use Rattle.hv_lines.specs.Numbering.{acts_count, expr_count, known_count, acts_at, expr_at, statement_at, word_at, premises_at, ActsReferBelow, ExprRefersBelow, SpeaksBelow, MayFollow, IsTable}
 use Rattle.hv_lines.specs.Meaning.{StateSet, ActionSet, has_action, IsAfter, IsBefore, holds, pick_acts, pick_set, acts_of, sets_of}
 
 -- the counts grow
@@ -41,27 +41,27 @@ below_ne {e} {id} same below = ne_eqb e id (λ h. absurd (omega arith))
 
 -- an added line doesn't change what is at earlier identifiers
 
-pub acts_at_more : (line : Line) (older : List Line) (a : ℕ) → IsNext older line → a < acts_count older → acts_at (line ∷ older) a ≡ acts_at older a
+pub acts_at_more : (line : Line) (older : List Line) (a : ℕ) → MayFollow older line → a < acts_count older → acts_at (line ∷ older) a ≡ acts_at older a
 acts_at_more (L.Acts id x) older a next below = cond-false (eqb a id) (Some x) (acts_at older a) (below_ne next.numbered below)
 acts_at_more (L.Expr id x) older a next below = refl
 acts_at_more (L.Known id st w ps) older a next below = refl
 
-pub expr_at_more : (line : Line) (older : List Line) (e : ℕ) → IsNext older line → e < expr_count older → expr_at (line ∷ older) e ≡ expr_at older e
+pub expr_at_more : (line : Line) (older : List Line) (e : ℕ) → MayFollow older line → e < expr_count older → expr_at (line ∷ older) e ≡ expr_at older e
 expr_at_more (L.Acts id x) older e next below = refl
 expr_at_more (L.Expr id x) older e next below = cond-false (eqb e id) (Some x) (expr_at older e) (below_ne next.numbered below)
 expr_at_more (L.Known id st w ps) older e next below = refl
 
-pub statement_at_more : (line : Line) (older : List Line) (k : ℕ) → IsNext older line → k < known_count older → statement_at (line ∷ older) k ≡ statement_at older k
+pub statement_at_more : (line : Line) (older : List Line) (k : ℕ) → MayFollow older line → k < known_count older → statement_at (line ∷ older) k ≡ statement_at older k
 statement_at_more (L.Acts id x) older k next below = refl
 statement_at_more (L.Expr id x) older k next below = refl
 statement_at_more (L.Known id st w ps) older k next below = cond-false (eqb k id) (Some st) (statement_at older k) (below_ne next.numbered below)
 
-pub word_at_more : (line : Line) (older : List Line) (k : ℕ) → IsNext older line → k < known_count older → word_at (line ∷ older) k ≡ word_at older k
+pub word_at_more : (line : Line) (older : List Line) (k : ℕ) → MayFollow older line → k < known_count older → word_at (line ∷ older) k ≡ word_at older k
 word_at_more (L.Acts id x) older k next below = refl
 word_at_more (L.Expr id x) older k next below = refl
 word_at_more (L.Known id st w ps) older k next below = cond-false (eqb k id) (Some w) (word_at older k) (below_ne next.numbered below)
 
-pub premises_at_more : (line : Line) (older : List Line) (k : ℕ) → IsNext older line → k < known_count older → premises_at (line ∷ older) k ≡ premises_at older k
+pub premises_at_more : (line : Line) (older : List Line) (k : ℕ) → MayFollow older line → k < known_count older → premises_at (line ∷ older) k ≡ premises_at older k
 premises_at_more (L.Acts id x) older k next below = refl
 premises_at_more (L.Expr id x) older k next below = refl
 premises_at_more (L.Known id st w ps) older k next below = cond-false (eqb k id) (Some ps) (premises_at older k) (below_ne next.numbered below)
@@ -267,7 +267,7 @@ pick_acts-true : (test : Bool) (here there : ActionSet) → test ≡ true → pi
 pick_acts-true true here there h = refl
 pick_acts-true false here there h = absurd (cc)
 
-pub acts_more : (line : Line) (older : List Line) (a : ℕ) → IsNext older line → a < acts_count older → acts_of (line ∷ older) a ≡ acts_of older a
+pub acts_more : (line : Line) (older : List Line) (a : ℕ) → MayFollow older line → a < acts_count older → acts_of (line ∷ older) a ≡ acts_of older a
 acts_more (L.Acts id x) older a next below =
     pick_acts-false (eqb a id) (has_action (acts_of older) x) (acts_of older a) (below_ne next.numbered below)
 acts_more (L.Expr id x) older a next below = refl
@@ -315,7 +315,7 @@ pick_set-true true here there h = refl
 pick_set-true false here there h = absurd (cc)
 
 module _ (task : Strips) (nodes : NodeList) where
-  pub sets_more : (line : Line) (older : List Line) (e : ℕ) → IsNext older line → e < expr_count older
+  pub sets_more : (line : Line) (older : List Line) (e : ℕ) → MayFollow older line → e < expr_count older
       → sets_of task nodes (line ∷ older) e ≡ sets_of task nodes older e
   sets_more (L.Acts id x) older e next below = refl
   sets_more (L.Expr id x) older e next below =
@@ -350,7 +350,7 @@ module _ (task : Strips) (nodes : NodeList) where
       ∙ ap (λ (X : ActionSet). λ state. IsBefore task (other_sets e) X state) (same_acts by refers.1)
 
   -- so an added line doesn't change what an expression over the earlier sets holds
-  pub holds_more : (line : Line) (older : List Line) (x : Expr) → IsNext older line → ExprRefersBelow (acts_count older) (expr_count older) x
+  pub holds_more : (line : Line) (older : List Line) (x : Expr) → MayFollow older line → ExprRefersBelow (acts_count older) (expr_count older) x
       → holds task nodes (acts_of older) (sets_of task nodes older) x
       ≡ holds task nodes (acts_of (line ∷ older)) (sets_of task nodes (line ∷ older)) x
   holds_more line older x next refers =

@@ -4,7 +4,7 @@ use Rattle.std.proofs.lemmas.Fmt.{length-decimal-le_wide}
 use Rattle.std.proofs.lemmas.List.Elements.{All-head, All-tail}
 use Rattle.std.specs.List.{All, flat_map, join_with_byte}
 use Rattle.hv_sets.specs.declared.literal.Literal.{Literal}
-use Rattle.hv_lines.specs.Drafts.{IsShort}
+use Rattle.hv_lines.specs.Drafts.{IsShortLine}
 use Rattle.hv_lines.specs.Spelling.{FitsDecimal, StatementFits, clause_fields, constant_field, fields_of, literal_field, statement_fields, word_field}
 use Rattle.hv_lines.specs.declared.line.Constant.{Constant}
 use Rattle.hv_lines.specs.declared.line.Constant.TheVariants as C
@@ -24,14 +24,14 @@ pub weight-append : (fields more : List (List ℕ)) → weight (fields ++ more) 
 weight-append [] more = omega arith
 weight-append (field ∷ fields) more = omega (arith, weight-append fields more)
 
-length-join : (fields : List (List ℕ)) → length (join_with_byte 32 fields) ≤ weight fields
+pub length-join : (fields : List (List ℕ)) → length (join_with_byte 32 fields) ≤ weight fields
 length-join [] = omega arith
 length-join (field ∷ []) = omega arith
 length-join (field ∷ next ∷ fields) =
     omega (arith, length-append field (32 ∷ join_with_byte 32 (next ∷ fields)), length-join (next ∷ fields))
 
 -- a line whose fields are short is short
-pub short_by : (line : Line) → weight (fields_of line) ≤ 16777216 → IsShort line
+pub short_by : (line : Line) → weight (fields_of line) ≤ 16777216 → IsShortLine line
 short_by line small = omega (arith, length-join (fields_of line))
 
 pub decimal_short : (n : ℕ) → FitsDecimal n → length (decimal n) ≤ 18
@@ -49,7 +49,7 @@ statement_short T.Unsolvable fits = omega arith
 
 -- a line of a statement is short
 pub short_known : (id : ℕ) (statement : Statement) (word : Word) (premises : List ℕ) → FitsDecimal id → StatementFits statement
-    → All FitsDecimal premises → length (word_field word) ≤ 2 → length premises ≤ 3 → IsShort (L.Known id statement word premises)
+    → All FitsDecimal premises → length (word_field word) ≤ 2 → length premises ≤ 3 → IsShortLine (L.Known id statement word premises)
 short_known id statement word premises at says fit named few =
     short_by (L.Known id statement word premises)
     (omega (
@@ -62,15 +62,15 @@ short_known id statement word premises at says fit named few =
       weight-append (statement_fields statement) (word_field word ∷ map decimal premises),
     ))
 
-pub short_after : (id set acts : ℕ) → FitsDecimal id → FitsDecimal set → FitsDecimal acts → IsShort (L.Expr id (E.After set acts))
+pub short_after : (id set acts : ℕ) → FitsDecimal id → FitsDecimal set → FitsDecimal acts → IsShortLine (L.Expr id (E.After set acts))
 short_after id set acts a b c =
     short_by (L.Expr id (E.After set acts)) (omega (arith, decimal_short id a, decimal_short set b, decimal_short acts c))
 
-pub short_or : (id left right : ℕ) → FitsDecimal id → FitsDecimal left → FitsDecimal right → IsShort (L.Expr id (E.Or left right))
+pub short_or : (id left right : ℕ) → FitsDecimal id → FitsDecimal left → FitsDecimal right → IsShortLine (L.Expr id (E.Or left right))
 short_or id left right a b c =
     short_by (L.Expr id (E.Or left right)) (omega (arith, decimal_short id a, decimal_short left b, decimal_short right c))
 
-pub short_and : (id left right : ℕ) → FitsDecimal id → FitsDecimal left → FitsDecimal right → IsShort (L.Expr id (E.And left right))
+pub short_and : (id left right : ℕ) → FitsDecimal id → FitsDecimal left → FitsDecimal right → IsShortLine (L.Expr id (E.And left right))
 short_and id left right a b c =
     short_by (L.Expr id (E.And left right)) (omega (arith, decimal_short id a, decimal_short left b, decimal_short right c))
 
@@ -79,7 +79,7 @@ constant_short C.Empty = omega arith
 constant_short C.Start = omega arith
 constant_short C.Goal = omega arith
 
-pub short_constant : (id : ℕ) (constant : Constant) → FitsDecimal id → IsShort (L.Expr id (E.Constant constant))
+pub short_constant : (id : ℕ) (constant : Constant) → FitsDecimal id → IsShortLine (L.Expr id (E.Constant constant))
 short_constant id constant at =
     short_by (L.Expr id (E.Constant constant)) (omega (arith, decimal_short id at, constant_short constant))
 
@@ -121,7 +121,7 @@ clauses_short (clause ∷ clauses) small =
 
 -- a Horn formula of small clauses, no more than the default budget, is short
 pub short_horn : (id : ℕ) (clauses : List (List Literal)) → FitsDecimal id → All IsSmall clauses → length clauses ≤ 1000000
-    → IsShort (L.Expr id (E.Horn clauses))
+    → IsShortLine (L.Expr id (E.Horn clauses))
 short_horn id clauses at small few =
     short_by (L.Expr id (E.Horn clauses))
     (omega (arith, decimal_short id at, decimal_short (length clauses) (omega arith), clauses_short clauses small, few))

@@ -1,3 +1,6 @@
+pub mod Elements
+pub mod Lists
+pub mod WordTable
 pub mod Laws
 pub mod Kept
 pub mod Reasons
@@ -12,6 +15,9 @@ pub mod Truth
 pub mod Ready
 pub mod Judging
 pub mod Lengths
+pub mod Brief
+pub mod Budgets
+pub mod Nexts
 pub mod Carried
 pub mod Basics
 pub mod Untrue

@@ -1,7 +1,7 @@
 -- A statement with its word asks one question, and has one verdict.
 use Rattle.std.proofs.Common.{◌≡◌, ℕ, ◌∙◌, List, Option, Some, None, refl, sym, ap, subst, inl, inr}
 use Rattle.std.proofs.lemmas.Option.{same_Some}
-use Rattle.hv_lines.specs.Shapes.{HasSides, IsFamilyOf, IsOfFamily, IsQuestion, IsStep, IsWithinFamily, Question, family_of, step_of}
+use Rattle.hv_lines.specs.Shapes.{HasSides, IsFamilyOf, IsOfFamily, IsQuestion, IsStep, IsWithinFamily, Question, family_of, asked_step}
 use Rattle.hv_lines.specs.declared.family.FormulaFamily.{FormulaFamily}
 use Rattle.hv_lines.specs.declared.line.Line.{Line}
 use Rattle.hv_lines.specs.declared.line.Word.{Word}
@@ -13,7 +13,7 @@ module _ (lines : List Line) (word : Word) (left right : ℕ) where
   -- `b1` asks for no step
   pub alone_no_step : (leaf set acts : ℕ) → word ≡ W.B1 → IsStep lines word leaf set acts → ⊥
   alone_no_step leaf set acts is step =
-      let none : step_of W.B1 step.0 ≡ Some (set, acts) = subst (λ w. step_of w step.0 ≡ Some (set, acts)) is step.2 in
+      let none : asked_step W.B1 step.0 ≡ Some (set, acts) = subst (λ w. asked_step w step.0 ≡ Some (set, acts)) is step.2 in
       cc (none)
 
   -- no question has the word of two families

@@ -9,7 +9,8 @@ use Rattle.hv_sets.specs.declared.operand.Operand.{Operand}
 use Rattle.hv_lines.specs.Literals.{IsPlainExpr, IsPlainSet}
 use Rattle.hv_lines.specs.Meaning.{acts_of}
 use Rattle.hv_lines.specs.Numbering.{IsTable, expr_at, expr_count}
-use Rattle.hv_lines.specs.Queries.{actions_below, NamesNodes, asked_actions, count_of, horn_in, two_in, listed_in, named_by, operand_of, query_of, which_at}
+use Rattle.hv_lines.specs.Queries.{actions_below, NamesNodes, asked_actions, horn_in, two_in, listed_in, named_by, operand_of, query_of, which_at}
+use Rattle.hv_lines.specs.Working.Queries.{count_of}
 use Rattle.hv_lines.specs.Shapes.{Askings, AskingsRise, HasSides, IsAsked, IsQuestion, Question, asks_sides_after, family_of}
 use Rattle.hv_lines.specs.declared.family.FormulaFamily.{FormulaFamily}
 use Rattle.hv_lines.specs.declared.family.FormulaFamily.TheVariants as F

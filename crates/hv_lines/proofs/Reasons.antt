@@ -2,8 +2,9 @@
 use Rattle.std.proofs.Common.{◌≡◌, ℕ, zero, suc, ◌+◌, ◌<◌, ◌∙◌, List, inl, inr, refl, sym, ap, subst, arith, lit<}
 use Rattle.std.proofs.Math.Nat.{eq-or-lt_of_le}
 use Rattle.std.proofs.lemmas.Bool.Decides.{leb_tells}
-use Rattle.hv_lines.specs.Good.{FamilyFits, HasNotVerdict, HasVerdictTrue, IsFormed, IsGood, IsKnown, IsReasonOf, IsRefutedBy, LinePasses, RuleHolds, WhereBasic}
-use Rattle.hv_lines.specs.Numbering.{IsNext, IsNumbered}
+use Rattle.hv_lines.specs.Good.{FamilyFits, HasNotVerdict, HasVerdictTrue, IsGood, IsKnown, IsRefutedBy, LinePasses, RuleHolds, WhereBasic}
+use Rattle.hv_lines.specs.Working.Good.{IsFormed, IsReasonOf}
+use Rattle.hv_lines.specs.Numbering.{MayFollow, IsNumbered}
 use Rattle.hv_lines.specs.Order.{Test, Gives, IsReasonBy, rank, without_state}
 use Rattle.hv_lines.specs.Order as O
 use Rattle.hv_lines.specs.Setting.{Setting}
@@ -175,7 +176,7 @@ module _ (setting : Setting) (lines : List Line) (line : Line) where
       passes_all (LinePasses setting lines line) (next_test O.Truth (upto_truth formed rule shape offered within) true)
 
   -- a good line may stand after the lines before it
-  pub good_next : IsGood setting lines line → IsNext lines line
+  pub good_next : IsGood setting lines line → MayFollow lines line
   good_next good = let known : IsKnown setting.task setting.nodes lines line = good O.Reference in
       record { numbered = good O.Number; back = known.0 }
 

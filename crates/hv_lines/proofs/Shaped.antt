@@ -3,7 +3,7 @@ use Rattle.std.proofs.Common.{◌≡◌, ℕ, ◌<◌, ◌∙◌, Bool, true, fa
 use Rattle.std.proofs.lemmas.Option.{same_Some}
 use Rattle.hv_lines.specs.Literals.{IsLiteral, IsPlainExpr, IsPlainSet}
 use Rattle.hv_lines.specs.Numbering.{IsTable, expr_at, expr_count}
-use Rattle.hv_lines.specs.Shapes.{IsLeaf, IsLiteralOf, IsStep, after_parts, before_parts, step_of, alone, of_left, of_right}
+use Rattle.hv_lines.specs.Shapes.{IsLeaf, IsLiteralOf, IsStep, after_parts, before_parts, asked_step, alone, of_left, of_right}
 use Rattle.hv_lines.specs.declared.line.Expr.{Expr}
 use Rattle.hv_lines.specs.declared.line.Expr.TheVariants as E
 use Rattle.hv_lines.specs.declared.line.Line.{Line}
@@ -24,12 +24,12 @@ before_plain (E.Before set acts) p is plain = elim plain [ inl formula ↦ formu
 before_plain _ p is plain = absurd (cc (is))
 
 -- a step is no formula or constant, and no negation
-step_plain : (word : Word) (expr : Expr) (p : ℕ × ℕ) → step_of word expr ≡ Some p → IsPlainExpr expr → ⊥
+step_plain : (word : Word) (expr : Expr) (p : ℕ × ℕ) → asked_step word expr ≡ Some p → IsPlainExpr expr → ⊥
 step_plain W.B2 expr p is plain = after_plain expr p is plain
 step_plain W.B3 expr p is plain = before_plain expr p is plain
 step_plain _ expr p is plain = absurd (cc (is))
 
-step_not : (word : Word) (set : ℕ) (p : ℕ × ℕ) → step_of word (E.Not set) ≡ Some p → ⊥
+step_not : (word : Word) (set : ℕ) (p : ℕ × ℕ) → asked_step word (E.Not set) ≡ Some p → ⊥
 step_not W.B2 set p is = cc (is)
 step_not W.B3 set p is = cc (is)
 step_not _ set p is = cc (is)
@@ -65,14 +65,14 @@ module _ (lines : List Line) where
       step_plain word step.0 (set, acts) step.2 (subst IsPlainExpr (expr_once leaf plain.0 step.0 plain.1 step.1) plain.2)
   step_no_literal word leaf set acts step (inr (inner, at, plain)) =
       step_not word inner (set, acts)
-      (subst (λ x. step_of word x ≡ Some (set, acts)) (expr_once leaf step.0 (E.Not inner) step.1 at) step.2)
+      (subst (λ x. asked_step word x ≡ Some (set, acts)) (expr_once leaf step.0 (E.Not inner) step.1 at) step.2)
 
   -- a step has one set and one action set
   pub step_once : (word : Word) (leaf set acts other by : ℕ) → IsStep lines word leaf set acts → IsStep lines word leaf other by
       → (set ≡ other) × (acts ≡ by)
   step_once word leaf set acts other by step also =
       let same : step.0 ≡ also.0 = expr_once leaf step.0 also.0 step.1 also.1 in
-      let is : step_of word also.0 ≡ Some (set, acts) = subst (λ x. step_of word x ≡ Some (set, acts)) same step.2 in
+      let is : asked_step word also.0 ≡ Some (set, acts) = subst (λ x. asked_step word x ≡ Some (set, acts)) same step.2 in
       let both : (set, acts) ≡ (other, by) = same_Some (set, acts) (other, by) (sym is ∙ also.2) in
       (ap (λ p. p.0) both, ap (λ p. p.1) both)
 

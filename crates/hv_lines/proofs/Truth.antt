@@ -14,12 +14,12 @@ use Rattle.hv_sets.specs.declared.query.Query.{Query}
 use Rattle.hv_sets.proofs.Listed.{in_states-Decides}
 use Rattle.hv_lines.specs.Literals.{IsPlainSet}
 use Rattle.hv_lines.specs.Meaning.{IsTrueStatement, acts_of, holds, sets_of}
-use Rattle.hv_lines.specs.Mixed.{in_formula, in_signed}
+use Rattle.hv_lines.specs.Mixed.{in_line_formula, in_signed}
 use Rattle.hv_lines.specs.Numbering.{IsTable, expr_at}
 use Rattle.hv_lines.specs.Queries.{actions_below, asked_actions, has_of, operand_of, queries_of, query_of, which_at, PassesBudget}
 use Rattle.hv_lines.specs.Setting.{Setting}
-use Rattle.hv_lines.specs.Shapes.{AreTwo, OfSets, OfTwo, OfActs, HasSides, IsAndLeaf, IsAsked, IsLeftLeaf, IsOrLeaf, IsQuestion, IsLiteralOf, IsRightLeaf, IsStep, Question, and_parts, or_parts, after_parts, before_parts, asks_sides_after, asks_step_after, family_of, step_of, alone, of_left, of_right}
-use Rattle.hv_lines.specs.Verdicts.{IsSettled, IsVerdict, IsVerdictOfActs, IsVerdictOfTwo}
+use Rattle.hv_lines.specs.Shapes.{AreTwo, OfSets, OfTwo, OfActs, HasSides, IsAndLeaf, IsAsked, IsLeftLeaf, IsOrLeaf, IsQuestion, IsLiteralOf, IsRightLeaf, IsStep, Question, and_parts, or_parts, after_parts, before_parts, asks_sides_after, asks_step_after, family_of, asked_step, alone, of_left, of_right}
+use Rattle.hv_lines.specs.Verdicts.{DecidesNothing, IsVerdict, IsVerdictOfActs, IsVerdictOfTwo}
 use Rattle.hv_lines.specs.declared.family.FormulaFamily.{FormulaFamily}
 use Rattle.hv_lines.specs.declared.line.Expr.{Expr}
 use Rattle.hv_lines.specs.declared.line.Expr.TheVariants as E
@@ -183,7 +183,7 @@ module _ (setting : Setting) (lines : List Line) (table : IsTable lines) where
 
   module _ (word : Word) (left right : ℕ) (q : Question) (is : IsQuestion lines word left right q)
       (settled : (place : ℕ) (query : Query) → slice_get (queries_of setting.task lines q) place ≡ Some query
-      → IsSettled (PassesBudget setting lines q.family) (is_clash setting.task (has_of setting lines q.family)) (atoms setting.task) query) where
+      → DecidesNothing (PassesBudget setting lines q.family) (is_clash setting.task (has_of setting lines q.family)) (atoms setting.task) query) where
     -- no query has a counterexample
     no_clash : (number : Option ℕ) (act : Option Action) (t : List Bool) → IsState setting.task t
         → Contains (asked_actions setting.task lines q.acts) number → action_of setting.task number ≡ act → may_apply act t ≡ true
@@ -252,7 +252,7 @@ module _ (setting : Setting) (lines : List Line) (table : IsTable lines) where
       unfolding Within In
       after_true only b2 =
           let is_after : expr_at lines only.0 ≡ Some (E.After only.1 acts) =
-          only.3.1 ∙ ap Some (after_is only.3.0 only.1 acts (subst (λ w. step_of w only.3.0 ≡ Some (only.1, acts)) b2 only.3.2)) in
+          only.3.1 ∙ ap Some (after_is only.3.0 only.1 acts (subst (λ w. asked_step w only.3.0 ≡ Some (only.1, acts)) b2 only.3.2)) in
           let r = set_out setting.task setting.nodes lines only.0 (E.After only.1 acts) table is_after state
           (in_leaf setting lines table left only.0 only.2 state inside) in
           let after : asks_sides_after word ≡ true = ap asks_sides_after b2 in
@@ -275,7 +275,7 @@ module _ (setting : Setting) (lines : List Line) (table : IsTable lines) where
       unfolding Within In
       before_true only b3 =
           let is_before : expr_at lines only.0 ≡ Some (E.Before only.1 acts) =
-          only.3.1 ∙ ap Some (before_is only.3.0 only.1 acts (subst (λ w. step_of w only.3.0 ≡ Some (only.1, acts)) b3 only.3.2)) in
+          only.3.1 ∙ ap Some (before_is only.3.0 only.1 acts (subst (λ w. asked_step w only.3.0 ≡ Some (only.1, acts)) b3 only.3.2)) in
           let r = set_out setting.task setting.nodes lines only.0 (E.Before only.1 acts) table is_before state
           (in_leaf setting lines table left only.0 only.2 state inside) in
           let before : asks_sides_after word ≡ false = ap asks_sides_after b3 in
@@ -298,7 +298,7 @@ module _ (setting : Setting) (lines : List Line) (table : IsTable lines) where
       by_word W.B2 same only = after_true only same
       by_word W.B3 same only = before_true only same
       by_word _ same only =
-          let none = subst (λ w. step_of w only.3.0 ≡ Some (only.1, acts)) same only.3.2 in
+          let none = subst (λ w. asked_step w only.3.0 ≡ Some (only.1, acts)) same only.3.2 in
           cc (none)
 
       step_true : ⊥
@@ -322,7 +322,7 @@ module _ (setting : Setting) (lines : List Line) (table : IsTable lines) where
 
   -- a formula has the states that its line says
   formula_holds : (x : Expr) (family : FormulaFamily) → family_of x ≡ Some family → (state : List Bool)
-      → (in_formula setting x state ≡ true) ↔ holds setting.task setting.nodes (acts_of lines) (sets_of setting.task setting.nodes lines) x state
+      → (in_line_formula setting x state ≡ true) ↔ holds setting.task setting.nodes (acts_of lines) (sets_of setting.task setting.nodes lines) x state
   formula_holds (E.Horn clauses) family of state = (λ e. e, λ e. e)
   formula_holds (E.Two clauses) family of state = (λ e. e, λ e. e)
   formula_holds (E.States states) family of state =
@@ -350,8 +350,8 @@ module _ (setting : Setting) (lines : List Line) (table : IsTable lines) where
   signed_in leaf set false x family is at of state =
       let same = formula_holds x family of state in (
         λ e. set_in setting.task setting.nodes lines leaf (E.Not set) table is.0 state
-            (λ inside. not_both (in_formula setting x state) e (same.1 (set_out setting.task setting.nodes lines set x table at state inside))),
-        λ inside. not_true (in_formula setting x state)
+            (λ inside. not_both (in_line_formula setting x state) e (same.1 (set_out setting.task setting.nodes lines set x table at state inside))),
+        λ inside. not_true (in_line_formula setting x state)
             (λ e. set_out setting.task setting.nodes lines leaf (E.Not set) table is.0 state inside
             (set_in setting.task setting.nodes lines set x table at state (same.0 e))),
       )

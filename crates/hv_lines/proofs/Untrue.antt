@@ -13,7 +13,7 @@ use Rattle.hv_lines.specs.Mixed.{in_signed}
 use Rattle.hv_lines.specs.Numbering.{IsTable, SpeaksBelow, acts_count, expr_at, expr_count}
 use Rattle.hv_lines.specs.Queries.{PassesBudget, actions_below, asked_actions, has_of, operand_of, queries_of, query_of}
 use Rattle.hv_lines.specs.Setting.{Setting}
-use Rattle.hv_lines.specs.Shapes.{AreTwo, HasSides, IsAndLeaf, IsAsked, IsLeftLeaf, IsLiteralOf, IsOrLeaf, IsQuestion, IsRightLeaf, OfActs, OfSets, OfTwo, Question, alone, and_parts, asks_sides_after, asks_step_after, family_of, of_left, of_right, or_parts, step_of}
+use Rattle.hv_lines.specs.Shapes.{AreTwo, HasSides, IsAndLeaf, IsAsked, IsLeftLeaf, IsLiteralOf, IsOrLeaf, IsQuestion, IsRightLeaf, OfActs, OfSets, OfTwo, Question, alone, and_parts, asks_sides_after, asks_step_after, family_of, of_left, of_right, or_parts, asked_step}
 use Rattle.hv_lines.specs.Verdicts.{IsDecided, IsVerdict, IsVerdictOfActs, IsVerdictOfTwo}
 use Rattle.hv_lines.specs.declared.line.Expr.{Expr}
 use Rattle.hv_lines.specs.declared.line.Expr.TheVariants as E
@@ -199,7 +199,7 @@ module _ (setting : Setting) (lines : List Line) (table : IsTable lines) where
       step_has : (w : Word) → word ≡ w → In sides.0 (asked (Some action) (asks_sides_after word) t)
       step_has W.B2 same =
           let at : expr_at lines sides.0 ≡ Some (E.After sides.1 acts) =
-          sides.3.1 ∙ ap Some (after_is sides.3.0 sides.1 acts (subst (λ w. step_of w sides.3.0 ≡ Some (sides.1, acts)) same sides.3.2)) in
+          sides.3.1 ∙ ap Some (after_is sides.3.0 sides.1 acts (subst (λ w. asked_step w sides.3.0 ≡ Some (sides.1, acts)) same sides.3.2)) in
           let back = refers_before lines sides.0 (E.After sides.1 acts) table at in
           let here = expr_below lines sides.0 (E.After sides.1 acts) table at in
           let late : asks_sides_after word ≡ true = ap asks_sides_after same in
@@ -218,7 +218,7 @@ module _ (setting : Setting) (lines : List Line) (table : IsTable lines) where
           }))
       step_has W.B3 same =
           let at : expr_at lines sides.0 ≡ Some (E.Before sides.1 acts) =
-          sides.3.1 ∙ ap Some (before_is sides.3.0 sides.1 acts (subst (λ w. step_of w sides.3.0 ≡ Some (sides.1, acts)) same sides.3.2)) in
+          sides.3.1 ∙ ap Some (before_is sides.3.0 sides.1 acts (subst (λ w. asked_step w sides.3.0 ≡ Some (sides.1, acts)) same sides.3.2)) in
           let back = refers_before lines sides.0 (E.Before sides.1 acts) table at in
           let here = expr_below lines sides.0 (E.Before sides.1 acts) table at in
           let early : asks_sides_after word ≡ false = ap asks_sides_after same in
@@ -233,7 +233,7 @@ module _ (setting : Setting) (lines : List Line) (table : IsTable lines) where
             inside = subst (λ b. In sides.1 (asked (Some action) b t)) late (set_has (omega (arith, back.0, here)));
           }))
       step_has _ same =
-          let none = subst (λ w. step_of w sides.3.0 ≡ Some (sides.1, acts)) same sides.3.2 in
+          let none = subst (λ w. asked_step w sides.3.0 ≡ Some (sides.1, acts)) same sides.3.2 in
           cc (none)
 
       none_by : ⊥

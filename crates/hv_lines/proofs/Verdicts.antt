@@ -12,7 +12,7 @@ use Rattle.hv_lines.specs.Order.{without_state}
 use Rattle.hv_lines.specs.Queries.{PassesBudget, has_of, queries_of}
 use Rattle.hv_lines.specs.Setting.{Setting}
 use Rattle.hv_lines.specs.Shapes.{Basic, OfSets, OfTwo, OfActs, AreTwo, IsShaped, Question}
-use Rattle.hv_lines.specs.Verdicts.{IsDecided, IsFirst, IsOutside, IsSettled, IsVerdict, IsVerdictOf, IsVerdictOfActs, IsVerdictOfSets, IsVerdictOfSides, IsVerdictOfTwo}
+use Rattle.hv_lines.specs.Verdicts.{IsDecided, IsDecisive, IsOutside, DecidesNothing, IsVerdict, IsVerdictOf, IsVerdictOfActs, IsVerdictOfSets, IsVerdictOfSides, IsVerdictOfTwo}
 use Rattle.hv_lines.specs.declared.line.Line.{Line}
 use Rattle.hv_lines.specs.declared.line.Statement.{Statement}
 use Rattle.hv_lines.specs.declared.line.Statement.TheVariants as T
@@ -35,8 +35,8 @@ IsSame _ _ = ⊥
 
 module _ (Passes : Query → Type 0) (clash : Query → List Bool → Bool) (atoms : ℕ) (queries : List Query) where
   -- the first query that decides is one
-  first_once : (p q : Query) → IsFirst Passes clash atoms queries p → (IsSettled Passes clash atoms p → ⊥)
-      → IsFirst Passes clash atoms queries q → (IsSettled Passes clash atoms q → ⊥) → p ≡ q
+  first_once : (p q : Query) → IsDecisive Passes clash atoms queries p → (DecidesNothing Passes clash atoms p → ⊥)
+      → IsDecisive Passes clash atoms queries q → (DecidesNothing Passes clash atoms q → ⊥) → p ≡ q
   first_once p q (i, at_i, before_i) open_p (j, at_j, before_j) open_q =
       elim (cases_lt i j) [
         | inl less ↦ absurd (open_p (before_j i p less at_i))
@@ -49,7 +49,7 @@ module _ (Passes : Query → Type 0) (clash : Query → List Bool → Bool) (ato
       ]
 
   clash_opens : (query : Query) (state : List Bool) → length state ≡ atoms → clash query state ≡ true
-      → IsSettled Passes clash atoms query → ⊥
+      → DecidesNothing Passes clash atoms query → ⊥
   clash_opens query state size is settled = let both : true ≡ false = sym is ∙ settled.1 state size in cc (both)
 
   decided_once : (v w : Verdict) → IsDecided Passes clash atoms queries v → IsDecided Passes clash atoms queries w → IsSame v w

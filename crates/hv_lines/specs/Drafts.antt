@@ -23,13 +23,13 @@ abbrev pub draft_setting : Strips → Setting
 draft_setting task = setting_of task (no_nodes (atoms task)) default_budget
 
 -- the line isn't too long
-abbrev pub IsShort : Line → Type 0
-IsShort line = length (spelling_of line) ≤ most_line_bytes
+abbrev pub IsShortLine : Line → Type 0
+IsShortLine line = length (spelling_of line) ≤ most_line_bytes
 
 -- the line may be put into a draft for the task, after these lines
 pub record IsGoodNext (task : Strips) (lines : List Line) (line : Line) : Type 0 where
   pub good : IsGood (draft_setting task) lines line
-  pub short : IsShort line
+  pub short : IsShortLine line
 
 -- the lines, of which the newest is the first, are those of a good draft for the task
 abbrev pub IsGoodTable : Strips → List Line → Type 0

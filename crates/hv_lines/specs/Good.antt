@@ -1,5 +1,5 @@
 -- When a line is good after the lines accepted before it, and the reason why another isn't.
-use Rattle.std.specs.Prelude.{◌<◌, ℕ, List, [], ◌∷◌, length}
+use Rattle.std.specs.Prelude.{◌<◌, ℕ, List, [], ◌∷◌, MatchBool, length}
 use Rattle.std.specs.List.{All}
 use Rattle.hv_task.specs.State.{AreBelow}
 use Rattle.hv_task.specs.Strips.{Strips, atoms}
@@ -8,11 +8,12 @@ use Rattle.hv_sets.specs.declared.literal.Literal.{Literal}
 use Rattle.hv_lines.specs.Spelling.{IsSpelled}
 use Rattle.hv_lines.specs.Numbering.{IsNumbered, RefersBack}
 use Rattle.hv_lines.specs.Rules.{Fits}
-use Rattle.hv_lines.specs.Order.{Test, IsReasonBy}
+use Rattle.hv_lines.specs.Order.{Test}
 use Rattle.hv_lines.specs.Order as O
 use Rattle.hv_lines.specs.Setting.{Setting}
 use Rattle.hv_lines.specs.Shapes.{HasShape}
 use Rattle.hv_lines.specs.Verdicts.{IsVerdict}
+use Rattle.hv_lines.specs.Words.{word_row}
 use Rattle.hv_bdd.specs.Nodes.{NodeList, IsNode}
 use Rattle.hv_lines.specs.declared.line.Acts.{Acts}
 use Rattle.hv_lines.specs.declared.line.Acts.TheVariants as A
@@ -22,9 +23,7 @@ use Rattle.hv_lines.specs.declared.line.Line.{Line}
 use Rattle.hv_lines.specs.declared.line.Line.TheVariants as L
 use Rattle.hv_lines.specs.declared.line.Statement.{Statement}
 use Rattle.hv_lines.specs.declared.line.Word.{Word}
-use Rattle.hv_lines.specs.declared.line.Word.TheVariants as W
 use Rattle.hv_lines.specs.declared.reason.Clash.{Clash}
-use Rattle.hv_lines.specs.declared.reason.Reason.{Reason}
 use Rattle.hv_lines.specs.declared.verdict.Verdict.{Verdict}
 use Rattle.hv_lines.specs.declared.verdict.Verdict.TheVariants as V
 
@@ -47,23 +46,18 @@ ExprIsWithin task nodes (E.Node node) = IsNode nodes node
 ExprIsWithin task nodes _ = Unit {0}
 
 -- the line names actions and atoms of the task and nodes of the list alone
-abbrev pub IsWithin : Strips → NodeList → Line → Type 0
-IsWithin task nodes (L.Acts id acts) = ActsAreWithin task acts
-IsWithin task nodes (L.Expr id expr) = ExprIsWithin task nodes expr
-IsWithin task nodes (L.Known id statement word premises) = Unit {0}
+abbrev pub NamesWithin : Strips → NodeList → Line → Type 0
+NamesWithin task nodes (L.Acts id acts) = ActsAreWithin task acts
+NamesWithin task nodes (L.Expr id expr) = ExprIsWithin task nodes expr
+NamesWithin task nodes (L.Known id statement word premises) = Unit {0}
 
 -- all that the line refers to is there
 abbrev pub IsKnown : Strips → NodeList → List Line → Line → Type 0
-IsKnown task nodes lines line = RefersBack lines line × IsWithin task nodes line
+IsKnown task nodes lines line = RefersBack lines line × NamesWithin task nodes line
 
 -- the word is one of the 23 derivation rules
 abbrev pub IsRuleWord : Word → Type 0
-IsRuleWord W.B1 = ⊥
-IsRuleWord W.B2 = ⊥
-IsRuleWord W.B3 = ⊥
-IsRuleWord W.B4 = ⊥
-IsRuleWord W.B5 = ⊥
-IsRuleWord _ = Unit {0}
+IsRuleWord word = MatchBool (word_row word).is_rule (Unit {0}) ⊥
 
 -- where the line is justified by a derivation rule, the rule fits
 abbrev pub RuleHolds : List Line → Line → Type 0
@@ -74,12 +68,7 @@ RuleHolds lines (L.Known id statement word premises) = IsRuleWord word
 
 -- the word is that of a basic statement
 abbrev pub IsBasicWord : Word → Type 0
-IsBasicWord W.B1 = Unit {0}
-IsBasicWord W.B2 = Unit {0}
-IsBasicWord W.B3 = Unit {0}
-IsBasicWord W.B4 = Unit {0}
-IsBasicWord W.B5 = Unit {0}
-IsBasicWord _ = ⊥
+IsBasicWord word = MatchBool (word_row word).is_rule ⊥ (Unit {0})
 
 -- the clauses of a Horn formula are Horn clauses, and those of a 2CNF formula have at most two
 -- different literals
@@ -124,13 +113,6 @@ LinePasses setting lines line O.Offered =
 LinePasses setting lines line O.Budget = WhereBasic (HasNotVerdict setting lines V.Over) line
 LinePasses setting lines line O.Truth = WhereBasic (HasVerdictTrue setting lines) line
 
--- the line passes the tests that look at its form and its numbers alone
-pub record IsFormed (setting : Setting) (lines : List Line) (line : Line) : Type 0 where
-  pub spelled : IsSpelled line
-  pub numbered : IsNumbered lines line
-  pub known : IsKnown setting.task setting.nodes lines line
-  pub family : FamilyFits line
-
 -- the counterexample is one to the basic statement by which the line is justified
 abbrev pub IsRefutedBy : Setting → List Line → Line → Clash → Type 0
 IsRefutedBy setting lines (L.Acts id acts) clash = ⊥
@@ -146,8 +128,3 @@ IsGood setting lines line = (test : Test) → LinePasses setting lines line test
 abbrev pub AreGood : Setting → List Line → Type 0
 AreGood setting [] = Unit {0}
 AreGood setting (line ∷ older) = IsGood setting older line × AreGood setting older
-
--- the reason why a line that has a spelling isn't good after these lines
-abbrev pub IsReasonOf : Setting → List Line → Line → Reason → Type 0
-IsReasonOf setting lines line reason =
-    IsReasonBy (LinePasses setting lines line) (IsRefutedBy setting lines line) reason

@@ -1,4 +1,5 @@
 pub mod Setting
+pub mod Words
 pub mod Spelling
 pub mod Numbering
 pub mod Literals
@@ -14,3 +15,4 @@ pub mod Good
 pub mod Judged
 pub mod Drafts
 pub mod Pruning
+pub mod Working

@@ -10,12 +10,12 @@ use Rattle.hv_lines.specs.declared.line.Expr.{Expr}
 use Rattle.hv_lines.specs.declared.line.Expr.TheVariants as E
 
 -- the state is in the formula of the line; nothing else is a formula
-abbrev pub in_formula : Setting → Expr → List Bool → Bool
-in_formula setting (E.Horn clauses) state = in_clauses clauses state
-in_formula setting (E.Two clauses) state = in_clauses clauses state
-in_formula setting (E.States states) state = in_states (atoms setting.task) states state
-in_formula setting (E.Node node) state = in_node setting.nodes node state
-in_formula setting _ state = false
+abbrev pub in_line_formula : Setting → Expr → List Bool → Bool
+in_line_formula setting (E.Horn clauses) state = in_clauses clauses state
+in_line_formula setting (E.Two clauses) state = in_clauses clauses state
+in_line_formula setting (E.States states) state = in_states (atoms setting.task) states state
+in_line_formula setting (E.Node node) state = in_node setting.nodes node state
+in_line_formula setting _ state = false
 
 -- a side of the inclusion: a formula itself (true), or its negation (false)
 abbrev pub Signed : Type 0
@@ -24,7 +24,7 @@ Signed = Expr × Bool
 -- the state is in the side: in its formula, or outside that where it is negated
 abbrev pub in_signed : Setting → Signed → List Bool → Bool
 in_signed setting (expr, sign) state =
-    cond sign (in_formula setting expr state) (not (in_formula setting expr state))
+    cond sign (in_line_formula setting expr state) (not (in_line_formula setting expr state))
 
 -- the state is a counterexample to the inclusion: it is in the left side and not in the right one
 abbrev pub is_between : Setting → Signed → Signed → List Bool → Bool

@@ -111,11 +111,11 @@ RefersBack older (L.Known id statement word premises) =
     × AreBelow (known_count older) premises
 
 -- the line may stand after these
-pub record IsNext (older : List Line) (line : Line) : Type 0 where
+pub record MayFollow (older : List Line) (line : Line) : Type 0 where
   pub numbered : IsNumbered older line
   pub back : RefersBack older line
 
 -- each line may stand after those before it
 abbrev pub IsTable : List Line → Type 0
 IsTable [] = Unit {0}
-IsTable (line ∷ older) = IsNext older line × IsTable older
+IsTable (line ∷ older) = MayFollow older line × IsTable older

@@ -75,7 +75,7 @@ NoneNoted task lines notes state =
 -- How a pruner with notes answers of a state: the line that it found, its notes and the draft
 -- before and after. A block is what it writes for this state: lines, and the note of what they
 -- show.
-pub record IsAnswer (task : Strips) (covered : StateSet) (IsBlock : List Line → Note → Type 0)
+pub record IsPrunerAnswer (task : Strips) (covered : StateSet) (IsBlock : List Line → Note → Type 0)
     (state : List Bool) (found : Option ℕ) (notes : List Note) (draft : DraftState)
     (new_notes : List Note) (new_draft : DraftState) : Type 0 where
   -- where a note's literal holds the state, the first such note answers

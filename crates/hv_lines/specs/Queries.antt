@@ -57,13 +57,6 @@ twos_of lines = collected two_in lines
 abbrev pub listed_of : List Line → List (List (List ℕ))
 listed_of lines = collected listed_in lines
 
--- how many sets the store of the family has, where so many are nodes
-abbrev pub count_of : List Line → FormulaFamily → ℕ → ℕ
-count_of lines F.Horn nodes = length (horns_of lines)
-count_of lines F.Two nodes = length (twos_of lines)
-count_of lines F.States nodes = length (listed_of lines)
-count_of lines F.Node nodes = nodes
-
 -- what an operand names that speaks of the set of an `e` line: a constant, the formula by its
 -- number in the store of its family, where so many Horn formulas, 2CNF formulas and explicit sets
 -- are in the stores already, or the node

@@ -1,6 +1,6 @@
 -- What a proof is judged by.
-use Rattle.std.specs.Prelude.{◌≡◌, ◌<◌, ◌≤◌, ℕ}
-use Rattle.hv_task.specs.Strips.{Strips, atoms}
+use Rattle.std.specs.Prelude.{ℕ}
+use Rattle.hv_task.specs.Strips.{Strips}
 use Rattle.hv_bdd.specs.Nodes.{NodeList}
 
 -- a task, the nodes of a node file, and what a query of a basic statement may cost
@@ -12,13 +12,6 @@ pub record Setting : Type 0 where
 -- no budget is greater
 abbrev pub most_budget : ℕ
 most_budget = 16777216
-
--- what a proof can be judged by: the nodes are over the atoms of the task, and the budget is from 1
--- to 16,777,216
-pub record IsSetting (setting : Setting) : Type 0 where
-  pub over : setting.nodes.atoms ≡ atoms setting.task
-  pub some : 0 < setting.budget
-  pub small : setting.budget ≤ most_budget
 
 -- the setting of this task, these nodes and this budget
 abbrev pub setting_of : Strips → NodeList → ℕ → Setting

@@ -53,15 +53,15 @@ before_parts _ = None
 
 -- the step that the word asks for on the left: a progression for `b2`, a regression for `b3`; its
 -- set and its action set
-abbrev pub step_of : Word → Expr → Option (ℕ × ℕ)
-step_of W.B2 expr = after_parts expr
-step_of W.B3 expr = before_parts expr
-step_of _ expr = None
+abbrev pub asked_step : Word → Expr → Option (ℕ × ℕ)
+asked_step W.B2 expr = after_parts expr
+asked_step W.B3 expr = before_parts expr
+asked_step _ expr = None
 
 -- the leaf is the progression or regression that the word asks for
 abbrev pub IsStep : List Line → Word → ℕ → ℕ → ℕ → Type 0
 IsStep lines word leaf set acts =
-    (expr : Expr) × (expr_at lines leaf ≡ Some expr) × (step_of word expr ≡ Some (set, acts))
+    (expr : Expr) × (expr_at lines leaf ≡ Some expr) × (asked_step word expr ≡ Some (set, acts))
 
 -- The sides of a statement have the shape of the word, with the action set of its step if it has
 -- one: every leaf is a literal, but for one on the left, the step, of whose set every intersection

@@ -14,7 +14,7 @@ use Rattle.hv_lines.specs.declared.line.Line.TheVariants as L
 use Rattle.hv_lines.specs.declared.line.Statement.{Statement}
 use Rattle.hv_lines.specs.declared.line.Statement.TheVariants as T
 use Rattle.hv_lines.specs.declared.line.Word.{Word}
-use Rattle.hv_lines.specs.declared.line.Word.TheVariants as W
+use Rattle.hv_lines.specs.Words.{is_kind, kind_of_statement, word_row}
 
 -- an action set: all actions, the listed ones, or those of either of two
 abbrev pub acts_fields : Acts → List (List ℕ)
@@ -64,34 +64,7 @@ statement_fields T.Unsolvable = codes "u" ∷ []
 
 -- a word: its two letters, or b and its digit
 abbrev pub word_field : Word → List ℕ
-word_field W.B1 = codes "b1"
-word_field W.B2 = codes "b2"
-word_field W.B3 = codes "b3"
-word_field W.B4 = codes "b4"
-word_field W.B5 = codes "b5"
-word_field W.Ed = codes "ed"
-word_field W.Ud = codes "ud"
-word_field W.Sd = codes "sd"
-word_field W.Pg = codes "pg"
-word_field W.Pi = codes "pi"
-word_field W.Rg = codes "rg"
-word_field W.Ri = codes "ri"
-word_field W.Ci = codes "ci"
-word_field W.Cg = codes "cg"
-word_field W.Ur = codes "ur"
-word_field W.Ul = codes "ul"
-word_field W.Ir = codes "ir"
-word_field W.Il = codes "il"
-word_field W.Di = codes "di"
-word_field W.Su = codes "su"
-word_field W.Si = codes "si"
-word_field W.St = codes "st"
-word_field W.At = codes "at"
-word_field W.Au = codes "au"
-word_field W.Pt = codes "pt"
-word_field W.Pu = codes "pu"
-word_field W.Pr = codes "pr"
-word_field W.Rp = codes "rp"
+word_field word = (word_row word).spelling
 
 -- the fields of a line: its letter, its identifier, and what it says
 abbrev pub fields_of : Line → List (List ℕ)
@@ -151,48 +124,11 @@ StatementFits (T.ActSub left right) = FitsDecimal left × FitsDecimal right
 StatementFits (T.Dead set) = FitsDecimal set
 StatementFits T.Unsolvable = Unit {0}
 
--- how many premises a word has after `k ID s E F`, where it may stand there
-abbrev pub sub_premises : Word → Option ℕ
-sub_premises W.B1 = Some 0
-sub_premises W.B2 = Some 0
-sub_premises W.B3 = Some 0
-sub_premises W.B4 = Some 0
-sub_premises W.Ur = Some 0
-sub_premises W.Ul = Some 0
-sub_premises W.Ir = Some 0
-sub_premises W.Il = Some 0
-sub_premises W.Di = Some 0
-sub_premises W.Pr = Some 1
-sub_premises W.Rp = Some 1
-sub_premises W.Su = Some 2
-sub_premises W.Si = Some 2
-sub_premises W.St = Some 2
-sub_premises W.At = Some 2
-sub_premises W.Au = Some 2
-sub_premises W.Pt = Some 2
-sub_premises W.Pu = Some 2
-sub_premises _ = None
-
--- how many premises a word has after `k ID d E`, where it may stand there
-abbrev pub dead_premises : Word → Option ℕ
-dead_premises W.Ed = Some 0
-dead_premises W.Ud = Some 2
-dead_premises W.Sd = Some 2
-dead_premises W.Pg = Some 3
-dead_premises W.Pi = Some 3
-dead_premises W.Rg = Some 3
-dead_premises W.Ri = Some 3
-dead_premises _ = None
-
 -- how many premises a word has after a statement, where it may stand there
 abbrev pub premises_of : Statement → Word → Option ℕ
-premises_of (T.Sub left right) word = sub_premises word
-premises_of (T.ActSub left right) W.B5 = Some 0
-premises_of (T.ActSub left right) _ = None
-premises_of (T.Dead set) word = dead_premises word
-premises_of T.Unsolvable W.Ci = Some 1
-premises_of T.Unsolvable W.Cg = Some 1
-premises_of T.Unsolvable _ = None
+premises_of statement word =
+    cond (is_kind (word_row word).after (kind_of_statement statement))
+    (Some (word_row word).premises) None
 
 -- the line has a spelling: its numbers are short enough, lists rise where they must, and the word
 -- may stand there with as many premises

@@ -19,16 +19,16 @@ use Rattle.hv_lines.specs.declared.verdict.Verdict.TheVariants as V
 
 module _ (Passes : Query → Type 0) (clash : Query → List Bool → Bool) (atoms : ℕ) where
   -- the query decides nothing: it is within the budget, and no state is a counterexample to it
-  abbrev pub IsSettled : Query → Type 0
-  IsSettled query =
+  abbrev pub DecidesNothing : Query → Type 0
+  DecidesNothing query =
       (Passes query → ⊥) × ((state : List Bool) → length state ≡ atoms → clash query state ≡ false)
 
   -- the query is in the list, and each one before it decides nothing
-  abbrev pub IsFirst : List Query → Query → Type 0
-  IsFirst queries query =
+  abbrev pub IsDecisive : List Query → Query → Type 0
+  IsDecisive queries query =
       (place : ℕ) × (slice_get queries place ≡ Some query)
       × ((lower : ℕ) (earlier : Query) → lower < place → slice_get queries lower ≡ Some earlier
-      → IsSettled earlier)
+      → DecidesNothing earlier)
 
   -- the counterexample is the query's: it has the query's action, and a state that is one
   abbrev pub IsClashOf : Query → Clash → Type 0
@@ -41,10 +41,10 @@ module _ (Passes : Query → Type 0) (clash : Query → List Bool → Bool) (ato
   -- decides.
   abbrev pub IsDecided : List Query → Verdict → Type 0
   IsDecided queries V.True =
-      (place : ℕ) (query : Query) → slice_get queries place ≡ Some query → IsSettled query
+      (place : ℕ) (query : Query) → slice_get queries place ≡ Some query → DecidesNothing query
   IsDecided queries (V.False found) =
-      (query : Query) × IsFirst queries query × (Passes query → ⊥) × IsClashOf query found
-  IsDecided queries V.Over = (query : Query) × IsFirst queries query × Passes query
+      (query : Query) × IsDecisive queries query × (Passes query → ⊥) × IsClashOf query found
+  IsDecided queries V.Over = (query : Query) × IsDecisive queries query × Passes query
   IsDecided queries V.NotOffered = ⊥
 
 -- the verdict of a question

@@ -1,3 +1,5 @@
+//! Lists of actions, by their numbers.
+
 ghost use Rattle.std.specs.Prelude.{◌≡◌, ◌<◌, [], ◌∷◌, ◌++◌, ◌==◌, length, slice_get, Some, OnOk, OnErr};
 
 use std::alloc::{AllocError, Global};

@@ -1,3 +1,5 @@
+//! Drafts of proofs: tables of good lines, with room for more.
+
 ghost use Rattle.std.specs.Prelude.{◌≡◌, ◌<◌, ◌≤◌, ◌+◌, ◌^◌, ◌∷◌, [], length, IfOk, OnOk, OnErr};
 ghost use Rattle.hv_lines.specs.Drafts.{IsGoodNext, IsGoodTable, conclusion, id_of, most_lines, onto, prelude};
 ghost use Rattle.hv_lines.specs.Pruning.{BeginsAsDraft};
@@ -9,7 +11,7 @@ use hv_task::Task;
 use std::alloc::{AllocError, Global};
 use std::marker::Model;
 
-// The most lines that a draft has, the spare ones included.
+/// The most lines that a draft has, the spare ones included.
 const MOST_LINES: usize = 576460752303423488;
 
 /// A proof that is written line by line: each line is good after those before it, without a node
@@ -144,7 +146,7 @@ pub fn conclusion(alloc: Global, id: usize, dead: usize, by: usize) -> Result<Ve
     ]?)
 }
 
-// The table with which every draft begins.
+/// The table with which every draft begins.
 fn begun_table(alloc: Global) -> Result<Table, AllocError>
     ensures { IfOk result (λ table. table.lines ≡ onto prelude []) }
 {
@@ -155,7 +157,7 @@ fn begun_table(alloc: Global) -> Result<Table, AllocError>
     Ok(table)
 }
 
-// The lines with which every draft begins.
+/// The lines with which every draft begins.
 fn prelude(alloc: Global) -> Result<Vec<Line>, AllocError>
     ensures { IfOk result (λ lines. lines.items ≡ prelude) }
 {
@@ -185,7 +187,7 @@ fn prelude(alloc: Global) -> Result<Vec<Line>, AllocError>
     ]?)
 }
 
-// The identifier of the line.
+/// The identifier of the line.
 fn id_of(line: &Line) -> usize
     ensures { result ≡ id_of line.now }
 {

@@ -1,3 +1,5 @@
+//! The families of formulas.
+
 /// A family of formulas.
 #[derive(Clone, Copy, Debug, PartialEq, Eq)]
 pub enum FormulaFamily {

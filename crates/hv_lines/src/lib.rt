@@ -21,6 +21,8 @@ pub mod reason;
 pub mod table;
 /// What is said of a basic statement.
 pub mod verdict;
+/// The table of words.
+pub mod words;
 
 pub use action_list::ActionList;
 pub use draft::{Draft, conclusion};
@@ -32,3 +34,4 @@ pub use pruner::Pruner;
 pub use reason::{Clash, Reason};
 pub use table::Table;
 pub use verdict::Verdict;
+pub use words::{StatementKind, WordRow};

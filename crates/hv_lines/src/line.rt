@@ -1,3 +1,5 @@
+//! The lines of a proof: action sets, sets of states, and claims with their words.
+
 use crate::action_list::ActionList;
 use crate::premises::Premises;
 use hv_sets::{Clauses, StateList};

@@ -1,3 +1,5 @@
+//! What pruners note: a literal that a line says is dead.
+
 /// What a pruner has noted: a literal, and the line which says that it is dead.
 #[derive(Clone, Copy, Debug, PartialEq, Eq)]
 pub struct Note {

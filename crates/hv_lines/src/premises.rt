@@ -1,3 +1,5 @@
+//! The premises of a line, at most three.
+
 ghost use Rattle.std.specs.Prelude.{◌≡◌, ◌<◌, ◌≤◌, ◌==◌, [], ◌∷◌, length, slice_get, Some};
 
 use std::marker::Model;

@@ -1,3 +1,5 @@
+//! Why a line isn't good, and counterexamples.
+
 ghost use Rattle.std.specs.Prelude.{◌≡◌, IfOk};
 
 use hv_task::State;

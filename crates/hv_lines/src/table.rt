@@ -1,7 +1,9 @@
+//! The lines of a proof in order, found by their letters and identifiers.
+
 ghost use Rattle.std.specs.Prelude.{◌≡◌, ◌<◌, ◌≤◌, ◌+◌, ◌^◌, min, ◌↔◌, ◌++◌, [], ◌∷◌, length, reverse, slice_get, vec_len, Some, IsTrue, OnOk, OnErr};
 ghost use Rattle.hv_lines.specs.Literals.{IsFormula, IsConstantExpr, IsPlainExpr, IsLiteral};
-ghost use Rattle.hv_lines.specs.Numbering.{acts_count, expr_count, known_count, acts_at, expr_at, statement_at, word_at, premises_at, ActsReferBelow, ExprRefersBelow, SpeaksBelow, IsNext, IsTable};
-ghost use Rattle.hv_lines.specs.TableState.{room_of};
+ghost use Rattle.hv_lines.specs.Numbering.{acts_count, expr_count, known_count, acts_at, expr_at, statement_at, word_at, premises_at, ActsReferBelow, ExprRefersBelow, SpeaksBelow, MayFollow, IsTable};
+ghost use Rattle.hv_lines.specs.Working.TableState.{room_of};
 ghost use Rattle.hv_task.specs.State.{AreBelow};
 
 use crate::line::{Acts, Expr, Line, Statement, Word};
@@ -23,13 +25,15 @@ pub struct Table {
 
 impl Model for Table {
     ghost use Rattle.std.specs.Prelude.{◌-◌, min, reverse, vec_len, vec_capacity};
-    ghost use Rattle.hv_lines.specs.TableState.{TableState, IsIndexed, room_of};
+    ghost use Rattle.hv_lines.specs.TableState.{TableState};
+    ghost use Rattle.hv_lines.specs.Working.TableState.{IsIndexed, room_of};
 
     ghost Value = { TableState };
 
     ghost view = { λ t. record {
       lines = reverse t.lines.items;
-      room = min (room_of t.lines) (min (room_of t.acts) (min (room_of t.exprs) (room_of t.knowns)));
+      room = min (room_of t.lines)
+          (min (room_of t.acts) (min (room_of t.exprs) (room_of t.knowns)));
     } };
 
     ghost invariant = { λ t.
@@ -66,7 +70,7 @@ impl Table {
     /// refers to earlier lines alone. Where room was reserved it takes no memory, and uses up room
     /// for one line at most.
     pub fn push(&mut self, line: Line) -> Result<(), AllocError>
-        requires { IsNext self.old.lines line }
+        requires { MayFollow self.old.lines line }
         ensures ok { OnOk result (self.new.lines ≡ line ∷ self.old.lines) }
         ensures err { OnErr result (self.new.lines ≡ self.old.lines) }
         ensures full { OnErr result (self.old.room ≡ 0) }
@@ -193,6 +197,7 @@ impl Table {
         self.known(id).premises
     }
 
+    /// What the line claims, and how it is justified.
     fn known(&self, id: usize) -> Known<'_>
         requires { id < known_count self.now.lines }
         ensures statement { statement_at self.now.lines id ≡ Some result.statement.now }

@@ -1,3 +1,5 @@
+//! What is said of a basic statement.
+
 use crate::reason::Clash;
 
 /// What is said of a basic statement.

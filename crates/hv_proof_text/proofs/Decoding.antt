@@ -1,6 +1,6 @@
 -- A field stands for one token: tokens are read back from their fields.
-use Rattle.std.proofs.Common.{◌≡◌, ℕ, ◌+◌, ◌*◌, ◌<◌, ◌≤◌, ◌^◌, ◌∙◌, true, false, cond, eqb, ltb, List, [], ◌∷◌, length, map, drop, get_or, refl, sym, ap, arith, decimal, lit<}
-use Rattle.std.proofs.lemmas.Bool.{lt-ltb, ne_eqb}
+use Rattle.std.proofs.Common.{◌≡◌, ℕ, ◌+◌, ◌*◌, ◌<◌, ◌≤◌, ◌^◌, ◌∙◌, true, false, cond, eqb, ltb, List, [], ◌∷◌, Option, None, Some, length, map, drop, get_or, refl, sym, ap, arith, decimal, lit<}
+use Rattle.std.proofs.lemmas.Bool.{le-ltb, lt-ltb, ne_eqb}
 use Rattle.std.proofs.lemmas.Fmt.{decimal_is_IsNumeral}
 use Rattle.std.proofs.lemmas.List.{get_or-map, length-map}
 use Rattle.std.proofs.lemmas.List.Elements.{All-nil, All-cons, All-head, All-tail, All-from_get_or}
@@ -10,13 +10,13 @@ use Rattle.std.specs.List.{All, join_with_byte}
 use Rattle.std.specs.Str.Parse.{digits_value}
 use Rattle.hv_lines.specs.Spelling.{word_field}
 use Rattle.hv_lines.specs.declared.line.Word.{Word}
-use Rattle.hv_lines.specs.declared.line.Word.TheVariants as W
+use Rattle.hv_lines.proofs.WordTable.{word_of_field, word_plain, word_read}
 use Rattle.hv_proof_text.specs.declared.token.Letter.{Letter}
 use Rattle.hv_proof_text.specs.declared.token.Letter.TheVariants as L
 use Rattle.hv_proof_text.specs.declared.token.Token.{Token}
 use Rattle.hv_proof_text.specs.declared.token.Token.TheVariants as T
 use Rattle.hv_bytes.specs.Fields.{cut_fields}
-use Rattle.hv_proof_text.specs.Tokens.{AreTokens, IsToken, field_of, letter_field}
+use Rattle.hv_proof_text.specs.Working.Tokens.{AreTokens, IsToken, field_of, letter_field}
 
 -- where one field stands for no token, the fields stand for no tokens
 pub no_tokens : (fields : List (List ℕ)) (i : ℕ) (field : List ℕ) → i < length fields → field ≡ get_or fields i field
@@ -28,35 +28,27 @@ no_tokens fields i field within at never tokens are =
     never token (are.each i T.End inside)
     (sym (get_or-map field_of tokens i T.End field inside) ∙ ap (λ fs. get_or fs i field) are.same ∙ sym at)
 
--- the same of a word, and of the end
-abbrev word_by : ℕ → Token
-word_by code =
-    cond (eqb code 25137) (T.Word W.B1) (cond (eqb code 25138) (T.Word W.B2) (cond (eqb code 25139) (T.Word W.B3) (
-    cond (eqb code 25140) (T.Word W.B4) (cond (eqb code 25141) (T.Word W.B5) (cond (eqb code 25956) (T.Word W.Ed) (
-    cond (eqb code 30052) (T.Word W.Ud) (cond (eqb code 29540) (T.Word W.Sd) (cond (eqb code 28775) (T.Word W.Pg) (
-    cond (eqb code 28777) (T.Word W.Pi) (cond (eqb code 29287) (T.Word W.Rg) (cond (eqb code 29289) (T.Word W.Ri) (
-    cond (eqb code 25449) (T.Word W.Ci) (cond (eqb code 25447) (T.Word W.Cg) (cond (eqb code 30066) (T.Word W.Ur) (
-    cond (eqb code 30060) (T.Word W.Ul) (cond (eqb code 26994) (T.Word W.Ir) (cond (eqb code 26988) (T.Word W.Il) (
-    cond (eqb code 25705) (T.Word W.Di) (cond (eqb code 29557) (T.Word W.Su) (cond (eqb code 29545) (T.Word W.Si) (
-    cond (eqb code 29556) (T.Word W.St) (cond (eqb code 24948) (T.Word W.At) (cond (eqb code 24949) (T.Word W.Au) (
-    cond (eqb code 28788) (T.Word W.Pt) (cond (eqb code 28789) (T.Word W.Pu) (cond (eqb code 28786) (T.Word W.Pr) (
-    cond (eqb code 29296) (T.Word W.Rp) T.End)))))))))))))))))))))))))))
+-- the token of one byte that is no digit
+abbrev letter_by : ℕ → Token
+letter_by code =
+    cond (eqb code 97) (T.Letter L.A) (cond (eqb code 98) (T.Letter L.B) (cond (eqb code 99) (T.Letter L.C)
+    (cond (eqb code 100) (T.Letter L.D) (cond (eqb code 101) (T.Letter L.E) (cond (eqb code 103) (T.Letter L.G)
+    (cond (eqb code 104) (T.Letter L.H) (cond (eqb code 105) (T.Letter L.I) (cond (eqb code 107) (T.Letter L.K)
+    (cond (eqb code 110) (T.Letter L.N) (cond (eqb code 112) (T.Letter L.P) (cond (eqb code 114) (T.Letter L.R)
+    (cond (eqb code 115) (T.Letter L.S) (cond (eqb code 116) (T.Letter L.T) (cond (eqb code 117) (T.Letter L.U)
+    (cond (eqb code 120) (T.Letter L.X) T.End)))))))))))))))
 
--- the token of a field without a number, by its first two bytes as one number
-abbrev token_by : ℕ → Token
-token_by code =
-    cond (eqb code 24832) (T.Letter L.A) (cond (eqb code 25088) (T.Letter L.B) (cond (eqb code 25344) (T.Letter L.C)
-    (cond (eqb code 25600) (T.Letter L.D) (cond (eqb code 25856) (T.Letter L.E) (cond (eqb code 26368) (T.Letter L.G)
-    (cond (eqb code 26624) (T.Letter L.H) (cond (eqb code 26880) (T.Letter L.I) (cond (eqb code 27392) (T.Letter L.K)
-    (cond (eqb code 28160) (T.Letter L.N) (cond (eqb code 28672) (T.Letter L.P) (cond (eqb code 29184) (T.Letter L.R)
-    (cond (eqb code 29440) (T.Letter L.S) (cond (eqb code 29696) (T.Letter L.T) (cond (eqb code 29952) (T.Letter L.U)
-    (cond (eqb code 30720) (T.Letter L.X) (word_by code))))))))))))))))
+-- the token of a word that was found
+abbrev word_by : Option Word → Token
+word_by None = T.End
+word_by (Some word) = T.Word word
 
 -- the token of a field
 abbrev decode : List ℕ → Token
 decode field =
     cond (eqb (get_or field 0 0) 45) (T.Minus (digits_value 10 (drop 1 field)))
-    (cond (ltb (get_or field 0 0) 58) (T.Number (digits_value 10 field)) (token_by (get_or field 0 0 * 256 + get_or field 1 0)))
+    (cond (ltb (get_or field 0 0) 58) (T.Number (digits_value 10 field))
+    (cond (eqb (get_or field 1 0) 0) (letter_by (get_or field 0 0)) (word_by (word_of_field field))))
 
 decode_letter : (letter : Letter) → decode (letter_field letter) ≡ T.Letter letter
 decode_letter L.A = refl
@@ -77,34 +69,14 @@ decode_letter L.U = refl
 decode_letter L.X = refl
 
 decode_word : (word : Word) → decode (word_field word) ≡ T.Word word
-decode_word W.B1 = refl
-decode_word W.B2 = refl
-decode_word W.B3 = refl
-decode_word W.B4 = refl
-decode_word W.B5 = refl
-decode_word W.Ed = refl
-decode_word W.Ud = refl
-decode_word W.Sd = refl
-decode_word W.Pg = refl
-decode_word W.Pi = refl
-decode_word W.Rg = refl
-decode_word W.Ri = refl
-decode_word W.Ci = refl
-decode_word W.Cg = refl
-decode_word W.Ur = refl
-decode_word W.Ul = refl
-decode_word W.Ir = refl
-decode_word W.Il = refl
-decode_word W.Di = refl
-decode_word W.Su = refl
-decode_word W.Si = refl
-decode_word W.St = refl
-decode_word W.At = refl
-decode_word W.Au = refl
-decode_word W.Pt = refl
-decode_word W.Pu = refl
-decode_word W.Pr = refl
-decode_word W.Rp = refl
+decode_word word =
+    let plain = word_plain word in
+    let first : get_or (word_field word) 0 0 ≡ plain.first = ap (λ field. get_or field 0 0) plain.two in
+    let second : get_or (word_field word) 1 0 ≡ plain.second = ap (λ field. get_or field 1 0) plain.two in
+    let a : eqb (get_or (word_field word) 0 0) 45 ≡ false = ne_eqb (get_or (word_field word) 0 0) 45 (λ e. omega (arith, plain.letter, first, e)) in
+    let b : ltb (get_or (word_field word) 0 0) 58 ≡ false = le-ltb (get_or (word_field word) 0 0) 58 (omega (arith, plain.letter, first)) in
+    let d : eqb (get_or (word_field word) 1 0) 0 ≡ false = ne_eqb (get_or (word_field word) 1 0) 0 (λ e. omega (arith, plain.other, second, e)) in
+    rw (a, b, d) (ap word_by (word_read word))
 
 -- a decimal begins with a digit
 first_digit : (n : ℕ) → n < 10 ^ 18 → (48 ≤ get_or (decimal n) 0 0) × (get_or (decimal n) 0 0 ≤ 57)
@@ -171,34 +143,9 @@ visible_letter L.U = one_byte 117 (lit< tt)
 visible_letter L.X = one_byte 120 (lit< tt)
 
 visible_word : (word : Word) → IsVisible (word_field word)
-visible_word W.B1 = two_bytes 98 49 (lit< tt) (lit< tt)
-visible_word W.B2 = two_bytes 98 50 (lit< tt) (lit< tt)
-visible_word W.B3 = two_bytes 98 51 (lit< tt) (lit< tt)
-visible_word W.B4 = two_bytes 98 52 (lit< tt) (lit< tt)
-visible_word W.B5 = two_bytes 98 53 (lit< tt) (lit< tt)
-visible_word W.Ed = two_bytes 101 100 (lit< tt) (lit< tt)
-visible_word W.Ud = two_bytes 117 100 (lit< tt) (lit< tt)
-visible_word W.Sd = two_bytes 115 100 (lit< tt) (lit< tt)
-visible_word W.Pg = two_bytes 112 103 (lit< tt) (lit< tt)
-visible_word W.Pi = two_bytes 112 105 (lit< tt) (lit< tt)
-visible_word W.Rg = two_bytes 114 103 (lit< tt) (lit< tt)
-visible_word W.Ri = two_bytes 114 105 (lit< tt) (lit< tt)
-visible_word W.Ci = two_bytes 99 105 (lit< tt) (lit< tt)
-visible_word W.Cg = two_bytes 99 103 (lit< tt) (lit< tt)
-visible_word W.Ur = two_bytes 117 114 (lit< tt) (lit< tt)
-visible_word W.Ul = two_bytes 117 108 (lit< tt) (lit< tt)
-visible_word W.Ir = two_bytes 105 114 (lit< tt) (lit< tt)
-visible_word W.Il = two_bytes 105 108 (lit< tt) (lit< tt)
-visible_word W.Di = two_bytes 100 105 (lit< tt) (lit< tt)
-visible_word W.Su = two_bytes 115 117 (lit< tt) (lit< tt)
-visible_word W.Si = two_bytes 115 105 (lit< tt) (lit< tt)
-visible_word W.St = two_bytes 115 116 (lit< tt) (lit< tt)
-visible_word W.At = two_bytes 97 116 (lit< tt) (lit< tt)
-visible_word W.Au = two_bytes 97 117 (lit< tt) (lit< tt)
-visible_word W.Pt = two_bytes 112 116 (lit< tt) (lit< tt)
-visible_word W.Pu = two_bytes 112 117 (lit< tt) (lit< tt)
-visible_word W.Pr = two_bytes 112 114 (lit< tt) (lit< tt)
-visible_word W.Rp = two_bytes 114 112 (lit< tt) (lit< tt)
+visible_word word =
+    let plain = word_plain word in
+    rw plain.two (two_bytes plain.first plain.second (omega (arith, plain.letter)) (omega (arith, plain.other)))
 
 pub visible_field : (token : Token) → IsToken token → IsVisible (field_of token)
 visible_field (T.Letter letter) short = visible_letter letter

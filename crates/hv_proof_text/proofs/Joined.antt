@@ -7,7 +7,7 @@ use Rattle.std.proofs.lemmas.List.Sums.{fold-append}
 use Rattle.std.specs.List.{flat_map, join_with_byte}
 use Rattle.hv_lines.specs.Spelling.{proof_text, spelling_of}
 use Rattle.hv_lines.specs.declared.line.Line.{Line}
-use Rattle.hv_proof_text.specs.Writing.{with_fields}
+use Rattle.hv_proof_text.specs.Working.Writing.{with_fields}
 
 -- what stands before stays before
 front : (before text : List ℕ) (fields : List (List ℕ)) → with_fields (before ++ text) fields ≡ before ++ with_fields text fields

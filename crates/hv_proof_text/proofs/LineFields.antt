@@ -24,7 +24,7 @@ use Rattle.hv_proof_text.specs.declared.token.Letter.TheVariants as L
 use Rattle.hv_proof_text.specs.declared.token.Token.{Token}
 use Rattle.hv_proof_text.specs.declared.token.Token.TheVariants as T
 use Rattle.hv_bytes.specs.Fields.{cut_fields}
-use Rattle.hv_proof_text.specs.Tokens.{AreTokens, IsToken, SpellsTokens, acts_tokens, clause_tokens, constant_letter, expr_tokens, field_of, letter, literal_token, number, state_tokens, statement_tokens, tokens_of}
+use Rattle.hv_proof_text.specs.Working.Tokens.{AreTokens, IsToken, SpellsTokens, acts_tokens, clause_tokens, constant_letter, expr_tokens, field_of, letter, literal_token, number, state_tokens, statement_tokens, tokens_of}
 use Rattle.hv_proof_text.proofs.Decoding.{cut_joined, same_tokens}
 use Rattle.hv_proof_text.proofs.LineForms.{line_out}
 use Rattle.hv_proof_text.proofs.TokenLists.{clauses_from, clauses_only, states_from, states_only}

@@ -15,8 +15,8 @@ use Rattle.hv_proof_text.specs.declared.token.Letter.{Letter}
 use Rattle.hv_proof_text.specs.declared.token.Letter.TheVariants as L
 use Rattle.hv_proof_text.specs.declared.token.Token.{Token}
 use Rattle.hv_proof_text.specs.declared.token.Token.TheVariants as T
-use Rattle.hv_proof_text.specs.Forms.{ActsForm, ExprForm, ClaimForm, LineForm}
-use Rattle.hv_proof_text.specs.Tokens.{IsToken, SpellsTokens, acts_tokens, clause_tokens, constant_letter, expr_tokens, letter, number, state_tokens, statement_tokens, tokens_of}
+use Rattle.hv_proof_text.specs.Working.Forms.{ActsForm, ExprForm, ClaimForm, LineForm}
+use Rattle.hv_proof_text.specs.Working.Tokens.{IsToken, SpellsTokens, acts_tokens, clause_tokens, constant_letter, expr_tokens, letter, number, state_tokens, statement_tokens, tokens_of}
 
 -- numbers in tokens have at most 18 digits
 

@@ -9,14 +9,14 @@ use Rattle.hv_bytes.specs.Standard.{most_file_bytes, standard}
 use Rattle.hv_bytes.proofs.LineLaws.{lines_of-ended}
 use Rattle.hv_bytes.proofs.WholeText.{pieces-line}
 use Rattle.hv_task.specs.Strips.{Strips}
-use Rattle.hv_lines.specs.Drafts.{IsGoodTable, IsShort, draft_setting}
+use Rattle.hv_lines.specs.Drafts.{IsGoodTable, IsShortLine, draft_setting}
 use Rattle.hv_lines.specs.Good.{AreGood}
 use Rattle.hv_lines.specs.Judged.{Accepts, Concludes, JudgedBytes, LineText, Unsolvable}
 use Rattle.hv_lines.specs.Order as O
 use Rattle.hv_lines.specs.Setting.{Setting}
 use Rattle.hv_lines.specs.Spelling.{IsSpelled, fields_of, proof_text, spelling_of}
 use Rattle.hv_lines.specs.declared.line.Line.{Line}
-use Rattle.hv_proof_text.specs.Tokens.{IsToken, field_of, tokens_of}
+use Rattle.hv_proof_text.specs.Working.Tokens.{IsToken, field_of, tokens_of}
 use Rattle.hv_proof_text.specs.declared.token.Token.{Token}
 use Rattle.hv_proof_text.proofs.Decoding.{IsVisible, visible_field}
 use Rattle.hv_proof_text.proofs.LineFields.{fields_are, tokens_short}
@@ -62,16 +62,16 @@ text_size line lines =
 abbrev pub piece_of : Line → LineText
 piece_of line = Some (spelling_of line)
 
-proof_pieces : (earlier : ℕ) (lines : List Line) → All IsShort lines → earlier + length (proof_text lines) ≤ most_file_bytes
+proof_pieces : (earlier : ℕ) (lines : List Line) → All IsShortLine lines → earlier + length (proof_text lines) ≤ most_file_bytes
     → pieces_after standard earlier (map spelling_of lines) ≡ map piece_of lines
 proof_pieces earlier [] short small = refl
 proof_pieces earlier (line ∷ lines) short small =
     let size = text_size line lines in
-    let here = All-head IsShort line lines short in
+    let here = All-head IsShortLine line lines short in
     pieces-line standard earlier (spelling_of line) (map spelling_of lines)
     (record { in_line = here; in_file = omega (arith, small, size) })
     ∙ ap (λ ps. piece_of line ∷ ps)
-    (proof_pieces (earlier + (length (spelling_of line) + 1)) lines (All-tail IsShort line lines short) (omega (arith, small, size)))
+    (proof_pieces (earlier + (length (spelling_of line) + 1)) lines (All-tail IsShortLine line lines short) (omega (arith, small, size)))
 
 -- good lines, the newest first, are accepted
 accepted : (setting : Setting) (lines : List Line) → AreGood setting lines → Accepts setting (map piece_of lines) lines
@@ -101,9 +101,9 @@ draft_spelled : (task : Strips) (lines : List Line) → IsGoodTable task lines �
 draft_spelled task [] good = All-nil IsSpelled
 draft_spelled task (line ∷ older) good = All-cons IsSpelled line older (good.0.good O.Spelling) (draft_spelled task older good.1)
 
-draft_short : (task : Strips) (lines : List Line) → IsGoodTable task lines → All IsShort lines
-draft_short task [] good = All-nil IsShort
-draft_short task (line ∷ older) good = All-cons IsShort line older good.0.short (draft_short task older good.1)
+draft_short : (task : Strips) (lines : List Line) → IsGoodTable task lines → All IsShortLine lines
+draft_short task [] good = All-nil IsShortLine
+draft_short task (line ∷ older) good = All-cons IsShortLine line older good.0.short (draft_short task older good.1)
 
 draft_good : (task : Strips) (lines : List Line) → IsGoodTable task lines → AreGood (draft_setting task) lines
 draft_good task [] good = tt
@@ -115,7 +115,7 @@ pub draft_accepted : (task : Strips) (lines : List Line) → IsGoodTable task li
 draft_accepted task lines good small =
     let cut : pieces_of standard (proof_text (reverse lines)) ≡ map piece_of (reverse lines) =
     ap (pieces_after standard 0) (proof_lines (reverse lines) (All-reversed IsSpelled lines (draft_spelled task lines good)))
-    ∙ proof_pieces 0 (reverse lines) (All-reversed IsShort lines (draft_short task lines good)) (omega (arith, small)) in
+    ∙ proof_pieces 0 (reverse lines) (All-reversed IsShortLine lines (draft_short task lines good)) (omega (arith, small)) in
     subst (λ ps. Accepts (draft_setting task) ps lines) (sym (ap reverse cut ∙ map_reversed piece_of lines))
     (accepted (draft_setting task) lines (draft_good task lines good))
 
@@ -128,13 +128,13 @@ draft_judged task lines good concludes small =
 
 -- so few short lines are no more than a file holds
 
-short_text : (lines : List Line) → All IsShort lines → length (proof_text lines) ≤ 16777217 * length lines
+short_text : (lines : List Line) → All IsShortLine lines → length (proof_text lines) ≤ 16777217 * length lines
 short_text [] short = omega arith
 short_text (line ∷ lines) short =
-    let here = All-head IsShort line lines short in
-    omega (arith, text_size line lines, here, short_text lines (All-tail IsShort line lines short))
+    let here = All-head IsShortLine line lines short in
+    omega (arith, text_size line lines, here, short_text lines (All-tail IsShortLine line lines short))
 
 pub draft_small : (task : Strips) (lines : List Line) → IsGoodTable task lines → length lines ≤ 65535
     → length (proof_text (reverse lines)) ≤ most_file_bytes
 draft_small task lines good few =
-    omega (arith, short_text (reverse lines) (All-reversed IsShort lines (draft_short task lines good)), length-reverse lines, few)
+    omega (arith, short_text (reverse lines) (All-reversed IsShortLine lines (draft_short task lines good)), length-reverse lines, few)

@@ -7,8 +7,8 @@ use Rattle.std.proofs.lemmas.List.Elements.{All-nil, All-push, All-head, All-tai
 use Rattle.std.specs.List.{All, flat_map}
 use Rattle.hv_sets.specs.declared.literal.Literal.{Literal}
 use Rattle.hv_lines.specs.Spelling.{FitsShortDecimal, FitsLiteral, IsRising}
-use Rattle.hv_proof_text.specs.Pieces.{state_piece, clause_piece}
-use Rattle.hv_proof_text.specs.Tokens.{AreRisingNumbers, AreClauses, AreStates, number, literal_token, clause_tokens, state_tokens}
+use Rattle.hv_proof_text.specs.Working.Pieces.{state_piece, clause_piece}
+use Rattle.hv_proof_text.specs.Working.Tokens.{AreRisingNumbers, AreClauseTokens, AreStateTokens, number, literal_token, clause_tokens, state_tokens}
 use Rattle.hv_proof_text.specs.declared.lists.ClausePiece.{ClausePiece}
 use Rattle.hv_proof_text.specs.declared.lists.ClausePiece.TheVariants as P
 use Rattle.hv_proof_text.specs.declared.lists.StatePiece.{StatePiece}
@@ -266,11 +266,11 @@ states_in (token ∷ tokens) all state least xs each on e =
           )
     ]
 
-pub states_found : (tokens : List Token) (xs : List (List ℕ)) → states_from [] [] 0 tokens ≡ Some xs → AreStates xs tokens
+pub states_found : (tokens : List Token) (xs : List (List ℕ)) → states_from [] [] 0 tokens ≡ Some xs → AreStateTokens xs tokens
 states_found tokens xs e =
     let h = states_in tokens [] [] 0 xs (All-nil IsRising) (λ rest r. r) e in record { rising = h.0; same = h.1 }
 
-pub states_only : (tokens : List Token) (xs : List (List ℕ)) → AreStates xs tokens → states_from [] [] 0 tokens ≡ Some xs
+pub states_only : (tokens : List Token) (xs : List (List ℕ)) → AreStateTokens xs tokens → states_from [] [] 0 tokens ≡ Some xs
 states_only tokens xs are = ap (states_from [] [] 0) (sym are.same) ∙ states_out xs [] are.rising
 
 pub some_injective : {A : Type 0} {x y : A} → Some x ≡ Some y → x ≡ y
@@ -280,17 +280,17 @@ pub same_counts : {m n : ℕ} {xs ys : List Token} → number m ∷ xs ≡ numbe
 same_counts e = (cc, cc)
 
 -- two lists of states that are spelled alike are one
-pub same_states : (xs ys : List (List ℕ)) (tokens : List Token) → AreStates xs tokens → AreStates ys tokens → xs ≡ ys
+pub same_states : (xs ys : List (List ℕ)) (tokens : List Token) → AreStateTokens xs tokens → AreStateTokens ys tokens → xs ≡ ys
 same_states xs ys tokens left right =
     let l = states_only tokens xs left in let r = states_only tokens ys right in some_injective (sym l ∙ r)
 
 -- a count that isn't that of the states which follow is that of no others
 pub miscounted_states : (tokens rest : List Token) (count : ℕ) (xs : List (List ℕ)) → tokens ≡ number count ∷ rest
-    → AreStates xs rest → (length xs ≡ count → ⊥) → (ys : List (List ℕ)) (items : List Token)
-    → tokens ≡ number (length ys) ∷ items → AreStates ys items → ⊥
+    → AreStateTokens xs rest → (length xs ≡ count → ⊥) → (ys : List (List ℕ)) (items : List Token)
+    → tokens ≡ number (length ys) ∷ items → AreStateTokens ys items → ⊥
 miscounted_states tokens rest count xs head are other ys items same are_too =
     let h = same_counts (sym head ∙ same) in
-    other (ap length (same_states xs ys rest are (subst (AreStates ys) (sym h.1) are_too)) ∙ sym h.0)
+    other (ap length (same_states xs ys rest are (subst (AreStateTokens ys) (sym h.1) are_too)) ∙ sym h.0)
 
 -- Clauses.
 
@@ -472,22 +472,22 @@ clauses_in (token ∷ tokens) all clause xs each short e =
           )
     ]
 
-pub clauses_found : (tokens : List Token) (xs : List (List Literal)) → clauses_from [] [] tokens ≡ Some xs → AreClauses xs tokens
+pub clauses_found : (tokens : List Token) (xs : List (List Literal)) → clauses_from [] [] tokens ≡ Some xs → AreClauseTokens xs tokens
 clauses_found tokens xs e =
     let h = clauses_in tokens [] [] xs (All-nil (All FitsLiteral)) (All-nil FitsLiteral) e in record { short = h.0; same = h.1 }
 
-pub clauses_only : (tokens : List Token) (xs : List (List Literal)) → AreClauses xs tokens → clauses_from [] [] tokens ≡ Some xs
+pub clauses_only : (tokens : List Token) (xs : List (List Literal)) → AreClauseTokens xs tokens → clauses_from [] [] tokens ≡ Some xs
 clauses_only tokens xs are = ap (clauses_from [] []) (sym are.same) ∙ clauses_out xs [] are.short
 
 -- two lists that are spelled alike are one
-pub same_clauses : (xs ys : List (List Literal)) (tokens : List Token) → AreClauses xs tokens → AreClauses ys tokens → xs ≡ ys
+pub same_clauses : (xs ys : List (List Literal)) (tokens : List Token) → AreClauseTokens xs tokens → AreClauseTokens ys tokens → xs ≡ ys
 same_clauses xs ys tokens left right =
     let l = clauses_only tokens xs left in let r = clauses_only tokens ys right in some_injective (sym l ∙ r)
 
 -- a count that isn't that of the clauses which follow is that of no others
 pub miscounted_clauses : (tokens rest : List Token) (count : ℕ) (xs : List (List Literal)) → tokens ≡ number count ∷ rest
-    → AreClauses xs rest → (length xs ≡ count → ⊥) → (ys : List (List Literal)) (items : List Token)
-    → tokens ≡ number (length ys) ∷ items → AreClauses ys items → ⊥
+    → AreClauseTokens xs rest → (length xs ≡ count → ⊥) → (ys : List (List Literal)) (items : List Token)
+    → tokens ≡ number (length ys) ∷ items → AreClauseTokens ys items → ⊥
 miscounted_clauses tokens rest count xs head are other ys items same are_too =
     let h = same_counts (sym head ∙ same) in
-    other (ap length (same_clauses xs ys rest are (subst (AreClauses ys) (sym h.1) are_too)) ∙ sym h.0)
+    other (ap length (same_clauses xs ys rest are (subst (AreClauseTokens ys) (sym h.1) are_too)) ∙ sym h.0)

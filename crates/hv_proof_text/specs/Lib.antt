@@ -1,5 +1,2 @@
-pub mod Tokens
-pub mod Forms
-pub mod Pieces
 pub mod Reading
-pub mod Writing
+pub mod Working

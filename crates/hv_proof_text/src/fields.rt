@@ -1,6 +1,8 @@
+//! The fields of a line, and the token that each stands for.
+
 ghost use Rattle.std.specs.Prelude.{◌≡◌, ◌==◌, ℕ, true, false, List, Ok};
 ghost use Rattle.hv_bytes.specs.Fields.{cut_fields};
-ghost use Rattle.hv_proof_text.specs.Tokens.{AreTokens};
+ghost use Rattle.hv_proof_text.specs.Working.Tokens.{AreTokens};
 ghost use Rattle.hv_proof_text.specs.declared.token.Token.{Token};
 
 use crate::token::{Token, token_of};

@@ -1,15 +1,15 @@
-ghost use Rattle.std.specs.Prelude.{◌≡◌, ◌≤◌, ℕ, List, ◌∷◌, Option, None, Some, MatchOption, IfOk, IfSome, length};
+//! Lines from tokens: what may stand behind each letter.
+
+ghost use Rattle.std.specs.Prelude.{◌≡◌, ℕ, List, ◌∷◌, MatchOption, IfOk, length};
 ghost use Rattle.std.specs.List.{All};
-ghost use Rattle.hv_lines.specs.Spelling as Spelling;
-ghost use Rattle.hv_lines.specs.Spelling.{premises_of};
 ghost use Rattle.hv_lines.specs.declared.line.Acts.{Acts};
 ghost use Rattle.hv_lines.specs.declared.line.Expr.{Expr};
 ghost use Rattle.hv_lines.specs.declared.line.Line.{Line};
 ghost use Rattle.hv_lines.specs.declared.line.Statement.{Statement};
 ghost use Rattle.hv_lines.specs.declared.line.Word.{Word};
-ghost use Rattle.hv_proof_text.specs.Forms.{ActsForm, ExprForm, ClaimForm, SupportForm, LineForm};
+ghost use Rattle.hv_proof_text.specs.Working.Forms.{ActsForm, ExprForm, ClaimForm, SupportForm, LineForm};
 ghost use Rattle.hv_sets.specs.declared.literal.Literal.{Literal};
-ghost use Rattle.hv_proof_text.specs.Tokens.{number, AreClauses, AreStates, IsToken, SpellsTokens};
+ghost use Rattle.hv_proof_text.specs.Working.Tokens.{number, AreClauseTokens, AreStateTokens, IsToken, SpellsTokens};
 ghost use Rattle.hv_proof_text.specs.declared.token.Token.{Token};
 
 use crate::token::{Letter, Token};
@@ -25,6 +25,7 @@ struct Claim<'a> {
     rest: &'a [Token],
 }
 
+/// The statement behind its letter.
 fn claim_of(kind: Letter, tokens: &[Token]) -> Option<Claim<'_>>
     ensures { MatchOption result
         ((statement : Statement) (rest : List Token) → ClaimForm kind tokens.now statement rest → ⊥)
@@ -60,57 +61,6 @@ fn claim_of(kind: Letter, tokens: &[Token]) -> Option<Claim<'_>>
     }
 }
 
-/// How many premises the word has after the statement, where it may stand there.
-fn premise_count(statement: &Statement, word: Word) -> Option<usize>
-    ensures same { result ≡ premises_of statement.now word }
-    ensures few { IfSome result (λ count. count ≤ 3) }
-{
-    match statement {
-        Statement::Sub(_, _) => sub_premises(word),
-        Statement::ActSub(_, _) => match word {
-            Word::B5 => Some(0),
-            _ => None,
-        },
-        Statement::Dead(_) => dead_premises(word),
-        Statement::Unsolvable => match word {
-            Word::Ci | Word::Cg => Some(1),
-            _ => None,
-        },
-    }
-}
-
-fn sub_premises(word: Word) -> Option<usize>
-    ensures same { result ≡ Spelling.sub_premises word }
-    ensures few { IfSome result (λ count. count ≤ 3) }
-{
-    match word {
-        Word::B1
-        | Word::B2
-        | Word::B3
-        | Word::B4
-        | Word::Ur
-        | Word::Ul
-        | Word::Ir
-        | Word::Il
-        | Word::Di => Some(0),
-        Word::Pr | Word::Rp => Some(1),
-        Word::Su | Word::Si | Word::St | Word::At | Word::Au | Word::Pt | Word::Pu => Some(2),
-        _ => None,
-    }
-}
-
-fn dead_premises(word: Word) -> Option<usize>
-    ensures same { result ≡ Spelling.dead_premises word }
-    ensures few { IfSome result (λ count. count ≤ 3) }
-{
-    match word {
-        Word::Ed => Some(0),
-        Word::Ud | Word::Sd => Some(2),
-        Word::Pg | Word::Pi | Word::Rg | Word::Ri => Some(3),
-        _ => None,
-    }
-}
-
 /// A word and its premises.
 #[derive(Drop)]
 struct Support {
@@ -118,17 +68,19 @@ struct Support {
     premises: Premises,
 }
 
+/// The word behind a statement, with as many premises as it has there.
 fn support_of(statement: &Statement, tokens: &[Token]) -> Option<Support>
     ensures { MatchOption result
         ((word : Word) (premises : List ℕ) → SupportForm statement.now tokens.now word premises → ⊥)
         (λ support. SupportForm statement.now tokens.now support.word support.premises) }
 {
     let (word, rest) = shapes::word_first(tokens)?;
-    let count = premise_count(statement, word)?;
+    let count = word.premises_after(statement)?;
     let premises = shapes::premises_in(count, rest)?;
     Some(Support { word, premises })
 }
 
+/// The action set behind its letter.
 fn acts_of(alloc: Global, kind: Letter, tokens: &[Token]) -> Result<Option<Acts>, AllocError>
     ensures { IfOk result (λ found. MatchOption found
         ((acts : Acts) → ActsForm kind tokens.now acts → ⊥)
@@ -148,6 +100,7 @@ fn acts_of(alloc: Global, kind: Letter, tokens: &[Token]) -> Result<Option<Acts>
     }
 }
 
+/// A count and so many actions.
 fn listed_acts(alloc: Global, tokens: &[Token]) -> Result<Option<Acts>, AllocError>
     ensures { IfOk result (λ found. MatchOption found
         ((acts : Acts) → ActsForm Letter.B tokens.now acts → ⊥)
@@ -162,62 +115,34 @@ fn listed_acts(alloc: Global, tokens: &[Token]) -> Result<Option<Acts>, AllocErr
     }
 }
 
+/// The set behind its letter.
 fn expr_of(alloc: Global, kind: Letter, tokens: &[Token]) -> Result<Option<Expr>, AllocError>
     ensures { IfOk result (λ found. MatchOption found
         ((expr : Expr) → ExprForm kind tokens.now expr → ⊥)
         (λ expr. ExprForm kind tokens.now expr)) }
 {
     match kind {
-        Letter::C => match shapes::constant_of(tokens) {
-            Some(constant) => Ok(Some(Expr::Constant(constant))),
-            None => Ok(None),
-        },
-        Letter::H => match counted_clauses(alloc, tokens)? {
-            Some(clauses) => Ok(Some(Expr::Horn(clauses))),
-            None => Ok(None),
-        },
-        Letter::T => match counted_clauses(alloc, tokens)? {
-            Some(clauses) => Ok(Some(Expr::Two(clauses))),
-            None => Ok(None),
-        },
-        Letter::X => match counted_states(alloc, tokens)? {
-            Some(states) => Ok(Some(Expr::States(states))),
-            None => Ok(None),
-        },
-        Letter::B => match shapes::one_short_number(tokens) {
-            Some(node) => Ok(Some(Expr::Node(node))),
-            None => Ok(None),
-        },
-        Letter::N => match shapes::one_number(tokens) {
-            Some(set) => Ok(Some(Expr::Not(set))),
-            None => Ok(None),
-        },
-        Letter::I => match shapes::two_numbers(tokens) {
-            Some(pair) => Ok(Some(Expr::And(pair.0, pair.1))),
-            None => Ok(None),
-        },
-        Letter::U => match shapes::two_numbers(tokens) {
-            Some(pair) => Ok(Some(Expr::Or(pair.0, pair.1))),
-            None => Ok(None),
-        },
-        Letter::P => match shapes::two_numbers(tokens) {
-            Some(pair) => Ok(Some(Expr::After(pair.0, pair.1))),
-            None => Ok(None),
-        },
-        Letter::R => match shapes::two_numbers(tokens) {
-            Some(pair) => Ok(Some(Expr::Before(pair.0, pair.1))),
-            None => Ok(None),
-        },
+        Letter::C => Ok(shapes::constant_of(tokens).map(Expr::Constant)),
+        Letter::H => Ok(counted_clauses(alloc, tokens)?.map(Expr::Horn)),
+        Letter::T => Ok(counted_clauses(alloc, tokens)?.map(Expr::Two)),
+        Letter::X => Ok(counted_states(alloc, tokens)?.map(Expr::States)),
+        Letter::B => Ok(shapes::one_short_number(tokens).map(Expr::Node)),
+        Letter::N => Ok(shapes::one_number(tokens).map(Expr::Not)),
+        Letter::I => Ok(shapes::two_numbers(tokens).map(|pair| Expr::And(pair.0, pair.1))),
+        Letter::U => Ok(shapes::two_numbers(tokens).map(|pair| Expr::Or(pair.0, pair.1))),
+        Letter::P => Ok(shapes::two_numbers(tokens).map(|pair| Expr::After(pair.0, pair.1))),
+        Letter::R => Ok(shapes::two_numbers(tokens).map(|pair| Expr::Before(pair.0, pair.1))),
         _ => Ok(None),
     }
 }
 
+/// A count and so many clauses.
 fn counted_clauses(alloc: Global, tokens: &[Token]) -> Result<Option<Clauses>, AllocError>
     ensures { IfOk result (λ found. MatchOption found
         ((clauses : List (List Literal)) (items : List Token)
-        → tokens.now ≡ number (length clauses) ∷ items → AreClauses clauses items → ⊥)
+        → tokens.now ≡ number (length clauses) ∷ items → AreClauseTokens clauses items → ⊥)
         (λ clauses. (items : List Token) × (tokens.now ≡ number (length clauses) ∷ items)
-        × AreClauses clauses items)) }
+        × AreClauseTokens clauses items)) }
 {
     let Some(counted) = shapes::counted(tokens) else {
         return Ok(None);
@@ -226,18 +151,19 @@ fn counted_clauses(alloc: Global, tokens: &[Token]) -> Result<Option<Clauses>, A
         return Ok(None);
     };
     if clauses.len() as u64 == counted.0 {
-        Ok(Some(clauses))
+        Ok(Some(clauses.share()?))
     } else {
         Ok(None)
     }
 }
 
+/// A count and so many states.
 fn counted_states(alloc: Global, tokens: &[Token]) -> Result<Option<StateList>, AllocError>
     ensures { IfOk result (λ found. MatchOption found
         ((states : List (List ℕ)) (items : List Token)
-        → tokens.now ≡ number (length states) ∷ items → AreStates states items → ⊥)
+        → tokens.now ≡ number (length states) ∷ items → AreStateTokens states items → ⊥)
         (λ states. (items : List Token) × (tokens.now ≡ number (length states) ∷ items)
-        × AreStates states items)) }
+        × AreStateTokens states items)) }
 {
     let Some(counted) = shapes::counted(tokens) else {
         return Ok(None);
@@ -246,12 +172,13 @@ fn counted_states(alloc: Global, tokens: &[Token]) -> Result<Option<StateList>, 
         return Ok(None);
     };
     if states.len() as u64 == counted.0 {
-        Ok(Some(states))
+        Ok(Some(states.share()?))
     } else {
         Ok(None)
     }
 }
 
+/// The claim behind its identifier.
 fn known_of(id: usize, kind: Letter, tokens: &[Token]) -> Option<Line>
     ensures { MatchOption result
         ((line : Line) → LineForm Letter.K id kind tokens.now line → ⊥)

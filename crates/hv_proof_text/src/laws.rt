@@ -1,3 +1,5 @@
+//! Laws of proof texts, as contracts of functions that do nothing.
+
 ghost use Rattle.std.specs.Prelude.{◌≡◌, ◌≤◌, ℕ, List, length, reverse};
 ghost use Rattle.hv_bytes.specs.Pieces.{pieces_of};
 ghost use Rattle.hv_bytes.specs.Standard.{most_file_bytes, standard};

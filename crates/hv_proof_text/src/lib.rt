@@ -3,14 +3,14 @@
 
 mod fields;
 mod forms;
-mod laws;
+pub mod laws;
 mod lists;
-mod read;
+pub mod read;
 mod shapes;
 #[cfg(test)]
 mod tests;
 mod token;
-mod write;
+pub mod write;
 
 pub use laws::{one_line, read_back};
 pub use read::{LineError, LineReader, read_line};

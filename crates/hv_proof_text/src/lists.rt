@@ -1,8 +1,10 @@
+//! Lists in a line: actions, clauses and states, each with its end.
+
 ghost use Rattle.std.specs.Prelude.{◌≡◌, ◌<◌, ◌^◌, ℕ, List, [], ◌∷◌, ◌++◌, MatchOption, IfOk, OnOk};
 ghost use Rattle.std.specs.List.{All};
 ghost use Rattle.hv_sets.specs.declared.literal.Literal.{Literal};
-ghost use Rattle.hv_proof_text.specs.Pieces as Pieces;
-ghost use Rattle.hv_proof_text.specs.Tokens.{AreRisingNumbers, AreClauses, AreStates};
+ghost use Rattle.hv_proof_text.specs.Working.Pieces as Pieces;
+ghost use Rattle.hv_proof_text.specs.Working.Tokens.{AreRisingNumbers, AreClauseTokens, AreStateTokens};
 
 use crate::shapes::NOT_SHORT;
 use crate::token::Token;
@@ -42,6 +44,7 @@ enum ClausePiece {
     Other,
 }
 
+/// What the token is in a clause.
 fn clause_piece(token: Token) -> ClausePiece
     ensures { result ≡ Pieces.clause_piece token }
 {
@@ -87,8 +90,8 @@ pub(crate) fn rising_numbers(
 /// Clauses, each with its end.
 pub(crate) fn clauses_in(alloc: Global, tokens: &[Token]) -> Result<Option<Clauses>, AllocError>
     ensures { IfOk result (λ found. MatchOption found
-        ((clauses : List (List Literal)) → AreClauses clauses tokens.now → ⊥)
-        (λ clauses. AreClauses clauses tokens.now)) }
+        ((clauses : List (List Literal)) → AreClauseTokens clauses tokens.now → ⊥)
+        (λ clauses. AreClauseTokens clauses tokens.now)) }
 {
     let mut all = Clauses::new(alloc);
     let mut clause = Clause::new(alloc);
@@ -112,8 +115,8 @@ pub(crate) fn clauses_in(alloc: Global, tokens: &[Token]) -> Result<Option<Claus
 /// States, each with its end.
 pub(crate) fn states_in(alloc: Global, tokens: &[Token]) -> Result<Option<StateList>, AllocError>
     ensures { IfOk result (λ found. MatchOption found
-        ((states : List (List ℕ)) → AreStates states tokens.now → ⊥)
-        (λ states. AreStates states tokens.now)) }
+        ((states : List (List ℕ)) → AreStateTokens states tokens.now → ⊥)
+        (λ states. AreStateTokens states tokens.now)) }
 {
     let mut all = StateList::new(alloc);
     let mut state = AtomList::new(alloc);

@@ -1,3 +1,5 @@
+//! A line from its bytes.
+
 ghost use Rattle.std.specs.Prelude.{◌≡◌, ◌↔◌, ℕ, List, IsTrue, MatchOption, IfOk};
 ghost use Rattle.hv_lines.specs.Spelling.{IsSkipped, Spells};
 ghost use Rattle.hv_lines.specs.declared.line.Line.{Line};
@@ -68,6 +70,7 @@ impl LineReader {
     }
 }
 
+/// Whether the line is empty or a comment.
 fn is_skipped(bytes: &[u8]) -> bool
     ensures { IsTrue result ↔ IsSkipped bytes.now }
 {
@@ -77,6 +80,7 @@ fn is_skipped(bytes: &[u8]) -> bool
     }
 }
 
+/// The line that the bytes spell, in the memory for tokens.
 fn spelled_line(
     alloc: Global,
     tokens: &mut Vec<Token>,

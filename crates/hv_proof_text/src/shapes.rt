@@ -1,8 +1,10 @@
+//! Short rows of tokens: numbers, a constant, a word, premises.
+
 ghost use Rattle.std.specs.Prelude.{◌≡◌, ◌<◌, ◌≤◌, ◌^◌, ℕ, List, [], ◌∷◌, MatchOption, length, map};
 ghost use Rattle.hv_lines.specs.Spelling.{FitsShortDecimal};
 ghost use Rattle.hv_lines.specs.declared.line.Constant.{Constant};
 ghost use Rattle.hv_lines.specs.declared.line.Word.{Word};
-ghost use Rattle.hv_proof_text.specs.Tokens.{constant_letter, letter, number};
+ghost use Rattle.hv_proof_text.specs.Working.Tokens.{constant_letter, letter, number};
 ghost use Rattle.hv_proof_text.specs.declared.token.Letter.{Letter};
 ghost use Rattle.hv_proof_text.specs.declared.token.Token.{Token};
 ghost use Rattle.hv_proof_text.specs.declared.token.Token.TheVariants as T;
@@ -22,6 +24,7 @@ pub(crate) struct Head<'a> {
     pub(crate) rest: &'a [Token],
 }
 
+/// The head of a line.
 pub(crate) fn head_of(tokens: &[Token]) -> Option<Head<'_>>
     ensures { MatchOption result
         ((first : Letter) (id : ℕ) (kind : Letter) (rest : List Token)
@@ -45,6 +48,7 @@ pub(crate) fn head_of(tokens: &[Token]) -> Option<Head<'_>>
     }
 }
 
+/// One number, and nothing more.
 pub(crate) fn one_number(tokens: &[Token]) -> Option<usize>
     ensures { MatchOption result
         ((n : ℕ) → tokens.now ≡ number n ∷ [] → ⊥)
@@ -56,6 +60,7 @@ pub(crate) fn one_number(tokens: &[Token]) -> Option<usize>
     }
 }
 
+/// One short decimal, and nothing more.
 pub(crate) fn one_short_number(tokens: &[Token]) -> Option<u32>
     ensures { MatchOption result
         ((n : ℕ) → tokens.now ≡ number n ∷ [] → FitsShortDecimal n → ⊥)
@@ -67,6 +72,7 @@ pub(crate) fn one_short_number(tokens: &[Token]) -> Option<u32>
     }
 }
 
+/// Two numbers, and nothing more.
 pub(crate) fn two_numbers(tokens: &[Token]) -> Option<(usize, usize)>
     ensures { MatchOption result
         ((m n : ℕ) → tokens.now ≡ number m ∷ number n ∷ [] → ⊥)
@@ -100,6 +106,7 @@ pub(crate) struct TwoFirst<'a> {
     pub(crate) rest: &'a [Token],
 }
 
+/// The first two numbers.
 pub(crate) fn two_first(tokens: &[Token]) -> Option<TwoFirst<'_>>
     ensures { MatchOption result
         ((m n : ℕ) (rest : List Token) → tokens.now ≡ number m ∷ number n ∷ rest → ⊥)
@@ -115,6 +122,7 @@ pub(crate) fn two_first(tokens: &[Token]) -> Option<TwoFirst<'_>>
     }
 }
 
+/// The letter of a constant, and nothing more.
 pub(crate) fn constant_of(tokens: &[Token]) -> Option<Constant>
     ensures { MatchOption result
         ((constant : Constant) → tokens.now ≡ letter (constant_letter constant) ∷ [] → ⊥)
@@ -161,6 +169,7 @@ pub(crate) fn premises_in(count: usize, tokens: &[Token]) -> Option<Premises>
     }
 }
 
+/// Nothing.
 fn no_premises(tokens: &[Token]) -> Option<Premises>
     ensures { MatchOption result (tokens.now ≡ [] → ⊥) (λ premises. (premises ≡ [])
         × (tokens.now ≡ [])) }
@@ -171,6 +180,7 @@ fn no_premises(tokens: &[Token]) -> Option<Premises>
     }
 }
 
+/// Three numbers, and nothing more.
 fn three_premises(tokens: &[Token]) -> Option<Premises>
     ensures { MatchOption result
         ((l m n : ℕ) → tokens.now ≡ number l ∷ number m ∷ number n ∷ [] → ⊥)

@@ -1,7 +1,7 @@
+//! Tokens: what a field of a line stands for.
+
 ghost use Rattle.std.specs.Prelude.{◌≡◌, ◌<◌, ◌^◌, ◌↔◌, ℕ, ◌∷◌, IsTrue, MatchOption, codes, decimal};
-ghost use Rattle.hv_lines.specs.Spelling.{word_field};
-ghost use Rattle.hv_lines.specs.declared.line.Word.{Word};
-ghost use Rattle.hv_proof_text.specs.Tokens.{letter_field, field_of, IsToken};
+ghost use Rattle.hv_proof_text.specs.Working.Tokens.{letter_field, field_of, IsToken};
 ghost use Rattle.hv_proof_text.specs.declared.token.Letter.{Letter};
 ghost use Rattle.hv_proof_text.specs.declared.token.Token.{Token};
 
@@ -60,12 +60,13 @@ pub(crate) fn token_of(field: &[u8]) -> Option<Token>
     if let Some(letter) = letter_of(field) {
         return Some(Token::Letter(letter));
     }
-    if let Some(word) = word_of(field) {
+    if let Some(word) = Word::spelled(field) {
         return Some(Token::Word(word));
     }
     None
 }
 
+/// A letter.
 fn letter_of(field: &[u8]) -> Option<Letter>
     ensures { MatchOption result
         ((letter : Letter) → letter_field letter ≡ field.now → ⊥)
@@ -92,44 +93,7 @@ fn letter_of(field: &[u8]) -> Option<Letter>
     }
 }
 
-fn word_of(field: &[u8]) -> Option<Word>
-    ensures { MatchOption result
-        ((word : Word) → word_field word ≡ field.now → ⊥)
-        (λ word. word_field word ≡ field.now) }
-{
-    match field {
-        [b'b', b'1'] => Some(Word::B1),
-        [b'b', b'2'] => Some(Word::B2),
-        [b'b', b'3'] => Some(Word::B3),
-        [b'b', b'4'] => Some(Word::B4),
-        [b'b', b'5'] => Some(Word::B5),
-        [b'e', b'd'] => Some(Word::Ed),
-        [b'u', b'd'] => Some(Word::Ud),
-        [b's', b'd'] => Some(Word::Sd),
-        [b'p', b'g'] => Some(Word::Pg),
-        [b'p', b'i'] => Some(Word::Pi),
-        [b'r', b'g'] => Some(Word::Rg),
-        [b'r', b'i'] => Some(Word::Ri),
-        [b'c', b'i'] => Some(Word::Ci),
-        [b'c', b'g'] => Some(Word::Cg),
-        [b'u', b'r'] => Some(Word::Ur),
-        [b'u', b'l'] => Some(Word::Ul),
-        [b'i', b'r'] => Some(Word::Ir),
-        [b'i', b'l'] => Some(Word::Il),
-        [b'd', b'i'] => Some(Word::Di),
-        [b's', b'u'] => Some(Word::Su),
-        [b's', b'i'] => Some(Word::Si),
-        [b's', b't'] => Some(Word::St),
-        [b'a', b't'] => Some(Word::At),
-        [b'a', b'u'] => Some(Word::Au),
-        [b'p', b't'] => Some(Word::Pt),
-        [b'p', b'u'] => Some(Word::Pu),
-        [b'p', b'r'] => Some(Word::Pr),
-        [b'r', b'p'] => Some(Word::Rp),
-        _ => None,
-    }
-}
-
+/// A decimal of at most 18 digits.
 fn number_of(field: &[u8]) -> Option<u64>
     ensures { MatchOption result
         ((n : ℕ) → n < 10 ^ 18 → decimal n ≡ field.now → ⊥)
@@ -138,6 +102,7 @@ fn number_of(field: &[u8]) -> Option<u64>
     read_decimal(field)
 }
 
+/// A dash and such a decimal.
 fn minus_of(field: &[u8]) -> Option<u64>
     ensures { MatchOption result
         ((n : ℕ) → n < 10 ^ 18 → 45 ∷ decimal n ≡ field.now → ⊥)
@@ -149,6 +114,7 @@ fn minus_of(field: &[u8]) -> Option<u64>
     }
 }
 
+/// Whether the field is `;`.
 fn is_end(field: &[u8]) -> bool
     ensures { IsTrue result ↔ (codes ";" ≡ field.now) }
 {

@@ -1,7 +1,9 @@
+//! The bytes of a line, and of a proof.
+
 ghost use Rattle.std.specs.Prelude.{◌≡◌, [], ◌∷◌, ◌++◌, OnOk, OnErr, IfOk, codes, decimal, map, length, reverse};
 ghost use Rattle.std.specs.List.{flat_map};
 ghost use Rattle.hv_lines.specs.Spelling.{acts_fields, clause_fields, constant_field, expr_fields, literal_field, proof_text, spelling_of, state_fields, statement_fields, word_field};
-ghost use Rattle.hv_proof_text.specs.Writing.{Grows, with_fields};
+ghost use Rattle.hv_proof_text.specs.Working.Writing.{GrowsText, with_fields};
 
 use hv_bytes::Text;
 use hv_lines::{Acts, Constant, Expr, Line, Statement, Table, Word};
@@ -37,7 +39,7 @@ pub fn write_proof(alloc: Global, table: &Table, out: &mut Text) -> Result<(), A
 /// Appends the lines; where memory runs out, some of them.
 fn push_lines(alloc: Global, table: &Table, out: &mut Text) -> Result<(), AllocError>
     ensures ok { OnOk result (out.new ≡ out.old ++ proof_text (reverse table.now.lines)) }
-    ensures err { OnErr result (Grows out.old out.new) }
+    ensures err { OnErr result (GrowsText out.old out.new) }
 {
     let mut line = Text::new(alloc);
     for place in 0..table.len() {
@@ -73,12 +75,13 @@ fn push_line(text: &mut Text, line: &Line) -> Result<(), AllocError>
             text.push_bytes(b"k")?;
             push_number(text, *id as u64)?;
             push_statement(text, statement)?;
-            push_field(text, word_text(*word))?;
+            push_word(text, *word)?;
             push_ids(text, premises.as_slice())
         }
     }
 }
 
+/// Appends the fields of the action set.
 fn push_acts(text: &mut Text, acts: &Acts) -> Result<(), AllocError>
     ensures { OnOk result (text.new ≡ with_fields text.old (acts_fields acts.now)) }
 {
@@ -93,6 +96,7 @@ fn push_acts(text: &mut Text, acts: &Acts) -> Result<(), AllocError>
     }
 }
 
+/// Appends the fields of the set.
 fn push_expr(text: &mut Text, expr: &Expr) -> Result<(), AllocError>
     ensures { OnOk result (text.new ≡ with_fields text.old (expr_fields expr.now)) }
 {
@@ -125,6 +129,7 @@ fn push_expr(text: &mut Text, expr: &Expr) -> Result<(), AllocError>
     }
 }
 
+/// Appends the fields of the statement.
 fn push_statement(text: &mut Text, statement: &Statement) -> Result<(), AllocError>
     ensures { OnOk result (text.new ≡ with_fields text.old (statement_fields statement.now)) }
 {
@@ -136,6 +141,15 @@ fn push_statement(text: &mut Text, statement: &Statement) -> Result<(), AllocErr
     }
 }
 
+/// Appends the field of the word.
+fn push_word(text: &mut Text, word: Word) -> Result<(), AllocError>
+    ensures { OnOk result (text.new ≡ text.old ++ 32 ∷ word_field word) }
+{
+    let row = word.row();
+    push_field(text, row.spelling.as_slice())
+}
+
+/// Appends the clauses, each with its end.
 fn push_clauses(text: &mut Text, clauses: &Clauses) -> Result<(), AllocError>
     ensures { OnOk result (text.new ≡ with_fields text.old (flat_map clause_fields clauses.now)) }
 {
@@ -145,6 +159,7 @@ fn push_clauses(text: &mut Text, clauses: &Clauses) -> Result<(), AllocError>
     Ok(())
 }
 
+/// Appends a clause with its end.
 fn push_clause(text: &mut Text, clause: &[Literal]) -> Result<(), AllocError>
     ensures { OnOk result (text.new ≡ with_fields text.old (clause_fields clause.now)) }
 {
@@ -154,6 +169,7 @@ fn push_clause(text: &mut Text, clause: &[Literal]) -> Result<(), AllocError>
     push_field(text, b"0")
 }
 
+/// Appends the number of the literal.
 fn push_literal(text: &mut Text, literal: &Literal) -> Result<(), AllocError>
     ensures { OnOk result (text.new ≡ text.old ++ 32 ∷ literal_field literal.now) }
 {
@@ -166,6 +182,7 @@ fn push_literal(text: &mut Text, literal: &Literal) -> Result<(), AllocError>
     }
 }
 
+/// Appends the states, each with its end.
 fn push_states(text: &mut Text, states: &StateList) -> Result<(), AllocError>
     ensures { OnOk result (text.new ≡ with_fields text.old (flat_map state_fields states.now)) }
 {
@@ -176,6 +193,7 @@ fn push_states(text: &mut Text, states: &StateList) -> Result<(), AllocError>
     Ok(())
 }
 
+/// Appends a state with its end.
 fn push_state(text: &mut Text, state: &AtomList) -> Result<(), AllocError>
     ensures { OnOk result (text.new ≡ with_fields text.old (state_fields state.now)) }
 {
@@ -185,6 +203,7 @@ fn push_state(text: &mut Text, state: &AtomList) -> Result<(), AllocError>
     push_field(text, b";")
 }
 
+/// Appends a field for each number.
 fn push_numbers(text: &mut Text, numbers: &[u32]) -> Result<(), AllocError>
     ensures { OnOk result (text.new ≡ with_fields text.old (map decimal numbers.now)) }
 {
@@ -194,6 +213,7 @@ fn push_numbers(text: &mut Text, numbers: &[u32]) -> Result<(), AllocError>
     Ok(())
 }
 
+/// Appends a field for each identifier.
 fn push_ids(text: &mut Text, ids: &[usize]) -> Result<(), AllocError>
     ensures { OnOk result (text.new ≡ with_fields text.old (map decimal ids.now)) }
 {
@@ -203,7 +223,7 @@ fn push_ids(text: &mut Text, ids: &[usize]) -> Result<(), AllocError>
     Ok(())
 }
 
-/// A letter and an identifier.
+/// Appends a letter and an identifier.
 fn push_one(text: &mut Text, letter: &[u8], id: usize) -> Result<(), AllocError>
     ensures { OnOk result (text.new ≡ with_fields text.old (letter.now ∷ decimal id ∷ [])) }
 {
@@ -211,7 +231,7 @@ fn push_one(text: &mut Text, letter: &[u8], id: usize) -> Result<(), AllocError>
     push_number(text, id as u64)
 }
 
-/// A letter and two identifiers.
+/// Appends a letter and two identifiers.
 fn push_pair(text: &mut Text, letter: &[u8], left: usize, right: usize) -> Result<(), AllocError>
     ensures { OnOk result (text.new ≡ with_fields text.old (letter.now ∷ decimal left
         ∷ decimal right ∷ [])) }
@@ -221,6 +241,7 @@ fn push_pair(text: &mut Text, letter: &[u8], left: usize, right: usize) -> Resul
     push_number(text, right as u64)
 }
 
+/// Appends a space and the field.
 fn push_field(text: &mut Text, field: &[u8]) -> Result<(), AllocError>
     ensures { OnOk result (text.new ≡ text.old ++ 32 ∷ field.now) }
 {
@@ -228,6 +249,7 @@ fn push_field(text: &mut Text, field: &[u8]) -> Result<(), AllocError>
     text.push_bytes(field)
 }
 
+/// Appends a space and the decimal.
 fn push_number(text: &mut Text, number: u64) -> Result<(), AllocError>
     ensures { OnOk result (text.new ≡ text.old ++ 32 ∷ decimal number) }
 {
@@ -235,6 +257,7 @@ fn push_number(text: &mut Text, number: u64) -> Result<(), AllocError>
     text.push_number(number)
 }
 
+/// The field of the constant.
 fn constant_text(constant: Constant) -> &'static [u8]
     ensures { result.now ≡ constant_field constant }
 {
@@ -242,40 +265,5 @@ fn constant_text(constant: Constant) -> &'static [u8]
         Constant::Empty => b"e",
         Constant::Start => b"i",
         Constant::Goal => b"g",
-    }
-}
-
-fn word_text(word: Word) -> &'static [u8]
-    ensures { result.now ≡ word_field word }
-{
-    match word {
-        Word::B1 => b"b1",
-        Word::B2 => b"b2",
-        Word::B3 => b"b3",
-        Word::B4 => b"b4",
-        Word::B5 => b"b5",
-        Word::Ed => b"ed",
-        Word::Ud => b"ud",
-        Word::Sd => b"sd",
-        Word::Pg => b"pg",
-        Word::Pi => b"pi",
-        Word::Rg => b"rg",
-        Word::Ri => b"ri",
-        Word::Ci => b"ci",
-        Word::Cg => b"cg",
-        Word::Ur => b"ur",
-        Word::Ul => b"ul",
-        Word::Ir => b"ir",
-        Word::Il => b"il",
-        Word::Di => b"di",
-        Word::Su => b"su",
-        Word::Si => b"si",
-        Word::St => b"st",
-        Word::At => b"at",
-        Word::Au => b"au",
-        Word::Pt => b"pt",
-        Word::Pu => b"pu",
-        Word::Pr => b"pr",
-        Word::Rp => b"rp",
     }
 }

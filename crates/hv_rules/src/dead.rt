@@ -1,210 +1,206 @@
+//! The rules whose conclusion is that a set is dead.
+
 ghost use Rattle.std.specs.Prelude.{◌↔◌, IsTrue};
-ghost use Rattle.hv_task.specs.State.{AreBelow};
-ghost use Rattle.hv_lines.specs.Numbering.{acts_count, expr_count, known_count, SpeaksBelow};
 ghost use Rattle.hv_lines.specs.Rules.{FitsEd, FitsUd, FitsSd, FitsPg, FitsPi, FitsRg, FitsRi};
+ghost use Rattle.hv_rules.specs.Working.Standing.{StandsIn};
 
 use crate::look::{is_all, is_constant, says};
-use hv_lines::{Constant, Expr, Statement, Table};
+use crate::row::Row;
+use hv_lines::{Constant, Expr, Statement};
 
 /// The empty set is dead.
-pub fn fits_ed(table: &Table, statement: Statement, premises: &[usize]) -> bool
-    requires statement { SpeaksBelow (acts_count table.now.lines)
-        (expr_count table.now.lines) statement }
-    requires premises { AreBelow (known_count table.now.lines) premises.now }
-    ensures { IsTrue result ↔ FitsEd table.now.lines statement premises.now }
+pub fn fits_ed(row: &Row<'_>) -> bool
+    requires { StandsIn row.now.table.now.lines row.now.statement row.now.premises.now }
+    ensures { IsTrue result
+        ↔ FitsEd row.now.table.now.lines row.now.statement row.now.premises.now }
 {
-    let Statement::Dead(set) = statement else {
+    let Statement::Dead(set) = row.statement else {
         return false;
     };
-    let [] = *premises else {
+    let [] = *row.premises else {
         return false;
     };
-    is_constant(table, set, Constant::Empty)
+    is_constant(row.table, set, Constant::Empty)
 }
 
 /// The union of two dead sets is dead.
-pub fn fits_ud(table: &Table, statement: Statement, premises: &[usize]) -> bool
-    requires statement { SpeaksBelow (acts_count table.now.lines)
-        (expr_count table.now.lines) statement }
-    requires premises { AreBelow (known_count table.now.lines) premises.now }
-    ensures { IsTrue result ↔ FitsUd table.now.lines statement premises.now }
+pub fn fits_ud(row: &Row<'_>) -> bool
+    requires { StandsIn row.now.table.now.lines row.now.statement row.now.premises.now }
+    ensures { IsTrue result
+        ↔ FitsUd row.now.table.now.lines row.now.statement row.now.premises.now }
 {
-    let Statement::Dead(set) = statement else {
+    let Statement::Dead(set) = row.statement else {
         return false;
     };
-    let [first, second] = *premises else {
+    let [first, second] = *row.premises else {
         return false;
     };
-    let Expr::Or(one, other) = table.expr(set) else {
+    let Expr::Or(one, other) = row.table.expr(set) else {
         return false;
     };
-    says(table, first, Statement::Dead(*one)) && says(table, second, Statement::Dead(*other))
+    says(row.table, first, Statement::Dead(*one))
+        && says(row.table, second, Statement::Dead(*other))
 }
 
 /// A set within a dead set is dead.
-pub fn fits_sd(table: &Table, statement: Statement, premises: &[usize]) -> bool
-    requires statement { SpeaksBelow (acts_count table.now.lines)
-        (expr_count table.now.lines) statement }
-    requires premises { AreBelow (known_count table.now.lines) premises.now }
-    ensures { IsTrue result ↔ FitsSd table.now.lines statement premises.now }
+pub fn fits_sd(row: &Row<'_>) -> bool
+    requires { StandsIn row.now.table.now.lines row.now.statement row.now.premises.now }
+    ensures { IsTrue result
+        ↔ FitsSd row.now.table.now.lines row.now.statement row.now.premises.now }
 {
-    let Statement::Dead(set) = statement else {
+    let Statement::Dead(set) = row.statement else {
         return false;
     };
-    let [first, second] = *premises else {
+    let [first, second] = *row.premises else {
         return false;
     };
-    let Statement::Sub(left, around) = *table.statement(first) else {
+    let Statement::Sub(left, around) = *row.table.statement(first) else {
         return false;
     };
-    left == set && says(table, second, Statement::Dead(around))
+    left == set && says(row.table, second, Statement::Dead(around))
 }
 
 /// What leads only into itself or a dead set, and whose goal states are dead, is dead.
-pub fn fits_pg(table: &Table, statement: Statement, premises: &[usize]) -> bool
-    requires statement { SpeaksBelow (acts_count table.now.lines)
-        (expr_count table.now.lines) statement }
-    requires premises { AreBelow (known_count table.now.lines) premises.now }
-    ensures { IsTrue result ↔ FitsPg table.now.lines statement premises.now }
+pub fn fits_pg(row: &Row<'_>) -> bool
+    requires { StandsIn row.now.table.now.lines row.now.statement row.now.premises.now }
+    ensures { IsTrue result
+        ↔ FitsPg row.now.table.now.lines row.now.statement row.now.premises.now }
 {
-    let Statement::Dead(set) = statement else {
+    let Statement::Dead(set) = row.statement else {
         return false;
     };
-    let [first, second, third] = *premises else {
+    let [first, second, third] = *row.premises else {
         return false;
     };
-    let Statement::Sub(results, around) = *table.statement(first) else {
+    let Statement::Sub(results, around) = *row.table.statement(first) else {
         return false;
     };
-    let Expr::After(from, acts) = table.expr(results) else {
+    let Expr::After(from, acts) = row.table.expr(results) else {
         return false;
     };
-    let Expr::Or(own, others) = table.expr(around) else {
+    let Expr::Or(own, others) = row.table.expr(around) else {
         return false;
     };
-    let Statement::Dead(goals) = *table.statement(third) else {
+    let Statement::Dead(goals) = *row.table.statement(third) else {
         return false;
     };
-    let Expr::And(inner, goal) = table.expr(goals) else {
+    let Expr::And(inner, goal) = row.table.expr(goals) else {
         return false;
     };
     *from == set
-        && is_all(table, *acts)
+        && is_all(row.table, *acts)
         && *own == set
         && *inner == set
-        && is_constant(table, *goal, Constant::Goal)
-        && says(table, second, Statement::Dead(*others))
+        && is_constant(row.table, *goal, Constant::Goal)
+        && says(row.table, second, Statement::Dead(*others))
 }
 
 /// What is outside a set that holds the initial state and leads only into itself or a dead set is
 /// dead.
-pub fn fits_pi(table: &Table, statement: Statement, premises: &[usize]) -> bool
-    requires statement { SpeaksBelow (acts_count table.now.lines)
-        (expr_count table.now.lines) statement }
-    requires premises { AreBelow (known_count table.now.lines) premises.now }
-    ensures { IsTrue result ↔ FitsPi table.now.lines statement premises.now }
+pub fn fits_pi(row: &Row<'_>) -> bool
+    requires { StandsIn row.now.table.now.lines row.now.statement row.now.premises.now }
+    ensures { IsTrue result
+        ↔ FitsPi row.now.table.now.lines row.now.statement row.now.premises.now }
 {
-    let Statement::Dead(set) = statement else {
+    let Statement::Dead(set) = row.statement else {
         return false;
     };
-    let [first, second, third] = *premises else {
+    let [first, second, third] = *row.premises else {
         return false;
     };
-    let Expr::Not(inside) = table.expr(set) else {
+    let Expr::Not(inside) = row.table.expr(set) else {
         return false;
     };
-    let Statement::Sub(results, around) = *table.statement(first) else {
+    let Statement::Sub(results, around) = *row.table.statement(first) else {
         return false;
     };
-    let Expr::After(from, acts) = table.expr(results) else {
+    let Expr::After(from, acts) = row.table.expr(results) else {
         return false;
     };
-    let Expr::Or(own, others) = table.expr(around) else {
+    let Expr::Or(own, others) = row.table.expr(around) else {
         return false;
     };
-    let Statement::Sub(start, holder) = *table.statement(third) else {
+    let Statement::Sub(start, holder) = *row.table.statement(third) else {
         return false;
     };
     from == inside
-        && is_all(table, *acts)
+        && is_all(row.table, *acts)
         && own == inside
         && holder == *inside
-        && is_constant(table, start, Constant::Start)
-        && says(table, second, Statement::Dead(*others))
+        && is_constant(row.table, start, Constant::Start)
+        && says(row.table, second, Statement::Dead(*others))
 }
 
 /// What is outside a set that is led into only from itself or a dead set is dead, where the goal
 /// states out there are.
-pub fn fits_rg(table: &Table, statement: Statement, premises: &[usize]) -> bool
-    requires statement { SpeaksBelow (acts_count table.now.lines)
-        (expr_count table.now.lines) statement }
-    requires premises { AreBelow (known_count table.now.lines) premises.now }
-    ensures { IsTrue result ↔ FitsRg table.now.lines statement premises.now }
+pub fn fits_rg(row: &Row<'_>) -> bool
+    requires { StandsIn row.now.table.now.lines row.now.statement row.now.premises.now }
+    ensures { IsTrue result
+        ↔ FitsRg row.now.table.now.lines row.now.statement row.now.premises.now }
 {
-    let Statement::Dead(set) = statement else {
+    let Statement::Dead(set) = row.statement else {
         return false;
     };
-    let [first, second, third] = *premises else {
+    let [first, second, third] = *row.premises else {
         return false;
     };
-    let Expr::Not(inside) = table.expr(set) else {
+    let Expr::Not(inside) = row.table.expr(set) else {
         return false;
     };
-    let Statement::Sub(sources, around) = *table.statement(first) else {
+    let Statement::Sub(sources, around) = *row.table.statement(first) else {
         return false;
     };
-    let Expr::Before(into, acts) = table.expr(sources) else {
+    let Expr::Before(into, acts) = row.table.expr(sources) else {
         return false;
     };
-    let Expr::Or(own, others) = table.expr(around) else {
+    let Expr::Or(own, others) = row.table.expr(around) else {
         return false;
     };
-    let Statement::Dead(goals) = *table.statement(third) else {
+    let Statement::Dead(goals) = *row.table.statement(third) else {
         return false;
     };
-    let Expr::And(outside, goal) = table.expr(goals) else {
+    let Expr::And(outside, goal) = row.table.expr(goals) else {
         return false;
     };
     into == inside
-        && is_all(table, *acts)
+        && is_all(row.table, *acts)
         && own == inside
         && *outside == set
-        && is_constant(table, *goal, Constant::Goal)
-        && says(table, second, Statement::Dead(*others))
+        && is_constant(row.table, *goal, Constant::Goal)
+        && says(row.table, second, Statement::Dead(*others))
 }
 
 /// What is led into only from itself or a dead set, and doesn't hold the initial state, is dead.
-pub fn fits_ri(table: &Table, statement: Statement, premises: &[usize]) -> bool
-    requires statement { SpeaksBelow (acts_count table.now.lines)
-        (expr_count table.now.lines) statement }
-    requires premises { AreBelow (known_count table.now.lines) premises.now }
-    ensures { IsTrue result ↔ FitsRi table.now.lines statement premises.now }
+pub fn fits_ri(row: &Row<'_>) -> bool
+    requires { StandsIn row.now.table.now.lines row.now.statement row.now.premises.now }
+    ensures { IsTrue result
+        ↔ FitsRi row.now.table.now.lines row.now.statement row.now.premises.now }
 {
-    let Statement::Dead(set) = statement else {
+    let Statement::Dead(set) = row.statement else {
         return false;
     };
-    let [first, second, third] = *premises else {
+    let [first, second, third] = *row.premises else {
         return false;
     };
-    let Statement::Sub(sources, around) = *table.statement(first) else {
+    let Statement::Sub(sources, around) = *row.table.statement(first) else {
         return false;
     };
-    let Expr::Before(into, acts) = table.expr(sources) else {
+    let Expr::Before(into, acts) = row.table.expr(sources) else {
         return false;
     };
-    let Expr::Or(own, others) = table.expr(around) else {
+    let Expr::Or(own, others) = row.table.expr(around) else {
         return false;
     };
-    let Statement::Sub(start, outside) = *table.statement(third) else {
+    let Statement::Sub(start, outside) = *row.table.statement(third) else {
         return false;
     };
-    let Expr::Not(negated) = table.expr(outside) else {
+    let Expr::Not(negated) = row.table.expr(outside) else {
         return false;
     };
     *into == set
-        && is_all(table, *acts)
+        && is_all(row.table, *acts)
         && *own == set
         && *negated == set
-        && is_constant(table, start, Constant::Start)
-        && says(table, second, Statement::Dead(*others))
+        && is_constant(row.table, start, Constant::Start)
+        && says(row.table, second, Statement::Dead(*others))
 }

@@ -1,3 +1,5 @@
+//! That the rules are sound.
+
 ghost use Rattle.hv_rules.specs.Soundness.{RulesAreSound};
 
 use hv_bdd::Diagrams;

@@ -12,6 +12,7 @@ mod dead;
 mod inclusion;
 pub mod laws;
 mod look;
+mod row;
 mod step;
 #[cfg(test)]
 mod tests;
@@ -21,6 +22,7 @@ use dead::{fits_ed, fits_pg, fits_pi, fits_rg, fits_ri, fits_sd, fits_ud};
 use hv_lines::{Premises, Statement, Table, Word};
 use inclusion::{fits_di, fits_il, fits_ir, fits_si, fits_st, fits_su, fits_ul, fits_ur};
 pub use laws::laws_of_rules;
+use row::Row;
 use step::{fits_at, fits_au, fits_pr, fits_pt, fits_pu, fits_rp};
 use unsolvable::{fits_cg, fits_ci};
 
@@ -28,7 +30,7 @@ use unsolvable::{fits_cg, fits_ci};
 pub fn is_rule(word: Word) -> bool
     ensures { IsTrue result ↔ IsRuleWord word }
 {
-    !matches!(word, Word::B1 | Word::B2 | Word::B3 | Word::B4 | Word::B5)
+    word.row().is_rule
 }
 
 /// Whether the rule of the word allows to conclude the statement from the premises, after the lines
@@ -40,32 +42,35 @@ pub fn rule_fits(table: &Table, statement: &Statement, word: Word, premises: &Pr
     requires premises { AreBelow (known_count table.now.lines) premises.now }
     ensures { IsTrue result ↔ Fits table.now.lines statement.now word premises.now }
 {
-    let statement = *statement;
-    let premises = premises.as_slice();
+    let row = Row {
+        table,
+        statement: *statement,
+        premises: premises.as_slice(),
+    };
     match word {
         Word::B1 | Word::B2 | Word::B3 | Word::B4 | Word::B5 => unreachable!(),
-        Word::Ed => fits_ed(table, statement, premises),
-        Word::Ud => fits_ud(table, statement, premises),
-        Word::Sd => fits_sd(table, statement, premises),
-        Word::Pg => fits_pg(table, statement, premises),
-        Word::Pi => fits_pi(table, statement, premises),
-        Word::Rg => fits_rg(table, statement, premises),
-        Word::Ri => fits_ri(table, statement, premises),
-        Word::Ci => fits_ci(table, statement, premises),
-        Word::Cg => fits_cg(table, statement, premises),
-        Word::Ur => fits_ur(table, statement, premises),
-        Word::Ul => fits_ul(table, statement, premises),
-        Word::Ir => fits_ir(table, statement, premises),
-        Word::Il => fits_il(table, statement, premises),
-        Word::Di => fits_di(table, statement, premises),
-        Word::Su => fits_su(table, statement, premises),
-        Word::Si => fits_si(table, statement, premises),
-        Word::St => fits_st(table, statement, premises),
-        Word::At => fits_at(table, statement, premises),
-        Word::Au => fits_au(table, statement, premises),
-        Word::Pt => fits_pt(table, statement, premises),
-        Word::Pu => fits_pu(table, statement, premises),
-        Word::Pr => fits_pr(table, statement, premises),
-        Word::Rp => fits_rp(table, statement, premises),
+        Word::Ed => fits_ed(&row),
+        Word::Ud => fits_ud(&row),
+        Word::Sd => fits_sd(&row),
+        Word::Pg => fits_pg(&row),
+        Word::Pi => fits_pi(&row),
+        Word::Rg => fits_rg(&row),
+        Word::Ri => fits_ri(&row),
+        Word::Ci => fits_ci(&row),
+        Word::Cg => fits_cg(&row),
+        Word::Ur => fits_ur(&row),
+        Word::Ul => fits_ul(&row),
+        Word::Ir => fits_ir(&row),
+        Word::Il => fits_il(&row),
+        Word::Di => fits_di(&row),
+        Word::Su => fits_su(&row),
+        Word::Si => fits_si(&row),
+        Word::St => fits_st(&row),
+        Word::At => fits_at(&row),
+        Word::Au => fits_au(&row),
+        Word::Pt => fits_pt(&row),
+        Word::Pu => fits_pu(&row),
+        Word::Pr => fits_pr(&row),
+        Word::Rp => fits_rp(&row),
     }
 }

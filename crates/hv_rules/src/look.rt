@@ -1,3 +1,5 @@
+//! What the rules look up in the table.
+
 ghost use Rattle.std.specs.Prelude.{◌≡◌, ℕ, ◌<◌, ◌↔◌, Some, IsTrue};
 ghost use Rattle.hv_lines.specs.Numbering.{acts_count, acts_at, expr_count, known_count};
 ghost use Rattle.hv_lines.specs.Rules.{IsExpr, IsAll, Says};

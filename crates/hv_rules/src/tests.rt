@@ -7,10 +7,10 @@ use hv_lines::{ActionList, Acts, Constant, Expr, Line, Premises, Statement, Tabl
 use std::alloc::{AllocError, Global};
 use std::test::Fail;
 
-type Row = (Word, Statement, &'static [usize]);
+type Case = (Word, Statement, &'static [usize]);
 
 /// A row of each rule, after the lines of `example`.
-static FITTING: [Row; 23] = [
+static FITTING: [Case; 23] = [
     (Word::Ed, Statement::Dead(0), &[]),
     (Word::Ud, Statement::Dead(6), &[0, 1]),
     (Word::Sd, Statement::Dead(5), &[2, 1]),
@@ -36,8 +36,9 @@ static FITTING: [Row; 23] = [
     (Word::Rp, Statement::Sub(13, 4), &[25]),
 ];
 
-/// Rows with one letter wrong: another set, another action set, another claim, or premises exchanged.
-static UNFITTING: [Row; 53] = [
+/// Rows with one letter wrong: another set, another action set, another claim, or premises
+/// exchanged.
+static UNFITTING: [Case; 53] = [
     (Word::Ed, Statement::Dead(2), &[]),
     (Word::Ed, Statement::Dead(4), &[]),
     (Word::Ud, Statement::Dead(6), &[1, 0]),
@@ -125,8 +126,10 @@ static CLAIMS: [Statement; 28] = [
     Statement::Sub(11, 7),
 ];
 
+/// Whether the sets of the statement are in the table.
 fn is_spoken(table: &Table, statement: Statement) -> bool
-    ensures { IsTrue result ↔ SpeaksBelow (acts_count table.now.lines) (expr_count table.now.lines) statement }
+    ensures { IsTrue result
+        ↔ SpeaksBelow (acts_count table.now.lines) (expr_count table.now.lines) statement }
 {
     match statement {
         Statement::Sub(left, right) => left < table.expr_count() && right < table.expr_count(),
@@ -136,8 +139,10 @@ fn is_spoken(table: &Table, statement: Statement) -> bool
     }
 }
 
+/// Whether the sets that the expression refers to are in the table.
 fn has_operands(table: &Table, expr: &Expr) -> bool
-    ensures { IsTrue result ↔ ExprRefersBelow (acts_count table.now.lines) (expr_count table.now.lines) expr.now }
+    ensures { IsTrue result
+        ↔ ExprRefersBelow (acts_count table.now.lines) (expr_count table.now.lines) expr.now }
 {
     let exprs = table.expr_count();
     match expr {
@@ -251,6 +256,7 @@ fn example(alloc: Global) -> Result<Table, Fail> {
     Ok(table)
 }
 
+/// The identifiers as premises.
 fn premises_of(ids: &[usize]) -> Result<Premises, Fail> {
     match *ids {
         [] => Ok(Premises::none()),
@@ -262,7 +268,7 @@ fn premises_of(ids: &[usize]) -> Result<Premises, Fail> {
 }
 
 /// Whether the rule fits, after the lines of the table.
-fn fits(table: &Table, row: Row) -> Result<bool, Fail> {
+fn fits(table: &Table, row: Case) -> Result<bool, Fail> {
     let (word, statement, ids) = row;
     let premises = premises_of(ids)?;
     let knowns = table.known_count();

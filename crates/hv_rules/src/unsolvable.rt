@@ -1,45 +1,45 @@
+//! The rules whose conclusion is that there is no plan.
+
 ghost use Rattle.std.specs.Prelude.{◌↔◌, IsTrue};
-ghost use Rattle.hv_task.specs.State.{AreBelow};
-ghost use Rattle.hv_lines.specs.Numbering.{acts_count, expr_count, known_count, SpeaksBelow};
 ghost use Rattle.hv_lines.specs.Rules.{FitsCi, FitsCg};
+ghost use Rattle.hv_rules.specs.Working.Standing.{StandsIn};
 
 use crate::look::is_constant;
-use hv_lines::{Constant, Statement, Table};
+use crate::row::Row;
+use hv_lines::{Constant, Statement};
 
 /// There is no plan where the initial state is dead.
-pub fn fits_ci(table: &Table, statement: Statement, premises: &[usize]) -> bool
-    requires statement { SpeaksBelow (acts_count table.now.lines)
-        (expr_count table.now.lines) statement }
-    requires premises { AreBelow (known_count table.now.lines) premises.now }
-    ensures { IsTrue result ↔ FitsCi table.now.lines statement premises.now }
+pub fn fits_ci(row: &Row<'_>) -> bool
+    requires { StandsIn row.now.table.now.lines row.now.statement row.now.premises.now }
+    ensures { IsTrue result
+        ↔ FitsCi row.now.table.now.lines row.now.statement row.now.premises.now }
 {
-    let Statement::Unsolvable = statement else {
+    let Statement::Unsolvable = row.statement else {
         return false;
     };
-    let [first] = *premises else {
+    let [first] = *row.premises else {
         return false;
     };
-    let Statement::Dead(set) = *table.statement(first) else {
+    let Statement::Dead(set) = *row.table.statement(first) else {
         return false;
     };
-    is_constant(table, set, Constant::Start)
+    is_constant(row.table, set, Constant::Start)
 }
 
 /// There is no plan where the goal states are dead.
-pub fn fits_cg(table: &Table, statement: Statement, premises: &[usize]) -> bool
-    requires statement { SpeaksBelow (acts_count table.now.lines)
-        (expr_count table.now.lines) statement }
-    requires premises { AreBelow (known_count table.now.lines) premises.now }
-    ensures { IsTrue result ↔ FitsCg table.now.lines statement premises.now }
+pub fn fits_cg(row: &Row<'_>) -> bool
+    requires { StandsIn row.now.table.now.lines row.now.statement row.now.premises.now }
+    ensures { IsTrue result
+        ↔ FitsCg row.now.table.now.lines row.now.statement row.now.premises.now }
 {
-    let Statement::Unsolvable = statement else {
+    let Statement::Unsolvable = row.statement else {
         return false;
     };
-    let [first] = *premises else {
+    let [first] = *row.premises else {
         return false;
     };
-    let Statement::Dead(set) = *table.statement(first) else {
+    let Statement::Dead(set) = *row.table.statement(first) else {
         return false;
     };
-    is_constant(table, set, Constant::Goal)
+    is_constant(row.table, set, Constant::Goal)
 }

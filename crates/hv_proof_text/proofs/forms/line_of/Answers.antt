@@ -1,8 +1,8 @@
 use Rattle.std.proofs.Common.{MatchOption}
 use Rattle.std.proofs.lemmas.Result.{IfOk-weaker}
 use Rattle.hv_lines.specs.declared.line.Line.{Line}
-use Rattle.hv_proof_text.specs.Forms.{LineForm}
-use Rattle.hv_proof_text.specs.Tokens.{SpellsTokens}
+use Rattle.hv_proof_text.specs.Working.Forms.{LineForm}
+use Rattle.hv_proof_text.specs.Working.Tokens.{SpellsTokens}
 use Rattle.hv_proof_text.proofs.LineForms.{line_found}
 use Rattle.hv_proof_text.proofs.forms.line_of.Goals as goal
 

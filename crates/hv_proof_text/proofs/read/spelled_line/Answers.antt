@@ -2,7 +2,7 @@ use Rattle.std.proofs.Common.{MatchOption}
 use Rattle.std.proofs.lemmas.Result.{IfOk-weaker}
 use Rattle.hv_lines.specs.Spelling.{Spells}
 use Rattle.hv_lines.specs.declared.line.Line.{Line}
-use Rattle.hv_proof_text.specs.Tokens.{SpellsTokens, tokens_of}
+use Rattle.hv_proof_text.specs.Working.Tokens.{SpellsTokens, tokens_of}
 use Rattle.hv_proof_text.proofs.LineFields.{found_in_bytes, tokens_from_bytes}
 use Rattle.hv_proof_text.proofs.read.spelled_line.Goals as goal
 

@@ -1,5 +1,5 @@
 use Rattle.std.proofs.Common.{◌≡◌, ◌∙◌, ap, sym, arith, ℕ, List, [], ◌∷◌, MatchOption, length, map, Option, Some, None}
-use Rattle.hv_proof_text.specs.Tokens.{number}
+use Rattle.hv_proof_text.specs.Working.Tokens.{number}
 use Rattle.hv_proof_text.specs.declared.token.Token.{Token}
 use Rattle.hv_proof_text.proofs.Counted.{one_of, two_of, three_of}
 use Rattle.hv_proof_text.proofs.shapes.premises_in.Goals as goal

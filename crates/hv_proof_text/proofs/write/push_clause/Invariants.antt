@@ -1,6 +1,6 @@
 use Rattle.std.proofs.Common.{◌≡◌, take, map}
 use Rattle.hv_lines.specs.Spelling.{literal_field}
-use Rattle.hv_proof_text.specs.Writing.{with_fields}
+use Rattle.hv_proof_text.specs.Working.Writing.{with_fields}
 use Rattle.hv_proof_text.proofs.write.push_clause.Given as goal
 
 abbrev pub invariant-loop-literal : goal.invariant-loop-literal

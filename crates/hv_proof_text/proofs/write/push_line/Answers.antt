@@ -20,15 +20,14 @@ returns-in_ok-push_number-in-Expr c =
     (expr_fields c.in-Expr.expr) c.in_ok-push_bytes-in-Expr.ensures.ok c.in_ok-push_number-in-Expr.ensures)
     c.push_expr.ensures)
 
-pub returns-in_ok-push_field-in-Known : goal.returns-in_ok-push_field-in-Known
-returns-in_ok-push_field-in-Known c =
-    let word = c.in_ok-push_field-in-Known.ensures ∙ ap (λ w. c.push_statement.new.text ++ 32 ∷ w) c.word_text.ensures in
+pub returns-in_ok-push_word-in-Known : goal.returns-in_ok-push_word-in-Known
+returns-in_ok-push_word-in-Known c =
     rw c.in-Known.is
     (on_ok_weaker c.push_ids.result
     (λ e. spelled c.args.text.now (codes "k") c.push_bytes-in-Known.new.self c.push_number-in-Known.new.text c.push_ids.new.text c.in-Known.id
     (statement_fields c.in-Known.statement ++ word_field c.in-Known.word ∷ map decimal c.in-Known.premises)
     c.in_ok-push_bytes-in-Known.ensures.ok c.in_ok-push_number-in-Known.ensures
-    (further c.push_number-in-Known.new.text c.push_statement.new.text c.push_field.new.text c.push_ids.new.text
+    (further c.push_number-in-Known.new.text c.push_statement.new.text c.push_word.new.text c.push_ids.new.text
     (statement_fields c.in-Known.statement) (map decimal c.in-Known.premises) (word_field c.in-Known.word)
-    c.in_ok-push_statement-in-Known.ensures word (rw c.as_slice.ensures at e)))
+    c.in_ok-push_statement-in-Known.ensures c.in_ok-push_word-in-Known.ensures (rw c.as_slice.ensures at e)))
     c.push_ids.ensures)

@@ -1,7 +1,7 @@
 use Rattle.std.proofs.Common.{◌≡◌, take}
 use Rattle.std.specs.List.{flat_map}
 use Rattle.hv_lines.specs.Spelling.{state_fields}
-use Rattle.hv_proof_text.specs.Writing.{with_fields}
+use Rattle.hv_proof_text.specs.Working.Writing.{with_fields}
 use Rattle.hv_proof_text.proofs.write.push_states.Given as goal
 
 abbrev pub invariant-loop-state : goal.invariant-loop-state

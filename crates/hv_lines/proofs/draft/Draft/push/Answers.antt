@@ -1,6 +1,6 @@
 use Rattle.std.proofs.Common.{◌≡◌, ◌<◌, suc, [], ap, arith, length, subst, sym}
 use Rattle.hv_lines.specs.Drafts.{DraftState, draft_setting, onto, prelude}
-use Rattle.hv_lines.specs.Numbering.{IsNext}
+use Rattle.hv_lines.specs.Numbering.{MayFollow}
 use Rattle.hv_lines.specs.Pruning.{BeginsAsDraft}
 use Rattle.hv_lines.proofs.Extended.{goes_on_push}
 use Rattle.hv_lines.proofs.Reasons.{good_next}
@@ -8,7 +8,7 @@ use Rattle.hv_lines.proofs.draft.Draft.push.Goals as goal
 
 pub push-requires : goal.push-requires
 push-requires c =
-    subst (λ lines. IsNext lines c.args.line) (sym (ap (λ (d : DraftState). d.lines) c.self.view_is))
+    subst (λ lines. MayFollow lines c.args.line) (sym (ap (λ (d : DraftState). d.lines) c.self.view_is))
     (good_next (draft_setting c.args.task.now) c.args.self.now.lines c.args.line c.requires.line.good)
 
 pub invariant_of-self : goal.invariant_of-self

@@ -119,11 +119,11 @@ pub record AreRisingNumbers (numbers : List ℕ) (tokens : List Token) : Type 0 
   pub same : map number numbers ≡ tokens
 
 -- the tokens are the clauses, one after another
-pub record AreClauses (clauses : List (List Literal)) (tokens : List Token) : Type 0 where
+pub record AreClauseTokens (clauses : List (List Literal)) (tokens : List Token) : Type 0 where
   pub short : All (All FitsLiteral) clauses
   pub same : flat_map clause_tokens clauses ≡ tokens
 
 -- the tokens are the states, one after another
-pub record AreStates (states : List (List ℕ)) (tokens : List Token) : Type 0 where
+pub record AreStateTokens (states : List (List ℕ)) (tokens : List Token) : Type 0 where
   pub rising : All IsRising states
   pub same : flat_map state_tokens states ≡ tokens

@@ -16,7 +16,7 @@ use Rattle.hv_proof_text.specs.declared.token.Letter.{Letter}
 use Rattle.hv_proof_text.specs.declared.token.Letter.TheVariants as L
 use Rattle.hv_proof_text.specs.declared.token.Token.{Token}
 use Rattle.hv_proof_text.specs.declared.token.Token.TheVariants as T
-use Rattle.hv_proof_text.specs.Tokens.{AreRisingNumbers, AreClauses, AreStates, constant_letter, letter, number}
+use Rattle.hv_proof_text.specs.Working.Tokens.{AreRisingNumbers, AreClauseTokens, AreStateTokens, constant_letter, letter, number}
 
 -- behind `a ID` and this letter
 abbrev pub ActsForm : Letter → List Token → Acts → Type 0
@@ -35,15 +35,15 @@ ExprForm L.C tokens expr = (constant : Constant) × (tokens ≡ letter (constant
     × (expr ≡ E.Constant constant)
 ExprForm L.H tokens expr =
     (clauses : List (List Literal)) × (items : List Token)
-    × (tokens ≡ number (length clauses) ∷ items) × AreClauses clauses items
+    × (tokens ≡ number (length clauses) ∷ items) × AreClauseTokens clauses items
     × (expr ≡ E.Horn clauses)
 ExprForm L.T tokens expr =
     (clauses : List (List Literal)) × (items : List Token)
-    × (tokens ≡ number (length clauses) ∷ items) × AreClauses clauses items
+    × (tokens ≡ number (length clauses) ∷ items) × AreClauseTokens clauses items
     × (expr ≡ E.Two clauses)
 ExprForm L.X tokens expr =
     (states : List (List ℕ)) × (items : List Token) × (tokens ≡ number (length states) ∷ items)
-    × AreStates states items
+    × AreStateTokens states items
     × (expr ≡ E.States states)
 ExprForm L.B tokens expr = (node : ℕ) × (tokens ≡ number node ∷ []) × FitsShortDecimal node
     × (expr ≡ E.Node node)

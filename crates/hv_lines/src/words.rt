@@ -1,0 +1,184 @@
+//! The table of words: how each is spelled, after which statements it may stand, how many premises
+//! it has, and whether it is a rule. Whoever reads, writes or tests a word looks it up here.
+
+ghost use Rattle.std.specs.Prelude.{◌≡◌, ◌≤◌, MatchOption, IfSome};
+ghost use Rattle.std.specs.List.{All};
+ghost use Rattle.hv_lines.specs.Spelling.{premises_of, word_field};
+ghost use Rattle.hv_lines.specs.Words.{basic_row, kind_of_statement, rule_row, word_row};
+
+use crate::line::{Statement, Word};
+
+/// A kind of statement: what a word may justify.
+#[derive(Clone, Copy, PartialEq, Eq)]
+pub enum StatementKind {
+    /// An inclusion of sets.
+    Sub,
+    /// An inclusion of action sets.
+    ActSub,
+    /// A dead set.
+    Dead,
+    /// That there is no plan.
+    Unsolvable,
+}
+
+/// What the table says of a word.
+#[derive(Clone, Copy)]
+pub struct WordRow {
+    /// Its two bytes in a proof text.
+    pub spelling: [u8; 2],
+    /// The kind of the statements after which it may stand.
+    pub after: StatementKind,
+    /// How many premises it has.
+    pub premises: usize,
+    /// Whether it is a derivation rule, and not a kind of basic statement.
+    pub is_rule: bool,
+}
+
+/// All words.
+const ALL_WORDS: [Word; 28] = [
+    Word::B1,
+    Word::B2,
+    Word::B3,
+    Word::B4,
+    Word::B5,
+    Word::Ed,
+    Word::Ud,
+    Word::Sd,
+    Word::Pg,
+    Word::Pi,
+    Word::Rg,
+    Word::Ri,
+    Word::Ci,
+    Word::Cg,
+    Word::Ur,
+    Word::Ul,
+    Word::Ir,
+    Word::Il,
+    Word::Di,
+    Word::Su,
+    Word::Si,
+    Word::St,
+    Word::At,
+    Word::Au,
+    Word::Pt,
+    Word::Pu,
+    Word::Pr,
+    Word::Rp,
+];
+
+impl Word {
+    /// The row of the word.
+    pub fn row(self) -> WordRow
+        ensures row { result ≡ word_row self }
+        ensures few { result.premises ≤ 3 }
+    {
+        match self {
+            Word::B1 => basic(*b"b1", StatementKind::Sub),
+            Word::B2 => basic(*b"b2", StatementKind::Sub),
+            Word::B3 => basic(*b"b3", StatementKind::Sub),
+            Word::B4 => basic(*b"b4", StatementKind::Sub),
+            Word::B5 => basic(*b"b5", StatementKind::ActSub),
+            Word::Ed => rule(*b"ed", StatementKind::Dead, 0),
+            Word::Ud => rule(*b"ud", StatementKind::Dead, 2),
+            Word::Sd => rule(*b"sd", StatementKind::Dead, 2),
+            Word::Pg => rule(*b"pg", StatementKind::Dead, 3),
+            Word::Pi => rule(*b"pi", StatementKind::Dead, 3),
+            Word::Rg => rule(*b"rg", StatementKind::Dead, 3),
+            Word::Ri => rule(*b"ri", StatementKind::Dead, 3),
+            Word::Ci => rule(*b"ci", StatementKind::Unsolvable, 1),
+            Word::Cg => rule(*b"cg", StatementKind::Unsolvable, 1),
+            Word::Ur => rule(*b"ur", StatementKind::Sub, 0),
+            Word::Ul => rule(*b"ul", StatementKind::Sub, 0),
+            Word::Ir => rule(*b"ir", StatementKind::Sub, 0),
+            Word::Il => rule(*b"il", StatementKind::Sub, 0),
+            Word::Di => rule(*b"di", StatementKind::Sub, 0),
+            Word::Su => rule(*b"su", StatementKind::Sub, 2),
+            Word::Si => rule(*b"si", StatementKind::Sub, 2),
+            Word::St => rule(*b"st", StatementKind::Sub, 2),
+            Word::At => rule(*b"at", StatementKind::Sub, 2),
+            Word::Au => rule(*b"au", StatementKind::Sub, 2),
+            Word::Pt => rule(*b"pt", StatementKind::Sub, 2),
+            Word::Pu => rule(*b"pu", StatementKind::Sub, 2),
+            Word::Pr => rule(*b"pr", StatementKind::Sub, 1),
+            Word::Rp => rule(*b"rp", StatementKind::Sub, 1),
+        }
+    }
+
+    /// The word that the bytes spell, where there is one.
+    pub fn spelled(bytes: &[u8]) -> Option<Word>
+        ensures { MatchOption result
+            ((word : Word) → word_field word ≡ bytes.now → ⊥)
+            (λ word. word_field word ≡ bytes.now) }
+    {
+        match first_spelled(&ALL_WORDS, bytes) {
+            Some(word) => Some(word),
+            None => None,
+        }
+    }
+
+    /// How many premises the word has after the statement, where it may stand there.
+    pub fn premises_after(self, statement: &Statement) -> Option<usize>
+        ensures same { result ≡ premises_of statement.now self }
+        ensures few { IfSome result (λ count. count ≤ 3) }
+    {
+        let row = self.row();
+        if row.after == statement.kind() {
+            Some(row.premises)
+        } else {
+            None
+        }
+    }
+}
+
+impl Statement {
+    /// The kind of the statement.
+    pub fn kind(&self) -> StatementKind
+        ensures { result ≡ kind_of_statement self.now }
+    {
+        match self {
+            Statement::Sub(..) => StatementKind::Sub,
+            Statement::ActSub(..) => StatementKind::ActSub,
+            Statement::Dead(_) => StatementKind::Dead,
+            Statement::Unsolvable => StatementKind::Unsolvable,
+        }
+    }
+}
+
+/// The first of these words that the bytes spell.
+fn first_spelled(words: &[Word], bytes: &[u8]) -> Option<Word>
+    ensures { MatchOption result
+        (All (λ word. word_field word ≡ bytes.now → ⊥) words.now)
+        (λ word. word_field word ≡ bytes.now) }
+{
+    for word in words {
+        let spelling = word.row().spelling;
+        if bytes == spelling.as_slice() {
+            return Some(*word);
+        }
+    }
+    None
+}
+
+/// The row of a kind of basic statement: it has no premises.
+fn basic(spelling: [u8; 2], after: StatementKind) -> WordRow
+    ensures { result ≡ basic_row spelling after }
+{
+    WordRow {
+        spelling,
+        after,
+        premises: 0,
+        is_rule: false,
+    }
+}
+
+/// The row of a derivation rule.
+fn rule(spelling: [u8; 2], after: StatementKind, premises: usize) -> WordRow
+    ensures { result ≡ rule_row spelling after premises }
+{
+    WordRow {
+        spelling,
+        after,
+        premises,
+        is_rule: true,
+    }
+}
