@@ -7,7 +7,7 @@ use Rattle.hv_lines.specs.Literals.{IsLiteral}
 use Rattle.hv_lines.specs.Shapes.{IsLiteralOf}
 use Rattle.hv_lines.specs.declared.line.Line.{Line}
 use Rattle.hv_lines.proofs.Shaped.{literal_from, literal_once}
-use Rattle.hv_basic.specs.Gathered.{AreGathered, IsGiven, IsThe, sign_on}
+use Rattle.hv_basic.specs.Working.Gathered.{AreGathered, IsGiven, IsThe, sign_on}
 use Rattle.hv_basic.specs.declared.literals.Asking.{Asking}
 use Rattle.hv_basic.specs.declared.literals.Literal.{Literal}
 

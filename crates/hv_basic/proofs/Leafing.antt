@@ -9,7 +9,7 @@ use Rattle.hv_lines.specs.Numbering.{expr_at, expr_count}
 use Rattle.hv_lines.specs.Shapes.{IsLeaf, alone, of_left, of_right}
 use Rattle.hv_lines.specs.declared.line.Expr.{Expr}
 use Rattle.hv_lines.specs.declared.line.Line.{Line}
-use Rattle.hv_basic.specs.Work.{Has, IsLookedAt, IsTaken, LookedAt, parts_on}
+use Rattle.hv_basic.specs.Working.Work.{Has, IsLookedAt, IsTaken, LookedAt, parts_on}
 use Rattle.hv_basic.specs.declared.leaves.Side.{Side}
 
 -- what holds while the sets are gone through: a leaf of the root is found already, or is a leaf of a set that is still to be looked
@@ -35,7 +35,7 @@ leaf_alone parts lines _ leaf expr at none (of_right set left right l x found ha
     absurd (cc (none, both))
 
 -- a leaf of a set that is taken apart is a leaf of one of its parts
-leaf_parts : (parts : Expr → Option (ℕ × ℕ)) (lines : List Line) (set leaf : ℕ) (expr : Expr) (p : ℕ × ℕ) → expr_at lines set ≡ Some expr
+pub leaf_parts : (parts : Expr → Option (ℕ × ℕ)) (lines : List Line) (set leaf : ℕ) (expr : Expr) (p : ℕ × ℕ) → expr_at lines set ≡ Some expr
     → parts expr ≡ Some p → IsLeaf parts lines set leaf → IsLeaf parts lines p.0 leaf ⊎ IsLeaf parts lines p.1 leaf
 leaf_parts parts lines _ _ expr p at some (alone set x found out) =
     let same : x ≡ expr = cc (at, found) in

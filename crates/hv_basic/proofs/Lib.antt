@@ -9,3 +9,5 @@ pub mod Storing
 pub mod Querying
 pub mod Growing
 pub mod Mixing
+pub mod Sharing
+pub mod LeftSides

@@ -9,17 +9,17 @@ use Rattle.hv_lines.specs.declared.line.Acts.{Acts}
 use Rattle.hv_lines.specs.declared.line.Acts.TheVariants as A
 use Rattle.hv_lines.specs.declared.line.Line.{Line}
 use Rattle.hv_lines.proofs.Laws.{acts_law, acts_refer}
-use Rattle.hv_basic.specs.Flags.{Marks, flag_at}
+use Rattle.hv_basic.specs.Working.Flags.{Marks, flag_or_false}
 
 -- an action set below this identifier is wanted and has the action
 abbrev pub IsWanted : List Line → List Bool → ℕ → ℕ → Type 0
 IsWanted lines wanted bound number =
-    (id : ℕ) × (id < bound) × (flag_at wanted id ≡ true) × (acts_of lines id number ≡ true)
+    (id : ℕ) × (id < bound) × (flag_or_false wanted id ≡ true) × (acts_of lines id number ≡ true)
 
 -- the root has the action exactly where its flag is set or an action set that is still wanted has it
 abbrev pub Covers : List Line → ℕ → List Bool → List Bool → ℕ → ℕ → Type 0
 Covers lines root flags wanted bound number =
-    (acts_of lines root number ≡ true) ↔ ((flag_at flags number ≡ true) ⊎ IsWanted lines wanted bound number)
+    (acts_of lines root number ≡ true) ↔ ((flag_or_false flags number ≡ true) ⊎ IsWanted lines wanted bound number)
 
 -- what holds while the action sets are gone through
 pub record IsMarking (lines : List Line) (root actions : ℕ) (flags wanted : List Bool) (bound : ℕ) : Type 0 where
@@ -45,19 +45,19 @@ same_bool false true h = h.1 refl
 same_bool false false h = refl
 
 -- a flag that is set stays set
-set_keeps : (xs : List Bool) (i j : ℕ) → i < length xs → flag_at xs j ≡ true → flag_at (set xs i true) j ≡ true
+set_keeps : (xs : List Bool) (i j : ℕ) → i < length xs → flag_or_false xs j ≡ true → flag_or_false (set xs i true) j ≡ true
 set_keeps xs i j within e =
     elim (cases_lt i j) [
       | inl less ↦ get_or-set_other xs i j true false (omega arith) ∙ e
       | inr upto ↦
           elim (cases_lt j i) [
             | inl less ↦ get_or-set_other xs i j true false (omega arith) ∙ e
-            | inr also ↦ let same : i ≡ j = omega arith in subst (λ k. flag_at (set xs i true) k ≡ true) same (get_or-set_same xs i true false within)
+            | inr also ↦ let same : i ≡ j = omega arith in subst (λ k. flag_or_false (set xs i true) k ≡ true) same (get_or-set_same xs i true false within)
           ]
     ]
 
 -- a flag that is set was set before, or stands at the place that was written
-set_was : (xs : List Bool) (i j : ℕ) → flag_at (set xs i true) j ≡ true → (j ≡ i) ⊎ (flag_at xs j ≡ true)
+set_was : (xs : List Bool) (i j : ℕ) → flag_or_false (set xs i true) j ≡ true → (j ≡ i) ⊎ (flag_or_false xs j ≡ true)
 set_was xs i j e =
     elim (cases_lt i j) [
       | inl less ↦ inr (sym (get_or-set_other xs i j true false (omega arith)) ∙ e)
@@ -69,8 +69,8 @@ set_was xs i j e =
     ]
 
 -- at first the root alone is wanted, and no flag is set
-pub covers_first : (lines : List Line) (root number : ℕ) (flags wanted : List Bool) → flag_at flags number ≡ false
-    → flag_at wanted root ≡ true → ((id : ℕ) → flag_at wanted id ≡ true → id ≡ root) → Covers lines root flags wanted (root + 1) number
+pub covers_first : (lines : List Line) (root number : ℕ) (flags wanted : List Bool) → flag_or_false flags number ≡ false
+    → flag_or_false wanted root ≡ true → ((id : ℕ) → flag_or_false wanted id ≡ true → id ≡ root) → Covers lines root flags wanted (root + 1) number
 covers_first lines root number flags wanted none root_wanted alone = (
   λ has. inr (root, omega arith, root_wanted, has),
   λ e. elim e [
@@ -81,15 +81,15 @@ covers_first lines root number flags wanted none root_wanted alone = (
 
 -- at the end nothing is wanted, and the flags say what the root has
 pub covers_last : (lines : List Line) (root number : ℕ) (flags wanted : List Bool) → Covers lines root flags wanted 0 number
-    → flag_at flags number ≡ acts_of lines root number
+    → flag_or_false flags number ≡ acts_of lines root number
 covers_last lines root number flags wanted covers =
-    same_bool (flag_at flags number) (acts_of lines root number)
+    same_bool (flag_or_false flags number) (acts_of lines root number)
     (λ e. covers.1 (inl e), λ has. elim (covers.0 has) [ inl flag ↦ flag | inr w ↦ absurd (omega (arith, w.1)) ])
 
 module _ (lines : List Line) (root : ℕ) (flags wanted : List Bool) (bound number : ℕ)
     (covers : Covers lines root flags wanted (bound + 1) number) where
   -- an action set that isn't wanted is passed over
-  pub covers_skip : flag_at wanted bound ≡ false → Covers lines root flags wanted bound number
+  pub covers_skip : flag_or_false wanted bound ≡ false → Covers lines root flags wanted bound number
   covers_skip unwanted = (
     λ has. elim (covers.0 has) [
       | inl flag ↦ inl flag
@@ -98,13 +98,13 @@ module _ (lines : List Line) (root : ℕ) (flags wanted : List Bool) (bound numb
             | inl less ↦ inr (w.0, less, w.2, w.3)
             | inr upto ↦
                 let same : w.0 ≡ bound = omega (arith, w.1) in
-                absurd (let clash : true ≡ false = sym w.2 ∙ (ap (λ id. flag_at wanted id) same ∙ unwanted) in cc)
+                absurd (let clash : true ≡ false = sym w.2 ∙ (ap (λ id. flag_or_false wanted id) same ∙ unwanted) in cc)
           ]
     ],
     λ e. elim e [ inl flag ↦ covers.1 (inl flag) | inr w ↦ covers.1 (inr (w.0, omega (arith, w.1), w.2, w.3)) ],
   )
 
-  module _ (is_wanted : flag_at wanted bound ≡ true) (acts : Acts) (refers : ActsReferBelow bound acts)
+  module _ (is_wanted : flag_or_false wanted bound ≡ true) (acts : Acts) (refers : ActsReferBelow bound acts)
       (meaning : acts_of lines bound number ≡ has_action (acts_of lines) acts number) where
     -- the root has what the action set has
     root_has : has_action (acts_of lines) acts number ≡ true → acts_of lines root number ≡ true
@@ -112,7 +112,7 @@ module _ (lines : List Line) (root : ℕ) (flags wanted : List Bool) (bound numb
 
     -- what the root has is flagged, had by an older action set that is wanted, or had by this one
     had : acts_of lines root number ≡ true
-        → (flag_at flags number ≡ true) ⊎ (IsWanted lines wanted bound number ⊎ (has_action (acts_of lines) acts number ≡ true))
+        → (flag_or_false flags number ≡ true) ⊎ (IsWanted lines wanted bound number ⊎ (has_action (acts_of lines) acts number ≡ true))
     had has =
         elim (covers.0 has) [
           | inl flag ↦ inl flag
@@ -127,18 +127,18 @@ module _ (lines : List Line) (root : ℕ) (flags wanted : List Bool) (bound numb
 
 -- after an action set that is wanted was looked at
 pub covers_mark : (lines : List Line) (root : ℕ) (flags wanted new_flags new_wanted : List Bool) (bound number : ℕ)
-    → Covers lines root flags wanted (bound + 1) number → number < length flags → bound ≤ length wanted → flag_at wanted bound ≡ true
+    → Covers lines root flags wanted (bound + 1) number → number < length flags → bound ≤ length wanted → flag_or_false wanted bound ≡ true
     → (acts : Acts) → ActsReferBelow bound acts → acts_of lines bound number ≡ has_action (acts_of lines) acts number
     → Marks acts flags wanted new_flags new_wanted → Covers lines root new_flags new_wanted bound number
 covers_mark lines root flags wanted new_flags new_wanted bound number covers here inside is_wanted A.All refers meaning marks =
-    let flag : flag_at new_flags number ≡ true =
-    ap (λ xs. flag_at xs number) marks.0 ∙ get_or-replicate (length flags) number true false here in
+    let flag : flag_or_false new_flags number ≡ true =
+    ap (λ xs. flag_or_false xs number) marks.0 ∙ get_or-replicate (length flags) number true false here in
     (λ has. inl flag, λ e. root_has lines root flags wanted bound number covers is_wanted A.All refers meaning refl)
 covers_mark lines root flags wanted new_flags new_wanted bound number covers here inside is_wanted (A.List listed) refers meaning marks =
-    let old = flag_at flags number in let in_list = list_any (λ n. eqb n number) listed in (
+    let old = flag_or_false flags number in let in_list = list_any (λ n. eqb n number) listed in (
       λ has. elim (had lines root flags wanted bound number covers is_wanted (A.List listed) refers meaning has) [
         | inl flag ↦ inl (marks.1 number here ∙ or_left old in_list flag)
-        | inr (inl w) ↦ inr (w.0, w.1, ap (λ xs. flag_at xs w.0) marks.2 ∙ w.2, w.3)
+        | inr (inl w) ↦ inr (w.0, w.1, ap (λ xs. flag_or_false xs w.0) marks.2 ∙ w.2, w.3)
         | inr (inr h) ↦ inl (marks.1 number here ∙ or_right old in_list h)
       ],
       λ e. elim e [
@@ -147,7 +147,7 @@ covers_mark lines root flags wanted new_flags new_wanted bound number covers her
               | inl was ↦ covers.1 (inl was)
               | inr h ↦ root_has lines root flags wanted bound number covers is_wanted (A.List listed) refers meaning h
             ]
-        | inr w ↦ covers.1 (inr (w.0, omega (arith, w.1), ap (λ xs. flag_at xs w.0) (sym marks.2) ∙ w.2, w.3))
+        | inr w ↦ covers.1 (inr (w.0, omega (arith, w.1), ap (λ xs. flag_or_false xs w.0) (sym marks.2) ∙ w.2, w.3))
       ],
     )
 covers_mark lines root flags wanted new_flags new_wanted bound number covers here inside is_wanted (A.Both left right) refers meaning marks =
@@ -156,10 +156,10 @@ covers_mark lines root flags wanted new_flags new_wanted bound number covers her
     let left_in : left < length wanted = omega (arith, refers.0) in
     let right_in : right < length once = omega (arith, refers.1) in
     let acts_left = acts_of lines left number in let acts_right = acts_of lines right number in
-    let wants : (id : ℕ) → flag_at (set once right true) id ≡ true → flag_at new_wanted id ≡ true =
-    λ id e. ap (λ xs. flag_at xs id) marks.1 ∙ e in (
+    let wants : (id : ℕ) → flag_or_false (set once right true) id ≡ true → flag_or_false new_wanted id ≡ true =
+    λ id e. ap (λ xs. flag_or_false xs id) marks.1 ∙ e in (
       λ has. elim (had lines root flags wanted bound number covers is_wanted (A.Both left right) refers meaning has) [
-        | inl flag ↦ inl (ap (λ xs. flag_at xs number) marks.0 ∙ flag)
+        | inl flag ↦ inl (ap (λ xs. flag_or_false xs number) marks.0 ∙ flag)
         | inr (inl w) ↦ inr (w.0, w.1, wants w.0 (set_keeps once right w.0 right_in (set_keeps wanted left w.0 left_in w.2)), w.3)
         | inr (inr h) ↦
             elim (or_cases acts_left acts_right h) [
@@ -168,10 +168,10 @@ covers_mark lines root flags wanted new_flags new_wanted bound number covers her
             ]
       ],
       λ e. elim e [
-        | inl flag ↦ covers.1 (inl (ap (λ xs. flag_at xs number) (sym marks.0) ∙ flag))
+        | inl flag ↦ covers.1 (inl (ap (λ xs. flag_or_false xs number) (sym marks.0) ∙ flag))
         | inr w ↦
             let here_too = root_has lines root flags wanted bound number covers is_wanted (A.Both left right) refers meaning in
-            elim (set_was once right w.0 (ap (λ xs. flag_at xs w.0) (sym marks.1) ∙ w.2)) [
+            elim (set_was once right w.0 (ap (λ xs. flag_or_false xs w.0) (sym marks.1) ∙ w.2)) [
               | inl at ↦ here_too (or_right acts_left acts_right (ap (λ id. acts_of lines id number) (sym at) ∙ w.3))
               | inr more ↦
                   elim (set_was wanted left w.0 more) [
@@ -194,7 +194,7 @@ marks_sizes (A.Both left right) flags wanted new_flags new_wanted marks = (
 
 -- one step back
 pub marking_step : (lines : List Line) (root actions : ℕ) (flags wanted new_flags new_wanted : List Bool) (bound left : ℕ) → IsTable lines
-    → IsMarking lines root actions flags wanted bound → bound ≡ left + 1 → flag_at wanted left ≡ true
+    → IsMarking lines root actions flags wanted bound → bound ≡ left + 1 → flag_or_false wanted left ≡ true
     → (acts : Acts) → acts_at lines left ≡ Some acts → Marks acts flags wanted new_flags new_wanted
     → IsMarking lines root actions new_flags new_wanted left
 marking_step lines root actions flags wanted new_flags new_wanted bound left table m at is_wanted acts says marks =
@@ -211,5 +211,5 @@ marking_step lines root actions flags wanted new_flags new_wanted bound left tab
     }
 
 -- a flag that was read as set is set
-pub flag_from_index : (xs : List Bool) (i : ℕ) (d : Bool) → get_or xs i d ≡ true → i < length xs → flag_at xs i ≡ true
+pub flag_from_index : (xs : List Bool) (i : ℕ) (d : Bool) → get_or xs i d ≡ true → i < length xs → flag_or_false xs i ≡ true
 flag_from_index xs i d e within = get_or_default xs i false d within ∙ e

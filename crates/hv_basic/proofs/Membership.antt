@@ -16,7 +16,7 @@ use Rattle.hv_twocnf.specs.declared.two_cnf.TwoCnfFault.{TwoCnfFault}
 use Rattle.hv_twocnf.specs.declared.two_cnf.TwoCnfFault.TheVariants as T
 use Rattle.hv_lines.specs.Literals.{IsLiteral}
 use Rattle.hv_lines.specs.Numbering.{ExprRefersBelow, IsTable, expr_at, expr_count}
-use Rattle.hv_lines.specs.Shapes.{IsOfFamily, IsStep, IsWithinFamily, after_parts, before_parts, family_of, step_of}
+use Rattle.hv_lines.specs.Shapes.{IsOfFamily, IsStep, IsWithinFamily, after_parts, before_parts, family_of, asked_step}
 use Rattle.hv_lines.specs.declared.family.FormulaFamily.{FormulaFamily}
 use Rattle.hv_lines.specs.declared.family.FormulaFamily.TheVariants as F
 use Rattle.hv_lines.specs.declared.line.Expr.{Expr}
@@ -26,7 +26,7 @@ use Rattle.hv_lines.specs.declared.line.Word.{Word}
 use Rattle.hv_lines.specs.declared.line.Word.TheVariants as W
 use Rattle.hv_lines.proofs.Laws.{expr_within}
 use Rattle.hv_lines.proofs.Shaped.{step_no_literal}
-use Rattle.hv_basic.specs.Gathered.{IsFamilyIn, IsOnlyStep}
+use Rattle.hv_basic.specs.Working.Gathered.{IsFamilyIn, IsOnlyStep}
 use Rattle.hv_basic.specs.declared.literals.Asking.{Asking}
 use Rattle.hv_basic.specs.declared.literals.Step.{Step}
 
@@ -138,18 +138,18 @@ others_then_no_step lines word leaves leaf found out set acts only =
 
 pub no_step_there : (lines : List Line) (word : Word) (leaves : List ℕ) (leaf : ℕ) (expr : Expr)
     → Contains leaves leaf × (IsLiteral lines leaf → ⊥)
-    → expr_at lines leaf ≡ Some expr → None ≡ step_of word expr → (set acts : ℕ) → IsOnlyStep lines word leaves set acts → ⊥
+    → expr_at lines leaf ≡ Some expr → None ≡ asked_step word expr → (set acts : ℕ) → IsOnlyStep lines word leaves set acts → ⊥
 no_step_there lines word leaves leaf expr found at none set acts only =
     let same = the_step lines word leaves leaf set acts found.0 found.1 only in
     let is : IsStep lines word leaf set acts = subst (λ l. IsStep lines word l set acts) (sym same) only.is in
     let one : is.0 ≡ expr = cc (is.1, at) in
-    let some : step_of word expr ≡ Some (set, acts) = subst (λ y. step_of word y ≡ Some (set, acts)) one is.2 in
+    let some : asked_step word expr ≡ Some (set, acts) = subst (λ y. asked_step word y ≡ Some (set, acts)) one is.2 in
     let both : None ≡ Some (set, acts) = none ∙ some in
     cc (both)
 
 pub step_there : (lines : List Line) (word : Word) (leaves : List ℕ) (leaf : ℕ) (expr : Expr) (step : Step)
     → Contains leaves leaf × (IsLiteral lines leaf → ⊥)
-    → All (λ l. IsLiteral lines l ⊎ (l ≡ leaf)) leaves → expr_at lines leaf ≡ Some expr → Some (step.set, step.acts) ≡ step_of word expr
+    → All (λ l. IsLiteral lines l ⊎ (l ≡ leaf)) leaves → expr_at lines leaf ≡ Some expr → Some (step.set, step.acts) ≡ asked_step word expr
     → IsOnlyStep lines word leaves step.set step.acts
 step_there lines word leaves leaf expr step found all at is = record {
   step = leaf;
@@ -168,7 +168,7 @@ before_refers : (a e : ℕ) (expr : Expr) (p : ℕ × ℕ) → before_parts expr
 before_refers a e (E.Before x y) p is refers = subst (λ (q : ℕ × ℕ). (q.0 < e) × (q.1 < a)) (same_Some (x, y) p is) refers
 before_refers a e _ p is refers = absurd (cc (is))
 
-pub step_refers : (a e : ℕ) (word : Word) (expr : Expr) (p : ℕ × ℕ) → Some p ≡ step_of word expr → ExprRefersBelow a e expr
+pub step_refers : (a e : ℕ) (word : Word) (expr : Expr) (p : ℕ × ℕ) → Some p ≡ asked_step word expr → ExprRefersBelow a e expr
     → (p.0 < e) × (p.1 < a)
 step_refers a e W.B2 expr p is refers = after_refers a e expr p (sym is) refers
 step_refers a e W.B3 expr p is refers = before_refers a e expr p (sym is) refers

@@ -9,7 +9,8 @@ use Rattle.hv_sets.specs.declared.operand.Which.{Which}
 use Rattle.hv_sets.specs.declared.operand.Which.TheVariants as S
 use Rattle.hv_sets.specs.declared.query.Query.{Query}
 use Rattle.hv_lines.specs.Numbering.{IsTable, acts_count, expr_count}
-use Rattle.hv_lines.specs.Queries.{IsOffered, NamesNodes, asked_actions, count_of, operand_of, queries_of, query_of, which_at}
+use Rattle.hv_lines.specs.Queries.{IsOffered, NamesNodes, asked_actions, operand_of, queries_of, query_of, which_at}
+use Rattle.hv_lines.specs.Working.Queries.{count_of}
 use Rattle.hv_lines.specs.Setting.{Setting}
 use Rattle.hv_lines.specs.Shapes.{Askings, HasSides, IsQuestion, Question}
 use Rattle.hv_lines.specs.Verdicts.{IsVerdictOfSets}
@@ -21,12 +22,12 @@ use Rattle.hv_lines.specs.declared.verdict.Verdict.{Verdict}
 use Rattle.hv_lines.specs.declared.verdict.Verdict.TheVariants as V
 use Rattle.hv_lines.proofs.Laws.{refers_below}
 use Rattle.hv_lines.proofs.Ready.{asked_below, asked_exprs, question_ready}
-use Rattle.hv_basic.specs.Asked.{named_operand, with_action}
-use Rattle.hv_basic.specs.Deciding.{AreReady, IsDecidedOver, IsQueryFor}
+use Rattle.hv_basic.specs.Working.Asked.{named_operand, with_action}
+use Rattle.hv_basic.specs.Working.Deciding.{AreAllReady, IsDecidedOver, IsQueryFor}
 use Rattle.hv_basic.proofs.Membership.{step_refers}
 
 -- operands by the stored names are those of the lines
-operands_are : (lines : List Line) (names : List Which) (asked : Askings) → length names ≡ expr_count lines
+pub operands_are : (lines : List Line) (names : List Which) (asked : Askings) → length names ≡ expr_count lines
     → ((id : ℕ) → id < expr_count lines → slice_get names id ≡ Some (which_at lines id))
     → ((a : ℕ × Bool) → Contains asked a → a.0 < expr_count lines) → map (named_operand names) asked ≡ map (λ a. operand_of lines a) asked
 operands_are lines names [] size named below = refl
@@ -53,7 +54,7 @@ module _ (lines : List Line) (table : IsTable lines) (word : Word) (left right :
         λ i. record { positive = p i; negative = n i; action = action }
 
     pub are_ready : (task : Strips) (actions : List (Option ℕ)) → actions ≡ asked_actions task lines q.acts
-        → AreReady (count_of lines q.family nodes) (length task.actions) query actions
+        → AreAllReady (count_of lines q.family nodes) (length task.actions) query actions
     are_ready task actions all = record {
       ready = λ place action at. subst (IsReady (count_of lines q.family nodes)) (sym (query_is action))
           (question_ready lines table word left right q is nodes known task action (there place action at));

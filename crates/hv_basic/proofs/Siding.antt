@@ -16,8 +16,8 @@ use Rattle.hv_lines.specs.declared.line.Word.TheVariants as W
 use Rattle.hv_lines.proofs.Questions.{alone_no_step}
 use Rattle.hv_lines.proofs.Rising.{rising_once}
 use Rattle.hv_lines.proofs.Shaped.{step_no_literal, step_once}
-use Rattle.hv_basic.specs.Asked.{AreChosen}
-use Rattle.hv_basic.specs.Gathered.{AreAskings, AreGathered, HasLeft, IsFamilyIn, IsGiven, IsOnlyStep, IsStepAdded}
+use Rattle.hv_basic.specs.Working.Asked.{AreChosen}
+use Rattle.hv_basic.specs.Working.Gathered.{AreAskings, AreGathered, HasLeft, IsFamilyIn, IsGiven, IsOnlyStep, IsStepAdded}
 use Rattle.hv_basic.specs.declared.literals.Asking.{Asking}
 
 all_in : {X : Type 0} (P : X → Type 0) (xs : List X) → ((x : X) → Contains xs x → P x) → All P xs

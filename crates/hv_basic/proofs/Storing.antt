@@ -10,9 +10,9 @@ use Rattle.hv_sets.specs.Query.{is_clash}
 use Rattle.hv_sets.specs.Truth.{in_clauses, in_states}
 use Rattle.hv_sets.specs.declared.literal.Literal.{Literal}
 use Rattle.hv_sets.specs.declared.query.Query.{Query}
-use Rattle.hv_clauses.specs.Clausal.{Formula, sets_of, sizes_of}
+use Rattle.hv_clauses.specs.Clausal.{Formula, tests_of, sizes_of}
 use Rattle.hv_clauses.specs.Store.{AreOver, clauses_found, formula_at}
-use Rattle.hv_explicit.specs.Listing.{Listing, count_found, in_found, in_set, states_in}
+use Rattle.hv_explicit.specs.Listing.{Listing, count_found, in_found, in_set, states_listed}
 use Rattle.hv_explicit.specs.Listing.{AreOver as AreListedOver}
 use Rattle.hv_lines.specs.Verdicts.{IsDecided}
 use Rattle.hv_lines.specs.declared.verdict.Verdict.{Verdict}
@@ -35,7 +35,7 @@ module _ (n : ℕ) (xs : List (List (List Literal))) where
   -- the verdict of queries of the store is that of the formulas
   pub formulas_decided : (task : Strips) (budget count : ℕ) (queries : List Query) (verdict : Verdict) (store : List Formula)
       → store ≡ map (formula n) xs
-      → IsDecided (λ q. ClausesPass task (sizes_of (formula_at store)) q budget) (is_clash task (sets_of (formula_at store))) count queries verdict
+      → IsDecided (λ q. ClausesPass task (sizes_of (formula_at store)) q budget) (is_clash task (tests_of (formula_at store))) count queries verdict
       → IsDecided (λ q. ClausesPass task (λ k. length (get_or xs k [])) q budget) (is_clash task (λ k s. in_clauses (get_or xs k []) s)) count queries verdict
   formulas_decided task budget count queries verdict store is decided =
       subst (λ (f : ℕ → List (List Literal)). IsDecided (λ q. ClausesPass task (λ k. length (f k)) q budget) (is_clash task (λ k s. in_clauses (f k) s)) count queries verdict)
@@ -56,7 +56,7 @@ module _ (n : ℕ) (xs : List (List (List ℕ))) where
       (ap (λ o. in_found o state) (slice_get-map (listing n) xs k)
       ∙ (in_listed (slice_get xs k) state ∙ ap (λ ss. in_states n ss state) (unwrap_or-slice_get xs k []))) i
 
-  counts_are : states_in (map (listing n) xs) ≡ (λ k. length (get_or xs k []))
+  counts_are : states_listed (map (listing n) xs) ≡ (λ k. length (get_or xs k []))
   counts_are = λ i k.
       (ap count_found (slice_get-map (listing n) xs k) ∙ (count_listed (slice_get xs k) ∙ ap length (unwrap_or-slice_get xs k []))) i
 
@@ -68,10 +68,10 @@ module _ (n : ℕ) (xs : List (List (List ℕ))) where
 
   pub listed_decided : (task : Strips) (budget count : ℕ) (queries : List Query) (verdict : Verdict) (store : List Listing)
       → store ≡ map (listing n) xs
-      → IsDecided (λ q. StatesPass (states_in store) q budget) (is_clash task (in_set store)) count queries verdict
+      → IsDecided (λ q. StatesPass (states_listed store) q budget) (is_clash task (in_set store)) count queries verdict
       → IsDecided (λ q. StatesPass (λ k. length (get_or xs k [])) q budget) (is_clash task (λ k s. in_states n (get_or xs k []) s)) count queries verdict
   listed_decided task budget count queries verdict store is decided =
       subst (λ (h : ℕ → List Bool → Bool). IsDecided (λ q. StatesPass (λ k. length (get_or xs k [])) q budget) (is_clash task h) count queries verdict)
       (ap in_set is ∙ sets_are)
       (subst (λ (f : ℕ → ℕ). IsDecided (λ q. StatesPass f q budget) (is_clash task (in_set store)) count queries verdict)
-      (ap states_in is ∙ counts_are) decided)
+      (ap states_listed is ∙ counts_are) decided)

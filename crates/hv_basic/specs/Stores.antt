@@ -65,10 +65,3 @@ abbrev pub LineCanBeStored : ℕ → Line → Type 0
 LineCanBeStored count (L.Acts id acts) = Unit {0}
 LineCanBeStored count (L.Expr id expr) = CanBeStored count expr
 LineCanBeStored count (L.Known id statement word premises) = Unit {0}
-
--- the set is none of the formulas that are put into a store
-abbrev pub IsUnstored : Expr → Type 0
-IsUnstored (E.Horn clauses) = ⊥
-IsUnstored (E.Two clauses) = ⊥
-IsUnstored (E.States states) = ⊥
-IsUnstored _ = Unit {0}

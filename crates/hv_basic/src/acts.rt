@@ -3,7 +3,7 @@
 ghost use Rattle.std.specs.Prelude.{◌≡◌, ◌<◌, ◌||◌, ℕ, length, nat_eq, IfOk};
 ghost use Rattle.std.specs.List.{list_any};
 ghost use Rattle.hv_lines.specs.Numbering.{ActsReferBelow, acts_at, acts_count};
-ghost use Rattle.hv_basic.specs.Flags.{AreFlagsOf, Marks, flag_at};
+ghost use Rattle.hv_basic.specs.Working.Flags.{AreFlagsOf, Marks, flag_or_false};
 
 use hv_lines::{Acts, Table};
 use std::alloc::{AllocError, Global};
@@ -51,7 +51,7 @@ fn mark(acts: &Acts, flags: &mut Vec<bool>, wanted: &mut Vec<bool>)
 fn set_listed(flags: &mut Vec<bool>, listed: &[u32])
     ensures length { length flags.new.items ≡ length flags.old.items }
     ensures set { (number : ℕ) → number < length flags.old.items
-        → flag_at flags.new.items number ≡ flag_at flags.old.items number
+        → flag_or_false flags.new.items number ≡ flag_or_false flags.old.items number
         || list_any (λ n. nat_eq n number) listed.now }
 {
     for action in listed {

@@ -1,3 +1,5 @@
+//! What a basic statement asks, as `shape` gives it.
+
 use crate::literals::Literal;
 use hv_lines::{FormulaFamily, Word};
 use std::marker::Model;
@@ -35,7 +37,7 @@ impl Model for Basic {
 
     ghost Value = { Basic };
 
-    ghost use Rattle.hv_basic.specs.Views.{basic_of};
+    ghost use Rattle.hv_basic.specs.Working.Views.{basic_of};
 
     ghost view = { λ b. basic_of b.kind };
 }

@@ -5,7 +5,7 @@ ghost use Rattle.std.specs.List.{All, Contains};
 ghost use Rattle.hv_lines.specs.Numbering.{expr_count};
 ghost use Rattle.hv_lines.specs.Shapes.{AreOfTwoFamilies, IsOfFamily, IsWithinFamily, family_of};
 ghost use Rattle.hv_lines.specs.declared.family.FormulaFamily.{FormulaFamily};
-ghost use Rattle.hv_basic.specs.Gathered.{IsFamilyIn};
+ghost use Rattle.hv_basic.specs.Working.Gathered.{IsFamilyIn};
 ghost use Rattle.hv_basic.specs.declared.literals.Asking.{Asking};
 
 use crate::literals::Asking;
@@ -49,7 +49,7 @@ fn first_family(table: &Table, askings: &[Asking]) -> Option<FormulaFamily>
 }
 
 /// Whether each formula is of the family.
-fn are_within(table: &Table, askings: &[Asking], family: FormulaFamily) -> bool
+pub(crate) fn are_within(table: &Table, askings: &[Asking], family: FormulaFamily) -> bool
     requires { All (λ asking. asking.set < expr_count table.now.lines) askings.now }
     ensures { IsTrue result ↔ All (λ asking.
         IsWithinFamily table.now.lines family asking.set) askings.now }
@@ -85,7 +85,7 @@ pub(crate) fn are_of_two_families(table: &Table, x: usize, y: usize) -> bool
 }
 
 /// The family of a formula; nothing else has one.
-fn family_of(expr: &Expr) -> Option<FormulaFamily>
+pub(crate) fn family_of(expr: &Expr) -> Option<FormulaFamily>
     ensures { result ≡ family_of expr.now }
 {
     match expr {

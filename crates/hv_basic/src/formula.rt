@@ -8,7 +8,7 @@ ghost use Rattle.hv_lines.specs.Numbering.{expr_at};
 ghost use Rattle.hv_lines.specs.Queries.{NamesNodes};
 ghost use Rattle.hv_lines.specs.Shapes.{IsOfFamily};
 ghost use Rattle.hv_lines.specs.declared.family.FormulaFamily.{FormulaFamily};
-ghost use Rattle.hv_basic.specs.Formulas.{IsFor, expr_of, formula_atoms, formula_has};
+ghost use Rattle.hv_basic.specs.Working.Formulas.{IsFormulaFor, expr_of, formula_atoms, formula_has};
 ghost use Rattle.hv_basic.specs.Stores.{IsStoreOf};
 
 use crate::store::Store;
@@ -66,7 +66,7 @@ pub(crate) fn formula_of<'a>(
     requires store { IsStoreOf task.now table.now.lines store.now }
     requires formula { (family : FormulaFamily) × IsOfFamily table.now.lines family set }
     ensures is { expr_at table.now.lines set ≡ Some (expr_of result) }
-    ensures over { IsFor (atoms task.now) diagrams.now result }
+    ensures over { IsFormulaFor (atoms task.now) diagrams.now result }
 {
     let _ = task;
     let _count = table.expr_count();

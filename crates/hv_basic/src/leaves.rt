@@ -6,7 +6,7 @@ ghost use Rattle.std.specs.List.{All, Contains};
 ghost use Rattle.std.specs.Ordering.{nat_cmp};
 ghost use Rattle.hv_lines.specs.Numbering.{expr_count};
 ghost use Rattle.hv_lines.specs.Shapes.{IsLeaf};
-ghost use Rattle.hv_basic.specs.Work.{AreAdded, IsLookedAt, IsTaken, parts_on};
+ghost use Rattle.hv_basic.specs.Working.Work.{AreAdded, IsLookedAt, IsTaken, parts_on};
 
 use hv_lines::{Expr, Table};
 use std::alloc::{AllocError, Global};

@@ -4,8 +4,8 @@ ghost use Rattle.std.specs.Prelude.{◌≡◌, ◌<◌, ◌⊎◌, ◌↔◌, �
 ghost use Rattle.std.specs.List.{All, Contains};
 ghost use Rattle.hv_lines.specs.Literals.{IsLiteral};
 ghost use Rattle.hv_lines.specs.Numbering.{expr_count};
-ghost use Rattle.hv_lines.specs.Shapes.{step_of};
-ghost use Rattle.hv_basic.specs.Gathered.{AreGathered, IsOnlyStep, IsThe, sign_on};
+ghost use Rattle.hv_lines.specs.Shapes.{asked_step};
+ghost use Rattle.hv_basic.specs.Working.Gathered.{AreGathered, IsOnlyStep, IsThe, sign_on};
 
 use hv_lines::{Expr, Table, Word};
 use std::alloc::AllocError;
@@ -153,7 +153,7 @@ fn are_literals_but(table: &Table, leaves: &[usize], step: usize) -> bool
 
 /// The set and the action set of the step, if it is the one that the word asks for.
 fn step_of(word: Word, expr: &Expr) -> Option<(usize, usize)>
-    ensures { result ≡ step_of word expr.now }
+    ensures { result ≡ asked_step word expr.now }
 {
     match word {
         Word::B2 => match expr {

@@ -12,7 +12,7 @@ ghost use Rattle.hv_lines.specs.Queries.{NamesNodes};
 ghost use Rattle.hv_lines.specs.Setting.{most_budget, setting_of};
 ghost use Rattle.hv_lines.specs.Shapes.{AreOfTwoFamilies};
 ghost use Rattle.hv_lines.specs.Verdicts.{IsVerdictOfSides, IsVerdictOfTwo};
-ghost use Rattle.hv_basic.specs.Formulas.{AreApart, IsFor, IsFound, apart_cost, expr_of, formula_atoms, formula_has, inside_count, outside_count, together_cost, within_cost};
+ghost use Rattle.hv_basic.specs.Working.Formulas.{AreApart, IsFormulaFor, IsFoundInclusion, apart_cost, expr_of, formula_atoms, formula_has, inside_count, outside_count, together_cost, within_cost};
 ghost use Rattle.hv_basic.specs.Stores.{IsStoreOf};
 
 use crate::formula::{AnyFormula, formula_of};
@@ -23,7 +23,8 @@ use hv_bdd::Diagrams;
 use hv_explicit::Explicit;
 use hv_lines::{Clash, Table, Verdict};
 use hv_mixed::{apart, together, within, within_states};
-use hv_sets::{Finding, Outside, Scratch};
+use hv_paths::{InsideWalked, OutsideWalked};
+use hv_sets::{Finding, Scratch};
 use hv_task::Task;
 use std::alloc::{AllocError, Global};
 
@@ -79,8 +80,8 @@ fn decide_sides(
 ) -> Result<Verdict, AllocError>
     requires budget { budget ≤ most_budget }
     requires over { diagrams.now.atoms ≡ atoms task.now }
-    requires left { IsFor (atoms task.now) diagrams.now left.now.formula }
-    requires right { IsFor (atoms task.now) diagrams.now right.now.formula }
+    requires left { IsFormulaFor (atoms task.now) diagrams.now left.now.formula }
+    requires right { IsFormulaFor (atoms task.now) diagrams.now right.now.formula }
     requires families { AreApart left.now.formula right.now.formula }
     ensures answer { IfOk result (IsVerdictOfSides (setting_of task.now diagrams.now budget)
         (expr_of left.now.formula, left.now.is_plain)
@@ -113,10 +114,10 @@ fn find_between(
 ) -> Result<Option<Finding>, AllocError>
     requires budget { budget ≤ most_budget }
     requires over { diagrams.now.atoms ≡ atoms task.now }
-    requires left { IsFor (atoms task.now) diagrams.now left.now.formula }
-    requires right { IsFor (atoms task.now) diagrams.now right.now.formula }
+    requires left { IsFormulaFor (atoms task.now) diagrams.now left.now.formula }
+    requires right { IsFormulaFor (atoms task.now) diagrams.now right.now.formula }
     requires families { AreApart left.now.formula right.now.formula }
-    ensures answer { IfOk result (λ found. IsFound budget
+    ensures answer { IfOk result (λ found. IsFoundInclusion budget
         (cost_of diagrams.now (expr_of left.now.formula, left.now.is_plain)
         (expr_of right.now.formula, right.now.is_plain)) (atoms task.now)
         (is_between (setting_of task.now diagrams.now budget)
@@ -157,7 +158,7 @@ fn find_within(
     requires budget { budget ≤ most_budget }
     requires atoms { formula_atoms left.now ≡ formula_atoms right.now }
     requires families { AreApart left.now right.now }
-    ensures answer { IfOk result (λ found. IsFound budget (within_cost left.now right.now)
+    ensures answer { IfOk result (λ found. IsFoundInclusion budget (within_cost left.now right.now)
         (formula_atoms left.now) (difference (formula_has left.now) (formula_has right.now))
         found scratch.new.state) }
     ensures lengths { KeepsLengths scratch.old scratch.new }
@@ -208,16 +209,39 @@ fn within_by_rest(
 ) -> Result<Option<Finding>, AllocError>
     requires budget { budget ≤ most_budget }
     requires atoms { formula_atoms left.now ≡ formula_atoms right.now }
-    ensures answer { IfOk result (λ found. IsFound budget (outside_count right.now)
+    ensures answer { IfOk result (λ found. IsFoundInclusion budget (outside_count right.now)
         (formula_atoms left.now) (difference (formula_has left.now) (formula_has right.now))
         found scratch.new.state) }
     ensures lengths { KeepsLengths scratch.old scratch.new }
 {
     match right {
-        AnyFormula::Horn(set) => Ok(Some(within(alloc, left, *set, budget, scratch)?)),
-        AnyFormula::Two(set) => Ok(Some(within(alloc, left, *set, budget, scratch)?)),
-        AnyFormula::Node(set) => Ok(Some(within(alloc, left, set, budget, scratch)?)),
+        AnyFormula::Horn(set) => Ok(Some(within_rest(alloc, left, *set, budget, scratch)?)),
+        AnyFormula::Two(set) => Ok(Some(within_rest(alloc, left, *set, budget, scratch)?)),
+        AnyFormula::Node(set) => Ok(Some(within_rest(alloc, left, set, budget, scratch)?)),
         AnyFormula::States(_) => Ok(None),
+    }
+}
+
+/// The same for a right set with a walk over its complement.
+fn within_rest<'a, R: OutsideWalked<'a>>(
+    alloc: Global,
+    left: &'a AnyFormula<'_>,
+    right: &'a R,
+    budget: u64,
+    scratch: &mut Scratch,
+) -> Result<Finding, AllocError>
+    requires budget { budget ≤ most_budget }
+    requires atoms { formula_atoms left.now ≡ R.atoms right.now }
+    ensures answer { IfOk result (λ found. IsAnswer found (budget < length (R.outside right.now))
+        (formula_atoms left.now) (difference (formula_has left.now) (R.has right.now))
+        scratch.new.state) }
+    ensures lengths { KeepsLengths scratch.old scratch.new }
+{
+    match left {
+        AnyFormula::Horn(set) => within(alloc, *set, right, budget, scratch),
+        AnyFormula::Two(set) => within(alloc, *set, right, budget, scratch),
+        AnyFormula::States(set) => within(alloc, *set, right, budget, scratch),
+        AnyFormula::Node(set) => within(alloc, set, right, budget, scratch),
     }
 }
 
@@ -231,7 +255,7 @@ fn find_apart(
 ) -> Result<Option<Finding>, AllocError>
     requires budget { budget ≤ most_budget }
     requires atoms { formula_atoms left.now ≡ formula_atoms right.now }
-    ensures answer { IfOk result (λ found. IsFound budget (apart_cost left.now right.now)
+    ensures answer { IfOk result (λ found. IsFoundInclusion budget (apart_cost left.now right.now)
         (formula_atoms left.now)
         (difference (formula_has left.now) (complement (formula_has right.now)))
         found scratch.new.state) }
@@ -272,16 +296,39 @@ fn apart_by_left(
 ) -> Result<Option<Finding>, AllocError>
     requires budget { budget ≤ most_budget }
     requires atoms { formula_atoms left.now ≡ formula_atoms right.now }
-    ensures answer { IfOk result (λ found. IsFound budget (inside_count left.now)
+    ensures answer { IfOk result (λ found. IsFoundInclusion budget (inside_count left.now)
         (formula_atoms left.now)
         (difference (formula_has left.now) (complement (formula_has right.now)))
         found scratch.new.state) }
     ensures lengths { KeepsLengths scratch.old scratch.new }
 {
     match left {
-        AnyFormula::States(set) => Ok(Some(apart(alloc, *set, right, budget, scratch)?)),
-        AnyFormula::Node(set) => Ok(Some(apart(alloc, set, right, budget, scratch)?)),
+        AnyFormula::States(set) => Ok(Some(apart_walk(alloc, *set, right, budget, scratch)?)),
+        AnyFormula::Node(set) => Ok(Some(apart_walk(alloc, set, right, budget, scratch)?)),
         AnyFormula::Horn(_) | AnyFormula::Two(_) => Ok(None),
+    }
+}
+
+/// The same for a left set with a walk over it.
+fn apart_walk<'a, L: InsideWalked<'a>>(
+    alloc: Global,
+    left: &'a L,
+    right: &'a AnyFormula<'_>,
+    budget: u64,
+    scratch: &mut Scratch,
+) -> Result<Finding, AllocError>
+    requires budget { budget ≤ most_budget }
+    requires atoms { L.atoms left.now ≡ formula_atoms right.now }
+    ensures answer { IfOk result (λ found. IsAnswer found (budget < length (L.inside left.now))
+        (L.atoms left.now)
+        (difference (L.has left.now) (complement (formula_has right.now))) scratch.new.state) }
+    ensures lengths { KeepsLengths scratch.old scratch.new }
+{
+    match right {
+        AnyFormula::Horn(set) => apart(alloc, left, *set, budget, scratch),
+        AnyFormula::Two(set) => apart(alloc, left, *set, budget, scratch),
+        AnyFormula::States(set) => apart(alloc, left, *set, budget, scratch),
+        AnyFormula::Node(set) => apart(alloc, left, set, budget, scratch),
     }
 }
 
@@ -295,7 +342,7 @@ fn find_together(
 ) -> Result<Option<Finding>, AllocError>
     requires budget { budget ≤ most_budget }
     requires atoms { formula_atoms left.now ≡ formula_atoms right.now }
-    ensures answer { IfOk result (λ found. IsFound budget (together_cost left.now right.now)
+    ensures answer { IfOk result (λ found. IsFoundInclusion budget (together_cost left.now right.now)
         (formula_atoms left.now)
         (difference (complement (formula_has left.now)) (formula_has right.now))
         found scratch.new.state) }
@@ -328,7 +375,7 @@ fn together_by_right(
     requires budget { budget ≤ most_budget }
     requires atoms { formula_atoms left.now ≡ formula_atoms right.now }
     requires other { clause_count (expr_of left.now) ≡ None }
-    ensures answer { IfOk result (λ found. IsFound budget (together_cost left.now right.now)
+    ensures answer { IfOk result (λ found. IsFoundInclusion budget (together_cost left.now right.now)
         (formula_atoms left.now)
         (difference (complement (formula_has right.now)) (formula_has left.now))
         found scratch.new.state) }
@@ -348,16 +395,16 @@ fn together_by_right(
 }
 
 /// The same by the states outside the left set.
-fn together_by_left<L: Outside>(
+fn together_by_left<'a, L: OutsideWalked<'a>>(
     alloc: Global,
-    left: &L,
-    right: &AnyFormula<'_>,
+    left: &'a L,
+    right: &'a AnyFormula<'_>,
     budget: u64,
     scratch: &mut Scratch,
 ) -> Result<Option<Finding>, AllocError>
     requires budget { budget ≤ most_budget }
     requires atoms { L.atoms left.now ≡ formula_atoms right.now }
-    ensures answer { IfOk result (λ found. IsFound budget
+    ensures answer { IfOk result (λ found. IsFoundInclusion budget
         (count_unless (listed_count (expr_of right.now)) (Some (length (L.outside left.now))))
         (L.atoms left.now) (difference (complement (L.has left.now)) (formula_has right.now))
         found scratch.new.state) }

@@ -4,7 +4,7 @@ ghost use Rattle.std.specs.Prelude.{◌≡◌, ◌↔◌, ℕ, Bool, IfOk, IsTru
 ghost use Rattle.std.specs.BTreeSet.{IsOrdered};
 ghost use Rattle.std.specs.List.{Contains};
 ghost use Rattle.hv_lines.specs.Shapes.{AskingsRise};
-ghost use Rattle.hv_basic.specs.Asked.{AreChosen, AreKeys, order};
+ghost use Rattle.hv_basic.specs.Working.Asked.{AreChosen, AreKeys, order};
 
 use crate::literals::Asking;
 use std::alloc::{AllocError, Global};

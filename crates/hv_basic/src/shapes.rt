@@ -1,11 +1,13 @@
+//! Whether a statement has the shape of its word, and what it asks then.
+
 ghost use Rattle.std.specs.Prelude.{◌≡◌, ◌<◌, ℕ, Bool, IfOk, IfErr, MatchOption};
 ghost use Rattle.std.specs.List.{All};
 ghost use Rattle.hv_lines.specs.Numbering.{SpeaksBelow, acts_count, expr_count};
 ghost use Rattle.hv_lines.specs.Shapes.{AreTwo, HasShape, HasSides, IsQuestion, IsShaped, Question as AskedQuestion};
 ghost use Rattle.hv_basic.specs.Deciding.{IsBasicOver, IsQuestionOver};
 ghost use Rattle.hv_basic.specs.Faults.{IsShapeFault};
-ghost use Rattle.hv_basic.specs.Gathered.{AreAskings};
-ghost use Rattle.hv_basic.specs.Views.{question_of};
+ghost use Rattle.hv_basic.specs.Working.Gathered.{AreAskings};
+ghost use Rattle.hv_basic.specs.Working.Views.{question_of};
 ghost use Rattle.hv_basic.specs.declared.shapes.ShapeFault.TheVariants as F;
 
 use crate::basic::{Basic, Kind, Question};
@@ -37,7 +39,7 @@ impl From<AllocError> for ShapeFault {
 }
 
 /// How many operands a statement can have.
-const MOST_OPERANDS: usize = 65536;
+pub(crate) const MOST_OPERANDS: usize = 65536;
 
 /// What the statement asks, where it has the shape of the word.
 pub fn shape(

@@ -5,7 +5,7 @@ ghost use Rattle.std.specs.List.{All};
 ghost use Rattle.hv_lines.specs.Numbering.{expr_count};
 ghost use Rattle.hv_lines.specs.Shapes.{HasSides, asks_sides_after, asks_step_after};
 ghost use Rattle.hv_basic.specs.Faults.{IsShapeFault};
-ghost use Rattle.hv_basic.specs.Gathered.{AreAskings, HasLeft, IsStepAdded};
+ghost use Rattle.hv_basic.specs.Working.Gathered.{AreAskings, HasLeft, IsStepAdded};
 
 use crate::leaves::{Side, leaves};
 use crate::literals::{Asking, are_literals, gather, only_step};
@@ -55,7 +55,7 @@ pub(crate) fn sides_of(
 
 /// Adds what the literals of the step ask about, where the left side, which has these leaves, has
 /// the shape of the word; the action set of the step.
-fn add_step(
+pub(crate) fn add_step(
     alloc: Global,
     table: &Table,
     word: Word,
@@ -85,7 +85,7 @@ fn add_step(
     Ok(Some(step.acts))
 }
 
-fn asks_sides_after(word: Word) -> bool
+pub(crate) fn asks_sides_after(word: Word) -> bool
     ensures { result ≡ asks_sides_after word }
 {
     match word {

@@ -1,3 +1,5 @@
+//! The formulas of a proof, each in the store of its family.
+
 ghost use Rattle.std.specs.Prelude.{◌≡◌, ℕ, List, [], ◌∷◌, IfOk, OnOk, OnErr};
 ghost use Rattle.std.specs.List.{All};
 ghost use Rattle.hv_task.specs.Strips.{Strips, atoms};
@@ -7,7 +9,8 @@ ghost use Rattle.hv_lines.specs.Numbering.{IsNumbered};
 ghost use Rattle.hv_lines.specs.Queries.{named_by};
 ghost use Rattle.hv_lines.specs.declared.line.Expr.TheVariants as E;
 ghost use Rattle.hv_lines.specs.declared.line.Line.{Line};
-ghost use Rattle.hv_basic.specs.Stores.{CanBeStored, IsStoreOf, IsUnstored, LineCanBeStored, formula, with_expr, with_line};
+ghost use Rattle.hv_basic.specs.Stores.{CanBeStored, IsStoreOf, LineCanBeStored, formula, with_expr, with_line};
+ghost use Rattle.hv_basic.specs.Working.Stores.{IsUnstored};
 
 use hv_explicit::{Explicit, Explicits};
 use hv_horn::{Horn, HornFault, Horns};

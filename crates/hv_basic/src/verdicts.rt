@@ -1,3 +1,5 @@
+//! Verdicts of basic statements.
+
 ghost use Rattle.std.specs.Prelude.{◌≡◌, ◌<◌, ◌≤◌, ◌↔◌, ℕ, List, Bool, IsTrue, IfOk, length, map};
 ghost use Rattle.std.specs.List.{All};
 ghost use Rattle.hv_task.specs.Strips.{atoms};
@@ -5,14 +7,16 @@ ghost use Rattle.hv_sets.specs.Query.{CanAnchor, HasAnchor};
 ghost use Rattle.hv_sets.specs.Room.{KeepsLengths};
 ghost use Rattle.hv_lines.specs.Numbering.{acts_count, expr_count};
 ghost use Rattle.hv_bdd.specs.Nodes.{node_count};
-ghost use Rattle.hv_lines.specs.Queries.{NamesNodes, count_of};
+ghost use Rattle.hv_lines.specs.Queries.{NamesNodes};
+ghost use Rattle.hv_lines.specs.Working.Queries.{count_of};
 ghost use Rattle.hv_lines.specs.Setting.{most_budget, setting_of};
 ghost use Rattle.hv_lines.specs.declared.family.FormulaFamily.TheVariants as F;
 ghost use Rattle.hv_lines.specs.Verdicts.{IsVerdictOf, IsVerdictOfActs, IsVerdictOfSets};
-ghost use Rattle.hv_basic.specs.Asked.{named_operand, with_action};
+ghost use Rattle.hv_basic.specs.Working.Asked.{named_operand, with_action};
 ghost use Rattle.hv_basic.specs.Stores.{IsStoreOf};
-ghost use Rattle.hv_basic.specs.Deciding.{AreReady, IsBasicOver, IsDecidedOver, IsQueryFor, IsQuestionOver};
-ghost use Rattle.hv_basic.specs.Views.{question_of};
+ghost use Rattle.hv_basic.specs.Deciding.{IsBasicOver, IsQuestionOver};
+ghost use Rattle.hv_basic.specs.Working.Deciding.{AreAllReady, IsDecidedOver, IsQueryFor};
+ghost use Rattle.hv_basic.specs.Working.Views.{question_of};
 
 use crate::actions::asked_actions;
 use crate::acts::flags_of;
@@ -114,7 +118,7 @@ fn decide_sets(
 }
 
 /// The verdict on a question, by the query that asks it for each of these actions.
-fn decide_queries(
+pub(crate) fn decide_queries(
     alloc: Global,
     task: &Task,
     table: &Table,
@@ -133,6 +137,7 @@ fn decide_queries(
     ensures answer { IfOk result (IsVerdictOfSets (setting_of task.now diagrams.now budget)
         table.now.lines (question_of question.now)) }
     ensures lengths { KeepsLengths scratch.old scratch.new }
+    ensures kept { query.new.negative ≡ query.old.negative }
 {
     match question.family {
         FormulaFamily::Horn => {
@@ -178,12 +183,13 @@ fn decide_horns(
     scratch: &mut Scratch,
 ) -> Result<Verdict, AllocError>
     requires store { IsStoreOf task.now table.now.lines store.now }
-    requires ready { AreReady (count_of table.now.lines F.Horn 0)
+    requires ready { AreAllReady (count_of table.now.lines F.Horn 0)
         (length task.now.actions) query.old actions.now }
     ensures answer { IfOk result (IsDecidedOver
         (setting_of task.now diagrams.now budget) table.now.lines F.Horn
         (map (with_action query.old) actions.now)) }
     ensures lengths { KeepsLengths scratch.old scratch.new }
+    ensures kept { query.new.negative ≡ query.old.negative }
 {
     let _ = table;
     let _ = diagrams;
@@ -204,12 +210,13 @@ fn decide_twos(
     scratch: &mut Scratch,
 ) -> Result<Verdict, AllocError>
     requires store { IsStoreOf task.now table.now.lines store.now }
-    requires ready { AreReady (count_of table.now.lines F.Two 0)
+    requires ready { AreAllReady (count_of table.now.lines F.Two 0)
         (length task.now.actions) query.old actions.now }
     ensures answer { IfOk result (IsDecidedOver
         (setting_of task.now diagrams.now budget) table.now.lines F.Two
         (map (with_action query.old) actions.now)) }
     ensures lengths { KeepsLengths scratch.old scratch.new }
+    ensures kept { query.new.negative ≡ query.old.negative }
 {
     let _ = table;
     let _ = diagrams;
@@ -230,13 +237,14 @@ fn decide_listed(
     scratch: &mut Scratch,
 ) -> Result<Verdict, AllocError>
     requires store { IsStoreOf task.now table.now.lines store.now }
-    requires ready { AreReady (count_of table.now.lines F.States 0)
+    requires ready { AreAllReady (count_of table.now.lines F.States 0)
         (length task.now.actions) query.old actions.now }
     requires anchor { HasAnchor query.old }
     ensures answer { IfOk result (IsDecidedOver
         (setting_of task.now diagrams.now budget) table.now.lines F.States
         (map (with_action query.old) actions.now)) }
     ensures lengths { KeepsLengths scratch.old scratch.new }
+    ensures kept { query.new.negative ≡ query.old.negative }
 {
     let _ = table;
     let _ = diagrams;
@@ -256,12 +264,13 @@ fn decide_nodes(
     scratch: &mut Scratch,
 ) -> Result<Verdict, AllocError>
     requires over { diagrams.now.atoms ≡ atoms task.now }
-    requires ready { AreReady (node_count diagrams.now)
+    requires ready { AreAllReady (node_count diagrams.now)
         (length task.now.actions) query.old actions.now }
     ensures answer { IfOk result (IsDecidedOver
         (setting_of task.now diagrams.now budget) table.now.lines F.Node
         (map (with_action query.old) actions.now)) }
     ensures lengths { KeepsLengths scratch.old scratch.new }
+    ensures kept { query.new.negative ≡ query.old.negative }
 {
     let _ = table;
     let verdict = walk(alloc, task, diagrams, query, actions, budget, scratch)?;
@@ -284,7 +293,7 @@ fn query_of(alloc: Global, names: &[Which], question: &Question) -> Result<Query
     })
 }
 
-fn operands_of(
+pub(crate) fn operands_of(
     alloc: Global,
     names: &[Which],
     asked: &[(usize, bool)],

@@ -5,8 +5,8 @@ ghost use Rattle.hv_task.specs.Strips.{atoms};
 ghost use Rattle.hv_sets.specs.Query.{HasAnchor, is_clash};
 ghost use Rattle.hv_sets.specs.Room.{KeepsLengths};
 ghost use Rattle.hv_lines.specs.Verdicts.{IsDecided};
-ghost use Rattle.hv_basic.specs.Asked.{with_action};
-ghost use Rattle.hv_basic.specs.Deciding.{AreReady};
+ghost use Rattle.hv_basic.specs.Working.Asked.{with_action};
+ghost use Rattle.hv_basic.specs.Working.Deciding.{AreAllReady};
 
 use hv_lines::{Clash, Verdict};
 use hv_sets::{Family, Finding, Query, Scratch};
@@ -24,13 +24,14 @@ pub(crate) fn walk<F: Family>(
     budget: u64,
     scratch: &mut Scratch,
 ) -> Result<Verdict, AllocError>
-    requires ready { AreReady (F.count sets.now) (length task.now.actions) query.old actions.now }
+    requires ready { AreAllReady (F.count sets.now) (length task.now.actions) query.old actions.now }
     requires anchor { F.wants_anchor sets.now → HasAnchor query.old }
     requires task { F.is_over sets.now (atoms task.now) }
     ensures answer { IfOk result (IsDecided (λ q. F.passes sets.now task.now q budget)
         (is_clash task.now (F.has sets.now)) (atoms task.now)
         (map (with_action query.old) actions.now)) }
     ensures lengths { KeepsLengths scratch.old scratch.new }
+    ensures kept { query.new.negative ≡ query.old.negative }
 {
     for action in actions {
         query.action = *action;

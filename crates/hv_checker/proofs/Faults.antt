@@ -1,10 +1,10 @@
 -- What is found of a line that passes the tests of its form and its numbers.
 use Rattle.std.proofs.Common.{◌≡◌, ℕ, List, Option, Some, None, subst, sym}
-use Rattle.hv_lines.specs.Good.{IsBasicWord, IsFormed, IsRuleWord}
+use Rattle.hv_lines.specs.Good.{IsBasicWord, IsRuleWord}
+use Rattle.hv_lines.specs.Working.Good.{IsFormed}
 use Rattle.hv_lines.specs.Rules.{Fits}
 use Rattle.hv_lines.specs.Setting.{Setting}
-use Rattle.hv_lines.specs.Shapes.{Basic, IsShaped}
-use Rattle.hv_lines.specs.Verdicts.{IsVerdictOf}
+use Rattle.hv_lines.specs.Verdicts.{IsVerdict}
 use Rattle.hv_lines.specs.declared.line.Acts.{Acts}
 use Rattle.hv_lines.specs.declared.line.Expr.{Expr}
 use Rattle.hv_lines.specs.declared.line.Line.{Line}
@@ -18,7 +18,7 @@ use Rattle.hv_lines.specs.declared.verdict.Verdict.{Verdict}
 use Rattle.hv_lines.specs.declared.verdict.Verdict.TheVariants as V
 use Rattle.hv_lines.proofs.Judging.{for_budget, for_offered, for_truth, good_basic}
 use Rattle.hv_lines.proofs.Reasons.{for_rule, for_shape, good_line}
-use Rattle.hv_checker.specs.Heard.{IsBasicFault, IsFault, fault_by}
+use Rattle.hv_checker.specs.Working.Heard.{IsBasicFault, IsLineFault, fault_by}
 
 -- a word is either that of a rule or that of a basic statement
 pub words_apart : (word : Word) → IsRuleWord word → IsBasicWord word → ⊥
@@ -37,47 +37,46 @@ basic_word W.B4 none = tt
 basic_word W.B5 none = tt
 basic_word _ none = absurd (none tt)
 
--- by the verdict of what the statement asks
-pub by_verdict : (setting : Setting) (lines : List Line) (statement : Statement) (word : Word) (basic : Basic) (verdict : Verdict)
-    → IsShaped lines statement word basic → IsVerdictOf setting lines basic verdict
-    → IsBasicFault setting lines statement word (fault_by verdict)
-by_verdict setting lines statement word basic V.True shaped is = (basic, shaped, is)
-by_verdict setting lines statement word basic (V.False clash) shaped is = (basic, shaped, is)
-by_verdict setting lines statement word basic V.Over shaped is = (basic, shaped, is)
-by_verdict setting lines statement word basic V.NotOffered shaped is = (basic, shaped, is)
+-- by the verdict of the statement
+pub by_verdict : (setting : Setting) (lines : List Line) (statement : Statement) (word : Word) (verdict : Verdict)
+    → IsVerdict setting lines statement word verdict → IsBasicFault setting lines statement word (fault_by verdict)
+by_verdict setting lines statement word V.True is = is
+by_verdict setting lines statement word (V.False clash) is = is
+by_verdict setting lines statement word V.Over is = is
+by_verdict setting lines statement word V.NotOffered is = is
 
 module _ (setting : Setting) (lines : List Line) where
-  acts_are_good : (id : ℕ) (acts : Acts) → IsFormed setting lines (L.Acts id acts) → IsFault setting lines (L.Acts id acts) None
+  acts_are_good : (id : ℕ) (acts : Acts) → IsFormed setting lines (L.Acts id acts) → IsLineFault setting lines (L.Acts id acts) None
   acts_are_good id acts formed = good_line setting lines (L.Acts id acts) formed tt tt tt tt tt
 
   pub good_acts : (line : Line) (id : ℕ) (acts : Acts) → line ≡ L.Acts id acts → IsFormed setting lines line
-      → IsFault setting lines line None
+      → IsLineFault setting lines line None
   good_acts line id acts is formed =
-      subst (λ l. IsFault setting lines l None) (sym is) (acts_are_good id acts (subst (IsFormed setting lines) is formed))
+      subst (λ l. IsLineFault setting lines l None) (sym is) (acts_are_good id acts (subst (IsFormed setting lines) is formed))
 
-  expr_is_good : (id : ℕ) (expr : Expr) → IsFormed setting lines (L.Expr id expr) → IsFault setting lines (L.Expr id expr) None
+  expr_is_good : (id : ℕ) (expr : Expr) → IsFormed setting lines (L.Expr id expr) → IsLineFault setting lines (L.Expr id expr) None
   expr_is_good id expr formed = good_line setting lines (L.Expr id expr) formed tt tt tt tt tt
 
   pub good_expr : (line : Line) (id : ℕ) (expr : Expr) → line ≡ L.Expr id expr → IsFormed setting lines line
-      → IsFault setting lines line None
+      → IsLineFault setting lines line None
   good_expr line id expr is formed =
-      subst (λ l. IsFault setting lines l None) (sym is) (expr_is_good id expr (subst (IsFormed setting lines) is formed))
+      subst (λ l. IsLineFault setting lines l None) (sym is) (expr_is_good id expr (subst (IsFormed setting lines) is formed))
 
   module _ (id : ℕ) (statement : Statement) (word : Word) (premises : List ℕ)
       (formed : IsFormed setting lines (L.Known id statement word premises)) where
     rule_is_good : IsRuleWord word → Fits lines statement word premises
-        → IsFault setting lines (L.Known id statement word premises) None
+        → IsLineFault setting lines (L.Known id statement word premises) None
     rule_is_good rule fits =
         good_line setting lines (L.Known id statement word premises) formed (λ on. fits) (λ on. absurd (words_apart word rule on))
         (λ on. absurd (words_apart word rule on)) (λ on. absurd (words_apart word rule on)) (λ on. absurd (words_apart word rule on))
 
     rule_is_fault : IsRuleWord word → (Fits lines statement word premises → ⊥)
-        → IsFault setting lines (L.Known id statement word premises) (Some R.Rule)
+        → IsLineFault setting lines (L.Known id statement word premises) (Some R.Rule)
     rule_is_fault rule none =
         for_rule setting lines (L.Known id statement word premises) formed (λ holds. none (holds rule))
 
     basic_is_fault : (rule : IsRuleWord word → ⊥) (fault : Option Reason) → IsBasicFault setting lines statement word fault
-        → IsFault setting lines (L.Known id statement word premises) fault
+        → IsLineFault setting lines (L.Known id statement word premises) fault
     basic_is_fault rule None is =
         good_basic setting lines id statement word premises formed (λ on. absurd (rule on)) (basic_word word rule) is
     basic_is_fault rule (Some R.Shape) is =
@@ -92,18 +91,18 @@ module _ (setting : Setting) (lines : List Line) where
 
   module _ (line : Line) (id : ℕ) (statement : Statement) (word : Word) (premises : List ℕ)
       (is : line ≡ L.Known id statement word premises) (formed : IsFormed setting lines line) where
-    pub good_rule : IsRuleWord word → Fits lines statement word premises → IsFault setting lines line None
+    pub good_rule : IsRuleWord word → Fits lines statement word premises → IsLineFault setting lines line None
     good_rule rule fits =
-        subst (λ l. IsFault setting lines l None) (sym is)
+        subst (λ l. IsLineFault setting lines l None) (sym is)
         (rule_is_good id statement word premises (subst (IsFormed setting lines) is formed) rule fits)
 
-    pub fault_of_rule : IsRuleWord word → (Fits lines statement word premises → ⊥) → IsFault setting lines line (Some R.Rule)
+    pub fault_of_rule : IsRuleWord word → (Fits lines statement word premises → ⊥) → IsLineFault setting lines line (Some R.Rule)
     fault_of_rule rule none =
-        subst (λ l. IsFault setting lines l (Some R.Rule)) (sym is)
+        subst (λ l. IsLineFault setting lines l (Some R.Rule)) (sym is)
         (rule_is_fault id statement word premises (subst (IsFormed setting lines) is formed) rule none)
 
     pub fault_of_basic : (rule : IsRuleWord word → ⊥) (fault : Option Reason) → IsBasicFault setting lines statement word fault
-        → IsFault setting lines line fault
+        → IsLineFault setting lines line fault
     fault_of_basic rule fault found =
-        subst (λ l. IsFault setting lines l fault) (sym is)
+        subst (λ l. IsLineFault setting lines l fault) (sym is)
         (basic_is_fault id statement word premises (subst (IsFormed setting lines) is formed) rule fault found)

@@ -1,7 +1,8 @@
 -- How a piece comes by its reason: by what it spells.
 use Rattle.std.proofs.Common.{ℕ, List, Some, None, inl, inr, refl, subst, sym}
 use Rattle.hv_lines.specs.Spelling.{Spells, IsSkipped}
-use Rattle.hv_lines.specs.Good.{IsGood, IsReasonOf, IsRefutedBy, LinePasses}
+use Rattle.hv_lines.specs.Good.{IsGood, IsRefutedBy, LinePasses}
+use Rattle.hv_lines.specs.Working.Good.{IsReasonOf}
 use Rattle.hv_lines.specs.Judged.{IsReason, IsShownBy, Passes}
 use Rattle.hv_lines.specs.Order.{Gives, Test}
 use Rattle.hv_lines.specs.Order as O
@@ -10,7 +11,7 @@ use Rattle.hv_lines.specs.declared.line.Line.{Line}
 use Rattle.hv_lines.specs.declared.reason.Reason.{Reason}
 use Rattle.hv_lines.specs.declared.reason.Reason.TheVariants as R
 use Rattle.hv_lines.proofs.Reasons.{below_next, below_none}
-use Rattle.hv_checker.specs.Heard.{IsHeard, IsJudgedLine}
+use Rattle.hv_checker.specs.Working.Heard.{IsHeard, IsJudgedLine}
 use Rattle.hv_checker.specs.declared.judge.Heard.{Heard}
 use Rattle.hv_checker.specs.declared.judge.Heard.TheVariants as H
 use Rattle.hv_proof_text.proofs.LineFields.{one_line, skipped_apart}

@@ -6,7 +6,7 @@ use Rattle.hv_lines.specs.Judged.{Accepts, Concludes, IsPassedOver, IsReason, Li
 use Rattle.hv_lines.specs.Setting.{Setting}
 use Rattle.hv_lines.specs.declared.line.Line.{Line}
 use Rattle.hv_lines.specs.declared.reason.Reason.{Reason}
-use Rattle.hv_checker.specs.Heard.{IsAccepted, IsSpelledBy}
+use Rattle.hv_checker.specs.Heard.{FeedsOn, IsSpelledBy}
 use Rattle.hv_checker.specs.Stands.{CheckerState, SaysAtEnd, Stands, StandsAt, refusal_at}
 use Rattle.hv_checker.specs.Stopping.{stop_after}
 use Rattle.hv_checker.specs.declared.piece.End.TheVariants as E
@@ -52,7 +52,7 @@ moved_reason old new lines piece reason same why = subst (λ s. IsReason s lines
 -- a checker that goes on, fed one more piece
 stands_next : (old new : CheckerState) (pieces : List LineText) (piece : LineText) (fed : Fed) → new.setting ≡ old.setting
     → StandsAt old S.Going pieces → new.fed ≡ old.fed + 1
-    → IsAccepted old.setting old.lines new.lines piece fed → StandsAt new (stop_after S.Going fed) (pieces ++ piece ∷ [])
+    → FeedsOn old.setting old.lines new.lines piece fed → StandsAt new (stop_after S.Going fed) (pieces ++ piece ∷ [])
 stands_next old new pieces piece F.Skipped same stands counted accepted = (
   counted ∙ (ap (λ n. n + 1) stands.0 ∙ sym (length_push pieces piece)),
   subst (λ ps. Accepts new.setting ps new.lines) (sym (reverse_push pieces piece))
@@ -78,7 +78,7 @@ stands_next old new pieces piece F.Stopped same stands counted accepted = absurd
 -- a new checker after one more piece, by what it keeps
 pub stands_fed : (old new : CheckerState) (pieces : List LineText) (piece : LineText) (fed : Fed) → old.stop ≡ S.Going
     → new.setting ≡ old.setting → new.fed ≡ old.fed + 1 → new.stop ≡ stop_after S.Going fed
-    → IsAccepted old.setting old.lines new.lines piece fed → Stands old pieces → Stands new (pieces ++ piece ∷ [])
+    → FeedsOn old.setting old.lines new.lines piece fed → Stands old pieces → Stands new (pieces ++ piece ∷ [])
 stands_fed old new pieces piece fed going same counted stop accepted stands =
     subst (λ s. StandsAt new s (pieces ++ piece ∷ [])) (sym stop)
     (stands_next old new pieces piece fed same (subst (λ s. StandsAt old s pieces) going stands) counted accepted)

@@ -1,76 +1,24 @@
 -- What is heard of one piece, after the lines accepted before it.
-use Rattle.std.specs.Prelude.{◌≡◌, List, ◌∷◌, Option, Some, None}
+use Rattle.std.specs.Prelude.{◌≡◌, List, ◌∷◌, Some, None}
 use Rattle.hv_lines.specs.Spelling.{Spells}
-use Rattle.hv_lines.specs.Good.{IsGood, IsReasonOf}
+use Rattle.hv_lines.specs.Good.{IsGood}
 use Rattle.hv_lines.specs.Judged.{LineText, IsPassedOver, IsReason}
-use Rattle.hv_lines.specs.Setting.{Setting, setting_of}
-use Rattle.hv_lines.specs.Shapes.{HasShape}
-use Rattle.hv_lines.specs.Verdicts.{IsVerdict}
+use Rattle.hv_lines.specs.Setting.{Setting}
 use Rattle.hv_lines.specs.declared.line.Line.{Line}
-use Rattle.hv_lines.specs.declared.line.Statement.{Statement}
-use Rattle.hv_lines.specs.declared.line.Word.{Word}
-use Rattle.hv_lines.specs.declared.reason.Reason.{Reason}
-use Rattle.hv_lines.specs.declared.reason.Reason.TheVariants as R
-use Rattle.hv_lines.specs.declared.verdict.Verdict.{Verdict}
-use Rattle.hv_lines.specs.declared.verdict.Verdict.TheVariants as V
 use Rattle.hv_checker.specs.declared.piece.Fed.{Fed}
 use Rattle.hv_checker.specs.declared.piece.Fed.TheVariants as F
-use Rattle.hv_checker.specs.declared.judge.Bench.{Bench}
-use Rattle.hv_checker.specs.declared.judge.Heard.{Heard}
-use Rattle.hv_checker.specs.declared.judge.Heard.TheVariants as H
-
--- what a bench judges by
-abbrev pub setting_on : Bench → Setting
-setting_on bench = setting_of bench.task.now bench.diagrams.now bench.budget
 
 -- the piece is the spelling of this line
 abbrev pub IsSpelledBy : LineText → Line → Type 0
 IsSpelledBy None line = ⊥
 IsSpelledBy (Some bytes) line = Spells line bytes
 
--- what is heard of a piece: that it is skipped, a good line, or the reason why it isn't good
-abbrev pub IsHeard : Setting → List Line → LineText → Heard → Type 0
-IsHeard setting lines piece H.Skipped = IsPassedOver piece
-IsHeard setting lines piece (H.Good line) = IsSpelledBy piece line × IsGood setting lines line
-IsHeard setting lines piece (H.Refused reason) = IsReason setting lines piece reason
-
--- what is found of a line that has a spelling: nothing where it is good, or the reason why it isn't
-abbrev pub IsFault : Setting → List Line → Line → Option Reason → Type 0
-IsFault setting lines line None = IsGood setting lines line
-IsFault setting lines line (Some reason) = IsReasonOf setting lines line reason
-
--- what is found of a basic statement with its word: nothing where it is true, or the reason by its
--- shape or by its verdict
-abbrev pub IsBasicFault : Setting → List Line → Statement → Word → Option Reason → Type 0
-IsBasicFault setting lines statement word None = IsVerdict setting lines statement word V.True
-IsBasicFault setting lines statement word (Some R.Shape) = HasShape lines statement word → ⊥
-IsBasicFault setting lines statement word (Some R.NotOffered) =
-    IsVerdict setting lines statement word V.NotOffered
-IsBasicFault setting lines statement word (Some R.Budget) =
-    IsVerdict setting lines statement word V.Over
-IsBasicFault setting lines statement word (Some (R.False clash)) =
-    IsVerdict setting lines statement word (V.False clash)
-IsBasicFault setting lines statement word (Some _) = ⊥
-
--- the reason that a verdict gives, if it gives one
-abbrev pub fault_by : Verdict → Option Reason
-fault_by V.True = None
-fault_by (V.False clash) = Some (R.False clash)
-fault_by V.Over = Some R.Budget
-fault_by V.NotOffered = Some R.NotOffered
-
--- what is heard of a line that has a spelling
-abbrev pub IsJudgedLine : Setting → List Line → Line → Heard → Type 0
-IsJudgedLine setting lines line H.Skipped = ⊥
-IsJudgedLine setting lines line (H.Good good) = (good ≡ line) × IsGood setting lines line
-IsJudgedLine setting lines line (H.Refused reason) = IsReasonOf setting lines line reason
-
 -- what the answer to a piece, of a checker that goes on, says of the accepted lines before and
 -- after
-abbrev pub IsAccepted : Setting → List Line → List Line → LineText → Fed → Type 0
-IsAccepted setting old new piece F.Skipped = IsPassedOver piece × (new ≡ old)
-IsAccepted setting old new piece F.Good =
+abbrev pub FeedsOn : Setting → List Line → List Line → LineText → Fed → Type 0
+FeedsOn setting old new piece F.Skipped = IsPassedOver piece × (new ≡ old)
+FeedsOn setting old new piece F.Good =
     (line : Line) × IsSpelledBy piece line × IsGood setting old line × (new ≡ line ∷ old)
-IsAccepted setting old new piece (F.Refused reason) = IsReason setting old piece reason
+FeedsOn setting old new piece (F.Refused reason) = IsReason setting old piece reason
     × (new ≡ old)
-IsAccepted setting old new piece F.Stopped = ⊥
+FeedsOn setting old new piece F.Stopped = ⊥

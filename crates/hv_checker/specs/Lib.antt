@@ -2,3 +2,4 @@ pub mod Texts
 pub mod Heard
 pub mod Stopping
 pub mod Stands
+pub mod Working

@@ -63,10 +63,10 @@ SaysAtEnd checker E.NoConclusion =
 SaysAtEnd checker E.Memory = checker.stop ≡ S.Memory
 
 -- what the end says of the pieces
-abbrev pub IsEnd : CheckerState → List LineText → End → Type 0
-IsEnd checker pieces E.Unsolvable = IsJudgedUnsolvable checker.setting pieces
-IsEnd checker pieces (E.Refused place) =
+abbrev pub SaysEnd : CheckerState → List LineText → End → Type 0
+SaysEnd checker pieces E.Unsolvable = IsJudgedUnsolvable checker.setting pieces
+SaysEnd checker pieces (E.Refused place) =
     (reason : Reason) × (refusal_of checker ≡ Some (record { place = place; reason = reason }))
     × IsRefused checker.setting pieces place reason
-IsEnd checker pieces E.NoConclusion = IsInconclusive checker.setting pieces
-IsEnd checker pieces E.Memory = ⊥
+SaysEnd checker pieces E.NoConclusion = IsInconclusive checker.setting pieces
+SaysEnd checker pieces E.Memory = ⊥

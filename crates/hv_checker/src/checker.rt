@@ -1,3 +1,5 @@
+//! The checker: what it has accepted, and what it was fed.
+
 ghost use Rattle.std.specs.Prelude.{◌≡◌, ◌≢◌, ◌<◌, ◌≤◌, ◌+◌, ◌^◌, ◌↔◌, ℕ, List, [], ◌∷◌, ◌++◌, IfOk, OnOk, OnErr, IsTrue, option_copied, option_map};
 ghost use Rattle.hv_task.specs.Plan.{IsUnsolvable};
 ghost use Rattle.hv_task.specs.Strips.{atoms};
@@ -11,7 +13,7 @@ ghost use Rattle.hv_checker.specs.declared.stop.Stop.TheVariants as S;
 use crate::judge::{Bench, accept};
 use crate::piece::{End, Fed, Piece};
 use crate::stop::Stop;
-use hv_basic::Store;
+use hv_basic::{Shared, Store};
 use hv_bdd::Diagrams;
 use hv_lines::{Reason, Statement, Table};
 use hv_proof_text::LineReader;
@@ -32,6 +34,7 @@ pub struct Checker<'a> {
     reader: LineReader,
     table: Table,
     store: Store,
+    shared: Shared,
     scratch: Scratch,
     fed: u64,
     stop: Stop,
@@ -39,7 +42,9 @@ pub struct Checker<'a> {
 
 impl<'a> Model for Checker<'a> {
     ghost use Rattle.hv_lines.specs.Good.{AreGood};
-    ghost use Rattle.hv_lines.specs.Setting.{IsSetting, setting_of};
+    ghost use Rattle.hv_lines.specs.Setting.{setting_of};
+    ghost use Rattle.hv_lines.specs.Working.Setting.{IsSetting};
+    ghost use Rattle.hv_basic.specs.Sharing.{IsShared};
     ghost use Rattle.hv_basic.specs.Stores.{IsStoreOf};
     ghost use Rattle.hv_checker.specs.Stands.{CheckerState};
 
@@ -55,12 +60,12 @@ impl<'a> Model for Checker<'a> {
     ghost invariant = { λ c.
         let setting = setting_of c.task.now c.diagrams.now c.budget in
         IsSetting setting × AreGood setting c.table.lines
-        × IsStoreOf c.task.now c.table.lines c.store };
+        × IsStoreOf c.task.now c.table.lines c.store × IsShared c.table.lines c.shared };
 }
 
 impl<'a> Checker<'a> {
-    ghost use Rattle.hv_checker.specs.Heard.{IsAccepted};
-    ghost use Rattle.hv_checker.specs.Stands.{IsEnd, SaysAtEnd, Stands, refusal_of};
+    ghost use Rattle.hv_checker.specs.Heard.{FeedsOn};
+    ghost use Rattle.hv_checker.specs.Stands.{SaysEnd, SaysAtEnd, Stands, refusal_of};
     ghost use Rattle.hv_checker.specs.Texts.{text_of};
 
     /// A checker that was fed nothing. The diagrams are over the atoms of the task. The budget
@@ -88,6 +93,7 @@ impl<'a> Checker<'a> {
             reader: LineReader::new(alloc),
             table: Table::new(alloc),
             store: Store::new(alloc),
+            shared: Shared::new(alloc),
             scratch: Scratch::new(alloc)?,
             fed: 0,
             stop: Stop::Going,
@@ -108,7 +114,7 @@ impl<'a> Checker<'a> {
         requires { self.old.fed < 2 ^ 62 }
         ensures same { self.new.setting ≡ self.old.setting }
         ensures answers { self.old.stop ≡ S.Going → IfOk result (λ fed.
-            IsAccepted self.old.setting self.old.lines self.new.lines (text_of piece.entry) fed) }
+            FeedsOn self.old.setting self.old.lines self.new.lines (text_of piece.entry) fed) }
         ensures stop { IfOk result (λ fed. self.new.stop ≡ stop_after self.old.stop fed) }
         ensures stopped { self.old.stop ≢ S.Going → (result ≡ Ok Fed.Stopped)
             × (self.new ≡ self.old) }
@@ -134,6 +140,7 @@ impl<'a> Checker<'a> {
             &mut self.reader,
             &mut self.table,
             &mut self.store,
+            &mut self.shared,
             &mut self.scratch,
             piece,
         ) {
@@ -151,7 +158,7 @@ impl<'a> Checker<'a> {
     /// What is said of the pieces fed so far as a whole proof.
     pub fn end(&self) -> End
         ensures judged { (pieces : List LineText) → Stands self.now pieces
-            → IsEnd self.now pieces result }
+            → SaysEnd self.now pieces result }
         ensures says { SaysAtEnd self.now result }
         ensures sound { result ≡ End.Unsolvable → IsUnsolvable self.now.setting.task }
     {

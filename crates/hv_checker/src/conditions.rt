@@ -4,7 +4,7 @@ ghost use Rattle.std.specs.Prelude.{◌≡◌, ◌<◌, ◌↔◌, length, IsTru
 ghost use Rattle.std.specs.List.{All};
 ghost use Rattle.hv_task.specs.State.{AreBelow};
 ghost use Rattle.hv_lines.specs.Numbering.{ActsReferBelow, ExprRefersBelow, IsNumbered, RefersBack, SpeaksBelow, acts_count, expr_count, known_count};
-ghost use Rattle.hv_lines.specs.Good.{ActsAreWithin, ClausesAreBelow, ExprIsWithin, FamilyFits, IsKnown, IsWithin};
+ghost use Rattle.hv_lines.specs.Good.{ActsAreWithin, ClausesAreBelow, ExprIsWithin, FamilyFits, IsKnown, NamesWithin};
 
 use hv_basic::is_of_its_family;
 use hv_bdd::Diagrams;
@@ -103,7 +103,7 @@ fn are_below(count: u32, numbers: &[u32]) -> bool
 }
 
 fn is_within(task: &Task, diagrams: &Diagrams, line: &Line) -> bool
-    ensures { IsTrue result ↔ IsWithin task.now diagrams.now line.now }
+    ensures { IsTrue result ↔ NamesWithin task.now diagrams.now line.now }
 {
     match line {
         Line::Acts { acts, .. } => acts_are_within(task, acts),

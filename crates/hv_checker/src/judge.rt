@@ -3,12 +3,15 @@
 ghost use Rattle.std.specs.Prelude.{◌≡◌, ◌∷◌, ◌≤◌, Some, IfOk, OnErr, OnOk};
 ghost use Rattle.hv_lines.specs.Spelling.{IsSpelled};
 ghost use Rattle.hv_lines.specs.Numbering.{RefersBack, SpeaksBelow, acts_count, expr_count};
-ghost use Rattle.hv_lines.specs.Good.{AreGood, IsFormed, IsGood};
+ghost use Rattle.hv_lines.specs.Good.{AreGood, IsGood};
+ghost use Rattle.hv_lines.specs.Working.Good.{IsFormed};
 ghost use Rattle.hv_lines.specs.Queries.{NamesNodes};
-ghost use Rattle.hv_lines.specs.Setting.{IsSetting};
+ghost use Rattle.hv_lines.specs.Working.Setting.{IsSetting};
 ghost use Rattle.hv_bdd.specs.Nodes.{node_count};
+ghost use Rattle.hv_basic.specs.Sharing.{IsShared};
 ghost use Rattle.hv_basic.specs.Stores.{IsStoreOf};
-ghost use Rattle.hv_checker.specs.Heard.{IsAccepted, IsBasicFault, IsFault, IsHeard, IsJudgedLine, fault_by, setting_on};
+ghost use Rattle.hv_checker.specs.Heard.{FeedsOn};
+ghost use Rattle.hv_checker.specs.Working.Heard.{IsBasicFault, IsLineFault, IsHeard, IsJudgedLine, fault_by, setting_on};
 ghost use Rattle.hv_checker.specs.Stopping.{stop_after};
 ghost use Rattle.hv_checker.specs.Texts.{text_of};
 ghost use Rattle.hv_checker.specs.declared.stop.Stop.TheVariants as S;
@@ -16,7 +19,7 @@ ghost use Rattle.hv_checker.specs.declared.stop.Stop.TheVariants as S;
 use crate::conditions::{family_fits, is_known, is_numbered};
 use crate::piece::{Fed, Piece};
 use crate::stop::Stop;
-use hv_basic::{ShapeFault, Store, decide, shape};
+use hv_basic::{ShapeFault, Shared, Store, verdict_of};
 use hv_bdd::Diagrams;
 use hv_lines::{Line, Reason, Statement, Table, Verdict, Word};
 use hv_proof_text::{LineError, LineReader};
@@ -58,20 +61,23 @@ pub(crate) fn accept(
     reader: &mut LineReader,
     table: &mut Table,
     store: &mut Store,
+    shared: &mut Shared,
     scratch: &mut Scratch,
     piece: Piece<'_>,
 ) -> Result<Outcome, AllocError>
     requires good { AreGood (setting_on bench.now) table.old.lines }
     requires setting { IsSetting (setting_on bench.now) }
     requires store { IsStoreOf bench.now.task.now table.old.lines store.old }
+    requires shared { IsShared table.old.lines shared.old }
     ensures good { AreGood (setting_on bench.now) table.new.lines }
     ensures store { IsStoreOf bench.now.task.now table.new.lines store.new }
-    ensures accepted { IfOk result (λ o. IsAccepted (setting_on bench.now)
+    ensures shared { IsShared table.new.lines shared.new }
+    ensures accepted { IfOk result (λ o. FeedsOn (setting_on bench.now)
         table.old.lines table.new.lines (text_of piece.entry) o.fed) }
     ensures stop { IfOk result (λ o. o.stop ≡ stop_after S.Going o.fed) }
     ensures kept { OnErr result (table.new.lines ≡ table.old.lines) }
 {
-    match hear(bench, reader, table, store, scratch, piece)? {
+    match hear(bench, reader, table, store, shared, scratch, piece)? {
         Heard::Skipped => Ok(Outcome {
             fed: Fed::Skipped,
             stop: Stop::Going,
@@ -84,7 +90,7 @@ pub(crate) fn accept(
             })
         }
         Heard::Good(line) => {
-            keep(bench, table, store, line)?;
+            keep(bench, table, store, shared, line)?;
             Ok(Outcome {
                 fed: Fed::Good,
                 stop: Stop::Going,
@@ -94,19 +100,23 @@ pub(crate) fn accept(
 }
 
 /// Puts a good line into the table, and its formula into the store. Want of memory leaves the table
-/// as it was.
+/// as it was. What is kept for the statements stays right.
 fn keep(
     bench: &Bench<'_>,
     table: &mut Table,
     store: &mut Store,
+    shared: &Shared,
     line: Line,
 ) -> Result<(), AllocError>
     requires good { IsGood (setting_on bench.now) table.old.lines line }
     requires store { IsStoreOf bench.now.task.now table.old.lines store.old }
+    requires shared { IsShared table.old.lines shared.now }
     ensures ok { OnOk result (table.new.lines ≡ line ∷ table.old.lines) }
     ensures err { OnErr result (table.new.lines ≡ table.old.lines) }
     ensures store { IsStoreOf bench.now.task.now table.new.lines store.new }
+    ensures shared { IsShared table.new.lines shared.now }
 {
+    let _ = shared;
     table.reserve(1)?;
     store.add_line(bench.task, &line)?;
     table.push(line)?;
@@ -118,18 +128,21 @@ pub(crate) fn hear(
     reader: &mut LineReader,
     table: &Table,
     store: &Store,
+    shared: &mut Shared,
     scratch: &mut Scratch,
     piece: Piece<'_>,
 ) -> Result<Heard, AllocError>
     requires setting { IsSetting (setting_on bench.now) }
     requires nodes { NamesNodes (node_count bench.now.diagrams.now) table.now.lines }
     requires store { IsStoreOf bench.now.task.now table.now.lines store.now }
-    ensures { IfOk result (λ heard.
+    requires shared { IsShared table.now.lines shared.old }
+    ensures shared { IsShared table.now.lines shared.new }
+    ensures heard { IfOk result (λ heard.
         IsHeard (setting_on bench.now) table.now.lines (text_of piece.entry) heard) }
 {
     match piece {
         Piece::Long => Ok(Heard::Refused(Reason::Long)),
-        Piece::Line(bytes) => hear_line(bench, reader, table, store, scratch, bytes),
+        Piece::Line(bytes) => hear_line(bench, reader, table, store, shared, scratch, bytes),
     }
 }
 
@@ -138,19 +151,22 @@ fn hear_line(
     reader: &mut LineReader,
     table: &Table,
     store: &Store,
+    shared: &mut Shared,
     scratch: &mut Scratch,
     bytes: &[u8],
 ) -> Result<Heard, AllocError>
     requires setting { IsSetting (setting_on bench.now) }
     requires nodes { NamesNodes (node_count bench.now.diagrams.now) table.now.lines }
     requires store { IsStoreOf bench.now.task.now table.now.lines store.now }
-    ensures { IfOk result (λ heard. IsHeard (setting_on bench.now) table.now.lines
+    requires shared { IsShared table.now.lines shared.old }
+    ensures shared { IsShared table.now.lines shared.new }
+    ensures heard { IfOk result (λ heard. IsHeard (setting_on bench.now) table.now.lines
         (Some bytes.now) heard) }
 {
     match reader.read(bench.alloc, bytes) {
         Ok(None) => Ok(Heard::Skipped),
         Ok(Some(line)) => {
-            let heard = hear_spelled(bench, table, store, scratch, line)?;
+            let heard = hear_spelled(bench, table, store, shared, scratch, line)?;
             Ok(heard)
         }
         Err(LineError::Grammar) => Ok(Heard::Refused(Reason::Grammar)),
@@ -162,17 +178,20 @@ fn hear_spelled(
     bench: &Bench<'_>,
     table: &Table,
     store: &Store,
+    shared: &mut Shared,
     scratch: &mut Scratch,
     line: Line,
 ) -> Result<Heard, AllocError>
     requires setting { IsSetting (setting_on bench.now) }
     requires nodes { NamesNodes (node_count bench.now.diagrams.now) table.now.lines }
     requires store { IsStoreOf bench.now.task.now table.now.lines store.now }
+    requires shared { IsShared table.now.lines shared.old }
     requires spelled { IsSpelled line }
-    ensures { IfOk result (λ heard. IsJudgedLine
+    ensures shared { IsShared table.now.lines shared.new }
+    ensures heard { IfOk result (λ heard. IsJudgedLine
         (setting_on bench.now) table.now.lines line heard) }
 {
-    match fault(bench, table, store, scratch, &line)? {
+    match fault(bench, table, store, shared, scratch, &line)? {
         None => Ok(Heard::Good(line)),
         Some(reason) => Ok(Heard::Refused(reason)),
     }
@@ -183,14 +202,17 @@ fn fault(
     bench: &Bench<'_>,
     table: &Table,
     store: &Store,
+    shared: &mut Shared,
     scratch: &mut Scratch,
     line: &Line,
 ) -> Result<Option<Reason>, AllocError>
     requires setting { IsSetting (setting_on bench.now) }
     requires nodes { NamesNodes (node_count bench.now.diagrams.now) table.now.lines }
     requires store { IsStoreOf bench.now.task.now table.now.lines store.now }
+    requires shared { IsShared table.now.lines shared.old }
     requires spelled { IsSpelled line.now }
-    ensures { IfOk result (λ f. IsFault (setting_on bench.now) table.now.lines line.now f) }
+    ensures shared { IsShared table.now.lines shared.new }
+    ensures fault { IfOk result (λ f. IsLineFault (setting_on bench.now) table.now.lines line.now f) }
 {
     if !is_numbered(table, line) {
         return Ok(Some(Reason::Number));
@@ -201,7 +223,7 @@ fn fault(
     if !family_fits(line) {
         return Ok(Some(Reason::Family));
     }
-    fault_in_meaning(bench, table, store, scratch, line)
+    fault_in_meaning(bench, table, store, shared, scratch, line)
 }
 
 /// The first test that the line fails, of those that look at the lines that it refers to.
@@ -209,16 +231,19 @@ fn fault_in_meaning(
     bench: &Bench<'_>,
     table: &Table,
     store: &Store,
+    shared: &mut Shared,
     scratch: &mut Scratch,
     line: &Line,
 ) -> Result<Option<Reason>, AllocError>
     requires setting { IsSetting (setting_on bench.now) }
     requires nodes { NamesNodes (node_count bench.now.diagrams.now) table.now.lines }
     requires store { IsStoreOf bench.now.task.now table.now.lines store.now }
+    requires shared { IsShared table.now.lines shared.old }
     requires formed { IsFormed (setting_on bench.now) table.now.lines line.now }
     requires spelled { IsSpelled line.now }
     requires back { RefersBack table.now.lines line.now }
-    ensures { IfOk result (λ f. IsFault (setting_on bench.now) table.now.lines line.now f) }
+    ensures shared { IsShared table.now.lines shared.new }
+    ensures fault { IfOk result (λ f. IsLineFault (setting_on bench.now) table.now.lines line.now f) }
 {
     match line {
         Line::Acts { .. } => Ok(None),
@@ -230,7 +255,7 @@ fn fault_in_meaning(
             ..
         } => {
             if !is_rule(*word) {
-                let fault = fault_of_basic(bench, table, store, scratch, statement, *word)?;
+                let fault = fault_of_basic(bench, table, store, shared, scratch, statement, *word)?;
                 return Ok(fault);
             }
             if !rule_fits(table, statement, *word, premises) {
@@ -246,6 +271,7 @@ fn fault_of_basic(
     bench: &Bench<'_>,
     table: &Table,
     store: &Store,
+    shared: &mut Shared,
     scratch: &mut Scratch,
     statement: &Statement,
     word: Word,
@@ -253,27 +279,28 @@ fn fault_of_basic(
     requires setting { IsSetting (setting_on bench.now) }
     requires nodes { NamesNodes (node_count bench.now.diagrams.now) table.now.lines }
     requires store { IsStoreOf bench.now.task.now table.now.lines store.now }
+    requires shared { IsShared table.now.lines shared.old }
     requires speaks { SpeaksBelow (acts_count table.now.lines)
         (expr_count table.now.lines) statement.now }
-    ensures { IfOk result (λ f. IsBasicFault
+    ensures shared { IsShared table.now.lines shared.new }
+    ensures fault { IfOk result (λ f. IsBasicFault
         (setting_on bench.now) table.now.lines statement.now word f) }
 {
-    match shape(bench.alloc, table, statement, word) {
+    match verdict_of(
+        bench.alloc,
+        bench.task,
+        table,
+        bench.diagrams,
+        store,
+        shared,
+        statement,
+        word,
+        bench.budget,
+        scratch,
+    ) {
+        Ok(verdict) => Ok(reason_by(verdict)),
         Err(ShapeFault::Shape) => Ok(Some(Reason::Shape)),
         Err(ShapeFault::Memory) => Err(AllocError),
-        Ok(basic) => {
-            let verdict = decide(
-                bench.alloc,
-                bench.task,
-                table,
-                bench.diagrams,
-                store,
-                &basic,
-                bench.budget,
-                scratch,
-            )?;
-            Ok(reason_by(verdict))
-        }
     }
 }
 

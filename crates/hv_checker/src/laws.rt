@@ -1,3 +1,5 @@
+//! That pieces have one judgement, as the contract of a function that does nothing.
+
 ghost use Rattle.std.specs.Prelude.{◌≡◌, List};
 ghost use Rattle.hv_lines.specs.Judged.{Judged, Judgement, LineText, outline_of};
 ghost use Rattle.hv_lines.specs.Setting.{Setting};

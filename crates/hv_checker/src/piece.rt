@@ -1,3 +1,5 @@
+//! What a checker is fed, and what it answers.
+
 use hv_lines::Reason;
 
 /// A line of a proof, as it is fed to a checker.

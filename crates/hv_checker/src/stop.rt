@@ -1,3 +1,5 @@
+//! Why a checker goes no further.
+
 use hv_lines::Reason;
 
 /// Whether a checker goes on.

@@ -1,7 +1,7 @@
 use Rattle.std.proofs.lemmas.List.Elements.{Contains-get_or}
 use Rattle.std.proofs.Common.{get_or}
 use Rattle.hv_lines.proofs.Shaped.{leaf_below}
-use Rattle.hv_basic.specs.Work.{parts_on}
+use Rattle.hv_basic.specs.Working.Work.{parts_on}
 use Rattle.hv_basic.proofs.Leafing.{leafing_step}
 use Rattle.hv_basic.proofs.leaves.leaves.Goals as goal
 

@@ -1,4 +1,4 @@
-use Rattle.hv_basic.specs.Work.{parts_on}
+use Rattle.hv_basic.specs.Working.Work.{parts_on}
 use Rattle.hv_basic.proofs.Leafing.{IsLeafing}
 use Rattle.hv_basic.proofs.leaves.leaves.Given as goal
 

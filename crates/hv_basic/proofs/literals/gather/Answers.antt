@@ -1,5 +1,5 @@
 use Rattle.std.proofs.Common.{◌+◌, List, take, arith, subst, sym}
-use Rattle.hv_basic.specs.Gathered.{AreGathered}
+use Rattle.hv_basic.specs.Working.Gathered.{AreGathered}
 use Rattle.hv_basic.specs.declared.literals.Asking.{Asking}
 use Rattle.hv_basic.proofs.Gathering.{gathered_more, gathered_other, gathered_whole}
 use Rattle.hv_basic.proofs.literals.gather.Goals as goal

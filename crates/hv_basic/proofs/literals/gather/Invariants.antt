@@ -1,5 +1,5 @@
 use Rattle.std.proofs.Common.{take}
-use Rattle.hv_basic.specs.Gathered.{AreGathered}
+use Rattle.hv_basic.specs.Working.Gathered.{AreGathered}
 use Rattle.hv_basic.proofs.literals.gather.Given as goal
 
 abbrev pub invariant-loop-leaf : goal.invariant-loop-leaf

@@ -1,6 +1,6 @@
 use Rattle.std.proofs.Common.{subst, sym}
 use Rattle.hv_lines.specs.Shapes.{AskingsRise}
-use Rattle.hv_basic.specs.Asked.{AreChosen}
+use Rattle.hv_basic.specs.Working.Asked.{AreChosen}
 use Rattle.hv_basic.proofs.Ordering.{chosen_of, ordered_rises}
 use Rattle.hv_basic.proofs.order.in_order.Goals as goal
 

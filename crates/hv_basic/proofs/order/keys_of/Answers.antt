@@ -1,5 +1,5 @@
 use Rattle.std.proofs.Common.{◌≡◌, ◌+◌, false, true, take, arith, refl, subst, sym}
-use Rattle.hv_basic.specs.Asked.{AreKeys}
+use Rattle.hv_basic.specs.Working.Asked.{AreKeys}
 use Rattle.hv_basic.proofs.Ordering.{keys_kept, keys_more}
 use Rattle.hv_basic.proofs.order.keys_of.Goals as goal
 use Rattle.hv_basic.proofs.order.keys_of.Goals.{then-has_sign+in_ok-insert, else-has_sign}

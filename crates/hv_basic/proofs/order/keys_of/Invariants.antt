@@ -1,5 +1,5 @@
 use Rattle.std.proofs.Common.{take}
-use Rattle.hv_basic.specs.Asked.{AreKeys}
+use Rattle.hv_basic.specs.Working.Asked.{AreKeys}
 use Rattle.hv_basic.proofs.order.keys_of.Given as goal
 
 abbrev pub invariant-loop-asking : goal.invariant-loop-asking

@@ -1,6 +1,6 @@
 use Rattle.std.proofs.Common.{true, false, rules, subst, sym}
-use Rattle.hv_basic.specs.Asked.{AreChosen}
-use Rattle.hv_basic.specs.Gathered.{IsFamilyIn}
+use Rattle.hv_basic.specs.Working.Asked.{AreChosen}
+use Rattle.hv_basic.specs.Working.Gathered.{IsFamilyIn}
 use Rattle.hv_basic.proofs.Siding.{family_fails, few_fails, question_from}
 use Rattle.hv_basic.proofs.shapes.question_from.Goals as goal
 

@@ -2,7 +2,7 @@ use Rattle.std.proofs.Common.{◌≡◌, false, true, refl, subst, sym}
 use Rattle.std.specs.List.{All}
 use Rattle.hv_lines.specs.Literals.{IsLiteral}
 use Rattle.hv_lines.specs.Shapes.{asks_step_after}
-use Rattle.hv_basic.specs.Gathered.{AreGathered}
+use Rattle.hv_basic.specs.Working.Gathered.{AreGathered}
 use Rattle.hv_basic.proofs.Siding.{alone_fails, no_step_fails, inner_fails}
 use Rattle.hv_basic.proofs.sides.add_step.Goals as goal
 

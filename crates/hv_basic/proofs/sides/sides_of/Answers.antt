@@ -2,7 +2,7 @@ use Rattle.std.proofs.Common.{◌≡◌, ℕ, Option, false, true, refl, subst, 
 use Rattle.std.specs.List.{All}
 use Rattle.hv_lines.specs.Literals.{IsLiteral}
 use Rattle.hv_lines.specs.Shapes.{HasSides, asks_sides_after}
-use Rattle.hv_basic.specs.Gathered.{AreGathered, HasLeft, IsStepAdded}
+use Rattle.hv_basic.specs.Working.Gathered.{AreGathered, HasLeft, IsStepAdded}
 use Rattle.hv_basic.proofs.Siding.{askings_from, asked_lines, fault_of, left_fails, right_fails, sides_from}
 use Rattle.hv_basic.proofs.sides.sides_of.Goals as goal
 

@@ -3,7 +3,7 @@ use Rattle.std.specs.Prelude.{IfOk}
 use Rattle.hv_lines.specs.Setting.{setting_of}
 use Rattle.hv_lines.specs.Verdicts.{IsVerdictOf}
 use Rattle.hv_basic.specs.Deciding.{IsBasicOver}
-use Rattle.hv_basic.specs.Views.{basic_of}
+use Rattle.hv_basic.specs.Working.Views.{basic_of}
 use Rattle.hv_basic.proofs.verdicts.decide.Goals as goal
 
 pub decide_acts-requires-clause-first : goal.decide_acts-requires-clause-first

@@ -2,7 +2,7 @@ use Rattle.std.proofs.Common.{◌∙◌, ap, map, subst, sym}
 use Rattle.hv_task.specs.Strips.{atoms}
 use Rattle.hv_explicit.specs.Listing.{AreOver}
 use Rattle.hv_lines.specs.Queries.{listed_of}
-use Rattle.hv_basic.specs.Asked.{with_action}
+use Rattle.hv_basic.specs.Working.Asked.{with_action}
 use Rattle.hv_basic.specs.Stores.{StoreState}
 use Rattle.hv_basic.proofs.Storing.{listed_over, listed_decided}
 use Rattle.hv_basic.proofs.verdicts.decide_listed.Goals as goal

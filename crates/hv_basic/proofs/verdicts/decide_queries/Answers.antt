@@ -1,29 +1,29 @@
 use Rattle.std.proofs.Common.{None, length, map, subst}
 use Rattle.std.proofs.lemmas.Bool.{iff_false}
 use Rattle.hv_bdd.specs.Nodes.{node_count}
-use Rattle.hv_lines.specs.Queries.{count_of}
+use Rattle.hv_lines.specs.Working.Queries.{count_of}
 use Rattle.hv_lines.specs.Setting.{setting_of}
 use Rattle.hv_lines.specs.declared.family.FormulaFamily.{FormulaFamily}
 use Rattle.hv_lines.specs.declared.family.FormulaFamily.TheVariants as F
-use Rattle.hv_basic.specs.Asked.{with_action}
-use Rattle.hv_basic.specs.Deciding.{AreReady}
-use Rattle.hv_basic.specs.Views.{question_of}
+use Rattle.hv_basic.specs.Working.Asked.{with_action}
+use Rattle.hv_basic.specs.Working.Deciding.{AreAllReady}
+use Rattle.hv_basic.specs.Working.Views.{question_of}
 use Rattle.hv_basic.proofs.Querying.{offered_horn, offered_listed, offered_two, offered_node, unoffered_listed, verdict_in}
 use Rattle.hv_basic.proofs.verdicts.decide_queries.Goals as goal
 
 pub decide_horns-requires-clause-ready : goal.decide_horns-requires-clause-ready
 decide_horns-requires-clause-ready c =
-    subst (λ (f : FormulaFamily). AreReady (count_of c.args.table.now.lines f (node_count c.args.diagrams.now)) (length c.args.task.now.actions) c.args.query.now c.args.actions.now) c.in-Horn.is
+    subst (λ (f : FormulaFamily). AreAllReady (count_of c.args.table.now.lines f (node_count c.args.diagrams.now)) (length c.args.task.now.actions) c.args.query.now c.args.actions.now) c.in-Horn.is
     c.requires.query.ready
 
 pub decide_twos-requires-clause-ready : goal.decide_twos-requires-clause-ready
 decide_twos-requires-clause-ready c =
-    subst (λ (f : FormulaFamily). AreReady (count_of c.args.table.now.lines f (node_count c.args.diagrams.now)) (length c.args.task.now.actions) c.args.query.now c.args.actions.now) c.in-Two.is
+    subst (λ (f : FormulaFamily). AreAllReady (count_of c.args.table.now.lines f (node_count c.args.diagrams.now)) (length c.args.task.now.actions) c.args.query.now c.args.actions.now) c.in-Two.is
     c.requires.query.ready
 
 pub decide_listed-requires-clause-ready : goal.decide_listed-requires-clause-ready
 decide_listed-requires-clause-ready c =
-    subst (λ (f : FormulaFamily). AreReady (count_of c.args.table.now.lines f (node_count c.args.diagrams.now)) (length c.args.task.now.actions) c.args.query.now c.args.actions.now) c.in-States.is
+    subst (λ (f : FormulaFamily). AreAllReady (count_of c.args.table.now.lines f (node_count c.args.diagrams.now)) (length c.args.task.now.actions) c.args.query.now c.args.actions.now) c.in-States.is
     c.requires.query.ready
 
 pub returns-in_ok-verdict-in-Horn-clause-answer : goal.returns-in_ok-verdict-in-Horn-clause-answer
@@ -52,7 +52,7 @@ returns-then-not-has_anchor-clause-answer c =
 
 pub decide_nodes-requires-clause-ready : goal.decide_nodes-requires-clause-ready
 decide_nodes-requires-clause-ready c =
-    subst (λ (f : FormulaFamily). AreReady (count_of c.args.table.now.lines f (node_count c.args.diagrams.now)) (length c.args.task.now.actions) c.args.query.now c.args.actions.now) c.in-Node.is
+    subst (λ (f : FormulaFamily). AreAllReady (count_of c.args.table.now.lines f (node_count c.args.diagrams.now)) (length c.args.task.now.actions) c.args.query.now c.args.actions.now) c.in-Node.is
     c.requires.query.ready
 
 pub returns-in_ok-verdict-in-Node-clause-answer : goal.returns-in_ok-verdict-in-Node-clause-answer

@@ -4,7 +4,7 @@ use Rattle.std.specs.List.{slice_get}
 use Rattle.hv_bdd.specs.Nodes.{node_count}
 use Rattle.hv_lines.proofs.Ready.{asked_exprs}
 use Rattle.hv_basic.specs.Stores.{StoreState}
-use Rattle.hv_basic.specs.Views.{question_of}
+use Rattle.hv_basic.specs.Working.Views.{question_of}
 use Rattle.hv_basic.proofs.Querying.{acts_below_of, asks_question}
 use Rattle.hv_basic.proofs.verdicts.decide_sets.Goals as goal
 

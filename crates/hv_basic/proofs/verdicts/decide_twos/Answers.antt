@@ -2,7 +2,7 @@ use Rattle.std.proofs.Common.{◌∙◌, ap, map, subst, sym}
 use Rattle.hv_task.specs.Strips.{atoms}
 use Rattle.hv_clauses.specs.Store.{AreOver}
 use Rattle.hv_lines.specs.Queries.{twos_of}
-use Rattle.hv_basic.specs.Asked.{with_action}
+use Rattle.hv_basic.specs.Working.Asked.{with_action}
 use Rattle.hv_basic.specs.Stores.{StoreState}
 use Rattle.hv_basic.proofs.Storing.{are_over, formulas_decided}
 use Rattle.hv_basic.proofs.verdicts.decide_twos.Goals as goal

@@ -1,5 +1,5 @@
 use Rattle.std.proofs.Common.{◌≡◌, map, take}
-use Rattle.hv_basic.specs.Asked.{named_operand}
+use Rattle.hv_basic.specs.Working.Asked.{named_operand}
 use Rattle.hv_basic.proofs.verdicts.operands_of.Given as goal
 
 abbrev pub invariant-loop-set : goal.invariant-loop-set

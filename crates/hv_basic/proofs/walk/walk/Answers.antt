@@ -2,7 +2,7 @@ use Rattle.std.proofs.Common.{◌≡◌, ◌∙◌, ℕ, Option, Some, None, ap,
 use Rattle.std.proofs.lemmas.Option.{slice_get-get_or}
 use Rattle.hv_task.specs.Strips.{atoms}
 use Rattle.hv_sets.specs.Query.{IsReady, is_clash}
-use Rattle.hv_basic.specs.Asked.{with_action}
+use Rattle.hv_basic.specs.Working.Asked.{with_action}
 use Rattle.hv_basic.proofs.Walking.{all_settled, clash_here, first_at, lengths_kept, over_here, same_query, settled_here, settled_more}
 use Rattle.hv_basic.proofs.walk.walk.Goals as goal
 

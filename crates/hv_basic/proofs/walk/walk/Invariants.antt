@@ -3,8 +3,8 @@ use Rattle.std.specs.List.{slice_get}
 use Rattle.hv_task.specs.Strips.{atoms}
 use Rattle.hv_sets.specs.Query.{is_clash}
 use Rattle.hv_sets.specs.Room.{KeepsLengths}
-use Rattle.hv_lines.specs.Verdicts.{IsSettled}
-use Rattle.hv_basic.specs.Asked.{with_action}
+use Rattle.hv_lines.specs.Verdicts.{DecidesNothing}
+use Rattle.hv_basic.specs.Working.Asked.{with_action}
 use Rattle.hv_basic.proofs.walk.walk.Given as goal
 
 abbrev pub invariant-loop-action : goal.invariant-loop-action
@@ -13,5 +13,5 @@ invariant-loop-action g l = record {
   positive : l.query.positive ≡ l.fn.query.positive;
   negative : l.query.negative ≡ l.fn.query.negative;
   settled : (place : ℕ) (action : Option ℕ) → place < l.action-index → slice_get l.actions place ≡ Some action
-      → IsSettled (λ q. g.F.Family.passes l.sets l.task q l.budget) (is_clash l.task (g.F.Family.has l.sets)) (atoms l.task) (with_action l.fn.query action);
+      → DecidesNothing (λ q. g.F.Family.passes l.sets l.task q l.budget) (is_clash l.task (g.F.Family.has l.sets)) (atoms l.task) (with_action l.fn.query action);
 }

@@ -1,19 +1,19 @@
 use Rattle.hv_lines.specs.Good.{FamilyFits, IsKnown}
 use Rattle.hv_lines.specs.Numbering.{IsNumbered}
 use Rattle.hv_lines.proofs.Reasons.{for_family, for_number, for_reference}
-use Rattle.hv_checker.specs.Heard.{setting_on}
+use Rattle.hv_checker.specs.Working.Heard.{setting_on}
 use Rattle.hv_checker.proofs.Told.{untold}
 use Rattle.hv_checker.proofs.judge.fault.Goals as goal
 
-pub returns-then-not-is_numbered : goal.returns-then-not-is_numbered
-returns-then-not-is_numbered c =
+pub returns-then-not-is_numbered-clause-fault : goal.returns-then-not-is_numbered-clause-fault
+returns-then-not-is_numbered-clause-fault c =
     let lines = c.args.table.now.lines in
     let line = c.args.line.now in
     for_number (setting_on c.args.bench.now) lines line c.requires.spelled
     (untold c.is_numbered.result (IsNumbered lines line) c.is_numbered.ensures c.if-not-is_numbered.true)
 
-pub returns-then-not-is_known : goal.returns-then-not-is_known
-returns-then-not-is_known c =
+pub returns-then-not-is_known-clause-fault : goal.returns-then-not-is_known-clause-fault
+returns-then-not-is_known-clause-fault c =
     let lines = c.args.table.now.lines in
     let line = c.args.line.now in
     for_reference (setting_on c.args.bench.now) lines line c.requires.spelled
@@ -21,8 +21,8 @@ returns-then-not-is_known c =
     (untold c.is_known.result (IsKnown c.args.bench.now.task.now c.args.bench.now.diagrams.now lines line) c.is_known.ensures
     c.if-not-is_known.true)
 
-pub returns-then-not-family_fits : goal.returns-then-not-family_fits
-returns-then-not-family_fits c =
+pub returns-then-not-family_fits-clause-fault : goal.returns-then-not-family_fits-clause-fault
+returns-then-not-family_fits-clause-fault c =
     let lines = c.args.table.now.lines in
     let line = c.args.line.now in
     for_family (setting_on c.args.bench.now) lines line c.requires.spelled

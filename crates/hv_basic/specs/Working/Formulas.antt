@@ -50,20 +50,20 @@ inside_count (M.States set) = Some (length (full_cubes set.now))
 inside_count (M.Node set) = Some (length (path_cubes set.nodes.now 1 set.node))
 
 -- the formula is over so many atoms, or it is one of these nodes
-abbrev pub IsFor : ℕ → NodeList → AnyFormula → Type 0
-IsFor atoms nodes (M.Horn set) = set.now.atoms ≡ atoms
-IsFor atoms nodes (M.Two set) = set.now.atoms ≡ atoms
-IsFor atoms nodes (M.States set) = set.now.atoms ≡ atoms
-IsFor atoms nodes (M.Node set) = set.nodes.now ≡ nodes
+abbrev pub IsFormulaFor : ℕ → NodeList → AnyFormula → Type 0
+IsFormulaFor atoms nodes (M.Horn set) = set.now.atoms ≡ atoms
+IsFormulaFor atoms nodes (M.Two set) = set.now.atoms ≡ atoms
+IsFormulaFor atoms nodes (M.States set) = set.now.atoms ≡ atoms
+IsFormulaFor atoms nodes (M.Node set) = set.nodes.now ≡ nodes
 
 -- the two formulas are of different families
 abbrev pub AreApart : AnyFormula → AnyFormula → Type 0
 AreApart left right = family_of (expr_of left) ≡ family_of (expr_of right) → ⊥
 
 -- the answer to an inclusion with this cost, if it is decided
-abbrev pub IsFound : ℕ → Option ℕ → ℕ → (List Bool → Bool) → Option Finding → List Bool → Type 0
-IsFound budget cost atoms clash None state = cost ≡ None
-IsFound budget cost atoms clash (Some found) state =
+abbrev pub IsFoundInclusion : ℕ → Option ℕ → ℕ → (List Bool → Bool) → Option Finding → List Bool → Type 0
+IsFoundInclusion budget cost atoms clash None state = cost ≡ None
+IsFoundInclusion budget cost atoms clash (Some found) state =
     (steps : ℕ) × (cost ≡ Some steps) × IsAnswer found (budget < steps) atoms clash state
 
 -- the costs of inclusions, by the walks: the one formula within the other, no state in both, and

@@ -1,0 +1,10 @@
+-- Definitions that no public contract cites: those of private contracts and of proofs.
+pub mod Flags
+pub mod Views
+pub mod Work
+pub mod Gathered
+pub mod Stores
+pub mod Asked
+pub mod Deciding
+pub mod Formulas
+pub mod Sharing

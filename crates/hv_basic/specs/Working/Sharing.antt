@@ -1,0 +1,84 @@
+-- Working definitions beside those of `Sharing`: what contracts of private functions and proofs say.
+use Rattle.std.specs.Prelude.{◌≡◌, ◌<◌, ◌⊎◌, ◌↔◌, ℕ, Bool, List, Option, None, Some, length, map, slice_get}
+use Rattle.std.specs.List.{Contains}
+use Rattle.hv_sets.specs.declared.operand.Which.{Which}
+use Rattle.hv_lines.specs.Literals.{IsLiteral}
+use Rattle.hv_lines.specs.Numbering.{expr_at, expr_count}
+use Rattle.hv_lines.specs.Queries.{operand_of, which_at}
+use Rattle.hv_lines.specs.Shapes.{Askings, IsAndLeaf, IsLeftLeaf, IsLiteralOf, IsOrLeaf, IsQuestion, IsStep, IsWithinFamily, Question}
+use Rattle.hv_lines.specs.declared.family.FormulaFamily.{FormulaFamily}
+use Rattle.hv_lines.specs.declared.line.Expr.TheVariants as E
+use Rattle.hv_lines.specs.declared.line.Line.{Line}
+use Rattle.hv_lines.specs.declared.line.Word.{Word}
+use Rattle.hv_lines.specs.declared.line.Word.TheVariants as W
+use Rattle.hv_lines.specs.Setting.{Setting}
+use Rattle.hv_lines.specs.Verdicts.{IsVerdictOfSets}
+use Rattle.hv_lines.specs.declared.verdict.Verdict.{Verdict}
+use Rattle.hv_basic.specs.Working.Gathered.{IsFamilyIn}
+use Rattle.hv_basic.specs.Working.Views.{question_of}
+use Rattle.hv_basic.specs.declared.literals.Asking.{Asking}
+use Rattle.hv_basic.specs.declared.shared.Kept.{Kept}
+
+-- the names are those by which operands speak of the sets of these lines
+pub record AreSetNames (lines : List Line) (names : List Which) : Type 0 where
+  pub each : length names ≡ expr_count lines
+  pub is : (id : ℕ) → id < expr_count lines → slice_get names id ≡ Some (which_at lines id)
+
+-- what the family of one more set makes of the family of those before it
+abbrev pub IsFamilyWith : Option FormulaFamily → Option FormulaFamily → Option FormulaFamily
+    → Type 0
+IsFamilyWith None next both = both ≡ next
+IsFamilyWith (Some family) None both = both ≡ Some family
+IsFamilyWith (Some family) (Some next) both = (family ≡ next) × (both ≡ Some family)
+
+-- the leaves were added to what is asked about
+abbrev pub AreAddedTo : Bool → List ℕ → Askings → Askings → Type 0
+AreAddedTo after leaves old new =
+    (leaf : ℕ) → Contains new (leaf, after) ↔ (Contains old (leaf, after) ⊎ Contains leaves leaf)
+
+-- the union's leaves are those that are kept and those of the part
+abbrev pub IsMadeOf : List Line → Kept → ℕ → ℕ → Type 0
+IsMadeOf lines kept root part = (leaf : ℕ) → IsOrLeaf lines root leaf
+    ↔ (Contains kept.question.negative.items (leaf, kept.after) ⊎ IsOrLeaf lines part leaf)
+
+-- the set is the union of what is kept and this part
+abbrev pub IsPartBeside : List Line → Option ℕ → ℕ → ℕ → Type 0
+IsPartBeside lines kept root part = (part < expr_count lines) × ((first : ℕ) × (kept ≡ Some first)
+    × ((expr_at lines root ≡ Some (E.Or first part))
+    ⊎ (expr_at lines root ≡ Some (E.Or part first))))
+
+-- the left side has the shape of the word, with the action set of its step if it has one
+abbrev pub IsLeftSide : List Line → Word → ℕ → Option ℕ → Type 0
+IsLeftSide lines word left None =
+    (word ≡ W.B1) × ((leaf : ℕ) → IsAndLeaf lines left leaf → IsLiteral lines leaf)
+IsLeftSide lines word left (Some acts) =
+    (step : ℕ) × (set : ℕ) × IsAndLeaf lines left step × IsStep lines word step set acts
+    × ((leaf : ℕ) → IsAndLeaf lines left leaf → IsLiteral lines leaf ⊎ (leaf ≡ step))
+    × ((leaf : ℕ) → IsAndLeaf lines set leaf → IsLiteral lines leaf)
+
+-- these are all that the left side asks about
+abbrev pub AreLeftAskings : List Line → Word → ℕ → List Asking → Type 0
+AreLeftAskings lines word left askings = (asking : Asking) → Contains askings asking
+    ↔ ((leaf : ℕ) × IsLeftLeaf lines word left leaf asking.after
+    × IsLiteralOf lines leaf asking.set asking.positive)
+
+-- the family of a statement, of whose right side this is the family
+abbrev pub IsFamilyBeside : List Line → List Asking → Option FormulaFamily → FormulaFamily → Type 0
+IsFamilyBeside lines askings None family = IsFamilyIn lines askings family
+IsFamilyBeside lines askings (Some kept) family =
+    (family ≡ kept)
+    × ((asking : Asking) → Contains askings asking → IsWithinFamily lines family asking.set)
+
+-- beside what is kept stands the question of the statement that the left set is within the right
+-- one
+pub record IsAskedBy (lines : List Line) (word : Word) (left right : ℕ) (kept : Kept) : Type 0 where
+  pub is : IsQuestion lines word left right (question_of kept.question)
+  pub negative : kept.query.negative
+      ≡ map (λ a. operand_of lines a) kept.question.negative.items
+
+-- the verdict is that of the statement that the left set is within the right one, which has the
+-- shape of the word
+abbrev pub IsVerdictOfSub : Setting → List Line → Word → ℕ → ℕ → Verdict → Type 0
+IsVerdictOfSub setting lines word left right verdict =
+    (question : Question) × IsQuestion lines word left right question
+    × IsVerdictOfSets setting lines question verdict

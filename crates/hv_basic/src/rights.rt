@@ -1,0 +1,270 @@
+//! Keeping what a right side asks: where it is the union of the one before and a further set, only
+//! that set is looked at.
+
+ghost use Rattle.std.specs.Prelude.{◌≡◌, ◌<◌, ◌++◌, ◌∷◌, ◌↔◌, ℕ, Bool, true, [], None, Some, IfOk, IfSome, length};
+ghost use Rattle.std.specs.List.{All, Contains};
+ghost use Rattle.hv_lines.specs.Literals.{IsPlainSet};
+ghost use Rattle.hv_lines.specs.Numbering.{expr_count};
+ghost use Rattle.hv_lines.specs.Shapes.{AskingsRise};
+ghost use Rattle.hv_basic.specs.Sharing.{ArePlain, IsShared};
+ghost use Rattle.hv_basic.specs.Working.Sharing.{AreAddedTo, AreSetNames, IsFamilyWith, IsMadeOf, IsPartBeside};
+
+use crate::families::family_of;
+use crate::leaves::{Side, leaves};
+use crate::literals::literal_of;
+use crate::shared::Kept;
+use hv_lines::{Expr, FormulaFamily, Table};
+use hv_sets::{Operand, Operands, Which};
+use std::alloc::{AllocError, Global};
+
+/// Has the right side kept, asked about after the action (true) or before it, if it is a union of
+/// formulas and constants of one family: whether it is kept.
+pub(crate) fn keep_right(
+    alloc: Global,
+    table: &Table,
+    names: &[Which],
+    kept: &mut Kept,
+    root: usize,
+    after: bool,
+) -> Result<bool, AllocError>
+    requires root { root < expr_count table.now.lines }
+    requires names { AreSetNames table.now.lines names.now }
+    requires kept { IsShared table.now.lines kept.old }
+    ensures kept { IsShared table.now.lines kept.new }
+    ensures root { IfOk result (λ yes. yes ≡ true → kept.new.root ≡ Some root) }
+    ensures after { IfOk result (λ yes. yes ≡ true → kept.new.after ≡ after) }
+{
+    if is_kept(kept, root, after) {
+        return Ok(true);
+    }
+    if extend(alloc, table, names, kept, root, after)? {
+        return Ok(true);
+    }
+    renew(alloc, table, names, kept, root, after)
+}
+
+fn is_kept(kept: &Kept, root: usize, after: bool) -> bool
+    ensures root { result ≡ true → kept.now.root ≡ Some root }
+    ensures after { result ≡ true → kept.now.after ≡ after }
+{
+    kept.root == Some(root) && kept.after == after
+}
+
+/// Adds the further set, where the right side is the union of the one that is kept and that set.
+fn extend(
+    alloc: Global,
+    table: &Table,
+    names: &[Which],
+    kept: &mut Kept,
+    root: usize,
+    after: bool,
+) -> Result<bool, AllocError>
+    requires root { root < expr_count table.now.lines }
+    requires names { AreSetNames table.now.lines names.now }
+    requires kept { IsShared table.now.lines kept.old }
+    ensures kept { IsShared table.now.lines kept.new }
+    ensures root { IfOk result (λ yes. yes ≡ true → kept.new.root ≡ Some root) }
+    ensures after { IfOk result (λ yes. yes ≡ true → kept.new.after ≡ after) }
+{
+    if kept.after != after {
+        return Ok(false);
+    }
+    match part_beside(table, kept.root, root) {
+        None => Ok(false),
+        Some(part) => grow(alloc, table, names, kept, root, part),
+    }
+}
+
+/// Keeps the union in place of what was kept.
+fn renew(
+    alloc: Global,
+    table: &Table,
+    names: &[Which],
+    kept: &mut Kept,
+    root: usize,
+    after: bool,
+) -> Result<bool, AllocError>
+    requires root { root < expr_count table.now.lines }
+    requires names { AreSetNames table.now.lines names.now }
+    requires kept { IsShared table.now.lines kept.old }
+    ensures kept { IsShared table.now.lines kept.new }
+    ensures root { IfOk result (λ yes. yes ≡ true → kept.new.root ≡ Some root) }
+    ensures after { IfOk result (λ yes. yes ≡ true → kept.new.after ≡ after) }
+{
+    let _count = table.expr_count();
+    if !is_union(table.expr(root)) {
+        return Ok(false);
+    }
+    clear(alloc, kept, after);
+    grow(alloc, table, names, kept, root, root)
+}
+
+fn is_union(expr: &Expr) -> bool {
+    match expr {
+        Expr::Or(_, _) => true,
+        _ => false,
+    }
+}
+
+fn clear(alloc: Global, kept: &mut Kept, after: bool)
+    ensures root { kept.new.root ≡ None }
+    ensures after { kept.new.after ≡ after }
+    ensures family { kept.new.family ≡ None }
+    ensures asked { kept.new.question.negative.items ≡ [] }
+    ensures operands { kept.new.query.negative ≡ [] }
+{
+    kept.root = None;
+    kept.after = after;
+    kept.family = None;
+    kept.question.negative = Vec::new(alloc);
+    kept.query.negative = Operands::new(alloc);
+}
+
+/// The other part of the union, where one part is what is kept.
+fn part_beside(table: &Table, kept: Option<usize>, root: usize) -> Option<usize>
+    requires { root < expr_count table.now.lines }
+    ensures { IfSome result (IsPartBeside table.now.lines kept root) }
+{
+    match table.expr(root) {
+        Expr::Or(left, right) => {
+            if kept == Some(*left) {
+                Some(*right)
+            } else if kept == Some(*right) {
+                Some(*left)
+            } else {
+                None
+            }
+        }
+        _ => None,
+    }
+}
+
+/// Adds the leaves of a part, by which what is kept becomes the union's.
+fn grow(
+    alloc: Global,
+    table: &Table,
+    names: &[Which],
+    kept: &mut Kept,
+    root: usize,
+    part: usize,
+) -> Result<bool, AllocError>
+    requires root { root < expr_count table.now.lines }
+    requires part { part < expr_count table.now.lines }
+    requires names { AreSetNames table.now.lines names.now }
+    requires plain { ArePlain table.now.lines kept.old.after kept.old.family
+        kept.old.question.negative.items kept.old.query.negative }
+    requires made { IsMadeOf table.now.lines kept.old root part }
+    ensures kept { IsShared table.now.lines kept.new }
+    ensures root { IfOk result (λ yes. yes ≡ true → kept.new.root ≡ Some root) }
+    ensures after { kept.new.after ≡ kept.old.after }
+{
+    kept.root = None;
+    let leaves = leaves(alloc, table, Side::Right, part)?;
+    if !add_all(
+        table,
+        names,
+        kept.after,
+        &leaves,
+        &mut kept.family,
+        &mut kept.question.negative,
+        &mut kept.query.negative,
+    )? {
+        return Ok(false);
+    }
+    kept.root = Some(root);
+    Ok(true)
+}
+
+/// Adds the leaves, of which the oldest is the last: whether each could be added.
+fn add_all(
+    table: &Table,
+    names: &[Which],
+    after: bool,
+    leaves: &[usize],
+    family: &mut Option<FormulaFamily>,
+    asked: &mut Vec<(usize, bool)>,
+    operands: &mut Operands,
+) -> Result<bool, AllocError>
+    requires leaves { All (λ leaf. leaf < expr_count table.now.lines) leaves.now }
+    requires names { AreSetNames table.now.lines names.now }
+    requires plain { ArePlain table.now.lines after family.old asked.old.items operands.old }
+    ensures plain { IfOk result (λ yes. yes ≡ true
+        → ArePlain table.now.lines after family.new asked.new.items operands.new) }
+    ensures added { IfOk result (λ yes. yes ≡ true
+        → AreAddedTo after leaves.now asked.old.items asked.new.items) }
+{
+    for count in 0..leaves.len() {
+        let leaf = leaves[leaves.len() - 1 - count];
+        if !add_one(table, names, after, leaf, family, asked, operands)? {
+            return Ok(false);
+        }
+    }
+    Ok(true)
+}
+
+/// Adds the leaf, if it is a formula or constant, its identifier comes after those before, and no
+/// other family comes in by it.
+fn add_one(
+    table: &Table,
+    names: &[Which],
+    after: bool,
+    leaf: usize,
+    family: &mut Option<FormulaFamily>,
+    asked: &mut Vec<(usize, bool)>,
+    operands: &mut Operands,
+) -> Result<bool, AllocError>
+    requires leaf { leaf < expr_count table.now.lines }
+    requires names { AreSetNames table.now.lines names.now }
+    requires plain { ArePlain table.now.lines after family.old asked.old.items operands.old }
+    ensures plain { IfOk result (λ yes. yes ≡ true
+        → ArePlain table.now.lines after family.new asked.new.items operands.new) }
+    ensures added { IfOk result (λ yes. yes ≡ true
+        → asked.new.items ≡ asked.old.items ++ (leaf, after) ∷ []) }
+{
+    if !is_plain(table, leaf) || !is_later(asked, leaf) {
+        return Ok(false);
+    }
+    let Some(both) = family_with(*family, family_of(table.expr(leaf))) else {
+        return Ok(false);
+    };
+    operands.push(Operand {
+        which: names[leaf],
+        id: leaf,
+        after,
+    })?;
+    asked.push((leaf, after))?;
+    *family = both;
+    Ok(true)
+}
+
+fn is_plain(table: &Table, set: usize) -> bool
+    requires { set < expr_count table.now.lines }
+    ensures { result ≡ true → IsPlainSet table.now.lines set }
+{
+    match literal_of(table, set) {
+        Some(literal) => literal.is_plain,
+        None => false,
+    }
+}
+
+/// Whether the identifier comes after those of what is asked about.
+fn is_later(asked: &[(usize, bool)], leaf: usize) -> bool
+    requires { AskingsRise asked.now }
+    ensures { result ≡ true → (a : ℕ × Bool) → Contains asked.now a → a.0 < leaf }
+{
+    asked.is_empty() || asked[asked.len() - 1].0 < leaf
+}
+
+/// The family of the formulas so far and of a further set, each of which may have none.
+fn family_with(
+    family: Option<FormulaFamily>,
+    next: Option<FormulaFamily>,
+) -> Option<Option<FormulaFamily>>
+    ensures { IfSome result (IsFamilyWith family next) }
+{
+    match (family, next) {
+        (None, _) => Some(next),
+        (Some(_), None) => Some(family),
+        (Some(first), Some(second)) => { if first == second { Some(family) } else { None } }
+    }
+}
