@@ -28,7 +28,8 @@ use Rattle.hv_lines.proofs.Carried.{expr_onto, known_onto}
 use Rattle.hv_lines.proofs.Drafting.{below_three, below_two, concludes, formed_expr, formed_known, good_conclusion, good_expr, good_prelude, good_rule, table_of}
 use Rattle.hv_lines.proofs.Laws.{acts_below, expr_at_here, expr_below, known_below, set_in, set_out, statement_at_here}
 use Rattle.hv_lines.proofs.Lengths.{IsSmall, short_after, short_and, short_horn, short_known, short_or}
-use Rattle.hv_reach.specs.Written.{IsDeadEnd, IsDenial, Separates, dead_block, horn_proof, with_budget}
+use Rattle.hv_reach.specs.Written.{IsDenial, dead_block, horn_proof, with_budget}
+use Rattle.hv_reach.specs.Working.Written.{IsDeadEnd, Separates}
 
 -- what a clause of denials is: Horn, small, and over the task's atoms
 

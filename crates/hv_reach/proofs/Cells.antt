@@ -8,11 +8,11 @@ use Rattle.hv_task.specs.Atoms.{IsNext}
 use Rattle.hv_task.specs.State.{has_atom}
 use Rattle.hv_reach.proofs.Sets.{has_within, missing_set, set_cases, set_grows, set_has}
 use Rattle.hv_reach.specs.Reached.{has_pair}
-use Rattle.hv_reach.specs.Table.{AreRaised, IsNextNew, IsPairStep, IsTable, missing_cells, set_at, set_both}
-use Rattle.hv_reach.specs.Waiting.{missing}
+use Rattle.hv_reach.specs.Working.Table.{AreRaised, IsNextNew, IsPairStep, IsPairTable, missing_cells, set_at, set_both}
+use Rattle.hv_reach.specs.Working.Waiting.{missing}
 
 -- a cell that is set lies within the table
-pub at_within : (n : ℕ) (rows : List (List Bool)) (p q : ℕ) → IsTable n rows → has_pair rows p q ≡ true → (p < n) × (q < n)
+pub at_within : (n : ℕ) (rows : List (List Bool)) (p q : ℕ) → IsPairTable n rows → has_pair rows p q ≡ true → (p < n) × (q < n)
 at_within n rows p q table h =
     elim (cases_lt p (length rows)) [
       | inl lt ↦ let e = has_within (get_or rows p []) q h in let f = table.each p [] lt in let g = table.size in (omega arith, omega arith)
@@ -79,14 +79,14 @@ set_at_size n rows p q less each = λ i d within.
       | inr e ↦ subst (λ (r : List Bool). length r ≡ n) (sym (get_or-set_other rows p i (set (get_or rows p []) q true) d (λ f. e (sym f)))) (each i d in_rows)
     ]
 
-pub row_length : (n : ℕ) (rows : List (List Bool)) (p q : ℕ) → IsTable n rows → p < n → q < n → (p < length rows) × (q < length (get_or rows p []))
+pub row_length : (n : ℕ) (rows : List (List Bool)) (p q : ℕ) → IsPairTable n rows → p < n → q < n → (p < length rows) × (q < length (get_or rows p []))
 row_length n rows p q table p_less q_less =
     let size = table.size in
     let less : p < length rows = omega arith in
     let e = table.each p [] less in
     (less, omega arith)
 
-second : (n : ℕ) (rows : List (List Bool)) (p q : ℕ) → IsTable n rows → p < n → q < n → (q < length (set_at rows p q)) × (p < length (get_or (set_at rows p q) q []))
+second : (n : ℕ) (rows : List (List Bool)) (p q : ℕ) → IsPairTable n rows → p < n → q < n → (q < length (set_at rows p q)) × (p < length (get_or (set_at rows p q) q []))
 second n rows p q table p_less q_less =
     let size = table.size in
     let in_row = row_length n rows p q table p_less q_less in
@@ -94,7 +94,7 @@ second n rows p q table p_less q_less =
     let e = set_at_size n rows p q in_row.0 table.each q [] less in
     (less, omega arith)
 
-pub both_cases : (n : ℕ) (rows : List (List Bool)) (p q i j : ℕ) → IsTable n rows → p < n → q < n → has_pair (set_both rows p q) i j ≡ true
+pub both_cases : (n : ℕ) (rows : List (List Bool)) (p q i j : ℕ) → IsPairTable n rows → p < n → q < n → has_pair (set_both rows p q) i j ≡ true
     → (has_pair rows i j ≡ true) ⊎ (((p ≡ i) × (q ≡ j)) ⊎ ((q ≡ i) × (p ≡ j)))
 both_cases n rows p q i j table p_less q_less h =
     let a = row_length n rows p q table p_less q_less in
@@ -104,20 +104,20 @@ both_cases n rows p q i j table p_less q_less h =
       | inr o ↦ inr (inr o)
     ]
 
-pub both_grows : (n : ℕ) (rows : List (List Bool)) (p q i j : ℕ) → IsTable n rows → p < n → q < n → has_pair rows i j ≡ true → has_pair (set_both rows p q) i j ≡ true
+pub both_grows : (n : ℕ) (rows : List (List Bool)) (p q i j : ℕ) → IsPairTable n rows → p < n → q < n → has_pair rows i j ≡ true → has_pair (set_both rows p q) i j ≡ true
 both_grows n rows p q i j table p_less q_less h =
     let a = row_length n rows p q table p_less q_less in
     let b = second n rows p q table p_less q_less in
     set_at_grows (set_at rows p q) q p i j b.0 b.1 (set_at_grows rows p q i j a.0 a.1 h)
 
-pub both_has : (n : ℕ) (rows : List (List Bool)) (p q : ℕ) → IsTable n rows → p < n → q < n → (has_pair (set_both rows p q) p q ≡ true) × (has_pair (set_both rows p q) q p ≡ true)
+pub both_has : (n : ℕ) (rows : List (List Bool)) (p q : ℕ) → IsPairTable n rows → p < n → q < n → (has_pair (set_both rows p q) p q ≡ true) × (has_pair (set_both rows p q) q p ≡ true)
 both_has n rows p q table p_less q_less =
     let a = row_length n rows p q table p_less q_less in
     let b = second n rows p q table p_less q_less in
     (set_at_grows (set_at rows p q) q p p q b.0 b.1 (set_at_has rows p q a.0 a.1), set_at_has (set_at rows p q) q p b.0 b.1)
 
 -- a new pair makes a step
-pub mark_step : (n : ℕ) (rows : List (List Bool)) (flags raised : List Bool) (p q : ℕ) → IsTable n rows → p < n → q < n → has_pair rows p q ≡ false
+pub mark_step : (n : ℕ) (rows : List (List Bool)) (flags raised : List Bool) (p q : ℕ) → IsPairTable n rows → p < n → q < n → has_pair rows p q ≡ false
     → (p ≡ q) ⊎ ((has_pair rows p p ≡ true) × (has_pair rows q q ≡ true)) → length raised ≡ length flags
     → ((x : ℕ) → has_atom flags x ≡ true → has_atom raised x ≡ true) → AreRaised n raised p q → IsPairStep n rows flags (set_both rows p q) raised true
 mark_step n rows flags raised p q table p_less q_less unset diagonal size stay up =
@@ -182,7 +182,7 @@ at_none n rows each p q =
       | inr ge ↦ ap (λ (r : List Bool). has_atom r q) (get_or_past rows p [] ge)
     ]
 
-pub table_none : (n : ℕ) (rows : List (List Bool)) → length rows ≡ n → All (λ (row : List Bool). row ≡ replicate n false) rows → IsTable n rows
+pub table_none : (n : ℕ) (rows : List (List Bool)) → length rows ≡ n → All (λ (row : List Bool). row ≡ replicate n false) rows → IsPairTable n rows
 table_none n rows size each = record {
   size = size;
   each = λ i d less. ap (λ (r : List Bool). length r) (each i d less) ∙ length-replicate n false;

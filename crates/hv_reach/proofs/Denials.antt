@@ -12,8 +12,10 @@ use Rattle.hv_sets.specs.Truth.{in_clause, in_clauses}
 use Rattle.hv_sets.specs.declared.literal.Literal.{Literal}
 use Rattle.hv_reach.specs.Reached.{ClosedAtoms, ClosedPairs, HasPairsOf, LeavesAlone, ReachedAtom, ReachedPair}
 use Rattle.hv_lines.specs.Meaning.{StateSet}
-use Rattle.hv_reach.specs.Pruners.{IsReason, PairsCover}
-use Rattle.hv_reach.specs.Written.{IsDeadEnd, IsDenial, PairsExclude, PairsExcludeFrom, RelaxedExcludes, RelaxedExcludesFrom, Separates, atom_clauses, denied, pair_clauses, pairs_formula, relaxed_formula, row_clauses}
+use Rattle.hv_reach.specs.Pruners.{PairsCover}
+use Rattle.hv_reach.specs.Working.Pruners.{ShowsWhyDead}
+use Rattle.hv_reach.specs.Written.{IsDenial, PairsExclude, PairsExcludeFrom, RelaxedExcludes, RelaxedExcludesFrom, atom_clauses, denied, pair_clauses, pairs_formula, relaxed_formula, row_clauses}
+use Rattle.hv_reach.specs.Working.Written.{IsDeadEnd, Separates}
 use Rattle.hv_reach.proofs.Lists.{All-below, All-flat_map, All-range, all_pass, in_range, length-pieces, pieces_pass}
 use Rattle.hv_reach.proofs.Sets.{has_within}
 
@@ -343,7 +345,7 @@ module _ (task : Strips) (start : List Bool) (r : ℕ → Bool) (is : (p : ℕ) 
   }
 
   -- it holds the state from which the atoms are reached, and only states from which the same goal atom isn't reached
-  pub relaxed_reason : IsReason task (RelaxedExcludesFrom task) start (relaxed_formula (atoms task) r)
+  pub relaxed_reason : ShowsWhyDead task (RelaxedExcludesFrom task) start (relaxed_formula (atoms task) r)
   relaxed_reason = record {
     dead = relaxed_dead;
     holds = relaxed_from (atoms task) start is_start r atom_closed.begins;
@@ -376,7 +378,7 @@ module _ (task : Strips) (start : List Bool) (r : ℕ → ℕ → Bool) (is : (p
   }
 
   -- it holds the state from which the pairs are reached, and only states from which the same goal pair isn't reached
-  pub pairs_reason : IsReason task (PairsCover task) start (pairs_formula (atoms task) r)
+  pub pairs_reason : ShowsWhyDead task (PairsCover task) start (pairs_formula (atoms task) r)
   pairs_reason = record {
     dead = pairs_dead;
     holds = pairs_from (atoms task) start is_start r pair_closed.begins;
@@ -398,7 +400,7 @@ module _ (task : Strips) (start : List Bool) (r : ℕ → ℕ → Bool) (is : (p
   }
 
 -- a formula that shows why the initial state is dead separates it from the goal
-pub reason_separates : (task : Strips) (covered : StateSet) (clauses : List (List Literal)) → IsReason task covered (start_state task) clauses
+pub reason_separates : (task : Strips) (covered : StateSet) (clauses : List (List Literal)) → ShowsWhyDead task covered (start_state task) clauses
     → Separates task clauses
 reason_separates task covered clauses reason = record { dead = reason.dead; starts = reason.holds }
 

@@ -1,19 +1,22 @@
 -- What is kept of the notes: it tells which states a note's formula holds.
-use Rattle.std.proofs.Common.{◌≡◌, ◌&&◌, ◌++◌, ℕ, zero, suc, ◌+◌, ◌<◌, Bool, true, false, not, List, [], ◌∷◌, Option, Some, None, length, get_or, slice_get, is_some, refl, inl, inr, subst, arith, length-append}
-use Rattle.std.proofs.lemmas.List.{get_or_default}
+use Rattle.std.proofs.Common.{◌≡◌, ◌&&◌, ◌++◌, ℕ, zero, suc, ◌+◌, ◌<◌, ◌≤◌, ◌∙◌, Bool, true, false, not, List, [], ◌∷◌, Option, Some, None, length, get_or, slice_get, is_some, refl, sym, ap, inl, inr, subst, arith, length-append}
+use Rattle.std.proofs.lemmas.List.{get_or_append_left, get_or_default}
 use Rattle.std.proofs.lemmas.List.Elements.{All-contains}
-use Rattle.std.proofs.lemmas.Bool.{cases_eq}
-use Rattle.std.proofs.lemmas.Option.{same_Some, slice_get_cases, slice_get_within}
+use Rattle.std.proofs.lemmas.Bool.{cases_eq, cases_lt}
+use Rattle.std.proofs.lemmas.Option.{same_Some, slice_get_cases, slice_get-get_or, slice_get_within}
+use Rattle.std.proofs.Math.Seq.{get_or-append_seam}
 use Rattle.std.specs.Option.{IfSome}
 use Rattle.std.specs.List.{All}
 use Rattle.hv_task.specs.AtomList.{IsListOf}
 use Rattle.hv_task.specs.Atoms.{IsNext}
 use Rattle.hv_task.specs.State.{AreBelow, has_atom}
 use Rattle.hv_task.specs.Strips.{Strips, IsState, atoms}
-use Rattle.hv_lines.specs.Pruning.{IsFirstNoted, states_in}
+use Rattle.hv_lines.specs.Pruning.{IsFirstNoted, NoneNoted, states_in}
 use Rattle.hv_lines.specs.declared.line.Line.{Line}
 use Rattle.hv_lines.specs.declared.note.Note.{Note}
+use Rattle.hv_reach.specs.Working.NoteRows.{IsDiagonal, IsFirstPlace, RowHas}
 use Rattle.hv_reach.specs.Pruners.{AreDescribed, Describes, HoldsAtomsOf, HoldsPairsOf}
+use Rattle.hv_reach.specs.Working.Pruners.{AreDiagonals}
 use Rattle.hv_reach.specs.Reached.{HasPairsOf, has_pair}
 use Rattle.hv_reach.proofs.Sets.{has_within}
 
@@ -86,6 +89,14 @@ module _ (state : List Bool) (held : List ℕ) (listed : IsListOf state held) (t
   pub table_listed : HoldsPairsOf table state → HasPairsOf (has_pair table) held
   table_listed holds i d less j e below = holds (get_or held i d) (get_or held j e) (in_state i d less) (in_state j e below)
 
+-- the same of a row that is kept by atom too
+module _ (state : List Bool) (held : List ℕ) (listed : IsListOf state held) (rows : List (List Bool)) (k : ℕ) where
+  pub row_told : RowHas rows held k → HoldsAtomsOf (get_or rows k []) state
+  row_told all p has = All-contains (λ y. has_pair rows k y ≡ true) held p all ((listed.has p).1 (has_within state p has, has))
+
+  pub row_listed : HoldsAtomsOf (get_or rows k []) state → RowHas rows held k
+  row_listed holds i d less = holds (get_or held i d) (in_state state held listed rows i d less)
+
 -- what is kept for a note is over the task's atoms
 pub described_size : {X : Type 0} (Holds : List X → List Bool → Type 0) (task : Strips) (lines : List Line) (notes : List Note)
     (reached : List (List X)) → AreDescribed Holds task lines notes reached → (k : ℕ) (item : List X) → slice_get reached k ≡ Some item
@@ -127,3 +138,91 @@ module _ {X : Type 0} (Holds : List X → List Bool → Type 0) (task : Strips) 
     holds = ((described_at Holds task lines notes reached fact place note item at also).1 state is_state).1 holds;
     first = before;
   }
+
+-- the rows are over the task's atoms
+pub described_over : {X : Type 0} (Holds : List X → List Bool → Type 0) (task : Strips) (lines : List Line) (notes : List Note)
+    (reached : List (List X)) → AreDescribed Holds task lines notes reached → (k : ℕ) → k < length reached → length (get_or reached k []) ≡ atoms task
+described_over Holds task lines notes reached fact k less =
+    described_size Holds task lines notes reached fact k (get_or reached k []) (slice_get-get_or reached k [] less)
+
+-- the first note whose row has each atom of the state
+module _ (task : Strips) (lines : List Line) (notes : List Note) (reached : List (List Bool)) (fact : AreDescribed HoldsAtomsOf task lines notes reached)
+    (state : List Bool) (is_state : IsState task state) (held : List ℕ) (listed : IsListOf state held) where
+  pub atoms_below : (k : ℕ) → k < length reached → AreBelow (length (get_or reached k [])) held
+  atoms_below k less =
+      subst (λ n. AreBelow n held) (is_state ∙ sym (described_over HoldsAtomsOf task lines notes reached fact k less)) (listed_below state held listed reached)
+
+  lacks_row : (k : ℕ) (note : Note) → slice_get notes k ≡ Some note → (k < length reached → RowHas reached held k → ⊥)
+      → states_in task lines note.set state → ⊥
+  lacks_row k note at lacks inside =
+      let less : k < length reached = let same = fact.0 in omega (arith, same, slice_get_within notes k note at) in
+      lacks_here HoldsAtomsOf task lines notes reached fact state is_state k (get_or reached k []) (slice_get-get_or reached k [] less)
+      (λ holds. lacks less (row_listed state held listed reached k holds)) note at inside
+
+  pub none_of_rows : IsFirstPlace (RowHas reached held) (length reached) 0 None → NoneNoted task lines notes state
+  none_of_rows none k note at = lacks_row k note at (λ less has. none k (omega arith) less has)
+
+  pub first_of_rows : (place : ℕ) (note : Note) → slice_get notes place ≡ Some note
+      → IsFirstPlace (RowHas reached held) (length reached) 0 (Some place) → IsFirstNoted task lines notes state note.line
+  first_of_rows place note at told =
+      first_here HoldsAtomsOf task lines notes reached fact state is_state place (get_or reached place []) (slice_get-get_or reached place [] told.1)
+      (row_told state held listed reached place told.2) note at
+      (λ k other less got. lacks_row k other got (λ below has. told.3 k (omega arith) less has))
+
+-- notes whose row of atoms lacks one of the state
+module _ (task : Strips) (lines : List Line) (notes : List Note) (reached : List (List (List Bool))) (fact : AreDescribed HoldsPairsOf task lines notes reached)
+    (rows : List (List Bool)) (diagonals : AreDiagonals rows reached) where
+  pub diagonals_over : (k : ℕ) → k < length rows → length (get_or rows k []) ≡ atoms task
+  diagonals_over k less =
+      let below : k < length reached = let same = diagonals.size in omega (arith, same, less) in
+      (diagonals.each k below).0 ∙ described_over HoldsPairsOf task lines notes reached fact k below
+
+module _ (task : Strips) (lines : List Line) (notes : List Note) (reached : List (List (List Bool))) (fact : AreDescribed HoldsPairsOf task lines notes reached)
+    (rows : List (List Bool)) (diagonals : AreDiagonals rows reached)
+    (state : List Bool) (is_state : IsState task state) (held : List ℕ) (listed : IsListOf state held) where
+  pub pair_atoms_below : (k : ℕ) → k < length rows → AreBelow (length (get_or rows k [])) held
+  pair_atoms_below k less = subst (λ n. AreBelow n held) (is_state ∙ sym (diagonals_over task lines notes reached fact rows diagonals k less)) (listed_below state held listed rows)
+
+  pub lacks_diagonal : (k : ℕ) (note : Note) → slice_get notes k ≡ Some note → (RowHas rows held k → ⊥) → states_in task lines note.set state → ⊥
+  lacks_diagonal k note at lacks inside =
+      let less : k < length reached = let same = fact.0 in omega (arith, same, slice_get_within notes k note at) in
+      lacks_here HoldsPairsOf task lines notes reached fact state is_state k (get_or reached k []) (slice_get-get_or reached k [] less)
+      (λ holds. lacks (λ i d below. ((diagonals.each k less).1 (get_or held i d)).1
+      (holds (get_or held i d) (get_or held i d) (in_state state held listed rows i d below) (in_state state held listed rows i d below)))) note at inside
+
+  -- all before a place, by those before an earlier one
+  pub none_between : (from place : ℕ) → ((k : ℕ) (note : Note) → k < from → slice_get notes k ≡ Some note → states_in task lines note.set state → ⊥)
+      → ((k : ℕ) → from ≤ k → k < place → RowHas rows held k → ⊥)
+      → (k : ℕ) (note : Note) → k < place → slice_get notes k ≡ Some note → states_in task lines note.set state → ⊥
+  none_between from place before between k note less at =
+      elim (cases_lt k from) [
+        | inl lt ↦ before k note lt at
+        | inr ge ↦ lacks_diagonal k note at (between k ge less)
+      ]
+
+  pub none_after : (from : ℕ) → ((k : ℕ) (note : Note) → k < from → slice_get notes k ≡ Some note → states_in task lines note.set state → ⊥)
+      → IsFirstPlace (RowHas rows held) (length rows) from None → NoneNoted task lines notes state
+  none_after from before none k note at =
+      none_between from (length rows) before (λ j ge less. none j ge less) k note
+      (let same = fact.0 in let also = diagonals.size in omega (arith, same, also, slice_get_within notes k note at)) at
+
+-- a note more
+pub diagonals_pushed : (rows : List (List Bool)) (tables : List (List (List Bool))) (row : List Bool) (table : List (List Bool))
+    → AreDiagonals rows tables → IsDiagonal row table → AreDiagonals (rows ++ row ∷ []) (tables ++ table ∷ [])
+diagonals_pushed rows tables row table diagonals last = record {
+  size = let same = diagonals.size in omega (arith, same, length-append rows (row ∷ []), length-append tables (table ∷ []));
+  each = λ k less.
+      elim (cases_eq k (length tables)) [
+        | inl e ↦
+            let seam : get_or (rows ++ row ∷ []) k [] ≡ row =
+            ap (λ n. get_or (rows ++ row ∷ []) n []) (e ∙ sym diagonals.size) ∙ get_or-append_seam rows row [] [] in
+            let also : get_or (tables ++ table ∷ []) k [] ≡ table =
+            ap (λ n. get_or (tables ++ table ∷ []) n []) e ∙ get_or-append_seam tables table [] [] in
+            subst (λ r. IsDiagonal r (get_or (tables ++ table ∷ []) k [])) (sym seam) (subst (IsDiagonal row) (sym also) last)
+        | inr e ↦
+            let below : k < length tables = omega (arith, e, less, length-append tables (table ∷ [])) in
+            subst (λ r. IsDiagonal r (get_or (tables ++ table ∷ []) k []))
+            (sym (get_or_append_left rows (row ∷ []) [] k (let same = diagonals.size in omega (arith, same, below))))
+            (subst (IsDiagonal (get_or rows k [])) (sym (get_or_append_left tables (table ∷ []) [] k below)) (diagonals.each k below))
+      ];
+}

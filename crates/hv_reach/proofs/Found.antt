@@ -5,9 +5,11 @@ use Rattle.hv_task.specs.Strips.{Strips, IsState, atoms, start_state}
 use Rattle.hv_sets.specs.Truth.{in_clauses}
 use Rattle.hv_sets.specs.declared.literal.Literal.{Literal}
 use Rattle.hv_lines.specs.declared.line.Line.{Line}
-use Rattle.hv_reach.specs.Pruners.{HoldsAtomsOf, HoldsPairsOf, IsPairsFormula, IsReason, IsRelaxedFormula, PairsCover}
+use Rattle.hv_reach.specs.Pruners.{HoldsAtomsOf, HoldsPairsOf, IsPairsFormula, IsRelaxedFormula, PairsCover}
+use Rattle.hv_reach.specs.Working.Pruners.{ShowsWhyDead}
 use Rattle.hv_reach.specs.Reached.{ReachedAtom, ReachedPair, has_pair}
-use Rattle.hv_reach.specs.Written.{IsPairsProof, IsRelaxedProof, PairsExcludeFrom, RelaxedExcludesFrom, Separates, horn_proof, pairs_formula, relaxed_formula}
+use Rattle.hv_reach.specs.Written.{IsPairsProof, IsRelaxedProof, PairsExcludeFrom, RelaxedExcludesFrom, horn_proof, pairs_formula, relaxed_formula}
+use Rattle.hv_reach.specs.Working.Written.{Separates}
 use Rattle.hv_reach.proofs.Denials.{pairs_closed, pairs_from, pairs_reason, pairs_separates, pairs_to, relaxed_from, relaxed_reason, relaxed_separates, relaxed_to}
 
 module _ (task : Strips) (reached : List Bool) (size : length reached ≡ atoms task) (start : List Bool)
@@ -20,9 +22,9 @@ module _ (task : Strips) (reached : List Bool) (size : length reached ≡ atoms 
   relaxed_found_formula = (has_atom reached, each, relaxed_is)
 
   pub relaxed_found_reason : atoms task ≤ 65535 → IsState task start → RelaxedExcludesFrom task start
-      → IsReason task (RelaxedExcludesFrom task) start clauses
+      → ShowsWhyDead task (RelaxedExcludesFrom task) start clauses
   relaxed_found_reason few is_state out =
-      subst (IsReason task (RelaxedExcludesFrom task) start) (sym relaxed_is)
+      subst (ShowsWhyDead task (RelaxedExcludesFrom task) start) (sym relaxed_is)
       (relaxed_reason task start (has_atom reached) each few is_state out)
 
   -- the states of the formula are those that hold reached atoms alone
@@ -54,9 +56,9 @@ module _ (task : Strips) (pairs : List (List Bool)) (start : List Bool)
   pairs_found_formula = (has_pair pairs, each, pairs_is)
 
   pub pairs_found_reason : atoms task ≤ 1024 → IsState task start → PairsExcludeFrom task start
-      → IsReason task (PairsCover task) start clauses
+      → ShowsWhyDead task (PairsCover task) start clauses
   pairs_found_reason few is_state out =
-      subst (IsReason task (PairsCover task) start) (sym pairs_is) (pairs_reason task start (has_pair pairs) each few is_state out)
+      subst (ShowsWhyDead task (PairsCover task) start) (sym pairs_is) (pairs_reason task start (has_pair pairs) each few is_state out)
 
   -- the states of the formula are those that hold reached pairs alone
   pub pairs_found_holds : (state : List Bool) → IsState task state → (in_clauses clauses state ≡ true) ↔ HoldsPairsOf pairs state

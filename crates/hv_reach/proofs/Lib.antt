@@ -13,4 +13,5 @@ pub mod Proofs
 pub mod Modest
 pub mod Found
 pub mod Described
+pub mod Entering
 pub mod Writing

@@ -22,7 +22,8 @@ use Rattle.hv_lines.specs.declared.line.Word.{Word}
 use Rattle.hv_lines.specs.declared.line.Word.TheVariants as W
 use Rattle.hv_lines.proofs.Drafting.{good_prelude}
 use Rattle.hv_lines.proofs.Lengths.{decimal_short, weight, weight-append}
-use Rattle.hv_reach.specs.Written.{IsDenial, IsModest, IsPairsProof, IsRelaxedProof, PairsExclude, RelaxedExcludes, Separates, horn_proof, pairs_formula, relaxed_formula, with_budget}
+use Rattle.hv_reach.specs.Written.{IsDenial, IsModest, IsPairsProof, IsRelaxedProof, PairsExclude, RelaxedExcludes, horn_proof, pairs_formula, relaxed_formula, with_budget}
+use Rattle.hv_reach.specs.Working.Written.{Separates}
 use Rattle.hv_reach.proofs.Block.{first, good_horn_proof, line5, line6}
 use Rattle.hv_reach.proofs.Denials.{pairs_denials, pairs_few, pairs_separates, relaxed_denials, relaxed_few, relaxed_separates}
 

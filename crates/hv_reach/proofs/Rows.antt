@@ -7,7 +7,7 @@ use Rattle.std.specs.List.{All}
 use Rattle.std.specs.Global.{Vec}
 use Rattle.hv_task.specs.declared.action.Action.{Action}
 use Rattle.hv_task.specs.State.{AreBelow}
-use Rattle.hv_reach.specs.Index.{IsIn, IsRange, RowsBelow}
+use Rattle.hv_reach.specs.Working.Index.{IsIn, IsRange, RowsBelow}
 
 -- an empty row more
 pub rows_push : (bound : ℕ) (rows : List (Vec ℕ)) (v : Vec ℕ) → v.items ≡ [] → RowsBelow bound rows → RowsBelow bound (rows ++ v ∷ [])

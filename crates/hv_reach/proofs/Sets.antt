@@ -5,7 +5,7 @@ use Rattle.std.proofs.lemmas.Bool.{cases_eq, cond-true, cond-false, eq-eqb, ne_e
 use Rattle.std.specs.List.{All}
 use Rattle.hv_task.specs.State.{has_atom}
 use Rattle.hv_task.proofs.Places.{has_atom-set}
-use Rattle.hv_reach.specs.Waiting.{missing}
+use Rattle.hv_reach.specs.Working.Waiting.{missing}
 
 -- an atom past the end is in no state
 pub has_within : (s : List Bool) (p : ℕ) → has_atom s p ≡ true → p < length s

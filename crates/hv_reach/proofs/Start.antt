@@ -8,9 +8,9 @@ use Rattle.hv_task.specs.State.{AreBelow, has_atom}
 use Rattle.hv_task.specs.Strips.{Strips}
 use Rattle.hv_task.specs.AtomList.{IsListOf}
 use Rattle.hv_reach.proofs.Sets.{has_within}
-use Rattle.hv_reach.specs.Index.{IsRange}
+use Rattle.hv_reach.specs.Working.Index.{IsRange}
 use Rattle.hv_reach.specs.Reached.{ArePaired, ClosedPairs, HasPairsOf}
-use Rattle.hv_reach.specs.Table.{AreReadyBut, IsEven, IsJoined, KeepAllPairs}
+use Rattle.hv_reach.specs.Working.Table.{HaveTheirPairsBut, IsEven, IsJoined, KeepAllPairs}
 
 pub listed_held : (s : List Bool) (held : List ℕ) → IsListOf s held → All (λ p. has_atom s p ≡ true) held
 listed_held s held listed = λ k d less. ((listed.has (get_or held k d)).0 (All-contains_itself held k d less)).1
@@ -32,7 +32,7 @@ paired_listed s held r listed paired p q hp hq =
     in_list x h = (listed.has x).1 (has_within s x h, h)
 
 pub ready_start : (n : ℕ) (actions : List Action) (numbers : List ℕ) (rows : List (List Bool)) (flags : List Bool) → IsRange (length actions) numbers
-    → AreReadyBut numbers 0 n actions rows flags
+    → HaveTheirPairsBut numbers 0 n actions rows flags
 ready_start n actions numbers rows flags range k a is =
     let less = slice_get_within actions k a is in
     let size = range.size in

@@ -6,9 +6,9 @@ use Rattle.std.specs.List.{All, Contains}
 use Rattle.hv_task.specs.declared.action.Action.{Action}
 use Rattle.hv_task.specs.State.{has_atom}
 use Rattle.hv_reach.specs.Reached.{ArePaired, LeavesAlone, has_pair}
-use Rattle.hv_reach.specs.Table.{IsJoined, IsPairStep, IsReady, IsTable, IsTrigger}
+use Rattle.hv_reach.specs.Working.Table.{IsJoined, IsPairStep, HasItsPairs, IsPairTable, IsTrigger}
 
-pub pair_step_none : (n : ℕ) (rows : List (List Bool)) (flags : List Bool) → IsTable n rows → IsPairStep n rows flags rows flags false
+pub pair_step_none : (n : ℕ) (rows : List (List Bool)) (flags : List Bool) → IsPairTable n rows → IsPairStep n rows flags rows flags false
 pair_step_none n rows flags table = record {
   table = table;
   size = refl;
@@ -90,7 +90,7 @@ pub paired_before : (n : ℕ) (old new : List (List Bool)) (flags raised : List 
 paired_before n old new flags raised m a qs step quiet h = λ i d less j e within.
     row_before n old new flags raised m (get_or a.pre i d) (get_or qs j e) step (quiet.pre i d less) (h i d less j e within)
 
-pub joined_before : (n : ℕ) (old new : List (List Bool)) (flags raised : List Bool) (m : Bool) (a : Action) (q : ℕ) → IsTable n old → IsPairStep n old flags new raised m
+pub joined_before : (n : ℕ) (old new : List (List Bool)) (flags raised : List Bool) (m : Bool) (a : Action) (q : ℕ) → IsPairTable n old → IsPairStep n old flags new raised m
     → IsQuiet n raised a → IsJoined (has_pair new) a.pre q → IsJoined (has_pair old) a.pre q
 joined_before n old new flags raised m a q table step quiet h = (
   elim (cases_eq (length a.pre) 0) [
@@ -102,8 +102,8 @@ joined_before n old new flags raised m a q table step quiet h = (
 )
 
 -- an action that was ready is ready after a step
-pub ready_step : (n : ℕ) (old new : List (List Bool)) (flags raised : List Bool) (m : Bool) (a : Action) → IsTable n old → IsPairStep n old flags new raised m
-    → IsReady n old flags a → IsReady n new raised a
+pub ready_step : (n : ℕ) (old new : List (List Bool)) (flags raised : List Bool) (m : Bool) (a : Action) → IsPairTable n old → IsPairStep n old flags new raised m
+    → HasItsPairs n old flags a → HasItsPairs n new raised a
 ready_step n old new flags raised m a table step h =
     elim h [
       | inr w ↦ inr (w.0, w.1, step.stay w.0 w.2)
@@ -120,8 +120,8 @@ ready_step n old new flags raised m a table step h =
     ]
 
 -- an action whose pairs were put in, and then those with each atom that was joined, is ready
-pub ready_visited : (n : ℕ) (mid new : List (List Bool)) (flags raised : List Bool) (m : Bool) (a : Action) → IsTable n mid → IsPairStep n mid flags new raised m
-    → ArePaired (has_pair mid) a.add a.add → ((q : ℕ) → LeavesAlone a q → IsJoined (has_pair mid) a.pre q → All (λ p. has_pair new p q ≡ true) a.add) → IsReady n new raised a
+pub ready_visited : (n : ℕ) (mid new : List (List Bool)) (flags raised : List Bool) (m : Bool) (a : Action) → IsPairTable n mid → IsPairStep n mid flags new raised m
+    → ArePaired (has_pair mid) a.add a.add → ((q : ℕ) → LeavesAlone a q → IsJoined (has_pair mid) a.pre q → All (λ p. has_pair new p q ≡ true) a.add) → HasItsPairs n new raised a
 ready_visited n mid new flags raised m a table step both other =
     elim (quiet_or n raised a) [
       | inl w ↦ inr w
@@ -132,7 +132,7 @@ ready_visited n mid new flags raised m a table step both other =
     ]
 
 -- an action whose precondition isn't paired is ready
-pub ready_unpaired : (n : ℕ) (rows : List (List Bool)) (flags : List Bool) (a : Action) → (ArePaired (has_pair rows) a.pre a.pre → ⊥) → IsReady n rows flags a
+pub ready_unpaired : (n : ℕ) (rows : List (List Bool)) (flags : List Bool) (a : Action) → (ArePaired (has_pair rows) a.pre a.pre → ⊥) → HasItsPairs n rows flags a
 ready_unpaired n rows flags a h = inl (record { both = λ paired. absurd (h paired); other = λ q free paired joined. absurd (h paired) })
 
 -- one more of a list is done, and the others stay so

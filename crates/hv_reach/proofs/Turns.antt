@@ -11,11 +11,11 @@ use Rattle.hv_task.proofs.Places.{has_atom-set, names_atom-Decides}
 use Rattle.hv_task.proofs.Next.{unnamed}
 use Rattle.hv_reach.proofs.Sets.{has_within}
 use Rattle.hv_reach.proofs.Steps.{cases_bool, or_false, or_true, ready_step}
-use Rattle.hv_reach.specs.Index.{IsIn, IsIndex}
+use Rattle.hv_reach.specs.Working.Index.{IsIn, IsActionIndex}
 use Rattle.hv_reach.specs.Reached.{has_pair}
-use Rattle.hv_reach.specs.Table.{AreReady, AreReadyBut, IsPairStep, IsReady, IsTable, IsTrigger, IsTurn, KeepAllPairs, missing_cells}
+use Rattle.hv_reach.specs.Working.Table.{HaveTheirPairs, HaveTheirPairsBut, IsPairStep, HasItsPairs, IsPairTable, IsTrigger, IsTurn, KeepAllPairs, missing_cells}
 
-pub turn_none : (n : ℕ) (rows : List (List Bool)) (flags : List Bool) → IsTable n rows → IsTurn n rows flags rows flags false
+pub turn_none : (n : ℕ) (rows : List (List Bool)) (flags : List Bool) → IsPairTable n rows → IsTurn n rows flags rows flags false
 turn_none n rows flags table = record { table = table; size = refl; grows = λ p q h. h; still = λ m x h. h; fewer = omega arith; falls = λ m. absurd cc }
 
 pub turn_both : (n : ℕ) (a b c : List (List Bool)) (f g h : List Bool) (m k : Bool) → IsTurn n a f b g m → IsTurn n b g c h k → IsTurn n a f c h (m || k)
@@ -63,7 +63,7 @@ lowered_after n old new flags raised x m step e =
 
 -- where a flag is lowered, each action is ready or one of those that the flag stands for
 pub ready_lowered : (n : ℕ) (actions : List Action) (index : List (Vec ℕ)) (row : Vec ℕ) (rows : List (List Bool)) (flags : List Bool) (x : ℕ)
-    → IsIndex n actions index → slice_get index x ≡ Some row → AreReady n actions rows flags → AreReadyBut row.items 0 n actions rows (set flags x false)
+    → IsActionIndex n actions index → slice_get index x ≡ Some row → HaveTheirPairs n actions rows flags → HaveTheirPairsBut row.items 0 n actions rows (set flags x false)
 ready_lowered n actions index row rows flags x is_index at_row ready k a is =
     elim (ready k a is) [
       | inl keeps ↦ inl (inl keeps)
@@ -85,13 +85,13 @@ ready_lowered n actions index row rows flags x is_index at_row ready k a is =
 
 -- after a visit of one more
 pub ready_more : (n : ℕ) (actions : List Action) (numbers : List ℕ) (i x : ℕ) (old new : List (List Bool)) (flags raised : List Bool) (m : Bool) (b : Action)
-    → x ≡ get_or numbers i 0 → IsTable n old → IsPairStep n old flags new raised m → AreReadyBut numbers i n actions old flags
-    → slice_get actions x ≡ Some b → IsReady n new raised b → AreReadyBut numbers (i + 1) n actions new raised
+    → x ≡ get_or numbers i 0 → IsPairTable n old → IsPairStep n old flags new raised m → HaveTheirPairsBut numbers i n actions old flags
+    → slice_get actions x ≡ Some b → HasItsPairs n new raised b → HaveTheirPairsBut numbers (i + 1) n actions new raised
 ready_more n actions numbers i x old new flags raised m b e table step before at_x here k a is =
     elim (cases_eq k x) [
       | inl same ↦
           let f : b ≡ a = let g = subst (λ j. slice_get actions j ≡ Some a) same is in cc in
-          inl (subst (λ (y : Action). IsReady n new raised y) f here)
+          inl (subst (λ (y : Action). HasItsPairs n new raised y) f here)
       | inr other ↦
           elim (before k a is) [
             | inl s ↦ inl (ready_step n old new flags raised m a table step s)
@@ -107,7 +107,7 @@ ready_more n actions numbers i x old new flags raised m b e table step before at
         ]
 
 pub ready_last : (n : ℕ) (actions : List Action) (numbers : List ℕ) (i : ℕ) (rows : List (List Bool)) (flags : List Bool) → length numbers ≤ i
-    → AreReadyBut numbers i n actions rows flags → AreReady n actions rows flags
+    → HaveTheirPairsBut numbers i n actions rows flags → HaveTheirPairs n actions rows flags
 ready_last n actions numbers i rows flags past h k a is =
     elim (h k a is) [ inl s ↦ s | inr left ↦ let f = left.1 in let g = left.2 in absurd (omega arith) ]
 
@@ -126,7 +126,7 @@ quiet_more n old new flags raised x m k turn before here e y less =
     ]
 
 -- where no flag is raised, the table keeps all pairs
-pub keeps_quiet : (n : ℕ) (actions : List Action) (rows : List (List Bool)) (flags : List Bool) → length flags ≡ n + 1 → AreReady n actions rows flags
+pub keeps_quiet : (n : ℕ) (actions : List Action) (rows : List (List Bool)) (flags : List Bool) → length flags ≡ n + 1 → HaveTheirPairs n actions rows flags
     → ((x : ℕ) → x ≤ n → has_atom flags x ≡ false) → KeepAllPairs actions (has_pair rows)
 keeps_quiet n actions rows flags size ready quiet k a is =
     elim (ready k a is) [

@@ -9,14 +9,14 @@ use Rattle.std.specs.Global.{Vec}
 use Rattle.hv_task.specs.declared.action.Action.{Action}
 use Rattle.hv_task.specs.State.{AreBelow, has_atom}
 use Rattle.hv_reach.proofs.Sets.{All-from_zero, missing_set, set_cases, set_grows}
-use Rattle.hv_reach.specs.Index.{IsIn, IsIndex, IsRange}
+use Rattle.hv_reach.specs.Working.Index.{IsIn, IsActionIndex, IsRange}
 use Rattle.hv_reach.specs.Reached.{AreIn, IsWithin, Keeps}
-use Rattle.hv_reach.specs.Waiting.{AreSettled, AreSettledBut, IsKept, IsPassed, IsSettled, IsStep}
+use Rattle.hv_reach.specs.Working.Waiting.{AreActionsSettled, AreActionsSettledBut, IsKeptSearch, IsPassed, IsActionSettled, GrowsQueued}
 
-pub step_none : (s : List Bool) (q : List ℕ) → IsStep s q s q
+pub step_none : (s : List Bool) (q : List ℕ) → GrowsQueued s q s q
 step_none s q = record { size = refl; below = λ h. h; grows = λ _ h. h; queued = λ _ h. h; fresh = λ _ h. inl h; work = refl }
 
-pub step_both : (a b c : List Bool) (q u w : List ℕ) → IsStep a q b u → IsStep b u c w → IsStep a q c w
+pub step_both : (a b c : List Bool) (q u w : List ℕ) → GrowsQueued a q b u → GrowsQueued b u c w → GrowsQueued a q c w
 step_both a b c q u w f g = record {
   size = g.size ∙ f.size;
   below = λ h. subst (λ n. AreBelow n w) f.size (g.below (subst (λ n. AreBelow n u) (sym f.size) (f.below h)));
@@ -29,7 +29,7 @@ step_both a b c q u w f g = record {
 pub below_push : (n : ℕ) (q : List ℕ) (p : ℕ) → AreBelow n q → p < n → AreBelow n (q ++ p ∷ [])
 below_push n q p h less = All-push (λ k. k < n) q p h less
 
-pub step_one : (s : List Bool) (q : List ℕ) (p : ℕ) → p < length s → has_atom s p ≡ false → IsStep s q (set s p true) (q ++ p ∷ [])
+pub step_one : (s : List Bool) (q : List ℕ) (p : ℕ) → p < length s → has_atom s p ≡ false → GrowsQueued s q (set s p true) (q ++ p ∷ [])
 step_one s q p less h = record {
   size = length-set s p true;
   below = λ b. below_push (length s) q p b less;
@@ -57,7 +57,7 @@ passed_step old new a c grows h = record {
   done = λ e some. λ k d less. grows (get_or a.add k d) (h.done e some k d less);
 }
 
-pub settled_step : (old new : List Bool) (q u : List ℕ) (a : Action) (c : ℕ) → IsStep old q new u → IsSettled old q a c → IsSettled new u a c
+pub settled_step : (old new : List Bool) (q u : List ℕ) (a : Action) (c : ℕ) → GrowsQueued old q new u → IsActionSettled old q a c → IsActionSettled new u a c
 settled_step old new q u a c step h =
     elim h [
       | inl w ↦
@@ -67,15 +67,15 @@ settled_step old new q u a c step h =
 
 -- what is settled after one action more
 pub settled_more : (actions : List Action) (numbers : List ℕ) (i x : ℕ) (old new : List Bool) (q u passed after : List ℕ)
-    → x ≡ get_or numbers i 0 → IsStep old q new u → AreSettledBut numbers i actions old q passed
-    → ((a : Action) → slice_get actions x ≡ Some a → IsSettled new u a (get_or after x 0))
-    → ((k : ℕ) → (k ≡ x → ⊥) → get_or after k 0 ≡ get_or passed k 0) → AreSettledBut numbers (i + 1) actions new u after
+    → x ≡ get_or numbers i 0 → GrowsQueued old q new u → AreActionsSettledBut numbers i actions old q passed
+    → ((a : Action) → slice_get actions x ≡ Some a → IsActionSettled new u a (get_or after x 0))
+    → ((k : ℕ) → (k ≡ x → ⊥) → get_or after k 0 ≡ get_or passed k 0) → AreActionsSettledBut numbers (i + 1) actions new u after
 settled_more actions numbers i x old new q u passed after e step before here others k a is =
     elim (cases_eq k x) [
-      | inl same ↦ inl (subst (λ n. IsSettled new u a (get_or after n 0)) (sym same) (here a (subst (λ n. slice_get actions n ≡ Some a) same is)))
+      | inl same ↦ inl (subst (λ n. IsActionSettled new u a (get_or after n 0)) (sym same) (here a (subst (λ n. slice_get actions n ≡ Some a) same is)))
       | inr other ↦
           elim (before k a is) [
-            | inl s ↦ inl (subst (λ c. IsSettled new u a c) (sym (others k other)) (settled_step old new q u a (get_or passed k 0) step s))
+            | inl s ↦ inl (subst (λ c. IsActionSettled new u a c) (sym (others k other)) (settled_step old new q u a (get_or passed k 0) step s))
             | inr left ↦ inr (left.0, later other left, left.2, left.3)
           ]
     ]
@@ -88,14 +88,14 @@ settled_more actions numbers i x old new q u passed after e step before here oth
         ]
 
 pub settled_last : (actions : List Action) (numbers : List ℕ) (i : ℕ) (held : List Bool) (q passed : List ℕ) → length numbers ≤ i
-    → AreSettledBut numbers i actions held q passed → AreSettled actions held q passed
+    → AreActionsSettledBut numbers i actions held q passed → AreActionsSettled actions held q passed
 settled_last actions numbers i held q passed past h k a is =
     elim (h k a is) [ inl s ↦ s | inr left ↦ let f = left.1 in let g = left.2 in absurd (omega arith) ]
 
 -- an atom leaves the queue: each action is settled or one of those that ask for the atom
 pub settled_pop : (n : ℕ) (actions : List Action) (rows : List (Vec ℕ)) (row : Vec ℕ) (held : List Bool) (p : ℕ) (rest passed : List ℕ)
-    → IsIndex n actions rows → slice_get rows p ≡ Some row
-    → AreSettled actions held (rest ++ p ∷ []) passed → AreSettledBut row.items 0 actions held rest passed
+    → IsActionIndex n actions rows → slice_get rows p ≡ Some row
+    → AreActionsSettled actions held (rest ++ p ∷ []) passed → AreActionsSettledBut row.items 0 actions held rest passed
 settled_pop n actions rows row held p rest passed index at h k a is =
     elim (h k a is) [
       | inr done ↦ inl (inr done)
@@ -110,7 +110,7 @@ settled_pop n actions rows row held p rest passed index at h k a is =
     ]
 
 -- where the queue is empty, the settled state keeps all
-pub keeps_empty : (actions : List Action) (held : List Bool) (passed : List ℕ) → AreSettled actions held [] passed → Keeps actions (has_atom held)
+pub keeps_empty : (actions : List Action) (held : List Bool) (passed : List ℕ) → AreActionsSettled actions held [] passed → Keeps actions (has_atom held)
 keeps_empty actions held passed h k a is all =
     elim (h k a is) [
       | inl w ↦ let c = w.1 (all (get_or passed k 0) 0 w.0) in let less = c.1 in absurd (omega arith)
@@ -128,7 +128,7 @@ whole_in held r a pre from place passed same whole front within =
 
 -- at the start no action was looked at
 pub kept_start : (actions : List Action) (held : List Bool) (passed : List ℕ) → length passed ≡ length actions
-    → ((k : ℕ) → get_or passed k 0 ≡ 0) → IsKept actions held [] passed
+    → ((k : ℕ) → get_or passed k 0 ≡ 0) → IsKeptSearch actions held [] passed
 kept_start actions held passed size zeros = record {
   size = size;
   below = All-nil (λ n. n < length held);
@@ -140,7 +140,7 @@ kept_start actions held passed size zeros = record {
 }
 
 pub settled_start : (actions : List Action) (numbers : List ℕ) (held : List Bool) (queue passed : List ℕ) → IsRange (length actions) numbers
-    → AreSettledBut numbers 0 actions held queue passed
+    → AreActionsSettledBut numbers 0 actions held queue passed
 settled_start actions numbers held queue passed range k a is =
     let less = slice_get_within actions k a is in
     let size = range.size in

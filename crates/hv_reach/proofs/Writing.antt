@@ -20,9 +20,11 @@ use Rattle.hv_lines.proofs.Drafting.{table_of}
 use Rattle.hv_lines.proofs.Extended.{begun_acts, begun_dead, begun_empty, begun_goal, exprs_few, extends_by, extends_none, first_noted_once, knowns_few, noted_dead}
 use Rattle.hv_lines.proofs.Carried.{expr_onto}
 use Rattle.hv_lines.proofs.Laws.{expr_at_here, set_in, set_out, statement_at_here}
-use Rattle.hv_reach.specs.Fitting.{described_fit, notes_fit}
-use Rattle.hv_reach.specs.Pruners.{AreDescribed, AreHornNotes, IsDenied, IsOutcome, IsReason}
-use Rattle.hv_reach.specs.Written.{IsDeadEnd, dead_block}
+use Rattle.hv_reach.specs.Working.Fitting.{described_fit, notes_fit}
+use Rattle.hv_reach.specs.Pruners.{AreDescribed, AreHornNotes, IsDenied}
+use Rattle.hv_reach.specs.Working.Pruners.{IsOutcome, ShowsWhyDead}
+use Rattle.hv_reach.specs.Written.{dead_block}
+use Rattle.hv_reach.specs.Working.Written.{IsDeadEnd}
 use Rattle.hv_reach.proofs.Block.{good_block}
 use Rattle.hv_reach.proofs.Described.{described_pushed}
 
@@ -139,7 +141,7 @@ module _ (task : Strips) (lines : List Line) (clauses : List (List Literal)) (m 
   abbrev Noted : Note
   Noted = record { set = m; line = k + 3 }
 
-  module _ (covered : StateSet) (state : List Bool) (reason : IsReason task covered state clauses) where
+  module _ (covered : StateSet) (state : List Bool) (reason : ShowsWhyDead task covered state clauses) where
     written_noted : IsNoted task covered Written Noted
     written_noted = record {
       dead = record {

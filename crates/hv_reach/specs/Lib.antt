@@ -1,7 +1,4 @@
 pub mod Reached
-pub mod Index
-pub mod Waiting
-pub mod Table
 pub mod Written
 pub mod Pruners
-pub mod Fitting
+pub mod Working

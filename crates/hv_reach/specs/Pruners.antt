@@ -1,19 +1,17 @@
 -- What the pruners by reached atoms and by reached pairs cover, and what they write.
-use Rattle.std.specs.Prelude.{◌≡◌, ◌≤◌, ◌+◌, ◌↔◌, IsTrue, ℕ, Bool, true, List, Option, Some, is_some, IfSome, IfNone, length, slice_get}
+use Rattle.std.specs.Prelude.{◌≡◌, ◌≤◌, ◌+◌, ◌↔◌, ℕ, Bool, true, List, Some, IfSome, length, slice_get}
 use Rattle.std.specs.List.{All}
 use Rattle.hv_task.specs.State.{has_atom}
 use Rattle.hv_task.specs.Strips.{Strips, IsState, atoms}
-use Rattle.hv_sets.specs.Truth.{in_clauses}
 use Rattle.hv_sets.specs.declared.literal.Literal.{Literal}
-use Rattle.hv_lines.specs.Drafts.{DraftState}
 use Rattle.hv_lines.specs.Meaning.{StateSet}
 use Rattle.hv_lines.specs.Numbering.{expr_at, expr_count, known_count}
-use Rattle.hv_lines.specs.Pruning.{Extends, IsAnswer, IsDeadBy, IsNoted, states_in}
+use Rattle.hv_lines.specs.Pruning.{IsNoted, states_in}
 use Rattle.hv_lines.specs.declared.line.Expr.TheVariants as E
 use Rattle.hv_lines.specs.declared.line.Line.{Line}
 use Rattle.hv_lines.specs.declared.note.Note.{Note}
 use Rattle.hv_reach.specs.Reached.{IsWithin, ReachedAtom, ReachedPair, has_pair}
-use Rattle.hv_reach.specs.Written.{IsDeadEnd, IsDenial, PairsExcludeFrom, RelaxedExcludesFrom, dead_block, pairs_formula, relaxed_formula}
+use Rattle.hv_reach.specs.Written.{IsDenial, PairsExcludeFrom, RelaxedExcludesFrom, dead_block, pairs_formula, relaxed_formula}
 
 -- a state is covered by reached pairs in a task of at most 1,024 atoms alone
 abbrev pub PairsCover : Strips → List Bool → Type 0
@@ -109,24 +107,3 @@ abbrev pub FitPairs : Strips → List Line → PairNotes → Type 0
 FitPairs task lines kept =
     AreHornNotes task (PairsCover task) lines kept.notes
     × AreDescribed HoldsPairsOf task lines kept.notes kept.reached
-
--- the formula shows why this state is dead: it is one of which a block is good, it holds the state,
--- and it holds covered states alone
-pub record IsReason (task : Strips) (covered : StateSet) (state : List Bool)
-    (clauses : List (List Literal)) : Type 0 where
-  pub dead : IsDeadEnd task clauses
-  pub holds : in_clauses clauses state ≡ true
-  pub within : (other : List Bool) → IsState task other → in_clauses clauses other ≡ true
-      → covered other
-
--- what stands after an answer: whether there is one, what it shows, how the draft grew, and that
--- the notes fit it
-pub record IsOutcome (task : Strips) (covered : StateSet) (IsBlock : List Line → Note → Type 0)
-    (state : List Bool) (found : Option ℕ) (notes : List Note) (draft : DraftState)
-    (new_notes : List Note) (new_draft : DraftState) : Type 0 where
-  pub answer : IsAnswer task covered IsBlock state found notes draft new_notes new_draft
-  pub some : IsTrue (is_some found) ↔ covered state
-  pub dead : IfSome found (λ line. IsDeadBy task new_draft.lines state line)
-  pub extends : Extends task draft.lines new_draft.lines
-  pub none : IfNone found (new_draft ≡ draft)
-  pub fits : AreHornNotes task covered new_draft.lines new_notes

@@ -1,13 +1,10 @@
 -- The proofs that are written where the goal isn't reached: the states that hold no unreached atom,
 -- or no unreached pair, are dead, and the initial state is one of them.
-use Rattle.std.specs.Prelude.{◌≡◌, ◌+◌, ◌-◌, ◌<◌, ◌≤◌, ◌==◌, ◌↔◌, ℕ, Bool, true, false, List, [], ◌∷◌, Some, length, slice_get, if◌then◌else◌}
+use Rattle.std.specs.Prelude.{◌≡◌, ◌+◌, ◌-◌, ◌<◌, ◌≤◌, ◌==◌, ◌↔◌, ℕ, Bool, true, false, List, [], ◌∷◌, length, if◌then◌else◌}
 use Rattle.std.specs.List.{All, Contains, flat_map, range_with_len}
-use Rattle.hv_task.specs.declared.action.Action.{Action}
-use Rattle.hv_task.specs.State.{applicable, successor}
-use Rattle.hv_task.specs.Strips.{Strips, IsState, atoms, is_goal, start_state}
-use Rattle.hv_sets.specs.Truth.{in_clauses}
+use Rattle.hv_task.specs.Strips.{Strips, atoms, start_state}
 use Rattle.hv_sets.specs.declared.literal.Literal.{Literal}
-use Rattle.hv_lines.specs.Drafts.{conclusion, default_budget, draft_setting, onto, prelude}
+use Rattle.hv_lines.specs.Drafts.{conclusion, draft_setting, onto, prelude}
 use Rattle.hv_lines.specs.Good.{AreGood}
 use Rattle.hv_lines.specs.Setting.{Setting, setting_of}
 use Rattle.hv_lines.specs.Spelling.{spelling_of}
@@ -111,19 +108,3 @@ pub record IsDenial (bound : ℕ) (clause : List Literal) : Type 0 where
   pub few : length clause ≤ 2
   pub denies : All (λ l. l.positive ≡ false) clause
   pub below : All (λ l. l.atom < bound) clause
-
--- the formula is one of which a block is good: no action leads out of its states, and none is a
--- goal state
-pub record IsDeadEnd (task : Strips) (clauses : List (List Literal)) : Type 0 where
-  pub denials : All (IsDenial (atoms task)) clauses
-  pub few : length clauses ≤ default_budget
-  pub stays : (k : ℕ) (a : Action) → slice_get task.actions k ≡ Some a
-      → (state : List Bool) → IsState task state → applicable a state ≡ true
-      → in_clauses clauses state ≡ true → in_clauses clauses (successor a state) ≡ true
-  pub goalless : (state : List Bool) → IsState task state → in_clauses clauses state ≡ true
-      → is_goal task state ≡ true → ⊥
-
--- the goal isn't reached by the formula: the block is good, and the initial state is in the formula
-pub record Separates (task : Strips) (clauses : List (List Literal)) : Type 0 where
-  pub dead : IsDeadEnd task clauses
-  pub starts : in_clauses clauses (start_state task) ≡ true

@@ -6,8 +6,8 @@ ghost use Rattle.hv_task.specs.declared.action.Action.{Action};
 ghost use Rattle.hv_task.specs.State.{AreBelow, has_atom};
 ghost use Rattle.hv_task.specs.Strips.{IsState, atoms};
 ghost use Rattle.hv_reach.specs.Reached.{AreIn, Keeps, ReachedAtom};
-ghost use Rattle.hv_reach.specs.Index.{IsIndex};
-ghost use Rattle.hv_reach.specs.Waiting.{AreSettled, AreSettledBut, GrowsWithin, IsKept, IsSettled, IsStep};
+ghost use Rattle.hv_reach.specs.Working.Index.{IsActionIndex};
+ghost use Rattle.hv_reach.specs.Working.Waiting.{AreActionsSettled, AreActionsSettledBut, GrowsWithin, IsKeptSearch, IsActionSettled, GrowsQueued};
 
 use crate::index::{index, range};
 use hv_task::{AtomList, State, Task};
@@ -77,10 +77,10 @@ fn close(
     passed: &mut Vec<usize>,
     rows: &Vec<Vec<u32>>,
 ) -> Result<(), AllocError>
-    requires index { IsIndex (atoms task.now) task.now.actions rows.now.items }
+    requires index { IsActionIndex (atoms task.now) task.now.actions rows.now.items }
     requires state { IsState task.now held.old }
-    requires kept { IsKept task.now.actions held.old queue.old.items passed.old.items }
-    requires settled { AreSettled task.now.actions held.old queue.old.items passed.old.items }
+    requires kept { IsKeptSearch task.now.actions held.old queue.old.items passed.old.items }
+    requires settled { AreActionsSettled task.now.actions held.old queue.old.items passed.old.items }
     ensures size { OnOk result (length held.new ≡ length held.old) }
     ensures grows { OnOk result ((p : ℕ) → has_atom held.old p ≡ true
         → has_atom held.new p ≡ true) }
@@ -104,13 +104,13 @@ fn wake(
 ) -> Result<(), AllocError>
     requires numbers { AreBelow (length task.now.actions) numbers.now }
     requires state { IsState task.now held.old }
-    requires kept { IsKept task.now.actions held.old queue.old.items passed.old.items }
-    requires settled { AreSettledBut numbers.now 0
+    requires kept { IsKeptSearch task.now.actions held.old queue.old.items passed.old.items }
+    requires settled { AreActionsSettledBut numbers.now 0
         task.now.actions held.old queue.old.items passed.old.items }
-    ensures step { OnOk result (IsStep held.old queue.old.items held.new queue.new.items) }
-    ensures kept { OnOk result (IsKept task.now.actions held.new queue.new.items passed.new.items) }
+    ensures step { OnOk result (GrowsQueued held.old queue.old.items held.new queue.new.items) }
+    ensures kept { OnOk result (IsKeptSearch task.now.actions held.new queue.new.items passed.new.items) }
     ensures settled { OnOk result
-        (AreSettled task.now.actions held.new queue.new.items passed.new.items) }
+        (AreActionsSettled task.now.actions held.new queue.new.items passed.new.items) }
     ensures least { OnOk result (GrowsWithin (Keeps task.now.actions) held.old held.new) }
 {
     for number in numbers {
@@ -129,11 +129,11 @@ fn visit(
 ) -> Result<(), AllocError>
     requires number { number < length task.now.actions }
     requires state { IsState task.now held.old }
-    requires kept { IsKept task.now.actions held.old queue.old.items passed.old.items }
-    ensures step { OnOk result (IsStep held.old queue.old.items held.new queue.new.items) }
-    ensures kept { OnOk result (IsKept task.now.actions held.new queue.new.items passed.new.items) }
+    requires kept { IsKeptSearch task.now.actions held.old queue.old.items passed.old.items }
+    ensures step { OnOk result (GrowsQueued held.old queue.old.items held.new queue.new.items) }
+    ensures kept { OnOk result (IsKeptSearch task.now.actions held.new queue.new.items passed.new.items) }
     ensures settles { OnOk result ((a : Action) → slice_get task.now.actions number ≡ Some a
-        → IsSettled held.new queue.new.items a (slice_index passed.new.items number)) }
+        → IsActionSettled held.new queue.new.items a (slice_index passed.new.items number)) }
     ensures others { OnOk result ((k : ℕ) → (k ≡ number → ⊥)
         → slice_index passed.new.items k ≡ slice_index passed.old.items k) }
     ensures least { OnOk result (GrowsWithin (Keeps task.now.actions) held.old held.new) }
@@ -175,7 +175,7 @@ fn first_missing(pre: &[u32], held: &State, from: usize) -> usize
 // Puts these atoms in, and each that is new into the queue.
 fn reach_all(held: &mut State, queue: &mut Vec<u32>, atoms: &[u32]) -> Result<(), AllocError>
     requires { AreBelow (length held.old) atoms.now }
-    ensures step { OnOk result (IsStep held.old queue.old.items held.new queue.new.items) }
+    ensures step { OnOk result (GrowsQueued held.old queue.old.items held.new queue.new.items) }
     ensures has { OnOk result (AreIn (has_atom held.new) atoms.now) }
     ensures least { OnOk result (GrowsWithin (λ set. AreIn set atoms.now) held.old held.new) }
 {
@@ -188,7 +188,7 @@ fn reach_all(held: &mut State, queue: &mut Vec<u32>, atoms: &[u32]) -> Result<()
 // Puts the atom in, and into the queue if it is new.
 fn reach(held: &mut State, queue: &mut Vec<u32>, atom: u32) -> Result<(), AllocError>
     requires { atom < length held.old }
-    ensures step { OnOk result (IsStep held.old queue.old.items held.new queue.new.items) }
+    ensures step { OnOk result (GrowsQueued held.old queue.old.items held.new queue.new.items) }
     ensures has { OnOk result (has_atom held.new atom ≡ true) }
     ensures least { OnOk result (GrowsWithin (λ set. set atom ≡ true) held.old held.new) }
 {

@@ -1,3 +1,5 @@
+//! Why no proof by pairs is looked for.
+
 use std::alloc::AllocError;
 use thiserror::Error;
 

@@ -3,7 +3,8 @@
 ghost use Rattle.std.specs.Prelude.{◌≡◌, ◌<◌, ◌+◌, ◌^◌, IfOk};
 ghost use Rattle.hv_lines.specs.Drafts.{IsGoodTable};
 ghost use Rattle.hv_lines.specs.Judged.{Concludes};
-ghost use Rattle.hv_reach.specs.Written.{Separates, dead_block, denied, horn_proof};
+ghost use Rattle.hv_reach.specs.Written.{dead_block, denied, horn_proof};
+ghost use Rattle.hv_reach.specs.Working.Written.{Separates};
 
 use hv_lines::{Draft, Expr, Line, Premises, Statement, Word, conclusion};
 use hv_sets::{Clauses, Literal};

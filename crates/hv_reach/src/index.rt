@@ -4,14 +4,14 @@ ghost use Rattle.std.specs.Prelude.{◌≡◌, ◌<◌, ◌+◌, ℕ, length, If
 ghost use Rattle.std.specs.List.{All};
 ghost use Rattle.hv_task.specs.State.{AreBelow};
 ghost use Rattle.hv_task.specs.Strips.{atoms};
-ghost use Rattle.hv_reach.specs.Index.{IsIn, IsIndex, IsRange, RowsBelow};
+ghost use Rattle.hv_reach.specs.Working.Index.{IsIn, IsActionIndex, IsRange, RowsBelow};
 
 use hv_task::Task;
 use std::alloc::{AllocError, Global};
 
 /// The actions of each atom, by number; in a last row those without precondition.
 pub(crate) fn index(alloc: Global, task: &Task) -> Result<Vec<Vec<u32>>, AllocError>
-    ensures { IfOk result (λ rows. IsIndex (atoms task.now) task.now.actions rows.items) }
+    ensures { IfOk result (λ rows. IsActionIndex (atoms task.now) task.now.actions rows.items) }
 {
     let mut rows = empty_rows(alloc, task.atoms() + 1)?;
     for number in 0..task.actions() {

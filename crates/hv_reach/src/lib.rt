@@ -3,11 +3,13 @@
 #![tactic(auto)]
 
 pub mod atoms;
+mod columns;
 pub mod fault;
 mod horn_proof;
 mod index;
 pub mod laws;
 mod mask;
+mod note_rows;
 mod notes;
 pub mod pair_pruner;
 pub mod paired;

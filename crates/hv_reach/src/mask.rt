@@ -6,13 +6,13 @@ ghost use Rattle.hv_task.specs.declared.action.Action.{Action};
 ghost use Rattle.hv_task.specs.State.{AreBelow, has_atom, names_atom};
 ghost use Rattle.hv_task.specs.Strips.{IsOver};
 ghost use Rattle.hv_reach.specs.Reached.{HasPairsOf, LeavesAlone, has_pair};
-ghost use Rattle.hv_reach.specs.Table.{IsJoined, IsTable};
+ghost use Rattle.hv_reach.specs.Working.Table.{IsJoined, IsPairTable};
 
 use hv_task::{Action, State};
 
 /// Whether all pairs of these atoms are in.
 pub(crate) fn has_pairs(atoms: u32, rows: &Vec<State>, list: &[u32]) -> bool
-    requires table { IsTable atoms rows.now.items }
+    requires table { IsPairTable atoms rows.now.items }
     requires below { AreBelow atoms list.now }
     ensures yes { result ≡ true → HasPairsOf (has_pair rows.now.items) list.now }
     ensures no { result ≡ false → HasPairsOf (has_pair rows.now.items) list.now → ⊥ }
@@ -36,7 +36,7 @@ pub(crate) fn row_has(row: &State, list: &[u32]) -> bool
 /// Makes the mask that of the atoms that the action leaves alone, and that are in with its
 /// precondition.
 pub(crate) fn spared(atoms: u32, rows: &Vec<State>, action: &Action, mask: &mut State)
-    requires table { IsTable atoms rows.now.items }
+    requires table { IsPairTable atoms rows.now.items }
     requires over { IsOver atoms action.now }
     requires mask { length mask.old ≡ atoms }
     ensures size { length mask.new ≡ atoms }
@@ -52,7 +52,7 @@ pub(crate) fn spared(atoms: u32, rows: &Vec<State>, action: &Action, mask: &mut 
 
 // Makes the mask that of the atoms that are in with each of these and with themselves.
 fn join(atoms: u32, rows: &Vec<State>, list: &[u32], mask: &mut State)
-    requires table { IsTable atoms rows.now.items }
+    requires table { IsPairTable atoms rows.now.items }
     requires below { AreBelow atoms list.now }
     requires mask { length mask.old ≡ atoms }
     ensures size { length mask.new ≡ atoms }
@@ -70,7 +70,7 @@ fn join(atoms: u32, rows: &Vec<State>, list: &[u32], mask: &mut State)
 // Makes the mask a set to begin with: the atoms that are in with the first of these, or else with
 // themselves.
 fn begin(atoms: u32, rows: &Vec<State>, list: &[u32], mask: &mut State)
-    requires table { IsTable atoms rows.now.items }
+    requires table { IsPairTable atoms rows.now.items }
     requires below { AreBelow atoms list.now }
     requires mask { length mask.old ≡ atoms }
     ensures size { length mask.new ≡ atoms }
@@ -85,9 +85,9 @@ fn begin(atoms: u32, rows: &Vec<State>, list: &[u32], mask: &mut State)
     mask.copy_from(&rows[list[0] as usize]);
 }
 
-// Makes the mask that of the atoms that are in with themselves.
-fn diagonal(atoms: u32, rows: &Vec<State>, mask: &mut State)
-    requires table { IsTable atoms rows.now.items }
+/// Makes the mask that of the atoms that are in with themselves.
+pub(crate) fn diagonal(atoms: u32, rows: &Vec<State>, mask: &mut State)
+    requires table { IsPairTable atoms rows.now.items }
     requires mask { length mask.old ≡ atoms }
     ensures size { length mask.new ≡ atoms }
     ensures sound { (q : ℕ) → has_atom mask.new q ≡ true → has_pair rows.now.items q q ≡ true }

@@ -1,27 +1,33 @@
 //! Notes of formulas whose states are dead.
 
-ghost use Rattle.std.specs.Prelude.{◌≡◌, ◌+◌, ◌++◌, [], ◌∷◌, IfOk, OnOk, OnErr};
+ghost use Rattle.std.specs.Prelude.{◌≡◌, ◌+◌, ◌++◌, [], ◌∷◌, length, IfOk, OnOk, OnErr};
 ghost use Rattle.hv_lines.specs.Drafts.{IsGoodTable, onto};
 ghost use Rattle.hv_lines.specs.Numbering.{expr_count, known_count};
-ghost use Rattle.hv_reach.specs.Written.{IsDeadEnd, dead_block};
+ghost use Rattle.hv_reach.specs.Working.NoteRows.{AreRowsOver};
+ghost use Rattle.hv_reach.specs.Written.{dead_block};
+ghost use Rattle.hv_reach.specs.Working.Written.{IsDeadEnd};
 
 use crate::horn_proof::dead_block;
+use crate::note_rows::NoteRows;
 use hv_lines::{Draft, Note};
 use hv_sets::Clauses;
-use hv_task::Task;
+use hv_task::{State, Task};
 use std::alloc::{AllocError, Global};
 
-/// Writes the block which shows that the states of the formula are dead, and notes it. All memory
-/// is taken before the first line is written.
+/// Writes the block which shows that the states of the formula are dead, and notes it with this row
+/// of atoms. All memory is taken before the first line is written.
 pub(crate) fn write_block(
     alloc: Global,
     task: &Task,
     draft: &mut Draft,
     notes: &mut Vec<Note>,
     clauses: Clauses,
+    rows: &mut NoteRows,
+    row: State,
 ) -> Result<usize, AllocError>
     requires good { IsGoodTable task.now draft.old.lines }
     requires dead { IsDeadEnd task.now clauses }
+    requires over { AreRowsOver (length row) rows.old.rows }
     ensures lines { OnOk result (draft.new.lines ≡ onto (dead_block (expr_count draft.old.lines)
         (known_count draft.old.lines) clauses) draft.old.lines) }
     ensures line { IfOk result (λ line. line ≡ known_count draft.old.lines + 3) }
@@ -29,17 +35,21 @@ pub(crate) fn write_block(
       set = expr_count draft.old.lines;
       line = known_count draft.old.lines + 3;
     } ∷ []) }
+    ensures rows { OnOk result (rows.new.rows ≡ rows.old.rows ++ row ∷ []) }
     ensures good { OnOk result (IsGoodTable task.now draft.new.lines) }
     ensures err_draft { OnErr result (draft.new ≡ draft.old) }
     ensures err_notes { OnErr result (notes.new.items ≡ notes.old.items) }
+    ensures err_rows { OnErr result (rows.new.rows ≡ rows.old.rows) }
 {
     let _atoms = task.atoms();
     let set = draft.table().expr_count();
     let id = draft.table().known_count();
     let block = dead_block(alloc, set, id, clauses)?;
     notes.reserve(1)?;
+    rows.reserve(alloc, row.atoms())?;
     draft.reserve(8)?;
     draft.push_all(task, block);
+    rows.push_reserved(row);
     notes.push_reserved(Note { set, line: id + 3 });
     Ok(id + 3)
 }

@@ -4,10 +4,12 @@ ghost use Rattle.std.specs.Prelude.{◌≡◌, ◌≤◌, [], ◌↔◌, ℕ, tr
 ghost use Rattle.hv_task.specs.AtomList.{IsListOf};
 ghost use Rattle.hv_task.specs.Strips.{IsState, atoms};
 ghost use Rattle.hv_lines.specs.Drafts.{IsGoodTable};
-ghost use Rattle.hv_lines.specs.Pruning.{Extends, IsAnswer, IsDeadBy, IsFirstNoted, NoneNoted};
-ghost use Rattle.hv_reach.specs.Pruners.{AreDescribed, AreHornNotes, FitPairs, HoldsPairsOf, IsOutcome, IsPairsBlock, PairsCover};
+ghost use Rattle.hv_lines.specs.Pruning.{Extends, IsPrunerAnswer, IsDeadBy, IsFirstNoted, NoneNoted};
+ghost use Rattle.hv_reach.specs.Pruners.{AreDescribed, AreHornNotes, FitPairs, HoldsPairsOf, IsPairsBlock, PairsCover};
+ghost use Rattle.hv_reach.specs.Working.Pruners.{AreDiagonals, IsOutcome};
 ghost use Rattle.hv_reach.specs.Reached.{ReachedPair, has_pair};
 
+use crate::note_rows::NoteRows;
 use crate::notes::write_block;
 use crate::paired::{MOST_ATOMS, pairs_formula, pairs_reason};
 use crate::pairs::Pairs;
@@ -20,7 +22,8 @@ use std::marker::Model;
 /// reached, in tasks of at most 1,024 atoms. For such a state it writes that the states are dead
 /// which hold no other pairs than those reached from it.
 ///
-/// A state is looked for in the notes one by one, in each by the table of the pairs that were
+/// A state is looked for in the notes by the atoms that are in a pair with themselves, for all notes
+/// at once, and where a note's row has each atom of the state, by the table of the pairs that were
 /// reached.
 #[derive(Drop)]
 pub struct PairPruner {
@@ -28,14 +31,19 @@ pub struct PairPruner {
     notes: Vec<Note>,
     // The pairs that were reached, for each note.
     reached: Vec<Pairs>,
+    // The atoms that were reached in a pair with themselves, for each note.
+    rows: NoteRows,
 }
 
 impl Model for PairPruner {
     ghost use Rattle.hv_reach.specs.Pruners.{PairNotes};
+    ghost use Rattle.hv_reach.specs.Working.Pruners.{AreDiagonals};
 
     ghost Value = { PairNotes };
 
     ghost view = { λ p. record { notes = p.notes.items; reached = p.reached.items } };
+
+    ghost invariant = { λ p. AreDiagonals p.rows.rows p.reached.items };
 }
 
 impl PairPruner {
@@ -46,6 +54,7 @@ impl PairPruner {
         PairPruner {
             notes: Vec::new(alloc),
             reached: Vec::new(alloc),
+            rows: NoteRows::new(alloc),
         }
     }
 
@@ -62,7 +71,7 @@ impl PairPruner {
         requires good { IsGoodTable task.now draft.old.lines }
         requires fits { FitPairs task.now draft.old.lines self.old }
         requires state { IsState task.now state.now }
-        ensures answer { IfOk result (λ found. IsAnswer task.now (PairsCover task.now)
+        ensures answer { IfOk result (λ found. IsPrunerAnswer task.now (PairsCover task.now)
             (IsPairsBlock task.now state.now draft.old.lines) state.now found
             self.old.notes draft.old self.new.notes draft.new) }
         ensures some { IfOk result (λ found. IsTrue (is_some found)
@@ -81,6 +90,7 @@ impl PairPruner {
             draft,
             &mut self.notes,
             &mut self.reached,
+            &mut self.rows,
             state,
         )
     }
@@ -88,7 +98,7 @@ impl PairPruner {
 
 impl Pruner for PairPruner {
     ghost use Rattle.hv_reach.specs.Pruners.{FitPairs, PairsCover};
-    ghost use Rattle.hv_reach.specs.Fitting as fitting;
+    ghost use Rattle.hv_reach.specs.Working.Fitting as fitting;
 
     ghost covers = { λ _ task state. PairsCover task state };
 
@@ -97,6 +107,7 @@ impl Pruner for PairPruner {
     fn begin(&mut self) {
         self.notes.clear();
         self.reached.clear();
+        self.rows.clear();
     }
 
     fn justify(
@@ -120,6 +131,7 @@ fn pairs_answer(
     draft: &mut Draft,
     notes: &mut Vec<Note>,
     reached: &mut Vec<Pairs>,
+    rows: &mut NoteRows,
     state: &State,
 ) -> Result<Option<usize>, AllocError>
     requires good { IsGoodTable task.now draft.old.lines }
@@ -127,19 +139,30 @@ fn pairs_answer(
         draft.old.lines notes.old.items }
     requires described { AreDescribed HoldsPairsOf task.now
         draft.old.lines notes.old.items reached.old.items }
+    requires diagonals { AreDiagonals rows.old.rows reached.old.items }
     requires state { IsState task.now state.now }
     ensures outcome { IfOk result (λ found. IsOutcome task.now (PairsCover task.now)
         (IsPairsBlock task.now state.now draft.old.lines) state.now found
         notes.old.items draft.old notes.new.items draft.new) }
     ensures described { IfOk result (λ _. AreDescribed HoldsPairsOf task.now
         draft.new.lines notes.new.items reached.new.items) }
+    ensures diagonals { AreDiagonals rows.new.rows reached.new.items }
     ensures err_draft { OnErr result (draft.new ≡ draft.old) }
     ensures err_notes { OnErr result (notes.new.items ≡ notes.old.items) }
     ensures err_reached { OnErr result (reached.new.items ≡ reached.old.items) }
 {
     let mut held = Vec::new(alloc);
     state.list_atoms(&mut held)?;
-    let noted = first_noted(task, draft, notes, reached, state, held.as_slice());
+    let noted = first_noted(
+        alloc,
+        task,
+        draft,
+        notes,
+        reached,
+        rows,
+        state,
+        held.as_slice(),
+    )?;
     if noted.is_some() {
         return Ok(noted);
     }
@@ -147,7 +170,8 @@ fn pairs_answer(
         Some(pairs) => {
             let clauses = pairs_formula(alloc, task.atoms(), &pairs)?;
             reached.reserve(1)?;
-            let line = write_block(alloc, task, draft, notes, clauses)?;
+            let row = pairs.diagonal(alloc, task.atoms())?;
+            let line = write_block(alloc, task, draft, notes, clauses, rows, row)?;
             reached.push_reserved(pairs);
             Ok(Some(line))
         }
@@ -158,28 +182,34 @@ fn pairs_answer(
 // The line of the first note whose formula holds the state of these atoms: all their pairs were
 // reached.
 fn first_noted(
+    alloc: Global,
     task: &Task,
     draft: &Draft,
     notes: &Vec<Note>,
     reached: &Vec<Pairs>,
+    rows: &NoteRows,
     state: &State,
     held: &[u32],
-) -> Option<usize>
+) -> Result<Option<usize>, AllocError>
     requires state { IsState task.now state.now }
     requires held { IsListOf state.now held.now }
     requires described { AreDescribed HoldsPairsOf task.now
         draft.now.lines notes.now.items reached.now.items }
-    ensures { MatchOption result (NoneNoted task.now draft.now.lines notes.now.items state.now)
-        (λ line. IsFirstNoted task.now draft.now.lines notes.now.items state.now line) }
+    requires diagonals { AreDiagonals rows.now.rows reached.now.items }
+    ensures { IfOk result (λ found. MatchOption found
+        (NoneNoted task.now draft.now.lines notes.now.items state.now)
+        (λ line. IsFirstNoted task.now draft.now.lines notes.now.items state.now line)) }
 {
     let _ = task;
     let _ = draft;
-    for place in 0..notes.len() {
+    let mut from = 0;
+    while let Some(place) = rows.first(alloc, held, from)? {
         if reached[place].has_all(state.atoms(), held) {
-            return Some(notes[place].line);
+            return Ok(Some(notes[place].line));
         }
+        from = place + 1;
     }
-    None
+    Ok(None)
 }
 
 // The pairs that are reached from the state, where it is covered; otherwise there are none to tell.

@@ -4,10 +4,11 @@ ghost use Rattle.std.specs.Prelude.{◌≡◌, ◌<◌, ◌≤◌, ◌↔◌, �
 ghost use Rattle.hv_task.specs.Strips.{IsState, atoms};
 ghost use Rattle.hv_task.specs.State.{AreBelow};
 ghost use Rattle.hv_reach.specs.Reached.{HasPairsOf, ReachedPair, has_pair};
-ghost use Rattle.hv_reach.specs.Table.{IsTable};
+ghost use Rattle.hv_reach.specs.Working.NoteRows.{IsDiagonal};
+ghost use Rattle.hv_reach.specs.Working.Table.{IsPairTable};
 
 use crate::index::{index, range};
-use crate::mask::has_pairs;
+use crate::mask::{diagonal, has_pairs};
 use crate::search::{close, wake};
 use crate::table::{mark_all, table};
 use hv_task::{State, Task};
@@ -22,13 +23,13 @@ pub struct Pairs {
 
 impl Model for Pairs {
     ghost use Rattle.std.specs.Prelude.{Bool, List, length};
-    ghost use Rattle.hv_reach.specs.Table.{IsTable};
+    ghost use Rattle.hv_reach.specs.Working.Table.{IsPairTable};
 
     ghost Value = { List (List Bool) };
 
     ghost view = { λ pairs. pairs.rows.items };
 
-    ghost invariant = { λ pairs. IsTable (length pairs.rows.items) pairs.rows.items };
+    ghost invariant = { λ pairs. IsPairTable (length pairs.rows.items) pairs.rows.items };
 }
 
 impl Pairs {
@@ -51,6 +52,16 @@ impl Pairs {
     {
         has_pairs(atoms, &self.rows, list)
     }
+
+    // The atoms that are in a pair with themselves, of so many atoms that the set is over.
+    pub(crate) fn diagonal(&self, alloc: Global, atoms: u32) -> Result<State, AllocError>
+        requires { length self.now ≡ atoms }
+        ensures { IfOk result (λ row. IsDiagonal row self.now) }
+    {
+        let mut row = State::empty(alloc, atoms)?;
+        diagonal(atoms, &self.rows, &mut row);
+        Ok(row)
+    }
 }
 
 /// The pairs that are reached from a state: those of the least set that has the pairs of the
@@ -70,7 +81,7 @@ pub fn reached_pairs(alloc: Global, task: &Task, start: &State) -> Result<Pairs,
 // The table of the pairs that are reached.
 fn reached_rows(alloc: Global, task: &Task, start: &State) -> Result<Vec<State>, AllocError>
     requires { IsState task.now start.now }
-    ensures table { IfOk result (λ rows. IsTable (atoms task.now) rows.items) }
+    ensures table { IfOk result (λ rows. IsPairTable (atoms task.now) rows.items) }
     ensures reached { IfOk result (λ rows. (p q : ℕ) → has_pair rows.items p q ≡ true
         → ReachedPair task.now start.now p q) }
     ensures all { IfOk result (λ rows. (p q : ℕ) → ReachedPair task.now start.now p q

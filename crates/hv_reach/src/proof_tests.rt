@@ -1,9 +1,11 @@
+//! Tests of the proofs by what is reached.
+
 ghost use Rattle.std.specs.Prelude.{◌≡◌};
 ghost use Rattle.hv_task.specs.Strips.{atoms};
 
 use crate::tests::{add, list_of, task_of};
 use crate::{ReachFault, prove_pairs, prove_relaxed};
-use hv_lines::{Constant, Expr, Line, Statement, Table, Word};
+use hv_lines::{Constant, Draft, Expr, Line, Statement, Table, Word};
 use hv_sets::{Clauses, Literal};
 use hv_task::Task;
 use std::alloc::{AllocError, Global};
@@ -98,44 +100,40 @@ fn is_only(clauses: &Clauses, clause: &[Literal]) -> bool {
     clauses.len() == 1 && clauses.get(0) == clause
 }
 
-#[test]
-fn a_key_that_isnt_reached(rt: HostRuntime) -> Result<(), Fail> {
-    let task = robot(rt.alloc())?;
-    let Some(draft) = prove_relaxed(rt.alloc(), &task)? else {
-        panic!(&rt; "no proof");
-    };
-    assert!(rt; is_proof(draft.table()));
-    assert!(rt; denies(draft.table(), &[not(2)]));
-    Ok(())
-}
-
-#[test]
-fn a_goal_that_holds_at_the_start(rt: HostRuntime) -> Result<(), Fail> {
-    let mut task = robot(rt.alloc())?;
-    set_goal(rt.alloc(), &mut task, &[0])?;
-    assert!(rt; prove_relaxed(rt.alloc(), &task)?.is_none());
-    assert!(rt; prove_pairs(rt.alloc(), &task)?.is_none());
-    Ok(())
-}
-
-#[test]
-fn two_atoms_that_are_never_together(rt: HostRuntime) -> Result<(), Fail> {
-    let task = either(rt.alloc())?;
-    assert!(rt; prove_relaxed(rt.alloc(), &task)?.is_none());
-    let Some(draft) = prove_pairs(rt.alloc(), &task)? else {
-        panic!(&rt; "no proof");
-    };
-    assert!(rt; is_proof(draft.table()));
-    assert!(rt; denies(draft.table(), &[not(0), not(1)]));
-    Ok(())
-}
-
-#[test]
-fn pairs_of_many_atoms(rt: HostRuntime) -> Result<(), Fail> {
-    let mut task = task_of(rt.alloc(), 1025, &[0])?;
-    set_goal(rt.alloc(), &mut task, &[1024])?;
-    match prove_pairs(rt.alloc(), &task) {
-        Err(ReachFault::TooManyAtoms) => Ok(()),
-        _ => panic!(&rt; "1,025 atoms"),
+// Whether the proof is one by a Horn formula of this clause alone.
+fn proves(found: Option<Draft>, clause: &[Literal]) -> bool {
+    match found {
+        Some(draft) => is_proof(draft.table()) && denies(draft.table(), clause),
+        None => false,
     }
+}
+
+// Whether the key that isn't reached has its proof, and none where the goal holds at the start.
+fn key_is_proved(alloc: Global) -> Result<bool, ReachFault> {
+    let mut task = robot(alloc)?;
+    let found = prove_relaxed(alloc, &task)?;
+    set_goal(alloc, &mut task, &[0])?;
+    let none = prove_relaxed(alloc, &task)?.is_none() && prove_pairs(alloc, &task)?.is_none();
+    Ok(none && proves(found, &[not(2)]))
+}
+
+// Whether two atoms that are never together have a proof by pairs alone.
+fn either_is_proved(alloc: Global) -> Result<bool, ReachFault> {
+    let task = either(alloc)?;
+    let none = prove_relaxed(alloc, &task)?.is_none();
+    Ok(none && proves(prove_pairs(alloc, &task)?, &[not(0), not(1)]))
+}
+
+// Whether pairs of 1,025 atoms are refused.
+fn many_are_refused(alloc: Global) -> Result<bool, AllocError> {
+    let task = task_of(alloc, 1025, &[0])?;
+    Ok(matches!(prove_pairs(alloc, &task), Err(ReachFault::TooManyAtoms)))
+}
+
+#[test]
+fn proofs_by_atoms_and_by_pairs(rt: HostRuntime) -> Result<(), Fail> {
+    assert!(rt; key_is_proved(rt.alloc())?);
+    assert!(rt; either_is_proved(rt.alloc())?);
+    assert!(rt; many_are_refused(rt.alloc())?);
+    Ok(())
 }

@@ -1,3 +1,5 @@
+//! Tests of the pruners by what is reached.
+
 ghost use Rattle.std.specs.Prelude.{IfOk, OnOk};
 ghost use Rattle.hv_task.specs.Strips.{IsState};
 ghost use Rattle.hv_lines.specs.Drafts.{IsGoodTable};
@@ -70,20 +72,18 @@ fn answers(
     Ok(here == one && there == other && draft.table().len() == 13)
 }
 
-// The answer of a pruner without notes in a new draft, by its bound.
-fn bound_answer(alloc: Global, task: &Task, atom: u32) -> Result<Option<usize>, AllocError> {
+// The answer of a pruner by atoms without notes in a new draft, by its bound.
+fn answer_by_atoms(alloc: Global, task: &Task, atom: u32) -> Result<Option<usize>, AllocError> {
     let mut draft = Draft::new(alloc, task)?;
     let mut pruner = RelaxedPruner::new(alloc);
     first_answer(&mut pruner, alloc, task, &mut draft, atom)
 }
 
-// That of a pruner in a box.
-fn boxed_answer(alloc: Global, task: &Task, atom: u32) -> Result<Option<usize>, AllocError> {
-    let state = holding(alloc, task, atom)?;
+// That of a pruner by pairs.
+fn answer_by_pairs(alloc: Global, task: &Task, atom: u32) -> Result<Option<usize>, AllocError> {
     let mut draft = Draft::new(alloc, task)?;
-    let mut pruner: Box<dyn Pruner> = Box::new(alloc, PairPruner::new(alloc))?;
-    pruner.begin();
-    pruner.justify(alloc, task, &mut draft, &state)
+    let mut pruner = PairPruner::new(alloc);
+    first_answer(&mut pruner, alloc, task, &mut draft, atom)
 }
 
 #[test]
@@ -95,9 +95,9 @@ fn a_noted_formula_answers_again(rt: HostRuntime) -> Result<(), Fail> {
 }
 
 #[test]
-fn through_a_bound_and_through_a_box(rt: HostRuntime) -> Result<(), Fail> {
+fn through_a_bound(rt: HostRuntime) -> Result<(), Fail> {
     let task = either(rt.alloc())?;
-    assert_eq!(rt; bound_answer(rt.alloc(), &task, 0)?, None);
-    assert_eq!(rt; boxed_answer(rt.alloc(), &task, 0)?, Some(4));
+    assert_eq!(rt; answer_by_atoms(rt.alloc(), &task, 0)?, None);
+    assert_eq!(rt; answer_by_pairs(rt.alloc(), &task, 0)?, Some(4));
     Ok(())
 }

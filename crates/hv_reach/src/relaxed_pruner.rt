@@ -1,12 +1,15 @@
 //! The pruner by reached atoms.
 
 ghost use Rattle.std.specs.Prelude.{◌≡◌, [], ◌↔◌, IsTrue, IfOk, IfSome, IfNone, MatchOption, OnErr, is_some};
+ghost use Rattle.hv_task.specs.AtomList.{IsListOf};
 ghost use Rattle.hv_task.specs.Strips.{IsState};
 ghost use Rattle.hv_lines.specs.Drafts.{IsGoodTable};
-ghost use Rattle.hv_lines.specs.Pruning.{Extends, IsAnswer, IsDeadBy, IsFirstNoted, NoneNoted};
-ghost use Rattle.hv_reach.specs.Pruners.{AreDescribed, AreHornNotes, FitRelaxed, HoldsAtomsOf, IsOutcome, IsRelaxedBlock};
+ghost use Rattle.hv_lines.specs.Pruning.{Extends, IsPrunerAnswer, IsDeadBy, IsFirstNoted, NoneNoted};
+ghost use Rattle.hv_reach.specs.Pruners.{AreDescribed, AreHornNotes, FitRelaxed, HoldsAtomsOf, IsRelaxedBlock};
+ghost use Rattle.hv_reach.specs.Working.Pruners.{IsOutcome};
 ghost use Rattle.hv_reach.specs.Written.{RelaxedExcludesFrom};
 
+use crate::note_rows::NoteRows;
 use crate::notes::write_block;
 use crate::relaxed::{relaxed_formula, relaxed_reason};
 use hv_lines::{Draft, Note, Pruner};
@@ -17,13 +20,14 @@ use std::marker::Model;
 /// A pruner that covers the states from which some goal atom isn't reached. For such a state it
 /// writes that the states are dead which hold no other atoms than those reached from it.
 ///
-/// A state is looked for in the notes one by one, in each by a row of the atoms that were reached.
+/// A state is looked for in all notes at once, by rows of the atoms that were reached: the first note
+/// whose row has each atom of the state answers.
 #[derive(Drop)]
 pub struct RelaxedPruner {
     // What was written, in order.
     notes: Vec<Note>,
     // The atoms that were reached, for each note.
-    reached: Vec<State>,
+    reached: NoteRows,
 }
 
 impl Model for RelaxedPruner {
@@ -31,7 +35,7 @@ impl Model for RelaxedPruner {
 
     ghost Value = { RelaxedNotes };
 
-    ghost view = { λ p. record { notes = p.notes.items; reached = p.reached.items } };
+    ghost view = { λ p. record { notes = p.notes.items; reached = p.reached.rows } };
 }
 
 impl RelaxedPruner {
@@ -41,7 +45,7 @@ impl RelaxedPruner {
     {
         RelaxedPruner {
             notes: Vec::new(alloc),
-            reached: Vec::new(alloc),
+            reached: NoteRows::new(alloc),
         }
     }
 
@@ -58,7 +62,7 @@ impl RelaxedPruner {
         requires good { IsGoodTable task.now draft.old.lines }
         requires fits { FitRelaxed task.now draft.old.lines self.old }
         requires state { IsState task.now state.now }
-        ensures answer { IfOk result (λ found. IsAnswer task.now (RelaxedExcludesFrom task.now)
+        ensures answer { IfOk result (λ found. IsPrunerAnswer task.now (RelaxedExcludesFrom task.now)
             (IsRelaxedBlock task.now state.now draft.old.lines) state.now found
             self.old.notes draft.old self.new.notes draft.new) }
         ensures some { IfOk result (λ found. IsTrue (is_some found)
@@ -85,7 +89,7 @@ impl RelaxedPruner {
 impl Pruner for RelaxedPruner {
     ghost use Rattle.hv_reach.specs.Pruners.{FitRelaxed};
     ghost use Rattle.hv_reach.specs.Written.{RelaxedExcludesFrom};
-    ghost use Rattle.hv_reach.specs.Fitting as fitting;
+    ghost use Rattle.hv_reach.specs.Working.Fitting as fitting;
 
     ghost covers = { λ _ task state. RelaxedExcludesFrom task state };
 
@@ -116,61 +120,64 @@ fn relaxed_answer(
     task: &Task,
     draft: &mut Draft,
     notes: &mut Vec<Note>,
-    reached: &mut Vec<State>,
+    reached: &mut NoteRows,
     state: &State,
 ) -> Result<Option<usize>, AllocError>
     requires good { IsGoodTable task.now draft.old.lines }
     requires fits { AreHornNotes task.now (RelaxedExcludesFrom task.now)
         draft.old.lines notes.old.items }
     requires described { AreDescribed HoldsAtomsOf task.now
-        draft.old.lines notes.old.items reached.old.items }
+        draft.old.lines notes.old.items reached.old.rows }
     requires state { IsState task.now state.now }
     ensures outcome { IfOk result (λ found. IsOutcome task.now (RelaxedExcludesFrom task.now)
         (IsRelaxedBlock task.now state.now draft.old.lines) state.now found
         notes.old.items draft.old notes.new.items draft.new) }
     ensures described { IfOk result (λ _. AreDescribed HoldsAtomsOf task.now
-        draft.new.lines notes.new.items reached.new.items) }
+        draft.new.lines notes.new.items reached.new.rows) }
     ensures err_draft { OnErr result (draft.new ≡ draft.old) }
     ensures err_notes { OnErr result (notes.new.items ≡ notes.old.items) }
-    ensures err_reached { OnErr result (reached.new.items ≡ reached.old.items) }
+    ensures err_reached { OnErr result (reached.new.rows ≡ reached.old.rows) }
 {
     let _atoms = task.atoms();
-    let noted = first_noted(task, draft, notes, reached, state);
+    let mut held = Vec::new(alloc);
+    state.list_atoms(&mut held)?;
+    let noted = first_noted(alloc, task, draft, notes, reached, state, held.as_slice())?;
     if noted.is_some() {
         return Ok(noted);
     }
     match relaxed_reason(alloc, task, state)? {
-        Some(held) => {
-            let clauses = relaxed_formula(alloc, &held)?;
-            reached.reserve(1)?;
-            let line = write_block(alloc, task, draft, notes, clauses)?;
-            reached.push_reserved(held);
+        Some(row) => {
+            let clauses = relaxed_formula(alloc, &row)?;
+            let line = write_block(alloc, task, draft, notes, clauses, reached, row)?;
             Ok(Some(line))
         }
         None => Ok(None),
     }
 }
 
-// The line of the first note whose formula holds the state: it holds reached atoms alone.
+// The line of the first note whose formula holds the state of these atoms: its row has each of them.
 fn first_noted(
+    alloc: Global,
     task: &Task,
     draft: &Draft,
     notes: &Vec<Note>,
-    reached: &Vec<State>,
+    reached: &NoteRows,
     state: &State,
-) -> Option<usize>
+    held: &[u32],
+) -> Result<Option<usize>, AllocError>
     requires state { IsState task.now state.now }
+    requires held { IsListOf state.now held.now }
     requires described { AreDescribed HoldsAtomsOf task.now
-        draft.now.lines notes.now.items reached.now.items }
-    ensures { MatchOption result (NoneNoted task.now draft.now.lines notes.now.items state.now)
-        (λ line. IsFirstNoted task.now draft.now.lines notes.now.items state.now line) }
+        draft.now.lines notes.now.items reached.now.rows }
+    ensures { IfOk result (λ found. MatchOption found
+        (NoneNoted task.now draft.now.lines notes.now.items state.now)
+        (λ line. IsFirstNoted task.now draft.now.lines notes.now.items state.now line)) }
 {
     let _ = task;
     let _ = draft;
-    for place in 0..notes.len() {
-        if state.next_outside(&reached[place], 0).is_none() {
-            return Some(notes[place].line);
-        }
+    let _ = state;
+    match reached.first(alloc, held, 0)? {
+        Some(place) => Ok(Some(notes[place].line)),
+        None => Ok(None),
     }
-    None
 }

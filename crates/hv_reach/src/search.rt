@@ -5,8 +5,8 @@ ghost use Rattle.hv_task.specs.declared.action.Action.{Action};
 ghost use Rattle.hv_task.specs.State.{AreBelow, has_atom};
 ghost use Rattle.hv_task.specs.Strips.{IsOver, atoms};
 ghost use Rattle.hv_reach.specs.Reached.{has_pair};
-ghost use Rattle.hv_reach.specs.Index.{IsIndex};
-ghost use Rattle.hv_reach.specs.Table.{AreReady, AreReadyBut, IsPairStep, IsReady, IsTable, IsTurn, KeepAllPairs, KeepsPairs, PairsGrowWithin};
+ghost use Rattle.hv_reach.specs.Working.Index.{IsActionIndex};
+ghost use Rattle.hv_reach.specs.Working.Table.{HaveTheirPairs, HaveTheirPairsBut, IsPairStep, HasItsPairs, IsPairTable, IsTurn, KeepAllPairs, KeepsPairs, PairsGrowWithin};
 
 use crate::mask::{has_pairs, spared};
 use crate::table::{join_all, mark_all};
@@ -22,13 +22,13 @@ pub(crate) fn close(
     mask: &mut State,
     seen: &mut State,
 )
-    requires index { IsIndex (atoms task.now) task.now.actions index.now.items }
-    requires table { IsTable (atoms task.now) rows.old.items }
+    requires index { IsActionIndex (atoms task.now) task.now.actions index.now.items }
+    requires table { IsPairTable (atoms task.now) rows.old.items }
     requires flags { length flags.old ≡ atoms task.now + 1 }
     requires mask { length mask.old ≡ atoms task.now }
     requires seen { length seen.old ≡ atoms task.now }
-    requires ready { AreReady (atoms task.now) task.now.actions rows.old.items flags.old }
-    ensures table { IsTable (atoms task.now) rows.new.items }
+    requires ready { HaveTheirPairs (atoms task.now) task.now.actions rows.old.items flags.old }
+    ensures table { IsPairTable (atoms task.now) rows.new.items }
     ensures grows { (p q : ℕ) → has_pair rows.old.items p q ≡ true
         → has_pair rows.new.items p q ≡ true }
     ensures keeps { KeepAllPairs task.now.actions (has_pair rows.new.items) }
@@ -50,15 +50,15 @@ fn settle(
     mask: &mut State,
     seen: &mut State,
 ) -> bool
-    requires index { IsIndex (atoms task.now) task.now.actions index.now.items }
-    requires table { IsTable (atoms task.now) rows.old.items }
+    requires index { IsActionIndex (atoms task.now) task.now.actions index.now.items }
+    requires table { IsPairTable (atoms task.now) rows.old.items }
     requires flags { length flags.old ≡ atoms task.now + 1 }
     requires mask { length mask.old ≡ atoms task.now }
     requires seen { length seen.old ≡ atoms task.now }
-    requires ready { AreReady (atoms task.now) task.now.actions rows.old.items flags.old }
+    requires ready { HaveTheirPairs (atoms task.now) task.now.actions rows.old.items flags.old }
     ensures turn { IsTurn (atoms task.now) rows.old.items flags.old
         rows.new.items flags.new result }
-    ensures ready { AreReady (atoms task.now) task.now.actions rows.new.items flags.new }
+    ensures ready { HaveTheirPairs (atoms task.now) task.now.actions rows.new.items flags.new }
     ensures mask { length mask.new ≡ atoms task.now }
     ensures seen { length seen.new ≡ atoms task.now }
     ensures least { PairsGrowWithin (KeepAllPairs task.now.actions) rows.old.items rows.new.items }
@@ -86,14 +86,14 @@ fn sweep_short(
     mask: &mut State,
     few: u32,
 ) -> bool
-    requires index { IsIndex (atoms task.now) task.now.actions index.now.items }
-    requires table { IsTable (atoms task.now) rows.old.items }
+    requires index { IsActionIndex (atoms task.now) task.now.actions index.now.items }
+    requires table { IsPairTable (atoms task.now) rows.old.items }
     requires flags { length flags.old ≡ atoms task.now + 1 }
     requires mask { length mask.old ≡ atoms task.now }
-    requires ready { AreReady (atoms task.now) task.now.actions rows.old.items flags.old }
+    requires ready { HaveTheirPairs (atoms task.now) task.now.actions rows.old.items flags.old }
     ensures turn { IsTurn (atoms task.now) rows.old.items flags.old
         rows.new.items flags.new result }
-    ensures ready { AreReady (atoms task.now) task.now.actions rows.new.items flags.new }
+    ensures ready { HaveTheirPairs (atoms task.now) task.now.actions rows.new.items flags.new }
     ensures mask { length mask.new ≡ atoms task.now }
     ensures least { PairsGrowWithin (KeepAllPairs task.now.actions) rows.old.items rows.new.items }
 {
@@ -115,14 +115,14 @@ fn turn_short(
     few: u32,
 ) -> bool
     requires flag { flag ≤ atoms task.now }
-    requires index { IsIndex (atoms task.now) task.now.actions index.now.items }
-    requires table { IsTable (atoms task.now) rows.old.items }
+    requires index { IsActionIndex (atoms task.now) task.now.actions index.now.items }
+    requires table { IsPairTable (atoms task.now) rows.old.items }
     requires flags { length flags.old ≡ atoms task.now + 1 }
     requires mask { length mask.old ≡ atoms task.now }
-    requires ready { AreReady (atoms task.now) task.now.actions rows.old.items flags.old }
+    requires ready { HaveTheirPairs (atoms task.now) task.now.actions rows.old.items flags.old }
     ensures turn { IsTurn (atoms task.now) rows.old.items flags.old
         rows.new.items flags.new result }
-    ensures ready { AreReady (atoms task.now) task.now.actions rows.new.items flags.new }
+    ensures ready { HaveTheirPairs (atoms task.now) task.now.actions rows.new.items flags.new }
     ensures mask { length mask.new ≡ atoms task.now }
     ensures least { PairsGrowWithin (KeepAllPairs task.now.actions) rows.old.items rows.new.items }
 {
@@ -142,15 +142,15 @@ fn chase(
     mask: &mut State,
     seen: &mut State,
 ) -> bool
-    requires index { IsIndex (atoms task.now) task.now.actions index.now.items }
-    requires table { IsTable (atoms task.now) rows.old.items }
+    requires index { IsActionIndex (atoms task.now) task.now.actions index.now.items }
+    requires table { IsPairTable (atoms task.now) rows.old.items }
     requires flags { length flags.old ≡ atoms task.now + 1 }
     requires mask { length mask.old ≡ atoms task.now }
     requires seen { length seen.old ≡ atoms task.now }
-    requires ready { AreReady (atoms task.now) task.now.actions rows.old.items flags.old }
+    requires ready { HaveTheirPairs (atoms task.now) task.now.actions rows.old.items flags.old }
     ensures turn { IsTurn (atoms task.now) rows.old.items flags.old
         rows.new.items flags.new result }
-    ensures ready { AreReady (atoms task.now) task.now.actions rows.new.items flags.new }
+    ensures ready { HaveTheirPairs (atoms task.now) task.now.actions rows.new.items flags.new }
     ensures mask { length mask.new ≡ atoms task.now }
     ensures seen { length seen.new ≡ atoms task.now }
     ensures least { PairsGrowWithin (KeepAllPairs task.now.actions) rows.old.items rows.new.items }
@@ -171,7 +171,7 @@ fn chase(
 
 // An atom that is in with itself and was not seen, if there is one.
 fn next_unseen(atoms: u32, rows: &Vec<State>, seen: &State) -> Option<u32>
-    requires table { IsTable atoms rows.now.items }
+    requires table { IsPairTable atoms rows.now.items }
     requires seen { length seen.now ≡ atoms }
     ensures { MatchOption result
         ((q : ℕ) → q < atoms → has_pair rows.now.items q q ≡ true → has_atom seen.now q ≡ true)
@@ -193,16 +193,16 @@ fn sweep(
     flags: &mut State,
     mask: &mut State,
 ) -> bool
-    requires index { IsIndex (atoms task.now) task.now.actions index.now.items }
-    requires table { IsTable (atoms task.now) rows.old.items }
+    requires index { IsActionIndex (atoms task.now) task.now.actions index.now.items }
+    requires table { IsPairTable (atoms task.now) rows.old.items }
     requires flags { length flags.old ≡ atoms task.now + 1 }
     requires mask { length mask.old ≡ atoms task.now }
-    requires ready { AreReady (atoms task.now) task.now.actions rows.old.items flags.old }
+    requires ready { HaveTheirPairs (atoms task.now) task.now.actions rows.old.items flags.old }
     ensures turn { IsTurn (atoms task.now) rows.old.items flags.old
         rows.new.items flags.new result }
     ensures quiet { result ≡ false → (x : ℕ) → x ≤ atoms task.now
         → has_atom flags.new x ≡ false }
-    ensures ready { AreReady (atoms task.now) task.now.actions rows.new.items flags.new }
+    ensures ready { HaveTheirPairs (atoms task.now) task.now.actions rows.new.items flags.new }
     ensures mask { length mask.new ≡ atoms task.now }
     ensures least { PairsGrowWithin (KeepAllPairs task.now.actions) rows.old.items rows.new.items }
 {
@@ -223,15 +223,15 @@ fn turn(
     flag: u32,
 ) -> bool
     requires flag { flag ≤ atoms task.now }
-    requires index { IsIndex (atoms task.now) task.now.actions index.now.items }
-    requires table { IsTable (atoms task.now) rows.old.items }
+    requires index { IsActionIndex (atoms task.now) task.now.actions index.now.items }
+    requires table { IsPairTable (atoms task.now) rows.old.items }
     requires flags { length flags.old ≡ atoms task.now + 1 }
     requires mask { length mask.old ≡ atoms task.now }
-    requires ready { AreReady (atoms task.now) task.now.actions rows.old.items flags.old }
+    requires ready { HaveTheirPairs (atoms task.now) task.now.actions rows.old.items flags.old }
     ensures turn { IsTurn (atoms task.now) rows.old.items flags.old
         rows.new.items flags.new result }
     ensures lowered { result ≡ false → has_atom flags.new flag ≡ false }
-    ensures ready { AreReady (atoms task.now) task.now.actions rows.new.items flags.new }
+    ensures ready { HaveTheirPairs (atoms task.now) task.now.actions rows.new.items flags.new }
     ensures mask { length mask.new ≡ atoms task.now }
     ensures least { PairsGrowWithin (KeepAllPairs task.now.actions) rows.old.items rows.new.items }
 {
@@ -252,14 +252,14 @@ pub(crate) fn wake(
     numbers: &[u32],
 ) -> bool
     requires numbers { AreBelow (length task.now.actions) numbers.now }
-    requires table { IsTable (atoms task.now) rows.old.items }
+    requires table { IsPairTable (atoms task.now) rows.old.items }
     requires flags { length flags.old ≡ atoms task.now + 1 }
     requires mask { length mask.old ≡ atoms task.now }
-    requires ready { AreReadyBut numbers.now 0 (atoms task.now)
+    requires ready { HaveTheirPairsBut numbers.now 0 (atoms task.now)
         task.now.actions rows.old.items flags.old }
     ensures step { IsPairStep (atoms task.now) rows.old.items flags.old
         rows.new.items flags.new result }
-    ensures ready { AreReady (atoms task.now) task.now.actions rows.new.items flags.new }
+    ensures ready { HaveTheirPairs (atoms task.now) task.now.actions rows.new.items flags.new }
     ensures mask { length mask.new ≡ atoms task.now }
     ensures least { PairsGrowWithin (KeepAllPairs task.now.actions) rows.old.items rows.new.items }
 {
@@ -278,12 +278,12 @@ fn visit(
     mask: &mut State,
     action: &Action,
 ) -> bool
-    requires table { IsTable atoms rows.old.items }
+    requires table { IsPairTable atoms rows.old.items }
     requires flags { length flags.old ≡ atoms + 1 }
     requires over { IsOver atoms action.now }
     requires mask { length mask.old ≡ atoms }
     ensures step { IsPairStep atoms rows.old.items flags.old rows.new.items flags.new result }
-    ensures ready { IsReady atoms rows.new.items flags.new action.now }
+    ensures ready { HasItsPairs atoms rows.new.items flags.new action.now }
     ensures mask { length mask.new ≡ atoms }
     ensures least { PairsGrowWithin (λ set. KeepsPairs set action.now)
         rows.old.items rows.new.items }

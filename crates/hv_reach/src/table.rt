@@ -5,14 +5,14 @@ ghost use Rattle.std.specs.Prelude.{◌≡◌, ◌<◌, ◌+◌, ◌⊎◌, ℕ,
 ghost use Rattle.std.specs.List.{All};
 ghost use Rattle.hv_task.specs.State.{AreBelow, has_atom};
 ghost use Rattle.hv_reach.specs.Reached.{ArePaired, HasPairsOf, has_pair};
-ghost use Rattle.hv_reach.specs.Table.{AreRaised, IsPairStep, IsNextNew, IsTable, PairsGrowWithin, set_at, set_both};
+ghost use Rattle.hv_reach.specs.Working.Table.{AreRaised, IsPairStep, IsNextNew, IsPairTable, PairsGrowWithin, set_at, set_both};
 
 use hv_task::State;
 use std::alloc::{AllocError, Global};
 
 /// A table of so many atoms without a pair.
 pub(crate) fn table(alloc: Global, atoms: u32) -> Result<Vec<State>, AllocError>
-    ensures table { IfOk result (λ rows. IsTable atoms rows.items) }
+    ensures table { IfOk result (λ rows. IsPairTable atoms rows.items) }
     ensures none { IfOk result (λ rows. (p q : ℕ) → has_pair rows.items p q ≡ false) }
 {
     let mut rows = Vec::new(alloc);
@@ -25,7 +25,7 @@ pub(crate) fn table(alloc: Global, atoms: u32) -> Result<Vec<State>, AllocError>
 
 /// Puts all pairs of these atoms in, and says whether one is new.
 pub(crate) fn mark_all(atoms: u32, rows: &mut Vec<State>, flags: &mut State, list: &[u32]) -> bool
-    requires table { IsTable atoms rows.old.items }
+    requires table { IsPairTable atoms rows.old.items }
     requires flags { length flags.old ≡ atoms + 1 }
     requires below { AreBelow atoms list.now }
     ensures step { IsPairStep atoms rows.old.items flags.old rows.new.items flags.new result }
@@ -38,7 +38,7 @@ pub(crate) fn mark_all(atoms: u32, rows: &mut Vec<State>, flags: &mut State, lis
 
 // Puts each of these atoms in with itself.
 fn mark_diagonal(atoms: u32, rows: &mut Vec<State>, flags: &mut State, list: &[u32]) -> bool
-    requires table { IsTable atoms rows.old.items }
+    requires table { IsPairTable atoms rows.old.items }
     requires flags { length flags.old ≡ atoms + 1 }
     requires below { AreBelow atoms list.now }
     ensures step { IsPairStep atoms rows.old.items flags.old rows.new.items flags.new result }
@@ -55,7 +55,7 @@ fn mark_diagonal(atoms: u32, rows: &mut Vec<State>, flags: &mut State, list: &[u
 
 // Puts in each of these atoms with each, where each is in with itself.
 fn mark_square(atoms: u32, rows: &mut Vec<State>, flags: &mut State, list: &[u32]) -> bool
-    requires table { IsTable atoms rows.old.items }
+    requires table { IsPairTable atoms rows.old.items }
     requires flags { length flags.old ≡ atoms + 1 }
     requires below { AreBelow atoms list.now }
     requires diagonal { All (λ q. has_pair rows.old.items q q ≡ true) list.now }
@@ -72,7 +72,7 @@ fn mark_square(atoms: u32, rows: &mut Vec<State>, flags: &mut State, list: &[u32
 
 // Puts the atom in with each of these.
 fn mark_row(atoms: u32, rows: &mut Vec<State>, flags: &mut State, first: u32, list: &[u32]) -> bool
-    requires table { IsTable atoms rows.old.items }
+    requires table { IsPairTable atoms rows.old.items }
     requires flags { length flags.old ≡ atoms + 1 }
     requires below { AreBelow atoms list.now }
     requires first { first < atoms }
@@ -98,7 +98,7 @@ pub(crate) fn join_all(
     list: &[u32],
     mask: &State,
 ) -> bool
-    requires table { IsTable atoms rows.old.items }
+    requires table { IsPairTable atoms rows.old.items }
     requires flags { length flags.old ≡ atoms + 1 }
     requires below { AreBelow atoms list.now }
     requires mask { length mask.now ≡ atoms }
@@ -120,7 +120,7 @@ pub(crate) fn join_all(
 
 // Puts the atom in with each atom of the mask.
 fn join_one(atoms: u32, rows: &mut Vec<State>, flags: &mut State, first: u32, mask: &State) -> bool
-    requires table { IsTable atoms rows.old.items }
+    requires table { IsPairTable atoms rows.old.items }
     requires flags { length flags.old ≡ atoms + 1 }
     requires first { first < atoms }
     requires mask { length mask.now ≡ atoms }
@@ -151,7 +151,7 @@ fn next_new(mask: &State, row: &State, from: u32) -> Option<u32>
 
 // Puts a pair in, and says whether it is new.
 fn mark(atoms: u32, rows: &mut Vec<State>, flags: &mut State, first: u32, second: u32) -> bool
-    requires table { IsTable atoms rows.old.items }
+    requires table { IsPairTable atoms rows.old.items }
     requires flags { length flags.old ≡ atoms + 1 }
     requires first { first < atoms }
     requires second { second < atoms }
@@ -172,7 +172,7 @@ fn mark(atoms: u32, rows: &mut Vec<State>, flags: &mut State, first: u32, second
 }
 
 fn set_pair(atoms: u32, rows: &mut Vec<State>, first: u32, second: u32)
-    requires table { IsTable atoms rows.old.items }
+    requires table { IsPairTable atoms rows.old.items }
     requires first { first < atoms }
     requires second { second < atoms }
     ensures { rows.new.items ≡ set_both rows.old.items first second }

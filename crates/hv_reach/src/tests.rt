@@ -1,3 +1,5 @@
+//! Tests of what is reached.
+
 ghost use Rattle.std.specs.Prelude.{◌≡◌, ◌≤◌, ℕ, IfOk, OnOk, length};
 ghost use Rattle.hv_task.specs.State.{AreBelow};
 ghost use Rattle.hv_task.specs.Strips.{IsState, atoms};
@@ -67,86 +69,98 @@ pub(crate) fn add(
     Ok(())
 }
 
-// The reached pairs from the initial state, each with its least atom first, as two digits.
-fn codes_of(alloc: Global, task: &Task) -> Result<Vec<u32>, AllocError>
-    requires { atoms task.now ≤ 10 }
-{
-    let start = task.start_state(alloc)?;
-    let pairs = reached_pairs(alloc, task, &start)?;
-    let mut codes = Vec::new(alloc);
-    for first in 0..task.atoms() {
-        for second in first..task.atoms() {
-            if pairs.has(first, second) {
-                codes.push(10 * first + second)?;
-            }
+/// Actions over four atoms, as bits: what each asks for, adds and deletes. A robot between two places.
+const ROBOT: [(u32, u32, u32); 2] = [(0b0001, 0b0010, 0b0001), (0b0010, 0b0001, 0b0010)];
+
+/// Three that each take the next away.
+const THREE: [(u32, u32, u32); 3] = [
+    (0, 0b0001, 0b0010),
+    (0, 0b0010, 0b0100),
+    (0, 0b0100, 0b0001),
+];
+
+/// An atom that is added and deleted stays.
+const STAYS: [(u32, u32, u32); 2] = [(0b0001, 0b0011, 0b0001), (0, 0b0100, 0b0010)];
+
+// The atoms below 4 whose bits are 1.
+fn atoms_in(alloc: Global, bits: u32) -> Result<Vec<u32>, AllocError> {
+    let mut atoms = Vec::new(alloc);
+    for atom in 0..4u32 {
+        if (bits >> atom) & 1 == 1 {
+            atoms.push(atom)?;
         }
     }
-    Ok(codes)
+    Ok(atoms)
 }
 
-fn atoms_of(alloc: Global, task: &Task) -> Result<AtomList, AllocError> {
-    let start = task.start_state(alloc)?;
-    let list = reached_atoms(alloc, task, &start)?;
-    Ok(list)
+// The task with four atoms and these actions that starts with the first atom.
+fn task_in(alloc: Global, actions: &[(u32, u32, u32)]) -> Result<Task, AllocError>
+    ensures { IfOk result (λ task. atoms task ≡ 4) }
+{
+    let mut task = task_of(alloc, 4, &[0])?;
+    for action in actions {
+        let pre = atoms_in(alloc, action.0)?;
+        let more = atoms_in(alloc, action.1)?;
+        let less = atoms_in(alloc, action.2)?;
+        add(
+            alloc,
+            &mut task,
+            pre.as_slice(),
+            more.as_slice(),
+            less.as_slice(),
+        )?;
+    }
+    Ok(task)
 }
 
-#[test]
-fn a_robot_between_two_places_gets_no_key(rt: HostRuntime) -> Result<(), Fail> {
-    let mut task = task_of(rt.alloc(), 3, &[0])?;
-    add(rt.alloc(), &mut task, &[0], &[1], &[0])?;
-    add(rt.alloc(), &mut task, &[1], &[0], &[1])?;
-    assert_eq!(rt; atoms_of(rt.alloc(), &task)?.as_slice(), [0, 1].as_slice());
-    assert_eq!(rt; codes_of(rt.alloc(), &task)?.as_slice(), [0, 11].as_slice());
-    Ok(())
+// What is reached in it: the atoms as bits, and the pairs as a digit for each atom, that of the last
+// one first.
+fn reached_in(alloc: Global, actions: &[(u32, u32, u32)]) -> Result<(u32, u32), AllocError> {
+    let task = task_in(alloc, actions)?;
+    let state = task.start_state(alloc)?;
+    let list = reached_atoms(alloc, &task, &state)?;
+    let pairs = reached_pairs(alloc, &task, &state)?;
+    let mut atoms = 0;
+    let mut digits = 0;
+    for first in 0..4u32 {
+        atoms |= u32::from(list.has(first)) << first;
+        for second in 0..4u32 {
+            digits |= u32::from(pairs.has(first, second)) << (4 * first + second);
+        }
+    }
+    Ok((atoms, digits))
 }
 
-#[test]
-fn three_that_each_take_the_next_away(rt: HostRuntime) -> Result<(), Fail> {
-    let mut task = task_of(rt.alloc(), 3, &[0])?;
-    add(rt.alloc(), &mut task, &[], &[0], &[1])?;
-    add(rt.alloc(), &mut task, &[], &[1], &[2])?;
-    add(rt.alloc(), &mut task, &[], &[2], &[0])?;
-    assert_eq!(rt;
-        atoms_of(rt.alloc(), &task)?.as_slice(),
-        [0, 1, 2].as_slice()
-    );
-    assert_eq!(rt;
-        codes_of(rt.alloc(), &task)?.as_slice(),
-        [0, 1, 2, 11, 12, 22].as_slice()
-    );
-    Ok(())
-}
-
-#[test]
-fn an_atom_added_and_deleted_stays_and_one_unreached_is_in_no_pair(
-    rt: HostRuntime,
-) -> Result<(), Fail> {
-    let mut task = task_of(rt.alloc(), 4, &[0])?;
-    add(rt.alloc(), &mut task, &[0], &[0, 1], &[0])?;
-    add(rt.alloc(), &mut task, &[], &[2], &[1])?;
-    assert_eq!(rt;
-        atoms_of(rt.alloc(), &task)?.as_slice(),
-        [0, 1, 2].as_slice()
-    );
-    assert_eq!(rt;
-        codes_of(rt.alloc(), &task)?.as_slice(),
-        [0, 1, 2, 11, 12, 22].as_slice()
-    );
-    Ok(())
-}
-
-#[test]
-fn chains_in_the_order_that_is_worst(rt: HostRuntime) -> Result<(), Fail> {
-    let mut task = task_of(rt.alloc(), 70, &[69])?;
+// Whether all is reached in a chain of 70 atoms whose actions stand in the order that is worst.
+fn all_of_a_chain(alloc: Global) -> Result<bool, AllocError> {
+    let mut task = task_of(alloc, 70, &[69])?;
     for atom in 0..69u32 {
-        add(rt.alloc(), &mut task, &[atom + 1], &[atom], &[])?;
+        add(alloc, &mut task, &[atom + 1], &[atom], &[])?;
     }
-    assert_eq!(rt; atoms_of(rt.alloc(), &task)?.len(), 70);
-    let start = task.start_state(rt.alloc())?;
-    let pairs = reached_pairs(rt.alloc(), &task, &start)?;
+    let state = task.start_state(alloc)?;
+    let list = reached_atoms(alloc, &task, &state)?;
+    let pairs = reached_pairs(alloc, &task, &state)?;
     for atom in 0..70 {
-        assert!(rt; pairs.has(0, atom) && pairs.has(atom, 69));
+        if !list.has(atom) || !pairs.has(0, atom) || !pairs.has(atom, 69) {
+            return Ok(false);
+        }
     }
+    Ok(true)
+}
+
+// Whether what is reached with these actions is right: a robot gets no key, and an atom that isn't
+// reached is in no pair.
+fn small_tasks_are_right(alloc: Global) -> Result<bool, AllocError> {
+    let robot = reached_in(alloc, &ROBOT)?;
+    let three = reached_in(alloc, &THREE)?;
+    let stays = reached_in(alloc, &STAYS)?;
+    Ok(robot == (0b0011, 0x0021) && three == (0b0111, 0x0777) && stays == (0b0111, 0x0777))
+}
+
+#[test]
+fn small_tasks_and_a_chain(rt: HostRuntime) -> Result<(), Fail> {
+    assert!(rt; small_tasks_are_right(rt.alloc())?);
+    assert!(rt; all_of_a_chain(rt.alloc())?);
     Ok(())
 }
 
@@ -278,24 +292,31 @@ fn made_task(alloc: Global, seed: u32) -> Result<Task, AllocError>
     Ok(task)
 }
 
+// Whether all that is reached in the task of this number is what the plain program finds.
+fn is_as_plain(alloc: Global, seed: u32) -> Result<bool, AllocError> {
+    let task = made_task(alloc, seed)?;
+    let start = task.start_state(alloc)?;
+    let list = reached_atoms(alloc, &task, &start)?;
+    let held = plain_atoms(alloc, &task, &start)?;
+    let pairs = reached_pairs(alloc, &task, &start)?;
+    let table = plain_pairs(alloc, &task, &start)?;
+    for first in 0..6 {
+        if list.has(first) != at(&held, first) {
+            return Ok(false);
+        }
+        for second in 0..6 {
+            if pairs.has(first, second) != at(&table, cell(6, first, second)) {
+                return Ok(false);
+            }
+        }
+    }
+    Ok(true)
+}
+
 #[test]
 fn answers_are_those_of_plain_sweeps(rt: HostRuntime) -> Result<(), Fail> {
     for seed in 0..3000 {
-        let task = made_task(rt.alloc(), seed)?;
-        let start = task.start_state(rt.alloc())?;
-        let list = reached_atoms(rt.alloc(), &task, &start)?;
-        let held = plain_atoms(rt.alloc(), &task, &start)?;
-        let pairs = reached_pairs(rt.alloc(), &task, &start)?;
-        let table = plain_pairs(rt.alloc(), &task, &start)?;
-        for first in 0..6 {
-            assert_eq!(rt; list.has(first), at(&held, first));
-            for second in 0..6 {
-                assert_eq!(rt;
-                    pairs.has(first, second),
-                    at(&table, cell(6, first, second))
-                );
-            }
-        }
+        assert!(rt; is_as_plain(rt.alloc(), seed)?, "{seed}");
     }
     Ok(())
 }

@@ -7,8 +7,9 @@ use Rattle.hv_task.specs.State.{applicable, successor}
 use Rattle.hv_task.specs.Strips.{Strips, IsState, IsTask, atoms, start_state}
 use Rattle.hv_sets.specs.Truth.{InStates}
 use Rattle.hv_sets.specs.declared.operand.Which.TheVariants as S
-use Rattle.hv_lines.specs.Drafts.{IsGoodNext, IsGoodTable, IsShort, conclusion, draft_setting, onto}
-use Rattle.hv_lines.specs.Good.{IsFormed, IsGood}
+use Rattle.hv_lines.specs.Drafts.{IsGoodNext, IsGoodTable, IsShortLine, conclusion, draft_setting, onto}
+use Rattle.hv_lines.specs.Good.{IsGood}
+use Rattle.hv_lines.specs.Working.Good.{IsFormed}
 use Rattle.hv_lines.specs.Judged.{Concludes}
 use Rattle.hv_lines.specs.Numbering.{IsTable, acts_at, acts_count, expr_at, expr_count, known_count, statement_at}
 use Rattle.hv_lines.specs.Queries.{which_at}
@@ -30,8 +31,9 @@ use Rattle.hv_lines.proofs.Drafting.{below_three, below_two, concludes, formed_e
 use Rattle.hv_lines.proofs.Laws.{acts_below, expr_at_here, expr_below, known_below, set_in, set_out, speaks_at, statement_at_here}
 use Rattle.hv_lines.proofs.Lengths.{short_after, short_and, short_known, short_or}
 use Rattle.hv_lines.proofs.Shaped.{leaf_below}
-use Rattle.hv_replay.specs.ClosingLines.{IsClosedSearch, closing_block, closing_lines}
-use Rattle.hv_replay.specs.PrunedLines.{IsListedSet, IsPrunedUnion, Rise}
+use Rattle.hv_replay.specs.ClosingLines.{closing_block, closing_lines}
+use Rattle.hv_replay.specs.Working.ClosingLines.{IsClosedSearch}
+use Rattle.hv_replay.specs.Working.PrunedLines.{IsListedSet, IsPrunedUnion, Rise}
 use Rattle.hv_lines.specs.declared.note.Note.{Note}
 use Rattle.hv_replay.proofs.Explicit.{goal_states, head_in, listed_anchors, listed_states, start_anchors, start_states, states_at}
 use Rattle.hv_replay.proofs.Sided.{good_after, good_within, of_one, of_two, rise_one, rise_two}
@@ -89,7 +91,7 @@ module _ (task : Strips) (old more : List Line) (table : IsTable (onto more old)
 module _ (task : Strips) (is_task : IsTask task) (old : List Line) (good : IsGoodTable task old) (prelude : HasPrelude old) (s k count : ℕ)
     (states : List (List ℕ)) (union : Note) (s_is : s ≡ expr_count old) (k_is : k ≡ known_count old) (s_few : s + 3 < 10 ^ 18)
     (k_few : k + 7 < 10 ^ 18) (is_union : IsPrunedUnion task old count union) (count_few : count ≤ 65000)
-    (short : IsShort (L.Expr s (E.States states))) (closed : IsClosedSearch task states (states_in task old union.set)) where
+    (short : IsShortLine (L.Expr s (E.States states))) (closed : IsClosedSearch task states (states_in task old union.set)) where
   abbrev setting : Setting
   setting = draft_setting task
 

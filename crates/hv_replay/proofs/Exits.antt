@@ -15,9 +15,9 @@ use Rattle.hv_explicit.specs.Codes.{IsSetOf}
 use Rattle.hv_explicit.specs.Listing.{Listing, in_listing}
 use Rattle.hv_explicit.proofs.Clashes.{applies, applies_not, stands_after, stands_list}
 use Rattle.hv_replay.specs.Closed.{IsGoalFree, state_in}
-use Rattle.hv_replay.specs.Following.{Stays}
-use Rattle.hv_replay.specs.Logs.{SearchLog, StandsAt}
-use Rattle.hv_replay.specs.Waiting.{AreWaiting, IsIn}
+use Rattle.hv_replay.specs.Working.Following.{StaysListed}
+use Rattle.hv_replay.specs.Logs.{SearchLog, StandsInLog}
+use Rattle.hv_replay.specs.Working.Waiting.{AreWaiting, IsIn}
 use Rattle.hv_replay.specs.declared.log.Entry.{Entry}
 use Rattle.hv_replay.proofs.Followed.{same_entry}
 
@@ -28,7 +28,7 @@ holds_all n held wanted below over true tells = sym (applies n held wanted below
 holds_all n held wanted below over false tells =
     sym (applies_not n held wanted over (λ all. let f : false ≡ true = tells.1 all in absurd cc))
 
-pub goal_free : (task : Strips) (log : SearchLog) (place : ℕ) (x : Entry) → StandsAt log place x → x.expanded ≡ true → (has : Bool)
+pub goal_free : (task : Strips) (log : SearchLog) (place : ℕ) (x : Entry) → StandsInLog log place x → x.expanded ≡ true → (has : Bool)
     → has ≡ is_goal task (state_in log x) → (not has ≡ true) ↔ IsGoalFree task log place
 goal_free task log place x stands expanded true same =
     (λ no. let f : false ≡ true = no in absurd cc, λ free. let f : true ≡ false = same ∙ free x stands expanded in absurd cc)
@@ -63,7 +63,7 @@ module _ (task : Strips) (set : Listing) (held : List ℕ) (below : AreBelow (at
     same_action a at = let f : ◌≡◌ {A = Option Action} (Some action) (Some a) = sym named ∙ at in cc
 
     -- an action whose precondition isn't held leads nowhere
-    pub stays_put : (All (λ p. Contains held p) action.pre → ⊥) → Stays task set state number
+    pub stays_put : (All (λ p. Contains held p) action.pre → ⊥) → StaysListed task set state number
     stays_put none = λ a at can.
         let no = applies_not (atoms task) held action.pre over.pre none in
         let f : false ≡ true = sym no ∙ (ap (λ (x : Action). applicable x state) (same_action a at) ∙ can) in absurd cc
@@ -71,7 +71,7 @@ module _ (task : Strips) (set : Listing) (held : List ℕ) (below : AreBelow (at
     -- the result of another is looked up
     pub stays_listed : set.atoms ≡ atoms task → All (λ p. Contains held p) action.pre → (found : Bool)
         → ((s : List Bool) → length s ≡ set.atoms → IsSetOf (is_after action held) s → found ≡ in_listing set s)
-        → (found ≡ true) ↔ Stays task set state number
+        → (found ≡ true) ↔ StaysListed task set state number
     stays_listed size all found tells =
         let stands = stands_after task action held below over in
         let is : found ≡ in_listing set (successor action state) = tells (successor action state) (stands.of_task ∙ sym size) stands.same in (
@@ -92,9 +92,9 @@ module _ (task : Strips) (set : Listing) (held : List ℕ) (below : AreBelow (at
 
   -- the actions in the rows of the held atoms, and in the last row, are all that may be applicable
   pub all_asked : (rows : List (Vec ℕ)) → AreWaiting (atoms task) task.actions rows → (least : ℕ)
-      → ((k : ℕ) → IsIn rows (atoms task) k → k < least → Stays task set state k)
-      → ((i : ℕ) → i < length held → (k : ℕ) → IsIn rows (get_or held i 0) k → k < least → Stays task set state k)
-      → (k : ℕ) → k < least → Stays task set state k
+      → ((k : ℕ) → IsIn rows (atoms task) k → k < least → StaysListed task set state k)
+      → ((i : ℕ) → i < length held → (k : ℕ) → IsIn rows (get_or held i 0) k → k < least → StaysListed task set state k)
+      → (k : ℕ) → k < least → StaysListed task set state k
   all_asked rows waits least last each k less = λ a at can.
       elim (waits.each k a at) [
         | inl w ↦

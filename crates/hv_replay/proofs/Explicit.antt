@@ -12,14 +12,15 @@ use Rattle.hv_sets.specs.Query.{HasAnchor, action_of, asked, in_operand, in_whic
 use Rattle.hv_sets.specs.declared.operand.Operand.{Operand}
 use Rattle.hv_sets.specs.declared.operand.Which.{Which}
 use Rattle.hv_sets.specs.declared.operand.Which.TheVariants as S
-use Rattle.hv_lines.specs.Good.{IsBasicWord, IsFormed, IsGood, IsRuleWord}
+use Rattle.hv_lines.specs.Good.{IsBasicWord, IsGood, IsRuleWord}
+use Rattle.hv_lines.specs.Working.Good.{IsFormed}
 use Rattle.hv_lines.specs.Literals.{IsPlainExpr, IsPlainSet}
 use Rattle.hv_lines.specs.Meaning.{sets_of}
 use Rattle.hv_lines.specs.Numbering.{IsTable, expr_at}
 use Rattle.hv_lines.specs.Queries.{asked_actions, has_of, listed_in, listed_of, operand_of, query_of, which_at, PassesBudget}
 use Rattle.hv_lines.specs.Setting.{Setting}
 use Rattle.hv_lines.specs.Shapes.{AskingsRise, HasSides, IsAndLeaf, IsAsked, IsLeftLeaf, IsLiteralOf, IsOfFamily, IsQuestion, IsStep, OfSets, Question, and_parts, or_parts, alone, asks_sides_after, family_of}
-use Rattle.hv_lines.specs.Verdicts.{IsSettled, IsVerdict}
+use Rattle.hv_lines.specs.Verdicts.{DecidesNothing, IsVerdict}
 use Rattle.hv_lines.specs.declared.family.FormulaFamily.TheVariants as F
 use Rattle.hv_lines.specs.declared.line.Constant.TheVariants as C
 use Rattle.hv_lines.specs.declared.line.Expr.{Expr}
@@ -36,7 +37,7 @@ use Rattle.hv_lines.proofs.Named.{found_number, plain_in, which_is}
 use Rattle.hv_lines.proofs.Questions.{alone_no_step}
 use Rattle.hv_lines.proofs.Ready.{some_below}
 use Rattle.hv_lines.proofs.Shaped.{literal_from, literal_once, step_no_literal, step_once}
-use Rattle.hv_replay.specs.PrunedLines.{IsListedExpr, IsListedSet}
+use Rattle.hv_replay.specs.Working.PrunedLines.{IsListedExpr, IsListedSet}
 
 -- lists
 
@@ -318,7 +319,7 @@ module _ (setting : Setting) (lines : List Line) (table : IsTable lines) (id lef
         λ place query at.
             let actions = asked_actions setting.task lines acts in
             let w = got_mapped (query_of lines q) (slice_get actions place) query (sym (slice_get-map (query_of lines q) actions place) ∙ at) in
-            subst (IsSettled (PassesBudget setting lines F.States) (is_clash setting.task (has_of setting lines F.States)) (atoms setting.task))
+            subst (DecidesNothing (PassesBudget setting lines F.States) (is_clash setting.task (has_of setting lines F.States)) (atoms setting.task))
             w.2 (not_over w.0, settled w.0 (got_in actions place w.0 w.1)),
       ),
     )

@@ -17,7 +17,7 @@ use Rattle.hv_task.proofs.Listing.{rises-push}
 use Rattle.hv_task.proofs.Rising.{same_rising}
 use Rattle.hv_replay.specs.Logs.{letter_of}
 use Rattle.hv_replay.specs.LogText.{IsEntryLine}
-use Rattle.hv_replay.specs.Reading.{AreAtoms, fields_in}
+use Rattle.hv_replay.specs.Working.Reading.{AreAtoms, fields_in}
 use Rattle.hv_replay.specs.declared.log.Entry.{Entry}
 
 -- the first is at least so great, and each further one greater than the one before it; all are

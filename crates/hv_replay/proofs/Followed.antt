@@ -10,25 +10,25 @@ use Rattle.hv_task.specs.Strips.{Strips, is_goal, start_state}
 use Rattle.hv_sets.specs.Truth.{InStates, in_states}
 use Rattle.hv_sets.proofs.Listed.{in_states-Decides}
 use Rattle.hv_explicit.specs.Listing.{AreStates, Listing, in_listing}
-use Rattle.hv_replay.specs.Closed.{IsFirst, IsFollowed, IsGoalFree, IsListed, LeadsOn, state_in}
-use Rattle.hv_replay.specs.Following.{AreListed, Follows, Stays}
-use Rattle.hv_replay.specs.Logs.{IsEntry, IsLog, SearchLog, StandsAt}
+use Rattle.hv_replay.specs.Closed.{IsFirstWithout, IsSearchFollowed, IsGoalFree, IsLogged, LeadsOn, state_in}
+use Rattle.hv_replay.specs.Working.Following.{ListsLog, Follows, StaysListed}
+use Rattle.hv_replay.specs.Logs.{IsLogEntry, IsLog, SearchLog, StandsInLog}
 use Rattle.hv_replay.specs.declared.hole.ReplayFault.TheVariants as H
 use Rattle.hv_replay.specs.declared.log.Entry.{Entry}
 
 -- one entry stands at a place
-pub same_entry : (log : SearchLog) (place : ℕ) (a b : Entry) → StandsAt log place a → StandsAt log place b → a ≡ b
+pub same_entry : (log : SearchLog) (place : ℕ) (a b : Entry) → StandsInLog log place a → StandsInLog log place b → a ≡ b
 same_entry log place a b p q = let e : ◌≡◌ {A = Option Entry} (Some a) (Some b) = sym p ∙ q in cc
 
 atoms_of_listing : (n : ℕ) (states : List (List ℕ)) (set : Listing) (state : List Bool) → set.atoms ≡ n → set.states ≡ states
     → in_listing set state ≡ in_states n states state
 atoms_of_listing n states set state a s = ap (λ m. in_states m set.states state) a ∙ ap (λ ss. in_states n ss state) s
 
-module _ (log : SearchLog) (set : Listing) (are : AreListed log set) (state : List Bool) where
+module _ (log : SearchLog) (set : Listing) (are : ListsLog log set) (state : List Bool) where
   abbrev states : List (List ℕ)
   states = map (λ (entry : Entry). entry.state) log.entries
 
-  found_at : (k : ℕ) → k < length (map (state_of log.atoms) states) → get_or (map (state_of log.atoms) states) k state ≡ state → IsListed log state
+  found_at : (k : ℕ) → k < length (map (state_of log.atoms) states) → get_or (map (state_of log.atoms) states) k state ≡ state → IsLogged log state
   found_at k within is =
       let size = length-map states (state_of log.atoms) in
       let many = length-map log.entries (λ (entry : Entry). entry.state) in
@@ -44,13 +44,13 @@ module _ (log : SearchLog) (set : Listing) (are : AreListed log set) (state : Li
         | inr w ↦ let past = w.0 in absurd (omega arith)
       ]
 
-  pub to_listed : in_listing set state ≡ true → IsListed log state
+  pub to_listed : in_listing set state ≡ true → IsLogged log state
   to_listed holds =
       let found : InStates log.atoms states state =
       (in_states-Decides log.atoms states state).0 (sym (atoms_of_listing log.atoms states set state are.over are.states) ∙ holds) in
       found_at found.0 found.1 found.2
 
-  pub from_listed : IsListed log state → in_listing set state ≡ true
+  pub from_listed : IsLogged log state → in_listing set state ≡ true
   from_listed (k, x, stands, same) =
       let size = length-map states (state_of log.atoms) in
       let many = length-map log.entries (λ (entry : Entry). entry.state) in
@@ -65,34 +65,34 @@ module _ (log : SearchLog) (set : Listing) (are : AreListed log set) (state : Li
         get_or-map (state_of log.atoms) states k x.state state (omega arith) ∙ (ap (state_of log.atoms) here ∙ same),
       )
 
-module _ (task : Strips) (log : SearchLog) (place : ℕ) (x : Entry) (stands : StandsAt log place x) where
+module _ (task : Strips) (log : SearchLog) (place : ℕ) (x : Entry) (stands : StandsInLog log place x) where
   pub pruned_leads : x.expanded ≡ false → (number : ℕ) → LeadsOn task log place number
   pruned_leads pruned number = λ e a at holds is can.
       let same = same_entry log place x e stands at in
       let f : true ≡ false = sym holds ∙ (ap (λ (y : Entry). y.expanded) (sym same) ∙ pruned) in absurd cc
 
-  module _ (set : Listing) (are : AreListed log set) (holds : x.expanded ≡ true) where
-    pub leads_from : (number : ℕ) → Stays task set (state_in log x) number → LeadsOn task log place number
+  module _ (set : Listing) (are : ListsLog log set) (holds : x.expanded ≡ true) where
+    pub leads_from : (number : ℕ) → StaysListed task set (state_in log x) number → LeadsOn task log place number
     leads_from number stays = λ e a at more is can.
         let same = same_entry log place x e stands at in
-        subst (λ y. IsListed log (successor a (state_in log y))) same
+        subst (λ y. IsLogged log (successor a (state_in log y))) same
         (to_listed log set are (successor a (state_in log x)) (stays a is (ap (λ y. applicable a (state_in log y)) same ∙ can)))
 
-    pub stays_from : (number : ℕ) → LeadsOn task log place number → Stays task set (state_in log x) number
+    pub stays_from : (number : ℕ) → LeadsOn task log place number → StaysListed task set (state_in log x) number
     stays_from number leads = λ a is can. from_listed log set are (successor a (state_in log x)) (leads x a stands holds is can)
 
-    pub first_from : (number : ℕ) → IsFirst (Stays task set (state_in log x)) number → IsFirst (LeadsOn task log place) number
+    pub first_from : (number : ℕ) → IsFirstWithout (StaysListed task set (state_in log x)) number → IsFirstWithout (LeadsOn task log place) number
     first_from number first = (λ leads. first.0 (stays_from number leads), λ before less. leads_from before (first.1 before less))
 
-    pub all_from : ((number : ℕ) → number < length task.actions → Stays task set (state_in log x) number) → (number : ℕ) → LeadsOn task log place number
+    pub all_from : ((number : ℕ) → number < length task.actions → StaysListed task set (state_in log x) number) → (number : ℕ) → LeadsOn task log place number
     all_from all number = leads_from number (λ a is can. all number (slice_get_within task.actions number a is) a is can)
 
     -- the least action that leads out of the set is the least one that leads out of the log
     pub open_result : (state : List Bool) (r : Option ℕ) → state ≡ state_in log x
-        → MatchOption r ((number : ℕ) → number < length task.actions → Stays task set state number) (λ number. IsFirst (Stays task set state) number)
-        → MatchOption r ((number : ℕ) → LeadsOn task log place number) (λ number. IsFirst (LeadsOn task log place) number)
-    open_result state None is all = all_from (subst (λ s. (number : ℕ) → number < length task.actions → Stays task set s number) is all)
-    open_result state (Some number) is first = first_from number (subst (λ s. IsFirst (Stays task set s) number) is first)
+        → MatchOption r ((number : ℕ) → number < length task.actions → StaysListed task set state number) (λ number. IsFirstWithout (StaysListed task set state) number)
+        → MatchOption r ((number : ℕ) → LeadsOn task log place number) (λ number. IsFirstWithout (LeadsOn task log place) number)
+    open_result state None is all = all_from (subst (λ s. (number : ℕ) → number < length task.actions → StaysListed task set s number) is all)
+    open_result state (Some number) is first = first_from number (subst (λ s. IsFirstWithout (StaysListed task set s) number) is first)
 
 module _ (task : Strips) (log : SearchLog) where
   -- what holds of each entry holds of each place
@@ -102,5 +102,5 @@ module _ (task : Strips) (log : SearchLog) where
   pub leads_all : ((place number : ℕ) → place < length log.entries → LeadsOn task log place number) → (place number : ℕ) → LeadsOn task log place number
   leads_all all place number = λ e a at holds is can. all place number (slice_get_within log.entries place e at) e a at holds is can
 
-  pub not_listed : (set : Listing) (state : List Bool) → AreListed log set → in_listing set state ≡ false → IsListed log state → ⊥
+  pub not_listed : (set : Listing) (state : List Bool) → ListsLog log set → in_listing set state ≡ false → IsLogged log state → ⊥
   not_listed set state are fails holds = let f : false ≡ true = sym fails ∙ from_listed log set are state holds in absurd cc

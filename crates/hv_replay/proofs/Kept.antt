@@ -8,7 +8,8 @@ use Rattle.std.proofs.lemmas.Option.{slice_get_cases}
 use Rattle.hv_task.specs.State.{AreBelow}
 use Rattle.hv_explicit.specs.Listing.{AreStates}
 use Rattle.hv_replay.specs.Expanded.{expanded_in}
-use Rattle.hv_replay.specs.Logs.{IsAtomSet, IsEntry, IsLog, SearchLog, StandsAt, entries_of}
+use Rattle.hv_replay.specs.Logs.{IsAtomSet, IsLogEntry, IsLog, SearchLog, StandsInLog}
+use Rattle.hv_replay.specs.Working.Logs.{entries_of}
 use Rattle.hv_replay.specs.declared.log.Entry.{Entry}
 
 pub entries_length : (flags : List Bool) (states : List (List ℕ)) → length flags ≡ length states → length (entries_of flags states) ≡ length flags
@@ -46,7 +47,7 @@ entries_at (f ∷ flags) (s ∷ states) zero e at =
     let same : ◌≡◌ {A = Entry} (record { expanded = f; state = s }) e = cc in (ap (λ (x : Entry). Some x.expanded) same, ap (λ (x : Entry). Some x.state) same)
 entries_at (f ∷ flags) (s ∷ states) (suc k) e at = entries_at flags states k e at
 
-pub entry_there : (log : SearchLog) (place : ℕ) → place < length log.entries → (e : Entry) × StandsAt log place e
+pub entry_there : (log : SearchLog) (place : ℕ) → place < length log.entries → (e : Entry) × StandsInLog log place e
 entry_there log place within =
     elim (slice_get_cases log.entries place).1 [ inl w ↦ (w.0, w.2) | inr w ↦ let past = w.0 in absurd (omega arith) ]
 

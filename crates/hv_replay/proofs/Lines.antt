@@ -6,7 +6,7 @@ use Rattle.std.proofs.lemmas.Fmt.{decimal_injective}
 use Rattle.std.proofs.lemmas.List.Elements.{All-head, All-tail, All-weaker}
 use Rattle.std.proofs.lemmas.List.Sums.{sum_by-append}
 use Rattle.hv_bytes.specs.Fields.{cut_fields}
-use Rattle.hv_replay.specs.Logs.{IsEntry, entry_line, expanded_count, letter_of, pruned_count}
+use Rattle.hv_replay.specs.Logs.{IsLogEntry, entry_line, expanded_count, letter_of, pruned_count}
 use Rattle.hv_replay.specs.LogText.{IsEntryLine, PassesCount, end_line}
 use Rattle.hv_replay.specs.declared.fault.LogLimit.{LogLimit}
 use Rattle.hv_replay.specs.declared.fault.LogLimit.TheVariants as W
@@ -60,7 +60,7 @@ pub entry_not_end : (entry : Entry) → entry_line entry ≡ end_line → ⊥
 entry_not_end entry e = not_end entry.expanded (map decimal entry.state) e
 
 module _ (atoms : ℕ) (few : atoms < 10 ^ 18) where
-  short : (entry : Entry) → IsEntry atoms entry → All (λ n. n < 10 ^ 18) entry.state
+  short : (entry : Entry) → IsLogEntry atoms entry → All (λ n. n < 10 ^ 18) entry.state
   short entry is = All-weaker (λ n. n < atoms) (λ n. n < 10 ^ 18) (λ n less. omega arith) entry.state is.below
 
   -- a line is that of one entry at most
@@ -72,19 +72,19 @@ module _ (atoms : ℕ) (few : atoms < 10 ^ 18) where
       same_parts a b (same_letter a.expanded b.expanded letter)
       (same_decimals a.state b.state (short a p.legal) (short b q.legal) fields)
 
-  same_entry : (a b : Entry) → IsEntry atoms a → IsEntry atoms b → entry_line a ≡ entry_line b → a ≡ b
+  same_entry : (a b : Entry) → IsLogEntry atoms a → IsLogEntry atoms b → entry_line a ≡ entry_line b → a ≡ b
   same_entry a b p q e = one_entry (entry_line a) a b (record { spelled = refl; legal = p }) (record { spelled = e; legal = q })
 
   -- the same lines are the same entries
-  pub same_entries : (xs ys : List Entry) → All (IsEntry atoms) xs → All (IsEntry atoms) ys → map entry_line xs ≡ map entry_line ys → xs ≡ ys
+  pub same_entries : (xs ys : List Entry) → All (IsLogEntry atoms) xs → All (IsLogEntry atoms) ys → map entry_line xs ≡ map entry_line ys → xs ≡ ys
   same_entries [] [] p q e = refl
   same_entries [] (y ∷ ys) p q e = absurd (nil_not_cons (entry_line y) (map entry_line ys) e)
   same_entries (x ∷ xs) [] p q e = absurd (nil_not_cons (entry_line x) (map entry_line xs) (sym e))
   same_entries (x ∷ xs) (y ∷ ys) p q e =
       let line = heads (entry_line x) (entry_line y) (map entry_line xs) (map entry_line ys) e in
       let rest = tails (entry_line x) (entry_line y) (map entry_line xs) (map entry_line ys) e in
-      let first : x ≡ y = same_entry x y (All-head (IsEntry atoms) x xs p) (All-head (IsEntry atoms) y ys q) line in
-      let others = same_entries xs ys (All-tail (IsEntry atoms) x xs p) (All-tail (IsEntry atoms) y ys q) rest in
+      let first : x ≡ y = same_entry x y (All-head (IsLogEntry atoms) x xs p) (All-head (IsLogEntry atoms) y ys q) line in
+      let others = same_entries xs ys (All-tail (IsLogEntry atoms) x xs p) (All-tail (IsLogEntry atoms) y ys q) rest in
       ap (λ z. z ∷ xs) first ∙ ap (λ zs. y ∷ zs) others
 
   -- entries, and then this line; entries, and then the last line or none: the line is that of an
@@ -98,18 +98,18 @@ module _ (atoms : ℕ) (few : atoms < 10 ^ 18) where
   none_behind x more tail (inl none) e = nil_not_cons (entry_line x) more (sym none ∙ e)
   none_behind x more tail (inr last) e = entry_not_end x (sym (heads end_line (entry_line x) [] more (sym last ∙ e)))
 
-  pub next_of : (xs ys : List Entry) (line : List ℕ) (mid tail : List (List ℕ)) → All (IsEntry atoms) xs → All (IsEntry atoms) ys
+  pub next_of : (xs ys : List Entry) (line : List ℕ) (mid tail : List (List ℕ)) → All (IsLogEntry atoms) xs → All (IsLogEntry atoms) ys
       → (tail ≡ []) ⊎ (tail ≡ end_line ∷ []) → map entry_line ys ++ tail ≡ map entry_line xs ++ line ∷ mid → Next xs ys line mid tail
   next_of [] [] line mid tail p q t e = inr (refl, e)
   next_of [] (y ∷ ys) line mid tail p q t e =
       let first = heads (entry_line y) line (map entry_line ys ++ tail) mid e in
-      inl (y, ys, refl, record { spelled = sym first; legal = All-head (IsEntry atoms) y ys q })
+      inl (y, ys, refl, record { spelled = sym first; legal = All-head (IsLogEntry atoms) y ys q })
   next_of (x ∷ xs) [] line mid tail p q t e = absurd (none_behind x (map entry_line xs ++ line ∷ mid) tail t e)
   next_of (x ∷ xs) (y ∷ ys) line mid tail p q t e =
       let same = heads (entry_line y) (entry_line x) (map entry_line ys ++ tail) (map entry_line xs ++ line ∷ mid) e in
       let rest = tails (entry_line y) (entry_line x) (map entry_line ys ++ tail) (map entry_line xs ++ line ∷ mid) e in
-      let first : y ≡ x = same_entry y x (All-head (IsEntry atoms) y ys q) (All-head (IsEntry atoms) x xs p) same in
-      elim (next_of xs ys line mid tail (All-tail (IsEntry atoms) x xs p) (All-tail (IsEntry atoms) y ys q) t rest) [
+      let first : y ≡ x = same_entry y x (All-head (IsLogEntry atoms) y ys q) (All-head (IsLogEntry atoms) x xs p) same in
+      elim (next_of xs ys line mid tail (All-tail (IsLogEntry atoms) x xs p) (All-tail (IsLogEntry atoms) y ys q) t rest) [
         | inl w ↦ inl (w.0, w.1, ap (λ z. z ∷ ys) first ∙ ap (λ zs. x ∷ zs) w.2, w.3)
         | inr w ↦ inr (ap (λ z. z ∷ ys) first ∙ ap (λ zs. x ∷ zs) w.0, w.1)
       ]

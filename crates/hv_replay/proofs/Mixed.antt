@@ -2,10 +2,11 @@
 use Rattle.std.proofs.Common.{◌≡◌, ℕ, ◌+◌, ◌<◌, ◌≤◌, ◌∙◌, ◌⊎◌, ◌↔◌, ◌&&◌, Bool, true, false, not, cond, List, [], ◌∷◌, Option, Some, None, length, refl, sym, ap, subst, inl, inr, arith}
 use Rattle.hv_task.specs.Strips.{IsState, atoms}
 use Rattle.hv_sets.proofs.Listed.{in_states-Decides}
-use Rattle.hv_lines.specs.Good.{IsFormed, IsGood}
+use Rattle.hv_lines.specs.Good.{IsGood}
+use Rattle.hv_lines.specs.Working.Good.{IsFormed}
 use Rattle.hv_lines.specs.Literals.{IsFormula}
 use Rattle.hv_lines.specs.Meaning.{acts_of, holds, sets_of}
-use Rattle.hv_lines.specs.Mixed.{cost_of, in_formula, in_signed, is_between}
+use Rattle.hv_lines.specs.Mixed.{cost_of, in_line_formula, in_signed, is_between}
 use Rattle.hv_lines.specs.Numbering.{IsTable, expr_at}
 use Rattle.hv_lines.specs.Setting.{Setting}
 use Rattle.hv_lines.specs.Shapes.{AreTwo, IsLiteralOf, OfTwo, family_of}
@@ -44,7 +45,7 @@ module _ (setting : Setting) (lines : List Line) where
   Inside expr state = holds setting.task setting.nodes (acts_of lines) (sets_of setting.task setting.nodes lines) expr state
 
   -- a state is in a formula exactly where the test says so
-  formula_in : (expr : Expr) → IsFormula expr → (state : List Bool) → (in_formula setting expr state ≡ true) ↔ Inside expr state
+  formula_in : (expr : Expr) → IsFormula expr → (state : List Bool) → (in_line_formula setting expr state ≡ true) ↔ Inside expr state
   formula_in (E.Horn clauses) is state = (λ e. e, λ e. e)
   formula_in (E.Two clauses) is state = (λ e. e, λ e. e)
   formula_in (E.States states) is state = in_states-Decides (atoms setting.task) states state
@@ -61,7 +62,7 @@ module _ (setting : Setting) (lines : List Line) where
       (few : length states ≤ setting.budget) (formed : IsFormed setting lines (L.Known id (T.Sub left right) W.B4 []))
       (within : (state : List Bool) → IsState setting.task state → sets_of setting.task setting.nodes lines left state
       → sets_of setting.task setting.nodes lines right state) where
-    in_left : (state : List Bool) → in_formula setting (E.States states) state ≡ true → sets_of setting.task setting.nodes lines left state
+    in_left : (state : List Bool) → in_line_formula setting (E.States states) state ≡ true → sets_of setting.task setting.nodes lines left state
     in_left state e =
         set_in setting.task setting.nodes lines left (E.States states) table at_left state ((formula_in (E.States states) tt state).0 e)
 
@@ -100,12 +101,12 @@ module _ (setting : Setting) (lines : List Line) where
     good_mixed same =
         good_by true (same, (expr, at_set, inl other.0)) refl
         (λ state is_state clash.
-        not_out (in_formula setting expr state)
-        (both_right (in_formula setting (E.States states) state) (not (in_formula setting expr state)) clash)
+        not_out (in_line_formula setting expr state)
+        (both_right (in_line_formula setting (E.States states) state) (not (in_line_formula setting expr state)) clash)
         ((formula_in expr other.0 state).1
         (set_out setting.task setting.nodes lines set expr table at_set state
         (subst (λ s. sets_of setting.task setting.nodes lines s state) same
-        (within state is_state (in_left state (both_left (in_formula setting (E.States states) state) (not (in_formula setting expr state)) clash)))))))
+        (within state is_state (in_left state (both_left (in_line_formula setting (E.States states) state) (not (in_line_formula setting expr state)) clash)))))))
 
     -- within its negation
     pub good_apart : expr_at lines right ≡ Some (E.Not set) → IsGood setting lines (L.Known id (T.Sub left right) W.B4 [])
@@ -114,10 +115,10 @@ module _ (setting : Setting) (lines : List Line) where
         (λ state is_state clash.
         set_out setting.task setting.nodes lines right (E.Not set) table negated state
         (within state is_state
-        (in_left state (both_left (in_formula setting (E.States states) state) (not (not (in_formula setting expr state))) clash)))
+        (in_left state (both_left (in_line_formula setting (E.States states) state) (not (not (in_line_formula setting expr state))) clash)))
         (set_in setting.task setting.nodes lines set expr table at_set state ((formula_in expr other.0 state).0
-        (twice (in_formula setting expr state)
-        (both_right (in_formula setting (E.States states) state) (not (not (in_formula setting expr state))) clash)))))
+        (twice (in_line_formula setting expr state)
+        (both_right (in_line_formula setting (E.States states) state) (not (not (in_line_formula setting expr state))) clash)))))
       where
         twice : (b : Bool) → not (not b) ≡ true → b ≡ true
         twice true e = refl

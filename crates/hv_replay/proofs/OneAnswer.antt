@@ -6,7 +6,7 @@ use Rattle.std.specs.List.{All}
 use Rattle.std.proofs.lemmas.List.{append-nil, append_assoc}
 use Rattle.hv_bytes.specs.Pieces.{Piece, as_pieces}
 use Rattle.hv_bytes.proofs.PieceFronts.{fronts, rest_lines, same_lines}
-use Rattle.hv_replay.specs.Logs.{AreFew, IsEntry, IsLog, SearchLog, entry_line}
+use Rattle.hv_replay.specs.Logs.{AreFew, IsLogEntry, IsLog, SearchLog, entry_line}
 use Rattle.hv_replay.specs.LogText.{AreTextOf, Beginning, FailsLine, IsEntryLine, IsFirstFault, IsLegal, LacksForm, PassesCount, PassesLimit, PassesNext, at_end, at_entry, end_line, lines_before}
 use Rattle.hv_replay.specs.declared.fault.LogFault.{LogFault}
 use Rattle.hv_replay.specs.declared.fault.LogFault.TheVariants as F

@@ -2,12 +2,12 @@
 use Rattle.std.proofs.Common.{◌≡◌, ℕ, ◌+◌, ◌<◌, ◌∙◌, Bool, List, ap, inl, inr, refl, subst, sym}
 use Rattle.std.proofs.lemmas.Bool.{cases_order}
 use Rattle.hv_task.specs.Strips.{Strips}
-use Rattle.hv_replay.specs.Closed.{IsClosed, IsFirst, IsFirstHole, LeadsOn}
+use Rattle.hv_replay.specs.Closed.{IsClosed, IsFirstWithout, IsFirstHole, LeadsOn}
 use Rattle.hv_replay.specs.Logs.{SearchLog}
 use Rattle.hv_replay.specs.declared.hole.ReplayFault.{ReplayFault}
 use Rattle.hv_replay.specs.declared.hole.ReplayFault.TheVariants as H
 
-same_first : (P : ℕ → Type 0) (i j : ℕ) → IsFirst P i → IsFirst P j → i ≡ j
+same_first : (P : ℕ → Type 0) (i j : ℕ) → IsFirstWithout P i → IsFirstWithout P j → i ≡ j
 same_first P i j p q =
     elim (cases_order i j) [
       | inl equal ↦ equal
@@ -23,7 +23,7 @@ module _ (task : Strips) (log : SearchLog) (covered : List Bool → Type 0) wher
   closed_or_hole (H.Unjustified line) c h = h.3.0 (c.justified h.1)
   closed_or_hole H.Memory c h = h
 
-  same_open : (i j a b : ℕ) → IsFirst (LeadsOn task log i) a → IsFirst (LeadsOn task log j) b
+  same_open : (i j a b : ℕ) → IsFirstWithout (LeadsOn task log i) a → IsFirstWithout (LeadsOn task log j) b
       → ((before number : ℕ) → before < i → LeadsOn task log before number)
       → ((before number : ℕ) → before < j → LeadsOn task log before number) → (i ≡ j) × (a ≡ b)
   same_open i j a b p q f g =
@@ -33,7 +33,7 @@ module _ (task : Strips) (log : SearchLog) (covered : List Bool → Type 0) wher
         | inr (inl less) ↦ absurd (p.0 (g i a less))
         | inr (inr greater) ↦ absurd (q.0 (f j b greater))
       ] in
-      (same, same_first (LeadsOn task log j) a b (subst (λ k. IsFirst (LeadsOn task log k) a) same p) q)
+      (same, same_first (LeadsOn task log j) a b (subst (λ k. IsFirstWithout (LeadsOn task log k) a) same p) q)
 
   pub one_hole : (f g : ReplayFault) → IsFirstHole task log covered f → IsFirstHole task log covered g → f ≡ g
   one_hole H.NoInitial H.NoInitial p q = refl

@@ -6,14 +6,15 @@ use Rattle.hv_task.specs.State.{state_of}
 use Rattle.hv_task.specs.Strips.{Strips, IsState, IsTask, atoms}
 use Rattle.hv_sets.specs.declared.operand.Which.TheVariants as S
 use Rattle.hv_lines.specs.Drafts.{IsGoodNext, IsGoodTable, draft_setting, onto}
-use Rattle.hv_lines.specs.Good.{IsFormed, IsGood}
+use Rattle.hv_lines.specs.Good.{IsGood}
+use Rattle.hv_lines.specs.Working.Good.{IsFormed}
 use Rattle.hv_lines.specs.Literals.{IsPlainExpr}
 use Rattle.hv_lines.specs.Numbering.{IsTable, expr_at, expr_count, known_count, statement_at}
 use Rattle.hv_lines.specs.Queries.{which_at}
 use Rattle.hv_lines.specs.Pruning.{states_in}
 use Rattle.hv_lines.specs.Setting.{Setting}
 use Rattle.hv_lines.specs.Shapes.{IsOrLeaf, and_parts, or_parts, alone}
-use Rattle.hv_lines.specs.Spelling.{FitsDecimal, sub_premises, word_field}
+use Rattle.hv_lines.specs.Spelling.{FitsDecimal, premises_of, word_field}
 use Rattle.hv_lines.specs.declared.line.Constant.{Constant}
 use Rattle.hv_lines.specs.declared.line.Constant.TheVariants as C
 use Rattle.hv_lines.specs.declared.line.Expr.{Expr}
@@ -32,7 +33,8 @@ use Rattle.hv_lines.proofs.Laws.{expr_at_here, expr_below, known_below, set_in, 
 use Rattle.hv_lines.proofs.Lengths.{short_known, short_or}
 use Rattle.hv_lines.proofs.Shaped.{leaf_below}
 use Rattle.hv_replay.specs.Logs.{IsAtomSet}
-use Rattle.hv_replay.specs.PrunedLines.{IsListedExpr, IsListedSet, IsPrunedUnion, pruned_lines, pruned_word, word_of_formula, word_of_literal}
+use Rattle.hv_replay.specs.PrunedLines.{pruned_lines, pruned_word, word_of_formula, word_of_literal}
+use Rattle.hv_replay.specs.Working.PrunedLines.{IsListedExpr, IsListedSet, IsPrunedUnion}
 use Rattle.hv_lines.specs.declared.note.Note.{Note}
 use Rattle.hv_replay.proofs.Explicit.{cons_cases, empty_states, goal_states, head_in, listed_anchors, listed_states, nothing_in, start_states, states_at}
 use Rattle.hv_replay.proofs.Mixed.{IsOther, good_apart, good_mixed}
@@ -144,7 +146,7 @@ module _ (task : Strips) (is_task : IsTask task) (old : List Line) (good : IsGoo
       subst (states_in task B1 holder.set) (in_p state inside)
       ((states_onto task (L1 ∷ []) old holder.set (state_of (atoms task) held) table1 (omega (arith, y_below, p_is))).0 is_held.inside)
 
-  formed2 : (w : Word) → sub_premises w ≡ Some 0 → IsFormed setting B1 (L.Known k (T.Sub p holder.set) w [])
+  formed2 : (w : Word) → premises_of (T.Sub p holder.set) w ≡ Some 0 → IsFormed setting B1 (L.Known k (T.Sub p holder.set) w [])
   formed2 w none =
       formed_known setting B1 k (T.Sub p holder.set) w [] (omega (arith, k_few)) (p_fits, y_fits) (All-nil FitsDecimal) none k_is
       (omega (arith, p_is), omega (arith, p_is, y_below)) (All-nil (λ x. x < known_count B1))

@@ -3,13 +3,13 @@ use Rattle.std.proofs.Common.{◌≡◌, ℕ, ◌+◌, ◌<◌, ◌≤◌, Bool,
 use Rattle.std.specs.Prelude.{not}
 use Rattle.std.proofs.lemmas.List.Elements.{All-get_or, All-push}
 use Rattle.std.proofs.lemmas.List.Sums.{sum_by_push}
-use Rattle.hv_replay.specs.Logs.{AreFew, IsEntry, IsLog, expanded_count, listed_bytes, pruned_count}
+use Rattle.hv_replay.specs.Logs.{AreFew, IsLogEntry, IsLog, expanded_count, listed_bytes, pruned_count}
 use Rattle.hv_replay.specs.declared.log.Entry.{Entry}
 
-pub log_more : (atoms : ℕ) (entries : List Entry) (entry : Entry) → IsLog atoms entries → IsEntry atoms entry → AreFew (entries ++ entry ∷ [])
+pub log_more : (atoms : ℕ) (entries : List Entry) (entry : Entry) → IsLog atoms entries → IsLogEntry atoms entry → AreFew (entries ++ entry ∷ [])
     → listed_bytes (entries ++ entry ∷ []) ≤ 8388608 → IsLog atoms (entries ++ entry ∷ [])
 log_more atoms entries entry log one few small = record {
-  each = All-push (IsEntry atoms) entries entry log.each one;
+  each = All-push (IsLogEntry atoms) entries entry log.each one;
   few = few;
   small = small;
 }
@@ -20,6 +20,6 @@ expanded_more entries entry b e = sum_by_push (λ (x : Entry). cond x.expanded 1
 pub pruned_more : (entries : List Entry) (entry : Entry) (b : Bool) → entry.expanded ≡ b → pruned_count (entries ++ entry ∷ []) ≡ pruned_count entries + cond (not b) 1 0
 pruned_more entries entry b e = sum_by_push (λ (x : Entry). cond (not x.expanded) 1 0) entries entry ∙ ap (λ b. pruned_count entries + cond (not b) 1 0) e
 
-pub entry_item : (atoms : ℕ) (entries : List Entry) (place : ℕ) (entry : Entry) → IsLog atoms entries → place < length entries → entry ≡ get_or entries place entry → IsEntry atoms entry
+pub entry_item : (atoms : ℕ) (entries : List Entry) (place : ℕ) (entry : Entry) → IsLog atoms entries → place < length entries → entry ≡ get_or entries place entry → IsLogEntry atoms entry
 entry_item atoms entries place entry log within is =
-    subst (IsEntry atoms) (sym is) (All-get_or (IsEntry atoms) entries place entry within log.each)
+    subst (IsLogEntry atoms) (sym is) (All-get_or (IsLogEntry atoms) entries place entry within log.each)

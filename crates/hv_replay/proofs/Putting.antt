@@ -2,7 +2,7 @@
 use Rattle.std.proofs.Common.{◌≡◌, ℕ, ◌+◌, ◌<◌, ◌≤◌, ◌^◌, ◌-◌, ◌∙◌, Bool, List, [], ◌∷◌, Some, length, refl, sym, ap, subst, arith}
 use Rattle.hv_task.specs.State.{state_of}
 use Rattle.hv_task.specs.Strips.{Strips, IsTask, atoms}
-use Rattle.hv_lines.specs.Drafts.{IsGoodTable, IsShort, conclusion, most_lines, onto}
+use Rattle.hv_lines.specs.Drafts.{IsGoodTable, IsShortLine, conclusion, most_lines, onto}
 use Rattle.hv_lines.specs.Judged.{Concludes}
 use Rattle.hv_lines.specs.Numbering.{expr_count, known_count, statement_at}
 use Rattle.hv_lines.specs.Pruning.{BeginsAsDraft, Extends, IsDeadBy, states_in}
@@ -14,9 +14,11 @@ use Rattle.hv_lines.specs.declared.line.Word.{Word}
 use Rattle.hv_lines.proofs.Drafting.{table_of}
 use Rattle.hv_lines.proofs.Extended.{exprs_few, knowns_few}
 use Rattle.hv_lines.proofs.Laws.{speaks_at}
-use Rattle.hv_replay.specs.ClosingLines.{IsClosedSearch, closing_block, closing_lines}
+use Rattle.hv_replay.specs.ClosingLines.{closing_block, closing_lines}
+use Rattle.hv_replay.specs.Working.ClosingLines.{IsClosedSearch}
 use Rattle.hv_replay.specs.Logs.{IsAtomSet}
-use Rattle.hv_replay.specs.PrunedLines.{IsPrunedUnion, pruned_lines, pruned_word}
+use Rattle.hv_replay.specs.PrunedLines.{pruned_lines, pruned_word}
+use Rattle.hv_replay.specs.Working.PrunedLines.{IsPrunedUnion}
 use Rattle.hv_replay.specs.Replayed.{union_after}
 use Rattle.hv_lines.specs.declared.note.Note.{Note}
 use Rattle.hv_replay.proofs.ClosingBlock.{closing_concludes, good_closing, good_closing_block}
@@ -80,10 +82,10 @@ module _ (task : Strips) (is_task : IsTask task) (old : List Line) (good : IsGoo
 
 module _ (task : Strips) (is_task : IsTask task) (old : List Line) (good : IsGoodTable task old) (begins : BeginsAsDraft old)
     (next : Note) (is_next : IsNextOf old next) (states : List (List ℕ)) (union : Note) (count : ℕ) (count_few : count ≤ 65000)
-    (is_union : IsPrunedUnion task old count union) (short : IsShort (L.Expr (expr_count old) (E.States states)))
+    (is_union : IsPrunedUnion task old count union) (short : IsShortLine (L.Expr (expr_count old) (E.States states)))
     (closed : IsClosedSearch task states (states_in task old union.set)) where
-  is_short : IsShort (L.Expr next.set (E.States states))
-  is_short = subst (λ n. IsShort (L.Expr n (E.States states))) (sym is_next.set) short
+  is_short : IsShortLine (L.Expr next.set (E.States states))
+  is_short = subst (λ n. IsShortLine (L.Expr n (E.States states))) (sym is_next.set) short
 
   pub put_block : IsGoodTable task (onto (closing_block next.set next.line states union) old)
   put_block =

@@ -22,13 +22,17 @@ use Rattle.hv_lines.specs.declared.line.Statement.TheVariants as T
 use Rattle.hv_lines.proofs.Drafting.{table_of}
 use Rattle.hv_lines.proofs.Extended.{goes_on_none}
 use Rattle.hv_lines.proofs.Laws.{speaks_at}
-use Rattle.hv_replay.specs.Closed.{IsClosed, IsFirst, IsFirstHole, IsFollowed, IsJustified, IsListed, state_in}
-use Rattle.hv_replay.specs.ClosingLines.{IsClosedSearch, closing_lines}
-use Rattle.hv_replay.specs.Expanded.{IsExpanded, expanded_states}
-use Rattle.hv_replay.specs.Following.{Follows}
-use Rattle.hv_replay.specs.Logs.{IsAtomSet, IsEntry, IsLog, SearchLog, StandsAt}
-use Rattle.hv_replay.specs.Progress.{IsProgress, IsProof, IsUncovered}
-use Rattle.hv_replay.specs.PrunedLines.{IsPrunedUnion, most_pruned, pruned_lines, pruned_word}
+use Rattle.hv_replay.specs.Closed.{IsClosed, IsFirstWithout, IsFirstHole, IsSearchFollowed, IsJustified, IsLogged, state_in}
+use Rattle.hv_replay.specs.ClosingLines.{closing_lines}
+use Rattle.hv_replay.specs.Working.ClosingLines.{IsClosedSearch}
+use Rattle.hv_replay.specs.Expanded.{expanded_states}
+use Rattle.hv_replay.specs.Working.Expanded.{IsExpanded}
+use Rattle.hv_replay.specs.Working.Following.{Follows}
+use Rattle.hv_replay.specs.Logs.{IsAtomSet, IsLogEntry, IsLog, SearchLog, StandsInLog}
+use Rattle.hv_replay.specs.Progress.{IsProof}
+use Rattle.hv_replay.specs.Working.Progress.{IsProgress, IsUncovered}
+use Rattle.hv_replay.specs.PrunedLines.{pruned_lines, pruned_word}
+use Rattle.hv_replay.specs.Working.PrunedLines.{IsPrunedUnion, most_pruned}
 use Rattle.hv_replay.specs.Replayed.{ArePruned, after_pruned, none, one_more, pruned_in, union_after}
 use Rattle.hv_replay.specs.declared.hole.ReplayFault.{ReplayFault}
 use Rattle.hv_replay.specs.declared.hole.ReplayFault.TheVariants as H
@@ -123,13 +127,13 @@ pruned_has (x ∷ entries) zero entry at is =
 pruned_has (x ∷ entries) (suc place) entry at is = stays_in x entries entry.state x.expanded (pruned_has entries place entry at is)
 
 -- one entry more
-pub entries_next : (log : SearchLog) (place : ℕ) (entry : Entry) → StandsAt log place entry
+pub entries_next : (log : SearchLog) (place : ℕ) (entry : Entry) → StandsInLog log place entry
     → take (place + 1) log.entries ≡ take place log.entries ++ entry ∷ []
 entries_next log place entry at =
     take_more log.entries place entry (slice_get_within log.entries place entry at)
     ∙ ap (λ x. take place log.entries ++ x ∷ []) (get_or_from_slice_get log.entries place entry entry at)
 
-pub progress_next : (task : Strips) (log : SearchLog) (place : ℕ) (entry : Entry) (lines : List Line) (union : Note) → StandsAt log place entry
+pub progress_next : (task : Strips) (log : SearchLog) (place : ℕ) (entry : Entry) (lines : List Line) (union : Note) → StandsInLog log place entry
     → IsProgress task (pruned_in (take place log.entries ++ entry ∷ [])) lines union
     → IsProgress task (pruned_in (take (place + 1) log.entries)) lines union
 progress_next task log place entry lines union at is =
@@ -142,7 +146,7 @@ module _ (log : SearchLog) (P Q : List Bool → Type 0) where
   justified_as to place is = λ entry at plain. to (state_in log entry) (is entry at plain)
 
 module _ (task : Strips) (log : SearchLog) (P Q : List Bool → Type 0) (same : (state : List Bool) → P state ↔ Q state) where
-  first_as : (place : ℕ) → IsFirst (IsJustified log P) place → IsFirst (IsJustified log Q) place
+  first_as : (place : ℕ) → IsFirstWithout (IsJustified log P) place → IsFirstWithout (IsJustified log Q) place
   first_as place first = (
     λ all. first.0 (justified_as log Q P (λ state. (same state).1) place all),
     λ before less. justified_as log P Q (λ state. (same state).0) before (first.1 before less),
@@ -161,9 +165,9 @@ module _ (task : Strips) (log : SearchLog) (P Q : List Bool → Type 0) (same : 
     justified = λ place. justified_as log P Q (λ state. (same state).0) place (closed.justified place);
   }
 
-module _ (log : SearchLog) (n : ℕ) (over : log.atoms ≡ n) (P : List Bool → Type 0) (place : ℕ) (entry : Entry) (stands : StandsAt log place entry)
+module _ (log : SearchLog) (n : ℕ) (over : log.atoms ≡ n) (P : List Bool → Type 0) (place : ℕ) (entry : Entry) (stands : StandsInLog log place entry)
     (before : (k : ℕ) → k < place → IsJustified log P k) where
-  pub first_uncovered : entry.expanded ≡ false → (P (state_of n entry.state) → ⊥) → IsFirst (IsJustified log P) place
+  pub first_uncovered : entry.expanded ≡ false → (P (state_of n entry.state) → ⊥) → IsFirstWithout (IsJustified log P) place
   first_uncovered plain not_covered =
       (λ all. not_covered (subst (λ m. P (state_of m entry.state)) over (all entry stands plain)), before)
 
@@ -195,12 +199,12 @@ pruned_few log is =
     let many = length-filter (λ (e : Entry). not e.expanded) log.entries in
     omega (arith, size, many, is.few.pruned)
 
-module _ (task : Strips) (log : SearchLog) (is : IsLog log.atoms log.entries) (over : log.atoms ≡ atoms task) (followed : IsFollowed task log)
+module _ (task : Strips) (log : SearchLog) (is : IsLog log.atoms log.entries) (over : log.atoms ≡ atoms task) (followed : IsSearchFollowed task log)
     (lines : List Line) (union : Note) (progress : IsProgress task (pruned_in log.entries) lines union) where
   abbrev Pruned : List Bool → Type 0
   Pruned = states_in task lines union.set
 
-  noted : (place : ℕ) (entry : Entry) → StandsAt log place entry → entry.expanded ≡ false → Pruned (state_in log entry)
+  noted : (place : ℕ) (entry : Entry) → StandsInLog log place entry → entry.expanded ≡ false → Pruned (state_in log entry)
   noted place entry at plain =
       subst (λ n. Pruned (state_of n entry.state)) (sym over) (progress.inside entry.state (pruned_has log.entries place entry at plain))
 
@@ -209,12 +213,12 @@ module _ (task : Strips) (log : SearchLog) (is : IsLog log.atoms log.entries) (o
   steps k a at state from can =
       let w = expanded_out log state from in
       let listed = followed.leads w.0 k w.1 a w.2 w.3 at (ap (applicable a) w.4 ∙ can) in
-      either task log followed Pruned noted (successor a state) (subst (λ s. IsListed log (successor a s)) w.4 listed)
+      either task log followed Pruned noted (successor a state) (subst (λ s. IsLogged log (successor a s)) w.4 listed)
 
   sets : All (IsAtomSet (atoms task)) (expanded_states log)
   sets =
       All-map (IsAtomSet (atoms task)) (λ (e : Entry). e.state) (filter (λ (e : Entry). e.expanded) log.entries)
-      (All-filter (λ (e : Entry). e.expanded) (IsEntry (atoms task)) log.entries (subst (λ n. All (IsEntry n) log.entries) over is.each))
+      (All-filter (λ (e : Entry). e.expanded) (IsLogEntry (atoms task)) log.entries (subst (λ n. All (IsLogEntry n) log.entries) over is.each))
 
   expanded_few : length (expanded_states log) ≤ 1000000
   expanded_few =

@@ -5,7 +5,7 @@ use Rattle.std.proofs.lemmas.List.Elements.{All-nil}
 use Rattle.std.specs.Global.{Vec}
 use Rattle.hv_task.specs.declared.action.Action.{Action}
 use Rattle.hv_task.specs.State.{AreBelow}
-use Rattle.hv_replay.specs.Waiting.{IsIn, IsUnder, RowsBelow}
+use Rattle.hv_replay.specs.Working.Waiting.{IsIn, IsUnder, RowsBelow}
 
 -- an empty row more
 pub rows_push : (bound : ℕ) (rows : List (Vec ℕ)) (v : Vec ℕ) → v.items ≡ [] → RowsBelow bound rows → RowsBelow bound (rows ++ v ∷ [])

@@ -6,7 +6,8 @@ use Rattle.hv_task.specs.declared.action.Action.{Action}
 use Rattle.hv_task.specs.State.{applicable, successor}
 use Rattle.hv_task.specs.Strips.{IsState}
 use Rattle.hv_sets.specs.declared.operand.Which.TheVariants as S
-use Rattle.hv_lines.specs.Good.{IsFormed, IsGood}
+use Rattle.hv_lines.specs.Good.{IsGood}
+use Rattle.hv_lines.specs.Working.Good.{IsFormed}
 use Rattle.hv_lines.specs.Literals.{IsLiteral, IsPlainSet}
 use Rattle.hv_lines.specs.Meaning.{sets_of}
 use Rattle.hv_lines.specs.Numbering.{IsTable, expr_at}
@@ -24,7 +25,7 @@ use Rattle.hv_lines.specs.declared.line.Word.TheVariants as W
 use Rattle.hv_lines.proofs.Basics.{AreLeaves, asked_all, one_leaf}
 use Rattle.hv_lines.proofs.Questions.{alone_no_step}
 use Rattle.hv_lines.proofs.Shaped.{literal_from, literal_once, step_no_literal, step_once}
-use Rattle.hv_replay.specs.PrunedLines.{IsListedSet, Rise}
+use Rattle.hv_replay.specs.Working.PrunedLines.{IsListedSet, Rise}
 use Rattle.hv_replay.proofs.Explicit.{cons_cases, from_asked, good_still, good_step, head_in, listed_plain, nothing_in, plain_set, states_at, to_asked}
 use Rattle.hv_replay.proofs.Unions.{asked_rise}
 

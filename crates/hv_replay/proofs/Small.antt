@@ -3,7 +3,7 @@ use Rattle.std.proofs.Common.{◌≡◌, ℕ, ◌+◌, ◌≤◌, Bool, true, fa
 use Rattle.std.specs.List.{filter, flat_map, join_with_byte}
 use Rattle.std.proofs.lemmas.List.{length-map}
 use Rattle.std.proofs.lemmas.List.Sums.{length-filter, sum_by-cons}
-use Rattle.hv_lines.specs.Drafts.{IsShort}
+use Rattle.hv_lines.specs.Drafts.{IsShortLine}
 use Rattle.hv_lines.specs.Spelling.{FitsDecimal, state_fields}
 use Rattle.hv_lines.specs.declared.line.Expr.TheVariants as E
 use Rattle.hv_lines.specs.declared.line.Line.TheVariants as L
@@ -64,7 +64,7 @@ expanded_few entries =
 
 -- the line of the expanded states of a log is short
 pub expanded_short : (log : SearchLog) (id : ℕ) → IsLog log.atoms log.entries → FitsDecimal id
-    → IsShort (L.Expr id (E.States (expanded_states log)))
+    → IsShortLine (L.Expr id (E.States (expanded_states log)))
 expanded_short log id is at =
     let few = is.few.expanded in
     let small = is.small in

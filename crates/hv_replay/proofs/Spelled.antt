@@ -5,7 +5,7 @@ use Rattle.std.specs.List.{All, flat_map}
 use Rattle.std.specs.List.Sorted.{IsStrictlyIncreasing}
 use Rattle.hv_task.specs.State.{AreBelow}
 use Rattle.hv_task.specs.Strips.{Strips, IsTask, atoms}
-use Rattle.hv_lines.specs.Drafts.{IsShort}
+use Rattle.hv_lines.specs.Drafts.{IsShortLine}
 use Rattle.hv_lines.specs.Spelling.{ExprFits, FitsDecimal, FitsShortDecimal, IsRising, state_fields}
 use Rattle.hv_lines.specs.declared.line.Expr.TheVariants as E
 use Rattle.hv_lines.specs.declared.line.Line.TheVariants as L
@@ -51,7 +51,7 @@ decimals_short (n ∷ ns) fit =
 
 -- the line of one state is short
 pub short_state : (task : Strips) (id : ℕ) (held : List ℕ) → IsTask task → IsAtomSet (atoms task) held → FitsDecimal id
-    → IsShort (L.Expr id (E.States (held ∷ [])))
+    → IsShortLine (L.Expr id (E.States (held ∷ [])))
 short_state task id held is_task is at =
     short_by (L.Expr id (E.States (held ∷ [])))
     (omega (

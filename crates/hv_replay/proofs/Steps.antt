@@ -8,9 +8,10 @@ use Rattle.std.proofs.lemmas.List.Elements.{Contains-append_cases, Contains-appe
 use Rattle.hv_task.specs.Deadness.{Leads}
 use Rattle.hv_task.specs.State.{applicable, state_of, successor}
 use Rattle.hv_task.specs.Strips.{Strips, is_goal, start_state}
-use Rattle.hv_replay.specs.Closed.{IsFollowed, IsListed, state_in}
-use Rattle.hv_replay.specs.Expanded.{IsExpanded, expanded_states}
-use Rattle.hv_replay.specs.Logs.{SearchLog, StandsAt}
+use Rattle.hv_replay.specs.Closed.{IsSearchFollowed, IsLogged, state_in}
+use Rattle.hv_replay.specs.Expanded.{expanded_states}
+use Rattle.hv_replay.specs.Working.Expanded.{IsExpanded}
+use Rattle.hv_replay.specs.Logs.{SearchLog, StandsInLog}
 use Rattle.hv_replay.specs.declared.log.Entry.{Entry}
 
 module _ (n : ℕ) where
@@ -70,20 +71,20 @@ module _ (n : ℕ) where
 
 -- an expanded state stands in the log as one
 pub expanded_out : (log : SearchLog) (state : List Bool) → IsExpanded log state
-    → (place : ℕ) × (entry : Entry) × StandsAt log place entry × (entry.expanded ≡ true) × (state_in log entry ≡ state)
+    → (place : ℕ) × (entry : Entry) × StandsInLog log place entry × (entry.expanded ≡ true) × (state_in log entry ≡ state)
 expanded_out log state c = found_in log.atoms log.entries state c
 
-pub expanded_in : (log : SearchLog) (place : ℕ) (entry : Entry) → StandsAt log place entry → entry.expanded ≡ true → IsExpanded log (state_in log entry)
+pub expanded_in : (log : SearchLog) (place : ℕ) (entry : Entry) → StandsInLog log place entry → entry.expanded ≡ true → IsExpanded log (state_in log entry)
 expanded_in log place entry at is = picked_in log.atoms log.entries place entry at is
 
-module _ (task : Strips) (log : SearchLog) (followed : IsFollowed task log) (Pruned : List Bool → Type 0)
-    (noted : (place : ℕ) (entry : Entry) → StandsAt log place entry → entry.expanded ≡ false → Pruned (state_in log entry)) where
-  one_of : (place : ℕ) (entry : Entry) (b : Bool) → entry.expanded ≡ b → StandsAt log place entry
+module _ (task : Strips) (log : SearchLog) (followed : IsSearchFollowed task log) (Pruned : List Bool → Type 0)
+    (noted : (place : ℕ) (entry : Entry) → StandsInLog log place entry → entry.expanded ≡ false → Pruned (state_in log entry)) where
+  one_of : (place : ℕ) (entry : Entry) (b : Bool) → entry.expanded ≡ b → StandsInLog log place entry
       → IsExpanded log (state_in log entry) ⊎ Pruned (state_in log entry)
   one_of place entry true is at = inl (expanded_in log place entry at is)
   one_of place entry false is at = inr (noted place entry at is)
 
-  pub either : (state : List Bool) → IsListed log state → IsExpanded log state ⊎ Pruned state
+  pub either : (state : List Bool) → IsLogged log state → IsExpanded log state ⊎ Pruned state
   either state (place, entry, at, same) =
       subst (λ s. IsExpanded log s ⊎ Pruned s) same (one_of place entry entry.expanded refl at)
 
@@ -92,7 +93,7 @@ module _ (task : Strips) (log : SearchLog) (followed : IsFollowed task log) (Pru
   log_leads state number action of_task at can from outside =
       let w = expanded_out log state from in
       let listed = followed.leads w.0 number w.1 action w.2 w.3 at (ap (applicable action) w.4 ∙ can) in
-      outside (either (successor action state) (subst (λ s. IsListed log (successor action s)) w.4 listed))
+      outside (either (successor action state) (subst (λ s. IsLogged log (successor action s)) w.4 listed))
 
   -- no expanded state holds the goal
   pub log_goalless : (state : List Bool) → IsExpanded log state → is_goal task state ≡ true → ⊥

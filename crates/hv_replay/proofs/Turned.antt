@@ -4,9 +4,11 @@ use Rattle.std.specs.Io.KnownBytes.{IsAtEnd}
 use Rattle.std.specs.List.{sum_by}
 use Rattle.std.proofs.lemmas.List.{length_push}
 use Rattle.std.proofs.lemmas.List.Sums.{sum_by-cons, sum_by_push}
-use Rattle.hv_bytes.specs.Files.{Names, Opens, file_of}
-use Rattle.hv_bytes.specs.FirstLine.{BeginsLong, FitsLimits, Passes as PassesBytes, TakesLine, last_byte}
-use Rattle.hv_bytes.specs.Pieces.{ComesNext, GaveLines, Piece, as_pieces, pieces_of}
+use Rattle.hv_bytes.specs.Files.{Names, Opens}
+use Rattle.hv_bytes.specs.Working.Files.{file_of}
+use Rattle.hv_bytes.specs.FirstLine.{BeginsLong, FitsLimits, MovesBytes as PassesBytes, TakesLine, last_byte}
+use Rattle.hv_bytes.specs.Pieces.{ComesNext, Piece, as_pieces, pieces_of}
+use Rattle.hv_bytes.specs.Working.Pieces.{GaveLines}
 use Rattle.hv_bytes.specs.States.{LinesState, coming_of, no_lines as no_input, size_of}
 use Rattle.hv_bytes.specs.declared.cutting.LineFault.{LineFault}
 use Rattle.hv_bytes.specs.declared.cutting.LineFault.TheVariants as L
@@ -18,9 +20,10 @@ use Rattle.hv_replay.specs.declared.log.Entry.{Entry}
 use Rattle.hv_replay.specs.declared.reader.FeedError.{FeedError}
 use Rattle.hv_replay.specs.declared.reader.FeedError.TheVariants as E
 use Rattle.hv_replay.specs.declared.reader.Reader.{Reader}
-use Rattle.hv_replay.specs.Logs.{IsLog, SearchLog, entry_line, listed_bytes, no_entries}
+use Rattle.hv_replay.specs.Logs.{IsLog, SearchLog, entry_line, listed_bytes}
+use Rattle.hv_replay.specs.Working.Logs.{no_entries}
 use Rattle.hv_replay.specs.LogText.{EndsEarly, FailsLine, IsLegal, IsReadFrom, IsTextOf, PassesLimit, end_line, lines_before, log_limits}
-use Rattle.hv_replay.specs.Reading.{Ends, Feeds, IsReady, begun, begun_by, fault_at, line_fault_at}
+use Rattle.hv_replay.specs.Working.Reading.{Ends, Feeds, IsReading, begun, begun_by, fault_at, line_fault_at}
 
 weaker : (file : Option (List ℕ)) (P Q : List ℕ → Type 0) → ((bytes : List ℕ) → P bytes → Q bytes)
     → IfSome file P → IfSome file Q
@@ -70,14 +73,14 @@ room_left reader earlier line within fits =
 -- the reader has read the lines that were given
 pub record Follows (file : Option (List ℕ)) (reader : Reader) (number earlier : ℕ)
     (coming : Option (List ℕ)) : Type 0 where
-  pub ready : IsReady reader
+  pub ready : IsReading reader
   pub counted : number ≡ length (lines_before (begun_by reader))
   pub gave : GaveLines log_limits file (lines_before (begun_by reader)) coming earlier
   pub within : line_bytes (lines_before (begun_by reader)) ≤ earlier
 
 pub follows_first : (files : Option Names) (name : List ℕ)
     (left : Option (List ℕ)) (atoms : ℕ) (reader : Reader) (lines : LinesState) → Opens files name left
-    → IsReady reader → reader.log ≡ no_entries atoms → reader.ended ≡ false → lines ≡ no_input log_limits
+    → IsReading reader → reader.log ≡ no_entries atoms → reader.ended ≡ false → lines ≡ no_input log_limits
     → Follows (file_of files name) reader lines.number lines.earlier (coming_of lines left)
 follows_first files name left atoms reader lines o ready empty unended e =
     let nothing : lines_before (begun_by reader) ≡ [] =

@@ -23,7 +23,7 @@ use Rattle.hv_lines.proofs.Carried.{acts_onto, expr_onto, known_onto, table_befo
 use Rattle.hv_lines.proofs.Drafting.{table_of}
 use Rattle.hv_lines.proofs.Extended.{begun_acts, begun_dead, begun_empty, begun_goal, begun_start}
 use Rattle.hv_lines.proofs.Laws.{expr_at_more, expr_below, exprs_grow, refers_below, set_in, set_out, sets_more, speaks_at}
-use Rattle.hv_replay.specs.PrunedLines.{IsListedSet, IsPrunedUnion, Rise}
+use Rattle.hv_replay.specs.Working.PrunedLines.{IsListedSet, IsPrunedUnion, Rise}
 use Rattle.hv_lines.specs.declared.note.Note.{Note}
 use Rattle.hv_replay.proofs.Explicit.{cons_cases, head_in, nothing_in}
 

@@ -1,19 +1,12 @@
 -- The lines with which a replay ends. The expanded states lead only to each other and to the union of
 -- the pruned ones, none of them holds the goal, and the initial state is among all these.
-use Rattle.std.specs.Prelude.{◌≡◌, ◌+◌, ◌≤◌, ◌⊎◌, ℕ, Bool, true, List, [], ◌∷◌, ◌++◌, Some, length, slice_get}
-use Rattle.std.specs.List.{All}
-use Rattle.hv_task.specs.declared.action.Action.{Action}
-use Rattle.hv_task.specs.State.{applicable, successor}
-use Rattle.hv_task.specs.Strips.{Strips, atoms, is_goal, start_state}
-use Rattle.hv_sets.specs.Truth.{InStates}
-use Rattle.hv_lines.specs.Drafts.{conclusion, default_budget}
-use Rattle.hv_lines.specs.Meaning.{StateSet}
+use Rattle.std.specs.Prelude.{◌+◌, ℕ, List, [], ◌∷◌, ◌++◌}
+use Rattle.hv_lines.specs.Drafts.{conclusion}
 use Rattle.hv_lines.specs.declared.line.Expr.TheVariants as E
 use Rattle.hv_lines.specs.declared.line.Line.{Line}
 use Rattle.hv_lines.specs.declared.line.Line.TheVariants as L
 use Rattle.hv_lines.specs.declared.line.Statement.TheVariants as T
 use Rattle.hv_lines.specs.declared.line.Word.TheVariants as W
-use Rattle.hv_replay.specs.Logs.{IsAtomSet}
 use Rattle.hv_lines.specs.declared.note.Note.{Note}
 
 -- The nine lines that show that the expanded states are dead, and their union with the pruned ones. The
@@ -35,15 +28,3 @@ closing_block s k states union =
 -- the twelve lines with which a replay ends: these nine, and the conclusion from the union
 abbrev pub closing_lines : ℕ → ℕ → List (List ℕ) → Note → List Line
 closing_lines s k states union = closing_block s k states union ++ conclusion (k + 5) (s + 2) (k + 4)
-
--- the search is closed: these expanded states, together with the pruned ones, are left by no action,
--- no expanded one holds the goal, and the initial state is one of them all
-pub record IsClosedSearch (task : Strips) (states : List (List ℕ)) (pruned : StateSet) : Type 0 where
-  pub atom_sets : All (IsAtomSet (atoms task)) states
-  pub few : length states ≤ default_budget
-  pub leads : (k : ℕ) (a : Action) → slice_get task.actions k ≡ Some a → (state : List Bool)
-      → InStates (atoms task) states state → applicable a state ≡ true
-      → InStates (atoms task) states (successor a state) ⊎ pruned (successor a state)
-  pub goalless : (state : List Bool) → InStates (atoms task) states state
-      → is_goal task state ≡ true → ⊥
-  pub starts : InStates (atoms task) states (start_state task) ⊎ pruned (start_state task)

@@ -1,7 +1,6 @@
 -- The expanded states of a log, as its proof lists them.
-use Rattle.std.specs.Prelude.{ℕ, Bool, List, map}
+use Rattle.std.specs.Prelude.{ℕ, List, map}
 use Rattle.std.specs.List.{filter}
-use Rattle.hv_sets.specs.Truth.{InStates}
 use Rattle.hv_replay.specs.Logs.{SearchLog}
 use Rattle.hv_replay.specs.declared.log.Entry.{Entry}
 
@@ -13,7 +12,3 @@ expanded_in entries =
 -- the expanded states, in the log's order
 abbrev pub expanded_states : SearchLog → List (List ℕ)
 expanded_states log = expanded_in log.entries
-
--- the state is one of them
-abbrev pub IsExpanded : SearchLog → List Bool → Type 0
-IsExpanded log state = InStates log.atoms (expanded_states log) state

@@ -1,12 +1,10 @@
 pub mod Logs
 pub mod LogText
-pub mod Reading
 pub mod Closed
 pub mod Expanded
-pub mod Following
-pub mod Waiting
 pub mod Words
 pub mod PrunedLines
 pub mod ClosingLines
 pub mod Replayed
 pub mod Progress
+pub mod Working

@@ -3,7 +3,7 @@ use Rattle.std.specs.Prelude.{◌≡◌, ◌<◌, ◌++◌, ℕ, List, [], ◌�
 use Rattle.hv_bytes.specs.Pieces.{ComesNext, Piece, as_pieces, pieces_of}
 use Rattle.hv_bytes.specs.Standard.{most_line_bytes}
 use Rattle.hv_bytes.specs.declared.cutting.Limits.{Limits}
-use Rattle.hv_replay.specs.Logs.{IsEntry, IsLog, SearchLog, entry_line, expanded_count, pruned_count}
+use Rattle.hv_replay.specs.Logs.{IsLogEntry, IsLog, SearchLog, entry_line, expanded_count, pruned_count}
 use Rattle.hv_replay.specs.declared.fault.LogFault.{LogFault}
 use Rattle.hv_replay.specs.declared.fault.LogFault.TheVariants as F
 use Rattle.hv_replay.specs.declared.fault.LogLimit.{LogLimit}
@@ -22,7 +22,7 @@ end_line = codes "end"
 -- the line is that of this entry, of a task with so many atoms
 pub record IsEntryLine (atoms : ℕ) (line : List ℕ) (entry : Entry) : Type 0 where
   pub spelled : line ≡ entry_line entry
-  pub legal : IsEntry atoms entry
+  pub legal : IsLogEntry atoms entry
 
 -- the pieces are the text of this log, which is within the limits; so none of its lines is long
 pub record IsTextOf (pieces : List Piece) (log : SearchLog) : Type 0 where

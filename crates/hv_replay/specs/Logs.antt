@@ -1,9 +1,8 @@
 -- Logs of a search: the states that it expanded and those that it pruned, in order.
-use Rattle.std.specs.Prelude.{◌≡◌, ◌≤◌, ℕ, Bool, true, false, List, [], ◌∷◌, Some, codes, decimal, length, map, not, slice_get}
+use Rattle.std.specs.Prelude.{◌≡◌, ◌≤◌, ℕ, Bool, true, false, List, ◌∷◌, Some, codes, decimal, length, map, not, slice_get}
 use Rattle.std.specs.List.{All, count_by, join_with_byte, sum_by}
 use Rattle.std.specs.List.Sorted.{IsStrictlyIncreasing}
 use Rattle.hv_task.specs.State.{AreBelow}
-use Rattle.hv_replay.specs.declared.counts.Counts.{Counts}
 use Rattle.hv_replay.specs.declared.log.Entry.{Entry}
 
 -- a log: how many atoms the task has, and the entries, each an expanded state or a pruned one, by
@@ -12,19 +11,9 @@ pub record SearchLog : Type 0 where
   pub atoms : ℕ
   pub entries : List Entry
 
--- the entries of these states, each with the flag that says whether it is an expanded one
-abbrev pub entries_of : List Bool → List (List ℕ) → List Entry
-entries_of (expanded ∷ flags) (held ∷ states) =
-    record { expanded = expanded; state = held } ∷ entries_of flags states
-entries_of _ _ = []
-
--- the log without an entry
-abbrev pub no_entries : ℕ → SearchLog
-no_entries atoms = record { atoms = atoms; entries = [] }
-
 -- the entry stands at this place
-abbrev pub StandsAt : SearchLog → ℕ → Entry → Type 0
-StandsAt log place entry = slice_get log.entries place ≡ Some entry
+abbrev pub StandsInLog : SearchLog → ℕ → Entry → Type 0
+StandsInLog log place entry = slice_get log.entries place ≡ Some entry
 
 -- a state of a task with so many atoms, by the atoms that it holds, which rise
 pub record IsAtomSet (atoms : ℕ) (held : List ℕ) : Type 0 where
@@ -32,8 +21,8 @@ pub record IsAtomSet (atoms : ℕ) (held : List ℕ) : Type 0 where
   pub rises : IsStrictlyIncreasing held
 
 -- the entry's state is one
-abbrev pub IsEntry : ℕ → Entry → Type 0
-IsEntry atoms entry = IsAtomSet atoms entry.state
+abbrev pub IsLogEntry : ℕ → Entry → Type 0
+IsLogEntry atoms entry = IsAtomSet atoms entry.state
 
 -- how many entries are expanded states, and how many are pruned ones
 abbrev pub expanded_count : List Entry → ℕ
@@ -41,9 +30,6 @@ expanded_count entries = count_by (λ e. e.expanded) entries
 
 abbrev pub pruned_count : List Entry → ℕ
 pruned_count entries = count_by (λ e. not e.expanded) entries
-
-abbrev pub counts_of : List Entry → Counts
-counts_of entries = record { expanded = expanded_count entries; pruned = pruned_count entries }
 
 -- no more of them than a log may have
 pub record AreFew (entries : List Entry) : Type 0 where
@@ -66,6 +52,6 @@ listed_bytes entries = sum_by (λ entry. length (entry_line entry)) entries
 -- what every log keeps: its entries are those of a task, not too many of them, and their lines have
 -- no more bytes than a log may have
 pub record IsLog (atoms : ℕ) (entries : List Entry) : Type 0 where
-  pub each : All (IsEntry atoms) entries
+  pub each : All (IsLogEntry atoms) entries
   pub few : AreFew entries
   pub small : listed_bytes entries ≤ 8388608

@@ -1,12 +1,15 @@
+//! The lines by which the expanded states are dead, and the conclusion.
+
 ghost use Rattle.std.specs.Prelude.{◌≡◌, ◌<◌, ◌≤◌, ◌+◌, ◌^◌, ℕ, IfOk, OnOk, OnErr};
-ghost use Rattle.hv_lines.specs.Drafts.{IsGoodTable, IsShort, onto};
+ghost use Rattle.hv_lines.specs.Drafts.{IsGoodTable, IsShortLine, onto};
 ghost use Rattle.hv_lines.specs.Judged.{Concludes};
 ghost use Rattle.hv_lines.specs.Numbering.{expr_count, known_count};
 ghost use Rattle.hv_lines.specs.Pruning.{Extends, states_in};
 ghost use Rattle.hv_lines.specs.declared.line.Expr.TheVariants as E;
 ghost use Rattle.hv_lines.specs.declared.line.Line.TheVariants as L;
-ghost use Rattle.hv_replay.specs.ClosingLines.{IsClosedSearch, closing_block, closing_lines};
-ghost use Rattle.hv_replay.specs.PrunedLines.{IsPrunedUnion, most_pruned};
+ghost use Rattle.hv_replay.specs.ClosingLines.{closing_block, closing_lines};
+ghost use Rattle.hv_replay.specs.Working.ClosingLines.{IsClosedSearch};
+ghost use Rattle.hv_replay.specs.Working.PrunedLines.{IsPrunedUnion, most_pruned};
 
 use crate::pruned::next_in;
 use hv_lines::{Draft, Expr, Line, Note, Premises, Statement, Word, conclusion};
@@ -28,7 +31,7 @@ pub(crate) fn push_closing(
         × IsPrunedUnion task.now draft.old.lines pruned union }
     requires closed { IsClosedSearch task.now states
         (states_in task.now draft.old.lines union.set) }
-    requires short { IsShort (L.Expr (expr_count draft.old.lines) (E.States states)) }
+    requires short { IsShortLine (L.Expr (expr_count draft.old.lines) (E.States states)) }
     ensures lines { OnOk result (draft.new.lines
         ≡ onto (closing_lines (expr_count draft.old.lines) (known_count draft.old.lines) states union)
         draft.old.lines) }

@@ -1,5 +1,8 @@
+//! How many entries a log has, and how many bytes.
+
 ghost use Rattle.std.specs.Prelude.{◌≡◌, ◌∷◌, ◌++◌, [], List, MatchResult};
-ghost use Rattle.hv_replay.specs.Logs.{AreFew, counts_of};
+ghost use Rattle.hv_replay.specs.Logs.{AreFew};
+ghost use Rattle.hv_replay.specs.Working.Logs.{counts_of};
 ghost use Rattle.hv_replay.specs.LogText.{PassesCount};
 ghost use Rattle.hv_replay.specs.declared.log.Entry.{Entry};
 

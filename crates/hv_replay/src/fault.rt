@@ -1,3 +1,5 @@
+//! Limits of a log, and why one isn't read.
+
 ghost use Rattle.std.specs.Prelude.{◌≡◌};
 ghost use Rattle.hv_replay.specs.declared.fault.LogFault.TheVariants as F;
 ghost use Rattle.hv_replay.specs.Words.{limit_word};

@@ -1,7 +1,9 @@
+//! Why a log is no proof.
+
 ghost use Rattle.std.specs.Prelude.{◌≡◌, ◌<◌, ◌+◌, ◌↔◌, ℕ, length, IsTrue, MatchOption};
 ghost use Rattle.hv_task.specs.Strips.{atoms};
-ghost use Rattle.hv_replay.specs.Closed.{IsFirst, IsGoalFree};
-ghost use Rattle.hv_replay.specs.Following.{Follows};
+ghost use Rattle.hv_replay.specs.Closed.{IsFirstWithout, IsGoalFree};
+ghost use Rattle.hv_replay.specs.Working.Following.{Follows};
 ghost use Rattle.hv_replay.specs.declared.hole.ReplayFault.TheVariants as H;
 
 use crate::log::Log;
@@ -85,7 +87,7 @@ fn first_goal(task: &Task, log: &Log) -> Option<usize>
     requires { log.now.atoms ≡ atoms task.now }
     ensures { MatchOption result
         ((place : ℕ) → place < length log.now.entries → IsGoalFree task.now log.now place)
-        (λ place. (place < length log.now.entries) × IsFirst (IsGoalFree task.now log.now) place) }
+        (λ place. (place < length log.now.entries) × IsFirstWithout (IsGoalFree task.now log.now) place) }
 {
     for place in 0..log.len() {
         if !is_goal_free(task, log, place) {

@@ -1,3 +1,5 @@
+//! That a file has one answer and a log one first hole, as contracts of functions that do nothing.
+
 ghost use Rattle.std.specs.Prelude.{◌≡◌, ◌≤◌, ℕ, List};
 ghost use Rattle.std.specs.List.{Any};
 ghost use Rattle.hv_bytes.specs.Pieces.{Piece};

@@ -4,15 +4,15 @@
 mod boxes;
 mod closing;
 mod counts;
-mod fault;
-mod hole;
-mod laws;
+pub mod fault;
+pub mod hole;
+pub mod laws;
 mod line;
-mod log;
+pub mod log;
 mod open;
-mod proof;
+pub mod proof;
 mod pruned;
-mod read;
+pub mod read;
 mod reader;
 #[cfg(test)]
 mod tests;

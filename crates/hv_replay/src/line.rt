@@ -3,7 +3,7 @@
 ghost use Rattle.std.specs.Prelude.{◌≡◌, ◌<◌, ◌≤◌, ℕ, Bool, List, IfOk, MatchOption, decimal};
 ghost use Rattle.hv_replay.specs.Logs.{letter_of};
 ghost use Rattle.hv_replay.specs.LogText.{IsEntryLine};
-ghost use Rattle.hv_replay.specs.Reading.{AreAtoms, fields_in};
+ghost use Rattle.hv_replay.specs.Working.Reading.{AreAtoms, fields_in};
 ghost use Rattle.hv_replay.specs.declared.log.Entry.{Entry};
 
 use crate::log::Entry;

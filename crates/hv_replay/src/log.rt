@@ -1,7 +1,10 @@
+//! Logs of a search.
+
 ghost use Rattle.std.specs.Prelude.{◌≡◌, ◌<◌, ◌≤◌, [], ◌∷◌, ◌++◌, Some, length, slice_get, IfOk, OnErr, OnOk};
 ghost use Rattle.hv_task.specs.Strips.{atoms};
-ghost use Rattle.hv_replay.specs.Following.{AreListed};
-ghost use Rattle.hv_replay.specs.Logs.{AreFew, IsAtomSet, IsEntry, IsLog, StandsAt, listed_bytes, no_entries};
+ghost use Rattle.hv_replay.specs.Working.Following.{ListsLog};
+ghost use Rattle.hv_replay.specs.Logs.{AreFew, IsAtomSet, IsLogEntry, IsLog, StandsInLog, listed_bytes};
+ghost use Rattle.hv_replay.specs.Working.Logs.{no_entries};
 ghost use Rattle.hv_replay.specs.declared.log.Entry.{Entry};
 
 use hv_explicit::Explicit;
@@ -28,7 +31,8 @@ pub(crate) struct Entries {
 
 impl Model for Entries {
     ghost use Rattle.std.specs.Prelude.{◌≡◌, length};
-    ghost use Rattle.hv_replay.specs.Logs.{IsLog, SearchLog, entries_of};
+    ghost use Rattle.hv_replay.specs.Logs.{IsLog, SearchLog};
+    ghost use Rattle.hv_replay.specs.Working.Logs.{entries_of};
 
     ghost Value = { SearchLog };
 
@@ -52,7 +56,7 @@ impl Entries {
 
     /// Puts an entry last.
     pub(crate) fn push(&mut self, entry: Entry) -> Result<(), AllocError>
-        requires entry { IsEntry self.old.atoms entry }
+        requires entry { IsLogEntry self.old.atoms entry }
         requires few { AreFew (self.old.entries ++ entry ∷ []) }
         requires small { listed_bytes (self.old.entries ++ entry ∷ []) ≤ 8388608 }
         ensures ok { OnOk result
@@ -87,7 +91,8 @@ pub struct Log {
 
 impl Model for Log {
     ghost use Rattle.std.specs.Prelude.{◌≡◌, length};
-    ghost use Rattle.hv_replay.specs.Logs.{IsLog, SearchLog, entries_of};
+    ghost use Rattle.hv_replay.specs.Logs.{IsLog, SearchLog};
+    ghost use Rattle.hv_replay.specs.Working.Logs.{entries_of};
 
     ghost Value = { SearchLog };
 
@@ -125,7 +130,7 @@ impl Log {
 
     /// The states of all entries.
     pub(crate) fn listed(&self) -> &Explicit
-        ensures listed { AreListed self.now result.now }
+        ensures listed { ListsLog self.now result.now }
         ensures log { IsLog self.now.atoms self.now.entries }
     {
         &self.states
@@ -134,7 +139,7 @@ impl Log {
     /// Whether the entry at this place is an expanded state.
     pub fn expanded(&self, place: usize) -> bool
         requires { place < length self.now.entries }
-        ensures { (entry : Entry) → StandsAt self.now place entry → result ≡ entry.expanded }
+        ensures { (entry : Entry) → StandsInLog self.now place entry → result ≡ entry.expanded }
     {
         self.expanded[place]
     }
@@ -142,7 +147,7 @@ impl Log {
     /// The state of the entry at this place, by the atoms that it holds.
     pub fn state(&self, place: usize) -> &AtomList
         requires { place < length self.now.entries }
-        ensures { (entry : Entry) → StandsAt self.now place entry → result.now ≡ entry.state }
+        ensures { (entry : Entry) → StandsInLog self.now place entry → result.now ≡ entry.state }
     {
         self.held(place)
     }
@@ -150,7 +155,7 @@ impl Log {
     // The same; it is a state of the task.
     pub(crate) fn held(&self, place: usize) -> &AtomList
         requires { place < length self.now.entries }
-        ensures stands { (entry : Entry) → StandsAt self.now place entry → result.now ≡ entry.state }
+        ensures stands { (entry : Entry) → StandsInLog self.now place entry → result.now ≡ entry.state }
         ensures legal { IsAtomSet self.now.atoms result.now }
     {
         item(self.states.states(), place)

@@ -4,9 +4,9 @@ ghost use Rattle.std.specs.Prelude.{◌≡◌, ◌<◌, ◌≤◌, ◌↔◌, �
 ghost use Rattle.std.specs.List.{Contains};
 ghost use Rattle.hv_task.specs.State.{AreBelow, state_of};
 ghost use Rattle.hv_task.specs.Strips.{atoms};
-ghost use Rattle.hv_replay.specs.Closed.{IsFirst, LeadsOn};
-ghost use Rattle.hv_replay.specs.Following.{Stays};
-ghost use Rattle.hv_replay.specs.Waiting.{AreWaiting, IsIn};
+ghost use Rattle.hv_replay.specs.Closed.{IsFirstWithout, LeadsOn};
+ghost use Rattle.hv_replay.specs.Working.Following.{StaysListed};
+ghost use Rattle.hv_replay.specs.Working.Waiting.{AreWaiting, IsIn};
 
 use crate::log::Log;
 use hv_explicit::Explicit;
@@ -21,7 +21,7 @@ pub(crate) fn first_open(task: &Task, log: &Log, rows: &Vec<Vec<u32>>) -> Option
         ((place action : ℕ) → place < length log.now.entries
         → LeadsOn task.now log.now place action)
         (λ found. (found.0 < length log.now.entries)
-        × IsFirst (LeadsOn task.now log.now found.0) found.1
+        × IsFirstWithout (LeadsOn task.now log.now found.0) found.1
         × ((before action : ℕ) → before < found.0
         → LeadsOn task.now log.now before action)) }
 {
@@ -41,7 +41,7 @@ fn open_action(task: &Task, log: &Log, rows: &Vec<Vec<u32>>, place: usize) -> Op
     requires place { place < length log.now.entries }
     ensures { MatchOption result
         ((action : ℕ) → LeadsOn task.now log.now place action)
-        (λ action. IsFirst (LeadsOn task.now log.now place) action) }
+        (λ action. IsFirstWithout (LeadsOn task.now log.now place) action) }
 {
     if !log.expanded(place) {
         return None;
@@ -57,9 +57,9 @@ fn least_exit(task: &Task, listed: &Explicit, rows: &Vec<Vec<u32>>, held: &AtomL
     requires held { AreBelow (atoms task.now) held.now }
     ensures { MatchOption result
         ((action : ℕ) → action < length task.now.actions
-        → Stays task.now listed.now (state_of (atoms task.now) held.now) action)
-        (λ action. IsFirst
-        (Stays task.now listed.now (state_of (atoms task.now) held.now)) action) }
+        → StaysListed task.now listed.now (state_of (atoms task.now) held.now) action)
+        (λ action. IsFirstWithout
+        (StaysListed task.now listed.now (state_of (atoms task.now) held.now)) action) }
 {
     let count = task.actions();
     let mut least = least_in(task, listed, rows, held, task.atoms(), count);
@@ -88,9 +88,9 @@ fn least_in(
     requires place { place ≤ atoms task.now }
     ensures upto { result ≤ bound }
     ensures stay { (action : ℕ) → IsIn rows.now.items place action → action < result
-        → Stays task.now listed.now (state_of (atoms task.now) held.now) action }
+        → StaysListed task.now listed.now (state_of (atoms task.now) held.now) action }
     ensures exit { result < bound
-        → Stays task.now listed.now (state_of (atoms task.now) held.now) result → ⊥ }
+        → StaysListed task.now listed.now (state_of (atoms task.now) held.now) result → ⊥ }
 {
     least_among(task, listed, rows[place as usize].as_slice(), held, bound)
 }
@@ -102,9 +102,9 @@ fn least_among(task: &Task, listed: &Explicit, row: &[u32], held: &AtomList, bou
     requires held { AreBelow (atoms task.now) held.now }
     ensures upto { result ≤ bound }
     ensures stay { (action : ℕ) → Contains row.now action → action < result
-        → Stays task.now listed.now (state_of (atoms task.now) held.now) action }
+        → StaysListed task.now listed.now (state_of (atoms task.now) held.now) action }
     ensures exit { result < bound
-        → Stays task.now listed.now (state_of (atoms task.now) held.now) result → ⊥ }
+        → StaysListed task.now listed.now (state_of (atoms task.now) held.now) result → ⊥ }
 {
     let mut least = bound;
     for action in row {
@@ -121,9 +121,9 @@ fn lesser_exit(task: &Task, listed: &Explicit, action: u32, held: &AtomList, bou
     requires held { AreBelow (atoms task.now) held.now }
     ensures upto { result ≤ bound }
     ensures stays { action < result
-        → Stays task.now listed.now (state_of (atoms task.now) held.now) action }
+        → StaysListed task.now listed.now (state_of (atoms task.now) held.now) action }
     ensures exit { result < bound
-        → Stays task.now listed.now (state_of (atoms task.now) held.now) result → ⊥ }
+        → StaysListed task.now listed.now (state_of (atoms task.now) held.now) result → ⊥ }
 {
     if action >= bound || stays(task, listed, action, held) {
         return bound;
@@ -137,7 +137,7 @@ fn stays(task: &Task, listed: &Explicit, number: u32, held: &AtomList) -> bool
     requires number { number < length task.now.actions }
     requires held { AreBelow (atoms task.now) held.now }
     ensures { IsTrue result
-        ↔ Stays task.now listed.now (state_of (atoms task.now) held.now) number }
+        ↔ StaysListed task.now listed.now (state_of (atoms task.now) held.now) number }
 {
     let action = task.action(number);
     if !held.has_all(action.pre.as_slice()) {

@@ -1,3 +1,5 @@
+//! Proofs of logs.
+
 ghost use Rattle.std.specs.Prelude.{◌≡◌, ◌<◌, ◌↔◌, ◌++◌, ◌∷◌, ℕ, Bool, false, [], List, IfErr, IfOk, IfSome, MatchOption, OnOk, length};
 ghost use Rattle.std.specs.List.{All, Any};
 ghost use Rattle.hv_task.specs.State.{state_of};
@@ -6,11 +8,12 @@ ghost use Rattle.hv_lines.specs.Drafts.{IsGoodTable, onto, prelude};
 ghost use Rattle.hv_lines.specs.Judged.{Concludes};
 ghost use Rattle.hv_lines.specs.Pruning.{Extends};
 ghost use Rattle.hv_lines.specs.declared.line.Line.{Line};
-ghost use Rattle.hv_replay.specs.Closed.{IsClosed, IsFirstHole, IsFollowed, IsJustified};
+ghost use Rattle.hv_replay.specs.Closed.{IsClosed, IsFirstHole, IsSearchFollowed, IsJustified};
 ghost use Rattle.hv_replay.specs.Expanded.{expanded_in, expanded_states};
-ghost use Rattle.hv_replay.specs.Logs.{IsAtomSet, IsLog, StandsAt};
-ghost use Rattle.hv_replay.specs.PrunedLines.{IsPrunedUnion};
-ghost use Rattle.hv_replay.specs.Progress.{IsProgress, IsProof, IsUncovered};
+ghost use Rattle.hv_replay.specs.Logs.{IsAtomSet, IsLog, StandsInLog};
+ghost use Rattle.hv_replay.specs.Working.PrunedLines.{IsPrunedUnion};
+ghost use Rattle.hv_replay.specs.Progress.{IsProof};
+ghost use Rattle.hv_replay.specs.Working.Progress.{IsProgress, IsUncovered};
 ghost use Rattle.hv_replay.specs.Replayed.{IsReplayed, pruned_in};
 ghost use Rattle.hv_replay.specs.declared.log.Entry.{Entry};
 ghost use Rattle.hv_replay.specs.declared.hole.ReplayFault.TheVariants as H;
@@ -109,7 +112,7 @@ fn put_all(
     pruners: &mut [Box<dyn Pruner>],
 ) -> Result<(), ReplayFault>
     requires atoms { log.now.atoms ≡ atoms task.now }
-    requires followed { IsFollowed task.now log.now }
+    requires followed { IsSearchFollowed task.now log.now }
     requires draft { draft.old.lines ≡ onto prelude [] }
     requires good { IsGoodTable task.now draft.old.lines }
     requires fits { (lines : List Line) → All (λ b. fits b task.now lines) pruners.old }
@@ -137,7 +140,7 @@ fn put_end(
     union: Note,
 ) -> Result<(), AllocError>
     requires atoms { log.now.atoms ≡ atoms task.now }
-    requires followed { IsFollowed task.now log.now }
+    requires followed { IsSearchFollowed task.now log.now }
     requires progress { IsProgress task.now (pruned_in log.now.entries) draft.old.lines union }
     ensures { OnOk result (IsProof task.now log.now draft.new.lines) }
 {
@@ -202,13 +205,13 @@ fn put_one(
     requires fits { (lines : List Line) → Extends task.now draft.old.lines lines
         → All (λ b. fits b task.now lines) pruners.old }
     ensures state { IsState task.now state.new }
-    ensures covered { (entry : Entry) → StandsAt log.now place entry
+    ensures covered { (entry : Entry) → StandsInLog log.now place entry
         → IfOk result (λ found. MatchOption found
         ((entry.expanded ≡ false) × (Any (λ b. covers b task.now
         (state_of (atoms task.now) entry.state)) pruners.old → ⊥))
         (λ _. entry.expanded ≡ false → Any (λ b. covers b task.now
         (state_of (atoms task.now) entry.state)) pruners.old)) }
-    ensures progress { (entry : Entry) → StandsAt log.now place entry
+    ensures progress { (entry : Entry) → StandsInLog log.now place entry
         → IfOk result (λ found. IfSome found (λ more. (before : List Entry)
         → IsProgress task.now (pruned_in before) draft.old.lines union
         → IsProgress task.now (pruned_in (before ++ entry ∷ [])) draft.new.lines more)) }
@@ -287,7 +290,7 @@ fn put_expanded(
     states: &mut StateList,
 ) -> Result<(), AllocError>
     requires { place < length log.now.entries }
-    ensures { (entry : Entry) → StandsAt log.now place entry → OnOk result
+    ensures { (entry : Entry) → StandsInLog log.now place entry → OnOk result
         (states.new ≡ states.old ++ expanded_in (entry ∷ [])) }
 {
     if !log.expanded(place) {

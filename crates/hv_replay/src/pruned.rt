@@ -1,3 +1,5 @@
+//! The lines by which a pruned state is dead, beside those before it.
+
 ghost use Rattle.std.specs.Prelude.{◌≡◌, ◌<◌, ◌≤◌, ◌+◌, ◌^◌, ◌∷◌, [], ℕ, Bool, List, Some, IfOk, OnErr};
 ghost use Rattle.hv_task.specs.State.{AreBelow, state_of};
 ghost use Rattle.hv_task.specs.Strips.{atoms};
@@ -6,7 +8,8 @@ ghost use Rattle.hv_lines.specs.Numbering.{expr_count, known_count};
 ghost use Rattle.hv_lines.specs.Pruning.{Extends, IsDeadBy, states_in};
 ghost use Rattle.hv_lines.specs.Rules.{Says};
 ghost use Rattle.hv_lines.specs.declared.line.Statement.TheVariants as T;
-ghost use Rattle.hv_replay.specs.PrunedLines.{IsPrunedUnion, pruned_lines, pruned_word, word_of_formula};
+ghost use Rattle.hv_replay.specs.PrunedLines.{pruned_lines, pruned_word, word_of_formula};
+ghost use Rattle.hv_replay.specs.Working.PrunedLines.{IsPrunedUnion};
 ghost use Rattle.hv_replay.specs.Replayed.{union_after};
 
 use hv_lines::{Draft, Expr, Line, Note, Premises, Statement, Table, Word};

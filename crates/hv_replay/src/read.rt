@@ -1,9 +1,11 @@
+//! Logs from a shelf, line by line.
+
 ghost use Rattle.std.specs.Prelude.{◌≡◌, ◌+◌, ◌≤◌, ◌^◌, IsTrue, IfOk, IfSome, IsErrOf};
 ghost use Rattle.hv_bytes.specs.Devices.{Rose};
 ghost use Rattle.hv_bytes.specs.Files.{bytes_of};
 ghost use Rattle.hv_task.specs.Strips.{atoms};
 ghost use Rattle.hv_replay.specs.LogText.{IsReadFrom};
-ghost use Rattle.hv_replay.specs.Reading.{line_fault_at};
+ghost use Rattle.hv_replay.specs.Working.Reading.{line_fault_at};
 
 use crate::fault::{LogFault, LogLimit};
 use crate::log::Log;

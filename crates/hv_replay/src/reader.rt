@@ -1,9 +1,12 @@
+//! What has been read of a log so far, and what each further line adds.
+
 ghost use Rattle.std.specs.Prelude.{◌≡◌, ◌+◌, ◌≤◌, ◌∷◌, ◌++◌, [], false, length, IfOk};
 ghost use Rattle.hv_task.specs.Strips.{atoms};
 ghost use Rattle.hv_replay.specs.declared.reader.FeedError.TheVariants as E;
-ghost use Rattle.hv_replay.specs.Logs.{IsEntry, listed_bytes, no_entries};
+ghost use Rattle.hv_replay.specs.Logs.{IsLogEntry, listed_bytes};
+ghost use Rattle.hv_replay.specs.Working.Logs.{no_entries};
 ghost use Rattle.hv_replay.specs.LogText.{PassesCount};
-ghost use Rattle.hv_replay.specs.Reading.{Ends, Feeds, IsReady, TakesEntry, fault_at};
+ghost use Rattle.hv_replay.specs.Working.Reading.{Ends, Feeds, IsReading, TakesEntry, fault_at};
 
 use crate::counts::Counts;
 use crate::fault::{LogFault, LogLimit};
@@ -53,7 +56,7 @@ impl Reader {
     /// A reader that has read nothing, of a log of a task with so many atoms.
     pub fn new(alloc: Global, atoms: u32) -> Reader
         requires { atoms ≤ 65535 }
-        ensures ready { IsReady result }
+        ensures ready { IsReading result }
         ensures log { result.log ≡ no_entries atoms }
         ensures ended { result.ended ≡ false }
     {
@@ -69,7 +72,7 @@ impl Reader {
 
     /// Takes one more line.
     pub fn feed(&mut self, alloc: Global, line: &[u8]) -> Result<(), FeedError>
-        requires ready { IsReady self.old }
+        requires ready { IsReading self.old }
         requires room { listed_bytes self.old.log.entries + length line.now ≤ 8388608 }
         ensures { Feeds result self.old line.now self.new }
     {
@@ -88,9 +91,9 @@ impl Reader {
 
     // Takes the entry of a line.
     fn take(&mut self, entry: Entry) -> Result<(), FeedError>
-        requires ready { IsReady self.old }
+        requires ready { IsReading self.old }
         requires open { self.old.ended ≡ false }
-        requires entry { IsEntry self.old.log.atoms entry }
+        requires entry { IsLogEntry self.old.log.atoms entry }
         requires small { listed_bytes (self.old.log.entries ++ entry ∷ []) ≤ 8388608 }
         ensures { TakesEntry result self.old entry self.new }
     {
@@ -106,7 +109,7 @@ impl Reader {
 
     /// The log, of states of the task, where the text ends here, before the line of this number.
     pub fn end(self, task: &Task, number: u64) -> Result<Log, LogFault>
-        requires ready { IsReady self }
+        requires ready { IsReading self }
         requires atoms { self.log.atoms ≡ atoms task.now }
         ensures { Ends result self number }
     {

@@ -1,3 +1,5 @@
+//! Tests of logs, of their first holes, and of the proofs of closed ones.
+
 ghost use Rattle.std.specs.Prelude.{◌≡◌, ◌<◌, ◌≤◌, [], IfOk, OnOk, length};
 ghost use Rattle.hv_task.specs.State.{AreBelow};
 ghost use Rattle.hv_task.specs.Strips.{IsOver, atoms};

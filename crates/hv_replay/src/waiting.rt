@@ -4,7 +4,7 @@ ghost use Rattle.std.specs.Prelude.{◌≡◌, ◌<◌, ◌≤◌, ◌+◌, [], 
 ghost use Rattle.std.specs.List.{Contains};
 ghost use Rattle.hv_task.specs.State.{AreBelow};
 ghost use Rattle.hv_task.specs.Strips.{atoms};
-ghost use Rattle.hv_replay.specs.Waiting.{AreWaiting, IsIn, IsUnder, RowsBelow};
+ghost use Rattle.hv_replay.specs.Working.Waiting.{AreWaiting, IsIn, IsUnder, RowsBelow};
 
 use hv_task::Task;
 use std::alloc::{AllocError, Global};

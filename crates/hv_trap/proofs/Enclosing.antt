@@ -12,7 +12,8 @@ use Rattle.hv_sets.specs.Truth.{in_clause, in_clauses, in_cube}
 use Rattle.hv_sets.specs.declared.literal.Literal.{Literal}
 use Rattle.hv_clauses.specs.Clausal.{AreClauses}
 use Rattle.hv_trap.specs.Conjunctions.{conjunctions, denials, denies_one, is_short}
-use Rattle.hv_trap.specs.Trap.{AreTrapClauses, Enclose, EncloseTrap, Escapes, InGreatestTrap, IsTrap, Stays, is_candidate}
+use Rattle.hv_trap.specs.Trap.{AreTrapClauses, InGreatestTrap, IsTrap, Stays, is_candidate}
+use Rattle.hv_trap.specs.Working.Trap.{Enclose, EncloseTrap, Escapes}
 use Rattle.hv_trap.proofs.Listed.{all_short, bool_dec, both_ways, denials_below, denials_same, false_denials, filter_denials, listed, true_denials}
 use Rattle.hv_trap.proofs.Lists.{and_both, and_left, and_right}
 

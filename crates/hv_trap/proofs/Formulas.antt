@@ -9,13 +9,14 @@ use Rattle.hv_sets.specs.Kinds.{IsTwoClause}
 use Rattle.hv_sets.specs.Truth.{in_clauses}
 use Rattle.hv_sets.specs.declared.literal.Literal.{Literal}
 use Rattle.hv_clauses.specs.Clausal.{AreClauses}
-use Rattle.hv_lines.specs.Drafts.{IsShort}
+use Rattle.hv_lines.specs.Drafts.{IsShortLine}
 use Rattle.hv_lines.specs.Spelling.{FitsDecimal, FitsLiteral, clause_fields, literal_field}
 use Rattle.hv_lines.specs.declared.line.Expr.TheVariants as E
 use Rattle.hv_lines.specs.declared.line.Line.TheVariants as L
 use Rattle.hv_lines.proofs.Lengths.{IsSmall, decimal_short, short_by, weight, weight-append}
-use Rattle.hv_trap.specs.Conjunctions.{conjunctions, denial, denial_in, denials, denials_of, is_short, denies_one, over_greater, over_one, over_two}
-use Rattle.hv_trap.specs.Trap.{AreTrapClauses, Enclose, Stays}
+use Rattle.hv_trap.specs.Conjunctions.{conjunctions, denying_clause, denial_in, denials, denials_of, is_short, denies_one, over_greater, over_one, over_two}
+use Rattle.hv_trap.specs.Trap.{AreTrapClauses, Stays}
+use Rattle.hv_trap.specs.Working.Trap.{Enclose}
 use Rattle.hv_trap.proofs.Enclosing.{enclose_below}
 use Rattle.hv_trap.proofs.Lists.{and_left, length-pieces}
 use Rattle.hv_trap.proofs.Sides.{cons_cases, nothing_in}
@@ -70,7 +71,7 @@ few_conjunctions n few =
       most_triples,
     )
 
-one_denial : (b : Bool) (c : List Literal) → length (if b then denial c ∷ [] else []) ≤ 1
+one_denial : (b : Bool) (c : List Literal) → length (if b then denying_clause c ∷ [] else []) ≤ 1
 one_denial true c = omega arith
 one_denial false c = omega arith
 
@@ -82,15 +83,15 @@ few_denials set n few =
 
 -- each clause has at most two literals
 
-denied_two : (n : ℕ) (c : List Literal) → is_short n c ≡ true → length (denial c) ≤ 2
+denied_two : (n : ℕ) (c : List Literal) → is_short n c ≡ true → length (denying_clause c) ≤ 2
 denied_two n [] short = absurd (cc (short))
 denied_two n (l ∷ []) short = omega arith
 denied_two n (l ∷ m ∷ []) short = omega arith
 denied_two n (l ∷ m ∷ k ∷ c) short = absurd (cc (short))
 
-one_two : (n : ℕ) (c : List Literal) (b : Bool) → (b ≡ true → is_short n c ≡ true) → All (λ x. length x ≤ 2) (if b then denial c ∷ [] else [])
+one_two : (n : ℕ) (c : List Literal) (b : Bool) → (b ≡ true → is_short n c ≡ true) → All (λ x. length x ≤ 2) (if b then denying_clause c ∷ [] else [])
 one_two n c false short = All-nil (λ x. length x ≤ 2)
-one_two n c true short = All-cons (λ x. length x ≤ 2) (denial c) [] (denied_two n c (short refl)) (All-nil (λ x. length x ≤ 2))
+one_two n c true short = All-cons (λ x. length x ≤ 2) (denying_clause c) [] (denied_two n c (short refl)) (All-nil (λ x. length x ≤ 2))
 
 denials_two : (n : ℕ) (set : List Literal → Bool) → ((c : List Literal) → set c ≡ true → is_short n c ≡ true)
     → (cs : List (List Literal)) → All (λ x. length x ≤ 2) (denials_of set cs)
@@ -198,14 +199,14 @@ clauses_short (clause ∷ clauses) small =
     )
 
 pub short_two : (id : ℕ) (clauses : List (List Literal)) → FitsDecimal id → All IsSmall clauses → length clauses ≤ 6112
-    → IsShort (L.Expr id (E.Two clauses))
+    → IsShortLine (L.Expr id (E.Two clauses))
 short_two id clauses at small few =
     short_by (L.Expr id (E.Two clauses))
     (omega (arith, decimal_short id at, decimal_short (length clauses) (omega (arith, few)), clauses_short clauses small, few))
 
-pub short_not : (id set : ℕ) → FitsDecimal id → FitsDecimal set → IsShort (L.Expr id (E.Not set))
+pub short_not : (id set : ℕ) → FitsDecimal id → FitsDecimal set → IsShortLine (L.Expr id (E.Not set))
 short_not id set a b = short_by (L.Expr id (E.Not set)) (omega (arith, decimal_short id a, decimal_short set b))
 
-pub short_before : (id set acts : ℕ) → FitsDecimal id → FitsDecimal set → FitsDecimal acts → IsShort (L.Expr id (E.Before set acts))
+pub short_before : (id set acts : ℕ) → FitsDecimal id → FitsDecimal set → FitsDecimal acts → IsShortLine (L.Expr id (E.Before set acts))
 short_before id set acts a b c =
     short_by (L.Expr id (E.Before set acts)) (omega (arith, decimal_short id a, decimal_short set b, decimal_short acts c))

@@ -11,7 +11,7 @@ use Rattle.hv_sets.specs.Cubes.{SpeakBelow, opposite}
 use Rattle.hv_sets.specs.Truth.{in_clause, in_clauses, in_cube, in_literal}
 use Rattle.hv_sets.specs.declared.literal.Literal.{Literal}
 use Rattle.hv_clauses.specs.Clausal.{AreClauses}
-use Rattle.hv_trap.specs.Conjunctions.{conjunctions, denial, denial_in, denials_of, denies, denies_one, holds, is_short, over_greater, over_one, over_two}
+use Rattle.hv_trap.specs.Conjunctions.{conjunctions, denying_clause, denial_in, denials_of, denies, denies_one, affirms, is_short, over_greater, over_one, over_two}
 use Rattle.hv_trap.proofs.Lists.{All-below, All-flat_map, All-range, and_both, and_left, and_right, in_range, pieces_more}
 
 pub bool_dec : (b : Bool) → (b ≡ true) ⊎ (b ≡ false)
@@ -58,10 +58,10 @@ or_not : (a b c d : Bool) → a ≡ not c → b ≡ not d → (a || b) ≡ not (
 or_not a b true d e f = rw e f
 or_not a b false d e f = rw e refl
 
-pub denial_true : (c : List Literal) (state : List Bool) → in_clause (denial c) state ≡ not (in_cube c state)
+pub denial_true : (c : List Literal) (state : List Bool) → in_clause (denying_clause c) state ≡ not (in_cube c state)
 denial_true [] state = refl
 denial_true (l ∷ c) state =
-    or_not (in_literal (opposite l) state) (in_clause (denial c) state) (in_literal l state) (in_cube c state)
+    or_not (in_literal (opposite l) state) (in_clause (denying_clause c) state) (in_literal l state) (in_cube c state)
     (opposite_value l.positive (has_atom state l.atom)) (denial_true c state)
 
 cond_if : {A : Type 0} (t : Bool) (x y : A) → cond t x y ≡ (if t then x else y)
@@ -73,10 +73,10 @@ module _ (set : List Literal → Bool) (state : List Bool) where
   Truth c = in_clause c state
 
   kept_one : (c : List Literal) (b : Bool)
-      → filter (λ x. in_clause x state) (if b then denial c ∷ [] else []) ≡ (if b && not (in_cube c state) then denial c ∷ [] else [])
+      → filter (λ x. in_clause x state) (if b then denying_clause c ∷ [] else []) ≡ (if b && not (in_cube c state) then denying_clause c ∷ [] else [])
   kept_one c false = refl
   kept_one c true =
-      cond_if (in_clause (denial c) state) (denial c ∷ []) [] ∙ ap (λ t. if t then denial c ∷ [] else []) (denial_true c state)
+      cond_if (in_clause (denying_clause c) state) (denying_clause c ∷ []) [] ∙ ap (λ t. if t then denying_clause c ∷ [] else []) (denial_true c state)
 
   -- the clauses that are true in a state deny the conjunctions that are false in it
   pub filter_denials : (cs : List (List Literal))
@@ -85,11 +85,11 @@ module _ (set : List Literal → Bool) (state : List Bool) where
   filter_denials (c ∷ cs) =
       filter-append (λ x. in_clause x state) (denial_in set c) (denials_of set cs)
       ∙ (ap (λ xs. xs ++ filter (λ x. in_clause x state) (denials_of set cs)) (kept_one c (set c))
-      ∙ ap (λ xs. (if set c && not (in_cube c state) then denial c ∷ [] else []) ++ xs) (filter_denials cs))
+      ∙ ap (λ xs. (if set c && not (in_cube c state) then denying_clause c ∷ [] else []) ++ xs) (filter_denials cs))
 
-  denied_one : (c : List Literal) (b : Bool) → b ≡ true → in_clauses (if b then denial c ∷ [] else []) state ≡ true → in_cube c state ≡ false
+  denied_one : (c : List Literal) (b : Bool) → b ≡ true → in_clauses (if b then denying_clause c ∷ [] else []) state ≡ true → in_cube c state ≡ false
   denied_one c false is all = absurd (cc (is))
-  denied_one c true is all = not_true (in_cube c state) (sym (denial_true c state) ∙ and_left (in_clause (denial c) state) true all)
+  denied_one c true is all = not_true (in_cube c state) (sym (denial_true c state) ∙ and_left (in_clause (denying_clause c) state) true all)
 
   -- where all clauses are true, each conjunction of the set is false
   pub true_denials : (cs : List (List Literal)) → in_clauses (denials_of set cs) state ≡ true
@@ -101,15 +101,15 @@ module _ (set : List Literal → Bool) (state : List Bool) where
       (λ is. denied_one c (set c) is (and_left (in_clauses (denial_in set c) state) (in_clauses (denials_of set cs) state) both))
       (true_denials cs (and_right (in_clauses (denial_in set c) state) (in_clauses (denials_of set cs) state) both))
 
-  broken_one : (c : List Literal) (b : Bool) → in_clauses (if b then denial c ∷ [] else []) state ≡ false
+  broken_one : (c : List Literal) (b : Bool) → in_clauses (if b then denying_clause c ∷ [] else []) state ≡ false
       → (b ≡ true) × (in_cube c state ≡ true)
   broken_one c false all = absurd (cc (all))
   broken_one c true all =
       elim (bool_dec (in_cube c state)) [
         | inl is ↦ (refl, is)
         | inr fails ↦
-            absurd (both_ways (in_clauses (denial c ∷ []) state)
-            (and_both (in_clause (denial c) state) true (denial_true c state ∙ ap not fails) refl) all)
+            absurd (both_ways (in_clauses (denying_clause c ∷ []) state)
+            (and_both (in_clause (denying_clause c) state) true (denial_true c state ∙ ap not fails) refl) all)
       ]
 
   -- where some clause is false, some conjunction of the set is true
@@ -133,7 +133,7 @@ pub denials_same : (set other : List Literal → Bool) (cs : List (List Literal)
     → denials_of set cs ≡ denials_of other cs
 denials_same set other [] each = refl
 denials_same set other (c ∷ cs) each =
-    ap (λ b. (if b then denial c ∷ [] else []) ++ denials_of set cs) (All-head (λ x. set x ≡ other x) c cs each)
+    ap (λ b. (if b then denying_clause c ∷ [] else []) ++ denials_of set cs) (All-head (λ x. set x ≡ other x) c cs each)
     ∙ ap (λ xs. denial_in other c ++ xs) (denials_same set other cs (All-tail (λ x. set x ≡ other x) c cs each))
 
 -- what is listed
@@ -158,7 +158,7 @@ below_lt a b e = ltb-true a b e
 lt_below : (a b : ℕ) → a < b → nat_lt a b ≡ true
 lt_below a b e = lt-ltb a b e
 
--- what holds of each listed conjunction holds of each that is short and denies a goal atom
+-- what affirms of each listed conjunction affirms of each that is short and denies a goal atom
 module _ (P : List Literal → Type 0) (n : ℕ) (goal : List ℕ) (all : All P (conjunctions n)) where
   single : (p : ℕ) → p < n → P (denies p ∷ [])
   single p below =
@@ -184,14 +184,14 @@ module _ (P : List Literal → Type 0) (n : ℕ) (goal : List ℕ) (all : All P 
       → P (record { atom = p; positive = b } ∷ record { atom = q; positive = c } ∷ [])
   of_two p q true true x y less below denied = absurd (cc (denied))
   of_two p q true false x y less below denied =
-      All-head P (holds p ∷ denies q ∷ []) []
-      (All-tail P (denies p ∷ holds q ∷ []) ((holds p ∷ denies q ∷ []) ∷ [])
-      (All-tail P (denies p ∷ denies q ∷ []) ((denies p ∷ holds q ∷ []) ∷ (holds p ∷ denies q ∷ []) ∷ []) (pair p q less below)))
+      All-head P (affirms p ∷ denies q ∷ []) []
+      (All-tail P (denies p ∷ affirms q ∷ []) ((affirms p ∷ denies q ∷ []) ∷ [])
+      (All-tail P (denies p ∷ denies q ∷ []) ((denies p ∷ affirms q ∷ []) ∷ (affirms p ∷ denies q ∷ []) ∷ []) (pair p q less below)))
   of_two p q false true x y less below denied =
-      All-head P (denies p ∷ holds q ∷ []) ((holds p ∷ denies q ∷ []) ∷ [])
-      (All-tail P (denies p ∷ denies q ∷ []) ((denies p ∷ holds q ∷ []) ∷ (holds p ∷ denies q ∷ []) ∷ []) (pair p q less below))
+      All-head P (denies p ∷ affirms q ∷ []) ((affirms p ∷ denies q ∷ []) ∷ [])
+      (All-tail P (denies p ∷ denies q ∷ []) ((denies p ∷ affirms q ∷ []) ∷ (affirms p ∷ denies q ∷ []) ∷ []) (pair p q less below))
   of_two p q false false x y less below denied =
-      All-head P (denies p ∷ denies q ∷ []) ((denies p ∷ holds q ∷ []) ∷ (holds p ∷ denies q ∷ []) ∷ []) (pair p q less below)
+      All-head P (denies p ∷ denies q ∷ []) ((denies p ∷ affirms q ∷ []) ∷ (affirms p ∷ denies q ∷ []) ∷ []) (pair p q less below)
 
   pub listed : (c : List Literal) → is_short n c ≡ true → denies_one goal c ≡ true → P c
   listed [] short denied = absurd (cc (denied))
@@ -220,12 +220,12 @@ all_short n =
     two : (p q : ℕ) → p < q → q < n → All Short (over_two p q)
     two p q less below =
         let short = and_both (nat_lt p q) (nat_lt q n) (lt_below p q less) (lt_below q n below) in
-        All-cons Short (denies p ∷ denies q ∷ []) ((denies p ∷ holds q ∷ []) ∷ (holds p ∷ denies q ∷ []) ∷ []) short
-        (All-cons Short (denies p ∷ holds q ∷ []) ((holds p ∷ denies q ∷ []) ∷ []) short
-        (All-cons Short (holds p ∷ denies q ∷ []) [] short (All-nil Short)))
+        All-cons Short (denies p ∷ denies q ∷ []) ((denies p ∷ affirms q ∷ []) ∷ (affirms p ∷ denies q ∷ []) ∷ []) short
+        (All-cons Short (denies p ∷ affirms q ∷ []) ((affirms p ∷ denies q ∷ []) ∷ []) short
+        (All-cons Short (affirms p ∷ denies q ∷ []) [] short (All-nil Short)))
 
 -- the clause that denies a short conjunction speaks of atoms below the bound
-pub denial_below : (n : ℕ) (c : List Literal) → is_short n c ≡ true → SpeakBelow n (denial c)
+pub denial_below : (n : ℕ) (c : List Literal) → is_short n c ≡ true → SpeakBelow n (denying_clause c)
 denial_below n [] short = absurd (cc (short))
 denial_below n (l ∷ []) short =
     All-cons (λ (x : Literal). x.atom < n) (opposite l) [] (below_lt l.atom n short) (All-nil (λ (x : Literal). x.atom < n))
@@ -236,9 +236,9 @@ denial_below n (l ∷ m ∷ []) short =
     (All-cons (λ (x : Literal). x.atom < n) (opposite m) [] below (All-nil (λ (x : Literal). x.atom < n)))
 denial_below n (l ∷ m ∷ k ∷ c) short = absurd (cc (short))
 
-one_below : (n : ℕ) (c : List Literal) (b : Bool) → (b ≡ true → is_short n c ≡ true) → AreClauses n (if b then denial c ∷ [] else [])
+one_below : (n : ℕ) (c : List Literal) (b : Bool) → (b ≡ true → is_short n c ≡ true) → AreClauses n (if b then denying_clause c ∷ [] else [])
 one_below n c false short = All-nil (λ x. SpeakBelow n x)
-one_below n c true short = All-cons (λ x. SpeakBelow n x) (denial c) [] (denial_below n c (short refl)) (All-nil (λ x. SpeakBelow n x))
+one_below n c true short = All-cons (λ x. SpeakBelow n x) (denying_clause c) [] (denial_below n c (short refl)) (All-nil (λ x. SpeakBelow n x))
 
 pub denials_below : (n : ℕ) (set : List Literal → Bool) → ((c : List Literal) → set c ≡ true → is_short n c ≡ true)
     → (cs : List (List Literal)) → AreClauses n (denials_of set cs)

@@ -7,7 +7,8 @@ use Rattle.hv_task.proofs.Places.{has_all-Decides, names_atom-Decides}
 use Rattle.hv_sets.specs.Truth.{in_clauses, in_cube, in_literal}
 use Rattle.hv_sets.specs.declared.literal.Literal.{Literal}
 use Rattle.hv_trap.specs.Conjunctions.{denials, denies_one, is_short}
-use Rattle.hv_trap.specs.Trap.{AreTrapClauses, Enclose, IsSatisfied, Stays}
+use Rattle.hv_trap.specs.Trap.{AreTrapClauses, IsSatisfied, Stays}
+use Rattle.hv_trap.specs.Working.Trap.{Enclose}
 use Rattle.hv_trap.proofs.Enclosing.{none_true, one_true}
 use Rattle.hv_trap.proofs.Listed.{bool_dec, both_ways, not_true}
 use Rattle.hv_trap.proofs.Lists.{and_left, and_right}

@@ -10,14 +10,15 @@ use Rattle.hv_task.specs.Strips.{IsState, atoms}
 use Rattle.hv_sets.specs.Cost.{choices_of, clauses_of}
 use Rattle.hv_sets.specs.Query.{action_of, asked, in_operand, in_which, is_clash, may_apply}
 use Rattle.hv_sets.specs.declared.literal.Literal.{Literal}
-use Rattle.hv_lines.specs.Good.{IsBasicWord, IsFormed, IsGood, IsRuleWord}
+use Rattle.hv_lines.specs.Good.{IsBasicWord, IsGood, IsRuleWord}
+use Rattle.hv_lines.specs.Working.Good.{IsFormed}
 use Rattle.hv_lines.specs.Literals.{IsLiteral}
 use Rattle.hv_lines.specs.Meaning.{sets_of}
 use Rattle.hv_lines.specs.Numbering.{IsTable, expr_at}
 use Rattle.hv_lines.specs.Queries.{PassesBudget, asked_actions, has_of, operand_of, query_of, two_in, twos_of, which_at}
 use Rattle.hv_lines.specs.Setting.{Setting}
 use Rattle.hv_lines.specs.Shapes.{Askings, AskingsRise, HasSides, IsAndLeaf, IsLeftLeaf, IsLiteralOf, IsOfFamily, IsOrLeaf, IsQuestion, IsStep, OfSets, Question, alone, and_parts, most_operands, or_parts}
-use Rattle.hv_lines.specs.Verdicts.{IsSettled, IsVerdict}
+use Rattle.hv_lines.specs.Verdicts.{DecidesNothing, IsVerdict}
 use Rattle.hv_lines.specs.declared.family.FormulaFamily.TheVariants as F
 use Rattle.hv_lines.specs.declared.line.Constant.TheVariants as C
 use Rattle.hv_lines.specs.declared.line.Expr.TheVariants as E
@@ -164,7 +165,7 @@ module _ (setting : Setting) (lines : List Line) (id left right : ℕ) (word : W
       λ place query at.
           let actions = asked_actions setting.task lines acts in
           let w = got_mapped (query_of lines q) (slice_get actions place) query (sym (slice_get-map (query_of lines q) actions place) ∙ at) in
-          subst (IsSettled (PassesBudget setting lines F.Two) (is_clash setting.task (has_of setting lines F.Two)) (atoms setting.task)) w.2 (
+          subst (DecidesNothing (PassesBudget setting lines F.Two) (is_clash setting.task (has_of setting lines F.Two)) (atoms setting.task)) w.2 (
             λ over. omega (arith, over, within, choices_product setting lines negative),
             settled w.0 (got_in actions place w.0 w.1),
           ),

@@ -20,8 +20,9 @@ use Rattle.hv_lines.proofs.Drafting.{table_of}
 use Rattle.hv_lines.proofs.Extended.{begun_acts, begun_dead, begun_empty, begun_goal, exprs_few, extends_by, extends_none, first_noted_once, knowns_few, noted_dead}
 use Rattle.hv_lines.proofs.Carried.{expr_onto}
 use Rattle.hv_lines.proofs.Laws.{expr_at_here, set_in, set_out, statement_at_here}
-use Rattle.hv_trap.specs.Fitting.{notes_fit}
-use Rattle.hv_trap.specs.Pruner.{AreTrapNotes, IsOutcome, IsTrapBlock, IsTrapSet, TrapCovers}
+use Rattle.hv_trap.specs.Working.Fitting.{notes_fit}
+use Rattle.hv_trap.specs.Pruner.{AreTrapNotes, IsTrapBlock, IsTrapSet, TrapCovers}
+use Rattle.hv_trap.specs.Working.Pruner.{IsOutcome}
 use Rattle.hv_trap.specs.Trap.{AreTrapClauses}
 use Rattle.hv_trap.specs.Written.{trap_block}
 use Rattle.hv_trap.proofs.Block.{good_trap_block}

@@ -8,8 +8,8 @@ use Rattle.hv_sets.specs.declared.literal.Literal.{Literal}
 -- A conjunction is a list of its literals.
 
 -- the literal of an atom, and the one that denies it
-abbrev pub holds : ℕ → Literal
-holds p = record { atom = p; positive = true }
+abbrev pub affirms : ℕ → Literal
+affirms p = record { atom = p; positive = true }
 
 abbrev pub denies : ℕ → Literal
 denies p = record { atom = p; positive = false }
@@ -28,7 +28,7 @@ denies_one goal literals = list_any (λ l. not l.positive && names_atom goal l.a
 -- the conjunctions over two atoms that don't hold both
 abbrev pub over_two : ℕ → ℕ → List (List Literal)
 over_two p q =
-    (denies p ∷ denies q ∷ []) ∷ (denies p ∷ holds q ∷ []) ∷ (holds p ∷ denies q ∷ []) ∷ []
+    (denies p ∷ denies q ∷ []) ∷ (denies p ∷ affirms q ∷ []) ∷ (affirms p ∷ denies q ∷ []) ∷ []
 
 -- the same over an atom and each greater one, rising
 abbrev pub over_greater : ℕ → ℕ → List (List Literal)
@@ -46,12 +46,12 @@ conjunctions atoms =
     ++ flat_map (over_greater atoms) (range_with_len 0 atoms)
 
 -- the clause that denies a conjunction: its literals are the opposite ones
-abbrev pub denial : List Literal → List Literal
-denial literals = map opposite literals
+abbrev pub denying_clause : List Literal → List Literal
+denying_clause literals = map opposite literals
 
 -- the clause that denies the conjunction, where that is in the set
 abbrev pub denial_in : (List Literal → Bool) → List Literal → List (List Literal)
-denial_in set literals = if set literals then denial literals ∷ [] else []
+denial_in set literals = if set literals then denying_clause literals ∷ [] else []
 
 -- the clauses that deny those of these conjunctions that are in the set
 abbrev pub denials_of : (List Literal → Bool) → List (List Literal) → List (List Literal)

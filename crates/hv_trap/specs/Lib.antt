@@ -1,7 +1,5 @@
 pub mod Conjunctions
 pub mod Trap
-pub mod Asking
 pub mod Written
-pub mod Room
 pub mod Pruner
-pub mod Fitting
+pub mod Working

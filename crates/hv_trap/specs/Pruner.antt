@@ -1,10 +1,9 @@
 -- What the pruner by the greatest trap covers, and what it writes.
-use Rattle.std.specs.Prelude.{◌≡◌, ◌≤◌, ◌+◌, ◌↔◌, IsTrue, ℕ, Bool, List, Option, Some, is_some, IfSome, IfNone, slice_get}
+use Rattle.std.specs.Prelude.{◌≡◌, ◌≤◌, ◌+◌, ℕ, Bool, List, Some, slice_get}
 use Rattle.hv_task.specs.Strips.{Strips, atoms}
 use Rattle.hv_sets.specs.declared.literal.Literal.{Literal}
-use Rattle.hv_lines.specs.Drafts.{DraftState}
 use Rattle.hv_lines.specs.Numbering.{expr_at, expr_count, known_count}
-use Rattle.hv_lines.specs.Pruning.{Extends, IsAnswer, IsDeadBy, IsNoted}
+use Rattle.hv_lines.specs.Pruning.{IsNoted}
 use Rattle.hv_lines.specs.declared.line.Expr.TheVariants as E
 use Rattle.hv_lines.specs.declared.line.Line.{Line}
 use Rattle.hv_lines.specs.declared.note.Note.{Note}
@@ -38,15 +37,3 @@ abbrev pub AreTrapNotes : Strips → List Line → List Note → Type 0
 AreTrapNotes task lines notes =
     (k : ℕ) (note : Note) → slice_get notes k ≡ Some note
     → IsNoted task (TrapCovers task) lines note × IsTrapSet task lines note.set
-
--- what stands after an answer: whether there is one, what it shows, how the draft grew, and that
--- the notes fit it
-pub record IsOutcome (task : Strips) (state : List Bool) (found : Option ℕ) (notes : List Note)
-    (draft : DraftState) (new_notes : List Note) (new_draft : DraftState) : Type 0 where
-  pub answer : IsAnswer task (TrapCovers task) (IsTrapBlock task draft.lines) state found
-      notes draft new_notes new_draft
-  pub some : IsTrue (is_some found) ↔ TrapCovers task state
-  pub dead : IfSome found (λ line. IsDeadBy task new_draft.lines state line)
-  pub extends : Extends task draft.lines new_draft.lines
-  pub none : IfNone found (new_draft ≡ draft)
-  pub fits : AreTrapNotes task new_draft.lines new_notes

@@ -5,7 +5,7 @@ ghost use Rattle.std.specs.List.{flat_map, range_with_len};
 ghost use Rattle.hv_task.specs.State.{names_atom};
 ghost use Rattle.hv_task.specs.Strips.{atoms};
 ghost use Rattle.hv_sets.specs.Cubes.{opposite};
-ghost use Rattle.hv_trap.specs.Conjunctions.{denial_in, denials, denials_of, denies, denies_one, holds, over_greater, over_one, over_two};
+ghost use Rattle.hv_trap.specs.Conjunctions.{denial_in, denials, denials_of, denies, denies_one, affirms, over_greater, over_one, over_two};
 
 use hv_sets::{Clauses, Literal};
 use hv_task::{AtomList, Task};
@@ -108,7 +108,7 @@ fn denies_goal(goal: &AtomList, literal: Literal) -> bool
 
 /// The literal of the atom.
 pub(crate) fn holds(atom: u32) -> Literal
-    ensures { result ≡ holds atom }
+    ensures { result ≡ affirms atom }
 {
     Literal {
         atom,

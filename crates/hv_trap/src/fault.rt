@@ -1,3 +1,5 @@
+//! Why no trap is looked for.
+
 use std::alloc::AllocError;
 use thiserror::Error;
 

@@ -22,6 +22,14 @@ impl Mask {
         }
     }
 
+    /// The set of all literals.
+    pub(crate) fn all() -> Mask {
+        Mask {
+            holds: u64::MAX,
+            denies: u64::MAX,
+        }
+    }
+
     /// Whether the literal is in it.
     pub(crate) fn has(self, literal: Literal) -> bool
         requires { literal.atom < 64 }
@@ -57,6 +65,24 @@ impl Mask {
             holds: self.holds | other.holds,
             denies: self.denies | other.denies,
         }
+    }
+
+    /// The negations of its literals.
+    pub(crate) fn opposite(self) -> Mask {
+        Mask {
+            holds: self.denies,
+            denies: self.holds,
+        }
+    }
+
+    /// Whether a literal is in both.
+    pub(crate) fn meets(self, other: Mask) -> bool {
+        self.holds & other.holds != 0 || self.denies & other.denies != 0
+    }
+
+    /// Whether both have the same literals.
+    pub(crate) fn same(self, other: Mask) -> bool {
+        self.holds == other.holds && self.denies == other.denies
     }
 
     /// Whether a literal and its negation are in it.

@@ -3,8 +3,9 @@
 ghost use Rattle.std.specs.Prelude.{◌≡◌, [], ◌↔◌, IsTrue, IfOk, IfSome, IfNone, OnErr, is_some};
 ghost use Rattle.hv_task.specs.Strips.{IsState};
 ghost use Rattle.hv_lines.specs.Drafts.{IsGoodTable};
-ghost use Rattle.hv_lines.specs.Pruning.{Extends, IsAnswer, IsDeadBy};
-ghost use Rattle.hv_trap.specs.Pruner.{AreTrapNotes, IsOutcome, IsTrapBlock, TrapCovers};
+ghost use Rattle.hv_lines.specs.Pruning.{Extends, IsPrunerAnswer, IsDeadBy};
+ghost use Rattle.hv_trap.specs.Pruner.{AreTrapNotes, IsTrapBlock, TrapCovers};
+ghost use Rattle.hv_trap.specs.Working.Pruner.{IsOutcome};
 
 use crate::notes::{covering_clauses, line_for, write_block};
 use hv_lines::{Draft, Note, Pruner};
@@ -54,7 +55,7 @@ impl TrapPruner {
         requires good { IsGoodTable task.now draft.old.lines }
         requires fits { AreTrapNotes task.now draft.old.lines self.old }
         requires state { IsState task.now state.now }
-        ensures answer { IfOk result (λ found. IsAnswer task.now (TrapCovers task.now)
+        ensures answer { IfOk result (λ found. IsPrunerAnswer task.now (TrapCovers task.now)
             (IsTrapBlock task.now draft.old.lines) state.now found
             self.old draft.old self.new draft.new) }
         ensures some { IfOk result (λ found. IsTrue (is_some found)
@@ -73,7 +74,7 @@ impl TrapPruner {
 
 impl Pruner for TrapPruner {
     ghost use Rattle.hv_trap.specs.Pruner.{AreTrapNotes, TrapCovers};
-    ghost use Rattle.hv_trap.specs.Fitting as fitting;
+    ghost use Rattle.hv_trap.specs.Working.Fitting as fitting;
 
     ghost covers = { λ _ task state. TrapCovers task state };
 

@@ -1,3 +1,5 @@
+//! Tests of the pruner by the greatest trap.
+
 ghost use Rattle.std.specs.Prelude.{◌≤◌, IfOk, OnOk};
 ghost use Rattle.hv_task.specs.Strips.{IsState};
 ghost use Rattle.hv_lines.specs.Drafts.{IsGoodTable};

@@ -50,6 +50,50 @@ impl Rows {
         }
     }
 
+    /// The literals from which other ones follow, by one clause or by any number, than in other rows:
+    /// all, where other ones follow from the clauses alone.
+    pub(crate) fn changed(&self, other: &Rows) -> Mask {
+        if !self.forced.same(other.forced) {
+            return Mask::all();
+        }
+        self.next
+            .changed(&other.next)
+            .joined(self.all.changed(&other.all))
+    }
+
+    /// Whether what is seen of the action can be another where other literals follow from these.
+    pub(crate) fn concerns(&self, action: &Action, changed: Mask) -> bool
+        requires { IsOver 64 action.now }
+    {
+        let pre = word_of(action.pre.as_slice());
+        let add = word_of(action.add.as_slice());
+        let del = word_of(action.del.as_slice());
+        let read = Mask {
+            holds: pre | add | del,
+            denies: add | del,
+        };
+        read.meets(changed)
+            || self.concern_others(&action.add, false, changed)
+            || self.concern_others(&action.del, true, changed)
+    }
+
+    // Whether some of these are the opposites of literals that follow by one clause from these atoms,
+    // or from their negations.
+    fn concern_others(&self, atoms: &AtomList, positive: bool, changed: Mask) -> bool
+        requires { AreBelow 64 atoms.now }
+    {
+        for atom in atoms.as_slice() {
+            let literal = Literal {
+                atom: *atom,
+                positive,
+            };
+            if self.next.of(literal).opposite().meets(changed) {
+                return true;
+            }
+        }
+        false
+    }
+
     /// The atoms that a state lacks from which the action may lead, with a bit for each, if some
     /// state is seen.
     pub(crate) fn lacked(&self, action: &Action) -> Option<u64>

@@ -6,8 +6,9 @@ ghost use Rattle.hv_task.specs.Strips.{atoms};
 ghost use Rattle.hv_sets.specs.Cubes.{SpeakBelow};
 ghost use Rattle.hv_sets.specs.Truth.{in_clause, in_clauses};
 ghost use Rattle.hv_clauses.specs.Clausal.{AreClauses};
-ghost use Rattle.hv_trap.specs.Asking.{IsAsking, clauses_asked, formula_asked};
-ghost use Rattle.hv_trap.specs.Trap.{EncloseTrap, Escapes, Stays};
+ghost use Rattle.hv_trap.specs.Working.Asking.{IsAsking, clauses_asked, formula_asked};
+ghost use Rattle.hv_trap.specs.Trap.{Stays};
+ghost use Rattle.hv_trap.specs.Working.Trap.{EncloseTrap, Escapes};
 
 use hv_sets::{Clauses, Family, Finding, Literal, Operand, Operands, Query, Scratch, Which};
 use hv_task::{State, Task};

@@ -3,20 +3,23 @@
 ghost use Rattle.std.specs.Prelude.{◌≡◌, ◌<◌, ◌≤◌, true, false, IfOk, OnOk, length};
 ghost use Rattle.hv_task.specs.Strips.{IsState, atoms};
 ghost use Rattle.hv_clauses.specs.Clausal.{AreClauses};
-ghost use Rattle.hv_trap.specs.Room.{HasStates};
-ghost use Rattle.hv_trap.specs.Trap.{EncloseTrap, Escapes};
+ghost use Rattle.hv_trap.specs.Working.Room.{HasStates};
+ghost use Rattle.hv_trap.specs.Working.Trap.{EncloseTrap, Escapes};
 
-use crate::mask::has_bit;
+use crate::mask::{Mask, has_bit};
 use crate::rows::Rows;
 use crate::step::{are_true_in, true_in};
 use hv_sets::Clauses;
 use hv_task::{State, Task};
 use std::alloc::{AllocError, Global};
 
-/// What follows by the clauses that are left, and room for two states.
+/// What follows by the clauses that are left, from which literals that changed in the last sweep and
+/// in this one, and room for two states.
 #[derive(Drop)]
 pub(crate) struct Room {
     rows: Rows,
+    earlier: Mask,
+    changed: Mask,
     before: State,
     after: State,
 }
@@ -31,6 +34,8 @@ pub(crate) fn take_out(alloc: Global, task: &Task, clauses: &mut Clauses) -> Res
     let rows = Rows::of(clauses);
     let mut room = Room {
         rows,
+        earlier: Mask::all(),
+        changed: Mask::none(),
         before: State::empty(alloc, task.atoms())?,
         after: State::empty(alloc, task.atoms())?,
     };
@@ -38,7 +43,8 @@ pub(crate) fn take_out(alloc: Global, task: &Task, clauses: &mut Clauses) -> Res
     Ok(())
 }
 
-// Visits each action. The answer is whether a clause was taken out.
+// Visits each action of which something else can be seen than when it was visited last. The answer is
+// whether a clause was taken out.
 fn sweep(
     alloc: Global,
     task: &Task,
@@ -54,9 +60,22 @@ fn sweep(
 {
     let mut moved = false;
     for action in 0..task.actions() {
-        moved |= exhaust(alloc, task, room, action, clauses)?;
+        if has_news(task, room, action) {
+            moved |= exhaust(alloc, task, room, action, clauses)?;
+        }
     }
+    room.earlier = room.changed;
+    room.changed = Mask::none();
     Ok(moved)
+}
+
+// Whether something else can be seen of the action than when it was visited last.
+fn has_news(task: &Task, room: &Room, action: u32) -> bool
+    requires few { atoms task.now ≤ 64 }
+    requires action { action < length task.now.actions }
+{
+    let news = room.earlier.joined(room.changed);
+    room.rows.concerns(task.action(action), news)
 }
 
 // Visits the action until nothing is taken out. The answer is whether a clause was.
@@ -78,7 +97,9 @@ fn exhaust(
 {
     let mut found = false;
     while visit(alloc, task, room, action, clauses)? {
-        room.rows = Rows::of(clauses);
+        let rows = Rows::of(clauses);
+        room.changed = room.changed.joined(rows.changed(&room.rows));
+        room.rows = rows;
         found = true;
     }
     Ok(found)

@@ -64,6 +64,17 @@ impl Table {
         }
     }
 
+    /// The literals whose sets aren't those of the other table.
+    pub(crate) fn changed(&self, other: &Table) -> Mask {
+        let mut changed = Mask::none();
+        for place in 0..LITERALS {
+            if !self.rows[place].same(other.rows[place]) {
+                changed = changed.with(literal_at(place));
+            }
+        }
+        changed
+    }
+
     /// The literals that are in the set of the opposite one.
     pub(crate) fn forced(&self) -> Mask {
         let mut forced = Mask::none();

@@ -1,3 +1,5 @@
+//! Tests of the greatest trap, and of the proof by it.
+
 ghost use Rattle.std.specs.Prelude.{◌≤◌, IfOk, OnOk};
 ghost use Rattle.hv_task.specs.State.{AreBelow};
 

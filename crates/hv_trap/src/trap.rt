@@ -2,7 +2,8 @@
 
 ghost use Rattle.std.specs.Prelude.{◌≡◌, ◌<◌, ◌≤◌, ◌↔◌, IfOk, IfErr, OnOk, length};
 ghost use Rattle.hv_task.specs.Strips.{atoms};
-ghost use Rattle.hv_trap.specs.Trap.{AreTrapClauses, EncloseTrap};
+ghost use Rattle.hv_trap.specs.Trap.{AreTrapClauses};
+ghost use Rattle.hv_trap.specs.Working.Trap.{EncloseTrap};
 ghost use Rattle.hv_trap.specs.declared.fault.TrapFault.TheVariants as F;
 
 use crate::conjunctions::candidates;

@@ -4,7 +4,7 @@ use Rattle.hv_task.specs.State.{AreBelow}
 use Rattle.std.proofs.lemmas.List.Elements.{All-contains, Contains-push}
 use Rattle.hv_reach.proofs.Sets.{empty_list, slice_get_at}
 use Rattle.hv_reach.proofs.Waiting.{keeps_empty, settled_pop}
-use Rattle.hv_reach.specs.Waiting.{AreSettled, AreSettledBut}
+use Rattle.hv_reach.specs.Working.Waiting.{AreActionsSettled, AreActionsSettledBut}
 use Rattle.hv_reach.proofs.atoms.close.Goals as goal
 
 pub wake-requires-clause-settled : goal.wake-requires-clause-settled
@@ -17,10 +17,10 @@ wake-requires-clause-settled c =
     let state = c.requires.state in
     let same = i.size in
     omega arith in
-    subst (λ xs. AreSettledBut xs 0 c.args.task.now.actions c.loop-atom.held c.pop.new.self.items c.loop-atom.passed.items) (sym c.as_slice.ensures.value)
+    subst (λ xs. AreActionsSettledBut xs 0 c.args.task.now.actions c.loop-atom.held c.pop.new.self.items c.loop-atom.passed.items) (sym c.as_slice.ensures.value)
     (settled_pop (atoms c.args.task.now) c.args.task.now.actions c.args.rows.now.items c.index-row.result.now c.loop-atom.held c.in-Some.atom
     c.pop.new.self.items c.loop-atom.passed.items c.requires.index (slice_get_at c.args.rows.now.items c.in-Some.atom c.index-row.result.now within c.index-row.ensures)
-    (subst (λ q. AreSettled c.args.task.now.actions c.loop-atom.held q c.loop-atom.passed.items) c.in-Some.ensures.items i.settled))
+    (subst (λ q. AreActionsSettled c.args.task.now.actions c.loop-atom.held q c.loop-atom.passed.items) c.in-Some.ensures.items i.settled))
 
 pub loop-atom-preserved : goal.loop-atom-preserved
 loop-atom-preserved c =
@@ -38,4 +38,4 @@ pub returns-clause-keeps : goal.returns-clause-keeps
 returns-clause-keeps c =
     let e = c.in_default.ensures.cases in
     keeps_empty c.args.task.now.actions c.loop-atom.held c.loop-atom.passed.items
-    (subst (λ q. AreSettled c.args.task.now.actions c.loop-atom.held q c.loop-atom.passed.items) (empty_list c.loop-atom.queue.items (let l = c.loop-atom.queue.ok.0 in omega arith)) c.loop-atom.invariant.settled)
+    (subst (λ q. AreActionsSettled c.args.task.now.actions c.loop-atom.held q c.loop-atom.passed.items) (empty_list c.loop-atom.queue.items (let l = c.loop-atom.queue.ok.0 in omega arith)) c.loop-atom.invariant.settled)

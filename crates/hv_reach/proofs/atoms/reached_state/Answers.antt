@@ -1,14 +1,14 @@
 use Rattle.std.proofs.Common.{◌≡◌, sym, subst, true}
 use Rattle.hv_task.specs.State.{has_atom}
 use Rattle.hv_reach.proofs.Waiting.{settled_start}
-use Rattle.hv_reach.specs.Index.{IsRange}
+use Rattle.hv_reach.specs.Working.Index.{IsRange}
 use Rattle.hv_reach.specs.Reached.{IsWithin}
-use Rattle.hv_reach.specs.Waiting.{AreSettledBut}
+use Rattle.hv_reach.specs.Working.Waiting.{AreActionsSettledBut}
 use Rattle.hv_reach.proofs.atoms.reached_state.Goals as goal
 
 pub wake-requires-clause-settled : goal.wake-requires-clause-settled
 wake-requires-clause-settled c =
-    subst (λ xs. AreSettledBut xs 0 c.args.task.now.actions c.copy_from.new.self c.new-queue.result.items c.in_ok-passed.passed.items) (sym c.as_slice.ensures.value)
+    subst (λ xs. AreActionsSettledBut xs 0 c.args.task.now.actions c.copy_from.new.self c.new-queue.result.items c.in_ok-passed.passed.items) (sym c.as_slice.ensures.value)
     (settled_start c.args.task.now.actions c.in_ok-all.all.items c.copy_from.new.self c.new-queue.result.items c.in_ok-passed.passed.items
     (subst (λ n. IsRange n c.in_ok-all.all.items) c.actions-2.ensures.actions c.in_ok-all.ensures))
 

@@ -2,7 +2,7 @@ use Rattle.std.proofs.Common.{◌≡◌, ◌∙◌, get_or, arith, sym, subst}
 use Rattle.std.proofs.lemmas.List.{get_or_default}
 use Rattle.hv_reach.proofs.Waiting.{whole_in}
 use Rattle.hv_reach.specs.Reached.{AreIn}
-use Rattle.hv_reach.specs.Waiting.{IsPassed}
+use Rattle.hv_reach.specs.Working.Waiting.{IsPassed}
 use Rattle.hv_reach.proofs.atoms.visit.Goals as goal
 
 pub returns-clause-least : goal.returns-clause-least

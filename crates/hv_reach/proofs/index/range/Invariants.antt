@@ -1,4 +1,4 @@
-use Rattle.hv_reach.specs.Index.{IsRange}
+use Rattle.hv_reach.specs.Working.Index.{IsRange}
 use Rattle.hv_reach.proofs.index.range.Given as goal
 
 abbrev pub invariant-loop-number : goal.invariant-loop-number

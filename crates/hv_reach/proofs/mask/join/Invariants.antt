@@ -1,7 +1,7 @@
 use Rattle.std.proofs.Common.{◌≡◌, ◌<◌, ℕ, true, get_or, length}
 use Rattle.hv_task.specs.State.{has_atom}
 use Rattle.hv_reach.specs.Reached.{has_pair}
-use Rattle.hv_reach.specs.Table.{IsJoined}
+use Rattle.hv_reach.specs.Working.Table.{IsJoined}
 use Rattle.hv_reach.proofs.mask.join.Given as goal
 
 abbrev pub invariant-loop-atom : goal.invariant-loop-atom

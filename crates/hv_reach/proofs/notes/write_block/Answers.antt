@@ -8,9 +8,9 @@ use Rattle.hv_reach.proofs.notes.write_block.Goals as goal
 pub push_all-requires-clause-good : goal.push_all-requires-clause-good
 push_all-requires-clause-good c =
     let lines = c.args.draft.now.lines in
-    let is : c.reserve-2.new.self.lines ≡ lines = c.in_ok-reserve-2.ensures.lines in
+    let is : c.reserve-3.new.self.lines ≡ lines = c.in_ok-reserve-3.ensures.lines in
     let few : length lines + 8 ≤ most_lines =
-    omega (arith, ap length is, c.in_ok-reserve-2.ensures.few, c.in_ok-reserve-2.ensures.spare) in
+    omega (arith, ap length is, c.in_ok-reserve-3.ensures.few, c.in_ok-reserve-3.ensures.spare) in
     let block : c.in_ok-block.block.items ≡ dead_block (expr_count lines) (known_count lines) c.args.clauses =
     c.in_ok-block.ensures
     ∙ (ap (λ n. dead_block n c.known_count-id.result c.args.clauses) (c.expr_count-set.ensures.count ∙ ap expr_count c.table.ensures.lines)
@@ -22,9 +22,9 @@ push_all-requires-clause-good c =
 pub returns-clause-good : goal.returns-clause-good
 returns-clause-good c =
     let lines = c.args.draft.now.lines in
-    let is : c.reserve-2.new.self.lines ≡ lines = c.in_ok-reserve-2.ensures.lines in
+    let is : c.reserve-3.new.self.lines ≡ lines = c.in_ok-reserve-3.ensures.lines in
     let few : length lines + 8 ≤ most_lines =
-    omega (arith, ap length is, c.in_ok-reserve-2.ensures.few, c.in_ok-reserve-2.ensures.spare) in
+    omega (arith, ap length is, c.in_ok-reserve-3.ensures.few, c.in_ok-reserve-3.ensures.spare) in
     let block : c.in_ok-block.block.items ≡ dead_block (expr_count lines) (known_count lines) c.args.clauses =
     c.in_ok-block.ensures
     ∙ (ap (λ n. dead_block n c.known_count-id.result c.args.clauses) (c.expr_count-set.ensures.count ∙ ap expr_count c.table.ensures.lines)

@@ -3,8 +3,10 @@ use Rattle.std.specs.Option.{IfSome}
 use Rattle.hv_task.specs.Strips.{atoms}
 use Rattle.hv_lines.specs.Drafts.{IsGoodTable}
 use Rattle.hv_lines.specs.Numbering.{expr_count, known_count}
-use Rattle.hv_reach.specs.Pruners.{HoldsPairsOf, IsOutcome, IsPairsBlock, PairsCover}
+use Rattle.hv_reach.specs.Pruners.{HoldsPairsOf, IsPairsBlock, PairsCover}
+use Rattle.hv_reach.specs.Working.Pruners.{AreDiagonals, IsOutcome}
 use Rattle.hv_reach.specs.Reached.{ReachedPair, has_pair}
+use Rattle.hv_reach.proofs.Described.{diagonals_over, diagonals_pushed}
 use Rattle.hv_reach.proofs.Found.{pairs_found_formula, pairs_found_holds, pairs_found_reason}
 use Rattle.hv_reach.proofs.Writing.{none_told, outcome_told, outcome_written, written_described}
 use Rattle.hv_reach.proofs.pair_pruner.pairs_answer.Goals as goal
@@ -13,7 +15,7 @@ pub returns-then-is_some-clause-outcome : goal.returns-then-is_some-clause-outco
 returns-then-is_some-clause-outcome c =
     outcome_told c.args.task.now (PairsCover c.args.task.now) (IsPairsBlock c.args.task.now c.args.state.now c.args.draft.now.lines)
     c.args.state.now c.args.notes.now.items c.args.draft.now c.requires.state c.requires.good c.requires.fits
-    c.first_noted-noted.result (sym c.is_some.ensures ∙ c.if-is_some.true) c.first_noted-noted.ensures
+    c.in_ok-noted.noted (sym c.is_some.ensures ∙ c.if-is_some.true) c.in_ok-noted.ensures
 
 pub write_block-requires-clause-dead : goal.write_block-requires-clause-dead
 write_block-requires-clause-dead c =
@@ -39,8 +41,8 @@ returns-in-Some-clause-outcome c =
     let lines = c.args.draft.now.lines in
     let notes = c.args.notes.now.items in
     let clauses = c.in_ok-clauses-in-Some.clauses in
-    let none = none_told task lines notes state c.first_noted-noted.result (sym c.is_some.ensures ∙ c.if-is_some.false)
-    c.first_noted-noted.ensures in
+    let none = none_told task lines notes state c.in_ok-noted.noted (sym c.is_some.ensures ∙ c.if-is_some.false)
+    c.in_ok-noted.ensures in
     let wrote = c.in_ok-line-in-Some.ensures in
     subst (λ n. IsOutcome task (PairsCover task) (IsPairsBlock task state lines) state (Some n) notes c.args.draft.now
     c.write_block.new.notes.items c.write_block.new.draft) (sym wrote.line)
@@ -67,3 +69,18 @@ returns-in-Some-clause-described c =
     (pairs_found_holds task c.in-Some.pairs state each c.in_ok-clauses-in-Some.clauses c.atoms.result c.atoms.ensures.atoms c.in_ok-clauses-in-Some.ensures)
     c.write_block.new.draft.lines c.write_block.new.notes.items c.push_reserved.new.self.items wrote.lines wrote.notes
     (c.push_reserved.ensures.items ∙ ap (λ (xs : List (List (List Bool))). xs ++ c.in-Some.pairs ∷ []) c.reserve.ensures.items)
+
+pub write_block-requires-clause-over : goal.write_block-requires-clause-over
+write_block-requires-clause-over c = λ k less.
+    let task = c.args.task.now in
+    let size = subst (λ (f : Option (List (List Bool))). IfSome f (λ r. length r ≡ atoms task)) c.in-Some.is c.in_ok-pairs.ensures.size in
+    diagonals_over task c.args.draft.now.lines c.args.notes.now.items c.args.reached.now.items c.requires.described c.args.rows.now.rows c.requires.diagonals k less
+    ∙ sym (c.in_ok-row-in-Some.ensures.0 ∙ size)
+
+pub returns-in-Some-clause-diagonals : goal.returns-in-Some-clause-diagonals
+returns-in-Some-clause-diagonals c =
+    let wrote = c.in_ok-line-in-Some.ensures in
+    subst (λ rs. AreDiagonals rs c.push_reserved.new.self.items) (sym wrote.rows)
+    (subst (AreDiagonals (c.args.rows.now.rows ++ c.in_ok-row-in-Some.row ∷ []))
+    (sym (c.push_reserved.ensures.items ∙ ap (λ (xs : List (List (List Bool))). xs ++ c.in-Some.pairs ∷ []) c.reserve.ensures.items))
+    (diagonals_pushed c.args.rows.now.rows c.args.reached.now.items c.in_ok-row-in-Some.row c.in-Some.pairs c.requires.diagonals c.in_ok-row-in-Some.ensures))

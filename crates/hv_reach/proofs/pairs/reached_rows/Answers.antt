@@ -3,9 +3,9 @@ use Rattle.hv_task.specs.State.{AreBelow}
 use Rattle.hv_task.specs.Strips.{atoms}
 use Rattle.hv_reach.proofs.Rows.{range_below}
 use Rattle.hv_reach.proofs.Start.{closed_kept, keeps_closed, listed_below, listed_paired, paired_listed, ready_start}
-use Rattle.hv_reach.specs.Index.{IsRange}
+use Rattle.hv_reach.specs.Working.Index.{IsRange}
 use Rattle.hv_reach.specs.Reached.{ArePaired, has_pair}
-use Rattle.hv_reach.specs.Table.{AreReadyBut, PairsWithin}
+use Rattle.hv_reach.specs.Working.Table.{HaveTheirPairsBut, PairsWithin}
 use Rattle.hv_reach.proofs.pairs.reached_rows.Goals as goal
 
 pub mark_all-requires-clause-below : goal.mark_all-requires-clause-below
@@ -20,7 +20,7 @@ wake-requires-clause-numbers c =
 
 pub wake-requires-clause-ready : goal.wake-requires-clause-ready
 wake-requires-clause-ready c =
-    subst (λ xs. AreReadyBut xs 0 (atoms c.args.task.now) c.args.task.now.actions c.mark_all.new.rows.items c.mark_all.new.flags) (sym c.as_slice-2.ensures.value)
+    subst (λ xs. HaveTheirPairsBut xs 0 (atoms c.args.task.now) c.args.task.now.actions c.mark_all.new.rows.items c.mark_all.new.flags) (sym c.as_slice-2.ensures.value)
     (ready_start (atoms c.args.task.now) c.args.task.now.actions c.in_ok-all.all.items c.mark_all.new.rows.items c.mark_all.new.flags
     (subst (λ n. IsRange n c.in_ok-all.all.items) c.actions.ensures.actions c.in_ok-all.ensures))
 

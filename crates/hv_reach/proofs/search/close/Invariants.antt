@@ -2,16 +2,16 @@ use Rattle.std.proofs.Common.{◌≡◌, ◌≤◌, ◌+◌, ℕ, Bool, true, fa
 use Rattle.hv_task.specs.State.{has_atom}
 use Rattle.hv_task.specs.Strips.{atoms}
 use Rattle.hv_reach.specs.Reached.{has_pair}
-use Rattle.hv_reach.specs.Table.{AreReady, IsEven, IsTable, KeepAllPairs, PairsWithin, missing_cells}
+use Rattle.hv_reach.specs.Working.Table.{HaveTheirPairs, IsEven, IsPairTable, KeepAllPairs, PairsWithin, missing_cells}
 use Rattle.hv_reach.proofs.search.close.Given as goal
 
 abbrev pub invariant-loop-moved : goal.invariant-loop-moved
 invariant-loop-moved l = record {
-  table : IsTable (atoms l.task) l.rows.items;
+  table : IsPairTable (atoms l.task) l.rows.items;
   flags : length l.flags ≡ atoms l.task + 1;
   grows : (p q : ℕ) → has_pair l.fn.rows.items p q ≡ true → has_pair l.rows.items p q ≡ true;
   quiet : l.moved ≡ false → (x : ℕ) → x ≤ atoms l.task → has_atom l.flags x ≡ false;
-  ready : AreReady (atoms l.task) l.task.actions l.rows.items l.flags;
+  ready : HaveTheirPairs (atoms l.task) l.task.actions l.rows.items l.flags;
   mask : length l.mask ≡ atoms l.task;
   seen : length l.seen ≡ atoms l.task;
   least : (r : ℕ → ℕ → Bool) → IsEven r → KeepAllPairs l.task.actions r → PairsWithin l.fn.rows.items r → PairsWithin l.rows.items r;

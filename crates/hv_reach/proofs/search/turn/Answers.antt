@@ -2,7 +2,7 @@ use Rattle.std.proofs.Common.{arith, subst}
 use Rattle.hv_task.specs.Strips.{atoms}
 use Rattle.hv_reach.proofs.Sets.{slice_get_at}
 use Rattle.hv_reach.proofs.Turns.{lowered_after, ready_lowered, turn_from_step}
-use Rattle.hv_reach.specs.Table.{IsPairStep}
+use Rattle.hv_reach.specs.Working.Table.{IsPairStep}
 use Rattle.hv_reach.proofs.search.turn.Goals as goal
 
 pub wake-requires-clause-ready : goal.wake-requires-clause-ready

@@ -3,7 +3,7 @@ use Rattle.std.specs.List.{All}
 use Rattle.hv_task.specs.State.{has_atom}
 use Rattle.hv_reach.proofs.Steps.{ready_visited}
 use Rattle.hv_reach.specs.Reached.{ArePaired, has_pair}
-use Rattle.hv_reach.specs.Table.{PairsWithin}
+use Rattle.hv_reach.specs.Working.Table.{PairsWithin}
 use Rattle.hv_reach.proofs.search.visit.Goals as goal
 
 pub returns-clause-ready : goal.returns-clause-ready

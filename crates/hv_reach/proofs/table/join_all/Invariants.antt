@@ -2,7 +2,7 @@ use Rattle.std.proofs.Common.{◌≡◌, ◌<◌, ℕ, Bool, true, get_or}
 use Rattle.std.specs.List.{All}
 use Rattle.hv_task.specs.State.{has_atom}
 use Rattle.hv_reach.specs.Reached.{has_pair}
-use Rattle.hv_reach.specs.Table.{IsEven, IsPairStep, PairsWithin}
+use Rattle.hv_reach.specs.Working.Table.{IsEven, IsPairStep, PairsWithin}
 use Rattle.hv_reach.proofs.table.join_all.Given as goal
 
 abbrev pub invariant-loop-first : goal.invariant-loop-first

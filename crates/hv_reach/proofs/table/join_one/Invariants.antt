@@ -1,7 +1,7 @@
 use Rattle.std.proofs.Common.{◌≡◌, ◌<◌, ℕ, Bool, true}
 use Rattle.hv_task.specs.State.{has_atom}
 use Rattle.hv_reach.specs.Reached.{has_pair}
-use Rattle.hv_reach.specs.Table.{IsEven, IsPairStep, PairsWithin, missing_cells}
+use Rattle.hv_reach.specs.Working.Table.{IsEven, IsPairStep, PairsWithin, missing_cells}
 use Rattle.hv_reach.proofs.table.join_one.Given as goal
 
 abbrev pub invariant-loop-second : goal.invariant-loop-second

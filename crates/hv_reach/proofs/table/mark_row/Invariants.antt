@@ -1,7 +1,7 @@
 use Rattle.std.proofs.Common.{◌≡◌, ◌<◌, ℕ, Bool, true, get_or}
 use Rattle.std.specs.List.{All}
 use Rattle.hv_reach.specs.Reached.{has_pair}
-use Rattle.hv_reach.specs.Table.{IsEven, IsPairStep, PairsWithin}
+use Rattle.hv_reach.specs.Working.Table.{IsEven, IsPairStep, PairsWithin}
 use Rattle.hv_reach.proofs.table.mark_row.Given as goal
 
 abbrev pub invariant-loop-second : goal.invariant-loop-second

@@ -1,6 +1,6 @@
 use Rattle.std.proofs.Common.{arith}
 use Rattle.hv_bytes.specs.Fields.{cut_fields}
-use Rattle.hv_replay.specs.Reading.{fields_in}
+use Rattle.hv_replay.specs.Working.Reading.{fields_in}
 use Rattle.hv_replay.proofs.Fields.{entry_from, no_atoms, split_is}
 use Rattle.hv_replay.proofs.line.entry_of.Goals as goal
 

@@ -1,6 +1,6 @@
 use Rattle.std.proofs.Common.{◌∙◌, ap, subst, sym}
 use Rattle.hv_bytes.specs.Fields.{cut_fields}
-use Rattle.hv_replay.specs.Reading.{fields_in}
+use Rattle.hv_replay.specs.Working.Reading.{fields_in}
 use Rattle.hv_replay.proofs.Fields.{HasRead, read_more, read_none, read_refused, split_is}
 use Rattle.hv_replay.proofs.line.state_of.Goals as goal
 

@@ -1,5 +1,5 @@
 use Rattle.std.proofs.Common.{length}
-use Rattle.hv_replay.specs.Reading.{fields_in}
+use Rattle.hv_replay.specs.Working.Reading.{fields_in}
 use Rattle.hv_replay.proofs.Fields.{HasRead}
 use Rattle.hv_replay.proofs.line.state_of.Given as goal
 

@@ -1,8 +1,8 @@
 use Rattle.std.proofs.Common.{◌<◌, ℕ, ap, arith, below_more, get_or, length, subst, sym}
 use Rattle.hv_task.specs.State.{state_of}
 use Rattle.hv_task.specs.Strips.{atoms}
-use Rattle.hv_replay.specs.Following.{Stays}
-use Rattle.hv_replay.specs.Waiting.{IsIn}
+use Rattle.hv_replay.specs.Working.Following.{StaysListed}
+use Rattle.hv_replay.specs.Working.Waiting.{IsIn}
 use Rattle.hv_replay.proofs.Exits.{all_asked, exit_more}
 use Rattle.hv_replay.proofs.open.least_exit.Goals as goal
 
@@ -14,7 +14,7 @@ loop-atom-preserved c =
     let held = c.args.held.now in
     let new = c.least_in-least-in-loop-atom.result in
     let upto = e.upto in
-    let P : ℕ → Type 0 = λ k. Stays task c.args.listed.now (state_of (atoms task) held) k in
+    let P : ℕ → Type 0 = λ k. StaysListed task c.args.listed.now (state_of (atoms task) held) k in
     record {
       upto = let bound = i.upto in omega arith;
       last = λ action row less. i.last action row (omega arith);

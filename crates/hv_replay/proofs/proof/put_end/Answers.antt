@@ -1,11 +1,11 @@
 use Rattle.std.proofs.Common.{◌<◌, ◌^◌, arith, length, subst, sym}
-use Rattle.hv_lines.specs.Drafts.{IsShort}
+use Rattle.hv_lines.specs.Drafts.{IsShortLine}
 use Rattle.hv_lines.specs.Numbering.{expr_count}
 use Rattle.hv_lines.specs.Pruning.{states_in}
 use Rattle.hv_lines.specs.declared.line.Expr.TheVariants as E
 use Rattle.hv_lines.specs.declared.line.Line.TheVariants as L
 use Rattle.hv_lines.proofs.Extended.{exprs_few}
-use Rattle.hv_replay.specs.ClosingLines.{IsClosedSearch}
+use Rattle.hv_replay.specs.Working.ClosingLines.{IsClosedSearch}
 use Rattle.hv_replay.specs.Replayed.{pruned_in}
 use Rattle.hv_replay.proofs.Replaying.{closed_search, proof_at, pruned_few}
 use Rattle.hv_replay.proofs.Small.{expanded_short}
@@ -25,7 +25,7 @@ push_closing-requires-clause-closed c =
 pub push_closing-requires-clause-short : goal.push_closing-requires-clause-short
 push_closing-requires-clause-short c =
     let few : expr_count c.args.draft.now.lines < 10 ^ 18 = omega (arith, exprs_few c.args.draft.now.lines, c.spare-spare.ensures.few) in
-    subst (λ states. IsShort (L.Expr (expr_count c.args.draft.now.lines) (E.States states))) (sym c.in_ok-states.ensures.states)
+    subst (λ states. IsShortLine (L.Expr (expr_count c.args.draft.now.lines) (E.States states))) (sym c.in_ok-states.ensures.states)
     (expanded_short c.args.log.now (expr_count c.args.draft.now.lines) c.expanded_states.ensures.log few)
 
 pub returns : goal.returns

@@ -5,7 +5,7 @@ use Rattle.hv_task.specs.Strips.{atoms}
 use Rattle.hv_replay.proofs.Kept.{entry_there}
 use Rattle.hv_replay.proofs.Replaying.{first_uncovered, justified_all, next_justified, progress_begins, progress_next}
 use Rattle.hv_replay.proofs.Several.{AnyOf, both, found_some, match_none, match_some}
-use Rattle.hv_replay.specs.Progress.{IsProgress}
+use Rattle.hv_replay.specs.Working.Progress.{IsProgress}
 use Rattle.hv_replay.specs.Replayed.{pruned_in}
 use Rattle.hv_replay.specs.declared.log.Entry.{Entry}
 use Rattle.hv_lines.specs.declared.note.Note.{Note}

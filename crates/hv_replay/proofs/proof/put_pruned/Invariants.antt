@@ -3,7 +3,7 @@ use Rattle.hv_task.specs.Strips.{Strips, IsState}
 use Rattle.hv_lines.specs.Pruning.{Extends}
 use Rattle.hv_lines.specs.declared.line.Line.{Line}
 use Rattle.hv_replay.specs.Closed.{IsJustified}
-use Rattle.hv_replay.specs.Progress.{IsProgress}
+use Rattle.hv_replay.specs.Working.Progress.{IsProgress}
 use Rattle.hv_replay.specs.Replayed.{pruned_in}
 use Rattle.hv_replay.proofs.Several.{AllOf, AnyOf}
 use Rattle.hv_replay.proofs.proof.put_pruned.Given as goal

@@ -3,7 +3,7 @@ use Rattle.hv_task.specs.State.{state_of}
 use Rattle.hv_task.specs.Strips.{atoms}
 use Rattle.hv_lines.specs.Pruning.{IsDeadBy}
 use Rattle.hv_lines.proofs.Extended.{extends_then}
-use Rattle.hv_replay.specs.Progress.{IsProgress}
+use Rattle.hv_replay.specs.Working.Progress.{IsProgress}
 use Rattle.hv_replay.proofs.Replaying.{progress_more}
 use Rattle.hv_replay.proofs.Several.{AnyOf, covered_none, covered_some, found_some}
 use Rattle.hv_replay.proofs.Unions.{union_extended}

@@ -6,7 +6,8 @@ use Rattle.hv_lines.specs.Numbering.{expr_count, statement_at}
 use Rattle.hv_lines.specs.Pruning.{Extends, states_in}
 use Rattle.hv_lines.specs.declared.line.Statement.TheVariants as T
 use Rattle.hv_lines.proofs.Extended.{extends_by}
-use Rattle.hv_replay.specs.PrunedLines.{IsPrunedUnion, pruned_lines, pruned_word}
+use Rattle.hv_replay.specs.PrunedLines.{pruned_lines, pruned_word}
+use Rattle.hv_replay.specs.Working.PrunedLines.{IsPrunedUnion}
 use Rattle.hv_lines.specs.declared.note.Note.{Note}
 use Rattle.hv_replay.proofs.Putting.{IsNextOf, holder_below, next_of, put_inside, put_keeps, put_pruned, put_union, union_as}
 use Rattle.hv_replay.proofs.pruned.push_pruned.Goals as goal

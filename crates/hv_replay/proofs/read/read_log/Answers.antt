@@ -1,11 +1,12 @@
 use Rattle.std.proofs.Common.{◌+◌, ap, sym, subst, ◌∙◌, Err, arith, rules}
-use Rattle.hv_bytes.specs.Files.{file_of}
+use Rattle.hv_bytes.specs.Working.Files.{file_of}
 use Rattle.hv_bytes.specs.FirstLine.{BeginsLong, TakesLine}
 use Rattle.hv_bytes.specs.States.{coming_of}
 use Rattle.hv_bytes.specs.declared.cutting.Limits.{Limits}
 use Rattle.hv_bytes.proofs.WholeText.{known}
 use Rattle.hv_task.specs.Strips.{atoms}
-use Rattle.hv_replay.specs.Logs.{SearchLog, no_entries}
+use Rattle.hv_replay.specs.Logs.{SearchLog}
+use Rattle.hv_replay.specs.Working.Logs.{no_entries}
 use Rattle.hv_replay.specs.LogText.{IsReadFrom}
 use Rattle.hv_replay.proofs.Turned.{end_answer, feed_fault, fits_log, follows_first, follows_more, grown, line_fault_answer, room_left}
 use Rattle.hv_replay.proofs.read.read_log.Goals as goal

@@ -1,5 +1,5 @@
 use Rattle.std.proofs.Common.{◌≡◌, ℕ, length}
-use Rattle.hv_replay.specs.Waiting.{RowsBelow}
+use Rattle.hv_replay.specs.Working.Waiting.{RowsBelow}
 use Rattle.hv_replay.proofs.waiting.empty_rows.Given as goal
 
 abbrev pub invariant-loop-place : goal.invariant-loop-place

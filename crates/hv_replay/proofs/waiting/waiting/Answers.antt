@@ -2,7 +2,7 @@ use Rattle.std.proofs.Common.{◌∙◌, length, arith, subst}
 use Rattle.std.proofs.lemmas.Option.{slice_get_within}
 use Rattle.hv_task.specs.Strips.{atoms}
 use Rattle.hv_replay.proofs.Rows.{under_more}
-use Rattle.hv_replay.specs.Waiting.{IsUnder}
+use Rattle.hv_replay.specs.Working.Waiting.{IsUnder}
 use Rattle.hv_replay.proofs.waiting.waiting.Goals as goal
 
 pub loop-number-init : goal.loop-number-init

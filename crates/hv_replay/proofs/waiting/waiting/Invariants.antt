@@ -1,7 +1,7 @@
 use Rattle.std.proofs.Common.{◌≡◌, ◌<◌, ◌+◌, ℕ, length, slice_get, Some}
 use Rattle.hv_task.specs.declared.action.Action.{Action}
 use Rattle.hv_task.specs.Strips.{atoms}
-use Rattle.hv_replay.specs.Waiting.{IsUnder, RowsBelow}
+use Rattle.hv_replay.specs.Working.Waiting.{IsUnder, RowsBelow}
 use Rattle.hv_replay.proofs.waiting.waiting.Given as goal
 
 abbrev pub invariant-loop-number : goal.invariant-loop-number

@@ -6,7 +6,8 @@ use Rattle.hv_lines.specs.Numbering.{expr_count, known_count}
 use Rattle.hv_lines.specs.Pruning.{states_in}
 use Rattle.hv_lines.specs.declared.line.Line.{Line}
 use Rattle.hv_lines.specs.declared.note.Note.{Note}
-use Rattle.hv_trap.specs.Pruner.{IsOutcome, IsTrapSet}
+use Rattle.hv_trap.specs.Pruner.{IsTrapSet}
+use Rattle.hv_trap.specs.Working.Pruner.{IsOutcome}
 use Rattle.hv_trap.specs.Trap.{AreTrapClauses}
 use Rattle.hv_trap.proofs.Writing.{none_noted, outcome_told, outcome_written}
 use Rattle.hv_trap.proofs.pruner.trap_answer.Goals as goal

@@ -1,6 +1,7 @@
 use Rattle.std.proofs.Common.{◌≡◌, ◌<◌, ◌≤◌, ℕ, true, false, length}
-use Rattle.hv_trap.specs.Asking.{IsAsking, clauses_asked}
-use Rattle.hv_trap.specs.Trap.{EncloseTrap, Stays}
+use Rattle.hv_trap.specs.Working.Asking.{IsAsking, clauses_asked}
+use Rattle.hv_trap.specs.Trap.{Stays}
+use Rattle.hv_trap.specs.Working.Trap.{EncloseTrap}
 use Rattle.hv_trap.proofs.step.round.Given as goal
 
 abbrev pub invariant-loop-action : goal.invariant-loop-action

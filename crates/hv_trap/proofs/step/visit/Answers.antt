@@ -1,4 +1,4 @@
-use Rattle.hv_trap.specs.Asking.{clauses_asked}
+use Rattle.hv_trap.specs.Working.Asking.{clauses_asked}
 use Rattle.hv_trap.proofs.Enclosing.{visit_below, visit_encloses, visit_few, visit_fewer}
 use Rattle.hv_trap.proofs.step.visit.Goals as goal
 

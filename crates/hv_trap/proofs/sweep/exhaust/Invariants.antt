@@ -1,6 +1,6 @@
 use Rattle.std.proofs.Common.{◌≡◌, ◌<◌, ◌≤◌, true, length}
-use Rattle.hv_trap.specs.Room.{HasStates}
-use Rattle.hv_trap.specs.Trap.{EncloseTrap}
+use Rattle.hv_trap.specs.Working.Room.{HasStates}
+use Rattle.hv_trap.specs.Working.Trap.{EncloseTrap}
 use Rattle.hv_trap.proofs.sweep.exhaust.Given as goal
 
 abbrev pub invariant-loop-clauses : goal.invariant-loop-clauses

@@ -1,6 +1,6 @@
 use Rattle.std.proofs.Common.{length}
-use Rattle.hv_trap.specs.Room.{HasStates}
-use Rattle.hv_trap.specs.Trap.{EncloseTrap}
+use Rattle.hv_trap.specs.Working.Room.{HasStates}
+use Rattle.hv_trap.specs.Working.Trap.{EncloseTrap}
 use Rattle.hv_trap.proofs.sweep.take_out.Given as goal
 
 abbrev pub invariant-loop-room : goal.invariant-loop-room

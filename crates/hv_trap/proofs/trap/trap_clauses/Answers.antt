@@ -1,5 +1,5 @@
 use Rattle.std.proofs.Common.{subst, sym}
-use Rattle.hv_trap.specs.Trap.{EncloseTrap}
+use Rattle.hv_trap.specs.Working.Trap.{EncloseTrap}
 use Rattle.hv_trap.proofs.Enclosing.{all_enclose, set_is_trap}
 use Rattle.hv_trap.proofs.trap.trap_clauses.Goals as goal
 

@@ -1,5 +1,5 @@
 use Rattle.std.proofs.Common.{length}
-use Rattle.hv_trap.specs.Trap.{EncloseTrap}
+use Rattle.hv_trap.specs.Working.Trap.{EncloseTrap}
 use Rattle.hv_trap.proofs.trap.trap_clauses.Given as goal
 
 abbrev pub invariant-loop-clauses : goal.invariant-loop-clauses

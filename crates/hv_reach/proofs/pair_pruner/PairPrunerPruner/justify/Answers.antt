@@ -1,4 +1,4 @@
-use Rattle.hv_reach.specs.Fitting.{pairs_fit}
+use Rattle.hv_reach.specs.Working.Fitting.{pairs_fit}
 use Rattle.hv_reach.proofs.pair_pruner.PairPrunerPruner.justify.Goals as goal
 
 pub returns-clause-fits : goal.returns-clause-fits

@@ -19,6 +19,6 @@ returns-clause-fits c =
     let fits = subst (FitRelaxed c.args.task.now c.args.draft.now.lines) (sym c.self.view_is) c.requires.fits in (
       fits_after c.args.task.now (RelaxedExcludesFrom c.args.task.now) (IsRelaxedBlock c.args.task.now c.args.state.now c.args.draft.now.lines) c.args.state.now
           c.self.inside.notes.items c.args.draft.now n.notes.items n.draft c.relaxed_answer.result e.outcome e.err_draft e.err_notes fits.0,
-      described_after HoldsAtomsOf c.args.task.now c.args.draft.now n.draft c.self.inside.notes.items n.notes.items c.self.inside.reached.items
-          n.reached.items c.relaxed_answer.result e.described e.err_draft e.err_notes e.err_reached fits.1,
+      described_after HoldsAtomsOf c.args.task.now c.args.draft.now n.draft c.self.inside.notes.items n.notes.items c.self.inside.reached.rows
+          n.reached.rows c.relaxed_answer.result e.described e.err_draft e.err_notes e.err_reached fits.1,
     )

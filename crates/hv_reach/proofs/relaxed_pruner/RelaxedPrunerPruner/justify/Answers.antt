@@ -1,4 +1,4 @@
-use Rattle.hv_reach.specs.Fitting.{relaxed_fits}
+use Rattle.hv_reach.specs.Working.Fitting.{relaxed_fits}
 use Rattle.hv_reach.proofs.relaxed_pruner.RelaxedPrunerPruner.justify.Goals as goal
 
 pub returns-clause-fits : goal.returns-clause-fits

@@ -1,5 +1,6 @@
 use Rattle.std.proofs.Common.{◌≡◌, ◌∙◌, ◌++◌, ◌∷◌, [], List, ap, arith, length, length-append, subst, sym}
-use Rattle.hv_replay.specs.Logs.{IsLog, SearchLog, entries_of}
+use Rattle.hv_replay.specs.Logs.{IsLog, SearchLog}
+use Rattle.hv_replay.specs.Working.Logs.{entries_of}
 use Rattle.hv_replay.specs.declared.log.Entry.{Entry}
 use Rattle.hv_replay.proofs.Kept.{entries_push}
 use Rattle.hv_replay.proofs.Pushed.{log_more}

@@ -1,5 +1,6 @@
 use Rattle.std.proofs.Common.{◌≤◌, ◌∙◌, ap, refl, subst, sym}
-use Rattle.hv_replay.specs.Logs.{IsLog, SearchLog, counts_of}
+use Rattle.hv_replay.specs.Logs.{IsLog, SearchLog}
+use Rattle.hv_replay.specs.Working.Logs.{counts_of}
 use Rattle.hv_replay.proofs.Pushed.{log_more}
 use Rattle.hv_replay.proofs.reader.Reader.take.Goals as goal
 

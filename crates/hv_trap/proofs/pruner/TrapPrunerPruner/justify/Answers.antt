@@ -1,4 +1,4 @@
-use Rattle.hv_trap.specs.Fitting.{notes_fit}
+use Rattle.hv_trap.specs.Working.Fitting.{notes_fit}
 use Rattle.hv_trap.proofs.pruner.TrapPrunerPruner.justify.Goals as goal
 
 pub returns-clause-fits : goal.returns-clause-fits

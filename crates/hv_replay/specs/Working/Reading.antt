@@ -5,7 +5,8 @@ use Rattle.hv_bytes.specs.Fields.{cut_fields}
 use Rattle.hv_bytes.specs.declared.cutting.LineFault.{LineFault}
 use Rattle.hv_bytes.specs.declared.cutting.LineFault.TheVariants as L
 use Rattle.hv_task.specs.State.{AreBelow}
-use Rattle.hv_replay.specs.Logs.{IsLog, SearchLog, counts_of}
+use Rattle.hv_replay.specs.Logs.{IsLog, SearchLog}
+use Rattle.hv_replay.specs.Working.Logs.{counts_of}
 use Rattle.hv_replay.specs.LogText.{Beginning, FailsLine, PassesCount, PassesLimit, at_end, at_entry, lines_before}
 use Rattle.hv_replay.specs.declared.fault.LogFault.{LogFault}
 use Rattle.hv_replay.specs.declared.fault.LogFault.TheVariants as F
@@ -35,7 +36,7 @@ abbrev pub begun_by : Reader → Beginning
 begun_by r = begun r.ended r.log.entries
 
 -- what the reader's methods ask of it
-pub record IsReady (r : Reader) : Type 0 where
+pub record IsReading (r : Reader) : Type 0 where
   pub legal : IsLog r.log.atoms r.log.entries
   pub counts : r.counts ≡ counts_of r.log.entries
   pub few_atoms : r.log.atoms ≤ 65535
@@ -44,7 +45,7 @@ pub record IsReady (r : Reader) : Type 0 where
 -- passes a limit
 abbrev pub Feeds : Result (Unit {0}) FeedError → Reader → List ℕ → Reader → Type 0
 Feeds (Ok _) r line new =
-    IsReady new × (new.log.atoms ≡ r.log.atoms)
+    IsReading new × (new.log.atoms ≡ r.log.atoms)
     × (lines_before (begun_by new) ≡ lines_before (begun_by r) ++ line ∷ [])
 Feeds (Err E.Place) r line new = FailsLine r.log.atoms (begun_by r) line
 Feeds (Err (E.Limit limit)) r line new = PassesLimit r.log.atoms (begun_by r) line limit
@@ -53,7 +54,7 @@ Feeds (Err E.Memory) r line new = Unit {0}
 -- the same for the entry of a line, which is there
 abbrev pub TakesEntry : Result (Unit {0}) FeedError → Reader → Entry → Reader → Type 0
 TakesEntry (Ok _) r entry new =
-    IsReady new × (new.log ≡ record r.log { entries = r.log.entries ++ entry ∷ [] })
+    IsReading new × (new.log ≡ record r.log { entries = r.log.entries ++ entry ∷ [] })
     × (new.ended ≡ r.ended)
 TakesEntry (Err E.Place) r entry new = ⊥
 TakesEntry (Err (E.Limit limit)) r entry new = PassesCount (r.log.entries ++ entry ∷ []) limit

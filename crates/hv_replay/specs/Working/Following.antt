@@ -4,26 +4,26 @@ use Rattle.hv_task.specs.declared.action.Action.{Action}
 use Rattle.hv_task.specs.State.{applicable, successor}
 use Rattle.hv_task.specs.Strips.{Strips}
 use Rattle.hv_explicit.specs.Listing.{Listing, in_listing}
-use Rattle.hv_replay.specs.Closed.{IsFirstHole, IsFollowed}
+use Rattle.hv_replay.specs.Closed.{IsFirstHole, IsSearchFollowed}
 use Rattle.hv_replay.specs.Logs.{SearchLog}
 use Rattle.hv_replay.specs.declared.hole.ReplayFault.{ReplayFault}
 use Rattle.hv_replay.specs.declared.hole.ReplayFault.TheVariants as H
 use Rattle.hv_replay.specs.declared.log.Entry.{Entry}
 
 -- the set has just the states of the log
-pub record AreListed (log : SearchLog) (set : Listing) : Type 0 where
+pub record ListsLog (log : SearchLog) (set : Listing) : Type 0 where
   pub over : set.atoms ≡ log.atoms
   pub states : set.states ≡ map (λ (entry : Entry). entry.state) log.entries
 
 -- where the action of this number is applicable in the state, its result is in the set
-abbrev pub Stays : Strips → Listing → List Bool → ℕ → Type 0
-Stays task set state number =
+abbrev pub StaysListed : Strips → Listing → List Bool → ℕ → Type 0
+StaysListed task set state number =
     (action : Action) → slice_get task.actions number ≡ Some action
     → applicable action state ≡ true → in_listing set (successor action state) ≡ true
 
 -- what is answered of a log: that its search is followed to its end, or the first hole that it has
 -- even where every state is covered; want of memory is free
 abbrev pub Follows : Result (Unit {0}) ReplayFault → Strips → SearchLog → Type 0
-Follows (Ok _) task log = IsFollowed task log
+Follows (Ok _) task log = IsSearchFollowed task log
 Follows (Err H.Memory) task log = Unit {0}
 Follows (Err fault) task log = IsFirstHole task log (λ _. Unit {0}) fault

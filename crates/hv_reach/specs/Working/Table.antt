@@ -4,9 +4,9 @@ use Rattle.std.specs.Prelude.{◌≡◌, ◌<◌, ◌≤◌, ◌+◌, ◌⊎◌,
 use Rattle.std.specs.List.{All, Contains}
 use Rattle.hv_task.specs.declared.action.Action.{Action}
 use Rattle.hv_task.specs.State.{has_atom}
-use Rattle.hv_reach.specs.Index.{IsLeft}
+use Rattle.hv_reach.specs.Working.Index.{IsInRest}
 use Rattle.hv_reach.specs.Reached.{HasPairsOf, LeavesAlone, has_pair}
-use Rattle.hv_reach.specs.Waiting.{missing}
+use Rattle.hv_reach.specs.Working.Waiting.{missing}
 
 -- the atom is in a pair with itself and with each of these
 abbrev pub IsJoined : (ℕ → ℕ → Bool) → List ℕ → ℕ → Type 0
@@ -50,7 +50,7 @@ abbrev pub set_both : List (List Bool) → ℕ → ℕ → List (List Bool)
 set_both rows p q = set_at (set_at rows p q) q p
 
 -- a table over so many atoms: it is even, and what is paired is paired with itself
-pub record IsTable (n : ℕ) (rows : List (List Bool)) : Type 0 where
+pub record IsPairTable (n : ℕ) (rows : List (List Bool)) : Type 0 where
   pub size : length rows ≡ n
   pub each : All (λ row. length row ≡ n) rows
   pub even : (p q : ℕ) → has_pair rows p q ≡ true → has_pair rows q p ≡ true
@@ -65,7 +65,7 @@ AreRaised n flags p q =
 -- pairs came to the table, and each that did raised its flags
 pub record IsPairStep (n : ℕ) (old : List (List Bool)) (flags : List Bool)
     (new : List (List Bool)) (raised : List Bool) (moved : Bool) : Type 0 where
-  pub table : IsTable n new
+  pub table : IsPairTable n new
   pub size : length raised ≡ length flags
   pub grows : (p q : ℕ) → has_pair old p q ≡ true → has_pair new p q ≡ true
   pub raises : (p q : ℕ) → has_pair new p q ≡ true
@@ -78,7 +78,7 @@ pub record IsPairStep (n : ℕ) (old : List (List Bool)) (flags : List Bool)
 -- pairs came to the table, and where none did, no flag was raised
 pub record IsTurn (n : ℕ) (old : List (List Bool)) (flags : List Bool)
     (new : List (List Bool)) (raised : List Bool) (moved : Bool) : Type 0 where
-  pub table : IsTable n new
+  pub table : IsPairTable n new
   pub size : length raised ≡ length flags
   pub grows : (p q : ℕ) → has_pair old p q ≡ true → has_pair new p q ≡ true
   pub still : moved ≡ false → (x : ℕ) → has_atom raised x ≡ true → has_atom flags x ≡ true
@@ -91,21 +91,21 @@ abbrev pub IsTrigger : ℕ → Action → ℕ → Type 0
 IsTrigger n a x = Contains a.pre x ⊎ ((x ≡ n) × (length a.pre ≡ 0))
 
 -- the table keeps the action's pairs, or one of its flags is raised
-abbrev pub IsReady : ℕ → List (List Bool) → List Bool → Action → Type 0
-IsReady n rows flags a =
+abbrev pub HasItsPairs : ℕ → List (List Bool) → List Bool → Action → Type 0
+HasItsPairs n rows flags a =
     KeepsPairs (has_pair rows) a ⊎ ((x : ℕ) × IsTrigger n a x × (has_atom flags x ≡ true))
 
 -- each action is ready
-abbrev pub AreReady : ℕ → List Action → List (List Bool) → List Bool → Type 0
-AreReady n actions rows flags =
-    (k : ℕ) (a : Action) → slice_get actions k ≡ Some a → IsReady n rows flags a
+abbrev pub HaveTheirPairs : ℕ → List Action → List (List Bool) → List Bool → Type 0
+HaveTheirPairs n actions rows flags =
+    (k : ℕ) (a : Action) → slice_get actions k ≡ Some a → HasItsPairs n rows flags a
 
 -- each action is ready or left in the list
-abbrev pub AreReadyBut
+abbrev pub HaveTheirPairsBut
     : List ℕ → ℕ → ℕ → List Action → List (List Bool) → List Bool → Type 0
-AreReadyBut numbers from n actions rows flags =
+HaveTheirPairsBut numbers from n actions rows flags =
     (k : ℕ) (a : Action) → slice_get actions k ≡ Some a
-    → IsReady n rows flags a ⊎ IsLeft numbers from k
+    → HasItsPairs n rows flags a ⊎ IsInRest numbers from k
 
 -- the next atom of a mask, from this number on, that a row has not: those before it that the mask
 -- has, the row has too

@@ -16,7 +16,7 @@ RowsBelow bound rows =
 
 -- in the row of each atom there is each action that has it in its precondition, and in the row past
 -- the atoms there is each action without precondition
-pub record IsIndex (atoms : ℕ) (actions : List Action) (rows : List (Vec ℕ)) : Type 0 where
+pub record IsActionIndex (atoms : ℕ) (actions : List Action) (rows : List (Vec ℕ)) : Type 0 where
   pub size : length rows ≡ atoms + 1
   pub below : RowsBelow (length actions) rows
   pub has : (k : ℕ) (a : Action) → slice_get actions k ≡ Some a → All (λ p. IsIn rows p k) a.pre
@@ -29,6 +29,6 @@ pub record IsRange (count : ℕ) (numbers : List ℕ) : Type 0 where
   pub each : (k : ℕ) → k < count → slice_index numbers k ≡ k
 
 -- the number is in the list, at this place or later
-abbrev pub IsLeft : List ℕ → ℕ → ℕ → Type 0
-IsLeft numbers from k =
+abbrev pub IsInRest : List ℕ → ℕ → ℕ → Type 0
+IsInRest numbers from k =
     (j : ℕ) × (from ≤ j) × (j < length numbers) × (slice_index numbers j ≡ k)

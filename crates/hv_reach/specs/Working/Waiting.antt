@@ -3,7 +3,7 @@ use Rattle.std.specs.Prelude.{◌≡◌, ◌<◌, ◌≤◌, ◌+◌, ◌⊎◌,
 use Rattle.std.specs.List.{Contains}
 use Rattle.hv_task.specs.declared.action.Action.{Action}
 use Rattle.hv_task.specs.State.{AreBelow, has_atom}
-use Rattle.hv_reach.specs.Index.{IsLeft}
+use Rattle.hv_reach.specs.Working.Index.{IsInRest}
 use Rattle.hv_reach.specs.Reached.{AreIn, IsWithin}
 
 -- how many atoms are not in the state
@@ -17,7 +17,7 @@ abbrev pub GrowsWithin : ((ℕ → Bool) → Type 0) → List Bool → List Bool
 GrowsWithin Given old new = (set : ℕ → Bool) → Given set → IsWithin old set → IsWithin new set
 
 -- the state grew, and what came to it is in the queue
-pub record IsStep (old : List Bool) (queue : List ℕ)
+pub record GrowsQueued (old : List Bool) (queue : List ℕ)
     (new : List Bool) (more : List ℕ) : Type 0 where
   pub size : length new ≡ length old
   pub below : AreBelow (length old) queue → AreBelow (length old) more
@@ -34,27 +34,27 @@ pub record IsPassed (held : List Bool) (a : Action) (place : ℕ) : Type 0 where
 
 -- the action waits for the atom at this place of its precondition, which isn't held or is still in
 -- the queue; or its add set is held
-abbrev pub IsSettled : List Bool → List ℕ → Action → ℕ → Type 0
-IsSettled held queue a place =
+abbrev pub IsActionSettled : List Bool → List ℕ → Action → ℕ → Type 0
+IsActionSettled held queue a place =
     ((place < length a.pre)
     × (has_atom held (slice_index a.pre place) ≡ true → Contains queue (slice_index a.pre place)))
     ⊎ AreIn (has_atom held) a.add
 
 -- what the search keeps
-pub record IsKept (actions : List Action) (held : List Bool) (queue passed : List ℕ) : Type 0 where
+pub record IsKeptSearch (actions : List Action) (held : List Bool) (queue passed : List ℕ) : Type 0 where
   pub size : length passed ≡ length actions
   pub below : AreBelow (length held) queue
   pub each : (k : ℕ) (a : Action) → slice_get actions k ≡ Some a
       → IsPassed held a (slice_index passed k)
 
 -- each action is settled
-abbrev pub AreSettled : List Action → List Bool → List ℕ → List ℕ → Type 0
-AreSettled actions held queue passed =
+abbrev pub AreActionsSettled : List Action → List Bool → List ℕ → List ℕ → Type 0
+AreActionsSettled actions held queue passed =
     (k : ℕ) (a : Action) → slice_get actions k ≡ Some a
-    → IsSettled held queue a (slice_index passed k)
+    → IsActionSettled held queue a (slice_index passed k)
 
 -- each action is settled or left in the list
-abbrev pub AreSettledBut : List ℕ → ℕ → List Action → List Bool → List ℕ → List ℕ → Type 0
-AreSettledBut numbers from actions held queue passed =
+abbrev pub AreActionsSettledBut : List ℕ → ℕ → List Action → List Bool → List ℕ → List ℕ → Type 0
+AreActionsSettledBut numbers from actions held queue passed =
     (k : ℕ) (a : Action) → slice_get actions k ≡ Some a
-    → IsSettled held queue a (slice_index passed k) ⊎ IsLeft numbers from k
+    → IsActionSettled held queue a (slice_index passed k) ⊎ IsInRest numbers from k

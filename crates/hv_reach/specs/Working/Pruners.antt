@@ -1,0 +1,40 @@
+-- Working definitions beside those of `Pruners`: what contracts of private functions and proofs say.
+use Rattle.std.specs.Prelude.{◌≡◌, ◌<◌, ◌↔◌, [], IsTrue, ℕ, Bool, true, List, Option, is_some, IfSome, IfNone, length, slice_index_or}
+use Rattle.hv_task.specs.Strips.{Strips, IsState, atoms}
+use Rattle.hv_sets.specs.Truth.{in_clauses}
+use Rattle.hv_sets.specs.declared.literal.Literal.{Literal}
+use Rattle.hv_lines.specs.Drafts.{DraftState}
+use Rattle.hv_lines.specs.Meaning.{StateSet}
+use Rattle.hv_lines.specs.Pruning.{Extends, IsPrunerAnswer, IsDeadBy}
+use Rattle.hv_lines.specs.declared.line.Line.{Line}
+use Rattle.hv_lines.specs.declared.note.Note.{Note}
+use Rattle.hv_reach.specs.Working.NoteRows.{IsDiagonal}
+use Rattle.hv_reach.specs.Working.Written.{IsDeadEnd}
+use Rattle.hv_reach.specs.Pruners.{AreHornNotes}
+
+-- there is one row for each table, with the atoms that are in a pair with themselves
+pub record AreDiagonals (rows : List (List Bool)) (tables : List (List (List Bool))) : Type 0 where
+  pub size : length rows ≡ length tables
+  pub each : (k : ℕ) → k < length tables
+      → IsDiagonal (slice_index_or rows k []) (slice_index_or tables k [])
+
+-- the formula shows why this state is dead: it is one of which a block is good, it holds the state,
+-- and it holds covered states alone
+pub record ShowsWhyDead (task : Strips) (covered : StateSet) (state : List Bool)
+    (clauses : List (List Literal)) : Type 0 where
+  pub dead : IsDeadEnd task clauses
+  pub holds : in_clauses clauses state ≡ true
+  pub within : (other : List Bool) → IsState task other → in_clauses clauses other ≡ true
+      → covered other
+
+-- what stands after an answer: whether there is one, what it shows, how the draft grew, and that
+-- the notes fit it
+pub record IsOutcome (task : Strips) (covered : StateSet) (IsBlock : List Line → Note → Type 0)
+    (state : List Bool) (found : Option ℕ) (notes : List Note) (draft : DraftState)
+    (new_notes : List Note) (new_draft : DraftState) : Type 0 where
+  pub answer : IsPrunerAnswer task covered IsBlock state found notes draft new_notes new_draft
+  pub some : IsTrue (is_some found) ↔ covered state
+  pub dead : IfSome found (λ line. IsDeadBy task new_draft.lines state line)
+  pub extends : Extends task draft.lines new_draft.lines
+  pub none : IfNone found (new_draft ≡ draft)
+  pub fits : AreHornNotes task covered new_draft.lines new_notes

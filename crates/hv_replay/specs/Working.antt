@@ -1,0 +1,9 @@
+-- Definitions that no public contract cites: those of private contracts and of proofs.
+pub mod Logs
+pub mod Reading
+pub mod Expanded
+pub mod Following
+pub mod Waiting
+pub mod PrunedLines
+pub mod ClosingLines
+pub mod Progress

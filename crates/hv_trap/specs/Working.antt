@@ -1,0 +1,6 @@
+-- Definitions that no public contract cites: those of private contracts and of proofs.
+pub mod Trap
+pub mod Asking
+pub mod Room
+pub mod Pruner
+pub mod Fitting
