@@ -1,3 +1,5 @@
+//! The files of the system as a shelf.
+
 ghost use Rattle.std.specs.Prelude.{◌≤◌};
 ghost use Rattle.hv_bytes.specs.Devices.{Rose};
 
@@ -24,7 +26,7 @@ impl<'a> FileShelf<'a> {
         }
     }
 
-    /// Counts a fault. The count stays at its greatest value once there.
+    // Counts a fault. The count stays at its greatest value once there.
     fn fault(&mut self) -> Failed
         ensures rose { Rose self.old.faults self.new.faults }
         ensures later { self.old.faults ≤ self.new.faults }

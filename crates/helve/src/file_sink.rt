@@ -1,3 +1,5 @@
+//! Standard output as a sink.
+
 use hv_bytes::{Failed, Sink};
 
 /// Standard output. Each error of the system, whatever its cause, counts as a fault, and so does a

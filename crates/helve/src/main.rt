@@ -23,8 +23,8 @@ fn main(rt: HostRuntime) -> ExitCode {
     ExitCode::from(status.number())
 }
 
-/// Runs the words on the system's files, with three pruners, in the order in which a replay asks them.
-/// It is an error only where there is no memory for them.
+// Runs the words on the system's files, with three pruners, in the order in which a replay asks
+// them. It is an error only where there is no memory for them.
 fn run_words(rt: &HostRuntime, words: &Words) -> Result<Status, AllocError> {
     let alloc = rt.alloc();
     let mut pruners: Vec<Box<dyn Pruner>> = Vec::new(alloc);
@@ -35,8 +35,8 @@ fn run_words(rt: &HostRuntime, words: &Words) -> Result<Status, AllocError> {
     Ok(run(alloc, words, &mut shelf, &mut sink, pruners))
 }
 
-/// The words after the program's name. Words that aren't text are no job; want of memory is told as
-/// such.
+// The words after the program's name. Words that aren't text are no job; want of memory is told as
+// such.
 fn words(rt: &HostRuntime) -> Result<Words, Status> {
     let mut words = Words::new(rt.alloc());
     match env::args(rt) {

@@ -1,13 +1,13 @@
 //! Whether the families of sets meet and cover cubes, hold states and walk as going through all
 //! states says.
 
-ghost use Rattle.std.specs.Prelude.{◌≡◌, ◌<◌, ◌≤◌, IfOk, OnOk, length};
+ghost use Rattle.std.specs.Prelude.{◌≡◌, ◌<◌, IfOk, OnOk};
 ghost use Rattle.hv_sets.specs.Cubes.{SpeakBelow};
-ghost use Rattle.hv_sets.specs.Walks.{SpeaksBelow};
+ghost use Rattle.hv_sets.specs.Walks.{StepSpeaksBelow};
 
 use crate::three::{
-    ALL, explicit_of, formula_of, has_bit, is_found, is_horn_code, is_two_code, state_from,
-    states_of_clauses, states_of_list, task_of,
+    bit_if, explicit_of, formula_of, has_bit, is_found, is_horn_code, is_two_code, state_from,
+    states_denied, states_of_clauses, states_of_list, task_of,
 };
 use hv_clauses::{ClauseKind, Formula};
 use hv_horn::HornKind;
@@ -49,16 +49,20 @@ fn allows(digit: u32, held: bool) -> bool {
     }
 }
 
+// Whether the cube of this number has the state of this code.
+fn number_has(number: u32, code: u32) -> bool
+    requires { code < 8 }
+{
+    allows(number % 3, has_bit(code, 0))
+        & allows(number / 3 % 3, has_bit(code, 1))
+        & allows(number / 9, has_bit(code, 2))
+}
+
 // The states of the cube of this number.
 fn states_of_number(number: u32) -> u32 {
     let mut mask = 0;
     for code in 0..8 {
-        if allows(number % 3, has_bit(code, 0))
-            && allows(number / 3 % 3, has_bit(code, 1))
-            && allows(number / 9, has_bit(code, 2))
-        {
-            mask |= 1 << code;
-        }
+        mask |= bit_if(code, number_has(number, code));
     }
     mask
 }
@@ -89,17 +93,6 @@ fn covers_rightly<S: Covering>(
     Ok(is_found(!covers, states, scratch.state()))
 }
 
-fn holds_rightly<S: StateSet>(alloc: Global, set: &S, mask: u32) -> Result<bool, AllocError>
-    requires { S.atoms set.now ≡ 3 }
-{
-    for code in 0..8 {
-        if set.holds(&state_from(alloc, code)?) != has_bit(mask, code) {
-            return Ok(false);
-        }
-    }
-    Ok(true)
-}
-
 fn meets_in_rightly<K: ClauseKind>(
     set: &Formula<K>,
     cube: &Cube,
@@ -128,123 +121,286 @@ fn covers_in_rightly<K: ClauseKind>(
     Ok(is_found(!covers, states, scratch.state()))
 }
 
+// Whether the cube is met and covered rightly, where these of its states are in the set, and those
+// outside it.
+fn cube_is_right<K: ClauseKind>(
+    alloc: Global,
+    set: &Formula<K>,
+    cube: &Cube,
+    inside: u32,
+    outside: u32,
+    scratch: &mut Scratch,
+) -> Result<bool, AllocError>
+    requires atoms { set.now.atoms ≡ 3 }
+    requires cube { SpeakBelow 3 cube.now }
+{
+    let meets = meets_rightly(alloc, set, cube, inside, scratch)?;
+    let covers = covers_rightly(alloc, set, cube, outside, scratch)?;
+    let meets_in = meets_in_rightly(set, cube, inside, scratch)?;
+    let covers_in = covers_in_rightly(set, cube, outside, scratch)?;
+    Ok(meets & covers & meets_in & covers_in)
+}
+
+fn number_is_right<K: ClauseKind>(
+    alloc: Global,
+    set: &Formula<K>,
+    number: u32,
+    mask: u32,
+    scratch: &mut Scratch,
+) -> Result<bool, AllocError>
+    requires { set.now.atoms ≡ 3 }
+{
+    let cube = cube_from(alloc, number)?;
+    let states = states_of_number(number);
+    cube_is_right(alloc, set, &cube, states & mask, states & !mask, scratch)
+}
+
+// Whether all cubes are met and covered rightly by the set of these states.
+fn cubes_are_right<K: ClauseKind>(
+    alloc: Global,
+    set: &Formula<K>,
+    mask: u32,
+) -> Result<bool, AllocError>
+    requires { set.now.atoms ≡ 3 }
+{
+    let mut scratch = Scratch::new(alloc)?;
+    let mut right = true;
+    for number in 0..27 {
+        right &= number_is_right(alloc, set, number, mask, &mut scratch)?;
+    }
+    Ok(right)
+}
+
+fn holds_at<S: StateSet>(alloc: Global, set: &S, mask: u32, code: u32) -> Result<bool, AllocError>
+    requires atoms { S.atoms set.now ≡ 3 }
+    requires code { code < 8 }
+{
+    let state = state_from(alloc, code)?;
+    Ok(set.holds(&state) == has_bit(mask, code))
+}
+
+fn holds_rightly<S: StateSet>(alloc: Global, set: &S, mask: u32) -> Result<bool, AllocError>
+    requires { S.atoms set.now ≡ 3 }
+{
+    let mut right = true;
+    for code in 0..8 {
+        right &= holds_at(alloc, set, mask, code)?;
+    }
+    Ok(right)
+}
+
+fn cube_has(alloc: Global, cube: &Cube, code: u32) -> Result<bool, AllocError>
+    requires { SpeakBelow 3 cube.now }
+{
+    let state = state_from(alloc, code)?;
+    Ok(cube.has(&state))
+}
+
 // The states of a cube, by asking it.
 fn states_of_cube(alloc: Global, cube: &Cube) -> Result<u32, AllocError>
     requires { SpeakBelow 3 cube.now }
 {
     let mut mask = 0;
     for code in 0..8 {
-        if cube.has(&state_from(alloc, code)?) {
-            mask |= 1 << code;
-        }
+        mask |= bit_if(code, cube_has(alloc, cube, code)?);
     }
     Ok(mask)
 }
 
 // Whether the step has the cube of these states, or no cube where there are none.
 fn is_step_of(alloc: Global, step: Step, cube: &Cube, states: u32) -> Result<bool, AllocError>
-    requires { SpeaksBelow 3 step cube.now }
+    requires { StepSpeaksBelow 3 step cube.now }
 {
     match step {
-        Step::Cube => Ok(states != 0 && states_of_cube(alloc, cube)? == states),
+        Step::Cube => Ok((states != 0) & (states_of_cube(alloc, cube)? == states)),
         Step::Void => Ok(states == 0),
         Step::End => Ok(false),
     }
 }
 
+// Whether the next step outside the set has the cube of these states.
+fn steps_outside<S: Outside>(
+    alloc: Global,
+    set: &S,
+    cursor: &mut Cursor,
+    cube: &mut Cube,
+    states: u32,
+) -> Result<bool, AllocError>
+    requires atoms { S.atoms set.now ≡ 3 }
+    requires stands { S.stands_outside set.now cursor.old }
+    ensures stands { OnOk result (S.stands_outside set.now cursor.new) }
+{
+    let step = set.outside_next(cursor, cube)?;
+    is_step_of(alloc, step, cube, states)
+}
+
 // Whether each step of the walk over the states outside the set denies its clause.
+fn walks_outside<S: Outside>(
+    alloc: Global,
+    set: &S,
+    cursor: &mut Cursor,
+    cube: &mut Cube,
+    clauses: &[u32],
+) -> Result<bool, AllocError>
+    requires atoms { S.atoms set.now ≡ 3 }
+    requires stands { S.stands_outside set.now cursor.old }
+{
+    let mut right = true;
+    for clause in clauses {
+        right &= steps_outside(alloc, set, cursor, cube, states_denied(*clause))?;
+    }
+    Ok(right & (set.outside_next(cursor, cube)? == Step::End))
+}
+
+fn counts_outside<S: Outside>(alloc: Global, set: &S, len: u64) -> Result<bool, AllocError> {
+    let mut right = true;
+    for cap in [0, 1, 9, 16777216] {
+        right &= set.outside_count(alloc, cap)? == len.min(cap + 1);
+    }
+    Ok(right)
+}
+
 fn outside_is_right<S: Outside>(alloc: Global, set: &S, clauses: &[u32]) -> Result<bool, AllocError>
     requires { S.atoms set.now ≡ 3 }
 {
     let mut cursor = Cursor::new(alloc);
     let mut cube = Cube::new(alloc);
-    for clause in clauses {
-        let step = set.outside_next(&mut cursor, &mut cube)?;
-        if !is_step_of(alloc, step, &cube, ALL & !states_of_clauses(&[*clause]))? {
-            return Ok(false);
-        }
-    }
-    if set.outside_next(&mut cursor, &mut cube)? != Step::End {
-        return Ok(false);
-    }
-    for cap in [0, 1, 9, 16777216] {
-        if set.outside_count(alloc, cap)? != (clauses.len() as u64).min(cap + 1) {
-            return Ok(false);
-        }
-    }
-    Ok(true)
+    walks_outside(alloc, set, &mut cursor, &mut cube, clauses)
+}
+
+// Whether the next step inside the set has the cube of these states.
+fn steps_inside<S: Inside>(
+    alloc: Global,
+    set: &S,
+    cursor: &mut Cursor,
+    cube: &mut Cube,
+    states: u32,
+) -> Result<bool, AllocError>
+    requires atoms { S.atoms set.now ≡ 3 }
+    requires stands { S.stands_inside set.now cursor.old }
+    ensures stands { OnOk result (S.stands_inside set.now cursor.new) }
+{
+    let step = set.inside_next(cursor, cube)?;
+    is_step_of(alloc, step, cube, states)
 }
 
 // Whether each step of the walk over the set has the cube of its listed state.
+fn walks_inside<S: Inside>(
+    alloc: Global,
+    set: &S,
+    cursor: &mut Cursor,
+    cube: &mut Cube,
+    codes: &[u32],
+) -> Result<bool, AllocError>
+    requires atoms { S.atoms set.now ≡ 3 }
+    requires stands { S.stands_inside set.now cursor.old }
+{
+    let mut right = true;
+    for code in codes {
+        right &= steps_inside(alloc, set, cursor, cube, bit_if(*code, true))?;
+    }
+    Ok(right & (set.inside_next(cursor, cube)? == Step::End))
+}
+
+fn counts_inside<S: Inside>(alloc: Global, set: &S, len: u64) -> Result<bool, AllocError> {
+    let mut right = true;
+    for cap in [0, 1, 9, 16777216] {
+        right &= set.inside_count(alloc, cap)? == len.min(cap + 1);
+    }
+    Ok(right)
+}
+
 fn inside_is_right<S: Inside>(alloc: Global, set: &S, codes: &[u32]) -> Result<bool, AllocError>
     requires { S.atoms set.now ≡ 3 }
 {
     let mut cursor = Cursor::new(alloc);
     let mut cube = Cube::new(alloc);
-    for code in codes {
-        let step = set.inside_next(&mut cursor, &mut cube)?;
-        if !is_step_of(alloc, step, &cube, states_of_list(&[*code]))? {
-            return Ok(false);
-        }
-    }
-    if set.inside_next(&mut cursor, &mut cube)? != Step::End {
-        return Ok(false);
-    }
-    for cap in [0, 1, 9, 16777216] {
-        if set.inside_count(alloc, cap)? != (codes.len() as u64).min(cap + 1) {
-            return Ok(false);
-        }
-    }
-    Ok(true)
+    walks_inside(alloc, set, &mut cursor, &mut cube, codes)
 }
 
 // Whether the set of these clauses answers as all states say.
+fn formula_is_right<K: ClauseKind>(
+    alloc: Global,
+    set: &Formula<K>,
+    clauses: &[u32],
+) -> Result<bool, AllocError>
+    requires { set.now.atoms ≡ 3 }
+{
+    let mask = states_of_clauses(clauses);
+    let cubes = cubes_are_right(alloc, set, mask)?;
+    let holds = holds_rightly(alloc, set, mask)?;
+    let walks = outside_is_right(alloc, set, clauses)?;
+    let counts = counts_outside(alloc, set, clauses.len() as u64)?;
+    Ok(cubes & holds & walks & counts)
+}
+
 fn clauses_are_right<K: ClauseKind>(alloc: Global, clauses: &[u32]) -> Result<bool, K::Fault> {
     let task = task_of(alloc, 0)?;
     let set = formula_of::<K>(alloc, &task, clauses)?;
-    let inside = states_of_clauses(clauses);
-    let mut scratch = Scratch::new(alloc)?;
-    for number in 0..27 {
-        let cube = cube_from(alloc, number)?;
-        let states = states_of_number(number);
-        if !meets_rightly(alloc, &set, &cube, states & inside, &mut scratch)?
-            || !covers_rightly(alloc, &set, &cube, states & !inside, &mut scratch)?
-            || !meets_in_rightly(&set, &cube, states & inside, &mut scratch)?
-            || !covers_in_rightly(&set, &cube, states & !inside, &mut scratch)?
-        {
-            return Ok(false);
-        }
-    }
-    Ok(holds_rightly(alloc, &set, inside)? && outside_is_right(alloc, &set, clauses)?)
+    Ok(formula_is_right(alloc, &set, clauses)?)
 }
 
-// Whether the set of these states answers as all states say.
+fn is_met_rightly<S: StateSet>(
+    alloc: Global,
+    set: &S,
+    number: u32,
+    mask: u32,
+    scratch: &mut Scratch,
+) -> Result<bool, AllocError>
+    requires { S.atoms set.now ≡ 3 }
+{
+    let cube = cube_from(alloc, number)?;
+    meets_rightly(alloc, set, &cube, states_of_number(number) & mask, scratch)
+}
+
+// Whether all cubes are met rightly by the set of these states.
+fn cubes_are_met<S: StateSet>(alloc: Global, set: &S, mask: u32) -> Result<bool, AllocError>
+    requires { S.atoms set.now ≡ 3 }
+{
+    let mut scratch = Scratch::new(alloc)?;
+    let mut right = true;
+    for number in 0..27 {
+        right &= is_met_rightly(alloc, set, number, mask, &mut scratch)?;
+    }
+    Ok(right)
+}
+
+// Whether the set of these listed states answers as all states say.
+fn states_are_right<S: Inside>(alloc: Global, set: &S, codes: &[u32]) -> Result<bool, AllocError>
+    requires { S.atoms set.now ≡ 3 }
+{
+    let mask = states_of_list(codes);
+    let cubes = cubes_are_met(alloc, set, mask)?;
+    let holds = holds_rightly(alloc, set, mask)?;
+    let walks = inside_is_right(alloc, set, codes)?;
+    let counts = counts_inside(alloc, set, codes.len() as u64)?;
+    Ok(cubes & holds & walks & counts)
+}
+
 fn listing_is_right(alloc: Global, codes: &[u32]) -> Result<bool, AllocError> {
     let task = task_of(alloc, 0)?;
     let set = explicit_of(alloc, &task, codes)?;
-    let inside = states_of_list(codes);
-    let mut scratch = Scratch::new(alloc)?;
-    for number in 0..27 {
-        let cube = cube_from(alloc, number)?;
-        let states = states_of_number(number);
-        if !meets_rightly(alloc, &set, &cube, states & inside, &mut scratch)? {
-            return Ok(false);
-        }
-    }
-    Ok(holds_rightly(alloc, &set, inside)? && inside_is_right(alloc, &set, codes)?)
+    states_are_right(alloc, &set, codes)
+}
+
+fn horn_code_is_right(alloc: Global, code: u32) -> Result<bool, Fail> {
+    let alone = clauses_are_right::<HornKind>(alloc, &[code])?;
+    let beside = clauses_are_right::<HornKind>(alloc, &[code, 18, 3])?;
+    Ok(alone & beside)
+}
+
+fn two_code_is_right(alloc: Global, code: u32) -> Result<bool, Fail> {
+    let alone = clauses_are_right::<TwoKind>(alloc, &[code])?;
+    let beside = clauses_are_right::<TwoKind>(alloc, &[code, 18, 3])?;
+    Ok(alone & beside)
 }
 
 #[test]
 fn cubes_of_horn_formulas_are_answered_as_all_states_say(rt: HostRuntime) -> Result<(), Fail> {
-    let alloc = rt.alloc();
-    assert!(rt; clauses_are_right::<HornKind>(alloc, &[])?);
+    assert!(rt; clauses_are_right::<HornKind>(rt.alloc(), &[])?);
     for code in 0..128 {
         if is_horn_code(code) {
-            assert!(rt; clauses_are_right::<HornKind>(alloc, &[code])?, "at {code}");
-            assert!(rt;
-                clauses_are_right::<HornKind>(alloc, &[code, 18, 3])?,
-                "at {code}"
-            );
+            assert!(rt; horn_code_is_right(rt.alloc(), code)?, "at {code}");
         }
     }
     Ok(())
@@ -252,16 +408,11 @@ fn cubes_of_horn_formulas_are_answered_as_all_states_say(rt: HostRuntime) -> Res
 
 #[test]
 fn cubes_of_two_cnf_formulas_are_answered_as_all_states_say(rt: HostRuntime) -> Result<(), Fail> {
-    let alloc = rt.alloc();
-    assert!(rt; clauses_are_right::<TwoKind>(alloc, &[])?);
-    assert!(rt; clauses_are_right::<TwoKind>(alloc, &[5, 9, 6, 10])?);
+    assert!(rt; clauses_are_right::<TwoKind>(rt.alloc(), &[])?);
+    assert!(rt; clauses_are_right::<TwoKind>(rt.alloc(), &[5, 9, 6, 10])?);
     for code in 0..128 {
         if is_two_code(code) {
-            assert!(rt; clauses_are_right::<TwoKind>(alloc, &[code])?, "at {code}");
-            assert!(rt;
-                clauses_are_right::<TwoKind>(alloc, &[code, 18, 3])?,
-                "at {code}"
-            );
+            assert!(rt; two_code_is_right(rt.alloc(), code)?, "at {code}");
         }
     }
     Ok(())
@@ -269,11 +420,9 @@ fn cubes_of_two_cnf_formulas_are_answered_as_all_states_say(rt: HostRuntime) -> 
 
 #[test]
 fn cubes_of_listed_states_are_answered_as_all_states_say(rt: HostRuntime) -> Result<(), Fail> {
-    let alloc = rt.alloc();
-    assert!(rt; listing_is_right(alloc, &[])?);
-    assert!(rt; listing_is_right(alloc, &[0])?);
-    assert!(rt; listing_is_right(alloc, &[6, 5])?);
-    assert!(rt; listing_is_right(alloc, &[7, 2, 7, 4])?);
-    assert!(rt; listing_is_right(alloc, &[7, 6, 5, 4, 3, 2, 1, 0])?);
+    let lists: [&[u32]; 5] = [&[], &[0], &[6, 5], &[7, 2, 7, 4], &[7, 6, 5, 4, 3, 2, 1, 0]];
+    for codes in lists {
+        assert!(rt; listing_is_right(rt.alloc(), codes)?);
+    }
     Ok(())
 }

@@ -1,9 +1,11 @@
 //! Whether the families of sets answer queries as going through all states says.
 
-ghost use Rattle.std.specs.Prelude.{◌≡◌, ◌<◌, ◌∷◌, [], false, true, None, IfOk, IfSome, length};
+ghost use Rattle.std.specs.Prelude.{◌≡◌, ◌<◌, ◌+◌, ◌∷◌, [], false, true, None, IfOk, IfSome, OnOk};
+ghost use Rattle.std.specs.Prelude.{length};
 ghost use Rattle.hv_task.specs.Strips.{atoms};
 ghost use Rattle.hv_sets.specs.Cost.{clauses_of};
 ghost use Rattle.hv_sets.specs.Query.{HasAnchor, IsNamed, IsReady};
+ghost use Rattle.hv_sets.specs.Room.{HasRoom};
 ghost use Rattle.hv_sets.specs.declared.operand.Which.TheVariants as W;
 ghost use Rattle.hv_clauses.specs.Clausal.{sizes_of};
 ghost use Rattle.hv_clauses.specs.Store.{AreOver, formula_at};
@@ -50,6 +52,8 @@ const CASES: u32 = 1375;
 
 // The first so many have one positive and one negative operand.
 const PLAIN_CASES: u32 = 125;
+
+const BUDGETS: [u64; 6] = [0, 1, 2, 3, 4, u64::MAX];
 
 // The constants and the two sets of a store, by a number below 5.
 fn which_of(number: u32) -> Which
@@ -268,24 +272,62 @@ fn cost_of(case: Case, wanted: Wanted) -> u64 {
     }
 }
 
-fn ask<F: Family>(
-    sets: &F,
+// What is asked of a query: its counterexamples, and what it costs.
+#[derive(Clone, Copy)]
+struct Answer {
+    clashes: u32,
+    cost: u64,
+}
+
+fn answer_of(case: Case, wanted: Wanted) -> Answer {
+    Answer {
+        clashes: clashes_of(case, wanted),
+        cost: cost_of(case, wanted),
+    }
+}
+
+// Whether the query is answered as all states say, within the budget.
+fn budget_is_right<F: Family>(
     alloc: Global,
     task: &Task,
+    sets: &F,
     query: &Query,
+    answer: Answer,
     budget: u64,
     scratch: &mut Scratch,
-) -> Result<Finding, AllocError>
+) -> Result<bool, AllocError>
     requires ready { IsReady (F.count sets.now) query.now }
     requires anchor { F.wants_anchor sets.now → HasAnchor query.now }
     requires task { F.is_over sets.now (atoms task.now) }
     requires action { IfSome query.now.action (λ action. action < length task.now.actions) }
 {
-    sets.find(alloc, task, query, budget, scratch)
+    let found = sets.find(alloc, task, query, budget, scratch)?;
+    Ok(fits(found, scratch.state(), answer.clashes, answer.cost > budget))
 }
 
-// Whether the query is answered as all states say, within each budget.
-fn is_answered<F: Family>(
+// The same within each budget.
+fn query_is_right<F: Family>(
+    alloc: Global,
+    task: &Task,
+    sets: &F,
+    query: &Query,
+    answer: Answer,
+    scratch: &mut Scratch,
+) -> Result<bool, AllocError>
+    requires ready { IsReady (F.count sets.now) query.now }
+    requires anchor { F.wants_anchor sets.now → HasAnchor query.now }
+    requires task { F.is_over sets.now (atoms task.now) }
+    requires action { IfSome query.now.action (λ action. action < length task.now.actions) }
+{
+    let mut right = true;
+    for budget in BUDGETS {
+        right &= budget_is_right(alloc, task, sets, query, answer, budget, scratch)?;
+    }
+    Ok(right)
+}
+
+// The same for the case of this number, where it can be asked about.
+fn case_is_right<F: Family>(
     alloc: Global,
     task: &Task,
     sets: &F,
@@ -303,36 +345,27 @@ fn is_answered<F: Family>(
         return Ok(true);
     }
     let query = query_of(alloc, case)?;
-    let clashes = clashes_of(case, wanted);
-    for budget in [0, 1, 2, 3, 4, u64::MAX] {
-        let found = ask(sets, alloc, task, &query, budget, scratch)?;
-        let is_over = cost_of(case, wanted) > budget;
-        if !fits(found, scratch.state(), clashes, is_over) {
-            return Ok(false);
-        }
-    }
-    Ok(true)
+    query_is_right(alloc, task, sets, &query, answer_of(case, wanted), scratch)
 }
 
-// The number of the first query that is answered wrongly.
-fn first_wrong<F: Family>(
+// Whether each query is answered rightly.
+fn all_are_right<F: Family>(
     alloc: Global,
     task: &Task,
     sets: &F,
     wanted: Wanted,
-) -> Result<Option<u32>, AllocError>
+) -> Result<bool, AllocError>
     requires actions { length task.now.actions ≡ 1 }
     requires count { F.count sets.now ≡ 2 }
     requires over { F.is_over sets.now (atoms task.now) }
     requires anchor { F.wants_anchor sets.now → wanted.by_anchor ≡ true }
 {
     let mut scratch = Scratch::new(alloc)?;
+    let mut right = true;
     for number in 0..CASES {
-        if !is_answered(alloc, task, sets, wanted, number, &mut scratch)? {
-            return Ok(Some(number));
-        }
+        right &= case_is_right(alloc, task, sets, wanted, number, &mut scratch)?;
     }
-    Ok(None)
+    Ok(right)
 }
 
 // How many clauses the operand has.
@@ -346,6 +379,28 @@ fn room_of<K: ClauseKind>(task: &Task, sets: &Formulas<K>, which: Which) -> usiz
         Which::Goal => task.goal().len(),
         Which::Set(number) => sets.get(number).clauses().len(),
     }
+}
+
+// Makes the room that a query of these operands wants.
+fn make_room<K: ClauseKind>(
+    task: &Task,
+    sets: &Formulas<K>,
+    positive: Which,
+    negative: Which,
+    scratch: &mut Scratch,
+) -> Result<(), AllocError>
+    requires positive { IsNamed (length sets.now) positive }
+    requires negative { IsNamed (length sets.now) negative }
+    ensures { OnOk result (HasRoom (atoms task.now) 2
+        (clauses_of task.now (sizes_of (formula_at sets.now)) positive
+        + clauses_of task.now (sizes_of (formula_at sets.now)) negative) scratch.new) }
+{
+    let first = room_of(task, sets, positive);
+    let second = room_of(task, sets, negative);
+    if first > 1000 || second > 1000 {
+        return Err(AllocError);
+    }
+    scratch.reserve(task.atoms(), 2, first + second)
 }
 
 // Asks a query of one positive and one negative operand, with the room that it wants.
@@ -366,18 +421,13 @@ fn ask_in<K: ClauseKind>(
     requires positive_after { case.acts ≡ false → case.positive_after ≡ false }
     requires negative_after { case.acts ≡ false → case.negative_after ≡ false }
 {
+    make_room(task, sets, case.positive, case.negative, scratch)?;
     let query = plain_query(alloc, case)?;
-    let positive = room_of(task, sets, case.positive);
-    let negative = room_of(task, sets, case.negative);
-    if positive > 1000 || negative > 1000 {
-        return Err(AllocError);
-    }
-    scratch.reserve(task.atoms(), 2, positive + negative)?;
     Ok(sets.find_in(task, &query, budget, scratch))
 }
 
 // Whether a query of one positive and one negative operand is answered as all states say.
-fn is_answered_in<K: ClauseKind>(
+fn case_is_right_in<K: ClauseKind>(
     alloc: Global,
     task: &Task,
     sets: &Formulas<K>,
@@ -395,29 +445,45 @@ fn is_answered_in<K: ClauseKind>(
         other: None,
         ..case_of(number)
     };
+    let answer = answer_of(case, wanted);
     let found = ask_in(alloc, task, sets, case, budget, scratch)?;
-    let is_over = cost_of(case, wanted) > budget;
-    Ok(fits(found, scratch.state(), clashes_of(case, wanted), is_over))
+    Ok(fits(found, scratch.state(), answer.clashes, answer.cost > budget))
 }
 
-fn first_wrong_in<K: ClauseKind>(
+fn all_are_right_in<K: ClauseKind>(
     alloc: Global,
     task: &Task,
     sets: &Formulas<K>,
     wanted: Wanted,
     budget: u64,
-) -> Result<Option<u32>, AllocError>
+) -> Result<bool, AllocError>
     requires actions { length task.now.actions ≡ 1 }
     requires count { length sets.now ≡ 2 }
     requires over { AreOver sets.now (atoms task.now) }
 {
     let mut scratch = Scratch::new(alloc)?;
+    let mut right = true;
     for number in 0..PLAIN_CASES {
-        if !is_answered_in(alloc, task, sets, wanted, number, budget, &mut scratch)? {
-            return Ok(Some(number));
-        }
+        right &= case_is_right_in(alloc, task, sets, wanted, number, budget, &mut scratch)?;
     }
-    Ok(None)
+    Ok(right)
+}
+
+fn budgets_are_right_in<K: ClauseKind>(
+    alloc: Global,
+    task: &Task,
+    sets: &Formulas<K>,
+    wanted: Wanted,
+) -> Result<bool, AllocError>
+    requires actions { length task.now.actions ≡ 1 }
+    requires count { length sets.now ≡ 2 }
+    requires over { AreOver sets.now (atoms task.now) }
+{
+    let mut right = true;
+    for budget in BUDGETS {
+        right &= all_are_right_in(alloc, task, sets, wanted, budget)?;
+    }
+    Ok(right)
 }
 
 fn store_of<K: ClauseKind>(
@@ -447,8 +513,24 @@ fn clauses_wanted(pre: u32, first: &[u32], second: &[u32]) -> Wanted
     }
 }
 
-// Whether the queries of the sets of these clauses are answered rightly, where the action asks for
-// these atoms.
+// Whether the queries of these sets are answered rightly.
+fn sets_are_right<K: ClauseKind>(
+    alloc: Global,
+    task: &Task,
+    sets: &Formulas<K>,
+    wanted: Wanted,
+) -> Result<bool, AllocError>
+    requires actions { length task.now.actions ≡ 1 }
+    requires count { length sets.now ≡ 2 }
+    requires over { AreOver sets.now (atoms task.now) }
+    requires anchor { wanted.by_anchor ≡ false }
+{
+    let with_room = budgets_are_right_in(alloc, task, sets, wanted)?;
+    let alone = all_are_right(alloc, task, sets, wanted)?;
+    Ok(with_room & alone)
+}
+
+// The same for the sets of these clauses, where the action asks for these atoms.
 fn clauses_are_right<K: ClauseKind>(
     alloc: Global,
     pre: u32,
@@ -457,13 +539,7 @@ fn clauses_are_right<K: ClauseKind>(
 ) -> Result<bool, K::Fault> {
     let task = task_of(alloc, pre)?;
     let sets = store_of::<K>(alloc, &task, first, second)?;
-    let wanted = clauses_wanted(pre, first, second);
-    for budget in [0, 1, 2, 3, 4, u64::MAX] {
-        if first_wrong_in(alloc, &task, &sets, wanted, budget)?.is_some() {
-            return Ok(false);
-        }
-    }
-    Ok(first_wrong(alloc, &task, &sets, wanted)?.is_none())
+    Ok(sets_are_right(alloc, &task, &sets, clauses_wanted(pre, first, second))?)
 }
 
 // The same of those of one positive and one negative operand alone.
@@ -475,7 +551,7 @@ fn pair_is_right<K: ClauseKind>(
     let task = task_of(alloc, 1)?;
     let sets = store_of::<K>(alloc, &task, first, second)?;
     let wanted = clauses_wanted(1, first, second);
-    Ok(first_wrong_in(alloc, &task, &sets, wanted, 4)?.is_none())
+    Ok(all_are_right_in(alloc, &task, &sets, wanted, 4)?)
 }
 
 fn listings_of(
@@ -509,7 +585,7 @@ fn listings_are_right(
         pre,
         by_anchor: true,
     };
-    Ok(first_wrong(alloc, &task, &sets, wanted)?.is_none())
+    all_are_right(alloc, &task, &sets, wanted)
 }
 
 // A clause to stand beside another: the empty one, one that is true in all states, implications,
@@ -518,29 +594,54 @@ fn beside(code: u32) -> u32 {
     [0, 3, 18, 24, 34, 40][code as usize % 6]
 }
 
+fn horn_code_is_right(alloc: Global, code: u32) -> Result<bool, Fail> {
+    if !is_horn_code(code) {
+        return Ok(true);
+    }
+    let sets = [code, beside(code)];
+    let right = clauses_are_right::<HornKind>(alloc, code / 64, &sets, &sets[1..])?;
+    Ok(right)
+}
+
+fn two_code_is_right(alloc: Global, code: u32) -> Result<bool, Fail> {
+    if !is_two_code(code) {
+        return Ok(true);
+    }
+    let sets = [code, beside(code)];
+    let right = clauses_are_right::<TwoKind>(alloc, code / 64, &sets, &sets[1..])?;
+    Ok(right)
+}
+
+fn horn_pair_is_right(alloc: Global, one: u32, other: u32) -> Result<bool, Fail> {
+    if !is_horn_code(one) | !is_horn_code(other) {
+        return Ok(true);
+    }
+    let right = pair_is_right::<HornKind>(alloc, &[one, other], &[other])?;
+    Ok(right)
+}
+
+fn horn_pairs_are_right(alloc: Global, one: u32) -> Result<bool, Fail> {
+    let mut right = true;
+    for other in 0..64 {
+        right &= horn_pair_is_right(alloc, one, other)?;
+    }
+    Ok(right)
+}
+
 // Without a precondition first, and then with one and each literal twice.
 #[test]
 fn horn_formulas_answer_as_all_states_say(rt: HostRuntime) -> Result<(), Fail> {
-    let alloc = rt.alloc();
     for code in 0..128 {
-        if is_horn_code(code) {
-            let sets = [code, beside(code)];
-            assert!(rt; clauses_are_right::<HornKind>(alloc, code / 64, &sets, &sets[1..])?);
-        }
+        assert!(rt; horn_code_is_right(rt.alloc(), code)?, "at {code}");
     }
-    assert!(rt; clauses_are_right::<HornKind>(alloc, 1, &[18, 9, 40], &[])?);
+    assert!(rt; clauses_are_right::<HornKind>(rt.alloc(), 1, &[18, 9, 40], &[])?);
     Ok(())
 }
 
 #[test]
 fn all_pairs_of_horn_clauses_answer_as_all_states_say(rt: HostRuntime) -> Result<(), Fail> {
-    let alloc = rt.alloc();
     for one in 0..64 {
-        for other in 0..64 {
-            if is_horn_code(one) && is_horn_code(other) {
-                assert!(rt; pair_is_right::<HornKind>(alloc, &[one, other], &[other])?);
-            }
-        }
+        assert!(rt; horn_pairs_are_right(rt.alloc(), one)?, "at {one}");
     }
     Ok(())
 }
@@ -548,31 +649,34 @@ fn all_pairs_of_horn_clauses_answer_as_all_states_say(rt: HostRuntime) -> Result
 // The first formula has no state, which no clause of one literal shows.
 #[test]
 fn two_cnf_formulas_answer_as_all_states_say(rt: HostRuntime) -> Result<(), Fail> {
-    let alloc = rt.alloc();
-    let none = [5, 9, 6, 10];
-    assert!(rt; clauses_are_right::<TwoKind>(alloc, 0, &none, &[5])?);
-    assert!(rt; clauses_are_right::<TwoKind>(alloc, 1, &[9, 24, 6], &none)?);
-    assert!(rt; clauses_are_right::<TwoKind>(alloc, 1, &[], &[5, 34])?);
+    let rows: [(u32, &[u32], &[u32]); 3] = [
+        (0, &[5, 9, 6, 10], &[5]),
+        (1, &[9, 24, 6], &[5, 9, 6, 10]),
+        (1, &[], &[5, 34]),
+    ];
+    for (pre, first, second) in rows {
+        assert!(rt; clauses_are_right::<TwoKind>(rt.alloc(), pre, first, second)?);
+    }
     for code in 0..128 {
-        if is_two_code(code) {
-            let sets = [code, beside(code)];
-            assert!(rt; clauses_are_right::<TwoKind>(alloc, code / 64, &sets, &sets[1..])?);
-        }
+        assert!(rt; two_code_is_right(rt.alloc(), code)?, "at {code}");
     }
     Ok(())
 }
 
 #[test]
 fn listed_states_answer_as_all_states_say(rt: HostRuntime) -> Result<(), Fail> {
-    let alloc = rt.alloc();
     let all = [0, 1, 2, 3, 4, 5, 6, 7];
-    for pre in 0..2 {
-        assert!(rt; listings_are_right(alloc, pre, &[], &all)?);
-        assert!(rt; listings_are_right(alloc, pre, &[5], &[6])?);
-        assert!(rt; listings_are_right(alloc, pre, &[7, 5, 3, 1], &[2, 3, 6, 7])?);
-        assert!(rt; listings_are_right(alloc, pre, &[1, 4, 5, 7], &[5, 4, 2, 1, 5])?);
-        assert!(rt; listings_are_right(alloc, pre, &all, &[0, 7])?);
-        assert!(rt; listings_are_right(alloc, pre, &[2, 3], &[2, 3])?);
+    let rows: [(&[u32], &[u32]); 6] = [
+        (&[], &all),
+        (&[5], &[6]),
+        (&[7, 5, 3, 1], &[2, 3, 6, 7]),
+        (&[1, 4, 5, 7], &[5, 4, 2, 1, 5]),
+        (&all, &[0, 7]),
+        (&[2, 3], &[2, 3]),
+    ];
+    for (first, second) in rows {
+        assert!(rt; listings_are_right(rt.alloc(), 0, first, second)?);
+        assert!(rt; listings_are_right(rt.alloc(), 1, first, second)?);
     }
     Ok(())
 }

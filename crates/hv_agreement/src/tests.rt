@@ -1,19 +1,22 @@
-ghost use Rattle.std.specs.Prelude.{◌≡◌, ◌<◌, ◌≤◌, ◌∷◌, [], false, None, IfOk, IfSome, OnOk};
+//! What formulas keep of their clauses, and chains of clauses that are longer than a word.
+
+ghost use Rattle.std.specs.Prelude.{◌≡◌, ◌<◌, ◌≤◌, ◌+◌, ◌∷◌, [], false, None, IfOk, IfSome, OnOk};
 ghost use Rattle.std.specs.Prelude.{length};
 ghost use Rattle.hv_task.specs.Strips.{atoms};
 ghost use Rattle.hv_sets.specs.Cubes.{SpeakBelow};
 ghost use Rattle.hv_sets.specs.Query.{HasAnchor, IsReady};
+ghost use Rattle.hv_sets.specs.Room.{HasRoom};
 ghost use Rattle.hv_sets.specs.declared.operand.Which.TheVariants as W;
 ghost use Rattle.hv_clauses.specs.Clausal.{AreClauses, sizes_of};
 ghost use Rattle.hv_clauses.specs.Store.{AreOver, formula_at};
 
 use hv_clauses::{ClauseKind, Formula, Formulas};
-use hv_horn::{Horn, HornKind};
+use hv_horn::{Horn, HornFault, HornKind};
 use hv_sets::{
     Clause, Clauses, Family, Finding, Literal, Operand, Operands, Query, Scratch, Which,
 };
 use hv_task::{Name, State, Task};
-use hv_twocnf::{TwoCnf, TwoKind};
+use hv_twocnf::{TwoCnf, TwoCnfFault, TwoKind};
 use std::alloc::{AllocError, Global};
 use std::test::Fail;
 
@@ -59,40 +62,54 @@ fn clauses_of(alloc: Global, rows: &[&[u32]]) -> Result<Clauses, AllocError>
     Ok(clauses)
 }
 
+fn denies(set: &Horn, atom: u32, wanted: &[usize]) -> bool {
+    set.occurrences(atom) == wanted
+}
+
 fn implies(set: &TwoCnf, number: u32, wanted: &[u32]) -> bool
     requires { set.now.atoms ≡ 4 }
 {
     set.implied(literal_at(number)) == wanted
 }
 
+fn horn_of(alloc: Global, rows: &[&[u32]]) -> Result<Horn, HornFault>
+    ensures { IfOk result (λ set. set.atoms ≡ 4) }
+{
+    let task = task_of(alloc, 4)?;
+    let set = Horn::new(alloc, &task, &clauses_of(alloc, rows)?)?;
+    Ok(set)
+}
+
+fn two_of(alloc: Global, rows: &[&[u32]]) -> Result<TwoCnf, TwoCnfFault>
+    ensures { IfOk result (λ set. set.atoms ≡ 4) }
+{
+    let task = task_of(alloc, 4)?;
+    let set = TwoCnf::new(alloc, &task, &clauses_of(alloc, rows)?)?;
+    Ok(set)
+}
+
 // No atom is denied twice in one clause, nor is one listed that stands there positively alone.
 #[test]
 fn the_clauses_that_deny_an_atom_are_listed(rt: HostRuntime) -> Result<(), Fail> {
-    let alloc = rt.alloc();
-    let task = task_of(alloc, 4)?;
-    let clauses = clauses_of(alloc, &[&[0, 3, 3], &[1, 1], &[], &[0, 1], &[3, 5, 0]])?;
-    let set = Horn::new(alloc, &task, &clauses)?;
-    assert_eq!(rt; set.occurrences(0), [1, 3].as_slice());
-    assert_eq!(rt; set.occurrences(1), [0, 4].as_slice());
-    assert_eq!(rt; set.occurrences(2), [4].as_slice());
-    assert_eq!(rt; set.occurrences(3), [].as_slice());
+    let set = horn_of(rt.alloc(), &[&[0, 3, 3], &[1, 1], &[], &[0, 1], &[3, 5, 0]])?;
+    let wanted: [&[usize]; 4] = [&[1, 3], &[0, 4], &[4], &[]];
+    let mut right = true;
+    for atom in 0..4 {
+        right &= denies(&set, atom, wanted[atom as usize]);
+    }
+    assert!(rt; right);
     Ok(())
 }
 
 #[test]
 fn what_a_literal_implies_is_listed(rt: HostRuntime) -> Result<(), Fail> {
-    let alloc = rt.alloc();
-    let task = task_of(alloc, 4)?;
-    let clauses = clauses_of(alloc, &[&[0, 2], &[1], &[4, 4], &[0, 1], &[3, 4], &[]])?;
-    let set = TwoCnf::new(alloc, &task, &clauses)?;
-    assert!(rt; implies(&set, 0, &[0, 1]));
-    assert!(rt; implies(&set, 1, &[1, 2]));
-    assert!(rt; implies(&set, 2, &[4]));
-    assert!(rt; implies(&set, 3, &[0]));
-    assert!(rt; implies(&set, 4, &[]));
-    assert!(rt; implies(&set, 5, &[3, 4]));
-    assert!(rt; implies(&set, 6, &[]));
-    assert!(rt; implies(&set, 7, &[]));
+    let set = two_of(rt.alloc(), &[&[0, 2], &[1], &[4, 4], &[0, 1], &[3, 4], &[]])?;
+    let wanted: [&[u32]; 8] = [&[0, 1], &[1, 2], &[4], &[0], &[], &[3, 4], &[], &[]];
+    let mut right = true;
+    for number in 0..8 {
+        right &= implies(&set, number, wanted[number as usize]);
+    }
+    assert!(rt; right);
     Ok(())
 }
 
@@ -200,46 +217,6 @@ fn operand(number: usize) -> Operand
     }
 }
 
-// Asks through the bound.
-fn ask<F: Family>(
-    sets: &F,
-    alloc: Global,
-    task: &Task,
-    query: &Query,
-    scratch: &mut Scratch,
-) -> Result<Finding, AllocError>
-    requires ready { IsReady (F.count sets.now) query.now }
-    requires anchor { F.wants_anchor sets.now → HasAnchor query.now }
-    requires task { F.is_over sets.now (atoms task.now) }
-    requires action { IfSome query.now.action (λ action. action < length task.now.actions) }
-{
-    sets.find(alloc, task, query, 1, scratch)
-}
-
-// Asks with the room that it wants.
-fn ask_in<K: ClauseKind>(
-    sets: &Formulas<K>,
-    task: &Task,
-    query: &Query,
-    scratch: &mut Scratch,
-) -> Result<Finding, AllocError>
-    requires atoms { atoms task.now ≡ 130 }
-    requires len { length sets.now ≡ 2 }
-    requires over { AreOver sets.now 130 }
-    requires ready { IsReady 2 query.now }
-    requires action { query.now.action ≡ None }
-    requires one { query.now.positive ≡ record { which = W.Set 0; id = 0; after = false } ∷ [] }
-    requires alone { query.now.negative ≡ record { which = W.Set 1; id = 1; after = false } ∷ [] }
-{
-    let chain = room_of(sets, 0);
-    let end = room_of(sets, 1);
-    if chain > 1000 || end > 1000 {
-        return Err(AllocError);
-    }
-    scratch.reserve(task.atoms(), 2, chain + end)?;
-    Ok(sets.find_in(task, query, 1, scratch))
-}
-
 // How many clauses a set has.
 fn room_of<K: ClauseKind>(sets: &Formulas<K>, number: usize) -> usize
     requires { number < length sets.now }
@@ -248,40 +225,107 @@ fn room_of<K: ClauseKind>(sets: &Formulas<K>, number: usize) -> usize
     sets.get(number).clauses().len()
 }
 
-// Whether it is the wanted answer. A state that is found has the atoms up to the missing link, and
-// no others.
-fn fits(found: Finding, state: &State, missing: u32) -> bool {
-    if missing >= ATOMS {
-        return found == Finding::Empty;
-    }
+// Whether the state has the atoms up to the missing link, and no others.
+fn has_front(state: &State, missing: u32) -> bool {
+    let mut right = state.atoms() == ATOMS;
     for atom in 0..state.atoms() {
-        if state.has(atom) != (atom <= missing) {
-            return false;
-        }
+        right &= state.has(atom) == (atom <= missing);
     }
-    found == Finding::Clash && state.atoms() == ATOMS
+    right
+}
+
+// Whether it is the wanted answer, and with it the state that is found.
+fn fits(found: Finding, state: &State, missing: u32) -> bool {
+    match found {
+        Finding::Empty => missing >= ATOMS,
+        Finding::Clash => missing < ATOMS && has_front(state, missing),
+        Finding::Over => false,
+    }
+}
+
+// Asks through the bound.
+fn ask<F: Family>(
+    sets: &F,
+    alloc: Global,
+    task: &Task,
+    query: &Query,
+    missing: u32,
+) -> Result<bool, AllocError>
+    requires ready { IsReady (F.count sets.now) query.now }
+    requires anchor { F.wants_anchor sets.now → HasAnchor query.now }
+    requires task { F.is_over sets.now (atoms task.now) }
+    requires action { IfSome query.now.action (λ action. action < length task.now.actions) }
+{
+    let mut scratch = Scratch::new(alloc)?;
+    let found = sets.find(alloc, task, query, 1, &mut scratch)?;
+    Ok(fits(found, scratch.state(), missing))
+}
+
+// Makes the room that the query wants.
+fn make_room<K: ClauseKind>(sets: &Formulas<K>, scratch: &mut Scratch) -> Result<(), AllocError>
+    requires { length sets.now ≡ 2 }
+    ensures { OnOk result (HasRoom 130 2
+        (sizes_of (formula_at sets.now) 0 + sizes_of (formula_at sets.now) 1) scratch.new) }
+{
+    let chain = room_of(sets, 0);
+    let end = room_of(sets, 1);
+    if chain > 1000 || end > 1000 {
+        return Err(AllocError);
+    }
+    scratch.reserve(ATOMS, 2, chain + end)
+}
+
+// Asks with the room that it wants.
+fn ask_in<K: ClauseKind>(
+    sets: &Formulas<K>,
+    alloc: Global,
+    task: &Task,
+    query: &Query,
+    missing: u32,
+) -> Result<bool, AllocError>
+    requires atoms { atoms task.now ≡ 130 }
+    requires len { length sets.now ≡ 2 }
+    requires over { AreOver sets.now 130 }
+    requires ready { IsReady 2 query.now }
+    requires action { query.now.action ≡ None }
+    requires one { query.now.positive ≡ record { which = W.Set 0; id = 0; after = false } ∷ [] }
+    requires alone { query.now.negative ≡ record { which = W.Set 1; id = 1; after = false } ∷ [] }
+{
+    let mut scratch = Scratch::new(alloc)?;
+    make_room(sets, &mut scratch)?;
+    let found = sets.find_in(task, query, 1, &mut scratch);
+    Ok(fits(found, scratch.state(), missing))
+}
+
+// Asks in both ways.
+fn both_are_right<K: ClauseKind>(
+    sets: &Formulas<K>,
+    alloc: Global,
+    task: &Task,
+    missing: u32,
+) -> Result<bool, AllocError>
+    requires atoms { atoms task.now ≡ 130 }
+    requires len { length sets.now ≡ 2 }
+    requires over { AreOver sets.now 130 }
+{
+    let query = query_of(alloc)?;
+    let alone = ask(sets, alloc, task, &query, missing)?;
+    let with_room = ask_in(sets, alloc, task, &query, missing)?;
+    Ok(alone & with_room)
 }
 
 fn is_answered<K: ClauseKind>(alloc: Global, missing: u32) -> Result<bool, K::Fault> {
     let task = task_of(alloc, ATOMS)?;
     let sets = store_of::<K>(alloc, &task, missing)?;
-    let query = query_of(alloc)?;
-    let mut scratch = Scratch::new(alloc)?;
-    let found = ask(&sets, alloc, &task, &query, &mut scratch)?;
-    if !fits(found, scratch.state(), missing) {
-        return Ok(false);
-    }
-    let mut scratch = Scratch::new(alloc)?;
-    let found = ask_in(&sets, &task, &query, &mut scratch)?;
-    Ok(fits(found, scratch.state(), missing))
+    Ok(both_are_right(&sets, alloc, &task, missing)?)
 }
 
 // The end of a chain follows from its start, but where a link is missing.
 #[test]
 fn chains_of_atoms_are_followed(rt: HostRuntime) -> Result<(), Fail> {
-    assert!(rt; is_answered::<HornKind>(rt.alloc(), ATOMS)?);
-    assert!(rt; is_answered::<HornKind>(rt.alloc(), 63)?);
-    assert!(rt; is_answered::<TwoKind>(rt.alloc(), ATOMS)?);
-    assert!(rt; is_answered::<TwoKind>(rt.alloc(), 63)?);
+    for missing in [ATOMS, 63] {
+        assert!(rt; is_answered::<HornKind>(rt.alloc(), missing)?);
+        assert!(rt; is_answered::<TwoKind>(rt.alloc(), missing)?);
+    }
     Ok(())
 }

@@ -4,7 +4,7 @@
 //! for each literal: the place of a literal is twice its atom, and one more if it is negative. With
 //! 64 each of them stands there twice. Several states are a mask, with a bit for the code of each.
 
-ghost use Rattle.std.specs.Prelude.{◌≡◌, ◌<◌, IfOk, OnOk, length};
+ghost use Rattle.std.specs.Prelude.{◌≡◌, ◌<◌, ◌+◌, [], IfOk, OnOk, length};
 ghost use Rattle.hv_task.specs.State.{AreBelow};
 ghost use Rattle.hv_task.specs.Strips.{atoms};
 ghost use Rattle.hv_sets.specs.Cubes.{SpeakBelow};
@@ -51,13 +51,20 @@ fn put_atom(list: &mut AtomList, code: u32, atom: u32) -> Result<(), AllocError>
     Ok(())
 }
 
+fn put_all(list: &mut AtomList, code: u32) -> Result<(), AllocError>
+    requires { AreBelow 3 list.old }
+    ensures { OnOk result (AreBelow 3 list.new) }
+{
+    put_atom(list, code, 0)?;
+    put_atom(list, code, 1)?;
+    put_atom(list, code, 2)
+}
+
 fn atoms_of(alloc: Global, code: u32) -> Result<AtomList, AllocError>
     ensures { IfOk result (λ list. AreBelow 3 list) }
 {
     let mut list = AtomList::new(alloc);
-    put_atom(&mut list, code, 0)?;
-    put_atom(&mut list, code, 1)?;
-    put_atom(&mut list, code, 2)?;
+    put_all(&mut list, code)?;
     Ok(list)
 }
 
@@ -96,35 +103,86 @@ pub(crate) fn fits(found: Finding, state: &State, mask: u32, is_over: bool) -> b
     }
 }
 
+fn add_atom(alloc: Global, task: &mut Task, name: &[u8]) -> Result<(), AllocError>
+    requires { atoms task.old < 100 }
+    ensures atoms { OnOk result (atoms task.new ≡ atoms task.old + 1) }
+    ensures actions { OnOk result (task.new.actions ≡ task.old.actions) }
+{
+    let name = Name::new(alloc, name)?;
+    task.add_atom(name)?;
+    Ok(())
+}
+
+fn add_atoms(alloc: Global, task: &mut Task) -> Result<(), AllocError>
+    requires { atoms task.old ≡ 0 }
+    ensures atoms { OnOk result (atoms task.new ≡ 3) }
+    ensures actions { OnOk result (task.new.actions ≡ task.old.actions) }
+{
+    add_atom(alloc, task, b"p")?;
+    add_atom(alloc, task, b"q")?;
+    add_atom(alloc, task, b"r")
+}
+
+fn set_ends(alloc: Global, task: &mut Task) -> Result<(), AllocError>
+    requires { atoms task.old ≡ 3 }
+    ensures atoms { OnOk result (atoms task.new ≡ 3) }
+    ensures actions { OnOk result (task.new.actions ≡ task.old.actions) }
+{
+    task.set_start(atoms_of(alloc, START)?);
+    task.set_goal(atoms_of(alloc, GOAL)?);
+    Ok(())
+}
+
+// An action that asks for these atoms, and does nothing.
+fn action_of(alloc: Global, pre: u32) -> Result<Action, AllocError>
+    ensures pre { IfOk result (λ action. AreBelow 3 action.pre) }
+    ensures add { IfOk result (λ action. AreBelow 3 action.add) }
+    ensures del { IfOk result (λ action. AreBelow 3 action.del) }
+{
+    Ok(Action {
+        name: Name::new(alloc, b"go")?,
+        cost: 1,
+        pre: atoms_of(alloc, pre)?,
+        add: AtomList::new(alloc),
+        del: AtomList::new(alloc),
+    })
+}
+
 // The action asks for these atoms; it deletes and adds atom 1, and deletes atom 0.
+fn add_go(alloc: Global, task: &mut Task, pre: u32) -> Result<(), AllocError>
+    requires atoms { atoms task.old ≡ 3 }
+    requires none { task.old.actions ≡ [] }
+    ensures atoms { OnOk result (atoms task.new ≡ 3) }
+    ensures actions { OnOk result (length task.new.actions ≡ 1) }
+{
+    let mut action = action_of(alloc, pre)?;
+    put_all(&mut action.add, ADD)?;
+    put_all(&mut action.del, DEL)?;
+    task.add_action(action)?;
+    Ok(())
+}
+
 pub(crate) fn task_of(alloc: Global, pre: u32) -> Result<Task, AllocError>
     ensures atoms { IfOk result (λ task. atoms task ≡ 3) }
     ensures actions { IfOk result (λ task. length task.actions ≡ 1) }
 {
     let mut task = Task::new(alloc);
-    task.add_atom(Name::new(alloc, b"p")?)?;
-    task.add_atom(Name::new(alloc, b"q")?)?;
-    task.add_atom(Name::new(alloc, b"r")?)?;
-    task.set_start(atoms_of(alloc, START)?);
-    task.set_goal(atoms_of(alloc, GOAL)?);
-    let action = Action {
-        name: Name::new(alloc, b"go")?,
-        cost: 1,
-        pre: atoms_of(alloc, pre)?,
-        add: atoms_of(alloc, ADD)?,
-        del: atoms_of(alloc, DEL)?,
-    };
-    task.add_action(action)?;
+    add_atoms(alloc, &mut task)?;
+    set_ends(alloc, &mut task)?;
+    add_go(alloc, &mut task, pre)?;
     Ok(task)
+}
+
+// The state of this code alone, where it is one of them.
+pub(crate) fn bit_if(code: u32, holds: bool) -> u32 {
+    if holds { 1 << (code % 8) } else { 0 }
 }
 
 // The states in which all these atoms are.
 pub(crate) fn holding(atoms: u32) -> u32 {
     let mut mask = 0;
     for code in 0..8 {
-        if code & atoms == atoms {
-            mask |= 1 << code;
-        }
+        mask |= bit_if(code, code & atoms == atoms);
     }
     mask
 }
@@ -133,9 +191,7 @@ pub(crate) fn holding(atoms: u32) -> u32 {
 pub(crate) fn leading_to(mask: u32) -> u32 {
     let mut before = 0;
     for code in 0..8 {
-        if has_bit(mask, ((code & 4) | ADD) % 8) {
-            before |= 1 << code;
-        }
+        before |= bit_if(code, has_bit(mask, ((code & 4) | ADD) % 8));
     }
     before
 }
@@ -212,17 +268,35 @@ pub(crate) fn explicit_of(alloc: Global, task: &Task, codes: &[u32]) -> Result<E
     Ok(set)
 }
 
+// Whether the literal at this place of the clause is true in the state.
+fn is_literal_true(clause: u32, place: u32, code: u32) -> bool
+    requires { place < 6 }
+{
+    has_bit(clause, place) & (has_bit(code, place / 2) == (place % 2 == 0))
+}
+
 fn is_clause_true(clause: u32, code: u32) -> bool {
-    (0..6).any(|place| has_bit(clause, place) && has_bit(code, place / 2) == (place % 2 == 0))
+    let mut holds = false;
+    for place in 0..6 {
+        holds |= is_literal_true(clause, place, code);
+    }
+    holds
+}
+
+// The states in which the clause is false.
+pub(crate) fn states_denied(clause: u32) -> u32 {
+    let mut mask = 0;
+    for code in 0..8 {
+        mask |= bit_if(code, !is_clause_true(clause, code));
+    }
+    mask
 }
 
 // The states in which each clause is true.
 pub(crate) fn states_of_clauses(clauses: &[u32]) -> u32 {
-    let mut mask = 0;
-    for code in 0..8 {
-        if clauses.iter().all(|clause| is_clause_true(*clause, code)) {
-            mask |= 1 << code;
-        }
+    let mut mask = ALL;
+    for clause in clauses {
+        mask &= !states_denied(*clause);
     }
     mask
 }
@@ -230,10 +304,8 @@ pub(crate) fn states_of_clauses(clauses: &[u32]) -> u32 {
 // The listed states.
 pub(crate) fn states_of_list(codes: &[u32]) -> u32 {
     let mut mask = 0;
-    for code in 0..8 {
-        if codes.contains(&code) {
-            mask |= 1 << code;
-        }
+    for code in codes {
+        mask |= bit_if(*code, true);
     }
     mask
 }

@@ -9,7 +9,7 @@ use Rattle.hv_task_text.specs.declared.fault.TaskFault.{TaskFault}
 use Rattle.hv_task_text.specs.declared.fault.TaskFault.TheVariants as F
 use Rattle.hv_lines.specs.Judged.{Accepts, Concludes, Judged, JudgedBytes, Judgement, LineText, NoConclusion, Refused, Unsolvable, outline_of}
 use Rattle.hv_lines.specs.declared.reason.Reason.{Reason}
-use Rattle.hv_checker.specs.Stands.{CheckerState, IsEnd, Refusal, Stands, StandsAt, refusal_at, refusal_of}
+use Rattle.hv_checker.specs.Stands.{CheckerState, SaysEnd, Refusal, Stands, StandsAt, refusal_at, refusal_of}
 use Rattle.hv_checker.specs.declared.stop.Stop.{Stop}
 use Rattle.hv_checker.specs.declared.stop.Stop.TheVariants as C
 use Rattle.hv_checker.specs.declared.piece.End.{End}
@@ -30,8 +30,10 @@ use Rattle.hv_replay.specs.LogText.{IsReadFrom as IsLogRead}
 use Rattle.hv_replay.specs.declared.fault.LogFault.{LogFault}
 use Rattle.hv_replay.specs.declared.fault.LogFault.TheVariants as L
 use Rattle.hv_command.specs.Answer.{AfterLog, AfterTask, Answer, AnswersPieces, AnswersProof, AnswersTask, AnswersTold, Covered, IsTold}
-use Rattle.hv_command.specs.Replies.{IsLogFault, IsNodesFault, IsTextFault, judgement_status, log_fault_text, nodes_fault_text, refused_text, task_fault_text, unsolvable_text}
-use Rattle.hv_command.specs.Sample.{IsHornProof, sample_text}
+use Rattle.hv_command.specs.Replies.{judgement_status, log_fault_text, nodes_fault_text, refused_text, task_fault_text, unsolvable_text}
+use Rattle.hv_command.specs.Working.Replies.{IsLogFault, IsNodesFault, IsTextFault}
+use Rattle.hv_command.specs.Sample.{sample_text}
+use Rattle.hv_command.specs.Working.Sample.{IsHornProof}
 use Rattle.hv_command.proofs.Sampled.{horn_size}
 use Rattle.hv_command.specs.declared.job.Job.{Job}
 use Rattle.hv_command.specs.declared.job.Job.TheVariants as J
@@ -43,12 +45,12 @@ use Rattle.hv_command.specs.declared.status.Status.TheVariants as S
 
 -- the answer to a refused proof
 pub refused_reply : (report : Report) (checker : CheckerState) (line : ℕ) (reason : Reason) (end : End) (status : Status) (text : List ℕ)
-    → end ≡ E.Refused line → ((pieces : List LineText) → Stands checker pieces → IsEnd checker pieces end)
+    → end ≡ E.Refused line → ((pieces : List LineText) → Stands checker pieces → SaysEnd checker pieces end)
     → option_map (λ (r : Refusal). r.reason) (refusal_of checker) ≡ Some reason → status ≡ S.Refused
     → text ≡ refused_text line reason → (pieces : List LineText) → Stands checker pieces
     → AnswersPieces report checker.setting pieces status text
 refused_reply report checker line reason end status text is judged told status_is text_is pieces stands =
-    let h = subst (λ e. IsEnd checker pieces e) is (judged pieces stands) in
+    let h = subst (λ e. SaysEnd checker pieces e) is (judged pieces stands) in
     let one : Some h.0 ≡ Some reason = sym (ap (option_map (λ (r : Refusal). r.reason)) h.1) ∙ told in
     let same : h.0 ≡ reason = cc in
     (Refused line h.0, h.2, status_is, text_is ∙ ap (refused_text line) (sym same))

@@ -2,8 +2,9 @@
 use Rattle.std.proofs.Common.{◌≡◌, ℕ, ◌≤◌, ◌∙◌, List, [], ◌∷◌, ◌++◌, Option, Some, None, IfSome, append_assoc, ap, length, refl, subst, sym}
 use Rattle.std.proofs.lemmas.List.{map-append}
 use Rattle.std.specs.Io.KnownBytes.{IsAtEnd}
-use Rattle.hv_bytes.specs.FirstLine.{BeginsLong, FitsLimits, Passes, TakesLine}
-use Rattle.hv_bytes.specs.Pieces.{GaveLines, Piece, as_pieces, pieces_of}
+use Rattle.hv_bytes.specs.FirstLine.{BeginsLong, FitsLimits, MovesBytes, TakesLine}
+use Rattle.hv_bytes.specs.Pieces.{Piece, as_pieces, pieces_of}
+use Rattle.hv_bytes.specs.Working.Pieces.{GaveLines}
 use Rattle.hv_bytes.specs.Standard.{standard}
 use Rattle.hv_bytes.proofs.WholeText.{gave_all, gave_front, gave_long, gave_more}
 use Rattle.hv_lines.specs.declared.reason.Reason.{Reason}
@@ -30,7 +31,7 @@ pub record IsFed (file coming : Option (List ℕ)) (earlier : ℕ) (checker : Ch
 
 -- a line is given and fed
 pub fed_line : (file old new : Option (List ℕ)) (line : List ℕ) (before after number : ℕ) (was is : CheckerState)
-    → IsFeeding file old before number was → TakesLine old new line → Passes old new before after
+    → IsFeeding file old before number was → TakesLine old new line → MovesBytes old new before after
     → FitsLimits standard.line standard.file before (length line)
     → ((pieces : List Piece) → Stands was pieces → Stands is (pieces ++ Some line ∷ [])) → IsFed file new after is
 fed_line file old new line before after number was is so_far takes passes fits stands = record {

@@ -7,7 +7,7 @@ use Rattle.std.proofs.lemmas.Fmt.{digits_value-decimal}
 use Rattle.std.proofs.lemmas.Slice.Eq.{bytes_eq-Decides}
 use Rattle.std.proofs.lemmas.Str.Parse.{IsNumeralModel, numerals_by_value, tells_digits}
 use Rattle.hv_bytes.specs.Decimals.{IsDecimal}
-use Rattle.hv_command.specs.Words.{IsWithin, as_number, number_of}
+use Rattle.hv_command.specs.Words.{IsBetween, as_number, number_of}
 
 abbrev own : IsNumeralModel (AllDigits 10) (digits_value 10)
 own = numerals_by_value (AllDigits 10) tells_digits
@@ -18,7 +18,7 @@ value word number is = ap (digits_value 10) is.spelled ∙ digits_value-decimal 
 
 module _ (least most : ℕ) (word : List ℕ) where
   -- a number within the bounds that the word spells is the one that it names
-  pub names_number : (number : ℕ) → IsDecimal word number → IsWithin least most number → Some number ≡ number_of least most word
+  pub names_number : (number : ℕ) → IsDecimal word number → IsBetween least most number → Some number ≡ number_of least most word
   names_number number is good =
       let spelled : bytes_eq word (decimal number) ≡ true = (bytes_eq-Decides word (decimal number)).1 is.spelled in
       let some : nat_le least number ≡ true = le-leb least number good.0 in
@@ -27,14 +27,14 @@ module _ (least most : ℕ) (word : List ℕ) where
       subst (λ n. Some number ≡ as_number least most word n) (sym (value word number is)) (sym one)
 
   neither : (number : ℕ) (spelled some small : Bool) → nat_le least number ≡ some → nat_le number most ≡ small
-      → (IsWithin least most number → ⊥) → cond (spelled && (some && small)) (Some number) None ≡ None
+      → (IsBetween least most number → ⊥) → cond (spelled && (some && small)) (Some number) None ≡ None
   neither number true true true e f bad = absurd (bad (leb-true least number e, leb-true number most f))
   neither number true true false e f bad = refl
   neither number true false small e f bad = refl
   neither number false some small e f bad = refl
 
   -- a number without them isn't named
-  pub names_none : (number : ℕ) → IsDecimal word number → (IsWithin least most number → ⊥) → None ≡ number_of least most word
+  pub names_none : (number : ℕ) → IsDecimal word number → (IsBetween least most number → ⊥) → None ≡ number_of least most word
   names_none number is bad =
       subst (λ n. None ≡ as_number least most word n) (sym (value word number is))
       (sym (neither number (bytes_eq word (decimal number)) (nat_le least number) (nat_le number most) refl refl bad))

@@ -23,7 +23,8 @@ use Rattle.hv_reach.specs.Reached.{AreIn, ClosedAtoms, ClosedPairs, HasPairsOf, 
 use Rattle.hv_reach.specs.Written.{IsPairsProof, IsRelaxedProof, PairsExclude, RelaxedExcludes, atom_clauses, horn_proof, pair_clauses, pairs_formula, relaxed_formula, row_clauses}
 use Rattle.hv_reach.proofs.Lists.{and_both, and_left, and_right}
 use Rattle.hv_reach.proofs.Sets.{has_within}
-use Rattle.hv_command.specs.Sample.{IsHornProof, count_line, move_from, proof_line, room_name, sample_task, unreached_pairs}
+use Rattle.hv_command.specs.Sample.{count_line, move_from, proof_line, room_name, sample_task, unreached_pairs}
+use Rattle.hv_command.specs.Working.Sample.{IsHornProof}
 use Rattle.hv_command.specs.Replies.{unsolvable_text}
 use Rattle.hv_command.specs.Words.{IsRooms}
 

@@ -11,7 +11,7 @@ use Rattle.hv_task.specs.State.{AreBelow}
 use Rattle.hv_task.specs.Strips.{Strips, IsOver, IsTask}
 use Rattle.hv_task_text.specs.Beginning.{AreActions}
 use Rattle.hv_task_text.specs.TaskText.{AreTextOf}
-use Rattle.hv_task_text.specs.Written.{Entry, Head, action_of, set_of, task_of}
+use Rattle.hv_task_text.specs.Written.{Entry, Head, written_action, set_of, task_of}
 
 range_below : (n : ℕ) → All (λ a. a < n) (range_with_len 0 n)
 range_below n k d below =
@@ -33,7 +33,7 @@ set_rises : (n : ℕ) (listed : List ℕ) → IsStrictlyIncreasing (set_of n lis
 set_rises n listed =
     IsStrictlyIncreasing-filter (λ atom. list_any (λ m. m == atom) listed) (range_with_len 0 n) (range_rises n)
 
-action_over : (n : ℕ) (entry : Entry) → IsOver n (action_of n entry)
+action_over : (n : ℕ) (entry : Entry) → IsOver n (written_action n entry)
 action_over n entry = record { pre = set_below n _; add = set_below n _; del = set_below n _ }
 
 legal_task : (head : Head) (actions : List Entry) → AreActions (length actions) head actions → IsTask (task_of head actions)
@@ -42,10 +42,10 @@ legal_task head actions legal = record {
   start_rises = set_rises (length head.names) head.start;
   goal = set_below (length head.names) head.goal;
   goal_rises = set_rises (length head.names) head.goal;
-  actions = All-map (IsOver (length head.names)) (action_of (length head.names)) actions
+  actions = All-map (IsOver (length head.names)) (written_action (length head.names)) actions
       (λ k d below. action_over (length head.names) (get_or actions k d));
   few_atoms = legal.is_head.names.few;
-  few_actions = (let size = length-map actions (action_of (length head.names)) in omega (arith, legal.few, size));
+  few_actions = (let size = length-map actions (written_action (length head.names)) in omega (arith, legal.few, size));
 }
 
 -- a text stands for a task

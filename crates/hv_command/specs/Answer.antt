@@ -1,5 +1,6 @@
 -- What the program answers to a job, by the bytes of the files that it reads.
-use Rattle.std.specs.Prelude.{◌≡◌, ◌<◌, ◌≤◌, ◌⊎◌, ◌++◌, ℕ, List, Option, Some, None, length, reverse}
+use Rattle.std.specs.Prelude.{◌≡◌, ◌<◌, ◌≤◌, ◌⊎◌, ◌++◌, ℕ, List, Option, Some, None, length}
+use Rattle.std.specs.Prelude.{reverse}
 use Rattle.hv_bytes.specs.Files.{Names, bytes_of}
 use Rattle.hv_bytes.specs.Pieces.{pieces_of}
 use Rattle.hv_bytes.specs.Standard.{most_file_bytes, standard}
@@ -8,7 +9,8 @@ use Rattle.hv_task.specs.Strips.{Strips, atoms, start_state}
 use Rattle.hv_task_text.specs.TaskText.{TaskText, IsFirstFault}
 use Rattle.hv_bdd.specs.NodeText.{AreTextOf, IsFirstFault as IsFirstNodesFault}
 use Rattle.hv_bdd.specs.Nodes.{NodeList, no_nodes}
-use Rattle.hv_lines.specs.Judged.{LineText, Accepts, Judged, JudgedBytes, Judgement, Unsolvable, Refused, NoConclusion}
+use Rattle.hv_lines.specs.Judged.{LineText, Accepts, Judged, JudgedBytes, Judgement, Unsolvable}
+use Rattle.hv_lines.specs.Judged.{Refused, NoConclusion}
 use Rattle.hv_lines.specs.Meaning.{AllTrue, StateSet}
 use Rattle.hv_lines.specs.Setting.{Setting, setting_of}
 use Rattle.hv_lines.specs.declared.line.Line.{Line}
@@ -18,12 +20,15 @@ use Rattle.hv_explain.specs.Explained.{IsExplanation}
 use Rattle.hv_reach.specs.Written.{IsPairsProof, IsRelaxedProof, PairsExclude, RelaxedExcludes}
 use Rattle.hv_replay.specs.Closed.{IsClosed, IsFirstHole}
 use Rattle.hv_replay.specs.Logs.{SearchLog}
-use Rattle.hv_replay.specs.LogText.{AreTextOf as AreTextOfLog, IsFirstFault as IsFirstLogFault, log_limits}
+use Rattle.hv_replay.specs.LogText.{AreTextOf as AreTextOfLog, IsFirstFault as IsFirstLogFault}
+use Rattle.hv_replay.specs.LogText.{log_limits}
 use Rattle.hv_replay.specs.Progress.{IsProof as IsLogProof}
 use Rattle.hv_replay.specs.declared.hole.ReplayFault.{ReplayFault}
 use Rattle.hv_trap.specs.Trap.{IsSatisfied}
 use Rattle.hv_trap.specs.Written.{IsTrapProof}
-use Rattle.hv_command.specs.Replies.{usage_text, hole_text, judgement_status, judgement_text, log_fault_text, no_proof_text, nodes_fault_text, task_fault_text, too_many_atoms_text}
+use Rattle.hv_command.specs.Replies.{usage_text, hole_text, judgement_status, judgement_text}
+use Rattle.hv_command.specs.Replies.{log_fault_text, no_proof_text, nodes_fault_text}
+use Rattle.hv_command.specs.Replies.{task_fault_text, too_many_atoms_text}
 use Rattle.hv_command.specs.Sample.{sample_text}
 use Rattle.hv_command.specs.Words.{HasName}
 use Rattle.hv_command.specs.declared.job.Job.{Job}
@@ -99,8 +104,8 @@ AnswersCheck report task_name proof_name nodes_name budget held status text =
     AfterTask (bytes_of held task_name)
     (λ task. AnswersTask report task proof_name nodes_name budget held) status text
 
--- what is reached from the initial state excludes the goal, or that state satisfies a conjunction of
--- the greatest trap
+-- what is reached from the initial state excludes the goal, or that state satisfies a conjunction
+-- of the greatest trap
 abbrev pub Excludes : Kind → Strips → Type 0
 Excludes K.Relaxed task = RelaxedExcludes task
 Excludes K.Pairs task = PairsExclude task
@@ -118,7 +123,8 @@ IsProofBy K.Relaxed task lines = IsRelaxedProof task lines
 IsProofBy K.Pairs task lines = IsPairsProof task lines
 IsProofBy K.Trap task lines = IsTrapProof task lines
 
--- what is written of a task that hasn't too many atoms: its proof, exactly where the goal is excluded
+-- what is written of a task that hasn't too many atoms: its proof, exactly where the goal is
+-- excluded
 abbrev pub IsWritten : Kind → Strips → Status → List ℕ → Type 0
 IsWritten kind task status text =
     (Excludes kind task × (status ≡ S.Done)
@@ -157,8 +163,8 @@ AnswersReplay covered task_name log_name held status text =
     AfterTask (bytes_of held task_name)
     (λ task. AfterLog task (bytes_of held log_name) (AnswersLog covered task)) status text
 
--- the answer to a job, by what is covered and by the bytes that are held under its names; words that
--- are no job get the usage line
+-- the answer to a job, by what is covered and by the bytes that are held under its names; words
+-- that are no job get the usage line
 abbrev pub Answer : Covered → Option Job → Names → Status → List ℕ → Type 0
 Answer covered None held status text = (status ≡ S.Usage) × (text ≡ usage_text)
 Answer covered (Some (J.Check task proof nodes budget)) held status text =
@@ -232,8 +238,8 @@ IsAcceptedProof task_name held text =
     (task : Strips) → TaskText standard (bytes_of held task_name) task
     → JudgedBytes (draft_setting task) standard text Unsolvable
 
--- a proof that is written is judged so; one that replays a log, where it has no more bytes than a file
--- may have; nothing is said of other jobs
+-- a proof that is written is judged so; one that replays a log, where it has no more bytes than a
+-- file may have; nothing is said of other jobs
 abbrev pub IsAccepted : Option Job → Names → Status → List ℕ → Type 0
 IsAccepted None held status text = Unit {0}
 IsAccepted (Some (J.Check task proof nodes budget)) held status text = Unit {0}

@@ -1,5 +1,5 @@
 pub mod Words
 pub mod Replies
-pub mod Reply
 pub mod Sample
 pub mod Answer
+pub mod Working

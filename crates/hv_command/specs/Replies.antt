@@ -1,5 +1,6 @@
 -- The texts that the program prints, and its exit statuses.
-use Rattle.std.specs.Prelude.{◌≡◌, ◌⊎◌, ◌↔◌, ℕ, Bool, List, [], ◌∷◌, ◌++◌, Option, Some, None, IsSome, codes, cond, decimal, flat_map, length}
+use Rattle.std.specs.Prelude.{◌≡◌, ◌⊎◌, ◌↔◌, ℕ, Bool, List, [], ◌∷◌, ◌++◌, Option, Some, None}
+use Rattle.std.specs.Prelude.{IsSome, codes, cond, decimal, flat_map, length}
 use Rattle.std.specs.List.{range_with_len}
 use Rattle.hv_task.specs.State.{has_atom}
 use Rattle.hv_lines.specs.Judged.{Judgement, Unsolvable, Refused, NoConclusion}
@@ -37,13 +38,6 @@ IsAnswered S.Refused = Unit {0}
 IsAnswered S.Usage = Unit {0}
 IsAnswered S.BadInput = Unit {0}
 IsAnswered _ = ⊥
-
--- the statuses of the answers to a job
-abbrev pub IsJobStatus : Status → Type 0
-IsJobStatus S.Done = Unit {0}
-IsJobStatus S.Refused = Unit {0}
-IsJobStatus S.BadInput = Unit {0}
-IsJobStatus _ = ⊥
 
 -- a text with its LF
 abbrev pub line_of : List ℕ → List ℕ
@@ -114,13 +108,6 @@ judgement_text Unsolvable = unsolvable_text
 judgement_text (Refused line reason) = refused_text line reason
 judgement_text NoConclusion = no_conclusion_text
 
--- a fault of the text itself, and not of the device or of memory
-abbrev pub IsTextFault : TaskFault → Type 0
-IsTextFault (F.Place line kind) = Unit {0}
-IsTextFault (F.Limit line limit) = Unit {0}
-IsTextFault F.ReadFault = ⊥
-IsTextFault F.Memory = ⊥
-
 -- the first fault of the task text
 abbrev pub task_fault_text : TaskFault → List ℕ
 task_fault_text (F.Place line kind) = line_of (codes "task line " ++ decimal line
@@ -130,13 +117,6 @@ task_fault_text (F.Limit line limit) = line_of (codes "task line " ++ decimal li
 task_fault_text F.ReadFault = []
 task_fault_text F.Memory = []
 
--- the same of a node file
-abbrev pub IsNodesFault : NodesFault → Type 0
-IsNodesFault (N.Place line kind) = Unit {0}
-IsNodesFault (N.Limit line limit) = Unit {0}
-IsNodesFault N.ReadFault = ⊥
-IsNodesFault N.Memory = ⊥
-
 -- the first fault of the node file
 abbrev pub nodes_fault_text : NodesFault → List ℕ
 nodes_fault_text (N.Place line kind) =
@@ -145,13 +125,6 @@ nodes_fault_text (N.Limit line limit) =
     line_of (codes "nodes line " ++ decimal line ++ codes ": limit " ++ node_limit_word limit)
 nodes_fault_text N.ReadFault = []
 nodes_fault_text N.Memory = []
-
--- the same of a log
-abbrev pub IsLogFault : LogFault → Type 0
-IsLogFault (L.Place line) = Unit {0}
-IsLogFault (L.Limit line limit) = Unit {0}
-IsLogFault L.ReadFault = ⊥
-IsLogFault L.Memory = ⊥
 
 -- the first fault of the log
 abbrev pub log_fault_text : LogFault → List ℕ

@@ -1,11 +1,9 @@
 -- The sample: a task made from a number of rooms, and what is told of its two proofs.
-use Rattle.std.specs.Prelude.{◌≡◌, ◌+◌, ◌-◌, ◌*◌, ◌/◌, ◌%◌, ℕ, List, [], ◌∷◌, ◌++◌, codes, decimal, map}
+use Rattle.std.specs.Prelude.{◌+◌, ◌-◌, ◌*◌, ◌/◌, ◌%◌, ℕ, List, [], ◌∷◌, ◌++◌, codes, decimal}
+use Rattle.std.specs.Prelude.{map}
 use Rattle.std.specs.List.{range_with_len}
 use Rattle.hv_task.specs.Strips.{Strips}
 use Rattle.hv_task.specs.declared.action.Action.{Action}
-use Rattle.hv_sets.specs.declared.literal.Literal.{Literal}
-use Rattle.hv_lines.specs.declared.line.Line.{Line}
-use Rattle.hv_reach.specs.Written.{horn_proof}
 use Rattle.hv_command.specs.Replies.{line_of, unsolvable_text}
 
 -- the name of the atom which says that one is in this room
@@ -22,8 +20,8 @@ move_from rooms room = record {
   del = room ∷ [];
 }
 
--- the task of so many rooms in a ring: one begins in the first of them, and is to have the key, which
--- no action gives
+-- the task of so many rooms in a ring: one begins in the first of them, and is to have the key,
+-- which no action gives
 abbrev pub sample_task : ℕ → Strips
 sample_task rooms = record {
   names = map room_name (range_with_len 0 rooms) ++ codes "key" ∷ [];
@@ -32,7 +30,8 @@ sample_task rooms = record {
   actions = map (move_from rooms) (range_with_len 0 rooms);
 }
 
--- how many pairs of atoms aren't reached: each two rooms, the key with each room, and the key itself
+-- how many pairs of atoms aren't reached: each two rooms, the key with each room, and the key
+-- itself
 abbrev pub unreached_pairs : ℕ → ℕ
 unreached_pairs rooms = rooms * (rooms - 1) / 2 + rooms + 1
 
@@ -56,7 +55,3 @@ sample_text rooms =
     ++ proof_line (codes "relaxed") 1 16
     ++ proof_line (codes "pairs") (unreached_pairs rooms) 16
     ++ line_of (codes "done")
-
--- the lines are those of a proof by a Horn formula
-abbrev pub IsHornProof : List Line → Type 0
-IsHornProof lines = (clauses : List (List Literal)) × (lines ≡ horn_proof clauses)

@@ -1,5 +1,6 @@
 -- The words of the program, and the job that they name.
-use Rattle.std.specs.Prelude.{◌≡◌, ◌<◌, ◌≤◌, ◌&&◌, ◌⊎◌, ℕ, List, [], ◌∷◌, Option, Some, None, cond, codes, decimal, nat_le, option_and_then, option_map}
+use Rattle.std.specs.Prelude.{◌≡◌, ◌<◌, ◌≤◌, ◌&&◌, ◌⊎◌, ℕ, List, [], ◌∷◌, Option, Some, None, cond}
+use Rattle.std.specs.Prelude.{codes, decimal, nat_le, option_and_then, option_map}
 use Rattle.std.specs.Str.{bytes_eq}
 use Rattle.std.specs.Str.Parse.{digits_value}
 use Rattle.hv_lines.specs.Drafts.{default_budget}
@@ -13,8 +14,8 @@ use Rattle.hv_command.specs.declared.job.Report.TheVariants as P
 use Rattle.hv_command.specs.declared.job.Job.TheVariants as J
 
 -- the number is within these bounds
-abbrev pub IsWithin : ℕ → ℕ → ℕ → Type 0
-IsWithin least most number = (least ≤ number) × (number ≤ most)
+abbrev pub IsBetween : ℕ → ℕ → ℕ → Type 0
+IsBetween least most number = (least ≤ number) × (number ≤ most)
 
 -- the number of a word, where the word spells it as a decimal and it is within these bounds
 abbrev pub as_number : ℕ → ℕ → List ℕ → ℕ → Option ℕ
@@ -78,7 +79,7 @@ most_rooms = 64
 
 -- how many rooms a sample may have
 abbrev pub IsRooms : ℕ → Type 0
-IsRooms rooms = IsWithin 3 most_rooms rooms
+IsRooms rooms = IsBetween 3 most_rooms rooms
 
 -- a sample of so many rooms, where there is such a number
 abbrev pub sample_with : Option ℕ → Option Job

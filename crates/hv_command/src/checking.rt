@@ -1,6 +1,7 @@
 //! The jobs `check` and `explain`: a task, then a proof of it.
 
-ghost use Rattle.std.specs.Prelude.{◌≡◌, ◌≢◌, ◌<◌, ◌≤◌, List, [], None, Some, IfOk, IfSome, IsErrOf, IsSome, IsTrue, MatchResult, option_map};
+ghost use Rattle.std.specs.Prelude.{◌≡◌, ◌≢◌, ◌<◌, ◌≤◌, List, [], None, Some, IfOk, IfSome};
+ghost use Rattle.std.specs.Prelude.{IsErrOf, IsSome, IsTrue, MatchResult, option_map};
 ghost use Rattle.hv_bytes.specs.Devices.{Rose};
 ghost use Rattle.hv_bytes.specs.Files.{bytes_of};
 ghost use Rattle.hv_task_text.specs.declared.fault.TaskFault.TheVariants as F;
@@ -10,9 +11,11 @@ ghost use Rattle.hv_task.specs.Strips.{atoms};
 ghost use Rattle.hv_lines.specs.Setting.{most_budget, setting_of};
 ghost use Rattle.hv_checker.specs.Stands.{Stands, refusal_of};
 ghost use Rattle.hv_checker.specs.declared.stop.Stop.TheVariants as C;
-ghost use Rattle.hv_command.specs.Answer.{AnswersCheck, AnswersPieces, AnswersProof, AnswersTask, IsTold};
-ghost use Rattle.hv_command.specs.Replies.{IsJobStatus, IsNodesFault, IsTextFault, nodes_fault_text, task_fault_text};
-ghost use Rattle.hv_command.specs.Reply.{IsReply};
+ghost use Rattle.hv_command.specs.Answer.{AnswersCheck, AnswersPieces, AnswersProof, AnswersTask};
+ghost use Rattle.hv_command.specs.Answer.{IsTold};
+ghost use Rattle.hv_command.specs.Working.Replies.{IsJobStatus, IsNodesFault, IsTextFault};
+ghost use Rattle.hv_command.specs.Replies.{nodes_fault_text, task_fault_text};
+ghost use Rattle.hv_command.specs.Working.Reply.{IsReply};
 ghost use Rattle.hv_command.specs.declared.status.Status.TheVariants as S;
 
 use crate::feeding::feed_file;
@@ -30,8 +33,8 @@ use hv_task::Task;
 use hv_task_text::read_task;
 use std::alloc::{AllocError, Global};
 
-/// The answer to `check TASK PROOF`, or to `explain TASK PROOF`, with a node file, or with none, and
-/// this budget.
+/// The answer to `check TASK PROOF`, or to `explain TASK PROOF`, with a node file, or with none,
+/// and this budget.
 pub(crate) fn check<S: Shelf>(
     alloc: Global,
     shelf: &mut S,
@@ -66,7 +69,7 @@ pub(crate) fn check<S: Shelf>(
     }
 }
 
-/// What is answered to a node file that isn't read.
+// What is answered to a node file that isn't read.
 fn nodes_fault_reply(alloc: Global, fault: NodesFault) -> Result<Reply, Stop>
     ensures { MatchResult result
         (λ r. IsReply r S.BadInput (nodes_fault_text fault) × IsNodesFault fault)
@@ -86,7 +89,7 @@ fn nodes_fault_reply(alloc: Global, fault: NodesFault) -> Result<Reply, Stop>
     }
 }
 
-/// The answer to the node file, if one is named, and then to the proof file, of a task.
+// The answer to the node file, if one is named, and then to the proof file, of a task.
 fn check_task<S: Shelf>(
     alloc: Global,
     shelf: &mut S,
@@ -121,7 +124,7 @@ fn check_task<S: Shelf>(
     }
 }
 
-/// The answer to the node file and then to the proof file, of a task.
+// The answer to the node file and then to the proof file, of a task.
 fn check_with_nodes<S: Shelf>(
     alloc: Global,
     shelf: &mut S,
@@ -181,7 +184,7 @@ pub(crate) fn check_proof<S: Shelf>(
     judge_file(alloc, shelf, report, proof, &mut checker)
 }
 
-/// The answer to the proof file, by a checker that was fed nothing.
+// The answer to the proof file, by a checker that was fed nothing.
 fn judge_file<S: Shelf>(
     alloc: Global,
     shelf: &mut S,
@@ -206,7 +209,7 @@ fn judge_file<S: Shelf>(
     Ok(answer)
 }
 
-/// What is said of the proof that the checker was fed.
+// What is said of the proof that the checker was fed.
 fn judgement_reply(
     alloc: Global,
     report: Report,
@@ -234,7 +237,7 @@ fn judgement_reply(
     }
 }
 
-/// What is said of a proof that shows that the task has no plan, which the checker was fed.
+// What is said of a proof that shows that the task has no plan, which the checker was fed.
 fn accepted_reply(alloc: Global, report: Report, checker: &Checker<'_>) -> Result<Reply, AllocError>
     requires accepted { refusal_of checker.now ≡ None }
     requires found { checker.now.stop ≢ C.Memory }
@@ -257,7 +260,7 @@ fn accepted_reply(alloc: Global, report: Report, checker: &Checker<'_>) -> Resul
     }
 }
 
-/// Why the checker refused a piece, which it did.
+// Why the checker refused a piece, which it did.
 fn reason_of<'c>(checker: &'c Checker<'_>) -> &'c Reason
     requires { IsSome (refusal_of checker.now) }
     ensures { option_map (λ r. r.reason) (refusal_of checker.now) ≡ Some result.now }

@@ -1,6 +1,12 @@
-ghost use Rattle.std.specs.Prelude.{◌≡◌, ◌≤◌, ◌<◌, ◌^◌, ◌↔◌, IfOk, IfSome, IsTrue, Some, map, option_map};
+//! The words of the program, read as a job.
+
+ghost use Rattle.std.specs.Prelude.{◌≡◌, ◌≤◌, ◌<◌, ◌^◌, ◌↔◌, IfOk, IfSome, IsTrue, Some, map};
+ghost use Rattle.std.specs.Prelude.{option_map};
 ghost use Rattle.std.specs.String.{string_bytes};
-ghost use Rattle.hv_command.specs.Words.{IsBounded, IsBudget, IsRooms, IsWithin, budget_of, check_of, check_with, checking, given_budget, job_of, kind_of, number_of, produce_of, produce_with, replay_of, sample_of, sample_with};
+ghost use Rattle.hv_command.specs.Words.{IsBounded, IsBudget, IsRooms, IsBetween, budget_of};
+ghost use Rattle.hv_command.specs.Words.{check_of, check_with, checking, given_budget, job_of};
+ghost use Rattle.hv_command.specs.Words.{kind_of, number_of, produce_of, produce_with, replay_of};
+ghost use Rattle.hv_command.specs.Words.{sample_of, sample_with};
 ghost use Rattle.hv_bytes.specs.Decimals.{IsDecimal};
 ghost use Rattle.hv_words.specs.Forms.{texts_of};
 
@@ -56,16 +62,16 @@ const MOST_ROOMS: u64 = 64;
 #[derive(Drop)]
 pub enum Job {
     /// `check TASK PROOF`: whether the proof shows that the task has no plan. The nodes of decision
-    /// diagrams are those of the node file, or 0 and 1 alone where none is named. The budget, from 1
-    /// to 16,777,216, bounds what a query of a basic statement may cost.
+    /// diagrams are those of the node file, or 0 and 1 alone where none is named. The budget, from
+    /// 1 to 16,777,216, bounds what a query of a basic statement may cost.
     Check {
         task: FileName,
         proof: FileName,
         nodes: Option<FileName>,
         budget: u64,
     },
-    /// `explain TASK PROOF`: which of its lines a proof that shows it rests on. A proof that doesn't
-    /// is answered as by a check, and so are the nodes and the budget meant.
+    /// `explain TASK PROOF`: which of its lines a proof that shows it rests on. A proof that
+    /// doesn't is answered as by a check, and so are the nodes and the budget meant.
     Explain {
         task: FileName,
         proof: FileName,
@@ -97,8 +103,8 @@ pub enum Kind {
     /// `pairs`: a pair of goal atoms that isn't reached. It is looked for in tasks of at most 1,024
     /// atoms.
     Pairs,
-    /// `trap`: a conjunction of the greatest trap that the initial state satisfies. It is looked for
-    /// in tasks of at most 64 atoms.
+    /// `trap`: a conjunction of the greatest trap that the initial state satisfies. It is looked
+    /// for in tasks of at most 64 atoms.
     Trap,
 }
 
@@ -138,7 +144,7 @@ pub fn read_job(alloc: Global, words: &Words) -> Result<Option<Job>, AllocError>
     }
 }
 
-/// The proof that the words after the command ask for.
+// The proof that the words after the command ask for.
 fn produce_job<'a>(
     alloc: Global,
     command: &'a str,
@@ -153,7 +159,7 @@ fn produce_job<'a>(
     }
 }
 
-/// The proof of this kind, where there is such a kind.
+// The proof of this kind, where there is such a kind.
 fn produce_with(alloc: Global, kind: Option<Kind>, task: &str) -> Result<Option<Job>, AllocError>
     ensures job { IfOk result (λ job. job ≡ produce_with kind task.now) }
     ensures bounded { IfOk result (λ job. IfSome job IsBounded) }
@@ -167,7 +173,7 @@ fn produce_with(alloc: Global, kind: Option<Kind>, task: &str) -> Result<Option<
     }
 }
 
-/// The kind of proof that the word names.
+// The kind of proof that the word names.
 fn read_kind(word: &str) -> Option<Kind>
     ensures { result ≡ kind_of word.now }
 {
@@ -182,7 +188,7 @@ fn read_kind(word: &str) -> Option<Kind>
     }
 }
 
-/// The replay that the words after the command ask for.
+// The replay that the words after the command ask for.
 fn replay_job<'a>(
     alloc: Global,
     command: &'a str,
@@ -200,7 +206,7 @@ fn replay_job<'a>(
     }
 }
 
-/// The sample that the words after the command ask for.
+// The sample that the words after the command ask for.
 fn sample_job<'a>(
     alloc: Global,
     command: &'a str,
@@ -215,7 +221,7 @@ fn sample_job<'a>(
     }
 }
 
-/// The sample of so many rooms, where there is such a number.
+// The sample of so many rooms, where there is such a number.
 fn sample_with(rooms: Option<u64>) -> Option<Job>
     requires { IfSome rooms IsRooms }
     ensures job { result ≡ sample_with rooms }
@@ -225,7 +231,7 @@ fn sample_with(rooms: Option<u64>) -> Option<Job>
     Some(Job::Sample { rooms })
 }
 
-/// The check that the words after the command ask for.
+// The check that the words after the command ask for.
 fn check_job<'a>(
     alloc: Global,
     command: &'a str,
@@ -241,7 +247,7 @@ fn check_job<'a>(
     }
 }
 
-/// The check that these words name, where they name a budget.
+// The check that these words name, where they name a budget.
 fn check_with(
     alloc: Global,
     report: Report,
@@ -264,7 +270,7 @@ fn check_with(
     }
 }
 
-/// The name of a file, where one is given.
+// The name of a file, where one is given.
 fn given_name(alloc: Global, word: Option<&str>) -> Result<Option<FileName>, AllocError>
     ensures { IfOk result (λ name. name ≡ option_map (λ s. s.now) word.entry) }
 {
@@ -274,7 +280,7 @@ fn given_name(alloc: Global, word: Option<&str>) -> Result<Option<FileName>, All
     }
 }
 
-/// The budget that is given, or the one that is meant where none is.
+// The budget that is given, or the one that is meant where none is.
 fn given_budget(word: Option<&str>) -> Option<u64>
     ensures budget { result ≡ given_budget (option_map (λ s. s.now) word.entry) }
     ensures some { IfSome result IsBudget }
@@ -285,7 +291,7 @@ fn given_budget(word: Option<&str>) -> Option<u64>
     }
 }
 
-/// The check of a proof after which this is told.
+// The check of a proof after which this is told.
 fn checking(
     report: Report,
     task: FileName,
@@ -311,7 +317,7 @@ fn checking(
     }
 }
 
-/// The budget that the word names: a decimal from 1 to 16,777,216.
+// The budget that the word names: a decimal from 1 to 16,777,216.
 fn read_budget(word: &str) -> Option<u64>
     ensures budget { result ≡ budget_of word.now }
     ensures some { IfSome result IsBudget }
@@ -319,7 +325,7 @@ fn read_budget(word: &str) -> Option<u64>
     read_number(word, 1, MOST_BUDGET)
 }
 
-/// The number that the word names: a decimal within these bounds.
+// The number that the word names: a decimal within these bounds.
 #[tactic(auto, using(crate::proofs::Numbers::no_decimal))]
 fn read_number(word: &str, least: u64, most: u64) -> Option<u64>
     requires { most < 10 ^ 18 }
@@ -333,7 +339,7 @@ fn read_number(word: &str, least: u64, most: u64) -> Option<u64>
     }
 }
 
-/// The number that the word spells, where it is within these bounds.
+// The number that the word spells, where it is within these bounds.
 fn as_number(word: &str, number: u64, least: u64, most: u64) -> Option<u64>
     requires { IsDecimal word.now number }
     ensures number { result ≡ number_of least most word.now }
@@ -349,7 +355,7 @@ fn as_number(word: &str, number: u64, least: u64, most: u64) -> Option<u64>
 }
 
 fn is_within(number: u64, least: u64, most: u64) -> bool
-    ensures { IsTrue result ↔ IsWithin least most number }
+    ensures { IsTrue result ↔ IsBetween least most number }
 {
     least <= number && number <= most
 }

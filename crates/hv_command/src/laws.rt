@@ -10,9 +10,9 @@ ghost use Rattle.hv_command.specs.declared.status.Status.{Status as StatusOf};
 
 use hv_lines::Pruner;
 
-/// Does nothing: its contract states that a job has one answer, whatever the pruners are. Two answers
-/// have one status and, but for which state a counterexample names, one text; the lines of a proof
-/// that replays a log are the pruners' choice.
+/// Does nothing: its contract states that a job has one answer, whatever the pruners are. Two
+/// answers have one status and, but for which state a counterexample names, one text; the lines of
+/// a proof that replays a log are the pruners' choice.
 pub fn one_answer(pruners: &[Box<dyn Pruner>])
     ensures { (job : Option JobOf) (held : Names) (s u : StatusOf) (t v : List ℕ)
         → Answer (λ task state. Any (λ b. covers b task state) pruners.now) job held s t

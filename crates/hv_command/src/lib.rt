@@ -1,6 +1,8 @@
 //! The whole product as one call.
 #![tactic(auto)]
 
+#[cfg(test)]
+mod check_tests;
 mod checking;
 #[cfg(test)]
 mod explain_tests;
@@ -25,7 +27,7 @@ mod stop;
 mod task_fault;
 #[cfg(test)]
 mod tests;
-mod top;
+pub mod top;
 pub mod words;
 #[cfg(test)]
 mod words_tests;

@@ -5,8 +5,8 @@ ghost use Rattle.hv_bytes.specs.Devices.{Rose};
 ghost use Rattle.hv_bytes.specs.Files.{bytes_of};
 ghost use Rattle.hv_lines.specs.Spelling.{proof_text};
 ghost use Rattle.hv_command.specs.Answer.{AfterTask, AnswersProduce};
-ghost use Rattle.hv_command.specs.Replies.{IsJobStatus};
-ghost use Rattle.hv_command.specs.Reply.{IsReply};
+ghost use Rattle.hv_command.specs.Working.Replies.{IsJobStatus};
+ghost use Rattle.hv_command.specs.Working.Reply.{IsReply};
 ghost use Rattle.hv_command.specs.declared.job.Kind.TheVariants as K;
 ghost use Rattle.hv_command.specs.declared.status.Status.TheVariants as S;
 
@@ -52,7 +52,7 @@ pub(crate) fn produce<S: Shelf>(
     }
 }
 
-/// The proof of this kind for a task, or that there is none.
+// The proof of this kind for a task, or that there is none.
 fn proof_reply(alloc: Global, kind: Kind, task: &Task) -> Result<Reply, AllocError>
     ensures answer { IfOk result (λ r. AnswersProduce kind task.now r.status r.text) }
     ensures answered { IfOk result (λ r. IsJobStatus r.status) }

@@ -1,6 +1,7 @@
 //! The job `replay`: the log of a search becomes a proof that a task has no plan.
 
-ghost use Rattle.std.specs.Prelude.{◌≡◌, ◌≤◌, ◌++◌, codes, decimal, IfOk, IfSome, IsErrOf, IsTrue, MatchResult};
+ghost use Rattle.std.specs.Prelude.{◌≡◌, ◌≤◌, ◌++◌, codes, decimal, IfOk, IfSome, IsErrOf, IsTrue};
+ghost use Rattle.std.specs.Prelude.{MatchResult};
 ghost use Rattle.std.specs.List.{Any};
 ghost use Rattle.hv_bytes.specs.Devices.{Rose};
 ghost use Rattle.hv_bytes.specs.Files.{bytes_of};
@@ -8,8 +9,10 @@ ghost use Rattle.hv_task.specs.Strips.{atoms};
 ghost use Rattle.hv_replay.specs.declared.fault.LogFault.TheVariants as L;
 ghost use Rattle.hv_replay.specs.declared.hole.ReplayFault.TheVariants as H;
 ghost use Rattle.hv_command.specs.Answer.{AfterLog, AnswersLog, AnswersReplay};
-ghost use Rattle.hv_command.specs.Replies.{IsJobStatus, IsLogFault, hole_text, line_of, log_fault_text};
-ghost use Rattle.hv_command.specs.Reply.{IsReply};
+ghost use Rattle.hv_command.specs.Replies.{hole_text, line_of};
+ghost use Rattle.hv_command.specs.Working.Replies.{IsJobStatus, IsLogFault};
+ghost use Rattle.hv_command.specs.Replies.{log_fault_text};
+ghost use Rattle.hv_command.specs.Working.Reply.{IsReply};
 ghost use Rattle.hv_command.specs.declared.status.Status.TheVariants as S;
 
 use crate::job::FileName;
@@ -56,7 +59,7 @@ pub(crate) fn replay_files<S: Shelf>(
     }
 }
 
-/// The answer to the log of a task.
+// The answer to the log of a task.
 fn replay_of_task<S: Shelf>(
     alloc: Global,
     shelf: &mut S,
@@ -87,7 +90,7 @@ fn replay_of_task<S: Shelf>(
     }
 }
 
-/// The proof that replays a log, or the log's first hole.
+// The proof that replays a log, or the log's first hole.
 fn log_reply(
     alloc: Global,
     task: &Task,
@@ -112,7 +115,7 @@ fn log_reply(
     }
 }
 
-/// What is answered to a log with a hole.
+// What is answered to a log with a hole.
 fn hole_reply(alloc: Global, hole: ReplayFault) -> Result<Reply, AllocError>
     ensures reply { IfOk result (λ r. IsReply r S.Refused (hole_text hole)) }
     ensures hole { IfOk result (λ _. hole ≡ H.Memory → ⊥) }
@@ -138,7 +141,7 @@ fn hole_reply(alloc: Global, hole: ReplayFault) -> Result<Reply, AllocError>
     }
 }
 
-/// What is answered to a log that isn't read.
+// What is answered to a log that isn't read.
 fn log_fault_reply(alloc: Global, fault: LogFault) -> Result<Reply, Stop>
     ensures { MatchResult result
         (λ r. IsReply r S.BadInput (log_fault_text fault) × IsLogFault fault)
@@ -158,7 +161,7 @@ fn log_fault_reply(alloc: Global, fault: LogFault) -> Result<Reply, Stop>
     }
 }
 
-/// `log line L`, and what is said of this line.
+// `log line L`, and what is said of this line.
 fn line_reply(alloc: Global, status: Status, line: u64, what: &[u8]) -> Result<Reply, AllocError>
     ensures { IfOk result (λ r. IsReply r status
         (line_of (codes "log line " ++ decimal line ++ what.now))) }
@@ -171,7 +174,7 @@ fn line_reply(alloc: Global, status: Status, line: u64, what: &[u8]) -> Result<R
     Ok(Reply { status, text })
 }
 
-/// `log line L: open action A`
+// `log line L: open action A`
 fn open_reply(alloc: Global, line: u64, action: u32) -> Result<Reply, AllocError>
     ensures { IfOk result (λ r. IsReply r S.Refused (hole_text (H.Open line action))) }
 {

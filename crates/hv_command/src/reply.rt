@@ -2,8 +2,9 @@
 
 ghost use Rattle.std.specs.Prelude.{◌≡◌, ◌<◌, ◌++◌, codes, decimal, flat_map, length, IfOk, OnOk};
 ghost use Rattle.std.specs.List.{range_with_len};
-ghost use Rattle.hv_command.specs.Replies.{action_text, atom_text, line_of, nodes_fault_text, reason_text, refused_text, state_text, task_fault_text};
-ghost use Rattle.hv_command.specs.Reply.{IsReply};
+ghost use Rattle.hv_command.specs.Replies.{action_text, atom_text, line_of, nodes_fault_text};
+ghost use Rattle.hv_command.specs.Replies.{reason_text, refused_text, state_text, task_fault_text};
+ghost use Rattle.hv_command.specs.Working.Reply.{IsReply};
 ghost use Rattle.hv_bdd.specs.declared.fault.NodesFault.TheVariants as N;
 ghost use Rattle.hv_task_text.specs.declared.fault.TaskFault.TheVariants as F;
 ghost use Rattle.hv_command.specs.declared.status.Status.TheVariants as S;
@@ -50,7 +51,7 @@ pub(crate) fn refusal(alloc: Global, line: u64, reason: &Reason) -> Result<Reply
     })
 }
 
-/// Appends the word of a reason, and the counterexample where there is one.
+// Appends the word of a reason, and the counterexample where there is one.
 fn push_reason(text: &mut Text, reason: &Reason) -> Result<(), AllocError>
     ensures { OnOk result (text.new ≡ text.old ++ reason_text reason.now) }
 {
@@ -68,8 +69,8 @@ fn push_reason(text: &mut Text, reason: &Reason) -> Result<(), AllocError>
     }
 }
 
-/// `false`, ` action A` where there is one, and ` state`, the atoms and ` ;` where there is a
-/// state.
+// `false`, ` action A` where there is one, and ` state`, the atoms and ` ;` where there is a
+// state.
 fn push_clash(text: &mut Text, clash: &Clash) -> Result<(), AllocError>
     ensures { OnOk result (text.new ≡ text.old ++ reason_text (R.False clash.now)) }
 {
@@ -100,7 +101,7 @@ fn push_state(text: &mut Text, state: &Option<State>) -> Result<(), AllocError>
     Ok(())
 }
 
-/// Appends the atoms that the state holds, rising, each behind a space.
+// Appends the atoms that the state holds, rising, each behind a space.
 #[tactic(auto, using(crate::proofs::AtomTexts::text_more))]
 fn push_atoms(text: &mut Text, state: &State) -> Result<(), AllocError>
     ensures { OnOk result (text.new ≡
@@ -112,7 +113,7 @@ fn push_atoms(text: &mut Text, state: &State) -> Result<(), AllocError>
     Ok(())
 }
 
-/// Appends the atom behind a space, where the state holds it.
+// Appends the atom behind a space, where the state holds it.
 fn push_atom(text: &mut Text, state: &State, atom: u32) -> Result<(), AllocError>
     requires { atom < length state.now }
     ensures { OnOk result (text.new ≡ text.old ++ atom_text state.now atom) }

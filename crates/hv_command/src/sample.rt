@@ -1,6 +1,7 @@
 //! The task of the job `sample`.
 
-ghost use Rattle.std.specs.Prelude.{◌≡◌, ◌<◌, ◌+◌, ◌++◌, ◌∷◌, [], IfOk, OnOk, codes, decimal, length, map};
+ghost use Rattle.std.specs.Prelude.{◌≡◌, ◌<◌, ◌+◌, ◌++◌, ◌∷◌, [], IfOk, OnOk, codes, decimal};
+ghost use Rattle.std.specs.Prelude.{length, map};
 ghost use Rattle.std.specs.List.{range_with_len};
 ghost use Rattle.hv_task.specs.Strips.{atoms};
 ghost use Rattle.hv_command.specs.Sample.{move_from, room_name, sample_task};
@@ -10,8 +11,8 @@ use hv_bytes::Text;
 use hv_task::{Action, AtomList, Name, Task};
 use std::alloc::{AllocError, Global};
 
-/// The task of so many rooms in a ring, from 3 to 64: one begins in the first of them, and is to have
-/// the key, which no action gives.
+/// The task of so many rooms in a ring, from 3 to 64: one begins in the first of them, and is to
+/// have the key, which no action gives.
 pub fn sample_task(alloc: Global, rooms: u32) -> Result<Task, AllocError>
     requires { IsRooms rooms }
     ensures { IfOk result (λ task. task ≡ sample_task rooms) }
@@ -25,7 +26,7 @@ pub fn sample_task(alloc: Global, rooms: u32) -> Result<Task, AllocError>
     Ok(task)
 }
 
-/// Adds an atom for each room to a task without atoms.
+// Adds an atom for each room to a task without atoms.
 fn add_rooms(alloc: Global, task: &mut Task, rooms: u32) -> Result<(), AllocError>
     requires rooms { IsRooms rooms }
     requires none { task.old.names ≡ [] }
@@ -38,7 +39,7 @@ fn add_rooms(alloc: Global, task: &mut Task, rooms: u32) -> Result<(), AllocErro
     Ok(())
 }
 
-/// Adds the action of each room to a task without actions.
+// Adds the action of each room to a task without actions.
 fn add_moves(alloc: Global, task: &mut Task, rooms: u32) -> Result<(), AllocError>
     requires rooms { IsRooms rooms }
     requires atoms { atoms task.old ≡ rooms + 1 }
@@ -52,7 +53,7 @@ fn add_moves(alloc: Global, task: &mut Task, rooms: u32) -> Result<(), AllocErro
     Ok(())
 }
 
-/// The action that leads from this room to the next one.
+// The action that leads from this room to the next one.
 fn move_from(alloc: Global, rooms: u32, room: u32) -> Result<Action, AllocError>
     requires rooms { IsRooms rooms }
     requires room { room < rooms }
@@ -67,7 +68,7 @@ fn move_from(alloc: Global, rooms: u32, room: u32) -> Result<Action, AllocError>
     })
 }
 
-/// The list of this atom alone.
+// The list of this atom alone.
 fn only(alloc: Global, atom: u32) -> Result<AtomList, AllocError>
     ensures { IfOk result (λ list. list ≡ atom ∷ []) }
 {
@@ -76,7 +77,7 @@ fn only(alloc: Global, atom: u32) -> Result<AtomList, AllocError>
     Ok(list)
 }
 
-/// The name that begins so and ends with the number.
+// The name that begins so and ends with the number.
 fn numbered(alloc: Global, front: &[u8], number: u32) -> Result<Name, AllocError>
     ensures { IfOk result (λ name. name ≡ front.now ++ decimal number) }
 {

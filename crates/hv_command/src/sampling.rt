@@ -1,7 +1,8 @@
 //! The job `sample`: a task made from a number of rooms, whose two proofs are made, written, and
 //! checked from the bytes that were written.
 
-ghost use Rattle.std.specs.Prelude.{◌≡◌, ◌+◌, ◌++◌, ◌∷◌, [], List, IfOk, IsErrOf, OnOk, codes, decimal, length};
+ghost use Rattle.std.specs.Prelude.{◌≡◌, ◌+◌, ◌++◌, ◌∷◌, [], List, IfOk, IsErrOf, OnOk, codes};
+ghost use Rattle.std.specs.Prelude.{decimal, length};
 ghost use Rattle.hv_bytes.specs.Devices.{Rose};
 ghost use Rattle.hv_bytes.specs.Files.{bytes_of, held_of};
 ghost use Rattle.hv_bytes.specs.Standard.{standard};
@@ -9,9 +10,11 @@ ghost use Rattle.hv_lines.specs.Drafts.{IsGoodTable, draft_setting};
 ghost use Rattle.hv_lines.specs.Judged.{Concludes, JudgedBytes, Unsolvable};
 ghost use Rattle.hv_reach.specs.Written.{horn_proof};
 ghost use Rattle.hv_sets.specs.declared.literal.Literal.{Literal as LiteralOf};
-ghost use Rattle.hv_command.specs.Reply.{IsReply};
+ghost use Rattle.hv_command.specs.Working.Reply.{IsReply};
 ghost use Rattle.hv_command.specs.Replies.{unsolvable_text};
-ghost use Rattle.hv_command.specs.Sample.{IsHornProof, count_line, proof_line, sample_task, sample_text, unreached_pairs};
+ghost use Rattle.hv_command.specs.Sample.{count_line, proof_line, sample_task};
+ghost use Rattle.hv_command.specs.Working.Sample.{IsHornProof};
+ghost use Rattle.hv_command.specs.Sample.{sample_text, unreached_pairs};
 ghost use Rattle.hv_command.specs.Words.{IsRooms};
 ghost use Rattle.hv_command.specs.declared.status.Status.TheVariants as S;
 
@@ -39,7 +42,7 @@ pub(crate) fn sample(alloc: Global, rooms: u32) -> Result<Reply, AllocError>
     Ok(answer)
 }
 
-/// What is told of the task of so many rooms.
+// What is told of the task of so many rooms.
 fn task_reply(alloc: Global, task: &Task, rooms: u32) -> Result<Reply, AllocError>
     requires rooms { IsRooms rooms }
     requires task { task.now ≡ sample_task rooms }
@@ -56,7 +59,7 @@ fn task_reply(alloc: Global, task: &Task, rooms: u32) -> Result<Reply, AllocErro
     })
 }
 
-/// Appends how many atoms and actions there are.
+// Appends how many atoms and actions there are.
 fn push_counts(text: &mut Text, task: &Task, rooms: u32) -> Result<(), AllocError>
     requires { task.now ≡ sample_task rooms }
     ensures { OnOk result (text.new ≡ text.old
@@ -68,7 +71,7 @@ fn push_counts(text: &mut Text, task: &Task, rooms: u32) -> Result<(), AllocErro
     Ok(())
 }
 
-/// Appends a number with its name before it.
+// Appends a number with its name before it.
 fn push_count(text: &mut Text, name: &[u8], number: u32) -> Result<(), AllocError>
     ensures { OnOk result (text.new ≡ text.old ++ count_line name.now number) }
 {
@@ -78,7 +81,7 @@ fn push_count(text: &mut Text, name: &[u8], number: u32) -> Result<(), AllocErro
     Ok(())
 }
 
-/// Appends what is told of the proof by reached atoms.
+// Appends what is told of the proof by reached atoms.
 fn push_relaxed(alloc: Global, text: &mut Text, task: &Task, rooms: u32) -> Result<(), AllocError>
     requires rooms { IsRooms rooms }
     requires task { task.now ≡ sample_task rooms }
@@ -94,7 +97,7 @@ fn push_relaxed(alloc: Global, text: &mut Text, task: &Task, rooms: u32) -> Resu
     }
 }
 
-/// Appends what is told of the proof by reached pairs.
+// Appends what is told of the proof by reached pairs.
 fn push_pairs(alloc: Global, text: &mut Text, task: &Task, rooms: u32) -> Result<(), AllocError>
     requires rooms { IsRooms rooms }
     requires task { task.now ≡ sample_task rooms }
@@ -113,8 +116,8 @@ fn push_pairs(alloc: Global, text: &mut Text, task: &Task, rooms: u32) -> Result
     }
 }
 
-/// Appends what is told of a proof: its number of clauses and of lines, and what it is judged from
-/// its bytes.
+// Appends what is told of a proof: its number of clauses and of lines, and what it is judged from
+// its bytes.
 fn push_proof(
     alloc: Global,
     text: &mut Text,
@@ -139,7 +142,7 @@ fn push_proof(
     Ok(())
 }
 
-/// Appends the numbers of clauses and of lines of a proof of this kind, and what is said of it.
+// Appends the numbers of clauses and of lines of a proof of this kind, and what is said of it.
 fn push_told(
     text: &mut Text,
     kind: &[u8],
@@ -161,7 +164,7 @@ fn push_told(
     Ok(())
 }
 
-/// How many clauses the formula of the proof has.
+// How many clauses the formula of the proof has.
 fn clause_count(table: &Table) -> usize
     requires { IsHornProof table.now.lines }
     ensures { (clauses : List (List LiteralOf)) → table.now.lines ≡ horn_proof clauses
@@ -173,7 +176,7 @@ fn clause_count(table: &Table) -> usize
     }
 }
 
-/// What is said of a proof that is written, from its bytes: that it shows that the task has no plan.
+// What is said of a proof that is written, from its bytes: that it shows that the task has no plan.
 fn judged(alloc: Global, task: &Task, draft: &Draft) -> Result<Reply, AllocError>
     requires horn { IsHornProof draft.now.lines }
     requires good { IsGoodTable task.now draft.now.lines }
@@ -185,7 +188,7 @@ fn judged(alloc: Global, task: &Task, draft: &Draft) -> Result<Reply, AllocError
     Ok(answer)
 }
 
-/// The same of the bytes of a proof.
+// The same of the bytes of a proof.
 fn judged_bytes(alloc: Global, task: &Task, proof: &[u8]) -> Result<Reply, AllocError>
     requires { JudgedBytes (draft_setting task.now) standard proof.now Unsolvable }
     ensures { IfOk result (λ r. IsReply r S.Done unsolvable_text) }
@@ -199,7 +202,7 @@ fn judged_bytes(alloc: Global, task: &Task, proof: &[u8]) -> Result<Reply, Alloc
     }
 }
 
-/// What is said of the file `proof` of the shelf.
+// What is said of the file `proof` of the shelf.
 fn judged_file(alloc: Global, shelf: &mut SureShelf, task: &Task) -> Result<Reply, Stop>
     requires { JudgedBytes (draft_setting task.now) standard
         (bytes_of (held_of shelf.old.files) (codes "proof")) Unsolvable }

@@ -1,3 +1,5 @@
+//! What ends a run before there is an answer.
+
 use hv_bytes::Failed;
 use std::alloc::AllocError;
 

@@ -2,8 +2,9 @@
 
 ghost use Rattle.std.specs.Prelude.{◌≡◌, MatchResult};
 ghost use Rattle.hv_task_text.specs.declared.fault.TaskFault.TheVariants as F;
-ghost use Rattle.hv_command.specs.Replies.{IsTextFault, task_fault_text};
-ghost use Rattle.hv_command.specs.Reply.{IsReply};
+ghost use Rattle.hv_command.specs.Replies.{task_fault_text};
+ghost use Rattle.hv_command.specs.Working.Replies.{IsTextFault};
+ghost use Rattle.hv_command.specs.Working.Reply.{IsReply};
 ghost use Rattle.hv_command.specs.declared.status.Status.TheVariants as S;
 
 use crate::reply::{Reply, misplaced, passed};

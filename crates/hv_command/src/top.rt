@@ -5,7 +5,8 @@ ghost use Rattle.std.specs.Io.KnownBytes.{Appends};
 ghost use Rattle.std.specs.List.{Any};
 ghost use Rattle.hv_bytes.specs.Devices.{AppendsFront, Rose};
 ghost use Rattle.hv_command.specs.Answer.{AnswersTold, IsAcceptedTold, IsSoundTold};
-ghost use Rattle.hv_command.specs.Replies.{IsAnswered, IsJobStatus};
+ghost use Rattle.hv_command.specs.Replies.{IsAnswered};
+ghost use Rattle.hv_command.specs.Working.Replies.{IsJobStatus};
 ghost use Rattle.hv_command.specs.Words.{HasName, IsBounded, job_of};
 ghost use Rattle.hv_command.specs.declared.status.Status.{Status as StatusOf};
 
@@ -41,7 +42,8 @@ pub fn run<S: Shelf, K: Sink>(
     ensures later { S.faults shelf.old ≤ S.faults shelf.new }
     ensures later_out { K.faults out.old ≤ K.faults out.new }
 
-    // the answer of the job, and that it was written; a proof that is written is judged `unsolvable`
+    // the answer of the job, and that it was written; a proof that is written is judged
+    // `unsolvable`
     ensures answer { IsAnswered result → (text : List ℕ)
         × AnswersTold (λ task state. Any (λ b. covers b task state) pruners.items)
         (job_of words.now) (S.held shelf.old) result text
@@ -82,7 +84,7 @@ pub fn run<S: Shelf, K: Sink>(
     }
 }
 
-/// The answer of the job that the words name.
+// The answer of the job that the words name.
 fn answer<S: Shelf>(
     alloc: Global,
     words: &Words,

@@ -1,3 +1,5 @@
+//! The words after the program's name.
+
 ghost use Rattle.std.specs.Prelude.{◌≡◌, [], ◌∷◌, ◌++◌, map, OnOk, OnErr};
 ghost use Rattle.std.specs.String.{string_bytes};
 

@@ -8,23 +8,23 @@ use Rattle.std.specs.List.{All}
 use Rattle.hv_lines.specs.Judged.{Concludes}
 use Rattle.hv_lines.specs.Numbering.{known_count, premises_at}
 use Rattle.hv_lines.specs.declared.line.Line.{Line}
-use Rattle.hv_explain.specs.Marks.{AreMarkedFrom, MarkNeeded, is_marked, mark_all}
+use Rattle.hv_explain.specs.Working.Marks.{AreMarkedFrom, MarkNeeded, is_line_marked, mark_all}
 use Rattle.hv_explain.specs.Needed.{IsConclusion}
 
 -- a mark, as it is read at its place
-pub mark_at_place : (marks : List Bool) (id : ℕ) (other : Bool) → get_or marks id other ≡ true → id < length marks → is_marked marks id ≡ true
+pub mark_at_place : (marks : List Bool) (id : ℕ) (other : Bool) → get_or marks id other ≡ true → id < length marks → is_line_marked marks id ≡ true
 mark_at_place marks id other h below = get_or_default marks id false other below ∙ h
 
 -- one mark more
 
-set_grows : (marks : List Bool) (id k : ℕ) → id < length marks → is_marked marks k ≡ true → is_marked (set marks id true) k ≡ true
+set_grows : (marks : List Bool) (id k : ℕ) → id < length marks → is_line_marked marks k ≡ true → is_line_marked (set marks id true) k ≡ true
 set_grows marks id k below h =
     elim (cases_eq k id) [
-      | inl same ↦ subst (λ j. is_marked (set marks id true) j ≡ true) (sym same) (get_or-set_same marks id true false below)
+      | inl same ↦ subst (λ j. is_line_marked (set marks id true) j ≡ true) (sym same) (get_or-set_same marks id true false below)
       | inr other ↦ get_or-set_other marks id k true false other ∙ h
     ]
 
-set_cases : (marks : List Bool) (id k : ℕ) → is_marked (set marks id true) k ≡ true → (is_marked marks k ≡ true) ⊎ (k ≡ id)
+set_cases : (marks : List Bool) (id k : ℕ) → is_line_marked (set marks id true) k ≡ true → (is_line_marked marks k ≡ true) ⊎ (k ≡ id)
 set_cases marks id k h =
     elim (cases_eq k id) [
       | inl same ↦ inr same
@@ -41,23 +41,23 @@ all_length : (marks : List Bool) (ids : List ℕ) → length (mark_all marks ids
 all_length marks [] = refl
 all_length marks (id ∷ ids) = all_length (set marks id true) ids ∙ length-set marks id true
 
-all_grow : (marks : List Bool) (ids : List ℕ) (k : ℕ) → All (λ i. i < length marks) ids → is_marked marks k ≡ true
-    → is_marked (mark_all marks ids) k ≡ true
+all_grow : (marks : List Bool) (ids : List ℕ) (k : ℕ) → All (λ i. i < length marks) ids → is_line_marked marks k ≡ true
+    → is_line_marked (mark_all marks ids) k ≡ true
 all_grow marks [] k below h = h
 all_grow marks (id ∷ ids) k below h =
     all_grow (set marks id true) ids k (after_one marks id ids below)
     (set_grows marks id k (All-head (λ i. i < length marks) id ids below) h)
 
-all_marked : (marks : List Bool) (ids : List ℕ) → All (λ i. i < length marks) ids → All (λ i. is_marked (mark_all marks ids) i ≡ true) ids
-all_marked marks [] below = All-nil (λ i. is_marked marks i ≡ true)
+all_marked : (marks : List Bool) (ids : List ℕ) → All (λ i. i < length marks) ids → All (λ i. is_line_marked (mark_all marks ids) i ≡ true) ids
+all_marked marks [] below = All-nil (λ i. is_line_marked marks i ≡ true)
 all_marked marks (id ∷ ids) below =
-    All-cons (λ i. is_marked (mark_all (set marks id true) ids) i ≡ true) id ids
+    All-cons (λ i. is_line_marked (mark_all (set marks id true) ids) i ≡ true) id ids
     (all_grow (set marks id true) ids id (after_one marks id ids below)
     (get_or-set_same marks id true false (All-head (λ i. i < length marks) id ids below)))
     (all_marked (set marks id true) ids (after_one marks id ids below))
 
-all_within : (within : ℕ → Bool) (marks : List Bool) (ids : List ℕ) → ((k : ℕ) → is_marked marks k ≡ true → within k ≡ true)
-    → All (λ i. within i ≡ true) ids → (k : ℕ) → is_marked (mark_all marks ids) k ≡ true → within k ≡ true
+all_within : (within : ℕ → Bool) (marks : List Bool) (ids : List ℕ) → ((k : ℕ) → is_line_marked marks k ≡ true → within k ≡ true)
+    → All (λ i. within i ≡ true) ids → (k : ℕ) → is_line_marked (mark_all marks ids) k ≡ true → within k ≡ true
 all_within within marks [] before each k h = before k h
 all_within within marks (id ∷ ids) before each k h =
     all_within within (set marks id true) ids
@@ -69,7 +69,7 @@ all_within within marks (id ∷ ids) before each k h =
     (All-tail (λ i. within i ≡ true) id ids each) k h
 
 all_rest : (bound : ℕ) (marks : List Bool) (ids : List ℕ) (k : ℕ) → All (λ i. i < bound) ids → bound ≤ k
-    → is_marked (mark_all marks ids) k ≡ is_marked marks k
+    → is_line_marked (mark_all marks ids) k ≡ is_line_marked marks k
 all_rest bound marks [] k below upto = refl
 all_rest bound marks (id ∷ ids) k below upto =
     let less : id < bound = All-head (λ i. i < bound) id ids below in
@@ -80,7 +80,7 @@ all_rest bound marks (id ∷ ids) k below upto =
 
 module _ (lines : List Line) (id : ℕ) (marks : List Bool) (m : AreMarkedFrom (id + 1) lines marks) where
   pub followed : (premises : List ℕ) → premises_at lines id ≡ Some premises → All (λ i. i < id) premises → id < known_count lines
-      → is_marked marks id ≡ true → AreMarkedFrom id lines (mark_all marks premises)
+      → is_line_marked marks id ≡ true → AreMarkedFrom id lines (mark_all marks premises)
   followed premises says before below here =
       let room : All (λ i. i < length marks) premises =
       All-weaker (λ i. i < id) (λ i. i < length marks) (λ i less. omega (arith, less, below, m.each)) premises before in
@@ -94,36 +94,36 @@ module _ (lines : List Line) (id : ℕ) (marks : List Bool) (m : AreMarkedFrom (
             elim (cases_eq k id) [
               | inl same ↦
                   let one : others ≡ premises = same_Some others premises (sym said ∙ (ap (premises_at lines) same ∙ says)) in
-                  subst (λ ps. All (λ i. is_marked (mark_all marks premises) i ≡ true) ps) (sym one) (all_marked marks premises room)
+                  subst (λ ps. All (λ i. is_line_marked (mark_all marks premises) i ≡ true) ps) (sym one) (all_marked marks premises room)
               | inr other ↦
-                  All-weaker (λ i. is_marked marks i ≡ true) (λ i. is_marked (mark_all marks premises) i ≡ true)
+                  All-weaker (λ i. is_line_marked marks i ≡ true) (λ i. is_line_marked (mark_all marks premises) i ≡ true)
                   (λ i old. all_grow marks premises i room old) others
                   (m.keeps k others (omega (arith, upto, other)) said (sym (all_rest id marks premises k before upto) ∙ marked))
             ];
       }
 
-  pub passed_by : is_marked marks id ≡ false → AreMarkedFrom id lines marks
+  pub passed_by : is_line_marked marks id ≡ false → AreMarkedFrom id lines marks
   passed_by unmarked = record {
     each = m.each;
     concludes = m.concludes;
     needed = m.needed;
     keeps = λ k premises upto said marked.
         elim (cases_eq k id) [
-          | inl same ↦ let here : is_marked marks id ≡ true = subst (λ j. is_marked marks j ≡ true) same marked in absurd cc
+          | inl same ↦ let here : is_line_marked marks id ≡ true = subst (λ j. is_line_marked marks j ≡ true) same marked in absurd cc
           | inr other ↦ m.keeps k premises (omega (arith, upto, other)) said marked
         ];
   }
 
 -- before and after all lines
 
-none_marked : (n k : ℕ) → is_marked (replicate n false) k ≡ true → ⊥
+none_marked : (n k : ℕ) → is_line_marked (replicate n false) k ≡ true → ⊥
 none_marked n k h =
     elim (cases_lt k n) [
       | inl less ↦ let e = get_or-replicate n k false false less in absurd cc
       | inr past ↦ let e = get_or_past (replicate n false) k false (omega (arith, length-replicate n false, past)) in absurd cc
     ]
 
-unmarked_past : (marks : List Bool) (k : ℕ) → length marks ≤ k → is_marked marks k ≡ true → ⊥
+unmarked_past : (marks : List Bool) (k : ℕ) → length marks ≤ k → is_line_marked marks k ≡ true → ⊥
 unmarked_past marks k past h = let e = get_or_past marks k false past in absurd cc
 
 one_conclusion : (lines : List Line) (id other : ℕ) → IsConclusion lines id → IsConclusion lines other → id ≡ other
@@ -154,7 +154,7 @@ begun_with lines id below conclusion =
     record {
       each = size;
       concludes = λ k first.
-          subst (λ j. is_marked (set none id true) j ≡ true) (one_conclusion lines id k conclusion first)
+          subst (λ j. is_line_marked (set none id true) j ≡ true) (one_conclusion lines id k conclusion first)
           (get_or-set_same none id true false (omega (arith, length-replicate n false, below)));
       needed = λ k h within closed.
           elim (set_cases none id k h) [
@@ -168,7 +168,7 @@ pub all_needed : (lines : List Line) (marks : List Bool) → AreMarkedFrom 0 lin
 all_needed lines marks m k = (
   m.needed k,
   λ needed.
-      needed (λ id. is_marked marks id) (record {
+      needed (λ id. is_line_marked marks id) (record {
         concludes = m.concludes;
         keeps = λ id premises said marked. m.keeps id premises (omega arith) said marked;
       }),

@@ -1,3 +1,3 @@
 pub mod Needed
 pub mod Explained
-pub mod Marks
+pub mod Working

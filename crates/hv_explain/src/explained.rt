@@ -1,8 +1,9 @@
 //! The text that tells which lines are needed.
 
 ghost use Rattle.std.specs.Prelude.{◌≡◌, ◌++◌, IfOk, OnOk, reverse};
-ghost use Rattle.hv_explain.specs.Explained.{IsExplanation, explained_line, explained_lines, need_word};
-ghost use Rattle.hv_explain.specs.Marks.{is_marked};
+ghost use Rattle.hv_explain.specs.Explained.{IsExplanation, explained_line, explained_lines};
+ghost use Rattle.hv_explain.specs.Explained.{need_word};
+ghost use Rattle.hv_explain.specs.Working.Marks.{is_line_marked};
 
 use crate::needed::needed;
 use hv_bytes::Text;
@@ -21,10 +22,10 @@ pub fn explain(alloc: Global, table: &Table) -> Result<Text, AllocError>
     Ok(text)
 }
 
-/// The text by the marks of the needed lines.
+// The text by the marks of the needed lines.
 fn explained(alloc: Global, table: &Table, marks: &[bool]) -> Result<Text, AllocError>
     ensures { IfOk result (λ text.
-        text ≡ explained_lines (λ id. is_marked marks.now id) (reverse table.now.lines)) }
+        text ≡ explained_lines (λ id. is_line_marked marks.now id) (reverse table.now.lines)) }
 {
     let mut text = Text::new(alloc);
     for place in 0..table.len() {
@@ -33,7 +34,7 @@ fn explained(alloc: Global, table: &Table, marks: &[bool]) -> Result<Text, Alloc
     Ok(text)
 }
 
-/// Appends what is said of the line.
+// Appends what is said of the line.
 fn push_explained(
     alloc: Global,
     text: &mut Text,
@@ -41,7 +42,7 @@ fn push_explained(
     marks: &[bool],
 ) -> Result<(), AllocError>
     ensures { OnOk result
-        (text.new ≡ text.old ++ explained_line (λ id. is_marked marks.now id) line.now) }
+        (text.new ≡ text.old ++ explained_line (λ id. is_line_marked marks.now id) line.now) }
 {
     match line {
         Line::Acts { .. } => Ok(()),
@@ -63,7 +64,7 @@ fn need_word(needed: bool) -> &'static [u8]
 }
 
 fn is_marked(marks: &[bool], id: usize) -> bool
-    ensures { result ≡ is_marked marks.now id }
+    ensures { result ≡ is_line_marked marks.now id }
 {
     match marks.get(id) {
         Some(mark) => *mark,

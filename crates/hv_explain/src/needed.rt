@@ -4,7 +4,7 @@ ghost use Rattle.std.specs.Prelude.{◌≡◌, ◌<◌, ◌+◌, IfOk, IfSome, M
 ghost use Rattle.std.specs.List.{All};
 ghost use Rattle.hv_lines.specs.Judged.{Concludes};
 ghost use Rattle.hv_lines.specs.Numbering.{known_count};
-ghost use Rattle.hv_explain.specs.Marks.{AreMarkedFrom, MarkNeeded, mark_all};
+ghost use Rattle.hv_explain.specs.Working.Marks.{AreMarkedFrom, MarkNeeded, mark_all};
 ghost use Rattle.hv_explain.specs.Needed.{IsConclusion};
 
 use hv_lines::{Statement, Table};
@@ -22,7 +22,7 @@ pub(crate) fn needed(alloc: Global, table: &Table) -> Result<Vec<bool>, AllocErr
     Ok(marks)
 }
 
-/// The marks with the conclusion alone marked, where there is one.
+// The marks with the conclusion alone marked, where there is one.
 fn conclusion_marked(alloc: Global, table: &Table) -> Result<Vec<bool>, AllocError>
     ensures { IfOk result (λ marks.
         AreMarkedFrom (known_count table.now.lines) table.now.lines marks.items) }
@@ -37,7 +37,7 @@ fn conclusion_marked(alloc: Global, table: &Table) -> Result<Vec<bool>, AllocErr
     }
 }
 
-/// The first line that says that the task is unsolvable.
+// The first line that says that the task is unsolvable.
 fn conclusion(table: &Table) -> Option<usize>
     ensures found { MatchOption result (Concludes table.now.lines → ⊥)
         (λ id. IsConclusion table.now.lines id) }
@@ -51,7 +51,7 @@ fn conclusion(table: &Table) -> Option<usize>
     None
 }
 
-/// Marks the premises of the line, where the line is marked.
+// Marks the premises of the line, where the line is marked.
 fn follow(table: &Table, id: usize, marks: &mut Vec<bool>)
     requires below { id < known_count table.now.lines }
     requires marked { AreMarkedFrom (id + 1) table.now.lines marks.old.items }

@@ -5,8 +5,9 @@ use Rattle.hv_bytes.specs.Pieces.{pieces_of}
 use Rattle.hv_bytes.specs.Standard.{standard}
 use Rattle.hv_lines.specs.Setting.{setting_of}
 use Rattle.hv_command.specs.Answer.{AnswersProof}
-use Rattle.hv_command.specs.Replies.{IsNodesFault, nodes_fault_text}
-use Rattle.hv_command.specs.Reply.{IsReply}
+use Rattle.hv_command.specs.Replies.{nodes_fault_text}
+use Rattle.hv_command.specs.Working.Replies.{IsNodesFault}
+use Rattle.hv_command.specs.Working.Reply.{IsReply}
 use Rattle.hv_command.specs.declared.status.Status.TheVariants as S
 use Rattle.hv_command.proofs.Checked.{nodes_answer, nodes_fault}
 use Rattle.hv_command.proofs.checking.check_with_nodes.Goals as goal

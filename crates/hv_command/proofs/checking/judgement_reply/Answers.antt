@@ -1,5 +1,5 @@
 use Rattle.hv_command.specs.Replies.{refused_text}
-use Rattle.hv_command.specs.Reply.{IsReply}
+use Rattle.hv_command.specs.Working.Reply.{IsReply}
 use Rattle.hv_command.specs.declared.status.Status.TheVariants as S
 use Rattle.hv_command.proofs.Checked.{refused_reply}
 use Rattle.hv_command.proofs.checking.judgement_reply.Goals as goal

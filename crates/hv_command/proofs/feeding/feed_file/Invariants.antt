@@ -1,5 +1,5 @@
 use Rattle.std.proofs.Common.{◌≡◌, ◌≤◌, ◌-◌, true}
-use Rattle.hv_bytes.specs.Files.{file_of}
+use Rattle.hv_bytes.specs.Working.Files.{file_of}
 use Rattle.hv_bytes.specs.Standard.{most_file_bytes, standard}
 use Rattle.hv_bytes.specs.States.{coming_of}
 use Rattle.hv_command.proofs.FedFiles.{IsFeeding}

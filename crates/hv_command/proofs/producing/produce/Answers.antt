@@ -3,8 +3,9 @@ use Rattle.hv_bytes.specs.Files.{Names, bytes_of}
 use Rattle.hv_bytes.specs.Standard.{standard}
 use Rattle.hv_task_text.specs.TaskText.{IsReadFrom, TaskText}
 use Rattle.hv_command.specs.Answer.{AnswersProduce}
-use Rattle.hv_command.specs.Replies.{IsTextFault, task_fault_text}
-use Rattle.hv_command.specs.Reply.{IsReply}
+use Rattle.hv_command.specs.Replies.{task_fault_text}
+use Rattle.hv_command.specs.Working.Replies.{IsTextFault}
+use Rattle.hv_command.specs.Working.Reply.{IsReply}
 use Rattle.hv_command.specs.declared.status.Status.TheVariants as S
 use Rattle.hv_command.proofs.Checked.{on_all, task_answer, task_fault}
 use Rattle.hv_command.proofs.producing.produce.Goals as goal

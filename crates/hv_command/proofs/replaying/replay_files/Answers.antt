@@ -4,8 +4,9 @@ use Rattle.hv_bytes.specs.Standard.{standard}
 use Rattle.hv_task_text.specs.TaskText.{IsReadFrom, TaskText}
 use Rattle.hv_replay.proofs.Several.{AnyOf}
 use Rattle.hv_command.specs.Answer.{AfterLog, AnswersLog}
-use Rattle.hv_command.specs.Replies.{IsTextFault, task_fault_text}
-use Rattle.hv_command.specs.Reply.{IsReply}
+use Rattle.hv_command.specs.Replies.{task_fault_text}
+use Rattle.hv_command.specs.Working.Replies.{IsTextFault}
+use Rattle.hv_command.specs.Working.Reply.{IsReply}
 use Rattle.hv_command.specs.declared.status.Status.TheVariants as S
 use Rattle.hv_command.proofs.Checked.{task_answer, task_fault}
 use Rattle.hv_command.proofs.replaying.replay_files.Goals as goal

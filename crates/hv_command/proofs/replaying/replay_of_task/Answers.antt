@@ -4,8 +4,9 @@ use Rattle.hv_task.specs.Strips.{atoms}
 use Rattle.hv_replay.specs.LogText.{IsReadFrom}
 use Rattle.hv_replay.proofs.Several.{AnyOf}
 use Rattle.hv_command.specs.Answer.{AnswersLog}
-use Rattle.hv_command.specs.Replies.{IsLogFault, log_fault_text}
-use Rattle.hv_command.specs.Reply.{IsReply}
+use Rattle.hv_command.specs.Replies.{log_fault_text}
+use Rattle.hv_command.specs.Working.Replies.{IsLogFault}
+use Rattle.hv_command.specs.Working.Reply.{IsReply}
 use Rattle.hv_command.specs.declared.status.Status.TheVariants as S
 use Rattle.hv_command.proofs.Checked.{log_answer, log_fault}
 use Rattle.hv_command.proofs.replaying.replay_of_task.Goals as goal

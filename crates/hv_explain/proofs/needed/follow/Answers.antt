@@ -1,5 +1,5 @@
 use Rattle.std.proofs.Common.{◌≡◌, ◌∙◌, Bool, List, arith, sym, subst}
-use Rattle.hv_explain.specs.Marks.{AreMarkedFrom, mark_all}
+use Rattle.hv_explain.specs.Working.Marks.{AreMarkedFrom, mark_all}
 use Rattle.hv_explain.proofs.Marking.{followed, mark_at_place}
 use Rattle.hv_explain.proofs.needed.follow.Goals as goal
 

@@ -1,5 +1,5 @@
 use Rattle.std.proofs.Common.{◌≡◌, length, take}
-use Rattle.hv_explain.specs.Marks.{mark_all}
+use Rattle.hv_explain.specs.Working.Marks.{mark_all}
 use Rattle.hv_explain.proofs.needed.mark_all.Given as goal
 
 abbrev pub invariant-loop-id : goal.invariant-loop-id

@@ -1,5 +1,5 @@
 use Rattle.std.proofs.Common.{◌≡◌, ℕ, arith, subst}
-use Rattle.hv_explain.specs.Marks.{AreMarkedFrom}
+use Rattle.hv_explain.specs.Working.Marks.{AreMarkedFrom}
 use Rattle.hv_explain.proofs.Marking.{all_needed}
 use Rattle.hv_explain.proofs.needed.needed.Goals as goal
 

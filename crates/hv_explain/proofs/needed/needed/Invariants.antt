@@ -1,4 +1,4 @@
-use Rattle.hv_explain.specs.Marks.{AreMarkedFrom}
+use Rattle.hv_explain.specs.Working.Marks.{AreMarkedFrom}
 use Rattle.hv_explain.proofs.needed.needed.Given as goal
 
 abbrev pub invariant-loop-id : goal.invariant-loop-id

@@ -1,0 +1,4 @@
+-- Definitions that no public contract cites: those of private contracts and of proofs.
+pub mod Replies
+pub mod Reply
+pub mod Sample
