@@ -20,6 +20,14 @@ RUST_FUNCTION = re.compile(r"^(\s*)(pub(?:\([\w ]+\))? )?(?:const )?fn (\w+)")
 RUST_BLOCK = re.compile(r"^impl\b(.*)\{\s*$")
 
 
+# the room of a crate's specs/ that has the rooms of its working definitions
+WORKING = "Working"
+
+
+def path_of(room):
+    return room.replace(".", os.sep) + ".antt"
+
+
 def read(path):
     with open(path, encoding="utf-8") as file:
         return file.read().split("\n")
@@ -101,9 +109,14 @@ class Sources:
             return
         lines = read(os.path.join(folder, "Lib.antt"))
         order = [line.split()[-1] for line in lines if re.match(r"(pub )?mod ", line)]
+        if WORKING in order:
+            order.remove(WORKING)
+            lines = read(os.path.join(folder, WORKING + ".antt"))
+            order += ["%s.%s" % (WORKING, line.split()[-1])
+                      for line in lines if re.match(r"(pub )?mod ", line)]
         self.rooms[crate] = order
         for room in order:
-            self.read_spec(crate, room, read(os.path.join(folder, room + ".antt")))
+            self.read_spec(crate, room, read(os.path.join(folder, path_of(room))))
 
     def read_spec(self, crate, room, lines):
         names = Names()
@@ -349,7 +362,7 @@ class Sources:
             return None
         if parts[3] == "declared":
             return self.find_type(crate, parts[4], parts[5] if len(parts) > 5 else name)
-        key = (crate, parts[3], name)
+        key = (crate, ".".join(parts[3:5]) if parts[3] == WORKING else parts[3], name)
         if key in self.defs or key in self.lemmas:
             return key
         return self.members.get(key)

@@ -1,0 +1,47 @@
+#!/usr/bin/env python3
+"""Holds the names of specs/ to one meaning each: no name stands in two rooms.
+
+The names of ROLES are those of parts that several rooms have: what is said of each text that is
+read line by line, of each table of chains, of each kind of clauses, of each pruner and its proof.
+A name that a room passes on by `pub use` is no definition of that room.
+Usage: tests/closure/one_meaning.py
+"""
+import sys
+
+sys.dont_write_bytecode = True
+import sources  # noqa: E402
+
+
+ROLES = """
+AreTextOf Beginning begun begun_by Ends EndsEarly FailsLine fault_at Feeds IsFirstFault IsLegal
+IsReadFrom IsReading IsTextOf kind_word LacksForm limit_word line_fault_at lines_before PassesLimit
+PassesNext
+IsChain IsEnd IsLinked slot_at slot_of
+AreOver IsEither IsFault or_else
+IsModest IsOutcome with_budget
+IsIn RowsBelow
+child top
+""".split()
+
+
+def definitions():
+    """Each name of specs/, with the places where it is defined."""
+    places = {}
+    for item in sources.Sources().defs.values():
+        places.setdefault(item.name, []).append("%s.%s:%d" % (item.crate, item.room, item.line))
+    return places
+
+
+def main():
+    several = {name: at for name, at in definitions().items() if len(at) > 1}
+    wrong = sorted(name for name in several if name not in ROLES)
+    for name in wrong:
+        print("%s stands for several definitions: %s" % (name, ", ".join(sorted(several[name]))))
+    for name in sorted(name for name in ROLES if name not in several):
+        print("%s stands for one definition at most: it is no part of several rooms" % name)
+        wrong.append(name)
+    return 1 if wrong else 0
+
+
+if __name__ == "__main__":
+    sys.exit(main())
