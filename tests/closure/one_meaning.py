@@ -1,12 +1,12 @@
 #!/usr/bin/env python3
 """Holds the names of specs/ to one room each, but for those that are listed here.
 
-The names of ROLES are exempt. They are those of parts that several rooms have: what is said of each
-text that is read line by line, of each table of chains, of each kind of clauses, of each pruner and
-its proof, of each list of rows; and the child and the place of a node, which are said of a list of
-nodes and once more of the sets that a tuple of them stands for. What such a name says in one room is
-not held to what it says in another: that is for the reader. A name that a room passes on by
-`pub use` is no definition of that room.
+The names of ROLES are exempt. They are those of parts that several rooms have: what is said of
+each text that is read line by line, of each table of chains, of each kind of clauses, of each
+pruner and its proof, of each list of rows; and the child and the place of a node, which are said
+of a list of nodes and once more of the sets that a tuple of them stands for. What such a name
+says in one room is not held to what it says in another: that is for the reader. A name that a
+room passes on by `pub use` is no definition of that room.
 Usage: tests/closure/one_meaning.py
 """
 import sys
