@@ -10,5 +10,6 @@ most_line_bytes = 16777216
 abbrev pub most_file_bytes : ℕ
 most_file_bytes = 2 ^ 40
 
+-- both together
 abbrev pub standard : Limits
 standard = record { line = most_line_bytes; file = most_file_bytes }

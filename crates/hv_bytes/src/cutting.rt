@@ -1,4 +1,4 @@
-//! Limits of lines and files, and what a call of `Lines::next` answers.
+//! Limits of lines and files, and the lines of an input, cut one by one.
 
 ghost use Rattle.std.specs.Prelude.{◌≡◌, ◌≢◌, ◌+◌, ◌<◌, ◌≤◌, ◌^◌, ◌↔◌, [], ◌++◌, length, take, drop, true, false, Ok, Err, IsTrue, IsOk, IfOk, IfSome, IfNone, OnOk, OnErr, IsErrOf, unwrap_or};
 ghost use Rattle.std.specs.Io.KnownBytes.{IsAtEnd, prepend_known};
@@ -14,7 +14,8 @@ use std::alloc::{AllocError, Global};
 use std::marker::Model;
 use thiserror::Error;
 
-/// How long a line may be, and how far into the file its last byte may lie. Both are at most 2^62.
+/// How long a line may be, and how far into the file its last byte may lie. Calls that cut lines
+/// ask that both are at most 2^62.
 #[derive(Clone, Copy, Debug, PartialEq, Eq)]
 pub struct Limits {
     /// The most bytes of a line without its LF.
@@ -59,7 +60,7 @@ pub enum Next {
 /// Why there is no further line.
 #[derive(Clone, Copy, Debug, PartialEq, Eq, Error)]
 pub enum LineFault {
-    /// The line is longer than the limits allow.
+    /// The line is longer than the limits allow, or lies too far into the file.
     #[error("the line is too long")]
     Long,
     /// The shelf failed.
@@ -313,7 +314,8 @@ impl Lines {
     /// after it nothing is read any more.
     ///
     /// The same shelf is to be given in each call, with nothing else read from it in between: the
-    /// held bytes and those left on the shelf are together the bytes still to come.
+    /// held bytes and those left on the shelf are together the bytes still to come. For a file that
+    /// is opened afterwards other `Lines` are to be made: what has ended stays so.
     pub fn next<S: Shelf>(&mut self, shelf: &mut S) -> Result<Next, LineFault>
         requires { IsTrue self.old.live }
 

@@ -1,4 +1,4 @@
--- Sets of atoms by their tests, and their codes.
+-- Sets of atoms by their tests.
 use Rattle.std.specs.Prelude.{◌≡◌, ◌≤◌, ℕ, Bool, false, List}
 use Rattle.hv_task.specs.State.{has_atom}
 

@@ -51,6 +51,7 @@ impl Model for Explicit {
 
 impl Explicit {
     /// The set of these states of the task, which are shared where the list is, and else copied.
+    /// More than 4,294,967,295 states are answered as want of memory.
     pub fn new(alloc: Global, task: &Task, states: &StateList) -> Result<Explicit, AllocError>
         requires { AreStates (atoms task.now) states.now }
         ensures { IfOk result (λ set.

@@ -46,7 +46,8 @@ impl Explicits {
         }
     }
 
-    /// Adds a set, and gives its number.
+    /// Adds a set, and gives its number. A number above 4,294,967,295 is answered as want of
+    /// memory.
     pub fn add(&mut self, set: Explicit) -> Result<usize, AllocError>
         ensures number { IfOk result (λ number. number ≡ length self.old) }
         ensures ok { IfOk result (λ _. self.new ≡ self.old ++ set ∷ []) }

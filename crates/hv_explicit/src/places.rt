@@ -41,7 +41,8 @@ impl Model for Places {
 
     ghost view = { λ p. p.codes.items };
 
-    ghost invariant = { λ p. IsPlaceTable p.codes.items p.before.items p.heads.items p.turn.factor };
+    ghost invariant = { λ p.
+        IsPlaceTable p.codes.items p.before.items p.heads.items p.turn.factor };
 }
 
 impl Places {
@@ -179,7 +180,8 @@ fn widen(
     ensures table { IfOk result (λ new.
         IsPlaceTable codes.now before.new.items heads.new.items new.factor) }
     ensures room { IfOk result (λ _. 0 < length heads.new.items) }
-    ensures err { OnErr result (IsPlaceTable codes.now before.new.items heads.new.items turn.factor) }
+    ensures err { OnErr result
+        (IsPlaceTable codes.now before.new.items heads.new.items turn.factor) }
 {
     if codes.len() < heads.len() {
         return Ok(turn);

@@ -15,8 +15,8 @@ use hv_task::{Action, AtomList, Name, State, Task};
 use std::alloc::{AllocError, Global};
 use std::test::Fail;
 
-// A state of a task with two atoms is a code below 4, with a bit for each atom. A set is a mask, with a
-// bit for each code.
+// A state of a task with two atoms is a code below 4, with a bit for each atom. A set is a mask,
+// with a bit for each code.
 fn has_bit(bits: u32, place: u32) -> bool
     requires { place < 32 }
 {
@@ -162,8 +162,8 @@ fn many_sets_of(alloc: Global, task: &Task, masks: &[u32]) -> Result<Explicits, 
     Ok(sets)
 }
 
-// The counterexample to the query of the first set, and of none of the others and the last: its code,
-// or 4 where there is none and 5 where the query costs more than the budget.
+// The counterexample to the query of the first set, and of none of the others and the last: its
+// code, or 4 where there is none and 5 where the query costs more than the budget.
 fn found_by(
     alloc: Global,
     masks: [u32; 6],

@@ -12,6 +12,9 @@ use std::alloc::{AllocError, Global};
 /// Whether the left set is within the right one: Over exactly where the walk over the states
 /// outside the right set has more steps than the budget; else Clash exactly where a state is in the
 /// left set and outside the right one, and such a state then stands in the scratch; else Empty.
+///
+/// A set takes part by the traits of `hv_paths`: a type with those of `hv_sets` has them by one
+/// line each, with the plain walks and questions of that crate.
 pub fn within<'a, L: InsideAsked<'a>, R: OutsideWalked<'a>>(
     alloc: Global,
     left: &'a L,

@@ -12,6 +12,9 @@ use std::alloc::{AllocError, Global};
 /// Whether the complement of the left set is within the right one: Over exactly where the walk over
 /// the states outside the left set has more steps than the budget; else Clash exactly where a state
 /// is in neither, and such a state then stands in the scratch; else Empty.
+///
+/// A set takes part by the traits of `hv_paths`: a type with those of `hv_sets` has them by one
+/// line each, with the plain walks and questions of that crate.
 pub fn together<'a, L: OutsideWalked<'a>, R: OutsideAsked<'a>>(
     alloc: Global,
     left: &'a L,

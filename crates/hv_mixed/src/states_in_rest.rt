@@ -12,6 +12,9 @@ use std::alloc::{AllocError, Global};
 /// Whether the left set is within the complement of the right one: Over exactly where the walk over
 /// the left set has more steps than the budget; else Clash exactly where a state is in both, and
 /// such a state then stands in the scratch; else Empty.
+///
+/// A set takes part by the traits of `hv_paths`: a type with those of `hv_sets` has them by one
+/// line each, with the plain walks and questions of that crate.
 pub fn apart<'a, L: InsideWalked<'a>, R: InsideAsked<'a>>(
     alloc: Global,
     left: &'a L,

@@ -11,6 +11,9 @@ use std::alloc::{AllocError, Global};
 
 /// The same as `within`, by the walk over the left set: Over exactly where that has more steps than
 /// the budget.
+///
+/// A set takes part by the traits of `hv_paths`: a type with those of `hv_sets` has them by one
+/// line each, with the plain walks and questions of that crate.
 pub fn within_states<'a, L: InsideWalked<'a>, R: OutsideAsked<'a>>(
     alloc: Global,
     left: &'a L,

@@ -22,8 +22,8 @@ pub trait Walker {
     // The cubes that are left.
     ghost left: { Self → List (List Literal) };
 
-    /// Takes the next cube, and tells how many literals at the front of the one before it has. After
-    /// the last cube, and after want of memory, the walk is over.
+    /// Takes the next cube, and tells with how many of the literals of the one before it begins.
+    /// After the last cube, and after want of memory, the walk is over.
     fn advance(&mut self) -> Result<Option<usize>, AllocError>
         requires { stands self.old }
         ensures step { IfOk result (λ kept.

@@ -9,8 +9,8 @@ use Rattle.hv_sets.specs.declared.operand.Which.TheVariants as W
 use Rattle.hv_sets.specs.declared.query.Query.{Query}
 use Rattle.hv_sets.specs.Query.{IsAnchor}
 
--- nothing is counted further: no budget is greater, no walk is asked for more steps, and no list
--- has more nodes
+-- nothing is counted further: no inclusion and no check has a greater budget, no walk is asked for
+-- more steps, and no list has more nodes
 abbrev pub most_counted : ℕ
 most_counted = 16777216
 

@@ -14,8 +14,8 @@ use crate::scratch::Scratch;
 use hv_task::State;
 use std::alloc::{AllocError, Global};
 
-/// Nothing is counted further: no budget is greater, no walk is asked for more steps, and no list
-/// has more nodes.
+/// Nothing is counted further: no inclusion and no check has a greater budget, no walk is asked for
+/// more steps, and no list has more nodes.
 pub const MOST_COUNTED: u64 = 16_777_216;
 
 /// A set of states of a task.

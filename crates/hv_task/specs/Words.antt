@@ -1,4 +1,4 @@
--- Flags that are kept 64 a word, and states in them.
+-- States as flags that are kept 64 a word.
 use Rattle.std.specs.Prelude.{◌≡◌, ◌≤◌, ◌<◌, ◌+◌, ◌*◌, ◌↔◌, ℕ, Bool, true, List, length, slice_index}
 use Rattle.std.specs.Int.{bit_at}
 use Rattle.hv_task.specs.State.{has_atom}

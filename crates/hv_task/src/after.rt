@@ -13,7 +13,9 @@ use crate::atoms::{Atoms, Hint};
 /// What an action makes of the state of these atoms, read without being built.
 #[derive(Clone, Copy)]
 pub struct After<'a> {
+    /// The atoms that hold before the action.
     pub held: &'a AtomList,
+    /// The action.
     pub action: &'a Action,
 }
 

@@ -23,9 +23,11 @@ entry_of action = record {
   items = map pre action.pre ++ (map add action.add ++ map del action.del);
 }
 
+-- what the text says of a task before its actions
 abbrev pub head_of : Strips → Head
 head_of task = record { names = task.names; start = task.start; goal = task.goal }
 
+-- the lines of the canonical text
 abbrev pub canonical_lines : Strips → List (List ℕ)
 canonical_lines task = text_lines (head_of task) (map entry_of task.actions)
 

@@ -10,6 +10,7 @@ pub data Item : Type 0 where
   add : ℕ → Item
   del : ℕ → Item
 
+-- the line of an atom of an action
 abbrev pub item_line : Item → List ℕ
 item_line (pre atom) = codes "PRE:" ++ decimal atom
 item_line (add atom) = codes "ADD:" ++ decimal atom
@@ -74,6 +75,8 @@ text_lines head actions = action_lines (length actions) head actions ++ codes "e
 abbrev pub set_of : ℕ → List ℕ → List ℕ
 set_of atoms listed = filter (λ atom. list_any (λ n. n == atom) listed) (range_with_len 0 atoms)
 
+-- the atom of such a line, where it is one of the precondition, of what is added, of what is
+-- deleted
 abbrev pub pre_of : Item → Option ℕ
 pre_of (pre atom) = Some atom
 pre_of (add atom) = None

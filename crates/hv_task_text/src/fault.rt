@@ -11,19 +11,33 @@ use thiserror::Error;
 /// The kind of a place in a task text: what its line has to be.
 #[derive(Clone, Copy, Debug, PartialEq, Eq)]
 pub enum TaskKind {
+    /// `begin_atoms:N`.
     BeginAtoms,
+    /// The name of an atom, any bytes.
     AtomName,
+    /// `end_atoms`.
     EndAtoms,
+    /// `begin_init`.
     BeginInit,
+    /// A number of an atom that is true at the start, or `end_init`.
     InitAtom,
+    /// `begin_goal`.
     BeginGoal,
+    /// A number of an atom of the goal, or `end_goal`.
     GoalAtom,
+    /// `begin_actions:M`.
     BeginActions,
+    /// `begin_action`.
     BeginAction,
+    /// The name of an action, any bytes.
     ActionName,
+    /// `cost:C`.
     Cost,
+    /// `PRE:i`, `ADD:i` or `DEL:i` with a number of an atom, or `end_action`.
     ActionLine,
+    /// `end_actions`.
     EndActions,
+    /// The end of the input.
     End,
 }
 

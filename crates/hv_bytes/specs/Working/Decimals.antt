@@ -1,4 +1,4 @@
--- Working definitions beside those of `Decimals`: what contracts of private functions and proofs say.
+-- Working definitions beside those of `Decimals`: for private contracts and proofs.
 use Rattle.std.specs.Prelude.{◌≡◌, ℕ, ◌<◌, ◌≤◌, List, length, slice_index}
 
 -- from 1 to 18 bytes, the first of them no zero where there are more

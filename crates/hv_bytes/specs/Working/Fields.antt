@@ -1,4 +1,4 @@
--- Working definitions beside those of `Fields`: what contracts of private functions and proofs say.
+-- Working definitions beside those of `Fields`: for private contracts and proofs.
 use Rattle.std.specs.Prelude.{◌≡◌, ℕ, ◌+◌, ◌<◌, List, ◌∷◌, length, take, drop}
 use Rattle.hv_bytes.specs.Fields.{HasNoSpace}
 

@@ -1,4 +1,4 @@
--- Working definitions beside those of `Files`: what contracts of private functions and proofs say.
+-- Working definitions beside those of `Files`: for private contracts and proofs.
 use Rattle.std.specs.Prelude.{ℕ, List, [], Option, None, Some, unwrap_or, option_map, slice_get}
 use Rattle.hv_bytes.specs.Files.{Names, bytes_of, File}
 

@@ -1,4 +1,4 @@
--- Working definitions beside those of `LineCuts`: what contracts of private functions and proofs say.
+-- Working definitions beside those of `LineCuts`: for private contracts and proofs.
 use Rattle.std.specs.Prelude.{◌≡◌, ℕ, ◌+◌, ◌<◌, List, ◌∷◌, length, take, drop, sum_by}
 use Rattle.hv_bytes.specs.LineCuts.{IsClean}
 

@@ -1,4 +1,4 @@
--- Working definitions beside those of `Pieces`: what contracts of private functions and proofs say.
+-- Working definitions beside those of `Pieces`: for private contracts and proofs.
 use Rattle.std.specs.Prelude.{◌≡◌, ℕ, ◌+◌, List, ◌++◌, Option, None, Some}
 use Rattle.hv_bytes.specs.LineCuts.{lines_of}
 use Rattle.hv_bytes.specs.declared.cutting.Limits.{Limits}

@@ -1,4 +1,4 @@
--- Working definitions beside those of `States`: what contracts of private functions and proofs say.
+-- Working definitions beside those of `States`: for private contracts and proofs.
 use Rattle.std.specs.Prelude.{◌≡◌, ℕ, ◌+◌, ◌^◌, ◌≤◌, Bool, true, List, []}
 use Rattle.hv_bytes.specs.declared.cutting.Limits.{Limits}
 

@@ -1,4 +1,4 @@
--- Working definitions beside those of `Codes`: what contracts of private functions and proofs say.
+-- Working definitions beside those of `Codes`: for private contracts and proofs.
 use Rattle.std.specs.Prelude.{◌≡◌, ◌<◌, ◌↔◌, ℕ, Bool, true, List, [], ◌∷◌, length, slice_index_or}
 use Rattle.std.specs.List.{Contains, fold}
 use Rattle.std.specs.List.Sorted.{IsStrictlyIncreasing}

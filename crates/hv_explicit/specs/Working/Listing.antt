@@ -1,4 +1,4 @@
--- Working definitions beside those of `Listing`: what contracts of private functions and proofs say.
+-- Working definitions beside those of `Listing`: for private contracts and proofs.
 use Rattle.std.specs.Prelude.{◌≡◌, ◌<◌, ℕ, Bool, List, [], length, slice_index, slice_index_or}
 use Rattle.hv_explicit.specs.Working.Codes.{IsSame, code_of}
 use Rattle.hv_explicit.specs.Working.Places.{code_at}

@@ -51,7 +51,8 @@ pub record IsStore (sets : List Listing) (codes : List ℕ) (entries : List Entr
 -- its state has just these atoms
 abbrev pub IsOwner : (ℕ → Bool) → List Listing → List Operand → Bool → Entry → Type 0
 IsOwner held sets operands after entry =
-    (set : Listing) × (slice_get sets entry.set ≡ Some set) × AsksAbout operands (W.Set entry.set) after
+    (set : Listing) × (slice_get sets entry.set ≡ Some set)
+    × AsksAbout operands (W.Set entry.set) after
     × (entry.place < length set.states) × IsSame held (state_of_entry set.states entry)
 
 -- some set of the store is among the operands of this side, and has the state

@@ -1,4 +1,4 @@
--- Working definitions beside those of `Along`: what contracts of private functions and proofs say.
+-- Working definitions beside those of `Along`: for private contracts and proofs.
 use Rattle.std.specs.Prelude.{◌≡◌, Bool, true, false, List, [], ◌∷◌}
 use Rattle.hv_sets.specs.declared.literal.Literal.{Literal}
 

@@ -1,4 +1,4 @@
--- Working definitions beside those of `Cubes`: what contracts of private functions and proofs say.
+-- Working definitions beside those of `Cubes`: for private contracts and proofs.
 use Rattle.std.specs.Prelude.{◌<◌, ◌≤◌, ℕ, List, length, not, slice_index}
 
 -- the atoms before this place are less than the atom, and the others are not

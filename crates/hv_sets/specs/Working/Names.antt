@@ -1,4 +1,4 @@
--- Working definitions beside those of `Names`: what contracts of private functions and proofs say.
+-- Working definitions beside those of `Names`: for private contracts and proofs.
 use Rattle.std.specs.Prelude.{◌↔◌, Bool, List}
 use Rattle.std.specs.List.{Contains}
 use Rattle.hv_sets.specs.declared.operand.Operand.{Operand}

@@ -1,4 +1,4 @@
--- Working definitions beside those of `AtomList`: what contracts of private functions and proofs say.
+-- Working definitions beside those of `AtomList`: for private contracts and proofs.
 use Rattle.std.specs.Prelude.{◌≡◌, ◌<◌, ◌≤◌, ℕ, List, length, slice_index, Result, MatchResult}
 
 -- the place of an atom in a rising list, or else the place where it belongs: what stands before it

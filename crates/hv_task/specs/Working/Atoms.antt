@@ -1,4 +1,4 @@
--- Working definitions beside those of `Atoms`: what contracts of private functions and proofs say.
+-- Working definitions beside those of `Atoms`: for private contracts and proofs.
 use Rattle.std.specs.Prelude.{ℕ, Bool, ◌||◌, Option}
 use Rattle.hv_task.specs.Atoms.{IsNext}
 

@@ -1,4 +1,4 @@
--- Working definitions beside those of `Words`: what contracts of private functions and proofs say.
+-- Working definitions beside those of `Words`: for private contracts and proofs.
 use Rattle.std.specs.Prelude.{◌≡◌, ◌≤◌, ◌<◌, ◌+◌, ◌*◌, ◌/◌, ◌%◌, ◌==◌, ℕ, Bool, false, List, length, map, slice_index, Option, MatchOption}
 use Rattle.std.specs.Int.{bit_at}
 use Rattle.std.specs.List.{range_with_len}

@@ -1,4 +1,4 @@
--- Working definitions beside those of `Canonical`: what contracts of private functions and proofs say.
+-- Working definitions beside those of `Canonical`: for private contracts and proofs.
 use Rattle.std.specs.Prelude.{◌≤◌}
 use Rattle.std.specs.List.Sorted.{IsStrictlyIncreasing}
 use Rattle.hv_task.specs.declared.action.Action.{Action}

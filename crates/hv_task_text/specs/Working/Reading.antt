@@ -72,7 +72,8 @@ TakesWord word next r line new = (line ≡ word) × (new ≡ record r { expected
 
 -- the line's number behind this word, of one of so many atoms, is put into the set
 abbrev pub Puts : ℕ → List ℕ → List ℕ → List ℕ → List ℕ → Type 0
-Puts atoms line word old new = (n : ℕ) × IsNumberedLine line word n × (n < atoms) × Inserts old n new
+Puts atoms line word old new = (n : ℕ) × IsNumberedLine line word n × (n < atoms)
+    × Inserts old n new
 
 -- the open action goes last, and none is open
 abbrev pub ClosesAction : Reader → Reader → Type 0

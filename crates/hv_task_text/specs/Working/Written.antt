@@ -1,4 +1,4 @@
--- Working definitions beside those of `Written`: what contracts of private functions and proofs say.
+-- Working definitions beside those of `Written`: for private contracts and proofs.
 use Rattle.std.specs.Prelude.{ℕ, ◌+◌, List, sum}
 use Rattle.hv_task_text.specs.Written.{set_of}
 
