@@ -29,3 +29,4 @@ pub mod Untouched
 pub mod Starting
 pub mod Blocks
 pub mod Digits
+pub mod Asking

@@ -1,20 +1,18 @@
 -- Single steps: what a literal that is forced and what a clause that was looked through make of the
 -- marks.
-use Rattle.std.proofs.Common.{◌≡◌, ℕ, ◌+◌, ◌<◌, ◌∙◌, ◌⊎◌, Bool, true, false, not, ◌&&◌, eqb, List, length, get_or, Option, None, Some, refl, sym, ap, arith, inl, inr, subst}
-use Rattle.std.proofs.lemmas.Bool.{and_parts, eq-eqb, eqb-true, false_from_ne_true}
-use Rattle.std.proofs.Math.Bool.{beq}
-use Rattle.std.proofs.lemmas.List.Elements.{Contains-get_or}
+use Rattle.std.proofs.Common.{◌≡◌, ℕ, ◌<◌, ◌∙◌, Bool, true, false, not, List, length, get_or, None, Some, refl, sym, ap, arith}
+use Rattle.std.proofs.lemmas.Bool.{false_from_ne_true}
 use Rattle.std.proofs.lemmas.List.Folds.{list_any_at}
-use Rattle.std.specs.List.{All, Contains}
+use Rattle.std.specs.List.{All}
 use Rattle.hv_sets.specs.declared.literal.Literal.{Literal}
 use Rattle.hv_sets.specs.Cubes.{opposite}
 use Rattle.hv_sets.specs.Truth.{in_clause, in_literal}
 use Rattle.hv_clauses.specs.Marks.{known, over}
 use Rattle.hv_clauses.specs.Working.Marks.{Agrees, KeepsKnown}
-use Rattle.hv_clauses.specs.Units.{IsSettled, value_of}
+use Rattle.hv_clauses.specs.Units.{value_of}
 use Rattle.hv_clauses.specs.Working.Units.{IsConcluded}
 use Rattle.hv_clauses.proofs.Marked.{agrees_write, extends_same, extends_write, has_atom-literal, in_literal-opposite, value_false, value_from_opposite, value_marked, value_none, value_open}
-use Rattle.hv_clauses.proofs.Rounds.{Upto, conclude_same, never, read_at, upto_more}
+use Rattle.hv_clauses.proofs.Rounds.{conclude_same, never}
 
 -- one mark more, at the atom of a literal
 pub record IsMarked (literal : Literal) (old new : List ℕ) : Type 0 where
@@ -56,81 +54,6 @@ module _ (e m : List ℕ) (l : Literal) where
       broken = λ is. never is;
       done = λ is. value_marked e k l (value_none e m l nothing).0 marks.here;
     }
-
--- what a look through the literals of a clause knows at a place: all before are false; or this
--- literal is open, and the others are false
-abbrev pub Seen : Option Literal → List ℕ → List ℕ → List Literal → ℕ → Type 0
-Seen None e m clause i = Upto (λ l. value_of e m l ≡ Some false) clause i
-Seen (Some u) e m clause i =
-    Contains clause u × (value_of e m u ≡ None) × Upto (λ l. (l ≡ u) ⊎ (value_of e m l ≡ Some false)) clause i
-
-module _ (e m : List ℕ) (clause : List Literal) (i : ℕ) (d : Literal) (within : i < length clause) where
-  -- a false literal tells nothing new
-  pub seen_false : (u : Option Literal) → value_of e m (get_or clause i d) ≡ Some false → Seen u e m clause i
-      → Seen u e m clause (i + 1)
-  seen_false None h seen =
-      upto_more (λ l. value_of e m l ≡ Some false) clause i (get_or clause i d) within (read_at clause i d within) seen h
-  seen_false (Some u) h seen = (
-    seen.0,
-    seen.1,
-    upto_more (λ l. (l ≡ u) ⊎ (value_of e m l ≡ Some false)) clause i (get_or clause i d) within (read_at clause i d within)
-        seen.2 (inr h),
-  )
-
-  -- the first open one
-  pub seen_first : value_of e m (get_or clause i d) ≡ None → Seen None e m clause i
-      → Seen (Some (get_or clause i d)) e m clause (i + 1)
-  seen_first h seen = (
-    Contains-get_or clause i d within,
-    h,
-    upto_more (λ l. (l ≡ get_or clause i d) ⊎ (value_of e m l ≡ Some false)) clause i (get_or clause i d) within
-        (read_at clause i d within)
-        (λ k f less. inr (seen k f less)) (inl refl),
-  )
-
-  -- the same one again
-  pub seen_again : (u : Literal) → u ≡ get_or clause i d → Seen (Some u) e m clause i → Seen (Some u) e m clause (i + 1)
-  seen_again u same seen = (
-    seen.0,
-    seen.1,
-    upto_more (λ l. (l ≡ u) ⊎ (value_of e m l ≡ Some false)) clause i (get_or clause i d) within (read_at clause i d within) seen.2
-        (inl (sym same)),
-  )
-
-  -- another one
-  pub seen_two : (u : Literal) → (u ≡ get_or clause i d → ⊥) → value_of e m (get_or clause i d) ≡ None
-      → Seen (Some u) e m clause i → IsSettled e m clause
-  seen_two u other h seen = inr (u, get_or clause i d, seen.0, Contains-get_or clause i d within, other, seen.1, h)
-
--- whether two literals are one, as a test
-pub literals_differ : (l k : Literal) → not (eqb l.atom k.atom && beq l.positive k.positive) ≡ true → l ≡ k → ⊥
-literals_differ l k h same =
-    let at : not (eqb l.atom l.atom && beq l.positive l.positive) ≡ true =
-    subst (λ n. not (eqb l.atom n.atom && beq l.positive n.positive) ≡ true) (sym same) h in
-    own (eqb l.atom l.atom) l.positive (eq-eqb l.atom l.atom refl) at
-  where
-    own : (b sign : Bool) → b ≡ true → not (b && beq sign sign) ≡ true → ⊥
-    own true true e h = never (sym h)
-    own true false e h = never (sym h)
-    own false sign e h = never (sym e)
-
-pub literals_same : (l k : Literal) → not (eqb l.atom k.atom && beq l.positive k.positive) ≡ false → l ≡ k
-literals_same l k h =
-    let both = and_parts (eqb l.atom k.atom) (beq l.positive k.positive)
-    (opened (eqb l.atom k.atom && beq l.positive k.positive) h) in
-    let first = eqb-true l.atom k.atom both.0 in
-    let second = signs l.positive k.positive both.1 in
-    λ i. record { atom = first i; positive = second i }
-  where
-    opened : (b : Bool) → not b ≡ false → b ≡ true
-    opened true e = refl
-    opened false e = never e
-
-    signs : (a b : Bool) → beq a b ≡ true → a ≡ b
-    signs true true e = refl
-    signs false false e = refl
-    signs true false e = never (sym e)
-    signs false true e = never (sym e)
 
 -- where a clause is false each literal is
 pub all_false : (clause : List Literal) (state : List Bool) → in_clause clause state ≡ false

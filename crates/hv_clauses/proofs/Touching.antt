@@ -11,6 +11,7 @@ use Rattle.hv_sets.specs.declared.operand.Operand.{Operand}
 use Rattle.hv_sets.specs.declared.operand.Which.TheVariants as W
 use Rattle.hv_sets.specs.declared.query.Query.{Query}
 use Rattle.hv_sets.specs.Cost.{choices_of, clauses_of}
+use Rattle.hv_sets.specs.Cubes.{SpeakBelow}
 use Rattle.hv_sets.specs.Names.{AsksAbout}
 use Rattle.hv_sets.specs.Truth.{in_clause}
 use Rattle.hv_clauses.specs.declared.occurrences.Occurrence.{Occurrence}
@@ -20,10 +21,11 @@ use Rattle.hv_clauses.specs.Clausal.{sizes_of}
 use Rattle.hv_clauses.specs.Working.Clausal.{clauses_in, late}
 use Rattle.hv_clauses.specs.Working.Found.{IsFramed, IsMetAmong, IsMetBelow}
 use Rattle.hv_clauses.specs.Marks.{known, over}
+use Rattle.hv_clauses.specs.Working.Marks.{Agrees}
 use Rattle.hv_clauses.specs.Working.Occurrences.{IsIndexOf, signed, turning_sign}
 use Rattle.hv_clauses.specs.Working.Problem.{FitsChoice}
 use Rattle.hv_clauses.specs.Units.{value_of}
-use Rattle.hv_clauses.proofs.Framed.{framed_true}
+use Rattle.hv_clauses.proofs.Framed.{framed_true, known_true}
 use Rattle.hv_clauses.proofs.Marked.{known_past, through_some, value_some}
 
 -- the effect turns no literal of a clause, or it turns one
@@ -135,6 +137,20 @@ module _ (task : Strips) (formulas : ℕ → List (List Literal)) (effect : List
       ∙ breaks in
       framed_true task formulas effect query.positive set operand.after number state within
       (subst (λ w. AsksAbout query.positive w (not operand.after)) is framed.named) held fits.inside
+      (sym (ap (λ n. in_clause (clause_at (formulas set) n) (over (late effect operand.after) state)) (mod-eq_of_lt within)) ∙ broken)
+
+  -- no state that agrees with what is known fits the choice of a clause of which a literal is true
+  pub known_none : (base : List ℕ) (number : ℕ) (state : List Bool) → number < choices_of task (sizes_of formulas) query.negative
+      → SpeakBelow (length state) (clause_at (formulas set) number)
+      → ((l : Literal) × Contains (clause_at (formulas set) number) l × (value_of (late effect operand.after) base l ≡ Some true))
+      → Agrees base state → FitsChoice task formulas effect query number state → ⊥
+  known_none base number state less below found agrees fits =
+      let within : number < length (formulas set) = omega (arith, choices_are) in
+      let breaks = alone_breaks task formulas effect query.negative framed.alone.place operand framed.alone.here framed.alone.before number state fits.outside in
+      let broken : in_clause (clause_at (formulas set) (number % length (formulas set))) (over (late effect operand.after) state) ≡ false =
+      sym (ap (λ w. in_clause (clause_at (clauses_in task formulas w) (number % length (clauses_in task formulas w))) (over (late effect operand.after) state)) is)
+      ∙ breaks in
+      known_true (late effect operand.after) base (clause_at (formulas set) number) (length state) state below refl found agrees
       (sym (ap (λ n. in_clause (clause_at (formulas set) n) (over (late effect operand.after) state)) (mod-eq_of_lt within)) ∙ broken)
 
   -- so it is enough to try the clauses of which it turns one

@@ -1,4 +1,4 @@
--- Kinds of clauses: what is owed of one, and what is known of a formula of it.
+-- Kinds of clauses: what is owed of one.
 use Rattle.std.specs.Prelude.{◌≡◌, ℕ, Bool, true, List, length}
 use Rattle.std.specs.List.{Contains}
 use Rattle.hv_sets.specs.declared.literal.Literal.{Literal}

@@ -1,4 +1,4 @@
--- Where literals stand.
+-- Where negative literals stand.
 use Rattle.std.specs.Prelude.{◌<◌, ℕ, false, List, [], length, slice_index_or}
 use Rattle.std.specs.List.{Contains}
 use Rattle.hv_sets.specs.declared.literal.Literal.{Literal}

@@ -1,4 +1,4 @@
--- Numbers by key, kept as one rising list of codes.
+-- Rows of numbers, one for each key.
 use Rattle.std.specs.Prelude.{◌↔◌, ℕ, List}
 use Rattle.std.specs.List.{Contains}
 use Rattle.std.specs.List.Sorted.{IsStrictlyIncreasing}

@@ -22,3 +22,6 @@ pub mod Implied
 pub mod Lists
 pub mod Base
 pub mod Front
+pub mod Touched
+pub mod Room
+pub mod Asking

@@ -28,6 +28,7 @@ pub(crate) fn meet<K: ClauseKind>(
     cube: &[Literal],
     places: &mut [u32],
     queue: &mut [u32],
+    watches: &mut [u32],
     state: &mut State,
 ) -> bool
     requires kind { All K.is_of clauses.now }
@@ -40,6 +41,7 @@ pub(crate) fn meet<K: ClauseKind>(
     ensures meets { Meets result (length state.old) (in_clauses clauses.now) cube.now state.new }
     ensures places { length places.new ≡ length places.old }
     ensures queue { length queue.new ≡ length queue.old }
+    ensures watches { length watches.new ≡ length watches.old }
     ensures state { length state.new ≡ length state.old }
 {
     if closure.broken {
@@ -47,7 +49,7 @@ pub(crate) fn meet<K: ClauseKind>(
     }
     let atoms = state.atoms() as usize;
     let forced = closure.forced.as_slice();
-    let mut marks = Marks::over(atoms, forced, places, queue);
+    let mut marks = Marks::over(atoms, forced, places, queue, watches);
     let alone = Alone {
         clauses,
         occurs: &closure.occurs,

@@ -10,60 +10,32 @@ ghost use Rattle.hv_clauses.specs.Working.Choices.{clause_at};
 ghost use Rattle.hv_clauses.specs.Clausal.{AreClauses};
 ghost use Rattle.hv_clauses.specs.Marks.{over};
 ghost use Rattle.hv_clauses.specs.Working.Occurrences.{AreBeside, IsIndexOf};
-ghost use Rattle.hv_clauses.specs.Working.Scan.{Scans};
 ghost use Rattle.hv_clauses.specs.Working.Trail.{marks_of};
 ghost use Rattle.hv_clauses.specs.Units.{IsSettled, value_of};
 
 use crate::change::Effect;
+use crate::look::Scan;
 use crate::occurrences::{Occurrences, Standing};
 use crate::trail::Marks;
-use crate::{beside, literals};
+use crate::{beside, literals, look};
 use hv_sets::{Clauses, Literal};
 
-// What a clause says next.
-#[derive(Clone, Copy, Debug, PartialEq, Eq)]
-pub(crate) enum Scan {
-    // Nothing more: a literal is true, or two different ones are open.
-    Settled,
-    // That this literal is true, since all others are false.
-    Unit(Literal),
-    // That there is no state, since all literals are false.
-    Broken,
-}
-
-// Looks through the literals of a clause.
-pub(crate) fn look(clause: &[Literal], effect: &Effect<'_>, marks: &Marks<'_>) -> Scan
-    ensures { Scans result effect.now (marks_of marks.now) clause.now }
-{
-    let mut unit = None;
-    for literal in clause {
-        match literals::value(effect, marks, *literal) {
-            Some(true) => return Scan::Settled,
-            Some(false) => {}
-            None => match unit {
-                None => unit = Some(*literal),
-                Some(other) => {
-                    if other != *literal {
-                        return Scan::Settled;
-                    }
-                }
-            },
-        }
-    }
-    match unit {
-        None => Scan::Broken,
-        Some(literal) => Scan::Unit(literal),
-    }
-}
-
-// Puts on the trail what the clause says next. The answer is false if the clause is broken.
-pub(crate) fn step(clause: &[Literal], effect: &Effect<'_>, marks: &mut Marks<'_>) -> bool
+// Puts on the trail what the clause at this place says next. The answer is false if the clause is
+// broken.
+pub(crate) fn step(
+    clause: &[Literal],
+    place: usize,
+    effect: &Effect<'_>,
+    marks: &mut Marks<'_>,
+) -> bool
     requires { SpeakBelow (length marks.old.base) clause.now }
     ensures followed { IsFollowed (λ state. in_clause clause.now (over effect.now state) ≡ true)
         marks.old marks.new result }
     ensures settled { result ≡ true → IsSettled effect.now (marks_of marks.new) clause.now }
 {
-    match look(clause, effect, marks) {
+    let found = look::look(clause, marks.watch(place), effect, marks);
+    marks.remember(place, found.watch);
+    match found.scan {
         Scan::Settled => true,
         Scan::Broken => false,
         Scan::Unit(literal) => {
@@ -82,7 +54,7 @@ pub(crate) fn start(clauses: &Clauses, effect: &Effect<'_>, marks: &mut Marks<'_
         → AreKept effect.now clauses.now marks.new (length marks.old.trail) }
 {
     for place in 0..clauses.len() {
-        if !step(clauses.get(place), effect, marks) {
+        if !step(clauses.get(place), place, effect, marks) {
             return false;
         }
     }
@@ -169,10 +141,9 @@ fn visit_one(
 {
     match beside::literal_at(standing.entries[index]) {
         Some(other) => literals::force(other, effect, marks),
-        None => step(
-            clauses.get(standing.listed[index].place as usize),
-            effect,
-            marks,
-        ),
+        None => {
+            let place = standing.listed[index].place as usize;
+            step(clauses.get(place), place, effect, marks)
+        }
     }
 }

@@ -28,6 +28,8 @@ pub(crate) struct Closure {
     pub occurs: Occurrences,
     pub broken: bool,
     pub forced: Vec<Literal>,
+    /// How many entries the places take that looks into these clauses remember.
+    pub watches: usize,
 }
 
 impl Closure {
@@ -42,14 +44,28 @@ impl Closure {
             return Err(AllocError);
         }
         let occurs = Occurrences::new(alloc, clauses)?;
+        let watches = watches_of(clauses);
         let mut forced = Vec::new(alloc);
-        let broken = !force(alloc, atoms, clauses, &occurs, &mut forced)?;
+        let broken = !force(alloc, atoms, clauses, &occurs, watches, &mut forced)?;
         Ok(Closure {
             occurs,
             broken,
             forced,
+            watches,
         })
     }
+}
+
+// How many entries the places take that looks into these clauses remember: two for each, up to the
+// last one of more than two literals.
+fn watches_of(clauses: &Clauses) -> usize {
+    let mut count = 0;
+    for place in 0..clauses.len() {
+        if clauses.get(place).len() > 2 {
+            count = place + 1;
+        }
+    }
+    count.saturating_mul(2)
 }
 
 // Lists what follows from the clauses. The answer is false only if they are true in no state.
@@ -58,6 +74,7 @@ fn force(
     atoms: usize,
     clauses: &Clauses,
     occurs: &Occurrences,
+    watches: usize,
     forced: &mut Vec<Literal>,
 ) -> Result<bool, AllocError>
     requires few { atoms ≤ 2 ^ 31 }
@@ -71,9 +88,12 @@ fn force(
     places.resize(atoms, 0)?;
     let mut queue = Vec::new(alloc);
     queue.resize(atoms, 0)?;
+    let mut places_watched = Vec::new(alloc);
+    places_watched.resize(watches, 0)?;
     let places = places.as_mut_slice();
     let queue = queue.as_mut_slice();
-    let mut marks = Marks::over(atoms, &[], places, queue);
+    let watched = places_watched.as_mut_slice();
+    let mut marks = Marks::over(atoms, &[], places, queue, watched);
     if !conclude(clauses, occurs, &mut marks) {
         return Ok(false);
     }

@@ -36,7 +36,7 @@ pub(crate) fn cover(
     ensures state { length state.new ≡ length state.old }
 {
     let atoms = state.atoms() as usize;
-    let mut marks = Marks::over(atoms, &[], places, queue);
+    let mut marks = Marks::over(atoms, &[], places, queue, &mut []);
     cover_from(clauses, cube, &mut marks, state)
 }
 

@@ -59,7 +59,8 @@ pub(crate) fn find_in<K: ClauseKind>(
     };
     let places = scratch.marks.as_mut_slice();
     let queue = scratch.queue.as_mut_slice();
-    if search(&problem, cost, places, queue, &mut scratch.state) {
+    let watches = scratch.counts.as_mut_slice();
+    if search(&problem, cost, places, queue, watches, &mut scratch.state) {
         Finding::Clash
     } else {
         Finding::Empty
@@ -72,6 +73,7 @@ fn search<K: ClauseKind>(
     cost: u64,
     places: &mut [u32],
     queue: &mut [u32],
+    watches: &mut [u32],
     state: &mut State,
 ) -> bool
     requires posed { IsPosed problem.now.task.now problem.now.store.now problem.now.effect.now
@@ -90,6 +92,7 @@ fn search<K: ClauseKind>(
         problem.now.query.now) state.new }
     ensures places { length places.new ≡ length places.old }
     ensures queue { length queue.new ≡ length queue.old }
+    ensures watches { length watches.new ≡ length watches.old }
     ensures state { length state.new ≡ length state.old }
 {
     let Some(start) = start::start_of(problem) else {
@@ -97,7 +100,7 @@ fn search<K: ClauseKind>(
     };
     let atoms = problem.task.atoms() as usize;
     let based = start.operand;
-    let mut marks = Marks::from(atoms, start.base, places, queue);
+    let mut marks = Marks::from(atoms, start.base, places, queue, watches);
     search_from(problem, based, cost, &mut marks, state)
 }
 
@@ -187,7 +190,8 @@ fn choose<K: ClauseKind>(
     requires state { length state.old ≡ atoms problem.now.task.now }
     ensures met { IsMetBelow result (choices_of problem.now.task.now
         (sizes_of (formula_at problem.now.store.now)) problem.now.query.now.negative)
-        (atoms problem.now.task.now) (FitsChoice problem.now.task.now (formula_at problem.now.store.now)
+        (atoms problem.now.task.now) (FitsChoice problem.now.task.now
+        (formula_at problem.now.store.now)
         problem.now.effect.now problem.now.query.now) state.new }
     ensures state { length state.new ≡ length state.old }
 {

@@ -1,6 +1,6 @@
 //! Formulas of one kind of clauses.
 
-ghost use Rattle.std.specs.Prelude.{◌≡◌, ◌<◌, ◌≤◌, ◌+◌, ⊤, length, min, drop, IfOk, IfErr};
+ghost use Rattle.std.specs.Prelude.{◌≡◌, ◌<◌, ◌≤◌, ◌+◌, ◌^◌, ⊤, length, min, drop, IfOk, IfErr};
 ghost use Rattle.std.specs.Prelude.{MatchOption};
 ghost use Rattle.std.specs.List.{All};
 ghost use Rattle.hv_task.specs.Strips.{atoms};
@@ -22,6 +22,7 @@ ghost use Rattle.hv_clauses.specs.Working.Occurrences.{IsIndexOf};
 
 use crate::clause_kind::ClauseKind;
 use crate::closure::Closure;
+use crate::constraint::Alone;
 use crate::lists::Lists;
 use crate::occurrences::Occurrences;
 use crate::{alone, cover, denial, implied, rows};
@@ -57,7 +58,8 @@ impl<K: ClauseKind> Model for Formula<K> {
 }
 
 impl<K: ClauseKind> Formula<K> {
-    /// The formula of these clauses over the states of the task.
+    /// The formula of these clauses over the states of the task. More than 4,294,967,296 clauses
+    /// are answered as want of memory.
     pub fn new(alloc: Global, task: &Task, clauses: &Clauses) -> Result<Formula<K>, K::Fault>
         requires { AreClauses (atoms task.now) clauses.now }
         ensures ok { IfOk result
@@ -118,11 +120,30 @@ impl<K: ClauseKind> Formula<K> {
         rows::numbers_at(&lists.codes, &lists.numbers, key)
     }
 
+    // How many entries the places take that looks into its clauses remember.
+    pub(crate) fn watches(&self) -> usize {
+        self.closure.watches
+    }
+
     // Where their literals stand.
     pub(crate) fn occurs(&self) -> &Occurrences
         ensures { IsIndexOf self.now.clauses result.now }
     {
         &self.closure.occurs
+    }
+
+    // Its clauses with the places of their literals.
+    pub(crate) fn alone(&self) -> Alone<'_>
+        ensures clauses { result.clauses.now ≡ self.now.clauses }
+        ensures index { IsIndexOf result.clauses.now result.occurs.now }
+        ensures below { AreClauses self.now.atoms result.clauses.now }
+        ensures kind { All K.is_of result.clauses.now }
+        ensures few { self.now.atoms ≤ 2 ^ 31 }
+    {
+        Alone {
+            clauses: &self.clauses,
+            occurs: &self.closure.occurs,
+        }
     }
 
     // The literals that follow from the clauses alone, by rising atoms. The answer is None only if
@@ -149,12 +170,14 @@ impl<K: ClauseKind> Formula<K> {
     {
         let places = scratch.marks.as_mut_slice();
         let queue = scratch.queue.as_mut_slice();
+        let watches = scratch.counts.as_mut_slice();
         alone::meet::<K>(
             &self.clauses,
             &self.closure,
             cube.as_slice(),
             places,
             queue,
+            watches,
             &mut scratch.state,
         )
     }
@@ -197,7 +220,8 @@ impl<K: ClauseKind> StateSet for Formula<K> {
 
     fn meets(&self, alloc: Global, cube: &Cube, scratch: &mut Scratch) -> Result<bool, AllocError> {
         let _ = alloc;
-        scratch.reserve(self.atoms, 0, self.clauses.len())?;
+        let entries = self.clauses.len().max(self.closure.watches);
+        scratch.reserve(self.atoms, 0, entries)?;
         Ok(self.meets_in(cube, scratch))
     }
 }

@@ -5,7 +5,7 @@ ghost use Rattle.std.specs.Prelude.{IfSome, OnErr};
 ghost use Rattle.std.specs.List.{All};
 ghost use Rattle.hv_task.specs.Strips.{atoms};
 ghost use Rattle.hv_sets.specs.Cost.{ClausesPass, IsAnswer, clauses_among};
-ghost use Rattle.hv_sets.specs.Query.{IsReady, is_clash};
+ghost use Rattle.hv_sets.specs.Query.{IsNamed, IsReady, is_clash};
 ghost use Rattle.hv_sets.specs.Room.{HasRoom, KeepsLengths};
 ghost use Rattle.hv_clauses.specs.Clausal.{tests_of, sizes_of};
 ghost use Rattle.hv_clauses.specs.Working.Kinded.{IsKinded};
@@ -15,7 +15,7 @@ use crate::clause_kind::ClauseKind;
 use crate::completion::Completion;
 use crate::find;
 use crate::formula::Formula;
-use hv_sets::{Family, Finding, Query, Scratch};
+use hv_sets::{Family, Finding, Operand, Query, Scratch, Which};
 use hv_task::Task;
 use std::alloc::{AllocError, Global};
 use std::marker::Model;
@@ -95,6 +95,19 @@ impl<K: ClauseKind> Formulas<K> {
         K::completion()
     }
 
+    // How many entries the places take that looks into the clauses of these operands remember.
+    fn watches(&self, operands: &[Operand]) -> usize
+        requires { All (λ o. IsNamed (length self.now) o.which) operands.now }
+    {
+        let mut most = 0;
+        for operand in operands {
+            if let Which::Set(number) = operand.which {
+                most = most.max(self.set(number).watches());
+            }
+        }
+        most
+    }
+
     /// The exact answer to a query, as `find` gives it. It takes no memory.
     pub fn find_in(&self, task: &Task, query: &Query, budget: u64, scratch: &mut Scratch) -> Finding
         requires ready { IsReady (length self.now) query.now }
@@ -137,7 +150,8 @@ impl<K: ClauseKind> Family for Formulas<K> {
         scratch: &mut Scratch,
     ) -> Result<Finding, AllocError> {
         let _ = alloc;
-        scratch.reserve(task.atoms(), 0, 0)?;
+        let watches = self.watches(query.positive.as_slice());
+        scratch.reserve(task.atoms(), 0, watches)?;
         Ok(find::find_in(self, task, query, budget, scratch))
     }
 }

@@ -2,6 +2,7 @@
 #![tactic(auto)]
 
 mod alone;
+mod asked;
 mod base;
 mod beside;
 mod change;
@@ -15,7 +16,7 @@ mod constraint;
 mod cover;
 mod denial;
 mod effect;
-pub mod find;
+mod find;
 pub mod formula;
 pub mod formulas;
 mod frame;
@@ -24,10 +25,12 @@ mod implied;
 pub mod listing;
 mod lists;
 mod literals;
+mod look;
 mod negative;
 mod occurrences;
 mod paths;
 mod problem;
+mod room;
 mod rows;
 mod start;
 mod touched;

@@ -1,8 +1,9 @@
 //! Formulas walked over and asked about along paths.
 
+use crate::asked::FormulaAsk;
 use crate::clause_kind::ClauseKind;
 use crate::formula::Formula;
-use hv_paths::{InsideAsk, InsideAsked, OutsideAsk, OutsideAsked, OutsideWalk, OutsideWalked};
+use hv_paths::{InsideAsked, OutsideAsk, OutsideAsked, OutsideWalk, OutsideWalked};
 use std::alloc::{AllocError, Global};
 
 impl<'a, K: ClauseKind + 'a> OutsideWalked<'a> for Formula<K> {
@@ -14,10 +15,10 @@ impl<'a, K: ClauseKind + 'a> OutsideWalked<'a> for Formula<K> {
 }
 
 impl<'a, K: ClauseKind + 'a> InsideAsked<'a> for Formula<K> {
-    type Ask = InsideAsk<'a, Formula<K>>;
+    type Ask = FormulaAsk<'a, K>;
 
-    fn ask_inside(&'a self, alloc: Global) -> Result<InsideAsk<'a, Formula<K>>, AllocError> {
-        Ok(InsideAsk::new(alloc, self))
+    fn ask_inside(&'a self, alloc: Global) -> Result<FormulaAsk<'a, K>, AllocError> {
+        FormulaAsk::new(alloc, self)
     }
 }
 

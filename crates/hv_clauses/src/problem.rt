@@ -75,7 +75,8 @@ fn visit_which<K: ClauseKind>(
     requires size { length marks.old.base ≡ atoms task.now }
     requires from { from < length marks.old.trail }
     requires left { IsLeft task.now (formula_at store.now) effect.now which marks.old from }
-    ensures followed { IsFollowed (λ state. in_which task.now (tests_of (formula_at store.now)) which
+    ensures followed { IsFollowed
+        (λ state. in_which task.now (tests_of (formula_at store.now)) which
         (over effect.now state) ≡ true) marks.old marks.new result }
     ensures left { result ≡ true → IsLeft task.now (formula_at store.now) effect.now which marks.new
         (from + 1) }
@@ -167,7 +168,8 @@ fn start_which<K: ClauseKind>(
     requires named { IsNamed (length store.now) which }
     requires over { AreOver store.now (atoms task.now) }
     requires size { length marks.old.base ≡ atoms task.now }
-    ensures followed { IsFollowed (λ state. in_which task.now (tests_of (formula_at store.now)) which
+    ensures followed { IsFollowed
+        (λ state. in_which task.now (tests_of (formula_at store.now)) which
         (over effect.now state) ≡ true) marks.old marks.new result }
     ensures left { result ≡ true → IsLeft task.now (formula_at store.now) effect.now which marks.new
         0 }

@@ -1,25 +1,38 @@
 //! The choices that an effect can make false, where the set of the one negative operand is a
 //! positive operand at the other time.
 
-ghost use Rattle.std.specs.Prelude.{◌≡◌, ◌<◌, Bool, Some, ⊤, length};
+ghost use Rattle.std.specs.Prelude.{◌≡◌, ◌<◌, Some, ⊤, length, slice_index_or, true};
 ghost use Rattle.std.specs.List.{All};
-ghost use Rattle.std.specs.List.Sorted.{IsNonDecreasingBy};
 ghost use Rattle.hv_task.specs.Strips.{atoms};
 ghost use Rattle.hv_sets.specs.Cost.{choices_of};
 ghost use Rattle.hv_clauses.specs.Clausal.{sizes_of};
-ghost use Rattle.hv_clauses.specs.Working.Found.{IsBased, IsFramed, IsMetAmong, IsMetBelow, IsPosed};
+ghost use Rattle.hv_clauses.specs.declared.occurrences.Occurrence.{Occurrence};
+ghost use Rattle.hv_clauses.specs.Working.Found.{IsBased, IsFramed, IsMet, IsMetAmong, IsMetBelow};
+ghost use Rattle.hv_clauses.specs.Working.Found.{IsPosed};
 ghost use Rattle.hv_clauses.specs.Marks.{known};
-ghost use Rattle.hv_clauses.specs.Working.Occurrences.{signed, turning_sign};
+ghost use Rattle.hv_clauses.specs.Working.Occurrences.{AreBeside, no_literal, signed, turning_sign};
 ghost use Rattle.hv_clauses.specs.Working.Problem.{FitsChoice};
 ghost use Rattle.hv_clauses.specs.Store.{formula_at};
+ghost use Rattle.hv_clauses.specs.Working.Touched.{IsTouched};
+ghost use Rattle.hv_clauses.specs.Working.Trail.{literal_of, marks_of};
+ghost use Rattle.hv_clauses.specs.Units.{value_of};
 
+use crate::change::Effect;
 use crate::clause_kind::ClauseKind;
-use crate::find;
-use crate::occurrences::{Occurrence, Occurrences};
+use crate::occurrences::{Occurrences, Standing};
 use crate::problem::Problem;
 use crate::trail::Marks;
-use hv_sets::{Operand, Which};
+use crate::{beside, find, literals};
+use hv_sets::{Literal, Operand, Which};
 use hv_task::State;
+
+// The one negative operand, the number of its set, and where the literals of its clauses stand.
+#[derive(Drop)]
+pub(crate) struct Touched<'a> {
+    pub operand: Operand,
+    pub number: usize,
+    pub occurs: &'a Occurrences,
+}
 
 // Tries each choice of a clause of which the effect turns a literal.
 pub(crate) fn choose_touched<K: ClauseKind>(
@@ -36,7 +49,8 @@ pub(crate) fn choose_touched<K: ClauseKind>(
     requires state { length state.old ≡ atoms problem.now.task.now }
     ensures met { IsMetBelow result (choices_of problem.now.task.now
         (sizes_of (formula_at problem.now.store.now)) problem.now.query.now.negative)
-        (atoms problem.now.task.now) (FitsChoice problem.now.task.now (formula_at problem.now.store.now)
+        (atoms problem.now.task.now) (FitsChoice problem.now.task.now
+        (formula_at problem.now.store.now)
         problem.now.effect.now problem.now.query.now) state.new }
     ensures same { marks.new ≡ marks.old }
     ensures state { length state.new ≡ length state.old }
@@ -44,33 +58,37 @@ pub(crate) fn choose_touched<K: ClauseKind>(
     let Which::Set(number) = operand.which else {
         return false;
     };
-    let occurs = problem.store.set(number).occurs();
-    if try_value(problem, occurs, operand.after, false, marks, state) {
+    let set = problem.store.set(number);
+    let _clauses = set.clauses();
+    let touched = Touched {
+        operand,
+        number,
+        occurs: set.occurs(),
+    };
+    if try_value(problem, &touched, false, marks, state) {
         return true;
     }
-    try_value(problem, occurs, operand.after, true, marks, state)
+    try_value(problem, &touched, true, marks, state)
 }
 
 // Tries each choice of a clause of which a literal is turned by an atom that the effect makes this
 // value.
 fn try_value<K: ClauseKind>(
     problem: &Problem<'_, K>,
-    occurs: &Occurrences,
-    after: bool,
+    touched: &Touched<'_>,
     value: bool,
     marks: &mut Marks<'_>,
     state: &mut State,
 ) -> bool
-    requires sorted { (sign : Bool) → IsNonDecreasingBy (λ o. o.atom) (signed occurs.now sign) }
-    requires inside { (sign : Bool) → All (λ o. o.place < choices_of problem.now.task.now
-        (sizes_of (formula_at problem.now.store.now)) problem.now.query.now.negative)
-        (signed occurs.now sign) }
+    requires touched { IsTouched problem.now.task.now (formula_at problem.now.store.now)
+        problem.now.query.now touched.now }
     requires posed { IsPosed problem.now.task.now problem.now.store.now problem.now.effect.now
         problem.now.query.now }
     requires based { IsBased problem.now.task.now (formula_at problem.now.store.now)
         problem.now.effect.now problem.now.query.now marks.old }
     requires state { length state.old ≡ atoms problem.now.task.now }
-    ensures met { IsMetAmong result (signed occurs.now (turning_sign after value))
+    ensures met { IsMetAmong result
+        (signed touched.now.occurs.now (turning_sign touched.now.operand.after value))
         (λ p. known problem.now.effect.now p ≡ Some value)
         (choices_of problem.now.task.now (sizes_of (formula_at problem.now.store.now))
         problem.now.query.now.negative) (atoms problem.now.task.now)
@@ -79,11 +97,15 @@ fn try_value<K: ClauseKind>(
     ensures same { marks.new ≡ marks.old }
     ensures state { length state.new ≡ length state.old }
 {
-    let sign = turning_sign(after, value);
+    let sign = turning_sign(touched.operand.after, value);
     let turned = problem.effect.turned(value);
     for atom in turned {
-        let listed = occurs.of(*atom, sign);
-        if try_listed(problem, listed, marks, state) {
+        let own = Literal {
+            atom: *atom,
+            positive: sign,
+        };
+        let standing = touched.occurs.standing(own);
+        if try_listed(problem, touched, sign, &standing, marks, state) {
             return true;
         }
     }
@@ -101,18 +123,25 @@ fn turning_sign(after: bool, value: bool) -> bool
 // Tries each choice of a listed clause.
 fn try_listed<K: ClauseKind>(
     problem: &Problem<'_, K>,
-    listed: &[Occurrence],
+    touched: &Touched<'_>,
+    sign: bool,
+    standing: &Standing<'_>,
     marks: &mut Marks<'_>,
     state: &mut State,
 ) -> bool
     requires inside { All (λ o. o.place < choices_of problem.now.task.now
-        (sizes_of (formula_at problem.now.store.now)) problem.now.query.now.negative) listed.now }
+        (sizes_of (formula_at problem.now.store.now)) problem.now.query.now.negative)
+        standing.now.listed.now }
+    requires beside { AreBeside sign (formula_at problem.now.store.now touched.now.number)
+        standing.now.listed.now standing.now.entries.now }
+    requires touched { IsTouched problem.now.task.now (formula_at problem.now.store.now)
+        problem.now.query.now touched.now }
     requires posed { IsPosed problem.now.task.now problem.now.store.now problem.now.effect.now
         problem.now.query.now }
     requires based { IsBased problem.now.task.now (formula_at problem.now.store.now)
         problem.now.effect.now problem.now.query.now marks.old }
     requires state { length state.old ≡ atoms problem.now.task.now }
-    ensures met { IsMetAmong result listed.now (λ _. ⊤)
+    ensures met { IsMetAmong result standing.now.listed.now (λ _. ⊤)
         (choices_of problem.now.task.now (sizes_of (formula_at problem.now.store.now))
         problem.now.query.now.negative) (atoms problem.now.task.now)
         (FitsChoice problem.now.task.now (formula_at problem.now.store.now) problem.now.effect.now
@@ -120,10 +149,58 @@ fn try_listed<K: ClauseKind>(
     ensures same { marks.new ≡ marks.old }
     ensures state { length state.new ≡ length state.old }
 {
-    for occurrence in listed {
-        if find::decide(problem, occurrence.place as u64, marks, state) {
+    for index in 0..standing.listed.len() {
+        if try_one(problem, touched, sign, standing, index, marks, state) {
             return true;
         }
     }
     false
+}
+
+// Tries the choice of the clause that is listed at this place. Where the literal beside is known to
+// be true, no state fits it: that shows without a look into the clause.
+fn try_one<K: ClauseKind>(
+    problem: &Problem<'_, K>,
+    touched: &Touched<'_>,
+    sign: bool,
+    standing: &Standing<'_>,
+    index: usize,
+    marks: &mut Marks<'_>,
+    state: &mut State,
+) -> bool
+    requires inside { All (λ o. o.place < choices_of problem.now.task.now
+        (sizes_of (formula_at problem.now.store.now)) problem.now.query.now.negative)
+        standing.now.listed.now }
+    requires beside { AreBeside sign (formula_at problem.now.store.now touched.now.number)
+        standing.now.listed.now standing.now.entries.now }
+    requires index { index < length standing.now.listed.now }
+    requires touched { IsTouched problem.now.task.now (formula_at problem.now.store.now)
+        problem.now.query.now touched.now }
+    requires posed { IsPosed problem.now.task.now problem.now.store.now problem.now.effect.now
+        problem.now.query.now }
+    requires based { IsBased problem.now.task.now (formula_at problem.now.store.now)
+        problem.now.effect.now problem.now.query.now marks.old }
+    requires state { length state.old ≡ atoms problem.now.task.now }
+    ensures met { (o : Occurrence) → IsMet result (atoms problem.now.task.now)
+        (FitsChoice problem.now.task.now (formula_at problem.now.store.now) problem.now.effect.now
+        problem.now.query.now (slice_index_or standing.now.listed.now index o).place) state.new }
+    ensures same { marks.new ≡ marks.old }
+    ensures state { length state.new ≡ length state.old }
+{
+    let seen = problem.effect.late(touched.operand.after);
+    if is_true(standing.entries[index], &seen, marks) {
+        return false;
+    }
+    find::decide(problem, standing.listed[index].place as u64, marks, state)
+}
+
+// Whether an entry stands for a literal that is known to be true.
+fn is_true(entry: u32, effect: &Effect<'_>, marks: &Marks<'_>) -> bool
+    ensures { result ≡ true → (entry ≡ no_literal → ⊥)
+        × (value_of effect.now (marks_of marks.now) (literal_of entry) ≡ Some true) }
+{
+    match beside::literal_at(entry) {
+        None => false,
+        Some(literal) => literals::value(effect, marks, literal) == Some(true),
+    }
 }

@@ -1,43 +1,49 @@
 //! What is known of the atoms of a task, and in which order it was found out.
 
 ghost use Rattle.std.specs.Prelude.{◌≡◌, ◌<◌, ◌≤◌, ◌++◌, ◌^◌, [], ◌∷◌, None, Some, length, take};
-ghost use Rattle.std.specs.Prelude.{slice_get};
+ghost use Rattle.std.specs.Prelude.{IfOk, slice_get};
 ghost use Rattle.std.specs.List.Sorted.{IsStrictlyIncreasing};
 ghost use Rattle.hv_sets.specs.Cubes.{atoms_of};
 ghost use Rattle.hv_clauses.specs.Marks.{filled, known};
 ghost use Rattle.hv_clauses.specs.Working.Trail.{marked, marks_of};
 
 use crate::base::Base;
+use crate::look::Watch;
+use crate::room::Room;
 use hv_sets::Literal;
 use hv_task::State;
+use std::alloc::{AllocError, Global};
 use std::marker::Model;
 
 /// What is known of the atoms of a task: literals that were known before, which stay as they are,
-/// and those that were found true since, in room that others lend, whatever stands there. To forget
-/// the latest of these costs nothing.
+/// and those that were found true since, in room that others lend, whatever stands there, or that
+/// it owns. To forget the latest of these costs nothing. Beside these, in room that may be of any
+/// length, it remembers places of clauses, of which nothing is said.
 #[derive(Drop)]
 pub(crate) struct Marks<'a> {
     atoms: usize,
     base: Base<'a>,
     // For each atom of a literal of the trail the place of its entry, and the entries.
-    places: &'a mut [u32],
-    queue: &'a mut [u32],
+    room: Room<'a>,
     len: usize,
+    // For each clause, by its place, the two places at which the last look into it ended.
+    watches: &'a mut [u32],
 }
 
 impl<'a> Model for Marks<'a> {
     ghost use Rattle.std.specs.Prelude.{◌≤◌, ◌^◌};
+    ghost use Rattle.hv_clauses.specs.Working.Room.{places_in, queue_in};
     ghost use Rattle.hv_clauses.specs.Working.Trail.{AreJoined, Knowledge, marked, trail_of};
 
     ghost Value = { Knowledge };
 
     ghost view = { λ s. record {
       base = marked s.atoms s.base;
-      trail = trail_of s.queue.now s.len;
+      trail = trail_of (queue_in s.room) s.len;
     } };
 
-    ghost invariant = { λ s. (s.atoms ≤ 2 ^ 31) × AreJoined (marked s.atoms s.base) s.places.now
-        s.queue.now s.len };
+    ghost invariant = { λ s. (s.atoms ≤ 2 ^ 31) × AreJoined (marked s.atoms s.base)
+        (places_in s.room) (queue_in s.room) s.len };
 }
 
 impl<'a> Marks<'a> {
@@ -47,6 +53,7 @@ impl<'a> Marks<'a> {
         base: &'a [Literal],
         places: &'a mut [u32],
         queue: &'a mut [u32],
+        watches: &'a mut [u32],
     ) -> Marks<'a>
         requires few { atoms ≤ 2 ^ 31 }
         requires rises { IsStrictlyIncreasing (atoms_of base.now) }
@@ -54,7 +61,7 @@ impl<'a> Marks<'a> {
         requires queue { atoms ≤ length queue.old }
         ensures { result ≡ record { base = marked atoms base.now; trail = [] } }
     {
-        Marks::from(atoms, Base::of(base), places, queue)
+        Marks::from(atoms, Base::of(base), places, queue, watches)
     }
 
     /// The same of literals beside an effect.
@@ -63,6 +70,7 @@ impl<'a> Marks<'a> {
         base: Base<'a>,
         places: &'a mut [u32],
         queue: &'a mut [u32],
+        watches: &'a mut [u32],
     ) -> Marks<'a>
         requires few { atoms ≤ 2 ^ 31 }
         requires places { atoms ≤ length places.old }
@@ -72,10 +80,30 @@ impl<'a> Marks<'a> {
         Marks {
             atoms,
             base,
-            places,
-            queue,
+            room: Room::lent(places, queue),
             len: 0,
+            watches,
         }
+    }
+
+    /// The same in rows of its own.
+    pub(crate) fn owned(
+        alloc: Global,
+        atoms: usize,
+        base: Base<'a>,
+    ) -> Result<Marks<'a>, AllocError>
+        requires few { atoms ≤ 2 ^ 31 }
+        ensures { IfOk result
+            (λ marks. marks ≡ record { base = marked atoms base.entry; trail = [] }) }
+    {
+        let room = Room::owned(alloc, atoms)?;
+        Ok(Marks {
+            atoms,
+            base,
+            room,
+            len: 0,
+            watches: &mut [],
+        })
     }
 
     /// How many atoms the task has.
@@ -110,11 +138,11 @@ impl<'a> Marks<'a> {
         if at >= self.atoms {
             return None;
         }
-        let place = self.places[at] as usize;
+        let place = self.room.place(at) as usize;
         if place >= self.len {
             return self.base.read(self.atoms, atom);
         }
-        let entry = self.queue[place] as usize;
+        let entry = self.room.entry(place) as usize;
         if entry / 2 != at {
             return self.base.read(self.atoms, atom);
         }
@@ -128,8 +156,9 @@ impl<'a> Marks<'a> {
         ensures { self.new
             ≡ record { base = self.old.base; trail = self.old.trail ++ literal ∷ [] } }
     {
-        self.places[literal.atom as usize] = self.len as u32;
-        self.queue[self.len] = literal.atom * 2 + literal.positive as u32;
+        self.room.set_place(literal.atom as usize, self.len as u32);
+        let entry = literal.atom * 2 + literal.positive as u32;
+        self.room.set_entry(self.len, entry);
         self.len += 1;
     }
 
@@ -139,11 +168,35 @@ impl<'a> Marks<'a> {
         ensures here { slice_get self.now.trail place ≡ Some result }
         ensures below { result.atom < length self.now.base }
     {
-        let queue = &*self.queue;
-        let entry = queue[place];
+        let entry = self.room.entry(place);
         Literal {
             atom: entry / 2,
             positive: entry % 2 == 1,
+        }
+    }
+
+    /// The places at which the last look into the clause at this place ended, or any others.
+    pub(crate) fn watch(&self, clause: usize) -> Watch {
+        let watches = &*self.watches;
+        if clause >= watches.len() / 2 {
+            return Watch {
+                first: usize::MAX,
+                second: 0,
+            };
+        }
+        Watch {
+            first: watches[2 * clause] as usize,
+            second: watches[2 * clause + 1] as usize,
+        }
+    }
+
+    /// Remembers at which places a look into the clause at this place ended, if there is room.
+    pub(crate) fn remember(&mut self, clause: usize, watch: Watch)
+        ensures { self.new ≡ self.old }
+    {
+        if clause < self.watches.len() / 2 {
+            self.watches[2 * clause] = entry_of(watch.first);
+            self.watches[2 * clause + 1] = entry_of(watch.second);
         }
     }
 
@@ -157,4 +210,9 @@ impl<'a> Marks<'a> {
             state.set(atom, self.read(atom).unwrap_or(value));
         }
     }
+}
+
+// A place as an entry. One that is too large becomes another one.
+fn entry_of(place: usize) -> u32 {
+    place.min(u32::MAX as usize) as u32
 }

@@ -80,7 +80,8 @@ fn start_listed(
         → IsKept effect.now (clause_at clauses.now o.place) marks.new 0 }
 {
     for occurrence in listed {
-        if !chase::step(clauses.get(occurrence.place as usize), effect, marks) {
+        let place = occurrence.place as usize;
+        if !chase::step(clauses.get(place), place, effect, marks) {
             return false;
         }
     }

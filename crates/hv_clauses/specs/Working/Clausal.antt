@@ -1,4 +1,4 @@
--- Working definitions beside those of `Clausal`: what contracts of private functions and proofs say.
+-- Working definitions beside those of `Clausal`: for private contracts and proofs.
 use Rattle.std.specs.Prelude.{◌≡◌, ℕ, zero, suc, Bool, true, List, [], ◌∷◌, ◌++◌, length, map}
 use Rattle.std.specs.Prelude.{if◌then◌else◌}
 use Rattle.std.specs.List.{All}

@@ -1,4 +1,4 @@
--- Working definitions beside those of `Implied`: what contracts of private functions and proofs say.
+-- Working definitions beside those of `Implied`: for private contracts and proofs.
 use Rattle.std.specs.Prelude.{◌≡◌, ℕ, List}
 use Rattle.hv_sets.specs.declared.literal.Literal.{Literal}
 use Rattle.hv_sets.specs.Cubes.{opposite}

@@ -1,4 +1,4 @@
--- Working definitions beside those of `Kinded`: what contracts of private functions and proofs say.
+-- Working definitions beside those of `Kinded`: for private contracts and proofs.
 use Rattle.std.specs.Prelude.{List}
 use Rattle.std.specs.List.{All}
 use Rattle.hv_sets.specs.declared.literal.Literal.{Literal}

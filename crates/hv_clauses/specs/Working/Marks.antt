@@ -1,4 +1,4 @@
--- Working definitions beside those of `Marks`: what contracts of private functions and proofs say.
+-- Working definitions beside those of `Marks`: for private contracts and proofs.
 use Rattle.std.specs.Prelude.{◌≡◌, ◌<◌, ◌==◌, ℕ, Bool, false, if◌then◌else◌, List}
 use Rattle.std.specs.Prelude.{None, Some}
 use Rattle.std.specs.List.{count_by}

@@ -1,4 +1,4 @@
--- Working definitions beside those of `Negative`: what contracts of private functions and proofs say.
+-- Working definitions beside those of `Negative`: for private contracts and proofs.
 use Rattle.std.specs.Prelude.{◌≡◌, ℕ, false, List}
 use Rattle.std.specs.List.{Contains}
 use Rattle.hv_sets.specs.declared.literal.Literal.{Literal}

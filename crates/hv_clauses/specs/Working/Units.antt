@@ -1,4 +1,4 @@
--- Working definitions beside those of `Units`: what contracts of private functions and proofs say.
+-- Working definitions beside those of `Units`: for private contracts and proofs.
 use Rattle.std.specs.Prelude.{◌≡◌, ℕ, Bool, true, false, List, length}
 use Rattle.std.specs.Prelude.{Some}
 use Rattle.std.specs.List.{All}

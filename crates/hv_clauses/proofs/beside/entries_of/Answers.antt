@@ -1,7 +1,6 @@
-use Rattle.std.proofs.Common.{◌≡◌, ◌∙◌, ℕ, ◌<◌, ◌++◌, ◌∷◌, [], length, get_or, refl, sym, ap, arith, below_more, subst}
+use Rattle.std.proofs.Common.{◌≡◌, ◌∙◌, ◌++◌, ◌∷◌, [], length, get_or, sym, ap, arith, below_more, subst}
 use Rattle.std.proofs.lemmas.List.{get_or_append_left, get_or_default, get_or_push, length-append}
 use Rattle.std.proofs.lemmas.Option.{get_or_from_slice_get}
-use Rattle.hv_sets.specs.declared.literal.Literal.{Literal}
 use Rattle.hv_clauses.specs.declared.occurrences.Occurrence.{Occurrence}
 use Rattle.hv_clauses.specs.Working.Choices.{clause_at}
 use Rattle.hv_clauses.specs.Working.Occurrences.{IsBeside}

@@ -1,6 +1,8 @@
-use Rattle.std.proofs.Common.{◌≡◌, true, sym, subst}
+use Rattle.std.proofs.Common.{◌≡◌, ◌++◌, ◌∷◌, [], ◌∙◌, true, false, sym, ap, subst}
 use Rattle.hv_sets.specs.Truth.{in_clause}
+use Rattle.hv_clauses.specs.declared.look.Scan.{Scan}
 use Rattle.hv_clauses.specs.Working.Chase.{IsFollowed}
+use Rattle.hv_clauses.specs.Working.Scan.{Scans}
 use Rattle.hv_clauses.specs.Marks.{over}
 use Rattle.hv_clauses.specs.Working.Trail.{Knowledge, marks_of}
 use Rattle.hv_clauses.specs.Units.{IsSettled}
@@ -9,17 +11,30 @@ use Rattle.hv_clauses.proofs.chase.step.Goals as goal
 
 pub returns-in-Broken-clause-followed : goal.returns-in-Broken-clause-followed
 returns-in-Broken-clause-followed c =
-    broken_followed c.args.effect.now c.args.marks.now c.args.clause.now c.requires c.in-Broken.ensures
+    let e = c.args.effect.now in
+    let m = c.args.marks.now in
+    let clause = c.args.clause.now in
+    let found = subst (λ (s : Scan). Scans s e (marks_of m) clause) c.in-Broken.is c.look-found.ensures in
+    subst (λ (k : Knowledge). IsFollowed (λ s. in_clause clause (over e s) ≡ true) m k false) (sym c.remember.ensures)
+    (broken_followed e m clause c.requires found)
 
 pub returns-in-Unit-clause-followed : goal.returns-in-Unit-clause-followed
 returns-in-Unit-clause-followed c =
-    let found = c.in-Unit.ensures in
-    subst (λ (k : Knowledge). IsFollowed (λ s. in_clause c.args.clause.now (over c.args.effect.now s) ≡ true) c.args.marks.now k true)
-    (sym c.write.ensures)
-    (step_followed c.args.effect.now c.args.marks.now c.in-Unit.literal c.args.clause.now c.requires found.0 found.1 found.2)
+    let e = c.args.effect.now in
+    let m = c.args.marks.now in
+    let clause = c.args.clause.now in
+    let found = subst (λ (s : Scan). Scans s e (marks_of m) clause) c.in-Unit.is c.look-found.ensures in
+    let more = λ (k : Knowledge). let n : Knowledge = record { base = k.base; trail = k.trail ++ c.in-Unit.literal ∷ [] } in n in
+    subst (λ (k : Knowledge). IsFollowed (λ s. in_clause clause (over e s) ≡ true) m k true)
+    (sym (c.write.ensures ∙ ap more c.remember.ensures))
+    (step_followed e m c.in-Unit.literal clause c.requires found.0 found.1 found.2)
 
 pub returns-in-Unit-clause-settled : goal.returns-in-Unit-clause-settled
 returns-in-Unit-clause-settled c = λ is.
-    let found = c.in-Unit.ensures in
-    subst (λ (k : Knowledge). IsSettled c.args.effect.now (marks_of k) c.args.clause.now) (sym c.write.ensures)
-    (step_settled c.args.effect.now c.args.marks.now c.in-Unit.literal c.args.clause.now c.requires found.0 found.1)
+    let e = c.args.effect.now in
+    let m = c.args.marks.now in
+    let clause = c.args.clause.now in
+    let found = subst (λ (s : Scan). Scans s e (marks_of m) clause) c.in-Unit.is c.look-found.ensures in
+    let more = λ (k : Knowledge). let n : Knowledge = record { base = k.base; trail = k.trail ++ c.in-Unit.literal ∷ [] } in n in
+    subst (λ (k : Knowledge). IsSettled e (marks_of k) clause) (sym (c.write.ensures ∙ ap more c.remember.ensures))
+    (step_settled e m c.in-Unit.literal clause c.requires found.0 found.1)

@@ -1,10 +1,9 @@
-use Rattle.std.proofs.Common.{◌+◌, ◌<◌, ◌≡◌, ◌∙◌, Some, false, not, length, get_or, refl, ap, arith, sym, subst}
+use Rattle.std.proofs.Common.{◌+◌, ◌<◌, ◌∙◌, Some, false, not, length, get_or, ap, arith, sym}
 use Rattle.std.proofs.lemmas.List.Elements.{All-contains, Contains-get_or}
 use Rattle.std.proofs.lemmas.Option.{get_or_from_slice_get}
 use Rattle.std.proofs.Math.Bool.{beq}
 use Rattle.std.specs.Option.{option_eq}
 use Rattle.hv_clauses.specs.declared.occurrences.Occurrence.{Occurrence}
-use Rattle.hv_clauses.specs.Working.Chase.{IsKept}
 use Rattle.hv_clauses.specs.Working.Choices.{clause_at}
 use Rattle.hv_clauses.specs.Working.Occurrences.{signed}
 use Rattle.hv_clauses.proofs.Besides.{kept_sooner, kept_true}

@@ -1,38 +1,39 @@
-use Rattle.std.proofs.Common.{arith, subst}
+use Rattle.std.proofs.Common.{◌∙◌, subst}
+use Rattle.hv_clauses.specs.Clausal.{AreClauses}
 use Rattle.hv_clauses.specs.Working.Occurrences.{IsIndexOf}
 use Rattle.hv_clauses.specs.Store.{formula_at}
-use Rattle.hv_clauses.proofs.Touching.{choices_are, met_from_touched}
+use Rattle.hv_clauses.proofs.Touching.{met_from_touched}
 use Rattle.hv_clauses.proofs.touched.choose_touched.Goals as goal
 
-pub try_value-requires-clause-sorted : goal.try_value-requires-clause-sorted
-try_value-requires-clause-sorted g c = λ sign. (c.occurs-occurs.ensures sign).sorted
-
-pub try_value-requires-2-clause-sorted : goal.try_value-requires-2-clause-sorted
-try_value-requires-2-clause-sorted g c = λ sign. (c.occurs-occurs.ensures sign).sorted
-
-pub try_value-requires-clause-inside : goal.try_value-requires-clause-inside
-try_value-requires-clause-inside g c = λ sign k d less.
+pub try_value-requires-clause-touched : goal.try_value-requires-clause-touched
+try_value-requires-clause-touched g c =
     let p = c.args.problem.now in
-    let formulas = formula_at p.store.now in
-    let index : IsIndexOf (formulas c.in-Set.number) c.occurs-occurs.result.now =
-    subst (λ cs. IsIndexOf cs c.occurs-occurs.result.now) c.set.ensures.clauses c.occurs-occurs.ensures in
-    let within = (index sign).inside k d less in
-    omega (arith, within, choices_are p.task.now formulas p.effect.now p.query.now c.args.operand c.in-Set.number c.requires.framed c.in-Set.is)
+    record {
+      framed = c.requires.framed;
+      which = c.in-Set.is;
+      below = subst (λ n. AreClauses n (formula_at p.store.now c.in-Set.number)) (c.set-set.ensures.atoms _ c.requires.posed.over)
+          (subst (λ cs. AreClauses c.set-set.result.now.atoms cs) (c.clauses-clauses.ensures.clauses ∙ c.set-set.ensures.clauses)
+          c.clauses-clauses.ensures.below);
+      index = subst (λ cs. IsIndexOf cs c.occurs.result.now) c.set-set.ensures.clauses c.occurs.ensures;
+    }
 
-pub try_value-requires-2-clause-inside : goal.try_value-requires-2-clause-inside
-try_value-requires-2-clause-inside g c = λ sign k d less.
+pub try_value-requires-2-clause-touched : goal.try_value-requires-2-clause-touched
+try_value-requires-2-clause-touched g c =
     let p = c.args.problem.now in
-    let formulas = formula_at p.store.now in
-    let index : IsIndexOf (formulas c.in-Set.number) c.occurs-occurs.result.now =
-    subst (λ cs. IsIndexOf cs c.occurs-occurs.result.now) c.set.ensures.clauses c.occurs-occurs.ensures in
-    let within = (index sign).inside k d less in
-    omega (arith, within, choices_are p.task.now formulas p.effect.now p.query.now c.args.operand c.in-Set.number c.requires.framed c.in-Set.is)
+    record {
+      framed = c.requires.framed;
+      which = c.in-Set.is;
+      below = subst (λ n. AreClauses n (formula_at p.store.now c.in-Set.number)) (c.set-set.ensures.atoms _ c.requires.posed.over)
+          (subst (λ cs. AreClauses c.set-set.result.now.atoms cs) (c.clauses-clauses.ensures.clauses ∙ c.set-set.ensures.clauses)
+          c.clauses-clauses.ensures.below);
+      index = subst (λ cs. IsIndexOf cs c.occurs.result.now) c.set-set.ensures.clauses c.occurs.ensures;
+    }
 
 pub returns-clause-met : goal.returns-clause-met
 returns-clause-met g c =
     let p = c.args.problem.now in
     let formulas = formula_at p.store.now in
-    let index : IsIndexOf (formulas c.in-Set.number) c.occurs-occurs.result.now =
-    subst (λ cs. IsIndexOf cs c.occurs-occurs.result.now) c.set.ensures.clauses c.occurs-occurs.ensures in
+    let index : IsIndexOf (formulas c.in-Set.number) c.occurs.result.now =
+    subst (λ cs. IsIndexOf cs c.occurs.result.now) c.set-set.ensures.clauses c.occurs.ensures in
     met_from_touched p.task.now formulas p.effect.now p.query.now c.args.operand c.in-Set.number c.requires.framed c.in-Set.is
-    c.occurs-occurs.result.now index c.try_value.new.state c.try_value-2.new.state c.if-try_value.ensures.met c.try_value-2.result c.try_value-2.ensures.met
+    c.occurs.result.now index c.try_value.new.state c.try_value-2.new.state c.if-try_value.ensures.met c.try_value-2.result c.try_value-2.ensures.met

@@ -1,6 +1,5 @@
 use Rattle.std.proofs.Common.{subst, sym}
 use Rattle.std.specs.List.{Contains}
-use Rattle.hv_clauses.proofs.Besides.{part_beside, part_here}
 use Rattle.hv_clauses.proofs.Occurring.{part_has, part_starts}
 use Rattle.hv_clauses.proofs.occurrences.Occurrences.standing.Goals as goal
 

@@ -1,7 +1,8 @@
-use Rattle.std.proofs.Common.{◌∙◌, ◌<◌, get_or, length, sym, ap, arith}
+use Rattle.std.proofs.Common.{◌∙◌, ◌<◌, length, sym, ap, arith}
 use Rattle.std.proofs.lemmas.List.{get_or_default}
 use Rattle.hv_clauses.specs.Marks.{known}
 use Rattle.hv_clauses.proofs.Marked.{known_past}
+use Rattle.hv_clauses.specs.Working.Room.{places_in, queue_in}
 use Rattle.hv_clauses.specs.Working.Trail.{Knowledge, marked, marks_of, trail_of}
 use Rattle.hv_clauses.proofs.Trailed.{no_entry_other, no_entry_past, read_none, read_entry}
 use Rattle.hv_clauses.proofs.Trailed.{length-marked, length-written}
@@ -12,8 +13,8 @@ returns-then-at-self c =
     let s = c.self.inside in
     let past = c.if-at-self.true in
     let wide = length-marked s.atoms s.base in
-    let size = length-written (trail_of s.queue.now s.len) (marked s.atoms s.base) in
-    sym (known_past (marks_of (record { base = (marked s.atoms s.base); trail = trail_of s.queue.now s.len })) c.args.atom (omega arith))
+    let size = length-written (trail_of (queue_in s.room) s.len) (marked s.atoms s.base) in
+    sym (known_past (marks_of (record { base = (marked s.atoms s.base); trail = trail_of (queue_in s.room) s.len })) c.args.atom (omega arith))
     ∙ ap (λ (m : Knowledge). known (marks_of m) c.args.atom) c.self.view_is
 
 pub returns-then-place-self : goal.returns-then-place-self
@@ -23,9 +24,9 @@ returns-then-place-self c =
     let wide = length-marked s.atoms s.base in
     let low : c.args.atom < length (marked s.atoms s.base) = (let less = c.if-at-self.false in omega arith) in
     c.read.ensures
-    ∙ (sym (read_none (marked s.atoms s.base) s.places.now s.queue.now s.len c.args.atom joined
-    (no_entry_past (marked s.atoms s.base) s.places.now s.queue.now s.len c.args.atom (get_or s.places.now c.args.atom 0) joined low
-    (let room = joined.places_room in let less = c.if-at-self.false in get_or_default s.places.now c.args.atom 0 _ (omega arith)) c.if-place-self.true))
+    ∙ (sym (read_none (marked s.atoms s.base) (places_in s.room) (queue_in s.room) s.len c.args.atom joined
+    (no_entry_past (marked s.atoms s.base) (places_in s.room) (queue_in s.room) s.len c.args.atom c.place-place.result joined low
+    (let room = joined.places_room in let less = c.if-at-self.false in c.place-place.ensures ∙ get_or_default (places_in s.room) c.args.atom 0 c.place-place.result (omega arith)) c.if-place-self.true))
     ∙ ap (λ (m : Knowledge). known (marks_of m) c.args.atom) c.self.view_is)
 
 pub returns-then-entry-at : goal.returns-then-entry-at
@@ -35,11 +36,10 @@ returns-then-entry-at c =
     let wide = length-marked s.atoms s.base in
     let low : c.args.atom < length (marked s.atoms s.base) = (let less = c.if-at-self.false in omega arith) in
     c.read-then-entry-at.ensures
-    ∙ (sym (read_none (marked s.atoms s.base) s.places.now s.queue.now s.len c.args.atom joined
-    (no_entry_other (marked s.atoms s.base) s.places.now s.queue.now s.len c.args.atom (get_or s.places.now c.args.atom 0)
-    (get_or s.queue.now (get_or s.places.now c.args.atom 0) 0) joined low
-    (let room = joined.places_room in let less = c.if-at-self.false in get_or_default s.places.now c.args.atom 0 _ (omega arith)) c.if-place-self.false
-    (let room = joined.within in let less = c.if-place-self.false in get_or_default s.queue.now (get_or s.places.now c.args.atom 0) 0 _ (omega arith)) c.if-entry-at.true))
+    ∙ (sym (read_none (marked s.atoms s.base) (places_in s.room) (queue_in s.room) s.len c.args.atom joined
+    (no_entry_other (marked s.atoms s.base) (places_in s.room) (queue_in s.room) s.len c.args.atom c.place-place.result c.entry-entry.result joined low
+    (let room = joined.places_room in let less = c.if-at-self.false in c.place-place.ensures ∙ get_or_default (places_in s.room) c.args.atom 0 c.place-place.result (omega arith)) c.if-place-self.false
+    (let room = joined.within in let less = c.if-place-self.false in c.entry-entry.ensures ∙ get_or_default (queue_in s.room) c.place-place.result 0 c.entry-entry.result (omega arith)) c.if-entry-at.true))
     ∙ ap (λ (m : Knowledge). known (marks_of m) c.args.atom) c.self.view_is)
 
 pub returns : goal.returns
@@ -48,13 +48,12 @@ returns c =
     let joined = c.self.invariant.1 in
     let wide = length-marked s.atoms s.base in
     let low : c.args.atom < length (marked s.atoms s.base) = (let less = c.if-at-self.false in omega arith) in
-    sym (read_entry (marked s.atoms s.base) s.places.now s.queue.now s.len c.args.atom (get_or s.places.now c.args.atom 0)
-    (get_or s.queue.now (get_or s.places.now c.args.atom 0) 0) joined c.if-place-self.false
-    (let room = joined.within in let less = c.if-place-self.false in get_or_default s.queue.now (get_or s.places.now c.args.atom 0) 0 _ (omega arith)) c.if-entry-at.false)
+    sym (read_entry (marked s.atoms s.base) (places_in s.room) (queue_in s.room) s.len c.args.atom c.place-place.result c.entry-entry.result joined c.if-place-self.false
+    (let room = joined.within in let less = c.if-place-self.false in c.entry-entry.ensures ∙ get_or_default (queue_in s.room) c.place-place.result 0 c.entry-entry.result (omega arith)) c.if-entry-at.false)
     ∙ ap (λ (m : Knowledge). known (marks_of m) c.args.atom) c.self.view_is
 
-pub bounds-self-inside-at : goal.bounds-self-inside-at
-bounds-self-inside-at c =
+pub place-place-requires : goal.place-place-requires
+place-place-requires c =
     let s = c.self.inside in
     let joined = c.self.invariant.1 in
     let room = joined.places_room in

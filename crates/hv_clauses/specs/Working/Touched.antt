@@ -1,0 +1,19 @@
+-- The clauses of the one negative operand, where its set is a positive operand at the other time.
+use Rattle.std.specs.Prelude.{◌≡◌, ℕ, List}
+use Rattle.hv_task.specs.Strips.{Strips, atoms}
+use Rattle.hv_sets.specs.declared.literal.Literal.{Literal}
+use Rattle.hv_sets.specs.declared.operand.Which.TheVariants as W
+use Rattle.hv_sets.specs.declared.query.Query.{Query}
+use Rattle.hv_clauses.specs.declared.touched.Touched.{Touched}
+use Rattle.hv_clauses.specs.Clausal.{AreClauses}
+use Rattle.hv_clauses.specs.Working.Found.{IsFramed}
+use Rattle.hv_clauses.specs.Working.Occurrences.{IsIndexOf}
+
+-- the operand is framed by the query, it is the set of this number, the clauses of which speak of
+-- the atoms of the task, and the lists tell where their literals stand
+pub record IsTouched (task : Strips) (formulas : ℕ → List (List Literal)) (query : Query)
+    (touched : Touched) : Type 0 where
+  pub framed : IsFramed query touched.operand
+  pub which : touched.operand.which ≡ W.Set touched.number
+  pub below : AreClauses (atoms task) (formulas touched.number)
+  pub index : IsIndexOf (formulas touched.number) touched.occurs.now
