@@ -16,7 +16,7 @@ use Rattle.hv_sets.specs.Working.Cubes.{IsFirstUpto}
 use Rattle.hv_sets.specs.declared.literal.Literal.{Literal}
 use Rattle.hv_bdd.specs.Live.{first_asked, bit_mark_of, no_marks}
 use Rattle.hv_bdd.specs.Working.Marked.{IsSignOf, listed_mark, listed_marks, literal_at}
-use Rattle.hv_bdd.specs.Sets.{mark_literals}
+use Rattle.hv_bdd.specs.Working.Sets.{mark_literals}
 use Rattle.hv_bdd.proofs.Marked.{length-no_marks, mark_of-no_marks}
 
 -- lists without atoms mark nothing

@@ -5,7 +5,7 @@ use Rattle.std.proofs.lemmas.List.{get_or_default}
 use Rattle.std.proofs.lemmas.List.Folds.{Any-from_list_any, list_any_at}
 use Rattle.std.specs.List.{list_any}
 use Rattle.hv_bdd.specs.Building.{same_node}
-use Rattle.hv_bdd.specs.Chains.{listed_at}
+use Rattle.hv_bdd.specs.Working.Chains.{listed_at}
 use Rattle.hv_bdd.specs.Working.Chains.{AreAllBelow, IsListedNode}
 use Rattle.hv_bdd.specs.declared.node.Node.{Node}
 use Rattle.hv_bdd.proofs.Tripled.{same_node as node_by_parts}

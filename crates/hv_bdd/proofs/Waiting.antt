@@ -15,7 +15,7 @@ use Rattle.hv_bdd.specs.declared.numbers.Triple.{Triple}
 use Rattle.hv_bdd.specs.declared.reader.Reader.{Reader}
 use Rattle.hv_bdd.specs.Building.{fault_of}
 use Rattle.hv_bdd.specs.Working.Building.{as_node}
-use Rattle.hv_bdd.specs.Chains.{IsChained}
+use Rattle.hv_bdd.specs.Working.Chains.{IsChained}
 use Rattle.hv_bdd.specs.Nodes.{NodeList}
 use Rattle.hv_bdd.specs.NodeText.{AreLegal, FailsLine, IsHeader, IsLegal, IsTriple, at_header, at_node, header_line, lines_before, list_over, node_line}
 use Rattle.hv_bdd.specs.Working.Reading.{AddsNodes, AddsAll, AreBegun, Ends, Feeds, IsReading, IsShortTriple, Settles, Stops, StopsAt, begun, begun_by, line_fault_at, node_lines_of, read_by}

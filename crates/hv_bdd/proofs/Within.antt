@@ -25,7 +25,7 @@ use Rattle.hv_bdd.specs.Nodes.{in_node, node_count}
 use Rattle.hv_bdd.specs.Order.{atom_at, place}
 use Rattle.hv_bdd.specs.Reduced.{IsReduced}
 use Rattle.hv_bdd.specs.Working.Search.{IsAskable, IsTupleSearch, SearchesCube, setting}
-use Rattle.hv_bdd.specs.Sets.{mark_literals}
+use Rattle.hv_bdd.specs.Working.Sets.{mark_literals}
 use Rattle.hv_bdd.specs.Working.Sets.{Finds}
 use Rattle.hv_bdd.specs.Tuples.{IsReached, TuplesPass}
 use Rattle.hv_bdd.proofs.Listed.{length-literals}

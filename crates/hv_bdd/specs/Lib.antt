@@ -3,9 +3,7 @@ pub mod Order
 pub mod Reduced
 pub mod Tuples
 pub mod Live
-pub mod Sets
 pub mod Building
-pub mod Chains
 pub mod Paths
 pub mod NodeText
 pub mod Words

@@ -47,11 +47,12 @@ changed_at action atom =
     cond (names_atom action.add atom) (Some true)
     (cond (names_atom action.del atom) (Some false) None)
 
--- the marks of all atoms: what an action needs, and what it changes
+-- the marks of all atoms: what an action needs
 abbrev pub needed_by : ℕ → Option Action → List (Option Bool)
 needed_by atoms None = no_marks atoms
 needed_by atoms (Some action) = map (needed_at action) (range_with_len 0 atoms)
 
+-- and what it changes
 abbrev pub changed_by : ℕ → Option Action → List (Option Bool)
 changed_by atoms None = no_marks atoms
 changed_by atoms (Some action) = map (changed_at action) (range_with_len 0 atoms)
@@ -65,6 +66,7 @@ abbrev pub first_asked : (ℕ → Bool) → ℕ → ℕ → ℕ
 first_asked asks zero v = 1
 first_asked asks (suc more) v = cond (asks v) (v + 2) (first_asked asks more (v + 1))
 
+-- the place that a node of a chain asks for, or the number of atoms at an end
 abbrev pub chain_top : ℕ → ℕ → ℕ
 chain_top atoms node = cond (nat_lt node 2) atoms (node - 2)
 
@@ -90,29 +92,32 @@ start_bit s v = has_atom s.start (atom_at s.list v)
 abbrev pub asks_goal : TupleSetting → ℕ → Bool
 asks_goal s v = has_atom s.goal (atom_at s.list v)
 
+-- the node with which the graph of a set begins
 abbrev pub root : TupleSetting → Which → ℕ
 root s W.Empty = 0
 root s W.Start = first_asked (λ v. true) s.list.atoms 0
 root s W.Goal = first_asked (asks_goal s) s.list.atoms 0
 root s (W.Set number) = number
 
-abbrev pub top : TupleSetting → Which → ℕ → ℕ
-top s (W.Set number) node = diagram.top s.list node
-top s which node = chain_top s.list.atoms node
+-- the place that a node of a set's graph asks for, or the number of atoms at an end
+abbrev pub graph_top : TupleSetting → Which → ℕ → ℕ
+graph_top s (W.Set number) node = diagram.top s.list node
+graph_top s which node = chain_top s.list.atoms node
 
-abbrev pub child : TupleSetting → Which → ℕ → Bool → ℕ
-child s W.Empty node bit = 0
-child s W.Start node bit = chain_child s.list.atoms (λ v. true) (start_bit s) node bit
-child s W.Goal node bit = chain_child s.list.atoms (asks_goal s) (λ v. true) node bit
-child s (W.Set number) node bit = diagram.child s.list node bit
+-- the node to which a bit leads from it
+abbrev pub graph_child : TupleSetting → Which → ℕ → Bool → ℕ
+graph_child s W.Empty node bit = 0
+graph_child s W.Start node bit = chain_child s.list.atoms (λ v. true) (start_bit s) node bit
+graph_child s W.Goal node bit = chain_child s.list.atoms (asks_goal s) (λ v. true) node bit
+graph_child s (W.Set number) node bit = diagram.child s.list node bit
 
 -- the moves: an operand that is asked after the action sees the changed bit
 abbrev pub moves : TupleSetting → Moves Asked
 moves s = record {
   atoms = s.list.atoms;
   atom_at = atom_at s.list;
-  top = λ o node. top s o.which node;
-  child = λ o node bit. child s o.which node bit;
+  top = λ o node. graph_top s o.which node;
+  child = λ o node bit. graph_child s o.which node bit;
   wants = λ o. o.positive;
   seen = λ o v bit. cond o.after (or_else (bit_mark_of s.changed (atom_at s.list v)) bit) bit;
   allows = λ v bit. is_marked (bit_mark_of s.needed (atom_at s.list v)) bit;

@@ -64,6 +64,7 @@ pub record AreLegal (atoms count : ℕ) (nodes : List Node) : Type 0 where
   pub upto : length nodes ≤ count
   pub few : count ≤ 16777216
 
+-- what may stand before a place
 abbrev pub IsLegal : ℕ → Beginning → Type 0
 IsLegal atoms at_header = Unit {0}
 IsLegal atoms (at_node count nodes) = AreLegal atoms count nodes

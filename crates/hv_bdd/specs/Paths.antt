@@ -24,7 +24,7 @@ paths_in list end (suc steps) node =
     ++ with_bit (node_at list node).atom true (paths_in list end steps (node_at list node).high))
 
 -- the paths from a node to an end: since each step leads to a lower number, they have no more steps
--- than the node's own
+-- than the node's own number
 abbrev pub paths : NodeList → ℕ → ℕ → List (List Literal)
 paths list end node = paths_in list end node node
 
@@ -38,7 +38,7 @@ path_cubes list end node = map cube_of (paths list end node)
 abbrev pub is_high : NodeList → ℕ → ℕ → Bool
 is_high list node child = nat_eq child (node_at list node).high
 
--- the paths that are left, where these are left of the last node
+-- the paths that are left of the first node of the stack, where `inner` are left of the last one
 unfoldable pub left_of : NodeList → ℕ → List ℕ → List (List Literal) → List (List Literal)
 left_of list end [] inner = []
 left_of list end (n ∷ []) inner = inner

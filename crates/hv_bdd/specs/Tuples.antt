@@ -37,6 +37,7 @@ module _ {O : Type 0} (m : Moves O) where
   abbrev pub move_one : ℕ → Bool → O → ℕ → ℕ
   move_one v bit o i = cond (nat_eq (m.top o i) v) (m.child o i (m.seen o v bit)) i
 
+  -- each node of a tuple does so
   abbrev pub move_all : ℕ → Bool → List O → List ℕ → List ℕ
   move_all v bit [] nodes = []
   move_all v bit (o ∷ os) [] = []

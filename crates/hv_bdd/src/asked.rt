@@ -1,4 +1,5 @@
-//! What a query of diagrams asks: the nodes of its operands, and what its action needs and changes.
+//! What a query of diagrams asks of a state: a set, before or after the action, that holds it or
+//! doesn't.
 
 use hv_sets::Which;
 

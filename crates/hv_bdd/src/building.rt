@@ -3,7 +3,7 @@
 ghost use Rattle.std.specs.Prelude.{◌≡◌, ◌<◌, None, IfOk, OnOk, IfSome, length};
 ghost use Rattle.hv_bdd.specs.Building.{fault_of};
 ghost use Rattle.hv_bdd.specs.Working.Building.{as_node, with_node};
-ghost use Rattle.hv_bdd.specs.Chains.{IsChained};
+ghost use Rattle.hv_bdd.specs.Working.Chains.{IsChained};
 
 use crate::chains::Chains;
 use crate::diagrams::Diagrams;

@@ -3,7 +3,7 @@
 ghost use Rattle.std.specs.Prelude.{◌≡◌, ◌<◌, ◌≤◌, ◌-◌, ◌+◌, ◌^◌, ◌++◌, ◌∷◌, ℕ, [], false, length, slice_index, IsTrue, OnOk};
 ghost use Rattle.std.specs.List.{list_any};
 ghost use Rattle.hv_bdd.specs.Building.{same_node};
-ghost use Rattle.hv_bdd.specs.Chains.{IsChain, IsChained, IsLinked, listed_at, slot_at, slot_of};
+ghost use Rattle.hv_bdd.specs.Working.Chains.{IsChain, IsChained, IsLinked, listed_at, slot_at, slot_of};
 ghost use Rattle.hv_bdd.specs.Working.Chains.{AreAllBelow, IsListedNode};
 
 use crate::node::Node;
@@ -119,7 +119,7 @@ impl Chains {
 }
 
 // Into which of so many slots a node falls.
-#[tactic(auto, unfolding(crate::specs::Chains::slot_of))]
+#[tactic(auto, unfolding(crate::specs::Working::Chains::slot_of))]
 fn slot_of(factor: u64, slots: usize, node: &Node) -> usize
     requires { 0 < slots }
     ensures slot { result ≡ slot_of factor slots node.now }

@@ -3,13 +3,13 @@
 
 pub mod asked;
 mod building;
-pub mod chains;
+mod chains;
 mod counts;
 pub mod diagrams;
 mod family;
 pub mod fault;
 pub mod laws;
-pub mod marks;
+mod marks;
 pub mod node;
 mod numbers;
 mod path_walk;
@@ -21,6 +21,7 @@ mod search;
 pub mod set;
 mod walk;
 
+pub use asked::Asked;
 pub use diagrams::Diagrams;
 pub use fault::{NodeKind, NodeLimit, NodesFault};
 pub use laws::one_answer;

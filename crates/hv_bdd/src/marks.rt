@@ -10,7 +10,7 @@ ghost use Rattle.hv_sets.specs.Cubes.{atoms_of};
 ghost use Rattle.hv_sets.specs.Working.Cubes.{IsFirstUpto};
 ghost use Rattle.hv_bdd.specs.Live.{changed_by, bit_mark_of, needed_by, no_marks};
 ghost use Rattle.hv_bdd.specs.Working.Marked.{IsSignOf};
-ghost use Rattle.hv_bdd.specs.Sets.{mark_literals};
+ghost use Rattle.hv_bdd.specs.Working.Sets.{mark_literals};
 
 use hv_sets::{Cube, Literal};
 use hv_task::{Action, AtomList, Atoms, Hint};
@@ -75,11 +75,12 @@ impl<'a> Model for Marks<'a> {
     ghost use Rattle.std.specs.List.Sorted.{IsStrictlyIncreasing};
     ghost use Rattle.hv_sets.specs.Cubes.{atoms_of};
     ghost use Rattle.hv_bdd.specs.Working.Marked.{listed_marks};
-    ghost use Rattle.hv_bdd.specs.Sets.{mark_literals};
+    ghost use Rattle.hv_bdd.specs.Working.Sets.{mark_literals};
 
     ghost Value = { List (Option Bool) };
 
-    ghost view = { λ m. mark_literals m.literals.now (listed_marks m.atoms m.ones.now m.zeros.now) };
+    ghost view = { λ m. mark_literals m.literals.now
+        (listed_marks m.atoms m.ones.now m.zeros.now) };
 
     ghost invariant = { λ m. IsStrictlyIncreasing (atoms_of m.literals.now)
         × IsStrictlyIncreasing m.ones.now × IsStrictlyIncreasing m.zeros.now };

@@ -123,7 +123,8 @@ impl Search<'_> {
         requires search { IsTupleSearch self.now }
         requires tuples { All (λ t. IsTuple self.now t.items) tuples.now }
         ensures { MatchOption result (All (λ t. IsEndTuple self.now t.items → ⊥) tuples.now) (λ k.
-            (k < length tuples.now) × IsEndTuple self.now (tuple_at (map (λ t. t.items) tuples.now) k)) }
+            (k < length tuples.now)
+            × IsEndTuple self.now (tuple_at (map (λ t. t.items) tuples.now) k)) }
     {
         for (k, tuple) in tuples.iter().enumerate() {
             if self.least(tuple.as_slice()) == self.nodes.atoms() {

@@ -4,7 +4,7 @@ ghost use Rattle.std.specs.Prelude.{◌≡◌, ◌≤◌, ◌+◌, None, Some, [
 ghost use Rattle.std.specs.List.{All};
 ghost use Rattle.hv_bytes.specs.declared.cutting.LineFault.TheVariants as L;
 ghost use Rattle.hv_bdd.specs.declared.fault.NodesFault.TheVariants as F;
-ghost use Rattle.hv_bdd.specs.Chains.{IsChained};
+ghost use Rattle.hv_bdd.specs.Working.Chains.{IsChained};
 ghost use Rattle.hv_bdd.specs.NodeText.{AreLegal};
 ghost use Rattle.hv_bdd.specs.Nodes.{no_nodes};
 ghost use Rattle.hv_bdd.specs.Working.Reading.{AddsNodes, Ends, FaultBehind, Feeds, IsReading, IsShortTriple, Settles, Stops, line_fault_at};

@@ -3,7 +3,7 @@
 ghost use Rattle.std.specs.Prelude.{◌≡◌, ◌<◌, ◌≤◌, ◌-◌, true, cond, option_map, IfOk};
 ghost use Rattle.hv_sets.specs.declared.operand.Which.TheVariants as W;
 ghost use Rattle.hv_bdd.specs.Working.Graphs.{limit};
-ghost use Rattle.hv_bdd.specs.Live.{asks_goal, child, first_asked, is_marked, bit_mark_of, moves, or_else, root, roots, top};
+ghost use Rattle.hv_bdd.specs.Live.{asks_goal, first_asked, graph_child, graph_top, is_marked, bit_mark_of, moves, or_else, root, roots};
 ghost use Rattle.hv_bdd.specs.Order.{atom_at};
 ghost use Rattle.hv_bdd.specs.Tuples.{is_live, least, move_all, move_one, next};
 
@@ -60,7 +60,7 @@ impl Search<'_> {
     pub(crate) fn top(&self, which: Which, node: u32) -> u32
         requires search { IsTupleSearch self.now }
         requires node { node < limit (setting self.now) which }
-        ensures { result ≡ top (setting self.now) which node }
+        ensures { result ≡ graph_top (setting self.now) which node }
     {
         match which {
             Which::Set(_) => self.nodes.top(node),
@@ -75,7 +75,7 @@ impl Search<'_> {
         requires askable { IsAskable self.now which }
         requires inner { 2 ≤ node }
         requires node { node < limit (setting self.now) which }
-        ensures { result ≡ child (setting self.now) which node bit }
+        ensures { result ≡ graph_child (setting self.now) which node bit }
     {
         match which {
             Which::Empty => 0,
@@ -115,7 +115,7 @@ impl Search<'_> {
         requires askable { IsAskable self.now W.Start }
         requires inner { 2 ≤ node }
         requires node { node < limit (setting self.now) W.Start }
-        ensures { result ≡ child (setting self.now) W.Start node bit }
+        ensures { result ≡ graph_child (setting self.now) W.Start node bit }
     {
         if bit == self.start.has(self.nodes.atom_at(node - 2)) {
             self.start_from(node - 1)
@@ -128,7 +128,7 @@ impl Search<'_> {
         requires askable { IsAskable self.now W.Goal }
         requires inner { 2 ≤ node }
         requires node { node < limit (setting self.now) W.Goal }
-        ensures { result ≡ child (setting self.now) W.Goal node bit }
+        ensures { result ≡ graph_child (setting self.now) W.Goal node bit }
     {
         if bit { self.goal_from(node - 1) } else { 0 }
     }

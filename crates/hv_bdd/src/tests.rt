@@ -1,19 +1,16 @@
 //! Tests of node files, of sets by nodes, and of queries over them.
 
-ghost use Rattle.std.specs.Prelude.{◌≡◌, ◌<◌, ◌≤◌, ◌^◌, false, None, IfOk, OnOk, length};
+ghost use Rattle.std.specs.Prelude.{◌≡◌, ◌<◌, ◌≤◌, ◌^◌, false, None, IfOk, length};
 ghost use Rattle.hv_task.specs.State.{AreBelow};
 ghost use Rattle.hv_task.specs.Strips.{atoms};
-ghost use Rattle.hv_sets.specs.Cubes.{SpeakBelow};
 ghost use Rattle.hv_sets.specs.Query.{IsNamed, IsReady};
-ghost use Rattle.hv_sets.specs.declared.finding.Finding.TheVariants as F;
 ghost use Rattle.hv_bdd.specs.Nodes.{node_count};
 
 use crate::{Diagrams, NodesFault, read_nodes};
 use hv_bytes::{Limits, MemoryShelf, SureShelf};
 use hv_paths::{InsideAsked, InsideWalked, OutsideAsked, OutsideWalked, meet_along};
 use hv_sets::{
-    Covering, Cube, Cursor, Family, Finding, Inside, Literal, Operand, Operands, Outside, Query,
-    Scratch, StateSet, Step, Which,
+    Cube, Cursor, Family, Finding, Inside, Operand, Operands, Outside, Query, Scratch, Step, Which,
 };
 use hv_task::{Action, AtomList, Name, State, Task};
 use std::alloc::{AllocError, Global};
@@ -204,9 +201,9 @@ fn long_lines_and_failing_reads(rt: HostRuntime) -> Result<(), Fail> {
 /// odd number of atoms, and the first atom with the last two different.
 const SIX: &[u8] = b"nodes 6\n2 0 1\n2 1 0\n1 2 3\n1 3 2\n0 4 5\n0 0 4\n";
 
-/// For each of the nodes 0 to 7, the initial state, the goal and the empty set, which states are in
-/// it: the eight states in the order of their numbers, whose bits are the atoms.
-const SETS: [&[u8; 8]; 11] = [
+/// For each of the nodes 0 to 7, which states are in it: the eight states in the order of their
+/// numbers, whose bits are the atoms.
+const SETS: [&[u8; 8]; 8] = [
     b"00000000",
     b"11111111",
     b"00001111",
@@ -215,29 +212,14 @@ const SETS: [&[u8; 8]; 11] = [
     b"11000011",
     b"01101001",
     b"00010100",
-    b"01000000",
-    b"00001111",
-    b"00000000",
 ];
 
-// Whether the state of this number is in the set of this one.
-fn is_in(set: usize, number: usize) -> bool
-    requires set { set < 11 }
+// Whether the state of this number is in the node of this one.
+fn is_in(node: usize, number: usize) -> bool
+    requires node { node < 8 }
     requires number { number < 8 }
 {
-    SETS[set][number] == b'1'
-}
-
-fn operand_of(set: usize) -> Which
-    requires { set < 11 }
-    ensures { IsNamed 8 result }
-{
-    match set {
-        8 => Which::Start,
-        9 => Which::Goal,
-        10 => Which::Empty,
-        _ => Which::Set(set),
-    }
+    SETS[node][number] == b'1'
 }
 
 // The state of this number.
@@ -301,15 +283,6 @@ fn task_of_three(alloc: Global) -> Result<Task, AllocError>
     Ok(task)
 }
 
-/// How a query asks: about the state alone, with the negative operand asked after the action, or
-/// with the positive one.
-#[derive(Clone, Copy, Debug, PartialEq, Eq)]
-enum Mode {
-    Before,
-    NegativeAfter,
-    PositiveAfter,
-}
-
 // The query for a state in the one set and not in the other, each asked about the state before the
 // action or after it.
 fn query_of(
@@ -336,117 +309,36 @@ fn query_of(
     Ok(query)
 }
 
-// The answer to the query in this mode, and the state that is found.
+// The answer to the query, where the negative set is asked about after the action or before it.
 fn ask(
     alloc: Global,
     task: &Task,
     list: &Diagrams,
     positive: Which,
     negative: Which,
-    mode: Mode,
+    after: bool,
     budget: u64,
-    scratch: &mut Scratch,
 ) -> Result<Finding, AllocError>
     requires atoms { list.now.atoms ≡ atoms task.now }
     requires nodes { node_count list.now ≡ 8 }
     requires actions { length task.now.actions ≡ 1 }
     requires positive { IsNamed 8 positive }
     requires negative { IsNamed 8 negative }
-    ensures { IfOk result (λ found. found ≡ F.Clash → length scratch.new.state ≡ atoms task.now) }
 {
-    let action = if mode == Mode::Before { None } else { Some(0) };
+    let action = if after { Some(0) } else { None };
     let first = Operand {
         which: positive,
         id: 0,
-        after: mode == Mode::PositiveAfter,
+        after: false,
     };
     let second = Operand {
         which: negative,
         id: 1,
-        after: mode == Mode::NegativeAfter,
+        after,
     };
     let query = query_of(alloc, first, second, action)?;
-    list.find(alloc, task, &query, budget, scratch)
-}
-
-// Whether the state of this number is in the one set and not in the other, each asked about as the
-// mode says.
-fn is_clash(positive: usize, negative: usize, mode: Mode, number: usize) -> bool
-    requires positive { positive < 11 }
-    requires negative { negative < 11 }
-    requires number { number < 8 }
-{
-    // The action takes the first atom away and adds the second.
-    let after = number / 4 * 4 + 2;
-    let applies = number % 2 == 1;
-    match mode {
-        Mode::Before => is_in(positive, number) && !is_in(negative, number),
-        Mode::NegativeAfter => applies && is_in(positive, number) && !is_in(negative, after),
-        Mode::PositiveAfter => applies && is_in(positive, after) && !is_in(negative, number),
-    }
-}
-
-// Whether some state is one.
-fn has_clash(positive: usize, negative: usize, mode: Mode) -> bool
-    requires positive { positive < 11 }
-    requires negative { negative < 11 }
-{
-    for number in 0..8 {
-        if is_clash(positive, negative, mode, number) {
-            return true;
-        }
-    }
-    false
-}
-
-// Whether the answer to the query is the one that a look at all states gives.
-fn is_answered(
-    alloc: Global,
-    task: &Task,
-    list: &Diagrams,
-    positive: usize,
-    negative: usize,
-    mode: Mode,
-) -> Result<bool, AllocError>
-    requires atoms { list.now.atoms ≡ atoms task.now }
-    requires three { list.now.atoms ≡ 3 }
-    requires nodes { node_count list.now ≡ 8 }
-    requires actions { length task.now.actions ≡ 1 }
-    requires positive { positive < 11 }
-    requires negative { negative < 11 }
-{
     let mut scratch = Scratch::new(alloc)?;
-    let found = ask(
-        alloc,
-        task,
-        list,
-        operand_of(positive),
-        operand_of(negative),
-        mode,
-        1000,
-        &mut scratch,
-    )?;
-    match found {
-        Finding::Clash => Ok(is_clash(positive, negative, mode, number_of(scratch.state()))),
-        Finding::Empty => Ok(!has_clash(positive, negative, mode)),
-        Finding::Over => Ok(false),
-    }
-}
-
-#[test]
-fn queries_are_answered_as_all_states_say(rt: HostRuntime) -> Result<(), Fail> {
-    let task = task_of_three(rt.alloc())?;
-    let list = read(rt.alloc(), SIX, 3, Limits::STANDARD)?;
-    assert_eq!(rt; list.count(), 8);
-    for positive in 0..11 {
-        for negative in 0..11 {
-            for mode in [Mode::Before, Mode::NegativeAfter, Mode::PositiveAfter] {
-                let right = is_answered(rt.alloc(), &task, &list, positive, negative, mode)?;
-                assert!(rt; right, "{positive} without {negative}, {mode:?}");
-            }
-        }
-    }
-    Ok(())
+    list.find(alloc, task, &query, budget, &mut scratch)
 }
 
 #[test]
@@ -459,43 +351,28 @@ fn live_tuples_are_counted_before_a_state_is_answered(rt: HostRuntime) -> Result
     assert_eq!(rt; list.count(), 8);
     let two = Which::Set(2);
     let three = Which::Set(3);
-    for (positive, negative, mode, budget, want) in [
-        (three, two, Mode::Before, 2, Finding::Empty),
-        (three, two, Mode::Before, 1, Finding::Over),
-        (two, three, Mode::Before, 4, Finding::Clash),
-        (two, three, Mode::Before, 3, Finding::Over),
-        (two, two, Mode::NegativeAfter, 2, Finding::Clash),
-        (two, two, Mode::NegativeAfter, 1, Finding::Over),
-        (Which::Empty, two, Mode::Before, 0, Finding::Empty),
+    for (positive, negative, after, budget, want) in [
+        (three, two, false, 2, Finding::Empty),
+        (three, two, false, 1, Finding::Over),
+        (two, three, false, 4, Finding::Clash),
+        (two, three, false, 3, Finding::Over),
+        (two, two, true, 2, Finding::Clash),
+        (two, two, true, 1, Finding::Over),
+        (Which::Empty, two, false, 0, Finding::Empty),
     ] {
-        let mut scratch = Scratch::new(rt.alloc())?;
-        let found = ask(
-            rt.alloc(),
-            &task,
-            &list,
-            positive,
-            negative,
-            mode,
-            budget,
-            &mut scratch,
-        )?;
+        let found = ask(rt.alloc(), &task, &list, positive, negative, after, budget)?;
         assert_eq!(rt; found, want, "{positive:?} {negative:?} {budget}");
     }
     Ok(())
 }
 
 #[test]
-fn nodes_are_held_and_told_apart(rt: HostRuntime) -> Result<(), Fail> {
+fn nodes_are_told_apart(rt: HostRuntime) -> Result<(), Fail> {
     let list = read(rt.alloc(), SIX, 3, Limits::STANDARD)?;
     assert_eq!(rt; list.count(), 8);
-    for node in 0..8 {
-        for number in 0..8 {
-            let state = state_of(rt.alloc(), number)?;
-            let held = list.holds(node as u32, &state);
-            assert_eq!(rt; held, is_in(node, number), "{number} in {node}");
-        }
-        for other in 0..8 {
-            assert_eq!(rt; list.same(node as u32, other as u32), node == other);
+    for node in 0..8_u32 {
+        for other in 0..8_u32 {
+            assert_eq!(rt; list.same(node, other), node == other);
         }
     }
     Ok(())
@@ -568,103 +445,6 @@ fn walks_part_the_states(rt: HostRuntime) -> Result<(), Fail> {
             assert_eq!(rt; within, (one_if(held), inside));
             let without = outside_walk(rt.alloc(), &set, &state)?;
             assert_eq!(rt; without, (one_if(!held), outside));
-        }
-    }
-    Ok(())
-}
-
-// Puts the literal of the atom into the cube that the digit says: none, the atom, or its negation.
-fn put_literal(cube: &mut Cube, atom: u32, digit: usize) -> Result<(), AllocError>
-    requires atom { atom < 3 }
-    requires cube { SpeakBelow 3 cube.old }
-    ensures { OnOk result (SpeakBelow 3 cube.new) }
-{
-    if digit == 0 {
-        return Ok(());
-    }
-    let positive = digit == 1;
-    cube.add(Literal { atom, positive })?;
-    Ok(())
-}
-
-// The cube of a number below 27, whose digits to the base of three are those of the atoms.
-fn cube_from(alloc: Global, number: usize) -> Result<Cube, AllocError>
-    ensures { IfOk result (SpeakBelow 3) }
-{
-    let mut cube = Cube::new(alloc);
-    put_literal(&mut cube, 0, number % 3)?;
-    put_literal(&mut cube, 1, number / 3 % 3)?;
-    put_literal(&mut cube, 2, number / 9)?;
-    Ok(cube)
-}
-
-fn fits(digit: usize, bit: usize) -> bool {
-    digit == 0 || (digit == 1) == (bit == 1)
-}
-
-// Whether the state of this number is in the cube, and in the node or outside it.
-fn is_among(node: usize, cube: usize, inside: bool, number: usize) -> bool
-    requires node { node < 8 }
-    requires number { number < 8 }
-{
-    let within = fits(cube % 3, number % 2)
-        && fits(cube / 3 % 3, number / 2 % 2)
-        && fits(cube / 9, number / 4);
-    within && is_in(node, number) == inside
-}
-
-// Whether some state is.
-fn is_some_among(node: usize, cube: usize, inside: bool) -> bool
-    requires { node < 8 }
-{
-    for number in 0..8 {
-        if is_among(node, cube, inside, number) {
-            return true;
-        }
-    }
-    false
-}
-
-// Whether the node meets the cube exactly where some state says so, and shows one.
-fn is_met(alloc: Global, list: &Diagrams, node: usize, cube: usize) -> Result<bool, AllocError>
-    requires atoms { list.now.atoms ≡ 3 }
-    requires nodes { node_count list.now ≡ 8 }
-    requires node { node < 8 }
-{
-    let set = list.set(node as u32);
-    let limits = cube_from(alloc, cube)?;
-    let mut scratch = Scratch::new(alloc)?;
-    if set.meets(alloc, &limits, &mut scratch)? {
-        return Ok(is_among(node, cube, true, number_of(scratch.state())));
-    }
-    Ok(!is_some_among(node, cube, true))
-}
-
-// The same of covering it, where a state outside is shown.
-fn is_covered(alloc: Global, list: &Diagrams, node: usize, cube: usize) -> Result<bool, AllocError>
-    requires atoms { list.now.atoms ≡ 3 }
-    requires nodes { node_count list.now ≡ 8 }
-    requires node { node < 8 }
-{
-    let set = list.set(node as u32);
-    let limits = cube_from(alloc, cube)?;
-    let mut scratch = Scratch::new(alloc)?;
-    if set.covers(alloc, &limits, &mut scratch)? {
-        return Ok(!is_some_among(node, cube, false));
-    }
-    Ok(is_among(node, cube, false, number_of(scratch.state())))
-}
-
-#[test]
-fn cubes_are_met_and_covered_as_all_states_say(rt: HostRuntime) -> Result<(), Fail> {
-    let list = read(rt.alloc(), SIX, 3, Limits::STANDARD)?;
-    assert_eq!(rt; list.count(), 8);
-    for node in 0..8 {
-        for cube in 0..27 {
-            let met = is_met(rt.alloc(), &list, node, cube)?;
-            assert!(rt; met, "{cube} met by {node}");
-            let covered = is_covered(rt.alloc(), &list, node, cube)?;
-            assert!(rt; covered, "{cube} covered by {node}");
         }
     }
     Ok(())

@@ -1,4 +1,4 @@
--- Working definitions beside those of `Building`: what contracts of private functions and proofs say.
+-- Working definitions beside those of `Building`: for private contracts and proofs.
 use Rattle.std.specs.Prelude.{◌++◌, [], ◌∷◌}
 use Rattle.hv_bdd.specs.declared.node.Node.{Node}
 use Rattle.hv_bdd.specs.declared.numbers.Triple.{Triple}

@@ -12,8 +12,8 @@ use Rattle.hv_bdd.specs.Order.{atom_at}
 use Rattle.hv_bdd.specs.Live.{TupleSetting, asks_goal, moves, or_else, roots, start_bit}
 use Rattle.hv_bdd.specs.Tuples.{Moves, TuplesPass}
 
--- In a chain with_marks so many places with these atoms, some places are asked for, each with the bit
--- that is wanted there.
+-- In a chain over so many places with these atoms, some places are asked for, each with the
+-- bit that is wanted there.
 module _ (n : ℕ) (atom_at : ℕ → ℕ) (asks bits : ℕ → Bool) where
   -- the state has the wanted bit at each place that is asked for, of so many from one on
   abbrev pub matches : List Bool → ℕ → ℕ → Bool
@@ -73,7 +73,8 @@ FitsBits m s =
 
 -- the state has the bits that are needed, and is in each positive operand and in no negative one
 abbrev pub Suits : TupleSetting → List Asked → List Bool → Type 0
-Suits S os s = FitsBits (moves S) s × AgreesWithNodes (in_asked S) (λ o. o.positive) s os (roots S os)
+Suits S os s = FitsBits (moves S) s
+    × AgreesWithNodes (in_asked S) (λ o. o.positive) s os (roots S os)
 
 -- the exact answer of a search through live tuples
 abbrev pub IsLiveAnswer : Finding → TupleSetting → List Asked → ℕ → List Bool → Type 0

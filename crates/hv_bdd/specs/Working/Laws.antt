@@ -276,7 +276,8 @@ outside_is list node reduced within s =
     ∙ (in_path_cubes list 0 reduced (omega arith) s node within ∙ beq_false (in_node list node s))
 
 -- a cursor that no walk has moved
-pub stands_first : (list : NodeList) (e : ℕ) (cursor : Cursor) → IsNew cursor → StandsForWalk list e cursor
+pub stands_first : (list : NodeList) (e : ℕ) (cursor : Cursor) → IsNew cursor
+    → StandsForWalk list e cursor
 stands_first list e cursor new = record {
   first = λ _. new.1;
   stack = λ some. absurd (some new.1);

@@ -1,4 +1,4 @@
--- Working definitions beside those of `Order`: what contracts of private functions and proofs say.
+-- Working definitions beside those of `Order`: for private contracts and proofs.
 use Rattle.std.specs.Prelude.{◌≡◌, ◌<◌, ℕ}
 use Rattle.hv_bdd.specs.Nodes.{NodeList}
 use Rattle.hv_bdd.specs.Order.{place, atom_at}

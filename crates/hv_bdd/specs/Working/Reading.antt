@@ -11,7 +11,7 @@ use Rattle.hv_bdd.specs.declared.node.Node.{Node}
 use Rattle.hv_bdd.specs.declared.numbers.Triple.{Triple}
 use Rattle.hv_bdd.specs.declared.reader.Reader.{Reader}
 use Rattle.hv_bdd.specs.Working.Building.{as_node}
-use Rattle.hv_bdd.specs.Chains.{IsChained}
+use Rattle.hv_bdd.specs.Working.Chains.{IsChained}
 use Rattle.hv_bdd.specs.Nodes.{NodeList}
 use Rattle.hv_bdd.specs.NodeText.{AreLegal, Beginning, EndsEarly, FailsLine, IsLegal, IsTriple, PassesLimit, at_header, at_node, lines_before, node_line}
 

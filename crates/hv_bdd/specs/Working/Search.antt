@@ -18,7 +18,7 @@ use Rattle.hv_bdd.specs.Nodes.{NodeList, node_count}
 use Rattle.hv_bdd.specs.Reduced.{IsReduced}
 use Rattle.hv_bdd.specs.Live.{TupleSetting, changed_by, moves, needed_by, no_marks, operands_of, roots}
 use Rattle.hv_bdd.specs.Working.Graphs.{limit}
-use Rattle.hv_bdd.specs.Sets.{mark_literals}
+use Rattle.hv_bdd.specs.Working.Sets.{mark_literals}
 use Rattle.hv_bdd.specs.Tuples.{IsReached, Moves, if_live, least, next}
 
 -- what the tuples of the search move through

@@ -1,8 +1,13 @@
--- Working definitions beside those of `Sets`: what contracts of private functions and proofs say.
-use Rattle.std.specs.Prelude.{◌≡◌, ℕ, Bool, true, false, List, not}
+-- A node as a set of states, asked within a cube.
+use Rattle.std.specs.Prelude.{◌≡◌, ℕ, Bool, true, false, List, [], ◌∷◌, Option, Some, not, slice_set}
 use Rattle.hv_sets.specs.Truth.{in_cube}
 use Rattle.hv_sets.specs.Walks.{IsAmong, IsStateOf}
 use Rattle.hv_sets.specs.declared.literal.Literal.{Literal}
+
+-- the marks with those of these literals
+abbrev pub mark_literals : List Literal → List (Option Bool) → List (Option Bool)
+mark_literals [] marks = marks
+mark_literals (l ∷ ls) marks = mark_literals ls (slice_set marks l.atom (Some l.positive))
 
 -- this state of the cube is in the set, or outside it; or there is none
 abbrev pub Finds : Bool → Bool → ℕ → (List Bool → Bool) → List Literal → List Bool → Type 0

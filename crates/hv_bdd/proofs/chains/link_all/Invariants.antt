@@ -1,5 +1,5 @@
 use Rattle.std.proofs.Common.{◌≡◌, length}
-use Rattle.hv_bdd.specs.Chains.{IsLinked}
+use Rattle.hv_bdd.specs.Working.Chains.{IsLinked}
 use Rattle.hv_bdd.proofs.chains.link_all.Given as goal
 
 abbrev pub invariant-loop-place : goal.invariant-loop-place

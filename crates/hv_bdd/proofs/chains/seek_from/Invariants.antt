@@ -1,5 +1,5 @@
 use Rattle.std.proofs.Common.{◌≡◌, ◌<◌, ◌≤◌, ◌-◌, ◌+◌}
-use Rattle.hv_bdd.specs.Chains.{slot_at, slot_of}
+use Rattle.hv_bdd.specs.Working.Chains.{slot_at, slot_of}
 use Rattle.hv_bdd.specs.Working.Chains.{AreAllBelow}
 use Rattle.hv_bdd.proofs.chains.seek_from.Given as goal
 

@@ -1,5 +1,5 @@
 use Rattle.std.proofs.Common.{◌≡◌, ◌+◌, ◌++◌, drop, length}
-use Rattle.hv_bdd.specs.Chains.{IsChained}
+use Rattle.hv_bdd.specs.Working.Chains.{IsChained}
 use Rattle.hv_bdd.specs.NodeText.{AreLegal, at_node, lines_before}
 use Rattle.hv_bdd.specs.Working.Reading.{node_lines_of}
 use Rattle.hv_bdd.proofs.reader.add_all.Given as goal

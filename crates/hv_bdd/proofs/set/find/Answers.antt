@@ -1,6 +1,6 @@
 use Rattle.std.proofs.Common.{◌∙◌, ap, length}
 use Rattle.hv_bdd.specs.Live.{no_marks}
-use Rattle.hv_bdd.specs.Sets.{mark_literals}
+use Rattle.hv_bdd.specs.Working.Sets.{mark_literals}
 use Rattle.hv_bdd.proofs.Marked.{length-no_marks}
 use Rattle.hv_bdd.proofs.Within.{can_look}
 use Rattle.hv_bdd.proofs.set.find.Goals as goal
