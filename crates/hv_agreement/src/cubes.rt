@@ -179,7 +179,11 @@ fn holds_at<S: StateSet>(alloc: Global, set: &S, mask: u32, code: u32) -> Result
     Ok(set.holds(&state) == has_bit(mask, code))
 }
 
-fn holds_rightly<S: StateSet>(alloc: Global, set: &S, mask: u32) -> Result<bool, AllocError>
+pub(crate) fn holds_rightly<S: StateSet>(
+    alloc: Global,
+    set: &S,
+    mask: u32,
+) -> Result<bool, AllocError>
     requires { S.atoms set.now ≡ 3 }
 {
     let mut right = true;
@@ -354,13 +358,46 @@ fn is_met_rightly<S: StateSet>(
 }
 
 // Whether all cubes are met rightly by the set of these states.
-fn cubes_are_met<S: StateSet>(alloc: Global, set: &S, mask: u32) -> Result<bool, AllocError>
+pub(crate) fn cubes_are_met<S: StateSet>(
+    alloc: Global,
+    set: &S,
+    mask: u32,
+) -> Result<bool, AllocError>
     requires { S.atoms set.now ≡ 3 }
 {
     let mut scratch = Scratch::new(alloc)?;
     let mut right = true;
     for number in 0..27 {
         right &= is_met_rightly(alloc, set, number, mask, &mut scratch)?;
+    }
+    Ok(right)
+}
+
+fn is_covered_rightly<S: Covering>(
+    alloc: Global,
+    set: &S,
+    number: u32,
+    mask: u32,
+    scratch: &mut Scratch,
+) -> Result<bool, AllocError>
+    requires { S.atoms set.now ≡ 3 }
+{
+    let cube = cube_from(alloc, number)?;
+    covers_rightly(alloc, set, &cube, states_of_number(number) & !mask, scratch)
+}
+
+// Whether all cubes are covered rightly by the set of these states.
+pub(crate) fn cubes_are_covered<S: Covering>(
+    alloc: Global,
+    set: &S,
+    mask: u32,
+) -> Result<bool, AllocError>
+    requires { S.atoms set.now ≡ 3 }
+{
+    let mut scratch = Scratch::new(alloc)?;
+    let mut right = true;
+    for number in 0..27 {
+        right &= is_covered_rightly(alloc, set, number, mask, &mut scratch)?;
     }
     Ok(right)
 }

@@ -1,8 +1,9 @@
 //! Whether inclusions between sets of two families are decided as going through all states says.
 
-ghost use Rattle.std.specs.Prelude.{◌≡◌, ◌≤◌};
+ghost use Rattle.std.specs.Prelude.{◌≡◌};
 ghost use Rattle.hv_task.specs.Strips.{atoms};
 
+use crate::queries::{BUDGETS, Budget, budget_at};
 use crate::three::{
     ALL, explicit_of, fits, formula_of, is_horn_code, is_two_code, states_of_clauses,
     states_of_list, task_of,
@@ -38,12 +39,12 @@ fn within_at<'a, L: InsideAsked<'a>, R: OutsideWalked<'a>>(
     left: &'a L,
     right: &'a R,
     wanted: Wanted,
-    budget: u64,
+    budget: Budget,
     scratch: &mut Scratch,
 ) -> Result<bool, AllocError>
-    requires atoms { L.atoms left.now ≡ R.atoms right.now }
-    requires budget { budget ≤ 16777216 }
+    requires { L.atoms left.now ≡ R.atoms right.now }
 {
+    let budget = budget_at(wanted.cost, budget).min(16777216);
     let found = within(alloc, left, right, budget, scratch)?;
     Ok(fits(found, scratch.state(), wanted.clashes, wanted.cost > budget))
 }
@@ -58,7 +59,7 @@ fn within_rightly<'a, L: InsideAsked<'a>, R: OutsideWalked<'a>>(
     requires { L.atoms left.now ≡ R.atoms right.now }
 {
     let mut right_at_all = true;
-    for budget in [0, 1, 2, 3, 16777216] {
+    for budget in BUDGETS {
         right_at_all &= within_at(alloc, left, right, wanted, budget, scratch)?;
     }
     Ok(right_at_all)
@@ -69,12 +70,12 @@ fn within_states_at<'a, L: InsideWalked<'a>, R: OutsideAsked<'a>>(
     left: &'a L,
     right: &'a R,
     wanted: Wanted,
-    budget: u64,
+    budget: Budget,
     scratch: &mut Scratch,
 ) -> Result<bool, AllocError>
-    requires atoms { L.atoms left.now ≡ R.atoms right.now }
-    requires budget { budget ≤ 16777216 }
+    requires { L.atoms left.now ≡ R.atoms right.now }
 {
+    let budget = budget_at(wanted.cost, budget).min(16777216);
     let found = within_states(alloc, left, right, budget, scratch)?;
     Ok(fits(found, scratch.state(), wanted.clashes, wanted.cost > budget))
 }
@@ -89,7 +90,7 @@ fn within_states_rightly<'a, L: InsideWalked<'a>, R: OutsideAsked<'a>>(
     requires { L.atoms left.now ≡ R.atoms right.now }
 {
     let mut right_at_all = true;
-    for budget in [0, 1, 2, 3, 16777216] {
+    for budget in BUDGETS {
         right_at_all &= within_states_at(alloc, left, right, wanted, budget, scratch)?;
     }
     Ok(right_at_all)
@@ -100,12 +101,12 @@ fn apart_at<'a, L: InsideWalked<'a>, R: InsideAsked<'a>>(
     left: &'a L,
     right: &'a R,
     wanted: Wanted,
-    budget: u64,
+    budget: Budget,
     scratch: &mut Scratch,
 ) -> Result<bool, AllocError>
-    requires atoms { L.atoms left.now ≡ R.atoms right.now }
-    requires budget { budget ≤ 16777216 }
+    requires { L.atoms left.now ≡ R.atoms right.now }
 {
+    let budget = budget_at(wanted.cost, budget).min(16777216);
     let found = apart(alloc, left, right, budget, scratch)?;
     Ok(fits(found, scratch.state(), wanted.clashes, wanted.cost > budget))
 }
@@ -120,7 +121,7 @@ fn apart_rightly<'a, L: InsideWalked<'a>, R: InsideAsked<'a>>(
     requires { L.atoms left.now ≡ R.atoms right.now }
 {
     let mut right_at_all = true;
-    for budget in [0, 1, 2, 3, 16777216] {
+    for budget in BUDGETS {
         right_at_all &= apart_at(alloc, left, right, wanted, budget, scratch)?;
     }
     Ok(right_at_all)
@@ -131,12 +132,12 @@ fn together_at<'a, L: OutsideWalked<'a>, R: OutsideAsked<'a>>(
     left: &'a L,
     right: &'a R,
     wanted: Wanted,
-    budget: u64,
+    budget: Budget,
     scratch: &mut Scratch,
 ) -> Result<bool, AllocError>
-    requires atoms { L.atoms left.now ≡ R.atoms right.now }
-    requires budget { budget ≤ 16777216 }
+    requires { L.atoms left.now ≡ R.atoms right.now }
 {
+    let budget = budget_at(wanted.cost, budget).min(16777216);
     let found = together(alloc, left, right, budget, scratch)?;
     Ok(fits(found, scratch.state(), wanted.clashes, wanted.cost > budget))
 }
@@ -151,7 +152,7 @@ fn together_rightly<'a, L: OutsideWalked<'a>, R: OutsideAsked<'a>>(
     requires { L.atoms left.now ≡ R.atoms right.now }
 {
     let mut right_at_all = true;
-    for budget in [0, 1, 2, 3, 16777216] {
+    for budget in BUDGETS {
         right_at_all &= together_at(alloc, left, right, wanted, budget, scratch)?;
     }
     Ok(right_at_all)

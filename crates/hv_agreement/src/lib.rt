@@ -6,8 +6,12 @@ mod cubes;
 #[cfg(test)]
 mod inclusions;
 #[cfg(test)]
+mod nodes;
+#[cfg(test)]
 mod queries;
 #[cfg(test)]
 mod tests;
 #[cfg(test)]
 mod three;
+#[cfg(test)]
+mod tuples;

@@ -10,11 +10,13 @@ ghost use Rattle.hv_sets.specs.declared.operand.Which.TheVariants as W;
 ghost use Rattle.hv_clauses.specs.Clausal.{sizes_of};
 ghost use Rattle.hv_clauses.specs.Store.{AreOver, formula_at};
 ghost use Rattle.hv_explicit.specs.Listing as listing;
+ghost use Rattle.hv_agreement.specs.declared.queries.Measure.TheVariants as M;
 
 use crate::three::{
     ALL, GOAL_STATES, START_STATES, explicit_of, fits, formula_of, holding, is_horn_code,
     is_two_code, leading_to, states_of_clauses, states_of_list, task_of,
 };
+use crate::tuples::live_tuples;
 use hv_clauses::{ClauseKind, Formulas};
 use hv_explicit::Explicits;
 use hv_horn::HornKind;
@@ -24,10 +26,12 @@ use hv_twocnf::TwoKind;
 use std::alloc::{AllocError, Global};
 use std::test::Fail;
 
-// What a query asks: of one positive operand or two, and of one negative one or two. The last
-// positive operand and the first negative one may be asked about after the action.
+// What a query asks of a store of so many sets: of one positive operand or two, and of one negative
+// one or two. The last positive operand and the first negative one may be asked about after the
+// action.
 #[derive(Clone, Copy)]
 struct Case {
+    count: usize,
     positive: Which,
     joined: Option<Which>,
     negative: Which,
@@ -37,15 +41,33 @@ struct Case {
     negative_after: bool,
 }
 
-// What is asked of a store of two sets: the states of each, how many clauses or states each has,
-// and what the action asks for. A query costs what its anchor does, or else what its negative
-// operands do together.
+// What the cost of a query counts: the choices of a clause of each negative operand, the states
+// that the anchor lists, or the live tuples.
+#[derive(Clone, Copy, PartialEq, Eq)]
+pub(crate) enum Measure {
+    Choices,
+    Listed,
+    Tuples,
+}
+
+// A set of a store: its number there, its states, and how many clauses or states it lists. For a
+// node that number isn't read.
 #[derive(Clone, Copy)]
-struct Wanted {
-    sets: [u32; 2],
-    sizes: [u64; 2],
-    pre: u32,
-    by_anchor: bool,
+pub(crate) struct Named {
+    pub(crate) number: usize,
+    pub(crate) states: u32,
+    pub(crate) size: u64,
+}
+
+// What is asked of a store of so many sets: which two of them are asked about, what the action asks
+// for, and what the cost of a query counts.
+#[derive(Clone, Copy)]
+pub(crate) struct Wanted {
+    pub(crate) count: usize,
+    pub(crate) first: Named,
+    pub(crate) second: Named,
+    pub(crate) pre: u32,
+    pub(crate) measure: Measure,
 }
 
 const CASES: u32 = 1375;
@@ -53,17 +75,17 @@ const CASES: u32 = 1375;
 // The first so many have one positive and one negative operand.
 const PLAIN_CASES: u32 = 125;
 
-const BUDGETS: [u64; 6] = [0, 1, 2, 3, 4, u64::MAX];
-
-// The constants and the two sets of a store, by a number below 5.
-fn which_of(number: u32) -> Which
-    ensures { IsNamed 2 result }
+// The constants and the two sets, by a number below 5.
+fn which_of(number: u32, wanted: Wanted) -> Which
+    requires first { wanted.first.number < wanted.count }
+    requires second { wanted.second.number < wanted.count }
+    ensures { IsNamed wanted.count result }
 {
     match number {
         0 => Which::Empty,
         1 => Which::Start,
-        2 => Which::Set(0),
-        3 => Which::Set(1),
+        2 => Which::Set(wanted.first.number),
+        3 => Which::Set(wanted.second.number),
         _ => Which::Goal,
     }
 }
@@ -79,38 +101,46 @@ fn times_of(number: u32) -> [bool; 3] {
     }
 }
 
-fn joined_of(number: u32) -> Option<Which>
-    ensures { IfSome result (IsNamed 2) }
+fn joined_of(number: u32, wanted: Wanted) -> Option<Which>
+    requires first { wanted.first.number < wanted.count }
+    requires second { wanted.second.number < wanted.count }
+    ensures { IfSome result (IsNamed wanted.count) }
 {
     if number < 6 {
         return None;
     }
-    Some(which_of(number - 6))
+    Some(which_of(number - 6, wanted))
 }
 
-fn other_of(number: u32) -> Option<Which>
-    ensures { IfSome result (IsNamed 2) }
+fn other_of(number: u32, wanted: Wanted) -> Option<Which>
+    requires first { wanted.first.number < wanted.count }
+    requires second { wanted.second.number < wanted.count }
+    ensures { IfSome result (IsNamed wanted.count) }
 {
     if number == 0 || number > 5 {
         return None;
     }
-    Some(which_of(number - 1))
+    Some(which_of(number - 1, wanted))
 }
 
-fn case_of(number: u32) -> Case
-    ensures positive { IsNamed 2 result.positive }
-    ensures joined { IfSome result.joined (IsNamed 2) }
-    ensures negative { IsNamed 2 result.negative }
-    ensures other { IfSome result.other (IsNamed 2) }
+fn case_of(number: u32, wanted: Wanted) -> Case
+    requires first { wanted.first.number < wanted.count }
+    requires second { wanted.second.number < wanted.count }
+    ensures count { result.count ≡ wanted.count }
+    ensures positive { IsNamed result.count result.positive }
+    ensures joined { IfSome result.joined (IsNamed result.count) }
+    ensures negative { IsNamed result.count result.negative }
+    ensures other { IfSome result.other (IsNamed result.count) }
     ensures positive_after { result.acts ≡ false → result.positive_after ≡ false }
     ensures negative_after { result.acts ≡ false → result.negative_after ≡ false }
 {
     let [acts, positive_after, negative_after] = times_of(number / 25 % 5);
     Case {
-        positive: which_of(number % 5),
-        joined: joined_of(number / 125),
-        negative: which_of(number / 5 % 5),
-        other: other_of(number / 125),
+        count: wanted.count,
+        positive: which_of(number % 5, wanted),
+        joined: joined_of(number / 125, wanted),
+        negative: which_of(number / 5 % 5, wanted),
+        other: other_of(number / 125, wanted),
         acts,
         positive_after: acts && positive_after,
         negative_after: acts && negative_after,
@@ -118,12 +148,12 @@ fn case_of(number: u32) -> Case
 }
 
 // Whether the first positive operand is the anchor, where the family wants one.
-fn is_askable(by_anchor: bool, case: Case) -> bool
-    ensures anchor { result ≡ true → by_anchor ≡ true → case.positive ≡ W.Goal → ⊥ }
-    ensures before { result ≡ true → by_anchor ≡ true → case.joined ≡ None
+fn is_askable(measure: Measure, case: Case) -> bool
+    ensures anchor { result ≡ true → measure ≡ M.Listed → case.positive ≡ W.Goal → ⊥ }
+    ensures before { result ≡ true → measure ≡ M.Listed → case.joined ≡ None
         → case.positive_after ≡ false }
 {
-    if !by_anchor {
+    if measure != Measure::Listed {
         return true;
     }
     if case.positive == Which::Goal {
@@ -140,12 +170,12 @@ fn operand(which: Which, id: usize, after: bool) -> Operand
 
 // A query of one positive operand.
 fn plain_query(alloc: Global, case: Case) -> Result<Query, AllocError>
-    requires positive { IsNamed 2 case.positive }
-    requires negative { IsNamed 2 case.negative }
-    requires other { IfSome case.other (IsNamed 2) }
+    requires positive { IsNamed case.count case.positive }
+    requires negative { IsNamed case.count case.negative }
+    requires other { IfSome case.other (IsNamed case.count) }
     requires positive_after { case.acts ≡ false → case.positive_after ≡ false }
     requires negative_after { case.acts ≡ false → case.negative_after ≡ false }
-    ensures ready { IfOk result (IsReady 2) }
+    ensures ready { IfOk result (IsReady case.count) }
     ensures anchor { (case.positive ≡ W.Goal → ⊥) → case.positive_after ≡ false
         → IfOk result HasAnchor }
     ensures action { IfOk result (λ query. IfSome query.action (λ action. action ≡ 0)) }
@@ -173,12 +203,12 @@ fn plain_query(alloc: Global, case: Case) -> Result<Query, AllocError>
 
 // A query of two positive operands.
 fn joined_query(alloc: Global, case: Case, joined: Which) -> Result<Query, AllocError>
-    requires positive { IsNamed 2 case.positive }
-    requires joined { IsNamed 2 joined }
-    requires negative { IsNamed 2 case.negative }
+    requires positive { IsNamed case.count case.positive }
+    requires joined { IsNamed case.count joined }
+    requires negative { IsNamed case.count case.negative }
     requires positive_after { case.acts ≡ false → case.positive_after ≡ false }
     requires negative_after { case.acts ≡ false → case.negative_after ≡ false }
-    ensures ready { IfOk result (IsReady 2) }
+    ensures ready { IfOk result (IsReady case.count) }
     ensures anchor { (case.positive ≡ W.Goal → ⊥) → IfOk result HasAnchor }
     ensures action { IfOk result (λ query. IfSome query.action (λ action. action ≡ 0)) }
 {
@@ -198,13 +228,13 @@ fn joined_query(alloc: Global, case: Case, joined: Which) -> Result<Query, Alloc
 }
 
 fn query_of(alloc: Global, case: Case) -> Result<Query, AllocError>
-    requires positive { IsNamed 2 case.positive }
-    requires joined { IfSome case.joined (IsNamed 2) }
-    requires negative { IsNamed 2 case.negative }
-    requires other { IfSome case.other (IsNamed 2) }
+    requires positive { IsNamed case.count case.positive }
+    requires joined { IfSome case.joined (IsNamed case.count) }
+    requires negative { IsNamed case.count case.negative }
+    requires other { IfSome case.other (IsNamed case.count) }
     requires positive_after { case.acts ≡ false → case.positive_after ≡ false }
     requires negative_after { case.acts ≡ false → case.negative_after ≡ false }
-    ensures ready { IfOk result (IsReady 2) }
+    ensures ready { IfOk result (IsReady case.count) }
     ensures anchor { (case.positive ≡ W.Goal → ⊥)
         → (case.joined ≡ None → case.positive_after ≡ false) → IfOk result HasAnchor }
     ensures action { IfOk result (λ query. IfSome query.action (λ action. action ≡ 0)) }
@@ -215,15 +245,28 @@ fn query_of(alloc: Global, case: Case) -> Result<Query, AllocError>
     }
 }
 
-// The states of an operand, or those of which the result of the action is one.
-fn states_of(which: Which, after: bool, wanted: Wanted) -> u32 {
-    let mask = match which {
+// The set of the store that has this number.
+fn set_at(number: usize, wanted: Wanted) -> Named {
+    if number == wanted.first.number {
+        wanted.first
+    } else {
+        wanted.second
+    }
+}
+
+// The states of an operand that is asked about before the action.
+pub(crate) fn states_in(which: Which, wanted: Wanted) -> u32 {
+    match which {
         Which::Empty => 0,
         Which::Start => START_STATES,
         Which::Goal => GOAL_STATES,
-        Which::Set(0) => wanted.sets[0],
-        Which::Set(_) => wanted.sets[1],
-    };
+        Which::Set(number) => set_at(number, wanted).states,
+    }
+}
+
+// The states of an operand, or those of which the result of the action is one.
+fn states_of(which: Which, after: bool, wanted: Wanted) -> u32 {
+    let mask = states_in(which, wanted);
     if after { leading_to(mask) } else { mask }
 }
 
@@ -246,8 +289,7 @@ fn clauses_in(which: Which, wanted: Wanted) -> u64 {
         Which::Empty => 1,
         Which::Start => 3,
         Which::Goal => 2,
-        Which::Set(0) => wanted.sizes[0],
-        Which::Set(_) => wanted.sizes[1],
+        Which::Set(number) => set_at(number, wanted).size,
     }
 }
 
@@ -255,20 +297,26 @@ fn listed_in(which: Which, wanted: Wanted) -> u64 {
     match which {
         Which::Empty | Which::Goal => 0,
         Which::Start => 1,
-        Which::Set(0) => wanted.sizes[0],
-        Which::Set(_) => wanted.sizes[1],
+        Which::Set(number) => set_at(number, wanted).size,
     }
 }
 
-// No set of these tests is so large that the product wraps.
-fn cost_of(case: Case, wanted: Wanted) -> u64 {
-    if wanted.by_anchor {
-        return listed_in(case.positive, wanted);
-    }
+// The choices of a clause of each negative operand. No set of these tests is so large that the
+// product wraps.
+fn choices_of(case: Case, wanted: Wanted) -> u64 {
     let one = clauses_in(case.negative, wanted);
     match case.other {
         None => one,
         Some(other) => one.wrapping_mul(clauses_in(other, wanted)),
+    }
+}
+
+// What the query of this case costs.
+fn cost_of(alloc: Global, case: Case, query: &Query, wanted: Wanted) -> Result<u64, AllocError> {
+    match wanted.measure {
+        Measure::Choices => Ok(choices_of(case, wanted)),
+        Measure::Listed => Ok(listed_in(case.positive, wanted)),
+        Measure::Tuples => live_tuples(alloc, query, wanted),
     }
 }
 
@@ -279,10 +327,21 @@ struct Answer {
     cost: u64,
 }
 
-fn answer_of(case: Case, wanted: Wanted) -> Answer {
-    Answer {
-        clashes: clashes_of(case, wanted),
-        cost: cost_of(case, wanted),
+// The budget of a query: one less than its cost, its cost, or a large one.
+#[derive(Clone, Copy)]
+pub(crate) enum Budget {
+    Short,
+    Exact,
+    Large,
+}
+
+pub(crate) const BUDGETS: [Budget; 3] = [Budget::Short, Budget::Exact, Budget::Large];
+
+pub(crate) fn budget_at(cost: u64, budget: Budget) -> u64 {
+    match budget {
+        Budget::Short => cost.saturating_sub(1),
+        Budget::Exact => cost,
+        Budget::Large => u64::MAX,
     }
 }
 
@@ -293,7 +352,7 @@ fn budget_is_right<F: Family>(
     sets: &F,
     query: &Query,
     answer: Answer,
-    budget: u64,
+    budget: Budget,
     scratch: &mut Scratch,
 ) -> Result<bool, AllocError>
     requires ready { IsReady (F.count sets.now) query.now }
@@ -301,11 +360,12 @@ fn budget_is_right<F: Family>(
     requires task { F.is_over sets.now (atoms task.now) }
     requires action { IfSome query.now.action (λ action. action < length task.now.actions) }
 {
+    let budget = budget_at(answer.cost, budget);
     let found = sets.find(alloc, task, query, budget, scratch)?;
     Ok(fits(found, scratch.state(), answer.clashes, answer.cost > budget))
 }
 
-// The same within each budget.
+// The same within each of its budgets.
 fn query_is_right<F: Family>(
     alloc: Global,
     task: &Task,
@@ -335,30 +395,38 @@ fn case_is_right<F: Family>(
     number: u32,
     scratch: &mut Scratch,
 ) -> Result<bool, AllocError>
+    requires first { wanted.first.number < wanted.count }
+    requires second { wanted.second.number < wanted.count }
     requires actions { length task.now.actions ≡ 1 }
-    requires count { F.count sets.now ≡ 2 }
+    requires count { F.count sets.now ≡ wanted.count }
     requires over { F.is_over sets.now (atoms task.now) }
-    requires anchor { F.wants_anchor sets.now → wanted.by_anchor ≡ true }
+    requires anchor { F.wants_anchor sets.now → wanted.measure ≡ M.Listed }
 {
-    let case = case_of(number);
-    if !is_askable(wanted.by_anchor, case) {
+    let case = case_of(number, wanted);
+    if !is_askable(wanted.measure, case) {
         return Ok(true);
     }
     let query = query_of(alloc, case)?;
-    query_is_right(alloc, task, sets, &query, answer_of(case, wanted), scratch)
+    let answer = Answer {
+        clashes: clashes_of(case, wanted),
+        cost: cost_of(alloc, case, &query, wanted)?,
+    };
+    query_is_right(alloc, task, sets, &query, answer, scratch)
 }
 
 // Whether each query is answered rightly.
-fn all_are_right<F: Family>(
+pub(crate) fn all_are_right<F: Family>(
     alloc: Global,
     task: &Task,
     sets: &F,
     wanted: Wanted,
 ) -> Result<bool, AllocError>
+    requires first { wanted.first.number < wanted.count }
+    requires second { wanted.second.number < wanted.count }
     requires actions { length task.now.actions ≡ 1 }
-    requires count { F.count sets.now ≡ 2 }
+    requires count { F.count sets.now ≡ wanted.count }
     requires over { F.is_over sets.now (atoms task.now) }
-    requires anchor { F.wants_anchor sets.now → wanted.by_anchor ≡ true }
+    requires anchor { F.wants_anchor sets.now → wanted.measure ≡ M.Listed }
 {
     let mut scratch = Scratch::new(alloc)?;
     let mut right = true;
@@ -413,10 +481,10 @@ fn ask_in<K: ClauseKind>(
     scratch: &mut Scratch,
 ) -> Result<Finding, AllocError>
     requires actions { length task.now.actions ≡ 1 }
-    requires count { length sets.now ≡ 2 }
+    requires count { length sets.now ≡ case.count }
     requires over { AreOver sets.now (atoms task.now) }
-    requires positive { IsNamed 2 case.positive }
-    requires negative { IsNamed 2 case.negative }
+    requires positive { IsNamed case.count case.positive }
+    requires negative { IsNamed case.count case.negative }
     requires other { case.other ≡ None }
     requires positive_after { case.acts ≡ false → case.positive_after ≡ false }
     requires negative_after { case.acts ≡ false → case.negative_after ≡ false }
@@ -433,21 +501,29 @@ fn case_is_right_in<K: ClauseKind>(
     sets: &Formulas<K>,
     wanted: Wanted,
     number: u32,
-    budget: u64,
+    budget: Budget,
     scratch: &mut Scratch,
 ) -> Result<bool, AllocError>
+    requires first { wanted.first.number < wanted.count }
+    requires second { wanted.second.number < wanted.count }
     requires actions { length task.now.actions ≡ 1 }
-    requires count { length sets.now ≡ 2 }
+    requires count { length sets.now ≡ wanted.count }
     requires over { AreOver sets.now (atoms task.now) }
 {
     let case = Case {
         joined: None,
         other: None,
-        ..case_of(number)
+        ..case_of(number, wanted)
     };
-    let answer = answer_of(case, wanted);
+    let cost = choices_of(case, wanted);
+    let budget = budget_at(cost, budget);
     let found = ask_in(alloc, task, sets, case, budget, scratch)?;
-    Ok(fits(found, scratch.state(), answer.clashes, answer.cost > budget))
+    Ok(fits(
+        found,
+        scratch.state(),
+        clashes_of(case, wanted),
+        cost > budget,
+    ))
 }
 
 fn all_are_right_in<K: ClauseKind>(
@@ -455,10 +531,12 @@ fn all_are_right_in<K: ClauseKind>(
     task: &Task,
     sets: &Formulas<K>,
     wanted: Wanted,
-    budget: u64,
+    budget: Budget,
 ) -> Result<bool, AllocError>
+    requires first { wanted.first.number < wanted.count }
+    requires second { wanted.second.number < wanted.count }
     requires actions { length task.now.actions ≡ 1 }
-    requires count { length sets.now ≡ 2 }
+    requires count { length sets.now ≡ wanted.count }
     requires over { AreOver sets.now (atoms task.now) }
 {
     let mut scratch = Scratch::new(alloc)?;
@@ -475,8 +553,10 @@ fn budgets_are_right_in<K: ClauseKind>(
     sets: &Formulas<K>,
     wanted: Wanted,
 ) -> Result<bool, AllocError>
+    requires first { wanted.first.number < wanted.count }
+    requires second { wanted.second.number < wanted.count }
     requires actions { length task.now.actions ≡ 1 }
-    requires count { length sets.now ≡ 2 }
+    requires count { length sets.now ≡ wanted.count }
     requires over { AreOver sets.now (atoms task.now) }
 {
     let mut right = true;
@@ -502,14 +582,27 @@ fn store_of<K: ClauseKind>(
     Ok(sets)
 }
 
+// What is asked of a store of the sets of these clauses.
 fn clauses_wanted(pre: u32, first: &[u32], second: &[u32]) -> Wanted
-    ensures { result.by_anchor ≡ false }
+    ensures count { result.count ≡ 2 }
+    ensures first { result.first.number ≡ 0 }
+    ensures second { result.second.number ≡ 1 }
+    ensures measure { result.measure ≡ M.Choices }
 {
     Wanted {
-        sets: [states_of_clauses(first), states_of_clauses(second)],
-        sizes: [first.len() as u64, second.len() as u64],
+        count: 2,
+        first: Named {
+            number: 0,
+            states: states_of_clauses(first),
+            size: first.len() as u64,
+        },
+        second: Named {
+            number: 1,
+            states: states_of_clauses(second),
+            size: second.len() as u64,
+        },
         pre,
-        by_anchor: false,
+        measure: Measure::Choices,
     }
 }
 
@@ -520,10 +613,11 @@ fn sets_are_right<K: ClauseKind>(
     sets: &Formulas<K>,
     wanted: Wanted,
 ) -> Result<bool, AllocError>
+    requires first { wanted.first.number < wanted.count }
+    requires second { wanted.second.number < wanted.count }
     requires actions { length task.now.actions ≡ 1 }
-    requires count { length sets.now ≡ 2 }
+    requires count { length sets.now ≡ wanted.count }
     requires over { AreOver sets.now (atoms task.now) }
-    requires anchor { wanted.by_anchor ≡ false }
 {
     let with_room = budgets_are_right_in(alloc, task, sets, wanted)?;
     let alone = all_are_right(alloc, task, sets, wanted)?;
@@ -551,7 +645,7 @@ fn pair_is_right<K: ClauseKind>(
     let task = task_of(alloc, 1)?;
     let sets = store_of::<K>(alloc, &task, first, second)?;
     let wanted = clauses_wanted(1, first, second);
-    Ok(all_are_right_in(alloc, &task, &sets, wanted, 4)?)
+    Ok(all_are_right_in(alloc, &task, &sets, wanted, Budget::Exact)?)
 }
 
 fn listings_of(
@@ -570,6 +664,29 @@ fn listings_of(
     Ok(sets)
 }
 
+fn states_wanted(pre: u32, first: &[u32], second: &[u32]) -> Wanted
+    ensures count { result.count ≡ 2 }
+    ensures first { result.first.number ≡ 0 }
+    ensures second { result.second.number ≡ 1 }
+    ensures measure { result.measure ≡ M.Listed }
+{
+    Wanted {
+        count: 2,
+        first: Named {
+            number: 0,
+            states: states_of_list(first),
+            size: first.len() as u64,
+        },
+        second: Named {
+            number: 1,
+            states: states_of_list(second),
+            size: second.len() as u64,
+        },
+        pre,
+        measure: Measure::Listed,
+    }
+}
+
 // The same for the sets of these states.
 fn listings_are_right(
     alloc: Global,
@@ -579,13 +696,7 @@ fn listings_are_right(
 ) -> Result<bool, AllocError> {
     let task = task_of(alloc, pre)?;
     let sets = listings_of(alloc, &task, first, second)?;
-    let wanted = Wanted {
-        sets: [states_of_list(first), states_of_list(second)],
-        sizes: [first.len() as u64, second.len() as u64],
-        pre,
-        by_anchor: true,
-    };
-    all_are_right(alloc, &task, &sets, wanted)
+    all_are_right(alloc, &task, &sets, states_wanted(pre, first, second))
 }
 
 // A clause to stand beside another: the empty one, one that is true in all states, implications,

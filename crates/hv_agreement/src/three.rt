@@ -187,11 +187,18 @@ pub(crate) fn holding(atoms: u32) -> u32 {
     mask
 }
 
+// The result of the action in the state of this code.
+pub(crate) fn result_of(code: u32) -> u32
+    ensures { result < 8 }
+{
+    ((code & 4) | ADD) % 8
+}
+
 // The states of which the result of the action is one of these.
 pub(crate) fn leading_to(mask: u32) -> u32 {
     let mut before = 0;
     for code in 0..8 {
-        before |= bit_if(code, has_bit(mask, ((code & 4) | ADD) % 8));
+        before |= bit_if(code, has_bit(mask, result_of(code)));
     }
     before
 }
