@@ -1,15 +1,13 @@
 -- Marks that are set, and lines that are gone through from the last to the first.
-use Rattle.std.proofs.Common.{◌≡◌, ℕ, ◌+◌, ◌<◌, ◌≤◌, ◌∙◌, ◌⊎◌, Bool, true, false, List, [], ◌∷◌, Some, length, set, get_or, replicate, refl, sym, ap, subst, inl, inr, arith}
-use Rattle.std.proofs.lemmas.Bool.{cases_eq, cases_lt}
-use Rattle.std.proofs.lemmas.List.{get_or_default, get_or-set_same, get_or-set_other, get_or-replicate, get_or_past, length-set, length-replicate}
+use Rattle.std.proofs.Common.{◌≡◌, ℕ, ◌+◌, ◌<◌, ◌≤◌, ◌∙◌, ◌⊎◌, Bool, true, false, List, [], ◌∷◌, Some, length, set, get_or, refl, sym, ap, subst, inl, inr, arith}
+use Rattle.std.proofs.lemmas.Bool.{cases_eq}
+use Rattle.std.proofs.lemmas.List.{get_or_default, get_or-set_same, get_or-set_other, length-set}
 use Rattle.std.proofs.lemmas.List.Elements.{All-cons, All-head, All-nil, All-tail, All-weaker}
 use Rattle.std.proofs.lemmas.Option.{same_Some}
 use Rattle.std.specs.List.{All}
-use Rattle.hv_lines.specs.Judged.{Concludes}
 use Rattle.hv_lines.specs.Numbering.{known_count, premises_at}
 use Rattle.hv_lines.specs.declared.line.Line.{Line}
 use Rattle.hv_explain.specs.Working.Marks.{AreMarkedFrom, MarkNeeded, is_line_marked, mark_all}
-use Rattle.hv_explain.specs.Needed.{IsConclusion}
 
 -- a mark, as it is read at its place
 pub mark_at_place : (marks : List Bool) (id : ℕ) (other : Bool) → get_or marks id other ≡ true → id < length marks → is_line_marked marks id ≡ true
@@ -102,67 +100,7 @@ module _ (lines : List Line) (id : ℕ) (marks : List Bool) (m : AreMarkedFrom (
             ];
       }
 
-  pub passed_by : is_line_marked marks id ≡ false → AreMarkedFrom id lines marks
-  passed_by unmarked = record {
-    each = m.each;
-    concludes = m.concludes;
-    needed = m.needed;
-    keeps = λ k premises upto said marked.
-        elim (cases_eq k id) [
-          | inl same ↦ let here : is_line_marked marks id ≡ true = subst (λ j. is_line_marked marks j ≡ true) same marked in absurd cc
-          | inr other ↦ m.keeps k premises (omega (arith, upto, other)) said marked
-        ];
-  }
-
--- before and after all lines
-
-none_marked : (n k : ℕ) → is_line_marked (replicate n false) k ≡ true → ⊥
-none_marked n k h =
-    elim (cases_lt k n) [
-      | inl less ↦ let e = get_or-replicate n k false false less in absurd cc
-      | inr past ↦ let e = get_or_past (replicate n false) k false (omega (arith, length-replicate n false, past)) in absurd cc
-    ]
-
-unmarked_past : (marks : List Bool) (k : ℕ) → length marks ≤ k → is_line_marked marks k ≡ true → ⊥
-unmarked_past marks k past h = let e = get_or_past marks k false past in absurd cc
-
-one_conclusion : (lines : List Line) (id other : ℕ) → IsConclusion lines id → IsConclusion lines other → id ≡ other
-one_conclusion lines id other x y =
-    elim (cases_lt id other) [
-      | inl less ↦ absurd (y.first id less x.says)
-      | inr upto ↦
-          elim (cases_lt other id) [
-            | inl more ↦ absurd (x.first other more y.says)
-            | inr also ↦ omega arith
-          ]
-    ]
-
-pub begun_without : (lines : List Line) → (Concludes lines → ⊥) → AreMarkedFrom (known_count lines) lines (replicate (known_count lines) false)
-begun_without lines silent = record {
-  each = length-replicate (known_count lines) false;
-  concludes = λ k first. absurd (silent (k, first.says));
-  needed = λ k h. absurd (none_marked (known_count lines) k h);
-  keeps = λ k premises upto said h. absurd (none_marked (known_count lines) k h);
-}
-
-pub begun_with : (lines : List Line) (id : ℕ) → id < known_count lines → IsConclusion lines id
-    → AreMarkedFrom (known_count lines) lines (set (replicate (known_count lines) false) id true)
-begun_with lines id below conclusion =
-    let n = known_count lines in
-    let none = replicate n false in
-    let size : length (set none id true) ≡ n = length-set none id true ∙ length-replicate n false in
-    record {
-      each = size;
-      concludes = λ k first.
-          subst (λ j. is_line_marked (set none id true) j ≡ true) (one_conclusion lines id k conclusion first)
-          (get_or-set_same none id true false (omega (arith, length-replicate n false, below)));
-      needed = λ k h within closed.
-          elim (set_cases none id k h) [
-            | inl old ↦ absurd (none_marked n k old)
-            | inr same ↦ subst (λ j. within j ≡ true) (sym same) (closed.concludes id conclusion)
-          ];
-      keeps = λ k premises upto said h. absurd (unmarked_past (set none id true) k (omega (arith, size, upto)) h);
-    }
+-- after all lines
 
 pub all_needed : (lines : List Line) (marks : List Bool) → AreMarkedFrom 0 lines marks → MarkNeeded lines marks
 all_needed lines marks m k = (

@@ -1,14 +1,10 @@
 -- The lines of a table are told of by one text.
-use Rattle.std.proofs.Common.{◌≡◌, ℕ, ◌∙◌, Bool, true, false, List, [], ◌∷◌, ◌++◌, ap, refl, reverse, sym}
+use Rattle.std.proofs.Common.{◌≡◌, ℕ, ◌∙◌, Bool, List, [], ◌∷◌, ◌++◌, ap, refl, reverse, sym}
 use Rattle.hv_lines.specs.Spelling.{spelling_of}
 use Rattle.hv_lines.specs.declared.line.Line.{Line}
 use Rattle.hv_lines.specs.declared.line.Line.TheVariants as L
+use Rattle.hv_lines.proofs.Bools.{same_truth}
 use Rattle.hv_explain.specs.Explained.{IsExplanation, explained_line, explained_lines, need_word}
-
-same_bool : (a b : Bool) → (a ≡ true → b ≡ true) → (b ≡ true → a ≡ true) → a ≡ b
-same_bool true b there back = sym (there refl)
-same_bool false true there back = back refl
-same_bool false false there back = refl
 
 module _ (p q : ℕ → Bool) (same : (id : ℕ) → p id ≡ q id) where
   one_line : (line : Line) → explained_line p line ≡ explained_line q line
@@ -25,6 +21,6 @@ pub one_explanation : (lines : List Line) (text other : List ℕ) → IsExplanat
 one_explanation lines text other x y =
     x.says
     ∙ one_text x.needed y.needed
-    (λ id. same_bool (x.needed id) (y.needed id) (λ h. (y.exact id).1 ((x.exact id).0 h)) (λ h. (x.exact id).1 ((y.exact id).0 h)))
+    (λ id. same_truth (x.needed id) (y.needed id) (λ h. (y.exact id).1 ((x.exact id).0 h)) (λ h. (x.exact id).1 ((y.exact id).0 h)))
     (reverse lines)
     ∙ sym y.says

@@ -1,5 +1,5 @@
 -- Good lines by their letter and word, and the lines with which drafts begin and end.
-use Rattle.std.proofs.Common.{◌≡◌, ℕ, ◌+◌, ◌<◌, ◌^◌, List, [], ◌∷◌, Some, length, refl, arith}
+use Rattle.std.proofs.Common.{◌≡◌, ℕ, ◌+◌, ◌<◌, ◌^◌, List, [], ◌∷◌, Some, length, refl, subst, arith}
 use Rattle.std.proofs.lemmas.List.Elements.{All-cons, All-nil}
 use Rattle.std.specs.List.{All}
 use Rattle.hv_task.specs.State.{AreBelow}
@@ -12,7 +12,6 @@ use Rattle.hv_lines.specs.Numbering.{ExprRefersBelow, IsTable, SpeaksBelow, acts
 use Rattle.hv_lines.specs.Rules.{Fits}
 use Rattle.hv_lines.specs.Setting.{Setting}
 use Rattle.hv_lines.specs.Spelling.{ExprFits, FitsDecimal, StatementFits, premises_of}
-use Rattle.hv_lines.specs.declared.line.Acts.{Acts}
 use Rattle.hv_lines.specs.declared.line.Acts.TheVariants as A
 use Rattle.hv_lines.specs.declared.line.Constant.{Constant}
 use Rattle.hv_lines.specs.declared.line.Constant.TheVariants as C
@@ -27,7 +26,7 @@ use Rattle.hv_lines.specs.declared.line.Word.TheVariants as W
 use Rattle.hv_lines.proofs.Laws.{expr_below, known_below, statement_at_here}
 use Rattle.hv_lines.proofs.Carried.{known_onto}
 use Rattle.hv_lines.proofs.Lengths.{decimal_short, short_by}
-use Rattle.hv_lines.proofs.Nexts.{next_claim, next_made}
+use Rattle.hv_lines.proofs.Nexts.{IsMade, next_claim, next_made}
 use Rattle.hv_lines.proofs.Reasons.{good_line, good_next}
 
 -- the lines of a good draft are a table
@@ -74,9 +73,6 @@ module _ (setting : Setting) (lines : List Line) where
     family = tt;
   }
 
-  pub good_acts : (id : ℕ) (acts : Acts) → IsFormed setting lines (L.Acts id acts) → IsGood setting lines (L.Acts id acts)
-  good_acts id acts formed = good_line setting lines (L.Acts id acts) formed tt tt tt tt tt
-
   pub good_expr : (id : ℕ) (expr : Expr) → IsFormed setting lines (L.Expr id expr) → IsGood setting lines (L.Expr id expr)
   good_expr id expr formed = good_line setting lines (L.Expr id expr) formed tt tt tt tt tt
 
@@ -88,8 +84,70 @@ module _ (setting : Setting) (lines : List Line) where
       good_line setting lines (L.Known id statement word premises) formed (λ on. fits) (λ on. absurd (out on)) (λ on. absurd (out on))
       (λ on. absurd (out on)) (λ on. absurd (out on))
 
-small_number : (n : ℕ) → n < 10 → FitsDecimal n
-small_number n small = omega (arith, small)
+-- a statement about sets, without premises
+pub formed_sub : (setting : Setting) (lines : List Line) (id left right : ℕ) (word : Word) → FitsDecimal id → id ≡ known_count lines
+    → FitsDecimal left → FitsDecimal right → left < expr_count lines → right < expr_count lines
+    → premises_of (T.Sub left right) word ≡ Some 0 → IsFormed setting lines (L.Known id (T.Sub left right) word [])
+formed_sub setting lines id left right word at is left_fits right_fits left_below right_below none =
+    formed_known setting lines id (T.Sub left right) word [] at (left_fits, right_fits) (All-nil FitsDecimal) none is (left_below, right_below)
+    (All-nil (λ x. x < known_count lines))
+
+-- what may come next in a draft
+module _ (task : Strips) (lines : List Line) where
+  next_formed : (id : ℕ) (expr : Expr) → IsMade expr → IsFormed (draft_setting task) lines (L.Expr id expr)
+      → IsGoodNext task lines (L.Expr id expr)
+  next_formed id expr made formed = next_made task lines id expr made (good_expr (draft_setting task) lines id expr formed)
+
+  pub next_constant : (id : ℕ) (constant : Constant) → FitsDecimal id → id ≡ expr_count lines
+      → IsGoodNext task lines (L.Expr id (E.Constant constant))
+  next_constant id constant at is =
+      next_formed id (E.Constant constant) tt (formed_expr (draft_setting task) lines id (E.Constant constant) at tt is tt tt tt)
+
+  pub next_not : (id set : ℕ) → FitsDecimal id → id ≡ expr_count lines → set < id → IsGoodNext task lines (L.Expr id (E.Not set))
+  next_not id set at is below =
+      next_formed id (E.Not set) tt
+      (formed_expr (draft_setting task) lines id (E.Not set) at (omega (arith, at, below)) is (omega (arith, is, below)) tt tt)
+
+  pub next_and : (id left right : ℕ) → FitsDecimal id → id ≡ expr_count lines → left < id → right < id
+      → IsGoodNext task lines (L.Expr id (E.And left right))
+  next_and id left right at is below also =
+      next_formed id (E.And left right) tt
+      (formed_expr (draft_setting task) lines id (E.And left right) at (omega (arith, at, below), omega (arith, at, also)) is
+      (omega (arith, is, below), omega (arith, is, also)) tt tt)
+
+  pub next_or : (id left right : ℕ) → FitsDecimal id → id ≡ expr_count lines → left < id → right < id
+      → IsGoodNext task lines (L.Expr id (E.Or left right))
+  next_or id left right at is below also =
+      next_formed id (E.Or left right) tt
+      (formed_expr (draft_setting task) lines id (E.Or left right) at (omega (arith, at, below), omega (arith, at, also)) is
+      (omega (arith, is, below), omega (arith, is, also)) tt tt)
+
+  -- a step by the first set of actions
+  module _ (some : 0 < acts_count lines) where
+    pub next_after : (id set : ℕ) → FitsDecimal id → id ≡ expr_count lines → set < id → IsGoodNext task lines (L.Expr id (E.After set 0))
+    next_after id set at is below =
+        next_formed id (E.After set 0) tt
+        (formed_expr (draft_setting task) lines id (E.After set 0) at (omega (arith, at, below), omega arith) is
+        (omega (arith, is, below), some) tt tt)
+
+    pub next_before : (id set : ℕ) → FitsDecimal id → id ≡ expr_count lines → set < id
+        → IsGoodNext task lines (L.Expr id (E.Before set 0))
+    next_before id set at is below =
+        next_formed id (E.Before set 0) tt
+        (formed_expr (draft_setting task) lines id (E.Before set 0) at (omega (arith, at, below), omega arith) is
+        (omega (arith, is, below), some) tt tt)
+
+  -- a statement by a derivation rule
+  pub next_rule : (id : ℕ) (statement : Statement) (word : Word) (premises : List ℕ) → (IsBasicWord word → ⊥) → FitsDecimal id
+      → id ≡ known_count lines → StatementFits statement → SpeaksBelow (acts_count lines) (expr_count lines) statement
+      → premises_of statement word ≡ Some (length premises) → AreBelow id premises → Fits lines statement word premises
+      → IsGoodNext task lines (L.Known id statement word premises)
+  next_rule id statement word premises out at is says speaks many below fits =
+      next_claim task lines id statement word premises
+      (good_rule (draft_setting task) lines id statement word premises out
+      (formed_known (draft_setting task) lines id statement word premises at says
+      (λ i d less. let small = below i d less in omega (arith, at, small)) many is speaks (subst (λ n. AreBelow n premises) is below))
+      fits)
 
 module _ (task : Strips) where
   abbrev all_actions : List Line
@@ -104,37 +162,22 @@ module _ (task : Strips) where
   abbrev with_goal : List Line
   with_goal = L.Expr 2 (E.Constant C.Goal) ∷ with_start
 
-  constant_next : (lines : List Line) (id : ℕ) (constant : Constant) → id < 10
-      → id ≡ expr_count lines → IsGoodNext task lines (L.Expr id (E.Constant constant))
-  constant_next lines id constant small is =
-      next_made task lines id (E.Constant constant) tt
-      (good_expr (draft_setting task) lines id (E.Constant constant)
-      (formed_expr (draft_setting task) lines id (E.Constant constant) (small_number id small) tt is tt tt tt))
-
   -- the lines with which every draft begins are good
   pub good_prelude : IsGoodTable task (onto prelude [])
   good_prelude = (
-    next_claim task with_goal 0 (T.Dead 0) W.Ed []
-        (good_rule (draft_setting task) with_goal 0 (T.Dead 0) W.Ed [] (λ basic. basic)
-        (formed_known (draft_setting task) with_goal 0 (T.Dead 0) W.Ed [] (small_number 0 (omega arith)) (small_number 0 (omega arith))
-        (All-nil FitsDecimal) refl refl (omega arith) (All-nil (λ x. x < 0)))
-        refl),
+    next_rule task with_goal 0 (T.Dead 0) W.Ed [] (λ basic. basic) (omega arith) refl (omega arith) (omega arith) refl (All-nil (λ x. x < 0))
+        refl,
     (
-      constant_next with_start 2 C.Goal (omega arith) refl,
+      next_constant task with_start 2 C.Goal (omega arith) refl,
       (
-        constant_next with_empty 1 C.Start (omega arith) refl,
+        next_constant task with_empty 1 C.Start (omega arith) refl,
         (
-          constant_next all_actions 0 C.Empty (omega arith) refl,
+          next_constant task all_actions 0 C.Empty (omega arith) refl,
           (
             record {
-              good = good_acts (draft_setting task) [] 0 A.All record {
-                spelled = (small_number 0 (omega arith), tt);
-                numbered = refl;
-                known = (tt, tt);
-                family = tt;
-              };
-              short = short_by (L.Acts 0 A.All)
-                  (omega (arith, decimal_short 0 (small_number 0 (omega arith))));
+              good = good_line (draft_setting task) [] (L.Acts 0 A.All)
+                  (record { spelled = (omega arith, tt); numbered = refl; known = (tt, tt); family = tt }) tt tt tt tt tt;
+              short = short_by (L.Acts 0 A.All) (omega (arith, decimal_short 0 (omega arith)));
             },
             tt,
           ),
@@ -171,12 +214,9 @@ module _ (task : Strips) where
 
     good2 : IsGoodTable task with_dead_start
     good2 = (
-      next_claim task with_inclusion (k + 1) (T.Dead 1) W.Sd (k ∷ by ∷ [])
-          (good_rule (draft_setting task) with_inclusion (k + 1) (T.Dead 1) W.Sd (k ∷ by ∷ []) (λ basic. basic)
-          (formed_known (draft_setting task) with_inclusion (k + 1) (T.Dead 1) W.Sd (k ∷ by ∷ []) (omega (arith, few)) (small_number 1 (omega arith))
-          (All-cons FitsDecimal k (by ∷ []) (omega (arith, few)) (All-cons FitsDecimal by [] (omega (arith, few, by_below)) (All-nil FitsDecimal)))
-          refl (omega (arith, is)) start_below (below_two (known_count with_inclusion) k by (omega (arith, is)) (omega (arith, is, by_below))))
-          (dead, statement_at_here k (T.Sub 1 dead) W.B1 [] old, says1)),
+      next_rule task with_inclusion (k + 1) (T.Dead 1) W.Sd (k ∷ by ∷ []) (λ basic. basic) (omega (arith, few)) (omega (arith, is)) (omega arith)
+          start_below refl (below_two (k + 1) k by (omega arith) (omega (arith, by_below)))
+          (dead, statement_at_here k (T.Sub 1 dead) W.B1 [] old, says1),
       good1,
     )
 
@@ -185,12 +225,9 @@ module _ (task : Strips) where
 
     pub good_conclusion : IsGoodTable task (onto (conclusion k dead by) old)
     good_conclusion = (
-      next_claim task with_dead_start (k + 2) T.Unsolvable W.Ci ((k + 1) ∷ [])
-          (good_rule (draft_setting task) with_dead_start (k + 2) T.Unsolvable W.Ci ((k + 1) ∷ []) (λ basic. basic)
-          (formed_known (draft_setting task) with_dead_start (k + 2) T.Unsolvable W.Ci ((k + 1) ∷ []) (omega (arith, few)) tt
-          (All-cons FitsDecimal (k + 1) [] (omega (arith, few)) (All-nil FitsDecimal))
-          refl (omega (arith, is)) tt (below_one (known_count with_dead_start) (k + 1) (omega (arith, is))))
-          (1, statement_at_here (k + 1) (T.Dead 1) W.Sd (k ∷ by ∷ []) with_inclusion, start2)),
+      next_rule task with_dead_start (k + 2) T.Unsolvable W.Ci ((k + 1) ∷ []) (λ basic. basic) (omega (arith, few)) (omega (arith, is)) tt tt refl
+          (below_one (k + 2) (k + 1) (omega arith))
+          (1, statement_at_here (k + 1) (T.Dead 1) W.Sd (k ∷ by ∷ []) with_inclusion, start2),
       good2,
     )
 

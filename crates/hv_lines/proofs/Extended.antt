@@ -9,7 +9,6 @@ use Rattle.hv_lines.specs.Literals.{IsLiteral, IsPlainSet}
 use Rattle.hv_lines.specs.Meaning.{StateSet, sets_of}
 use Rattle.hv_lines.specs.Numbering.{IsTable, acts_at, expr_at, expr_count, known_count, statement_at}
 use Rattle.hv_lines.specs.Pruning.{BeginsAsDraft, DeniesFew, Extends, GoesOn, IsDeadBy, IsDeadLiteral, IsFirstNoted, IsNoted, states_in}
-use Rattle.hv_lines.specs.declared.line.Acts.{Acts}
 use Rattle.hv_lines.specs.declared.line.Acts.TheVariants as A
 use Rattle.hv_lines.specs.declared.line.Constant.TheVariants as C
 use Rattle.hv_lines.specs.declared.line.Expr.{Expr}
@@ -21,7 +20,7 @@ use Rattle.hv_lines.specs.declared.line.Statement.TheVariants as T
 use Rattle.hv_lines.specs.declared.note.Note.{Note}
 use Rattle.hv_lines.proofs.Carried.{acts_onto, expr_onto, known_onto, table_before}
 use Rattle.hv_lines.proofs.Drafting.{good_before, table_of}
-use Rattle.hv_lines.proofs.Laws.{expr_below, expr_within, refers_below, sets_more}
+use Rattle.hv_lines.proofs.Laws.{expr_below, expr_within, exprs_grow, refers_below, sets_more}
 
 -- lines after lines
 
@@ -71,18 +70,9 @@ extends_then task old now new first second = (goes_on_then old now new first.0 s
 pub sets_onto : (task : Strips) (nodes : NodeList) (more lines : List Line) (set : ℕ) → IsTable (onto more lines) → set < expr_count lines
     → sets_of task nodes (onto more lines) set ≡ sets_of task nodes lines set
 sets_onto task nodes [] lines set table below = refl
-sets_onto task nodes (L.Acts id acts ∷ more) lines set table below =
-    let before = table_before more (L.Acts id acts ∷ lines) table in
-    sets_onto task nodes more (L.Acts id acts ∷ lines) set table below
-    ∙ sets_more task nodes (L.Acts id acts) lines set before.0 below
-sets_onto task nodes (L.Expr id expr ∷ more) lines set table below =
-    let before = table_before more (L.Expr id expr ∷ lines) table in
-    sets_onto task nodes more (L.Expr id expr ∷ lines) set table (omega (arith, below))
-    ∙ sets_more task nodes (L.Expr id expr) lines set before.0 below
-sets_onto task nodes (L.Known id statement word premises ∷ more) lines set table below =
-    let before = table_before more (L.Known id statement word premises ∷ lines) table in
-    sets_onto task nodes more (L.Known id statement word premises ∷ lines) set table below
-    ∙ sets_more task nodes (L.Known id statement word premises) lines set before.0 below
+sets_onto task nodes (line ∷ more) lines set table below =
+    sets_onto task nodes more (line ∷ lines) set table (omega (arith, below, exprs_grow line lines))
+    ∙ sets_more task nodes line lines set (table_before more (line ∷ lines) table).0 below
 
 module _ (task : Strips) (old new : List Line) (extends : Extends task old new) where
   -- the old lines are those of a good draft too
@@ -94,10 +84,6 @@ module _ (task : Strips) (old new : List Line) (extends : Extends task old new) 
 
   table_new : IsTable (onto extends.0.0 old)
   table_new = subst IsTable extends.0.1 (table_of task new extends.1)
-
-  pub acts_extended : (id : ℕ) (acts : Acts) → acts_at old id ≡ Some acts → acts_at new id ≡ Some acts
-  acts_extended id acts at =
-      subst (λ lines. acts_at lines id ≡ Some acts) (sym extends.0.1) (acts_onto extends.0.0 old id acts table_new at)
 
   pub expr_extended : (id : ℕ) (expr : Expr) → expr_at old id ≡ Some expr → expr_at new id ≡ Some expr
   expr_extended id expr at =
@@ -162,22 +148,31 @@ pub noted_dead : (task : Strips) (covered : StateSet) (lines : List Line) (note 
     → IsNoted task covered lines note → states_in task lines note.set state → IsDeadBy task lines state note.line
 noted_dead task covered lines note state noted holds = record { set = note.set; dead = noted.dead; holds = holds }
 
--- what stands in every draft
-module _ (task : Strips) (lines : List Line) (begins : BeginsAsDraft lines) (good : IsGoodTable task lines) where
-  pub begun_acts : acts_at lines 0 ≡ Some A.All
-  begun_acts = acts_extended task (onto prelude []) lines (begins, good) 0 A.All refl
+-- the lines have those with which every draft begins
+pub record HasPrelude (lines : List Line) : Type 0 where
+  pub all : acts_at lines 0 ≡ Some A.All
+  pub empty : expr_at lines 0 ≡ Some (E.Constant C.Empty)
+  pub start : expr_at lines 1 ≡ Some (E.Constant C.Start)
+  pub goal : expr_at lines 2 ≡ Some (E.Constant C.Goal)
+  pub empty_dead : statement_at lines 0 ≡ Some (T.Dead 0)
 
-  pub begun_empty : expr_at lines 0 ≡ Some (E.Constant C.Empty)
-  begun_empty = expr_extended task (onto prelude []) lines (begins, good) 0 (E.Constant C.Empty) refl
+pub prelude_onto : (more lines : List Line) → IsTable (onto more lines) → HasPrelude lines → HasPrelude (onto more lines)
+prelude_onto more lines table has = record {
+  all = acts_onto more lines 0 A.All table has.all;
+  empty = expr_onto more lines 0 (E.Constant C.Empty) table has.empty;
+  start = expr_onto more lines 1 (E.Constant C.Start) table has.start;
+  goal = expr_onto more lines 2 (E.Constant C.Goal) table has.goal;
+  empty_dead = known_onto more lines 0 (T.Dead 0) table has.empty_dead;
+}
 
-  pub begun_start : expr_at lines 1 ≡ Some (E.Constant C.Start)
-  begun_start = expr_extended task (onto prelude []) lines (begins, good) 1 (E.Constant C.Start) refl
+pub prelude_has : HasPrelude (onto prelude [])
+prelude_has = record { all = refl; empty = refl; start = refl; goal = refl; empty_dead = refl }
 
-  pub begun_goal : expr_at lines 2 ≡ Some (E.Constant C.Goal)
-  begun_goal = expr_extended task (onto prelude []) lines (begins, good) 2 (E.Constant C.Goal) refl
-
-  pub begun_dead : statement_at lines 0 ≡ Some (T.Dead 0)
-  begun_dead = statement_extended task (onto prelude []) lines (begins, good) 0 (T.Dead 0) refl
+-- every draft has them
+pub prelude_begins : (task : Strips) (lines : List Line) → BeginsAsDraft lines → IsGoodTable task lines → HasPrelude lines
+prelude_begins task lines begins good =
+    subst HasPrelude (sym begins.1)
+    (prelude_onto begins.0 (onto prelude []) (subst IsTable begins.1 (table_of task lines good)) prelude_has)
 
 -- which line answers by the notes is determined
 pub first_noted_once : (task : Strips) (lines : List Line) (notes : List Note) (state : List Bool) (a b : ℕ)

@@ -254,9 +254,6 @@ premises_before (L.Known id said w given ∷ older) k ps table h =
       | inr there ↦ premises_before older k ps table.1 there.1
     ]
 
-pub AreBelow-more : (m n : ℕ) (ps : List ℕ) → m ≤ n → AreBelow m ps → AreBelow n ps
-AreBelow-more m n ps h below = λ k d within. omega (arith, below k d within)
-
 -- an added line doesn't change earlier action sets
 
 pick_acts-false : (test : Bool) (here there : ActionSet) → test ≡ false → pick_acts test here there ≡ there

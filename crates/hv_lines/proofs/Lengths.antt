@@ -47,12 +47,12 @@ statement_short (T.ActSub a b) fits = omega (arith, decimal_short a fits.0, deci
 statement_short (T.Dead e) fits = omega (arith, decimal_short e fits)
 statement_short T.Unsolvable fits = omega arith
 
--- a line of a statement is short
-pub short_known : (id : ℕ) (statement : Statement) (word : Word) (premises : List ℕ) → FitsDecimal id → StatementFits statement
-    → All FitsDecimal premises → length (word_field word) ≤ 2 → length premises ≤ 3 → IsShortLine (L.Known id statement word premises)
-short_known id statement word premises at says fit named few =
-    short_by (L.Known id statement word premises)
-    (omega (
+-- so are those of a line of a statement
+pub light_known : (id : ℕ) (statement : Statement) (word : Word) (premises : List ℕ) → FitsDecimal id → StatementFits statement
+    → All FitsDecimal premises → length (word_field word) ≤ 2 → length premises ≤ 3
+    → weight (fields_of (L.Known id statement word premises)) ≤ 200
+light_known id statement word premises at says fit named few =
+    omega (
       arith,
       decimal_short id at,
       statement_short statement says,
@@ -60,28 +60,12 @@ short_known id statement word premises at says fit named few =
       named,
       few,
       weight-append (statement_fields statement) (word_field word ∷ map decimal premises),
-    ))
+    )
 
-pub short_after : (id set acts : ℕ) → FitsDecimal id → FitsDecimal set → FitsDecimal acts → IsShortLine (L.Expr id (E.After set acts))
-short_after id set acts a b c =
-    short_by (L.Expr id (E.After set acts)) (omega (arith, decimal_short id a, decimal_short set b, decimal_short acts c))
-
-pub short_or : (id left right : ℕ) → FitsDecimal id → FitsDecimal left → FitsDecimal right → IsShortLine (L.Expr id (E.Or left right))
-short_or id left right a b c =
-    short_by (L.Expr id (E.Or left right)) (omega (arith, decimal_short id a, decimal_short left b, decimal_short right c))
-
-pub short_and : (id left right : ℕ) → FitsDecimal id → FitsDecimal left → FitsDecimal right → IsShortLine (L.Expr id (E.And left right))
-short_and id left right a b c =
-    short_by (L.Expr id (E.And left right)) (omega (arith, decimal_short id a, decimal_short left b, decimal_short right c))
-
-constant_short : (constant : Constant) → length (constant_field constant) ≤ 1
+pub constant_short : (constant : Constant) → length (constant_field constant) ≤ 1
 constant_short C.Empty = omega arith
 constant_short C.Start = omega arith
 constant_short C.Goal = omega arith
-
-pub short_constant : (id : ℕ) (constant : Constant) → FitsDecimal id → IsShortLine (L.Expr id (E.Constant constant))
-short_constant id constant at =
-    short_by (L.Expr id (E.Constant constant)) (omega (arith, decimal_short id at, constant_short constant))
 
 -- a clause of at most two literals, whose atoms are those of a task
 pub record IsSmall (clause : List Literal) : Type 0 where
@@ -109,7 +93,7 @@ clause_short (l ∷ k ∷ []) small =
     )
 clause_short (l ∷ k ∷ m ∷ rest) small = absurd (omega (arith, small.few))
 
-clauses_short : (clauses : List (List Literal)) → All IsSmall clauses → weight (flat_map clause_fields clauses) ≤ 16 * length clauses
+pub clauses_short : (clauses : List (List Literal)) → All IsSmall clauses → weight (flat_map clause_fields clauses) ≤ 16 * length clauses
 clauses_short [] small = omega arith
 clauses_short (clause ∷ clauses) small =
     omega (
@@ -119,9 +103,16 @@ clauses_short (clause ∷ clauses) small =
       clauses_short clauses (All-tail IsSmall clause clauses small),
     )
 
--- a Horn formula of small clauses, no more than the default budget, is short
+-- a formula of small clauses, no more than the default budget, is short
+
 pub short_horn : (id : ℕ) (clauses : List (List Literal)) → FitsDecimal id → All IsSmall clauses → length clauses ≤ 1000000
     → IsShortLine (L.Expr id (E.Horn clauses))
 short_horn id clauses at small few =
     short_by (L.Expr id (E.Horn clauses))
+    (omega (arith, decimal_short id at, decimal_short (length clauses) (omega arith), clauses_short clauses small, few))
+
+pub short_two : (id : ℕ) (clauses : List (List Literal)) → FitsDecimal id → All IsSmall clauses → length clauses ≤ 1000000
+    → IsShortLine (L.Expr id (E.Two clauses))
+short_two id clauses at small few =
+    short_by (L.Expr id (E.Two clauses))
     (omega (arith, decimal_short id at, decimal_short (length clauses) (omega arith), clauses_short clauses small, few))

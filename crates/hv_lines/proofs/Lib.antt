@@ -1,3 +1,4 @@
+pub mod Bools
 pub mod Elements
 pub mod Lists
 pub mod WordTable
@@ -19,6 +20,8 @@ pub mod Brief
 pub mod Budgets
 pub mod Nexts
 pub mod Carried
+pub mod PlainSides
+pub mod GoodQuestions
 pub mod Basics
 pub mod Untrue
 pub mod Drafting

@@ -1,21 +1,11 @@
--- Lists that are joined of pieces, and ranges of numbers.
-use Rattle.std.proofs.Common.{◌≡◌, ℕ, zero, suc, ◌+◌, ◌-◌, ◌<◌, ◌≤◌, ◌∙◌, ◌&&◌, Bool, true, false, List, [], ◌∷◌, ◌++◌, length, refl, sym, ap, subst, inl, inr, arith, append_assoc, length-append}
-use Rattle.std.proofs.lemmas.Bool.{cases_eq}
+-- Lists that are joined of pieces, ranges of numbers, and lists that rise.
+use Rattle.std.proofs.Common.{◌≡◌, ℕ, zero, suc, ◌+◌, ◌-◌, ◌<◌, ◌≤◌, ◌∙◌, Bool, true, List, [], ◌∷◌, ◌++◌, length, get_or, refl, sym, ap, subst, inl, inr, arith, add-one, length-append}
+use Rattle.std.proofs.lemmas.Bool.{and_from, and_parts, cases_eq}
+use Rattle.std.proofs.lemmas.List.{flat_map_more}
 use Rattle.std.proofs.lemmas.List.Elements.{All-append, All-cons, All-head, All-nil, All-tail}
 use Rattle.std.proofs.lemmas.List.Folds.{list_all-append}
 use Rattle.std.specs.List.{All, flat_map, list_all, range_with_len}
-
-pub and_left : (a b : Bool) → (a && b) ≡ true → a ≡ true
-and_left true b e = refl
-and_left false b e = absurd (cc (e))
-
-pub and_right : (a b : Bool) → (a && b) ≡ true → b ≡ true
-and_right true b e = e
-and_right false b e = absurd (cc (e))
-
-pub and_both : (a b : Bool) → a ≡ true → b ≡ true → (a && b) ≡ true
-and_both true b e also = also
-and_both false b e also = absurd (cc (e))
+use Rattle.std.specs.List.Sorted.{IsStrictlyIncreasing}
 
 module _ {X Y : Type 0} (f : X → List Y) where
   -- what holds of each element of the pieces holds of each element of all
@@ -28,30 +18,21 @@ module _ {X Y : Type 0} (f : X → List Y) where
   pub pieces_pass : (p : Y → Bool) (xs : List X) → list_all p (flat_map f xs) ≡ true → All (λ x. list_all p (f x) ≡ true) xs
   pieces_pass p [] all = All-nil (λ x. list_all p (f x) ≡ true)
   pieces_pass p (x ∷ xs) all =
-      let both = sym (list_all-append p (f x) (flat_map f xs)) ∙ all in
-      All-cons (λ y. list_all p (f y) ≡ true) x xs (and_left (list_all p (f x)) (list_all p (flat_map f xs)) both)
-      (pieces_pass p xs (and_right (list_all p (f x)) (list_all p (flat_map f xs)) both))
+      let both =
+      and_parts (list_all p (f x)) (list_all p (flat_map f xs)) (sym (list_all-append p (f x) (flat_map f xs)) ∙ all) in
+      All-cons (λ y. list_all p (f y) ≡ true) x xs both.0 (pieces_pass p xs both.1)
 
   pub all_pass : (p : Y → Bool) (xs : List X) → All (λ x. list_all p (f x) ≡ true) xs → list_all p (flat_map f xs) ≡ true
   all_pass p [] each = refl
   all_pass p (x ∷ xs) each =
       list_all-append p (f x) (flat_map f xs)
-      ∙ and_both (list_all p (f x)) (list_all p (flat_map f xs)) (All-head (λ y. list_all p (f y) ≡ true) x xs each)
+      ∙ and_from (list_all p (f x)) (list_all p (flat_map f xs)) (All-head (λ y. list_all p (f y) ≡ true) x xs each)
       (all_pass p xs (All-tail (λ y. list_all p (f y) ≡ true) x xs each))
 
   -- pieces of at most one element
   pub length-pieces : (xs : List X) → ((x : X) → length (f x) ≤ 1) → length (flat_map f xs) ≤ length xs
   length-pieces [] few = omega arith
   length-pieces (x ∷ xs) few = omega (arith, length-append (f x) (flat_map f xs), few x, length-pieces xs few)
-
-  pub flat_map_push : (xs : List X) (x : X) → flat_map f (xs ++ x ∷ []) ≡ flat_map f xs ++ f x
-  flat_map_push [] x = append_empty (f x)
-    where
-      append_empty : (ys : List Y) → ys ++ [] ≡ ys
-      append_empty [] = refl
-      append_empty (y ∷ ys) = ap (λ zs. y ∷ zs) (append_empty ys)
-  flat_map_push (y ∷ xs) x =
-      ap (λ zs. f y ++ zs) (flat_map_push xs x) ∙ sym (append_assoc (f y) (flat_map f xs) (f x))
 
 pub range_push : (a n : ℕ) → range_with_len a (n + 1) ≡ range_with_len a n ++ (a + n) ∷ []
 range_push a zero = ap (λ x. x ∷ []) (omega arith)
@@ -68,7 +49,7 @@ pieces_next f n now new is more =
     more
     ∙ (ap (λ ys. ys ++ f n) is
     ∙ (ap (λ k. flat_map f (range_with_len 0 n) ++ f k) same
-    ∙ (sym (flat_map_push f (range_with_len 0 n) (0 + n)) ∙ ap (flat_map f) (sym (range_push 0 n)))))
+    ∙ (flat_map_more f [] (range_with_len 0 n) (0 + n) ∙ ap (flat_map f) (sym (range_push 0 n)))))
 
 -- the same behind other elements, of a range from a number on
 pub pieces_more : {Y : Type 0} (f : ℕ → List Y) (a n : ℕ) (old now new : List Y) → a ≤ n
@@ -78,11 +59,9 @@ pieces_more f a n old now new upto is more =
     let next : n - a + 1 ≡ n + 1 - a = omega (arith, upto) in
     more
     ∙ (ap (λ ys. ys ++ f n) is
-    ∙ (append_assoc old (flat_map f (range_with_len a (n - a))) (f n)
-    ∙ ap (λ ys. old ++ ys)
-    (ap (λ k. flat_map f (range_with_len a (n - a)) ++ f k) same
-    ∙ (sym (flat_map_push f (range_with_len a (n - a)) (a + (n - a)))
-    ∙ (ap (flat_map f) (sym (range_push a (n - a))) ∙ ap (λ k. flat_map f (range_with_len a k)) next)))))
+    ∙ (ap (λ k. (old ++ flat_map f (range_with_len a (n - a))) ++ f k) same
+    ∙ (flat_map_more f old (range_with_len a (n - a)) (a + (n - a))
+    ∙ (ap (λ xs. old ++ flat_map f xs) (sym (range_push a (n - a))) ∙ ap (λ k. old ++ flat_map f (range_with_len a k)) next))))
 
 module _ (P : ℕ → Type 0) where
   -- each number of a range
@@ -104,3 +83,11 @@ module _ (P : ℕ → Type 0) where
   -- the same of the numbers below one
   pub All-below : (n : ℕ) → ((x : ℕ) → x < n → P x) → All P (range_with_len 0 n)
   All-below n each = All-range 0 n (λ x from below. each x (omega (arith, below)))
+
+-- the rest of a list that rises does
+pub increasing_tail : (n : ℕ) (ns : List ℕ) → IsStrictlyIncreasing (n ∷ ns) → IsStrictlyIncreasing ns
+increasing_tail n ns rises k within =
+    let more : suc k + 1 < length (n ∷ ns) = omega arith in
+    let less = rises (suc k) more in
+    let e : get_or (n ∷ ns) (suc k + 1) 0 ≡ get_or ns (k + 1) 0 = rw (add-one, add-one) in
+    omega arith

@@ -1,17 +1,18 @@
 -- A good line that claims something, or names a set that is made of earlier ones, may come next in a draft: it is short.
 use Rattle.std.proofs.Common.{ℕ, ◌≤◌, List, length, arith}
 use Rattle.hv_task.specs.Strips.{Strips}
-use Rattle.hv_lines.specs.Drafts.{IsGoodNext, IsShortLine, draft_setting}
+use Rattle.hv_lines.specs.Drafts.{IsGoodNext, draft_setting}
 use Rattle.hv_lines.specs.Good.{IsGood}
 use Rattle.hv_lines.specs.Order as O
-use Rattle.hv_lines.specs.Spelling.{ExprFits, FitsDecimal, word_field}
+use Rattle.hv_lines.specs.Setting.{Setting}
+use Rattle.hv_lines.specs.Spelling.{ExprFits, FitsDecimal, fields_of, word_field}
 use Rattle.hv_lines.specs.declared.line.Expr.{Expr}
 use Rattle.hv_lines.specs.declared.line.Expr.TheVariants as E
 use Rattle.hv_lines.specs.declared.line.Line.{Line}
 use Rattle.hv_lines.specs.declared.line.Line.TheVariants as L
 use Rattle.hv_lines.specs.declared.line.Statement.{Statement}
 use Rattle.hv_lines.specs.declared.line.Word.{Word}
-use Rattle.hv_lines.proofs.Lengths.{decimal_short, short_after, short_and, short_by, short_constant, short_known, short_or}
+use Rattle.hv_lines.proofs.Lengths.{constant_short, decimal_short, light_known, short_by, weight}
 use Rattle.hv_lines.proofs.WordTable.{premises_few, word_plain}
 
 -- a constant, a node, or a set that is made of earlier ones
@@ -21,29 +22,38 @@ IsMade (E.Two clauses) = ⊥
 IsMade (E.States states) = ⊥
 IsMade _ = Unit {0}
 
-pub short_made : (id : ℕ) (expr : Expr) → IsMade expr → FitsDecimal id → ExprFits expr → IsShortLine (L.Expr id expr)
-short_made id (E.Constant constant) made at fits = short_constant id constant at
-short_made id (E.Horn clauses) made at fits = absurd made
-short_made id (E.Two clauses) made at fits = absurd made
-short_made id (E.States states) made at fits = absurd made
-short_made id (E.Node node) made at fits =
-    short_by (L.Expr id (E.Node node)) (omega (arith, decimal_short id at, decimal_short node (omega (arith, fits))))
-short_made id (E.Not set) made at fits = short_by (L.Expr id (E.Not set)) (omega (arith, decimal_short id at, decimal_short set fits))
-short_made id (E.And left right) made at fits = short_and id left right at fits.0 fits.1
-short_made id (E.Or left right) made at fits = short_or id left right at fits.0 fits.1
-short_made id (E.After set acts) made at fits = short_after id set acts at fits.0 fits.1
-short_made id (E.Before set acts) made at fits =
-    short_by (L.Expr id (E.Before set acts)) (omega (arith, decimal_short id at, decimal_short set fits.0, decimal_short acts fits.1))
+-- the fields of such a set, and of a claim, have few bytes
+
+pub light_made : (id : ℕ) (expr : Expr) → IsMade expr → FitsDecimal id → ExprFits expr → weight (fields_of (L.Expr id expr)) ≤ 200
+light_made id (E.Constant constant) made at fits = omega (arith, decimal_short id at, constant_short constant)
+light_made id (E.Horn clauses) made at fits = absurd made
+light_made id (E.Two clauses) made at fits = absurd made
+light_made id (E.States states) made at fits = absurd made
+light_made id (E.Node node) made at fits = omega (arith, decimal_short id at, decimal_short node (omega (arith, fits)))
+light_made id (E.Not set) made at fits = omega (arith, decimal_short id at, decimal_short set fits)
+light_made id (E.And left right) made at fits = omega (arith, decimal_short id at, decimal_short left fits.0, decimal_short right fits.1)
+light_made id (E.Or left right) made at fits = omega (arith, decimal_short id at, decimal_short left fits.0, decimal_short right fits.1)
+light_made id (E.After set acts) made at fits = omega (arith, decimal_short id at, decimal_short set fits.0, decimal_short acts fits.1)
+light_made id (E.Before set acts) made at fits = omega (arith, decimal_short id at, decimal_short set fits.0, decimal_short acts fits.1)
 
 two_bytes : (word : Word) → length (word_field word) ≤ 2
 two_bytes word = let plain = word_plain word in rw plain.two (omega arith)
+
+pub light_claim : (setting : Setting) (lines : List Line) (id : ℕ) (statement : Statement) (word : Word) (premises : List ℕ)
+    → IsGood setting lines (L.Known id statement word premises) → weight (fields_of (L.Known id statement word premises)) ≤ 200
+light_claim setting lines id statement word premises good =
+    let spelled = good O.Spelling in
+    light_known id statement word premises spelled.0 spelled.1 spelled.2 (two_bytes word)
+    (premises_few statement word (length premises) spelled.3)
 
 module _ (task : Strips) (lines : List Line) where
   pub next_made : (id : ℕ) (expr : Expr) → IsMade expr → IsGood (draft_setting task) lines (L.Expr id expr)
       → IsGoodNext task lines (L.Expr id expr)
   next_made id expr made good = record {
     good = good;
-    short = let spelled = good O.Spelling in short_made id expr made spelled.0 spelled.1;
+    short =
+        let spelled = good O.Spelling in
+        short_by (L.Expr id expr) (omega (arith, light_made id expr made spelled.0 spelled.1));
   }
 
   pub next_claim : (id : ℕ) (statement : Statement) (word : Word) (premises : List ℕ)
@@ -51,8 +61,6 @@ module _ (task : Strips) (lines : List Line) where
       → IsGoodNext task lines (L.Known id statement word premises)
   next_claim id statement word premises good = record {
     good = good;
-    short =
-        let spelled = good O.Spelling in
-        short_known id statement word premises spelled.0 spelled.1 spelled.2 (two_bytes word)
-        (premises_few statement word (length premises) spelled.3);
+    short = short_by (L.Known id statement word premises)
+        (omega (arith, light_claim (draft_setting task) lines id statement word premises good));
   }

@@ -1,9 +1,9 @@
 -- The queries of a question can be asked of the store of its family.
-use Rattle.std.proofs.Common.{◌≡◌, ℕ, zero, suc, ◌<◌, ◌∙◌, ◌⊎◌, ◌++◌, Bool, true, false, List, [], ◌∷◌, Option, Some, None, if◌then◌else◌, length, map, get_or, refl, sym, ap, subst, inl, inr, arith}
-use Rattle.std.proofs.lemmas.List.Elements.{Contains-append_cases, Contains-get_or}
+use Rattle.std.proofs.Common.{◌≡◌, ℕ, zero, suc, ◌<◌, ◌∙◌, ◌⊎◌, ◌++◌, Bool, true, false, List, [], ◌∷◌, Option, Some, None, if◌then◌else◌, length, map, refl, sym, ap, subst, inl, inr, arith}
+use Rattle.std.proofs.lemmas.List.Elements.{Contains-append_cases}
 use Rattle.std.proofs.lemmas.Option.{same_Some, slice_get-map}
-use Rattle.std.specs.List.{All, Contains, slice_get}
-use Rattle.std.specs.Option.{option_map, IfSome}
+use Rattle.std.specs.List.{Contains, slice_get}
+use Rattle.std.specs.Option.{IfSome}
 use Rattle.hv_sets.specs.Query.{ComesBefore, IsNamed, IsReady, Rises}
 use Rattle.hv_sets.specs.declared.operand.Operand.{Operand}
 use Rattle.hv_lines.specs.Literals.{IsPlainExpr, IsPlainSet}
@@ -21,25 +21,12 @@ use Rattle.hv_lines.specs.declared.line.Line.{Line}
 use Rattle.hv_lines.specs.declared.line.Word.{Word}
 use Rattle.hv_lines.specs.declared.line.Word.TheVariants as W
 use Rattle.hv_task.specs.Strips.{Strips}
+use Rattle.hv_lines.proofs.Elements.{all_from, got_mapped, in_mapped}
 use Rattle.hv_lines.proofs.Laws.{expr_below}
 use Rattle.hv_lines.proofs.Named.{count_before, found_number, which_is}
 use Rattle.hv_lines.proofs.Questions.{alone_no_step}
 
 -- lists
-
-all_from : {X : Type 0} (P : X → Type 0) (xs : List X) → ((x : X) → Contains xs x → P x) → All P xs
-all_from P xs each k d below = each (get_or xs k d) (Contains-get_or xs k d below)
-
-in_mapped : {X Y : Type 0} (f : X → Y) (xs : List X) (y : Y) → Contains (map f xs) y → (x : X) × Contains xs x × (f x ≡ y)
-in_mapped f [] y c = absurd (omega (arith, c.1))
-in_mapped f (x ∷ xs) y (zero, below, e) = (x, (0, omega arith, refl), e)
-in_mapped f (x ∷ xs) y (suc k, below, e) =
-    let rest = in_mapped f xs y (k, omega (arith, below), e) in
-    (rest.0, (suc rest.1.0, omega (arith, rest.1.1), rest.1.2), rest.2)
-
-got_mapped : {X Y : Type 0} (f : X → Y) (found : Option X) (y : Y) → option_map f found ≡ Some y → (x : X) × (found ≡ Some x) × (f x ≡ y)
-got_mapped f None y e = absurd (cc (e))
-got_mapped f (Some x) y e = (x, refl, same_Some (f x) y e)
 
 -- what is listed for an action set are actions below the bound
 some_here : (b : Bool) (n : ℕ) (action : Option ℕ) → Contains (if b then Some n ∷ [] else []) action → Some n ≡ action

@@ -1,8 +1,9 @@
 -- What rises is one list, by what it contains.
-use Rattle.std.proofs.Common.{◌≡◌, ℕ, zero, suc, ◌∙◌, ◌⊎◌, ◌↔◌, Bool, true, false, [], ◌∷◌, Some, refl, sym, ap, ap₂, subst, inl, inr, arith}
+use Rattle.std.proofs.Common.{◌≡◌, ℕ, suc, ◌∙◌, ◌↔◌, Bool, true, false, [], ◌∷◌, Some, refl, sym, ap, ap₂, subst, inl, inr, arith}
 use Rattle.std.specs.List.{Contains}
 use Rattle.std.proofs.lemmas.Option.{slice_get-get_or}
 use Rattle.hv_lines.specs.Shapes.{Askings, AskedBefore, AskingsRise}
+use Rattle.hv_lines.proofs.Elements.{cons_cases, head_in, nothing_in, tail_in}
 
 -- of two, only one comes before the other
 before_once : (a b : ℕ × Bool) → AskedBefore a b → AskedBefore b a → ⊥
@@ -19,24 +20,11 @@ first_before : (x : ℕ × Bool) (xs : Askings) → AskingsRise (x ∷ xs) → (
 first_before x xs rises y c =
     rises 0 (suc c.0) x y (omega arith) refl (slice_get-get_or xs c.0 y c.1 ∙ ap Some c.2)
 
-cons_cases : (x : ℕ × Bool) (xs : Askings) (y : ℕ × Bool) → Contains (x ∷ xs) y → (x ≡ y) ⊎ Contains xs y
-cons_cases x xs y (zero, within, e) = inl e
-cons_cases x xs y (suc k, within, e) = inr (k, omega arith, e)
-
-in_head : (x : ℕ × Bool) (xs : Askings) → Contains (x ∷ xs) x
-in_head x xs = (0, omega arith, refl)
-
-in_tail : (x : ℕ × Bool) (xs : Askings) (y : ℕ × Bool) → Contains xs y → Contains (x ∷ xs) y
-in_tail x xs y c = (suc c.0, omega (arith, c.1), c.2)
-
-nothing_in : (y : ℕ × Bool) → Contains [] y → ⊥
-nothing_in y c = omega (arith, c.1)
-
 -- what is in two rising lists whose heads are the same is in the tail of both or of none
 same_tail : (x : ℕ × Bool) (xs ys : Askings) → AskingsRise (x ∷ xs) → ((a : ℕ × Bool) → Contains (x ∷ xs) a → Contains (x ∷ ys) a)
     → (a : ℕ × Bool) → Contains xs a → Contains ys a
 same_tail x xs ys rises within a c =
-    elim (cons_cases x ys a (within a (in_tail x xs a c))) [
+    elim (cons_cases x ys a (within a (tail_in x xs a c))) [
       | inl same ↦
           let before : AskedBefore x a = first_before x xs rises a c in
           let back : AskedBefore a x = subst (λ b. AskedBefore b x) same (subst (AskedBefore x) (sym same) before) in
@@ -57,10 +45,10 @@ same_head x y xs ys rises also x_in y_in =
 
 pub rising_once : (xs ys : Askings) → AskingsRise xs → AskingsRise ys → ((a : ℕ × Bool) → Contains xs a ↔ Contains ys a) → xs ≡ ys
 rising_once [] [] rises also same = refl
-rising_once [] (y ∷ ys) rises also same = absurd (nothing_in y ((same y).1 (in_head y ys)))
-rising_once (x ∷ xs) [] rises also same = absurd (nothing_in x ((same x).0 (in_head x xs)))
+rising_once [] (y ∷ ys) rises also same = absurd (nothing_in y ((same y).1 (head_in y ys)))
+rising_once (x ∷ xs) [] rises also same = absurd (nothing_in x ((same x).0 (head_in x xs)))
 rising_once (x ∷ xs) (y ∷ ys) rises also same =
-    let head : x ≡ y = same_head x y xs ys rises also ((same x).0 (in_head x xs)) ((same y).1 (in_head y ys)) in
+    let head : x ≡ y = same_head x y xs ys rises also ((same x).0 (head_in x xs)) ((same y).1 (head_in y ys)) in
     let rest : AskingsRise (x ∷ ys) = subst (λ z. AskingsRise (z ∷ ys)) (sym head) also in
     let there : (a : ℕ × Bool) → Contains (x ∷ xs) a → Contains (x ∷ ys) a =
     λ a c. subst (λ z. Contains (z ∷ ys) a) (sym head) ((same a).0 c) in

@@ -1,6 +1,6 @@
 -- What the verdict true says: the statement is true.
 use Rattle.std.proofs.Common.{◌≡◌, ℕ, zero, suc, ◌<◌, ◌∙◌, ◌⊎◌, ◌↔◌, ◌++◌, ◌&&◌, Bool, true, false, not, List, [], ◌∷◌, Option, Some, None, if◌then◌else◌, length, map, refl, sym, ap, subst, inl, inr, arith}
-use Rattle.std.proofs.lemmas.Bool.{cases_lt}
+use Rattle.std.proofs.lemmas.Bool.{and_from, cases_lt}
 use Rattle.std.proofs.lemmas.List.Elements.{Contains-push, Contains-append_left}
 use Rattle.std.proofs.lemmas.Option.{same_Some, slice_get-get_or, slice_get-map, slice_get_within}
 use Rattle.std.specs.List.{Contains, list_all, slice_get}
@@ -58,10 +58,6 @@ before_is _ l r is = absurd (cc (is))
 
 -- tests
 
-both_true : (a b : Bool) → a ≡ true → b ≡ true → (a && b) ≡ true
-both_true true b is also = also
-both_true false b is also = absurd (cc (is))
-
 not_true : (b : Bool) → (b ≡ true → ⊥) → not b ≡ true
 not_true true out = absurd (out refl)
 not_true false out = refl
@@ -69,7 +65,7 @@ not_true false out = refl
 all_mapped : {A B : Type 0} (p : B → Bool) (f : A → B) (xs : List A) → ((a : A) → Contains xs a → p (f a) ≡ true) → list_all p (map f xs) ≡ true
 all_mapped p f [] each = refl
 all_mapped p f (x ∷ xs) each =
-    both_true (p (f x)) (list_all p (map f xs)) (each x (0, omega arith, refl))
+    and_from (p (f x)) (list_all p (map f xs)) (each x (0, omega arith, refl))
     (all_mapped p f xs (λ a c. each a (suc c.0, omega (arith, c.1), c.2)))
 
 module _ (setting : Setting) (lines : List Line) (table : IsTable lines) where
@@ -141,11 +137,11 @@ module _ (setting : Setting) (lines : List Line) (table : IsTable lines) where
           && (list_all (λ o. in_operand setting.task (has_of setting lines q.family) x t o) (map (λ a. operand_of lines a) q.positive)
           && list_all (λ o. not (in_operand setting.task (has_of setting lines q.family) x t o)) (map (λ a. operand_of lines a) q.negative))) ≡ true)
           (sym acts)
-          (both_true (may_apply act t)
+          (and_from (may_apply act t)
           (list_all (λ o. in_operand setting.task (has_of setting lines q.family) act t o) (map (λ a. operand_of lines a) q.positive)
           && list_all (λ o. not (in_operand setting.task (has_of setting lines q.family) act t o)) (map (λ a. operand_of lines a) q.negative))
           applies
-          (both_true (list_all (λ o. in_operand setting.task (has_of setting lines q.family) act t o) (map (λ a. operand_of lines a) q.positive))
+          (and_from (list_all (λ o. in_operand setting.task (has_of setting lines q.family) act t o) (map (λ a. operand_of lines a) q.positive))
           (list_all (λ o. not (in_operand setting.task (has_of setting lines q.family) act t o)) (map (λ a. operand_of lines a) q.negative))
           (all_mapped (λ o. in_operand setting.task (has_of setting lines q.family) act t o) (λ a. operand_of lines a) q.positive
           (λ a c. positive_in a ((is.positive a).0 c)))

@@ -1,5 +1,6 @@
 -- A true statement has no counterexample: the verdict false says that the statement isn't true.
 use Rattle.std.proofs.Common.{◌≡◌, ℕ, zero, suc, ◌<◌, ◌∙◌, ◌&&◌, Bool, true, false, not, List, [], ◌∷◌, Option, Some, None, if◌then◌else◌, length, map, refl, sym, ap, subst, inl, inr, arith}
+use Rattle.std.proofs.lemmas.Bool.{and_parts as both_true}
 use Rattle.std.proofs.lemmas.List.Elements.{Contains-append_cases}
 use Rattle.std.proofs.lemmas.Option.{same_Some, slice_get-map}
 use Rattle.std.specs.List.{Contains, list_all, slice_get}
@@ -24,7 +25,8 @@ use Rattle.hv_lines.specs.declared.line.Word.{Word}
 use Rattle.hv_lines.specs.declared.line.Word.TheVariants as W
 use Rattle.hv_lines.specs.declared.reason.Clash.{Clash}
 use Rattle.hv_lines.specs.declared.verdict.Verdict.TheVariants as V
-use Rattle.hv_lines.proofs.Basics.{and_left, and_right, each_mapped, got_mapped, got_in, not_out, slice_get_some}
+use Rattle.hv_lines.proofs.Bools.{not_out}
+use Rattle.hv_lines.proofs.Elements.{each_mapped, got_in, got_mapped, slice_get_some}
 use Rattle.hv_lines.proofs.Laws.{expr_below, expr_within, refers_before, set_in, set_out}
 use Rattle.hv_lines.proofs.Ready.{some_below}
 use Rattle.hv_lines.proofs.Shaped.{literal_to}
@@ -117,18 +119,21 @@ module _ (setting : Setting) (lines : List Line) (table : IsTable lines) where
     parts = subst (λ (by : Option Action). (may_apply by t && (all_in by && none_in by)) ≡ true) is_action clash
 
     applies : may_apply act t ≡ true
-    applies = and_left (may_apply act t) (all_in act && none_in act) parts
+    applies = (both_true (may_apply act t) (all_in act && none_in act) parts).0
+
+    both : (all_in act ≡ true) × (none_in act ≡ true)
+    both = both_true (all_in act) (none_in act) (both_true (may_apply act t) (all_in act && none_in act) parts).1
 
     asked_in : (a : ℕ × Bool) → IsAsked lines word left right true a → test act a ≡ true
     asked_in a there =
         each_mapped (λ o. in_operand setting.task (has_of setting lines q.family) act t o) (λ x. operand_of lines x) q.positive
-        (and_left (all_in act) (none_in act) (and_right (may_apply act t) (all_in act && none_in act) parts)) a ((is.positive a).1 there)
+        both.0 a ((is.positive a).1 there)
 
     asked_out : (a : ℕ × Bool) → IsAsked lines word left right false a → test act a ≡ true → ⊥
     asked_out a there =
         not_out (test act a)
         (each_mapped (λ o. not (in_operand setting.task (has_of setting lines q.family) act t o)) (λ x. operand_of lines x) q.negative
-        (and_right (all_in act) (none_in act) (and_right (may_apply act t) (all_in act && none_in act) parts)) a ((is.negative a).1 there))
+        both.1 a ((is.negative a).1 there))
 
     -- the state that a literal on the left is asked about is in it
     left_in : (leaf : ℕ) (after : Bool) → IsLeftLeaf lines word left leaf after → IsLiteral lines leaf → In leaf (asked act after t)
@@ -283,11 +288,10 @@ module _ (setting : Setting) (lines : List Line) (table : IsTable lines) where
       let (f, g, of_f, of_g, apart) = shaped.families in
       let family_a : family_of a ≡ Some f = subst (λ e. family_of e ≡ Some f) (same_Some of_f.0 a (sym of_f.1 ∙ at_a)) of_f.2 in
       let family_b : family_of b ≡ Some g = subst (λ e. family_of e ≡ Some g) (same_Some of_g.0 b (sym of_g.1 ∙ at_b)) of_g.2 in
-      not_out (in_signed setting (b, y.1) state)
-      (and_right (in_signed setting (a, x.1) state) (not (in_signed setting (b, y.1) state)) between)
+      let both = both_true (in_signed setting (a, x.1) state) (not (in_signed setting (b, y.1) state)) between in
+      not_out (in_signed setting (b, y.1) state) both.1
       ((signed_in setting lines table right y.0 y.1 b g shaped.right_is at_b family_b state).1
-      (claim state size ((signed_in setting lines table left x.0 x.1 a f shaped.left_is at_a family_a state).0
-      (and_left (in_signed setting (a, x.1) state) (not (in_signed setting (b, y.1) state)) between))))
+      (claim state size ((signed_in setting lines table left x.0 x.1 a f shaped.left_is at_a family_a state).0 both.0)))
 
   -- `b5`
   untrue_acts : (left right : ℕ) (found : Clash) → IsVerdictOfActs setting.task lines left right (V.False found)

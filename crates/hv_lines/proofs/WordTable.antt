@@ -1,6 +1,6 @@
 -- The table of words: each word stands in the list of all words, no two are spelled alike, and a spelling is no other token.
 use Rattle.std.proofs.Common.{◌≡◌, ℕ, ◌<◌, ◌≤◌, ◌∙◌, ◌&&◌, Bool, true, false, cond, eqb, ltb, List, [], ◌∷◌, Option, Some, None, get_or, refl, sym, ap, subst, arith}
-use Rattle.std.proofs.lemmas.Bool.{ltb-true}
+use Rattle.std.proofs.lemmas.Bool.{and_parts, ltb-true}
 use Rattle.std.proofs.lemmas.List.Elements.{All-contains}
 use Rattle.std.proofs.lemmas.List.Sums.{AllPass-from_list_all}
 use Rattle.std.specs.List.{Contains}
@@ -95,11 +95,6 @@ pub record IsPlain (field : List ℕ) : Type 0 where
   pub letter : 96 < first
   pub other : 47 < second
 
-both : (a b : Bool) → (a && b) ≡ true → (a ≡ true) × (b ≡ true)
-both true true is = (refl, refl)
-both true false is = cc (is)
-both false b is = cc (is)
-
 plain_from : (field : List ℕ) → is_plain field ≡ true → IsPlain field
 plain_from [] is = cc (is)
 plain_from (first ∷ []) is = cc (is)
@@ -107,8 +102,8 @@ plain_from (first ∷ second ∷ []) is = record {
   first = first;
   second = second;
   two = refl;
-  letter = ltb-true 96 first (both (ltb 96 first) (ltb 47 second) is).0;
-  other = ltb-true 47 second (both (ltb 96 first) (ltb 47 second) is).1;
+  letter = ltb-true 96 first (and_parts (ltb 96 first) (ltb 47 second) is).0;
+  other = ltb-true 47 second (and_parts (ltb 96 first) (ltb 47 second) is).1;
 }
 plain_from (first ∷ second ∷ third ∷ rest) is = cc (is)
 

@@ -1,5 +1,5 @@
 -- A table of lines, as contracts see it.
-use Rattle.std.specs.Prelude.{◌-◌, ℕ, List}
+use Rattle.std.specs.Prelude.{ℕ, List}
 use Rattle.hv_lines.specs.declared.line.Line.{Line}
 
 -- the lines of a table, and the memory that it has taken for more

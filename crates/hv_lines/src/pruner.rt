@@ -11,9 +11,9 @@ use hv_task::{State, Task};
 use std::alloc::{AllocError, Global};
 
 /// A way to show that states are dead. A pruner covers some states of each task, always the same
-/// ones. Into a draft it writes why a state that it covers is dead: the last of these lines says so
-/// of a literal that holds the state. It notes this literal and its line, since the literal may
-/// hold other states that are asked for later.
+/// ones. Into a draft it writes why a state that it covers is dead, and names the line that says so
+/// of a literal which holds the state. It notes this literal and its line, since the literal may
+/// hold other states that are asked for later: for these no line has to be written.
 ///
 /// It has two meanings. `covers` tells which states of a task it covers. `fits` tells for which
 /// task and which lines of a draft its notes stand: each line that it has noted says that the noted

@@ -58,7 +58,7 @@ pub enum Reason {
     Shape,
     /// The basic statement isn't one that is decided.
     NotOffered,
-    /// A query of the basic statement costs more than the budget.
+    /// The query of the basic statement that decides costs more than the budget.
     Budget,
     /// The basic statement is false, as the counterexample shows.
     False(Clash),

@@ -1,7 +1,7 @@
 -- The block of a Horn formula, and the whole proof by one: each line is good.
 use Rattle.std.proofs.Common.{◌≡◌, ℕ, ◌+◌, ◌*◌, ◌<◌, ◌≤◌, ◌^◌, ◌∙◌, Bool, true, false, List, [], ◌∷◌, Some, length, get_or, refl, sym, ap, subst, inl, inr, arith}
-use Rattle.std.proofs.lemmas.List.Elements.{All-cons, All-contains, All-nil}
-use Rattle.std.specs.List.{All, Contains}
+use Rattle.std.proofs.lemmas.List.Elements.{All-contains}
+use Rattle.std.specs.List.{All}
 use Rattle.hv_task.specs.State.{successor}
 use Rattle.hv_task.specs.Strips.{Strips, IsTask, atoms, start_state}
 use Rattle.hv_sets.specs.Kinds.{IsHornClause}
@@ -11,23 +11,28 @@ use Rattle.hv_lines.specs.Drafts.{IsGoodTable, default_budget, draft_setting, on
 use Rattle.hv_lines.specs.Good.{IsGood}
 use Rattle.hv_lines.specs.Judged.{Concludes}
 use Rattle.hv_lines.specs.Meaning.{sets_of}
-use Rattle.hv_lines.specs.Numbering.{IsTable, acts_at, acts_count, expr_at, expr_count, known_count, statement_at}
+use Rattle.hv_lines.specs.Numbering.{IsTable, acts_count, expr_at, expr_count, known_count, statement_at}
 use Rattle.hv_lines.specs.Setting.{Setting}
 use Rattle.hv_lines.specs.Shapes.{and_parts, or_parts}
 use Rattle.hv_lines.specs.Spelling.{FitsDecimal, FitsLiteral}
 use Rattle.hv_lines.specs.declared.line.Acts.TheVariants as A
-use Rattle.hv_lines.specs.declared.line.Constant.{Constant}
+use Rattle.hv_lines.specs.declared.family.FormulaFamily.TheVariants as F
 use Rattle.hv_lines.specs.declared.line.Constant.TheVariants as C
 use Rattle.hv_lines.specs.declared.line.Expr.TheVariants as E
 use Rattle.hv_lines.specs.declared.line.Line.{Line}
 use Rattle.hv_lines.specs.declared.line.Line.TheVariants as L
 use Rattle.hv_lines.specs.declared.line.Statement.TheVariants as T
 use Rattle.hv_lines.specs.declared.line.Word.TheVariants as W
-use Rattle.hv_lines.proofs.Basics.{IsHornSet, clauses_at, empty_clauses, good_b1, good_b2, horn_clauses, leaves_ba, one_leaf, product_at, rises_one, rises_two}
+use Rattle.hv_lines.proofs.GoodQuestions.{constant_set}
+use Rattle.hv_lines.proofs.Basics.{IsHornSet, clauses_at, empty_clauses, good_b1, good_b2, horn_clauses, product_at}
 use Rattle.hv_lines.proofs.Carried.{expr_onto, known_onto}
-use Rattle.hv_lines.proofs.Drafting.{below_three, below_two, concludes, formed_expr, formed_known, good_conclusion, good_expr, good_prelude, good_rule, table_of}
-use Rattle.hv_lines.proofs.Laws.{acts_below, expr_at_here, expr_below, known_below, set_in, set_out, statement_at_here}
-use Rattle.hv_lines.proofs.Lengths.{IsSmall, short_after, short_and, short_horn, short_known, short_or}
+use Rattle.hv_lines.proofs.Drafting.{below_three, below_two, concludes, formed_expr, formed_sub, good_conclusion, good_expr, good_prelude, next_after, next_and, next_or, next_rule, table_of}
+use Rattle.hv_lines.proofs.Extended.{HasPrelude, prelude_has, prelude_onto}
+use Rattle.hv_lines.proofs.Laws.{acts_below, expr_at_here, expr_below, set_in, set_out, statement_at_here}
+use Rattle.hv_lines.proofs.Lengths.{IsSmall, short_horn}
+use Rattle.hv_lines.proofs.Nexts.{next_claim}
+use Rattle.hv_lines.proofs.PlainSides.{leaves_ba, one_leaf, rises_one, rises_two}
+use Rattle.hv_lines.proofs.Elements.{of_one, of_two}
 use Rattle.hv_reach.specs.Written.{IsDenial, dead_block, horn_proof, with_budget}
 use Rattle.hv_reach.specs.Working.Written.{IsDeadEnd, Separates}
 
@@ -46,18 +51,7 @@ denial_small n clause few denial = record {
 denial_fits : (n : ℕ) (clause : List Literal) → n ≤ 65535 → IsDenial n clause → All FitsLiteral clause
 denial_fits n clause few denial = λ i d less. let below = denial.below i d less in omega (arith, below, few)
 
--- lists of one or two sets, each of which is a constant or a Horn formula
-
-horn_one : (lines : List Line) (a : ℕ) → IsHornSet lines a → (x : ℕ) → Contains (a ∷ []) x → IsHornSet lines x
-horn_one lines a of x c = All-contains (IsHornSet lines) (a ∷ []) x (All-cons (IsHornSet lines) a [] of (All-nil (IsHornSet lines))) c
-
-horn_two : (lines : List Line) (a b : ℕ) → IsHornSet lines a → IsHornSet lines b → (x : ℕ) → Contains (a ∷ b ∷ []) x → IsHornSet lines x
-horn_two lines a b of also x c =
-    All-contains (IsHornSet lines) (a ∷ b ∷ []) x
-    (All-cons (IsHornSet lines) a (b ∷ []) of (All-cons (IsHornSet lines) b [] also (All-nil (IsHornSet lines)))) c
-
-constant_horn : (lines : List Line) (a : ℕ) (constant : Constant) → expr_at lines a ≡ Some (E.Constant constant) → IsHornSet lines a
-constant_horn lines a constant at = (E.Constant constant, at, inr tt, inl refl)
+-- sets that are a constant or a Horn formula
 
 formula_horn : (lines : List Line) (a : ℕ) (clauses : List (List Literal)) → expr_at lines a ≡ Some (E.Horn clauses) → IsHornSet lines a
 formula_horn lines a clauses at = (E.Horn clauses, at, inl tt, inr refl)
@@ -72,8 +66,7 @@ product_two setting lines a b n one is =
 
 module _ (task : Strips) (is_task : IsTask task) (old : List Line) (good : IsGoodTable task old) (m k : ℕ) (clauses : List (List Literal))
     (m_is : m ≡ expr_count old) (k_is : k ≡ known_count old) (m_few : m + 3 < 10 ^ 18) (k_few : k + 3 < 10 ^ 18)
-    (all_acts : acts_at old 0 ≡ Some A.All) (empty : expr_at old 0 ≡ Some (E.Constant C.Empty))
-    (goal : expr_at old 2 ≡ Some (E.Constant C.Goal)) (empty_dead : statement_at old 0 ≡ Some (T.Dead 0)) (dead : IsDeadEnd task clauses) where
+    (begun : HasPrelude old) (dead : IsDeadEnd task clauses) where
   abbrev setting : Setting
   setting = draft_setting task
 
@@ -98,9 +91,6 @@ module _ (task : Strips) (is_task : IsTask task) (old : List Line) (good : IsGoo
   abbrev L7 : Line
   L7 = L.Known (k + 2) (T.Dead (m + 3)) W.Sd ((k + 1) ∷ 0 ∷ [])
 
-  abbrev L8 : Line
-  L8 = L.Known (k + 3) (T.Dead m) W.Pg (k ∷ 0 ∷ (k + 2) ∷ [])
-
   abbrev B1 : List Line
   B1 = L1 ∷ old
 
@@ -122,26 +112,17 @@ module _ (task : Strips) (is_task : IsTask task) (old : List Line) (good : IsGoo
   abbrev B7 : List Line
   B7 = L7 ∷ B6
 
-  abbrev B8 : List Line
-  B8 = L8 ∷ B7
-
   table : IsTable old
   table = table_of task old good
 
   two_below : 2 < m
-  two_below = omega (arith, expr_below old 2 (E.Constant C.Goal) table goal, m_is)
+  two_below = omega (arith, expr_below old 2 (E.Constant C.Goal) table begun.goal, m_is)
 
   acts_some : 0 < acts_count old
-  acts_some = acts_below old 0 A.All table all_acts
-
-  known_some : 0 < k
-  known_some = omega (arith, known_below old 0 (T.Dead 0) table empty_dead, k_is)
+  acts_some = acts_below old 0 A.All table begun.all
 
   m_fits : FitsDecimal m
   m_fits = omega (arith, m_few)
-
-  zero_fits : FitsDecimal 0
-  zero_fits = omega arith
 
   good1 : IsGoodTable task B1
   good1 = (
@@ -159,48 +140,21 @@ module _ (task : Strips) (is_task : IsTask task) (old : List Line) (good : IsGoo
   )
 
   good2 : IsGoodTable task B2
-  good2 = (
-    record {
-      good = good_expr setting B1 (m + 1) (E.After m 0)
-          (formed_expr setting B1 (m + 1) (E.After m 0) (omega (arith, m_few)) (m_fits, zero_fits) (omega (arith, m_is))
-          (omega (arith, m_is), acts_some) tt tt);
-      short = short_after (m + 1) m 0 (omega (arith, m_few)) m_fits zero_fits;
-    },
-    good1,
-  )
+  good2 = (next_after task B1 acts_some (m + 1) m (omega (arith, m_few)) (omega (arith, m_is)) (omega arith), good1)
 
   good3 : IsGoodTable task B3
-  good3 = (
-    record {
-      good = good_expr setting B2 (m + 2) (E.Or m 0)
-          (formed_expr setting B2 (m + 2) (E.Or m 0) (omega (arith, m_few)) (m_fits, zero_fits) (omega (arith, m_is))
-          (omega (arith, m_is), omega (arith, m_is, two_below)) tt tt);
-      short = short_or (m + 2) m 0 (omega (arith, m_few)) m_fits zero_fits;
-    },
-    good2,
-  )
+  good3 = (next_or task B2 (m + 2) m 0 (omega (arith, m_few)) (omega (arith, m_is)) (omega arith) (omega arith), good2)
 
   good4 : IsGoodTable task B4
-  good4 = (
-    record {
-      good = good_expr setting B3 (m + 3) (E.And m 2)
-          (formed_expr setting B3 (m + 3) (E.And m 2) (omega (arith, m_few)) (m_fits, omega arith) (omega (arith, m_is))
-          (omega (arith, m_is), omega (arith, m_is, two_below)) tt tt);
-      short = short_and (m + 3) m 2 (omega (arith, m_few)) m_fits (omega arith);
-    },
-    good3,
-  )
+  good4 = (next_and task B3 (m + 3) m 2 (omega (arith, m_few)) (omega (arith, m_is)) (omega arith) (omega (arith, two_below)), good3)
 
   table4 : IsTable B4
   table4 = table_of task B4 good4
 
   -- what is at the identifiers, after the four lines of sets
 
-  at_empty : expr_at B4 0 ≡ Some (E.Constant C.Empty)
-  at_empty = expr_onto (L1 ∷ L2 ∷ L3 ∷ L4 ∷ []) old 0 (E.Constant C.Empty) table4 empty
-
-  at_goal : expr_at B4 2 ≡ Some (E.Constant C.Goal)
-  at_goal = expr_onto (L1 ∷ L2 ∷ L3 ∷ L4 ∷ []) old 2 (E.Constant C.Goal) table4 goal
+  begun4 : HasPrelude B4
+  begun4 = prelude_onto (L1 ∷ L2 ∷ L3 ∷ L4 ∷ []) old table4 begun
 
   at_set : expr_at B4 m ≡ Some (E.Horn clauses)
   at_set = expr_onto (L2 ∷ L3 ∷ L4 ∷ []) B1 m (E.Horn clauses) table4 (expr_at_here m (E.Horn clauses) old)
@@ -218,28 +172,25 @@ module _ (task : Strips) (is_task : IsTask task) (old : List Line) (good : IsGoo
   set_horn = formula_horn B4 m clauses at_set
 
   empty_horn : IsHornSet B4 0
-  empty_horn = constant_horn B4 0 C.Empty at_empty
-
-  goal_horn : IsHornSet B4 2
-  goal_horn = constant_horn B4 2 C.Goal at_goal
+  empty_horn = constant_set F.Horn B4 0 C.Empty begun4.empty
 
   -- the basic statements are good with each budget that the clauses don't pass
   pub line5 : (budget : ℕ) → length clauses ≤ budget → IsGood (with_budget task budget) B4 L5
   line5 budget enough =
       good_b2 (with_budget task budget) B4 table4 k (m + 1) (m + 2) (m ∷ []) (0 ∷ m ∷ [])
       (leaves_ba or_parts B4 (m + 2) m 0 (E.Or m 0) at_or refl (one_leaf or_parts B4 m (E.Horn clauses) at_set refl)
-      (one_leaf or_parts B4 0 (E.Constant C.Empty) at_empty refl))
-      (horn_one B4 m set_horn) (horn_two B4 0 m empty_horn set_horn) (omega arith)
+      (one_leaf or_parts B4 0 (E.Constant C.Empty) begun4.empty refl))
+      (of_one (IsHornSet B4) m set_horn) (of_two (IsHornSet B4) 0 m empty_horn set_horn) (omega arith)
       (λ late. rises_one late m) (λ late. rises_two late 0 m (omega (arith, two_below)))
       (omega (
         arith,
         enough,
-        product_two (with_budget task budget) B4 0 m (length clauses) (empty_clauses (with_budget task budget) B4 0 at_empty)
+        product_two (with_budget task budget) B4 0 m (length clauses) (empty_clauses (with_budget task budget) B4 0 begun4.empty)
             (horn_clauses (with_budget task budget) B4 m clauses at_set),
       ))
       m 0 at_after (one_leaf and_parts B4 m (E.Horn clauses) at_set refl)
-      (formed_known (with_budget task budget) B4 k (T.Sub (m + 1) (m + 2)) W.B2 [] (omega (arith, k_few)) (omega (arith, m_few), omega (arith, m_few))
-      (All-nil FitsDecimal) refl k_is (omega (arith, m_is), omega (arith, m_is)) (All-nil (λ x. x < known_count B4)))
+      (formed_sub (with_budget task budget) B4 k (m + 1) (m + 2) W.B2 (omega (arith, k_few)) k_is (omega (arith, m_few)) (omega (arith, m_few))
+      (omega (arith, m_is)) (omega (arith, m_is)) refl)
       (λ number a named state is_state applies inside. (
         m,
         (1, omega arith, refl),
@@ -249,14 +200,7 @@ module _ (task : Strips) (is_task : IsTask task) (old : List Line) (good : IsGoo
       ))
 
   good5 : IsGoodTable task B5
-  good5 = (
-    record {
-      good = line5 default_budget dead.few;
-      short = short_known k (T.Sub (m + 1) (m + 2)) W.B2 [] (omega (arith, k_few)) (omega (arith, m_few), omega (arith, m_few))
-          (All-nil FitsDecimal) (omega arith) (omega arith);
-    },
-    good4,
-  )
+  good5 = (next_claim task B4 k (T.Sub (m + 1) (m + 2)) W.B2 [] (line5 default_budget dead.few), good4)
 
   table5 : IsTable B5
   table5 = table_of task B5 good5
@@ -264,96 +208,59 @@ module _ (task : Strips) (is_task : IsTask task) (old : List Line) (good : IsGoo
   pub line6 : (budget : ℕ) → 0 < budget → IsGood (with_budget task budget) B5 L6
   line6 budget some =
       good_b1 (with_budget task budget) B5 table5 (k + 1) (m + 3) 0 (2 ∷ m ∷ []) (0 ∷ [])
-      (one_leaf or_parts B5 0 (E.Constant C.Empty) at_empty refl)
-      (horn_two B5 2 m (constant_horn B5 2 C.Goal at_goal) (formula_horn B5 m clauses at_set))
-      (horn_one B5 0 (constant_horn B5 0 C.Empty at_empty)) (omega arith)
+      (one_leaf or_parts B5 0 (E.Constant C.Empty) begun4.empty refl)
+      (of_two (IsHornSet B5) 2 m (constant_set F.Horn B5 2 C.Goal begun4.goal) (formula_horn B5 m clauses at_set))
+      (of_one (IsHornSet B5) 0 (constant_set F.Horn B5 0 C.Empty begun4.empty)) (omega arith)
       (λ late. rises_two late 2 m two_below) (λ late. rises_one late 0)
-      (omega (arith, some, product_one (with_budget task budget) B5 0 1 (empty_clauses (with_budget task budget) B5 0 at_empty)))
+      (omega (arith, some, product_one (with_budget task budget) B5 0 1 (empty_clauses (with_budget task budget) B5 0 begun4.empty)))
       (leaves_ba and_parts B5 (m + 3) m 2 (E.And m 2) at_and refl (one_leaf and_parts B5 m (E.Horn clauses) at_set refl)
-      (one_leaf and_parts B5 2 (E.Constant C.Goal) at_goal refl))
-      (formed_known (with_budget task budget) B5 (k + 1) (T.Sub (m + 3) 0) W.B1 [] (omega (arith, k_few)) (omega (arith, m_few), zero_fits)
-      (All-nil FitsDecimal) refl (omega (arith, k_is)) (omega (arith, m_is), omega arith) (All-nil (λ x. x < known_count B5)))
+      (one_leaf and_parts B5 2 (E.Constant C.Goal) begun4.goal refl))
+      (formed_sub (with_budget task budget) B5 (k + 1) (m + 3) 0 W.B1 (omega (arith, k_few)) (omega (arith, k_is)) (omega (arith, m_few))
+      (omega arith) (omega (arith, m_is)) (omega arith) refl)
       (λ state is_state inside.
       absurd (dead.goalless state is_state
       (set_out task setting.nodes B5 m (E.Horn clauses) table5 at_set state (inside m (1, omega arith, refl)))
-      (set_out task setting.nodes B5 2 (E.Constant C.Goal) table5 at_goal state (inside 2 (0, omega arith, refl)))))
+      (set_out task setting.nodes B5 2 (E.Constant C.Goal) table5 begun4.goal state (inside 2 (0, omega arith, refl)))))
 
   good6 : IsGoodTable task B6
-  good6 = (
-    record {
-      good = line6 default_budget (omega arith);
-      short = short_known (k + 1) (T.Sub (m + 3) 0) W.B1 [] (omega (arith, k_few)) (omega (arith, m_few), zero_fits) (All-nil FitsDecimal)
-          (omega arith) (omega arith);
-    },
-    good5,
-  )
+  good6 = (next_claim task B5 (k + 1) (T.Sub (m + 3) 0) W.B1 [] (line6 default_budget (omega arith)), good5)
 
   says6 : statement_at B6 0 ≡ Some (T.Dead 0)
-  says6 = known_onto (L5 ∷ L6 ∷ []) B4 0 (T.Dead 0) (table_of task B6 good6) empty_dead
-
-  fits7 : All FitsDecimal ((k + 1) ∷ 0 ∷ [])
-  fits7 = All-cons FitsDecimal (k + 1) (0 ∷ []) (omega (arith, k_few)) (All-cons FitsDecimal 0 [] zero_fits (All-nil FitsDecimal))
+  says6 = known_onto (L5 ∷ L6 ∷ []) B4 0 (T.Dead 0) (table_of task B6 good6) begun4.empty_dead
 
   good7 : IsGoodTable task B7
   good7 = (
-    record {
-      good = good_rule setting B6 (k + 2) (T.Dead (m + 3)) W.Sd ((k + 1) ∷ 0 ∷ []) (λ basic. basic)
-          (formed_known setting B6 (k + 2) (T.Dead (m + 3)) W.Sd ((k + 1) ∷ 0 ∷ []) (omega (arith, k_few)) (omega (arith, m_few)) fits7
-          refl (omega (arith, k_is)) (omega (arith, m_is)) (below_two (known_count B6) (k + 1) 0 (omega (arith, k_is)) (omega arith)))
-          (0, statement_at_here (k + 1) (T.Sub (m + 3) 0) W.B1 [] B5, says6);
-      short = short_known (k + 2) (T.Dead (m + 3)) W.Sd ((k + 1) ∷ 0 ∷ []) (omega (arith, k_few)) (omega (arith, m_few)) fits7
-          (omega arith) (omega arith);
-    },
+    next_rule task B6 (k + 2) (T.Dead (m + 3)) W.Sd ((k + 1) ∷ 0 ∷ []) (λ basic. basic) (omega (arith, k_few)) (omega (arith, k_is))
+        (omega (arith, m_few)) (omega (arith, m_is)) refl (below_two (k + 2) (k + 1) 0 (omega arith) (omega arith))
+        (0, statement_at_here (k + 1) (T.Sub (m + 3) 0) W.B1 [] B5, says6),
     good6,
   )
 
   table7 : IsTable B7
   table7 = table_of task B7 good7
 
-  fits8 : All FitsDecimal (k ∷ 0 ∷ (k + 2) ∷ [])
-  fits8 =
-      All-cons FitsDecimal k (0 ∷ (k + 2) ∷ []) (omega (arith, k_few))
-      (All-cons FitsDecimal 0 ((k + 2) ∷ []) zero_fits (All-cons FitsDecimal (k + 2) [] (omega (arith, k_few)) (All-nil FitsDecimal)))
-
-  line8 : IsGood setting B7 L8
-  line8 =
-      good_rule setting B7 (k + 3) (T.Dead m) W.Pg (k ∷ 0 ∷ (k + 2) ∷ []) (λ basic. basic)
-      (formed_known setting B7 (k + 3) (T.Dead m) W.Pg (k ∷ 0 ∷ (k + 2) ∷ []) (omega (arith, k_few)) m_fits fits8 refl
-      (omega (arith, k_is)) (omega (arith, m_is))
-      (below_three (known_count B7) k 0 (k + 2) (omega (arith, k_is)) (omega arith) (omega (arith, k_is)))) (
-        m + 1,
-        0,
-        m + 2,
-        0,
-        m + 3,
-        2,
-        known_onto (L6 ∷ L7 ∷ []) B5 k (T.Sub (m + 1) (m + 2)) table7 (statement_at_here k (T.Sub (m + 1) (m + 2)) W.B2 [] B4),
-        at_after,
-        all_acts,
-        at_or,
-        known_onto (L7 ∷ []) B6 0 (T.Dead 0) table7 says6,
-        statement_at_here (k + 2) (T.Dead (m + 3)) W.Sd ((k + 1) ∷ 0 ∷ []) B6,
-        at_and,
-        at_goal,
-      )
-
   -- the block is good
   pub good_block : IsGoodTable task (onto (dead_block m k clauses) old)
   good_block = (
-    record {
-      good = line8;
-      short = short_known (k + 3) (T.Dead m) W.Pg (k ∷ 0 ∷ (k + 2) ∷ []) (omega (arith, k_few)) m_fits fits8 (omega arith) (omega arith);
-    },
+    next_rule task B7 (k + 3) (T.Dead m) W.Pg (k ∷ 0 ∷ (k + 2) ∷ []) (λ basic. basic) (omega (arith, k_few)) (omega (arith, k_is)) m_fits
+        (omega (arith, m_is)) refl (below_three (k + 3) k 0 (k + 2) (omega arith) (omega arith) (omega arith)) (
+          m + 1,
+          0,
+          m + 2,
+          0,
+          m + 3,
+          2,
+          known_onto (L6 ∷ L7 ∷ []) B5 k (T.Sub (m + 1) (m + 2)) table7 (statement_at_here k (T.Sub (m + 1) (m + 2)) W.B2 [] B4),
+          at_after,
+          begun4.all,
+          at_or,
+          known_onto (L7 ∷ []) B6 0 (T.Dead 0) table7 says6,
+          statement_at_here (k + 2) (T.Dead (m + 3)) W.Sd ((k + 1) ∷ 0 ∷ []) B6,
+          at_and,
+          begun4.goal,
+        ),
     good7,
   )
-
-  -- its last line says that the formula is dead
-  pub block_dead : statement_at (onto (dead_block m k clauses) old) (k + 3) ≡ Some (T.Dead m)
-  block_dead = statement_at_here (k + 3) (T.Dead m) W.Pg (k ∷ 0 ∷ (k + 2) ∷ []) B7
-
-  -- and its set is the formula
-  pub block_set : expr_at (onto (dead_block m k clauses) old) m ≡ Some (E.Horn clauses)
-  block_set = at_set
 
 module _ (task : Strips) (is_task : IsTask task) (clauses : List (List Literal)) (separates : Separates task clauses) where
   abbrev Start : List Line
@@ -364,8 +271,7 @@ module _ (task : Strips) (is_task : IsTask task) (clauses : List (List Literal))
 
   pub good_start_block : IsGoodTable task (onto (dead_block 3 1 clauses) (onto prelude []))
   good_start_block =
-      good_block task is_task Start (good_prelude task) 3 1 clauses refl refl (omega arith) (omega arith) refl refl refl refl
-      separates.dead
+      good_block task is_task Start (good_prelude task) 3 1 clauses refl refl (omega arith) (omega arith) prelude_has separates.dead
 
   block_table : IsTable Block
   block_table = table_of task Block good_start_block
@@ -387,16 +293,15 @@ module _ (task : Strips) (is_task : IsTask task) (clauses : List (List Literal))
   pub first : (budget : ℕ) → length clauses ≤ budget → IsGood (with_budget task budget) Block (L.Known 5 (T.Sub 1 3) W.B1 [])
   first budget enough =
       good_b1 (with_budget task budget) Block block_table 5 1 3 (1 ∷ []) (3 ∷ [])
-      (one_leaf or_parts Block 3 (E.Horn clauses) set_at refl) (horn_one Block 1 (constant_horn Block 1 C.Start start_at))
-      (horn_one Block 3 (formula_horn Block 3 clauses set_at)) (omega arith) (λ late. rises_one late 1) (λ late. rises_one late 3)
+      (one_leaf or_parts Block 3 (E.Horn clauses) set_at refl) (of_one (IsHornSet Block) 1 (constant_set F.Horn Block 1 C.Start start_at))
+      (of_one (IsHornSet Block) 3 (formula_horn Block 3 clauses set_at)) (omega arith) (λ late. rises_one late 1) (λ late. rises_one late 3)
       (omega (
         arith,
         enough,
         product_one (with_budget task budget) Block 3 (length clauses) (horn_clauses (with_budget task budget) Block 3 clauses set_at),
       ))
       (one_leaf and_parts Block 1 (E.Constant C.Start) start_at refl)
-      (formed_known (with_budget task budget) Block 5 (T.Sub 1 3) W.B1 [] (omega arith) (omega arith, omega arith) (All-nil FitsDecimal) refl
-      refl (omega arith, omega arith) (All-nil (λ x. x < known_count Block)))
+      (formed_sub (with_budget task budget) Block 5 1 3 W.B1 (omega arith) refl (omega arith) (omega arith) (omega arith) (omega arith) refl)
       (λ state is_state inside. (3, (0, omega arith, refl), holds_start state (inside 1 (0, omega arith, refl))))
 
   -- the sixteen lines are good, and conclude

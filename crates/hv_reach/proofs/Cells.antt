@@ -1,23 +1,16 @@
 -- One cell of a table set, and a pair of cells.
 use Rattle.std.proofs.Common.{◌≡◌, ℕ, suc, ◌+◌, ◌<◌, ◌≤◌, ◌∙◌, Bool, true, false, ◌&&◌, not, Option, Some, None, List, [], ◌∷◌, length, replicate, set, get_or, refl, sym, ap, arith, inl, inr, subst, ◌⊎◌}
-use Rattle.std.proofs.lemmas.Bool.{cases_eq, cases_lt, and_parts, not-true}
+use Rattle.std.proofs.lemmas.Bool.{cases_Bool, cases_eq, cases_lt, and_parts, not-true}
 use Rattle.std.proofs.lemmas.List.{length-set, length-replicate, get_or-replicate, get_or-set_other, get_or_past}
 use Rattle.std.proofs.lemmas.Grind.{get_or-set_at}
 use Rattle.std.specs.List.{All}
 use Rattle.hv_task.specs.Atoms.{IsNext}
 use Rattle.hv_task.specs.State.{has_atom}
-use Rattle.hv_reach.proofs.Sets.{has_within, missing_set, set_cases, set_grows, set_has}
+use Rattle.hv_task.proofs.Listing.{within_state}
+use Rattle.hv_reach.proofs.Sets.{missing_set, set_cases, set_grows, set_has}
 use Rattle.hv_reach.specs.Reached.{has_pair}
 use Rattle.hv_reach.specs.Working.Table.{AreRaised, IsNextNew, IsPairStep, IsPairTable, missing_cells, set_at, set_both}
 use Rattle.hv_reach.specs.Working.Waiting.{missing}
-
--- a cell that is set lies within the table
-pub at_within : (n : ℕ) (rows : List (List Bool)) (p q : ℕ) → IsPairTable n rows → has_pair rows p q ≡ true → (p < n) × (q < n)
-at_within n rows p q table h =
-    elim (cases_lt p (length rows)) [
-      | inl lt ↦ let e = has_within (get_or rows p []) q h in let f = table.each p [] lt in let g = table.size in (omega arith, omega arith)
-      | inr ge ↦ let e : has_atom [] q ≡ true = subst (λ r. has_atom r q ≡ true) (get_or_past rows p [] ge) h in absurd cc
-    ]
 
 pub set_at_cases : (rows : List (List Bool)) (p q i j : ℕ) → p < length rows → q < length (get_or rows p []) → has_pair (set_at rows p q) i j ≡ true
     → (has_pair rows i j ≡ true) ⊎ ((p ≡ i) × (q ≡ j))
@@ -51,14 +44,10 @@ missing_at [] p q less within h = absurd (omega arith)
 missing_at (row ∷ rows) Prim.Native.Nat.zero q less within h = let e = missing_set row q within h in omega arith
 missing_at (row ∷ rows) (suc p) q less within h = let e = missing_at rows p q (omega arith) within h in omega arith
 
-cases_bool : (b : Bool) → (b ≡ true) ⊎ (b ≡ false)
-cases_bool true = inl refl
-cases_bool false = inr refl
-
 pub set_at_same : (rows : List (List Bool)) (p q : ℕ) → p < length rows → q < length (get_or rows p []) → missing_cells (set_at rows p q) ≤ missing_cells rows
 set_at_same [] p q less within = absurd (omega arith)
 set_at_same (row ∷ rows) Prim.Native.Nat.zero q less within =
-    elim (cases_bool (has_atom row q)) [
+    elim (cases_Bool (has_atom row q)) [
       | inl e ↦ let f = missing_again row q e in omega arith
       | inr e ↦ let f = missing_set row q within e in omega arith
     ]
@@ -191,7 +180,7 @@ table_none n rows size each = record {
 }
 
 -- what is in the one set and not outside the other
-in_both : (a b : Bool) → (a && not b) ≡ false → a ≡ true → b ≡ true
+pub in_both : (a b : Bool) → (a && not b) ≡ false → a ≡ true → b ≡ true
 in_both true true e h = refl
 in_both true false e h = absurd cc
 in_both false b e h = absurd cc
@@ -201,4 +190,4 @@ pub next_new_from : (mask row : List Bool) (from : ℕ) (next : Option ℕ) → 
 next_new_from mask row from None is = λ q upto held. in_both (has_atom mask q) (has_atom row q) (is q upto) held
 next_new_from mask row from (Some a) is =
     let parts = and_parts (has_atom mask a) (not (has_atom row a)) is.1 in
-    (has_within mask a parts.0, parts.0, not-true (has_atom row a) parts.1, λ k upto less held. in_both (has_atom mask k) (has_atom row k) (is.2 k upto less) held)
+    (within_state mask a parts.0, parts.0, not-true (has_atom row a) parts.1, λ k upto less held. in_both (has_atom mask k) (has_atom row k) (is.2 k upto less) held)

@@ -1,17 +1,17 @@
 -- The goal is excluded exactly where the search finds an unreached atom, or an unreached pair, of it.
 use Rattle.std.proofs.Common.{◌≡◌, ℕ, suc, ◌⊎◌, ◌↔◌, Bool, true, false, List, [], ◌∷◌, refl, inl, inr, arith}
+use Rattle.std.proofs.lemmas.Bool.{both_ways, cases_Bool}
 use Rattle.std.proofs.lemmas.List.Elements.{All-cons, All-contains, All-nil}
 use Rattle.std.specs.List.{All, Contains}
 use Rattle.hv_task.specs.Strips.{Strips}
 use Rattle.hv_reach.specs.Reached.{HasPairsOf, ReachedAtom, ReachedPair}
 use Rattle.hv_reach.specs.Written.{PairsExcludeFrom, RelaxedExcludesFrom}
-use Rattle.hv_reach.proofs.Denials.{bool_dec, false_true}
 
 -- all of a row, or one that isn't in it
 row_cases : (r : ℕ → ℕ → Bool) (p : ℕ) (qs : List ℕ) → All (λ q. r p q ≡ true) qs ⊎ ((q : ℕ) × Contains qs q × (r p q ≡ false))
 row_cases r p [] = inl (All-nil (λ q. r p q ≡ true))
 row_cases r p (q ∷ qs) =
-    elim (bool_dec (r p q)) [
+    elim (cases_Bool (r p q)) [
       | inl is ↦ elim (row_cases r p qs) [
         | inl all ↦ inl (All-cons (λ x. r p x ≡ true) q qs is all)
         | inr w ↦ inr (w.0, (suc w.1.0, omega (arith, w.1.1), w.1.2), w.2)
@@ -24,7 +24,7 @@ module _ (task : Strips) (start : List Bool) (r : ℕ → Bool) (each : (p : ℕ
   relaxed_excludes out =
       elim (row_cases (λ _ q. r q) 0 task.goal) [
         | inl all ↦ absurd (out all)
-        | inr w ↦ (w.0, w.1, λ reached. false_true (r w.0) w.2 ((each w.0).1 reached))
+        | inr w ↦ (w.0, w.1, λ reached. both_ways (r w.0) w.2 ((each w.0).1 reached))
       ]
 
   pub relaxed_reached : All (λ p. r p ≡ true) task.goal → RelaxedExcludesFrom task start → ⊥
@@ -48,7 +48,7 @@ module _ (task : Strips) (start : List Bool) (r : ℕ → ℕ → Bool) (each : 
   pairs_exclude out =
       elim (pair_cases r task.goal task.goal) [
         | inl all ↦ absurd (out all)
-        | inr w ↦ (w.0, w.1, w.2, w.3, λ reached. false_true (r w.0 w.1) w.4 ((each w.0 w.1).1 reached))
+        | inr w ↦ (w.0, w.1, w.2, w.3, λ reached. both_ways (r w.0 w.1) w.4 ((each w.0 w.1).1 reached))
       ]
 
   pub pairs_reached : HasPairsOf r task.goal → PairsExcludeFrom task start → ⊥

@@ -1,6 +1,6 @@
 -- The formulas of unreached atoms and pairs: their clauses, the states that they hold, and that no action leads out of these.
 use Rattle.std.proofs.Common.{◌≡◌, IsTrue, ℕ, zero, suc, ◌+◌, ◌-◌, ◌<◌, ◌≤◌, ◌∙◌, ◌⊎◌, ◌↔◌, ◌&&◌, ◌||◌, Bool, true, false, not, eqb, List, [], ◌∷◌, if◌then◌else◌, Some, length, get_or, slice_get, refl, sym, ap, subst, inl, inr, arith, length-append}
-use Rattle.std.proofs.lemmas.Bool.{cases_eq, cases_lt, ne_eqb}
+use Rattle.std.proofs.lemmas.Bool.{both_ways, cases_Bool, cases_eq, cases_lt, ne_eqb}
 use Rattle.std.proofs.lemmas.List.Elements.{All-cons, All-contains, All-nil}
 use Rattle.std.proofs.lemmas.List.FromFn.{length-range_with_len}
 use Rattle.std.specs.List.{All, Contains, flat_map, list_all, range_with_len}
@@ -16,33 +16,15 @@ use Rattle.hv_reach.specs.Pruners.{PairsCover}
 use Rattle.hv_reach.specs.Working.Pruners.{ShowsWhyDead}
 use Rattle.hv_reach.specs.Written.{IsDenial, PairsExclude, PairsExcludeFrom, RelaxedExcludes, RelaxedExcludesFrom, atom_clauses, denied, pair_clauses, pairs_formula, relaxed_formula, row_clauses}
 use Rattle.hv_reach.specs.Working.Written.{IsDeadEnd, Separates}
-use Rattle.hv_reach.proofs.Lists.{All-below, All-flat_map, All-range, all_pass, in_range, length-pieces, pieces_pass}
-use Rattle.hv_reach.proofs.Sets.{has_within}
-
-pub bool_dec : (b : Bool) → (b ≡ true) ⊎ (b ≡ false)
-bool_dec true = inl refl
-bool_dec false = inr refl
-
-pub false_true : (b : Bool) → b ≡ false → b ≡ true → ⊥
-false_true b fails is = let e : false ≡ true = sym fails ∙ is in cc (e)
+use Rattle.hv_lines.proofs.Lists.{All-below, All-flat_map, All-range, all_pass, in_range, length-pieces, pieces_pass}
+use Rattle.hv_task.proofs.Listing.{within_state}
 
 -- a list that doesn't have the atom doesn't name it
 pub not_named : (list : List ℕ) (p : ℕ) (b : Bool) → b ≡ false → IsTrue b ↔ Contains list p → names_atom list p ≡ false
 not_named list p b fails tells =
-    elim (bool_dec (names_atom list p)) [
-      | inl is ↦ absurd (false_true b fails (tells.1 ((names_atom-Decides list p).0 is)))
+    elim (cases_Bool (names_atom list p)) [
+      | inl is ↦ absurd (both_ways b fails (tells.1 ((names_atom-Decides list p).0 is)))
       | inr is ↦ is
-    ]
-
--- a list that doesn't have all of others lacks one of them
-pub lacks_one : (list others : List ℕ) → (All (λ p. Contains list p) others → ⊥) → (p : ℕ) × Contains others p × (Contains list p → ⊥)
-lacks_one list [] out = absurd (out (All-nil (λ p. Contains list p)))
-lacks_one list (q ∷ others) out =
-    elim (bool_dec (names_atom list q)) [
-      | inl is ↦
-          let rest = lacks_one list others (λ all. out (All-cons (λ p. Contains list p) q others ((names_atom-Decides list q).0 is) all)) in
-          (rest.0, (suc rest.1.0, omega (arith, rest.1.1), rest.1.2), rest.2)
-      | inr fails ↦ (q, (0, omega arith, refl), λ c. false_true (names_atom list q) fails ((names_atom-Decides list q).1 c))
     ]
 
 -- the clauses
@@ -164,7 +146,7 @@ atom_to s p false all held = alone_to false (has_atom s p) held all
 atom_from : (s : List Bool) (p : ℕ) (b : Bool) → (has_atom s p ≡ true → b ≡ true)
     → list_all (λ c. in_clause c s) (if b then [] else (denied p ∷ []) ∷ []) ≡ true
 atom_from s p true keeps = refl
-atom_from s p false keeps = alone_from (has_atom s p) (λ held. false_true false refl (keeps held))
+atom_from s p false keeps = alone_from (has_atom s p) (λ held. both_ways false refl (keeps held))
 
 pair_to : (s : List Bool) (p q : ℕ) (b e : Bool) → (e ≡ true → p ≡ q)
     → list_all (λ c. in_clause c s) (if b then [] else (if e then denied p ∷ [] else denied p ∷ denied q ∷ []) ∷ []) ≡ true
@@ -178,15 +160,15 @@ pair_from : (s : List Bool) (p q : ℕ) (b e : Bool) → (e ≡ true → p ≡ q
 pair_from s p q true e same keeps = refl
 pair_from s p q false true same keeps =
     alone_from (has_atom s p) (λ held.
-    false_true false refl (keeps held (subst (λ x. has_atom s x ≡ true) (same refl) held)))
+    both_ways false refl (keeps held (subst (λ x. has_atom s x ≡ true) (same refl) held)))
 pair_from s p q false false same keeps =
-    together_from (has_atom s p) (has_atom s q) (λ held also. false_true false refl (keeps held also))
+    together_from (has_atom s p) (has_atom s q) (λ held also. both_ways false refl (keeps held also))
 
 eqb_same : (p q : ℕ) → eqb p q ≡ true → p ≡ q
 eqb_same p q is =
     elim (cases_eq p q) [
       | inl same ↦ same
-      | inr other ↦ absurd (false_true (eqb p q) (ne_eqb p q other) is)
+      | inr other ↦ absurd (both_ways (eqb p q) (ne_eqb p q other) is)
     ]
 
 -- the state holds reached atoms alone
@@ -202,7 +184,7 @@ module _ (n : ℕ) (s : List Bool) (size : length s ≡ n) where
   relaxed_to r all p held =
       atom_to s p (r p)
       (in_range (λ x. list_all (λ c. in_clause c s) (atom_clauses r x) ≡ true) 0 n
-      (pieces_pass (atom_clauses r) (λ c. in_clause c s) (range_with_len 0 n) all) p (omega arith) (omega (arith, has_within s p held, size)))
+      (pieces_pass (atom_clauses r) (λ c. in_clause c s) (range_with_len 0 n) all) p (omega arith) (omega (arith, within_state s p held, size)))
       held
 
   pub relaxed_from : (r : ℕ → Bool) → HoldsReached r s → in_clauses (relaxed_formula n r) s ≡ true
@@ -214,10 +196,10 @@ module _ (n : ℕ) (s : List Bool) (size : length s ≡ n) where
       → r p q ≡ true
   pairs_at r all p q upto held also =
       let row = in_range (λ x. list_all (λ c. in_clause c s) (row_clauses n r x) ≡ true) 0 n
-      (pieces_pass (row_clauses n r) (λ c. in_clause c s) (range_with_len 0 n) all) p (omega arith) (omega (arith, has_within s p held, size)) in
+      (pieces_pass (row_clauses n r) (λ c. in_clause c s) (range_with_len 0 n) all) p (omega arith) (omega (arith, within_state s p held, size)) in
       pair_to s p q (r p q) (eqb p q) (eqb_same p q)
       (in_range (λ x. list_all (λ c. in_clause c s) (pair_clauses r p x) ≡ true) p (n - p)
-      (pieces_pass (pair_clauses r p) (λ c. in_clause c s) (range_with_len p (n - p)) row) q upto (omega (arith, has_within s q also, size, upto)))
+      (pieces_pass (pair_clauses r p) (λ c. in_clause c s) (range_with_len p (n - p)) row) q upto (omega (arith, within_state s q also, size, upto)))
       held also
 
   pub pairs_to : (r : ℕ → ℕ → Bool) → ((p q : ℕ) → r p q ≡ true → r q p ≡ true) → in_clauses (pairs_formula n r) s ≡ true
@@ -272,7 +254,7 @@ came_by false true held is = absurd (cc (is))
 
 came : (a : Action) (s : List Bool) (p : ℕ) → has_atom (successor a s) p ≡ true → Contains a.add p ⊎ (LeavesAlone a p × (has_atom s p ≡ true))
 came a s p held =
-    let below : p < length s = omega (arith, has_within (successor a s) p held, length-successor a s) in
+    let below : p < length s = omega (arith, within_state (successor a s) p held, length-successor a s) in
     elim (came_by (names_atom a.add p) (names_atom a.del p) (has_atom s p) (sym (has_atom-successor a s p below) ∙ held)) [
       | inl added ↦ inl ((names_atom-Decides a.add p).0 added)
       | inr kept ↦ inr ((kept.0, kept.1), kept.2)

@@ -1,5 +1,5 @@
 -- What is kept of the notes: it tells which states a note's formula holds.
-use Rattle.std.proofs.Common.{◌≡◌, ◌&&◌, ◌++◌, ℕ, zero, suc, ◌+◌, ◌<◌, ◌≤◌, ◌∙◌, Bool, true, false, not, List, [], ◌∷◌, Option, Some, None, length, get_or, slice_get, is_some, refl, sym, ap, inl, inr, subst, arith, length-append}
+use Rattle.std.proofs.Common.{◌≡◌, ◌++◌, ℕ, zero, suc, ◌+◌, ◌<◌, ◌≤◌, ◌∙◌, Bool, true, List, [], ◌∷◌, Some, None, length, get_or, slice_get, refl, sym, ap, inl, inr, subst, arith, length-append}
 use Rattle.std.proofs.lemmas.List.{get_or_append_left, get_or_default}
 use Rattle.std.proofs.lemmas.List.Elements.{All-contains}
 use Rattle.std.proofs.lemmas.Bool.{cases_eq, cases_lt}
@@ -8,17 +8,16 @@ use Rattle.std.proofs.Math.Seq.{get_or-append_seam}
 use Rattle.std.specs.Option.{IfSome}
 use Rattle.std.specs.List.{All}
 use Rattle.hv_task.specs.AtomList.{IsListOf}
-use Rattle.hv_task.specs.Atoms.{IsNext}
 use Rattle.hv_task.specs.State.{AreBelow, has_atom}
 use Rattle.hv_task.specs.Strips.{Strips, IsState, atoms}
 use Rattle.hv_lines.specs.Pruning.{IsFirstNoted, NoneNoted, states_in}
 use Rattle.hv_lines.specs.declared.line.Line.{Line}
 use Rattle.hv_lines.specs.declared.note.Note.{Note}
+use Rattle.hv_task.proofs.Listing.{within_state}
 use Rattle.hv_reach.specs.Working.NoteRows.{IsDiagonal, IsFirstPlace, RowHas}
 use Rattle.hv_reach.specs.Pruners.{AreDescribed, Describes, HoldsAtomsOf, HoldsPairsOf}
 use Rattle.hv_reach.specs.Working.Pruners.{AreDiagonals}
 use Rattle.hv_reach.specs.Reached.{HasPairsOf, has_pair}
-use Rattle.hv_reach.proofs.Sets.{has_within}
 
 -- what stands at a place
 pub described_at : {X : Type 0} (Holds : List X → List Bool → Type 0) (task : Strips) (lines : List Line) (notes : List Note)
@@ -47,29 +46,6 @@ described_pushed Holds task lines notes reached note item fact last = (
   both_pushed (λ n. Describes Holds task lines n.set) notes note reached item fact.0 fact.1 last,
 )
 
--- what the search for an atom outside a row tells
-
-and_not_false : (a b : Bool) → (a && not b) ≡ false → a ≡ true → b ≡ true
-and_not_false true true e is = refl
-and_not_false true false e is = absurd (cc (e))
-and_not_false false b e is = absurd (cc (is))
-
-and_not_true : (a b : Bool) → (a && not b) ≡ true → (a ≡ true) × (b ≡ true → ⊥)
-and_not_true true true e = absurd (cc (e))
-and_not_true true false e = (refl, λ is. cc (is))
-and_not_true false b e = absurd (cc (e))
-
-pub row_holds : (state row : List Bool) (next : Option ℕ) → IsNext (λ p. has_atom state p && not (has_atom row p)) 0 next
-    → is_some next ≡ false → HoldsAtomsOf row state
-row_holds state row None next none p held = and_not_false (has_atom state p) (has_atom row p) (next p (omega arith)) held
-row_holds state row (Some a) next none p held = absurd (cc (none))
-
-pub row_lacks : (state row : List Bool) (next : Option ℕ) → IsNext (λ p. has_atom state p && not (has_atom row p)) 0 next
-    → is_some next ≡ true → HoldsAtomsOf row state → ⊥
-row_lacks state row None next none holds = cc (none)
-row_lacks state row (Some a) next none holds =
-    let both = and_not_true (has_atom state a) (has_atom row a) next.1 in both.1 (holds a both.0)
-
 -- what the search for a pair that isn't in a table tells
 
 module _ (state : List Bool) (held : List ℕ) (listed : IsListOf state held) (table : List (List Bool)) where
@@ -83,8 +59,8 @@ module _ (state : List Bool) (held : List ℕ) (listed : IsListOf state held) (t
   pub table_holds : HasPairsOf (has_pair table) held → HoldsPairsOf table state
   table_holds all p q has also =
       All-contains (λ y. has_pair table p y ≡ true) held q
-      (All-contains (λ x. All (λ y. has_pair table x y ≡ true) held) held p all ((listed.has p).1 (has_within state p has, has)))
-      ((listed.has q).1 (has_within state q also, also))
+      (All-contains (λ x. All (λ y. has_pair table x y ≡ true) held) held p all ((listed.has p).1 (within_state state p has, has)))
+      ((listed.has q).1 (within_state state q also, also))
 
   pub table_listed : HoldsPairsOf table state → HasPairsOf (has_pair table) held
   table_listed holds i d less j e below = holds (get_or held i d) (get_or held j e) (in_state i d less) (in_state j e below)
@@ -92,7 +68,7 @@ module _ (state : List Bool) (held : List ℕ) (listed : IsListOf state held) (t
 -- the same of a row that is kept by atom too
 module _ (state : List Bool) (held : List ℕ) (listed : IsListOf state held) (rows : List (List Bool)) (k : ℕ) where
   pub row_told : RowHas rows held k → HoldsAtomsOf (get_or rows k []) state
-  row_told all p has = All-contains (λ y. has_pair rows k y ≡ true) held p all ((listed.has p).1 (has_within state p has, has))
+  row_told all p has = All-contains (λ y. has_pair rows k y ≡ true) held p all ((listed.has p).1 (within_state state p has, has))
 
   pub row_listed : HoldsAtomsOf (get_or rows k []) state → RowHas rows held k
   row_listed holds i d less = holds (get_or held i d) (in_state state held listed rows i d less)

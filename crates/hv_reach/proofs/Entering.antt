@@ -1,57 +1,15 @@
 -- Rows and their columns.
-use Rattle.std.proofs.Common.{◌≡◌, ◌≢◌, ℕ, suc, ◌+◌, ◌*◌, ◌-◌, ◌<◌, ◌≤◌, ◌∙◌, ◌⊎◌, Bool, true, false, Option, Some, None, List, [], ◌∷◌, ◌++◌, length, replicate, set, get_or, slice_get, eqb, refl, sym, ap, arith, inl, inr, subst, length-append}
-use Rattle.std.proofs.lemmas.Bool.{cases_eq, cases_lt, cond-true, eq-eqb}
-use Rattle.std.proofs.lemmas.List.{length-set, length-replicate, get_or-set_other, get_or_past, get_or_append_left}
-use Rattle.std.proofs.lemmas.Grind.{get_or-set_at}
+use Rattle.std.proofs.Common.{◌≡◌, ◌≢◌, ℕ, suc, ◌+◌, ◌*◌, ◌-◌, ◌<◌, ◌≤◌, ◌∙◌, ◌⊎◌, Bool, true, false, Option, Some, None, List, [], ◌∷◌, ◌++◌, length, set, get_or, slice_get, refl, sym, ap, arith, inl, inr, subst, length-append}
+use Rattle.std.proofs.lemmas.Bool.{cases_eq, cases_lt}
+use Rattle.std.proofs.lemmas.List.{length-set, get_or_past, get_or_append_left}
 use Rattle.std.proofs.lemmas.Option.{slice_get_within}
 use Rattle.std.proofs.Math.Seq.{get_or-append_seam}
 use Rattle.std.specs.Global.{Vec}
-use Rattle.std.specs.List.{All}
-use Rattle.std.specs.Option.{MatchOption}
 use Rattle.hv_task.specs.Atoms.{IsNext}
 use Rattle.hv_task.specs.State.{AreBelow, has_atom}
-use Rattle.hv_task.proofs.Places.{has_atom-set}
-use Rattle.hv_reach.proofs.Sets.{has_within}
+use Rattle.hv_task.proofs.Listing.{within_state}
 use Rattle.hv_reach.specs.Working.NoteRows.{AreColumns, AreColumnsOf, AreRowsIn, AreRowsOver, ColumnsHave, IsFirstPlace, RowHas}
 use Rattle.hv_reach.specs.Reached.{has_pair}
-
-pub columns_empty : (room : ℕ) (columns : List (List Bool)) → All (λ (column : List Bool). column ≡ replicate room false) columns → AreColumns room columns
-columns_empty room columns each p less = ap length (each p [] less) ∙ length-replicate room false
-
--- one flag written
-
-module _ (room : ℕ) (columns : List (List Bool)) (sized : AreColumns room columns) (atom place : ℕ) (held : Bool) (less : atom < length columns) (within : place < room) where
-  abbrev Put : List (List Bool)
-  Put = set columns atom (set (get_or columns atom []) place held)
-
-  pub put_sized : AreColumns room Put
-  put_sized p below =
-      let in_columns : p < length columns = omega (arith, length-set columns atom (set (get_or columns atom []) place held)) in
-      elim (cases_eq p atom) [
-        | inl e ↦
-            subst (λ (c : List Bool). length c ≡ room) (sym (get_or-set_at columns atom p (set (get_or columns atom []) place held) [] e less))
-            (length-set (get_or columns atom []) place held ∙ sized atom less)
-        | inr e ↦ subst (λ (c : List Bool). length c ≡ room) (sym (get_or-set_other columns atom p (set (get_or columns atom []) place held) [] e)) (sized p in_columns)
-      ]
-
-  pub put_here : has_pair Put atom place ≡ held
-  put_here =
-      let size = sized atom less in
-      subst (λ (c : List Bool). has_atom c place ≡ held) (sym (get_or-set_at columns atom atom (set (get_or columns atom []) place held) [] refl less))
-      (has_atom-set (get_or columns atom []) place place held (omega arith) ∙ cond-true (eqb place place) held (has_atom (get_or columns atom []) place) (eq-eqb place place refl))
-
-  pub put_atoms : (p j : ℕ) → p ≢ atom → has_pair Put p j ≡ has_pair columns p j
-  put_atoms p j other = ap (λ (c : List Bool). has_atom c j) (get_or-set_other columns atom p (set (get_or columns atom []) place held) [] other)
-
-  pub put_places : (p j : ℕ) → j ≢ place → has_pair Put p j ≡ has_pair columns p j
-  put_places p j other =
-      elim (cases_eq p atom) [
-        | inl e ↦
-            ap (λ (c : List Bool). has_atom c j) (get_or-set_at columns atom p (set (get_or columns atom []) place held) [] e less)
-            ∙ (get_or-set_other (get_or columns atom []) place j held false other
-            ∙ ap (λ x. has_pair columns x j) (sym e))
-        | inr e ↦ put_atoms p j e
-      ]
 
 -- a row written so far
 pub entered_more : (row : List Bool) (old new : List (List Bool)) (place atom : ℕ) (held : Bool) → held ≡ has_atom row atom
@@ -72,7 +30,7 @@ first_of_mask columns list mask from None size sound complete next = λ k le bel
     let a : false ≡ true = sym (next k le) ∙ complete k has in cc a
 first_of_mask columns list mask from (Some j) size sound complete next = (
   next.0,
-  let w = has_within mask j next.1 in omega (arith, w, size),
+  let w = within_state mask j next.1 in omega (arith, w, size),
   sound j next.1,
   λ k le before has. let a : false ≡ true = sym (next.2 k le before) ∙ complete k has in cc a,
 )
@@ -123,26 +81,6 @@ module _ (atoms start : ℕ) (rows columns : List (List Bool)) (kept : AreColumn
           has,
           earlier j it.3 (let w = it.1 in omega (arith, w)),
         )
-
--- each row has all of no atoms
-pub any_place : (rows : List (List Bool)) (list : List ℕ) (from : ℕ) (found : Option ℕ) → (length list ≡ 0) ⊎ (length rows ≡ 0)
-    → MatchOption found (length rows ≤ from) (λ place. (place ≡ from) × (from < length rows))
-    → IsFirstPlace (RowHas rows list) (length rows) from found
-any_place rows list from None none past = λ k le less has. omega (arith, past, le, less)
-any_place rows list from (Some place) none here = (
-  let e = here.0 in omega (arith, e),
-  let e = here.0 in let f = here.1 in omega (arith, e, f),
-  elim none [
-    | inl e ↦ λ i d within. absurd (omega (arith, e, within))
-    | inr e ↦ let f = here.0 in let g = here.1 in absurd (omega (arith, e, f, g))
-  ],
-  λ j le less has. let e = here.0 in omega (arith, e, le, less),
-)
-
--- all blocks were asked
-pub none_at_all : (rows : List (List Bool)) (list : List ℕ) (from end : ℕ) → length rows ≤ end
-    → ((k : ℕ) → from ≤ k → k < end → RowHas rows list k → ⊥) → (k : ℕ) → from ≤ k → k < length rows → RowHas rows list k → ⊥
-none_at_all rows list from end all none k le less = none k le (omega (arith, all, less))
 
 -- a row more
 
@@ -244,20 +182,6 @@ blocks_more atoms rows blocks new kept last full = record {
   upto = let upto = kept.upto in omega (arith, upto, length-append blocks (new ∷ []));
   tight = omega (arith, full, length-append blocks (new ∷ []));
 }
-
--- no rows and no blocks
-pub no_rows : (atoms : ℕ) (rows : List (List Bool)) → length rows ≡ 0 → AreRowsIn atoms [] rows
-no_rows atoms rows none = record {
-  over = λ k less. absurd (omega (arith, none, less));
-  each = λ b block at. absurd (cc at);
-  upto = omega (arith, none);
-  tight = omega arith;
-}
-
--- so many atoms are those of the rows
-pub same_width : (atoms other : ℕ) (blocks : List (Vec (List Bool))) (rows : List (List Bool)) → AreRowsIn atoms blocks rows → AreRowsOver other rows
-    → 0 < length rows → atoms ≡ other
-same_width atoms other blocks rows kept over some = sym (kept.over 0 some) ∙ over 0 some
 
 -- a row written into the last block
 pub kept_pushed : (rows : List (List Bool)) (row : List Bool) (blocks : List (Vec (List Bool))) (last place : ℕ) (old new : Vec (List Bool))

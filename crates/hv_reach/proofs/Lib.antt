@@ -5,8 +5,8 @@ pub mod Steps
 pub mod Cells
 pub mod Turns
 pub mod Start
-pub mod Lists
 pub mod Denials
+pub mod Covered
 pub mod Block
 pub mod Deciding
 pub mod Proofs

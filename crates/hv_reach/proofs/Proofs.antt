@@ -1,17 +1,13 @@
 -- The lines of a proof are determined by the task, and they are good and conclude where the goal is excluded.
-use Rattle.std.proofs.Common.{◌≡◌, ◌≤◌, ◌∙◌, Bool, true, false, List, length, refl, sym, ap, subst}
+use Rattle.std.proofs.Common.{◌≡◌, ◌≤◌, ◌∙◌, List, length, sym, ap, subst}
 use Rattle.hv_task.specs.Strips.{Strips, IsTask, atoms}
 use Rattle.hv_lines.specs.Drafts.{IsGoodTable}
 use Rattle.hv_lines.specs.Judged.{Concludes}
 use Rattle.hv_lines.specs.declared.line.Line.{Line}
+use Rattle.hv_lines.proofs.Bools.{same_truth}
 use Rattle.hv_reach.specs.Written.{IsPairsProof, IsRelaxedProof, PairsExclude, RelaxedExcludes, horn_proof, pairs_formula, relaxed_formula}
 use Rattle.hv_reach.proofs.Block.{good_horn_proof, horn_concludes}
 use Rattle.hv_reach.proofs.Denials.{pairs_separates, relaxed_separates}
-
-same_truth : (a b : Bool) → (a ≡ true → b ≡ true) → (b ≡ true → a ≡ true) → a ≡ b
-same_truth true b there back = sym (there refl)
-same_truth false true there back = back refl
-same_truth false false there back = refl
 
 pub relaxed_good : (task : Strips) (lines : List Line) → IsTask task → RelaxedExcludes task → IsRelaxedProof task lines
     → IsGoodTable task lines

@@ -5,13 +5,8 @@ use Rattle.std.proofs.lemmas.Bool.{cases_eq, cond-true, cond-false, eq-eqb, ne_e
 use Rattle.std.specs.List.{All}
 use Rattle.hv_task.specs.State.{has_atom}
 use Rattle.hv_task.proofs.Places.{has_atom-set}
+use Rattle.hv_task.proofs.Listing.{within_state}
 use Rattle.hv_reach.specs.Working.Waiting.{missing}
-
--- an atom past the end is in no state
-pub has_within : (s : List Bool) (p : ℕ) → has_atom s p ≡ true → p < length s
-has_within [] p h = absurd cc
-has_within (b ∷ s) Prim.Native.Nat.zero h = omega arith
-has_within (b ∷ s) (suc p) h = let e = has_within s p h in omega arith
 
 pub missing_set : (s : List Bool) (p : ℕ) → p < length s → has_atom s p ≡ false → missing (set s p true) + 1 ≡ missing s
 missing_set [] p less h = absurd (omega arith)
@@ -26,7 +21,7 @@ set_cases s q p less h =
     elim (cases_eq q p) [
       | inl e ↦ inr e
       | inr e ↦
-          let within : p < length (set s q true) = has_within (set s q true) p h in
+          let within : p < length (set s q true) = within_state (set s q true) p h in
           let below : p < length s = omega (arith, length-set s q true) in
           inl (sym (has_atom-set s q p true below ∙ cond-false (eqb q p) true (has_atom s p) (ne_eqb q p e)) ∙ h)
     ]
@@ -36,7 +31,7 @@ set_has s q less = has_atom-set s q q true less ∙ cond-true (eqb q q) true (ha
 
 pub set_grows : (s : List Bool) (q p : ℕ) → q < length s → has_atom s p ≡ true → has_atom (set s q true) p ≡ true
 set_grows s q p less h =
-    has_atom-set s q p true (has_within s p h)
+    has_atom-set s q p true (within_state s p h)
     ∙ elim (cases_eq q p) [
       | inl e ↦ cond-true (eqb q p) true (has_atom s p) (eq-eqb q p e)
       | inr e ↦ cond-false (eqb q p) true (has_atom s p) (ne_eqb q p e) ∙ h

@@ -7,7 +7,7 @@ use Rattle.hv_task.specs.declared.action.Action.{Action}
 use Rattle.hv_task.specs.State.{AreBelow, has_atom}
 use Rattle.hv_task.specs.Strips.{Strips}
 use Rattle.hv_task.specs.AtomList.{IsListOf}
-use Rattle.hv_reach.proofs.Sets.{has_within}
+use Rattle.hv_task.proofs.Listing.{within_state}
 use Rattle.hv_reach.specs.Working.Index.{IsRange}
 use Rattle.hv_reach.specs.Reached.{ArePaired, ClosedPairs, HasPairsOf}
 use Rattle.hv_reach.specs.Working.Table.{HaveTheirPairsBut, IsEven, IsJoined, KeepAllPairs}
@@ -29,7 +29,7 @@ paired_listed s held r listed paired p q hp hq =
     All-contains (λ y. r p y ≡ true) held q (All-contains (λ x. All (λ y. r x y ≡ true) held) held p paired (in_list p hp)) (in_list q hq)
   where
     in_list : (x : ℕ) → has_atom s x ≡ true → Contains held x
-    in_list x h = (listed.has x).1 (has_within s x h, h)
+    in_list x h = (listed.has x).1 (within_state s x h, h)
 
 pub ready_start : (n : ℕ) (actions : List Action) (numbers : List ℕ) (rows : List (List Bool)) (flags : List Bool) → IsRange (length actions) numbers
     → HaveTheirPairsBut numbers 0 n actions rows flags

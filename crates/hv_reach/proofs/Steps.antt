@@ -1,32 +1,12 @@
 -- The steps of the search for reached pairs.
 use Rattle.std.proofs.Common.{◌≡◌, ℕ, ◌+◌, ◌<◌, ◌∙◌, Bool, true, false, ◌||◌, List, [], ◌∷◌, length, get_or, refl, arith, inl, inr, subst, ◌⊎◌}
-use Rattle.std.proofs.lemmas.Bool.{cases_eq, cases_lt}
+use Rattle.std.proofs.lemmas.Bool.{cases_Bool, cases_eq, cases_lt, or_cases, or_parts}
 use Rattle.std.proofs.lemmas.List.Elements.{All-cons, All-nil, Contains-append_right}
 use Rattle.std.specs.List.{All, Contains}
 use Rattle.hv_task.specs.declared.action.Action.{Action}
 use Rattle.hv_task.specs.State.{has_atom}
 use Rattle.hv_reach.specs.Reached.{ArePaired, LeavesAlone, has_pair}
 use Rattle.hv_reach.specs.Working.Table.{IsJoined, IsPairStep, HasItsPairs, IsPairTable, IsTrigger}
-
-pub pair_step_none : (n : ℕ) (rows : List (List Bool)) (flags : List Bool) → IsPairTable n rows → IsPairStep n rows flags rows flags false
-pair_step_none n rows flags table = record {
-  table = table;
-  size = refl;
-  grows = λ p q h. h;
-  raises = λ p q h. inl h;
-  stay = λ x h. h;
-  still = λ m x h. h;
-  fewer = omega arith;
-  falls = λ m. absurd cc;
-}
-
-pub or_false : (a b : Bool) → (a || b) ≡ false → (a ≡ false) × (b ≡ false)
-or_false true b e = absurd cc
-or_false false b e = (refl, e)
-
-pub or_true : (a b : Bool) → (a || b) ≡ true → (a ≡ true) ⊎ (b ≡ true)
-or_true true b e = inl refl
-or_true false b e = inr e
 
 pub pair_step_both : (n : ℕ) (a b c : List (List Bool)) (f g h : List Bool) (m k : Bool) → IsPairStep n a f b g m → IsPairStep n b g c h k → IsPairStep n a f c h (m || k)
 pair_step_both n a b c f g h m k s t = record {
@@ -38,20 +18,16 @@ pair_step_both n a b c f g h m k s t = record {
     | inr w ↦ inr w
   ];
   stay = λ x e. t.stay x (s.stay x e);
-  still = λ e x d. let w = or_false m k e in s.still w.0 x (t.still w.1 x d);
+  still = λ e x d. let w = or_parts m k e in s.still w.0 x (t.still w.1 x d);
   fewer = let u = s.fewer in let v = t.fewer in omega arith;
-  falls = λ e. let u = s.fewer in let v = t.fewer in elim (or_true m k e) [ inl o ↦ let z = s.falls o in omega arith | inr o ↦ let z = t.falls o in omega arith ];
+  falls = λ e. let u = s.fewer in let v = t.fewer in elim (or_cases m k e) [ inl o ↦ let z = s.falls o in omega arith | inr o ↦ let z = t.falls o in omega arith ];
 }
-
-pub cases_bool : (b : Bool) → (b ≡ true) ⊎ (b ≡ false)
-cases_bool true = inl refl
-cases_bool false = inr refl
 
 -- none of these flags is raised, or one is
 any_raised : (flags : List Bool) (xs : List ℕ) → ((x : ℕ) × Contains xs x × (has_atom flags x ≡ true)) ⊎ All (λ x. has_atom flags x ≡ false) xs
 any_raised flags [] = inr (All-nil (λ x. has_atom flags x ≡ false))
 any_raised flags (x ∷ xs) =
-    elim (cases_bool (has_atom flags x)) [
+    elim (cases_Bool (has_atom flags x)) [
       | inl e ↦ inl (x, (0, omega arith, refl), e)
       | inr e ↦
           elim (any_raised flags xs) [
@@ -72,7 +48,7 @@ quiet_or n flags a =
       | inr all ↦
           elim (cases_eq (length a.pre) 0) [
             | inl none ↦
-                elim (cases_bool (has_atom flags n)) [
+                elim (cases_Bool (has_atom flags n)) [
                   | inl e ↦ inl (n, inr (refl, none), e)
                   | inr e ↦ inr (record { pre = all; past = λ h. e })
                 ]
@@ -130,10 +106,6 @@ ready_visited n mid new flags raised m a table step both other =
         other = λ q free paired joined. other q free (joined_before n mid new flags raised m a q table step quiet joined);
       })
     ]
-
--- an action whose precondition isn't paired is ready
-pub ready_unpaired : (n : ℕ) (rows : List (List Bool)) (flags : List Bool) (a : Action) → (ArePaired (has_pair rows) a.pre a.pre → ⊥) → HasItsPairs n rows flags a
-ready_unpaired n rows flags a h = inl (record { both = λ paired. absurd (h paired); other = λ q free paired joined. absurd (h paired) })
 
 -- one more of a list is done, and the others stay so
 pub done_more : (P Q : ℕ → Type 0) (xs : List ℕ) (i x : ℕ) → x ≡ get_or xs i 0 → ((p : ℕ) → P p → Q p) → Q x

@@ -1,6 +1,6 @@
 -- The turns of the search for reached pairs.
 use Rattle.std.proofs.Common.{◌≡◌, ℕ, ◌+◌, ◌<◌, ◌≤◌, ◌∙◌, Bool, true, false, cond, ◌||◌, eqb, List, length, set, get_or, refl, sym, ap, arith, inl, inr, subst, slice_get, Some}
-use Rattle.std.proofs.lemmas.Bool.{cases_eq, cases_lt, cond-true, cond-false, eq-eqb, ne_eqb}
+use Rattle.std.proofs.lemmas.Bool.{cases_Bool, cases_eq, cases_lt, cond-true, cond-false, eq-eqb, ne_eqb, or_cases, or_parts}
 use Rattle.std.proofs.lemmas.List.Elements.{All-contains, Contains-get_or}
 use Rattle.std.proofs.lemmas.List.{length-set, get_or_default}
 use Rattle.std.specs.Global.{Vec}
@@ -9,29 +9,26 @@ use Rattle.hv_task.specs.declared.action.Action.{Action}
 use Rattle.hv_task.specs.State.{has_atom, names_atom}
 use Rattle.hv_task.proofs.Places.{has_atom-set, names_atom-Decides}
 use Rattle.hv_task.proofs.Next.{unnamed}
-use Rattle.hv_reach.proofs.Sets.{has_within}
-use Rattle.hv_reach.proofs.Steps.{cases_bool, or_false, or_true, ready_step}
+use Rattle.hv_task.proofs.Listing.{within_state}
+use Rattle.hv_reach.proofs.Steps.{ready_step}
 use Rattle.hv_reach.specs.Working.Index.{IsIn, IsActionIndex}
 use Rattle.hv_reach.specs.Reached.{has_pair}
 use Rattle.hv_reach.specs.Working.Table.{HaveTheirPairs, HaveTheirPairsBut, IsPairStep, HasItsPairs, IsPairTable, IsTrigger, IsTurn, KeepAllPairs, missing_cells}
-
-pub turn_none : (n : ℕ) (rows : List (List Bool)) (flags : List Bool) → IsPairTable n rows → IsTurn n rows flags rows flags false
-turn_none n rows flags table = record { table = table; size = refl; grows = λ p q h. h; still = λ m x h. h; fewer = omega arith; falls = λ m. absurd cc }
 
 pub turn_both : (n : ℕ) (a b c : List (List Bool)) (f g h : List Bool) (m k : Bool) → IsTurn n a f b g m → IsTurn n b g c h k → IsTurn n a f c h (m || k)
 turn_both n a b c f g h m k s t = record {
   table = t.table;
   size = t.size ∙ s.size;
   grows = λ p q e. t.grows p q (s.grows p q e);
-  still = λ e x d. let w = or_false m k e in s.still w.0 x (t.still w.1 x d);
+  still = λ e x d. let w = or_parts m k e in s.still w.0 x (t.still w.1 x d);
   fewer = let u = s.fewer in let v = t.fewer in omega arith;
-  falls = λ e. let u = s.fewer in let v = t.fewer in elim (or_true m k e) [ inl o ↦ let z = s.falls o in omega arith | inr o ↦ let z = t.falls o in omega arith ];
+  falls = λ e. let u = s.fewer in let v = t.fewer in elim (or_cases m k e) [ inl o ↦ let z = s.falls o in omega arith | inr o ↦ let z = t.falls o in omega arith ];
 }
 
 -- a flag that is raised after one was lowered is another one, and was raised before
 pub lowered_other : (flags : List Bool) (x y : ℕ) → has_atom (set flags x false) y ≡ true → (has_atom flags y ≡ true) × (x ≡ y → ⊥)
 lowered_other flags x y h =
-    let less : y < length flags = let w = has_within (set flags x false) y h in omega (arith, length-set flags x false) in
+    let less : y < length flags = let w = within_state (set flags x false) y h in omega (arith, length-set flags x false) in
     let e = sym (has_atom-set flags x y false less) ∙ h in
     elim (cases_eq x y) [
       | inl same ↦ let f = sym (cond-true (eqb x y) false (has_atom flags y) (eq-eqb x y same)) ∙ e in absurd cc
@@ -40,7 +37,7 @@ lowered_other flags x y h =
 
 pub lowered_stays : (flags : List Bool) (x y : ℕ) → (x ≡ y → ⊥) → has_atom flags y ≡ true → has_atom (set flags x false) y ≡ true
 lowered_stays flags x y other h =
-    has_atom-set flags x y false (has_within flags y h) ∙ (cond-false (eqb x y) false (has_atom flags y) (ne_eqb x y other) ∙ h)
+    has_atom-set flags x y false (within_state flags y h) ∙ (cond-false (eqb x y) false (has_atom flags y) (ne_eqb x y other) ∙ h)
 
 pub turn_from_step : (n : ℕ) (old new : List (List Bool)) (flags raised : List Bool) (x : ℕ) (m : Bool) → IsPairStep n old (set flags x false) new raised m
     → IsTurn n old flags new raised m
@@ -56,7 +53,7 @@ turn_from_step n old new flags raised x m step = record {
 pub lowered_after : (n : ℕ) (old new : List (List Bool)) (flags raised : List Bool) (x : ℕ) (m : Bool) → IsPairStep n old (set flags x false) new raised m
     → m ≡ false → has_atom raised x ≡ false
 lowered_after n old new flags raised x m step e =
-    elim (cases_bool (has_atom raised x)) [
+    elim (cases_Bool (has_atom raised x)) [
       | inl up ↦ absurd ((lowered_other flags x x (step.still e x up)).1 refl)
       | inr down ↦ down
     ]
@@ -106,19 +103,14 @@ ready_more n actions numbers i x old new flags raised m b e table step before at
           | inr differ ↦ let f = left.1 in omega arith
         ]
 
-pub ready_last : (n : ℕ) (actions : List Action) (numbers : List ℕ) (i : ℕ) (rows : List (List Bool)) (flags : List Bool) → length numbers ≤ i
-    → HaveTheirPairsBut numbers i n actions rows flags → HaveTheirPairs n actions rows flags
-ready_last n actions numbers i rows flags past h k a is =
-    elim (h k a is) [ inl s ↦ s | inr left ↦ let f = left.1 in let g = left.2 in absurd (omega arith) ]
-
 pub quiet_more : (n : ℕ) (old new : List (List Bool)) (flags raised : List Bool) (x : ℕ) (m k : Bool) → IsTurn n old flags new raised k
     → (m ≡ false → (y : ℕ) → y < x → has_atom flags y ≡ false) → (k ≡ false → has_atom raised x ≡ false)
     → (m || k) ≡ false → (y : ℕ) → y < x + 1 → has_atom raised y ≡ false
 quiet_more n old new flags raised x m k turn before here e y less =
-    let w = or_false m k e in
+    let w = or_parts m k e in
     elim (cases_lt y x) [
       | inl lt ↦
-          elim (cases_bool (has_atom raised y)) [
+          elim (cases_Bool (has_atom raised y)) [
             | inl up ↦ let f = turn.still w.1 y up in let g = before w.0 y lt in absurd cc
             | inr down ↦ down
           ]
@@ -131,7 +123,7 @@ pub keeps_quiet : (n : ℕ) (actions : List Action) (rows : List (List Bool)) (f
 keeps_quiet n actions rows flags size ready quiet k a is =
     elim (ready k a is) [
       | inl keeps ↦ keeps
-      | inr w ↦ let less = has_within flags w.0 w.2 in let e = quiet w.0 (omega arith) in let f = w.2 in absurd cc
+      | inr w ↦ let less = within_state flags w.0 w.2 in let e = quiet w.0 (omega arith) in let f = w.2 in absurd cc
     ]
 
 -- an atom of a list isn't left where the list doesn't name it

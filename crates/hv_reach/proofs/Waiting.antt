@@ -1,8 +1,8 @@
 -- The steps of the search for reached atoms.
-use Rattle.std.proofs.Common.{◌≡◌, ℕ, ◌+◌, ◌<◌, ◌≤◌, ◌∙◌, Bool, true, false, List, [], ◌∷◌, ◌++◌, length, set, get_or, length-append, refl, sym, ap, arith, inl, inr, subst, ◌⊎◌, ◌↔◌, slice_get, Some}
+use Rattle.std.proofs.Common.{◌≡◌, ℕ, ◌+◌, ◌<◌, ◌≤◌, ◌∙◌, Bool, true, false, List, [], ◌∷◌, ◌++◌, length, set, get_or, length-append, sym, ap, arith, inl, inr, subst, ◌⊎◌, ◌↔◌, slice_get, Some}
 use Rattle.std.proofs.lemmas.List.{length-set, get_or_default}
 use Rattle.std.proofs.lemmas.Bool.{cases_eq, cases_lt}
-use Rattle.std.proofs.lemmas.List.Elements.{All-nil, All-push, Contains-push, Contains-push_cases, Contains-append_left}
+use Rattle.std.proofs.lemmas.List.Elements.{All-push, Contains-push, Contains-push_cases, Contains-append_left}
 use Rattle.std.specs.List.{Contains}
 use Rattle.std.proofs.lemmas.Option.{slice_get_within}
 use Rattle.std.specs.Global.{Vec}
@@ -11,10 +11,7 @@ use Rattle.hv_task.specs.State.{AreBelow, has_atom}
 use Rattle.hv_reach.proofs.Sets.{All-from_zero, missing_set, set_cases, set_grows}
 use Rattle.hv_reach.specs.Working.Index.{IsIn, IsActionIndex, IsRange}
 use Rattle.hv_reach.specs.Reached.{AreIn, IsWithin, Keeps}
-use Rattle.hv_reach.specs.Working.Waiting.{AreActionsSettled, AreActionsSettledBut, IsKeptSearch, IsPassed, IsActionSettled, GrowsQueued}
-
-pub step_none : (s : List Bool) (q : List ℕ) → GrowsQueued s q s q
-step_none s q = record { size = refl; below = λ h. h; grows = λ _ h. h; queued = λ _ h. h; fresh = λ _ h. inl h; work = refl }
+use Rattle.hv_reach.specs.Working.Waiting.{AreActionsSettled, AreActionsSettledBut, IsPassed, IsActionSettled, GrowsQueued}
 
 pub step_both : (a b c : List Bool) (q u w : List ℕ) → GrowsQueued a q b u → GrowsQueued b u c w → GrowsQueued a q c w
 step_both a b c q u w f g = record {
@@ -49,14 +46,6 @@ held_more old new xs i x less e grows here before k below =
       | inr ge ↦ let same : i ≡ k = omega arith in subst (λ y. has_atom new (get_or xs y 0) ≡ true) same (subst (λ y. has_atom new y ≡ true) e here)
     ]
 
--- what is passed and settled stays so
-pub passed_step : (old new : List Bool) (a : Action) (c : ℕ) → ((p : ℕ) → has_atom old p ≡ true → has_atom new p ≡ true) → IsPassed old a c → IsPassed new a c
-passed_step old new a c grows h = record {
-  upto = h.upto;
-  front = λ i less. grows (get_or a.pre i 0) (h.front i less);
-  done = λ e some. λ k d less. grows (get_or a.add k d) (h.done e some k d less);
-}
-
 pub settled_step : (old new : List Bool) (q u : List ℕ) (a : Action) (c : ℕ) → GrowsQueued old q new u → IsActionSettled old q a c → IsActionSettled new u a c
 settled_step old new q u a c step h =
     elim h [
@@ -86,11 +75,6 @@ settled_more actions numbers i x old new q u passed after e step before here oth
           | inl same ↦ absurd (other (sym left.3 ∙ (ap (λ j. get_or numbers j 0) (sym same) ∙ sym e)))
           | inr differ ↦ let f = left.1 in omega arith
         ]
-
-pub settled_last : (actions : List Action) (numbers : List ℕ) (i : ℕ) (held : List Bool) (q passed : List ℕ) → length numbers ≤ i
-    → AreActionsSettledBut numbers i actions held q passed → AreActionsSettled actions held q passed
-settled_last actions numbers i held q passed past h k a is =
-    elim (h k a is) [ inl s ↦ s | inr left ↦ let f = left.1 in let g = left.2 in absurd (omega arith) ]
 
 -- an atom leaves the queue: each action is settled or one of those that ask for the atom
 pub settled_pop : (n : ℕ) (actions : List Action) (rows : List (Vec ℕ)) (row : Vec ℕ) (held : List Bool) (p : ℕ) (rest passed : List ℕ)
@@ -125,19 +109,6 @@ whole_in held r a pre from place passed same whole front within =
       | inl lt ↦ passed.front k lt
       | inr ge ↦ subst (λ xs. has_atom held (get_or xs k 0) ≡ true) same (front k ge (omega arith))
     ]))
-
--- at the start no action was looked at
-pub kept_start : (actions : List Action) (held : List Bool) (passed : List ℕ) → length passed ≡ length actions
-    → ((k : ℕ) → get_or passed k 0 ≡ 0) → IsKeptSearch actions held [] passed
-kept_start actions held passed size zeros = record {
-  size = size;
-  below = All-nil (λ n. n < length held);
-  each = λ k a is. record {
-    upto = let e = zeros k in omega arith;
-    front = λ i less. let e = zeros k in absurd (omega arith);
-    done = λ _ some. let e = zeros k in absurd (omega arith);
-  };
-}
 
 pub settled_start : (actions : List Action) (numbers : List ℕ) (held : List Bool) (queue passed : List ℕ) → IsRange (length actions) numbers
     → AreActionsSettledBut numbers 0 actions held queue passed

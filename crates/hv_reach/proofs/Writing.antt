@@ -1,6 +1,5 @@
 -- What stands after a pruner's answer: in each of the three cases.
-use Rattle.std.proofs.Common.{◌≡◌, ℕ, zero, suc, ◌+◌, ◌≤◌, ◌∙◌, ◌⊎◌, ◌↔◌, ◌++◌, Bool, true, false, List, [], ◌∷◌, Option, Some, None, Result, Ok, Err, is_some, length, slice_get, refl, sym, ap, subst, inl, inr, arith}
-use Rattle.std.proofs.lemmas.Option.{same_Some}
+use Rattle.std.proofs.Common.{◌≡◌, ℕ, ◌+◌, ◌≤◌, ◌∙◌, ◌↔◌, ◌++◌, Bool, true, false, List, [], ◌∷◌, Option, Some, None, Result, Ok, Err, is_some, length, refl, sym, ap, subst, inl, inr, arith}
 use Rattle.std.specs.Option.{MatchOption}
 use Rattle.std.specs.Result.{IfOk, OnErr}
 use Rattle.hv_task.specs.Strips.{Strips, IsState, IsTask, atoms}
@@ -17,7 +16,8 @@ use Rattle.hv_lines.specs.declared.line.Statement.TheVariants as T
 use Rattle.hv_lines.specs.declared.line.Word.TheVariants as W
 use Rattle.hv_lines.specs.declared.note.Note.{Note}
 use Rattle.hv_lines.proofs.Drafting.{table_of}
-use Rattle.hv_lines.proofs.Extended.{begun_acts, begun_dead, begun_empty, begun_goal, exprs_few, extends_by, extends_none, first_noted_once, knowns_few, noted_dead}
+use Rattle.hv_lines.proofs.Elements.{last_cases}
+use Rattle.hv_lines.proofs.Extended.{exprs_few, extends_by, extends_none, first_noted_once, knowns_few, noted_dead, prelude_begins}
 use Rattle.hv_lines.proofs.Carried.{expr_onto}
 use Rattle.hv_lines.proofs.Laws.{expr_at_here, set_in, set_out, statement_at_here}
 use Rattle.hv_reach.specs.Working.Fitting.{described_fit, notes_fit}
@@ -27,13 +27,6 @@ use Rattle.hv_reach.specs.Written.{dead_block}
 use Rattle.hv_reach.specs.Working.Written.{IsDeadEnd}
 use Rattle.hv_reach.proofs.Block.{good_block}
 use Rattle.hv_reach.proofs.Described.{described_pushed}
-
--- the last of a list, or one before
-last_cases : {X : Type 0} (xs : List X) (x y : X) (k : ℕ) → slice_get (xs ++ x ∷ []) k ≡ Some y → (slice_get xs k ≡ Some y) ⊎ (x ≡ y)
-last_cases [] x y zero at = inr (same_Some x y at)
-last_cases [] x y (suc k) at = absurd (cc (at))
-last_cases (z ∷ xs) x y zero at = inl at
-last_cases (z ∷ xs) x y (suc k) at = last_cases xs x y k at
 
 module _ (task : Strips) (covered : StateSet) (IsBlock : List Line → Note → Type 0) (state : List Bool) (notes : List Note) (draft : DraftState)
     (is_state : IsState task state) (good : IsGoodTable task draft.lines) (fits : AreHornNotes task covered draft.lines notes) where
@@ -74,11 +67,6 @@ module _ (task : Strips) (covered : StateSet) (IsBlock : List Line → Note → 
 abbrev pub Told : Strips → List Line → List Note → List Bool → Option ℕ → Type 0
 Told task lines notes state found = MatchOption found (NoneNoted task lines notes state) (λ line. IsFirstNoted task lines notes state line)
 
-pub told_same : (task : Strips) (a b : List Line) (xs ys : List Note) (state : List Bool) (found : Option ℕ) → a ≡ b → xs ≡ ys
-    → Told task a xs state found → Told task b ys state found
-told_same task a b xs ys state found lines notes told =
-    subst (λ ls. Told task ls ys state found) lines (subst (λ ns. Told task a ns state found) notes told)
-
 pub none_told : (task : Strips) (lines : List Line) (notes : List Note) (state : List Bool) (found : Option ℕ) → is_some found ≡ false
     → Told task lines notes state found → NoneNoted task lines notes state
 none_told task lines notes state None is told = told
@@ -99,8 +87,7 @@ pub written_good : (task : Strips) → IsTask task → (lines : List Line) → B
     → IsGoodTable task (onto (dead_block (expr_count lines) (known_count lines) clauses) lines)
 written_good task is_task lines begins good few clauses dead =
     good_block task is_task lines good (expr_count lines) (known_count lines) clauses refl refl (omega (arith, few, exprs_few lines))
-    (omega (arith, few, knowns_few lines)) (begun_acts task lines begins good) (begun_empty task lines begins good)
-    (begun_goal task lines begins good) (begun_dead task lines begins good) dead
+    (omega (arith, few, knowns_few lines)) (prelude_begins task lines begins good) dead
 
 -- where it is written
 

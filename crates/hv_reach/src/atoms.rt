@@ -108,7 +108,8 @@ fn wake(
     requires settled { AreActionsSettledBut numbers.now 0
         task.now.actions held.old queue.old.items passed.old.items }
     ensures step { OnOk result (GrowsQueued held.old queue.old.items held.new queue.new.items) }
-    ensures kept { OnOk result (IsKeptSearch task.now.actions held.new queue.new.items passed.new.items) }
+    ensures kept { OnOk result
+        (IsKeptSearch task.now.actions held.new queue.new.items passed.new.items) }
     ensures settled { OnOk result
         (AreActionsSettled task.now.actions held.new queue.new.items passed.new.items) }
     ensures least { OnOk result (GrowsWithin (Keeps task.now.actions) held.old held.new) }
@@ -131,7 +132,8 @@ fn visit(
     requires state { IsState task.now held.old }
     requires kept { IsKeptSearch task.now.actions held.old queue.old.items passed.old.items }
     ensures step { OnOk result (GrowsQueued held.old queue.old.items held.new queue.new.items) }
-    ensures kept { OnOk result (IsKeptSearch task.now.actions held.new queue.new.items passed.new.items) }
+    ensures kept { OnOk result
+        (IsKeptSearch task.now.actions held.new queue.new.items passed.new.items) }
     ensures settles { OnOk result ((a : Action) → slice_get task.now.actions number ≡ Some a
         → IsActionSettled held.new queue.new.items a (slice_index passed.new.items number)) }
     ensures others { OnOk result ((k : ℕ) → (k ≡ number → ⊥)

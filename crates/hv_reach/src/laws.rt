@@ -1,11 +1,12 @@
-//! What is true of the proofs, whatever program writes them.
+//! What is true of the proofs, whatever program writes them, and of the states that are covered.
 
 ghost use Rattle.std.specs.Prelude.{◌≡◌, ◌≤◌, List, length};
+ghost use Rattle.hv_task.specs.Deadness.{AreDead};
 ghost use Rattle.hv_task.specs.Strips.{Strips, IsTask, atoms};
 ghost use Rattle.hv_lines.specs.Drafts.{IsGoodTable};
 ghost use Rattle.hv_lines.specs.Judged.{Concludes};
 ghost use Rattle.hv_lines.specs.declared.line.Line.{Line};
-ghost use Rattle.hv_reach.specs.Written.{IsModest, IsPairsProof, IsRelaxedProof, PairsExclude, RelaxedExcludes};
+ghost use Rattle.hv_reach.specs.Written.{IsModest, IsPairsProof, IsRelaxedProof, PairsExclude, PairsExcludeFrom, RelaxedExcludes, RelaxedExcludesFrom};
 
 /// Does nothing: its contract states that a task has one proof by its reached atoms, of sixteen
 /// lines, which is good and concludes where these exclude the goal. No query of it costs more than
@@ -36,4 +37,12 @@ pub fn laws_of_pair_proofs()
         → PairsExclude task → IsPairsProof task lines → Concludes lines }
     ensures modest { (task : Strips) (lines : List Line) → IsTask task → atoms task ≤ 1024
         → PairsExclude task → IsPairsProof task lines → IsModest task 524800 lines }
+{}
+
+/// Does nothing: its contract states that each state is dead from which the reached atoms, or the
+/// reached pairs, exclude the goal: no plan traverses it. So each state is dead that
+/// `RelaxedPruner` or `PairPruner` covers.
+pub fn laws_of_covered_states()
+    ensures atoms { (task : Strips) → AreDead task (RelaxedExcludesFrom task) }
+    ensures pairs { (task : Strips) → AreDead task (PairsExcludeFrom task) }
 {}

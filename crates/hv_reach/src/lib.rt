@@ -1,5 +1,5 @@
-//! The atoms, and the pairs of atoms, that can be reached in a task from a state; and the proofs that
-//! there is no plan where the goal isn't reached; and pruners by them.
+//! The atoms, and the pairs of atoms, that can be reached in a task from a state; and the proofs
+//! that there is no plan where the goal isn't reached; and pruners by them.
 #![tactic(auto)]
 
 pub mod atoms;
@@ -27,7 +27,7 @@ mod tests;
 
 pub use atoms::reached_atoms;
 pub use fault::ReachFault;
-pub use laws::{laws_of_pair_proofs, laws_of_relaxed_proofs};
+pub use laws::{laws_of_covered_states, laws_of_pair_proofs, laws_of_relaxed_proofs};
 pub use pair_pruner::PairPruner;
 pub use paired::prove_pairs;
 pub use pairs::{Pairs, reached_pairs};

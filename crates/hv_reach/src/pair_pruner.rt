@@ -22,9 +22,9 @@ use std::marker::Model;
 /// reached, in tasks of at most 1,024 atoms. For such a state it writes that the states are dead
 /// which hold no other pairs than those reached from it.
 ///
-/// A state is looked for in the notes by the atoms that are in a pair with themselves, for all notes
-/// at once, and where a note's row has each atom of the state, by the table of the pairs that were
-/// reached.
+/// A state is looked for in the notes by the atoms that are in a pair with themselves, for all
+/// notes at once, and where a note's row has each atom of the state, by the table of the pairs that
+/// were reached.
 #[derive(Drop)]
 pub struct PairPruner {
     // What was written, in order.

@@ -20,8 +20,8 @@ use std::marker::Model;
 /// A pruner that covers the states from which some goal atom isn't reached. For such a state it
 /// writes that the states are dead which hold no other atoms than those reached from it.
 ///
-/// A state is looked for in all notes at once, by rows of the atoms that were reached: the first note
-/// whose row has each atom of the state answers.
+/// A state is looked for in all notes at once, by rows of the atoms that were reached: the first
+/// note whose row has each atom of the state answers.
 #[derive(Drop)]
 pub struct RelaxedPruner {
     // What was written, in order.
@@ -62,7 +62,8 @@ impl RelaxedPruner {
         requires good { IsGoodTable task.now draft.old.lines }
         requires fits { FitRelaxed task.now draft.old.lines self.old }
         requires state { IsState task.now state.now }
-        ensures answer { IfOk result (λ found. IsPrunerAnswer task.now (RelaxedExcludesFrom task.now)
+        ensures answer { IfOk result
+            (λ found. IsPrunerAnswer task.now (RelaxedExcludesFrom task.now)
             (IsRelaxedBlock task.now state.now draft.old.lines) state.now found
             self.old.notes draft.old self.new.notes draft.new) }
         ensures some { IfOk result (λ found. IsTrue (is_some found)
@@ -155,7 +156,8 @@ fn relaxed_answer(
     }
 }
 
-// The line of the first note whose formula holds the state of these atoms: its row has each of them.
+// The line of the first note whose formula holds the state of these atoms: its row has each of
+// them.
 fn first_noted(
     alloc: Global,
     task: &Task,

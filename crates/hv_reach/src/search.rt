@@ -12,8 +12,9 @@ use crate::mask::{has_pairs, spared};
 use crate::table::{join_all, mark_all};
 use hv_task::{Action, State, Task};
 
-/// Goes on until no flag is raised. Short rows come before long ones, which wait until the short ones
-/// are settled: where pairs come one after the other, a long row is then not gone through for each.
+/// Goes on until no flag is raised. Short rows come before long ones, which wait until the short
+/// ones are settled: where pairs come one after the other, a long row is then not gone through for
+/// each.
 pub(crate) fn close(
     task: &Task,
     index: &Vec<Vec<u32>>,

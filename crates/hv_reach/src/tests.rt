@@ -69,7 +69,8 @@ pub(crate) fn add(
     Ok(())
 }
 
-/// Actions over four atoms, as bits: what each asks for, adds and deletes. A robot between two places.
+/// Actions over four atoms, as bits: what each asks for, adds and deletes. A robot between two
+/// places.
 const ROBOT: [(u32, u32, u32); 2] = [(0b0001, 0b0010, 0b0001), (0b0010, 0b0001, 0b0010)];
 
 /// Three that each take the next away.
@@ -113,8 +114,8 @@ fn task_in(alloc: Global, actions: &[(u32, u32, u32)]) -> Result<Task, AllocErro
     Ok(task)
 }
 
-// What is reached in it: the atoms as bits, and the pairs as a digit for each atom, that of the last
-// one first.
+// What is reached in it: the atoms as bits, and the pairs as a digit for each atom, that of the
+// last one first.
 fn reached_in(alloc: Global, actions: &[(u32, u32, u32)]) -> Result<(u32, u32), AllocError> {
     let task = task_in(alloc, actions)?;
     let state = task.start_state(alloc)?;

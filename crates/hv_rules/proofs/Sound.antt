@@ -1,5 +1,6 @@
 -- Each rule is sound: where it fits and its premises are true, the statement is true (Eriksson, Röger and Helmert, 2018).
-use Rattle.std.proofs.Common.{◌≡◌, ℕ, ◌⊎◌, ◌||◌, Bool, true, false, List, [], ◌∷◌, refl, arith, ap, subst, inl, inr}
+use Rattle.std.proofs.Common.{◌≡◌, ℕ, ◌⊎◌, Bool, true, List, [], ◌∷◌, refl, arith, ap, subst, inl, inr}
+use Rattle.std.proofs.lemmas.Bool.{or_cases}
 use Rattle.std.proofs.lemmas.Option.{slice_get_within}
 use Rattle.hv_task.specs.State.{successor}
 use Rattle.hv_task.specs.Strips.{Strips, start_state}
@@ -22,10 +23,6 @@ use Rattle.hv_lines.specs.Rules.{IsExpr, IsAll, Says, Fits, FitsEd, FitsUd, Fits
 use Rattle.hv_lines.proofs.Laws.{acts_law, set_out, set_in}
 use Rattle.hv_lines.proofs.Decided.{set_stable}
 use Rattle.hv_rules.specs.Soundness.{PremisesAreTrue}
-
-or_cases : (x y : Bool) → (x || y) ≡ true → (x ≡ true) ⊎ (y ≡ true)
-or_cases true y h = inl refl
-or_cases false y h = inr h
 
 -- the same step, from a state of another set, by an action of another action set
 after_by : (task : Strips) (S T : StateSet) (A B : ActionSet) (s : List Bool) (i : IsAfter task S A s) → T i.before → B i.number ≡ true

@@ -3,6 +3,7 @@
 use Rattle.std.proofs.Common.{◌≡◌, ℕ, zero, suc, ◌+◌, ◌<◌, ◌≤◌, ◌∙◌, ◌&&◌, Bool, true, false, not, List, [], ◌∷◌, ◌++◌, Some, length, get_or, slice_get, sym, ap, subst, inl, inr, arith}
 use Rattle.std.proofs.lemmas.Option.{same_Some, slice_get_cases, slice_get_within}
 use Rattle.std.proofs.lemmas.List.Elements.{filter-append}
+use Rattle.std.proofs.lemmas.Bool.{and_from, and_parts, both_ways, cases_Bool}
 use Rattle.std.specs.List.{All, filter, list_all}
 use Rattle.std.specs.Prelude.{take}
 use Rattle.hv_task.specs.declared.action.Action.{Action}
@@ -14,8 +15,7 @@ use Rattle.hv_clauses.specs.Clausal.{AreClauses}
 use Rattle.hv_trap.specs.Conjunctions.{conjunctions, denials, denies_one, is_short}
 use Rattle.hv_trap.specs.Trap.{AreTrapClauses, InGreatestTrap, IsTrap, Stays, is_candidate}
 use Rattle.hv_trap.specs.Working.Trap.{Enclose, EncloseTrap, Escapes}
-use Rattle.hv_trap.proofs.Listed.{all_short, bool_dec, both_ways, denials_below, denials_same, false_denials, filter_denials, listed, true_denials}
-use Rattle.hv_trap.proofs.Lists.{and_both, and_left, and_right}
+use Rattle.hv_trap.proofs.Listed.{all_short, denials_below, denials_same, false_denials, filter_denials, listed, true_denials}
 
 -- all candidates have the greatest trap
 pub all_enclose : (task : Strips) → EncloseTrap task (denials (denies_one task.goal) (atoms task))
@@ -37,15 +37,15 @@ module _ (task : Strips) (set : List Literal → Bool) (clauses : List (List Lit
   enclose_below =
       subst (AreClauses (atoms task)) (sym has.listed)
       (denials_below (atoms task) set
-      (λ c is. and_left (is_short (atoms task) c) (denies_one task.goal c) (has.candidates c is)) (conjunctions (atoms task)))
+      (λ c is. (and_parts (is_short (atoms task) c) (denies_one task.goal c) (has.candidates c is)).0) (conjunctions (atoms task)))
 
   -- where all clauses are true, no conjunction of the set is
   pub none_true : (state : List Bool) → in_clauses clauses state ≡ true → (c : List Literal) → set c ≡ true → in_cube c state ≡ false
   none_true state all c is =
       listed (λ x. set x ≡ true → in_cube x state ≡ false) (atoms task) task.goal
       (true_denials set state (conjunctions (atoms task)) (ap (λ cs. in_clauses cs state) (sym has.listed) ∙ all)) c
-      (and_left (is_short (atoms task) c) (denies_one task.goal c) (has.candidates c is))
-      (and_right (is_short (atoms task) c) (denies_one task.goal c) (has.candidates c is)) is
+      (and_parts (is_short (atoms task) c) (denies_one task.goal c) (has.candidates c is)).0
+      (and_parts (is_short (atoms task) c) (denies_one task.goal c) (has.candidates c is)).1 is
 
   -- where some clause is false, some conjunction of the set is true
   pub one_true : (state : List Bool) → in_clauses clauses state ≡ false → (c : List Literal) × (set c ≡ true) × (in_cube c state ≡ true)
@@ -59,10 +59,11 @@ module _ (task : Strips) (set : List Literal → Bool) (clauses : List (List Lit
       trap = record {
         candidates = has.candidates;
         stays = λ c is state is_state true_in number a named applies.
-            elim (bool_dec (in_clauses clauses (successor a state))) [
+            elim (cases_Bool (in_clauses clauses (successor a state))) [
               | inl all ↦
-                  absurd (both_ways (in_cube c state) true_in
-                  (none_true state (stays number (slice_get_within task.actions number a named) a named state is_state applies all) c is))
+                  absurd (both_ways (in_cube c state)
+                  (none_true state (stays number (slice_get_within task.actions number a named) a named state is_state applies all) c is)
+                  true_in)
               | inr fails ↦ one_true (successor a state) fails
             ];
       }
@@ -75,8 +76,8 @@ pub enclose_more : (task : Strips) (formula clauses : List (List Literal)) (numb
 enclose_more task formula clauses number a state named (outer, about) (set, has) escape = (
   λ c. set c && not (in_cube c state),
   record {
-    candidates = λ c is. has.candidates c (and_left (set c) (not (in_cube c state)) is);
-    greatest = λ c there. and_both (set c) (not (in_cube c state)) (has.greatest c there) (ap not (out c there));
+    candidates = λ c is. has.candidates c (and_parts (set c) (not (in_cube c state)) is).0;
+    greatest = λ c there. and_from (set c) (not (in_cube c state)) (has.greatest c there) (ap not (out c there));
     listed =
         ap (filter (λ c. in_clause c state)) has.listed ∙ filter_denials set state (conjunctions (atoms task));
   },
@@ -84,18 +85,19 @@ enclose_more task formula clauses number a state named (outer, about) (set, has)
   where
     out : (c : List Literal) → InGreatestTrap task c → in_cube c state ≡ false
     out c (trap, is, there) =
-        elim (bool_dec (in_cube c state)) [
+        elim (cases_Bool (in_cube c state)) [
           | inl true_in ↦
               let w = is.stays c there state escape.is_state true_in number a named (escape.applies a named) in
-              absurd (both_ways (in_cube w.0 (successor a state)) w.2
-              (none_true task outer formula about (successor a state) (escape.after a named) w.0 (about.greatest w.0 (trap, is, w.1))))
+              absurd (both_ways (in_cube w.0 (successor a state))
+              (none_true task outer formula about (successor a state) (escape.after a named) w.0 (about.greatest w.0 (trap, is, w.1)))
+              w.2)
           | inr fails ↦ fails
         ]
 
 pub filter_most : {X : Type 0} (p : X → Bool) (xs : List X) → length (filter p xs) ≤ length xs
 filter_most p [] = omega arith
 filter_most p (x ∷ xs) =
-    elim (bool_dec (p x)) [
+    elim (cases_Bool (p x)) [
       | inl is ↦ rw is (omega (arith, filter_most p xs))
       | inr fails ↦ rw fails (omega (arith, filter_most p xs))
     ]
@@ -103,7 +105,7 @@ filter_most p (x ∷ xs) =
 pub filter_fewer : {X : Type 0} (p : X → Bool) (xs : List X) → list_all p xs ≡ false → length (filter p xs) < length xs
 filter_fewer p [] all = absurd (cc (all))
 filter_fewer p (x ∷ xs) all =
-    elim (bool_dec (p x)) [
+    elim (cases_Bool (p x)) [
       | inl is ↦ rw is (let rest : list_all p xs ≡ false = ap (λ b. b && list_all p xs) (sym is) ∙ all in omega (arith, filter_fewer p xs rest))
       | inr fails ↦ rw fails (omega (arith, filter_most p xs))
     ]

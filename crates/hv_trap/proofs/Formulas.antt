@@ -1,7 +1,7 @@
 -- The formula of the greatest trap: how many clauses it has, and of what size, and the lines of which it is a part.
-use Rattle.std.proofs.Common.{◌≡◌, ℕ, zero, suc, ◌+◌, ◌*◌, ◌-◌, ◌<◌, ◌≤◌, ◌∙◌, ◌⊎◌, Bool, true, false, List, [], ◌∷◌, if◌then◌else◌, length, decimal, cond, get_or, refl, sym, ap, subst, inl, inr, arith, length-append}
-use Rattle.std.proofs.lemmas.Fmt.{length-decimal-le_wide}
-use Rattle.std.proofs.lemmas.List.Elements.{All-append, All-cons, All-head, All-nil, All-tail}
+use Rattle.std.proofs.Common.{◌≡◌, ℕ, zero, suc, ◌+◌, ◌*◌, ◌-◌, ◌≤◌, ◌∙◌, ◌⊎◌, Bool, true, false, List, [], ◌∷◌, if◌then◌else◌, length, get_or, refl, sym, ap, subst, inl, inr, arith, length-append}
+use Rattle.std.proofs.lemmas.Bool.{and_parts}
+use Rattle.std.proofs.lemmas.List.Elements.{All-append, All-cons, All-nil}
 use Rattle.std.proofs.lemmas.List.FromFn.{length-range_with_len}
 use Rattle.std.specs.List.{All, Contains, flat_map, range_with_len}
 use Rattle.hv_task.specs.Strips.{Strips, atoms, is_goal}
@@ -9,17 +9,14 @@ use Rattle.hv_sets.specs.Kinds.{IsTwoClause}
 use Rattle.hv_sets.specs.Truth.{in_clauses}
 use Rattle.hv_sets.specs.declared.literal.Literal.{Literal}
 use Rattle.hv_clauses.specs.Clausal.{AreClauses}
-use Rattle.hv_lines.specs.Drafts.{IsShortLine}
-use Rattle.hv_lines.specs.Spelling.{FitsDecimal, FitsLiteral, clause_fields, literal_field}
-use Rattle.hv_lines.specs.declared.line.Expr.TheVariants as E
-use Rattle.hv_lines.specs.declared.line.Line.TheVariants as L
-use Rattle.hv_lines.proofs.Lengths.{IsSmall, decimal_short, short_by, weight, weight-append}
+use Rattle.hv_lines.specs.Spelling.{FitsLiteral}
+use Rattle.hv_lines.proofs.Lengths.{IsSmall}
+use Rattle.hv_lines.proofs.Elements.{cons_cases, nothing_in}
+use Rattle.hv_lines.proofs.Lists.{length-pieces}
 use Rattle.hv_trap.specs.Conjunctions.{conjunctions, denying_clause, denial_in, denials, denials_of, is_short, denies_one, over_greater, over_one, over_two}
 use Rattle.hv_trap.specs.Trap.{AreTrapClauses, Stays}
 use Rattle.hv_trap.specs.Working.Trap.{Enclose}
 use Rattle.hv_trap.proofs.Enclosing.{enclose_below}
-use Rattle.hv_trap.proofs.Lists.{and_left, length-pieces}
-use Rattle.hv_trap.proofs.Sides.{cons_cases, nothing_in}
 use Rattle.hv_trap.proofs.Trapped.{trap_encloses, trap_goalless, trap_stays}
 
 -- how many conjunctions there are
@@ -145,7 +142,7 @@ trap_formula task clauses few trap =
       few_atoms = few;
       few = trap_few task clauses trap few;
       two = subst (All (λ c. length c ≤ 2)) (sym trap.2)
-          (denials_two (atoms task) trap.0 (λ c is. and_left (is_short (atoms task) c) (denies_one task.goal c) (has.candidates c is))
+          (denials_two (atoms task) trap.0 (λ c is. (and_parts (is_short (atoms task) c) (denies_one task.goal c) (has.candidates c is)).0)
           (conjunctions (atoms task)));
       below = enclose_below task trap.0 clauses has;
       stays = trap_stays task clauses trap;
@@ -164,49 +161,3 @@ module _ (task : Strips) (clauses : List (List Literal)) (formula : IsTrapFormul
 
   pub formula_two : All IsTwoClause clauses
   formula_two = λ i d less. two_clause (get_or clauses i d) (formula.two i d less)
-
--- how long the lines are
-
-literal_short : (literal : Literal) → literal.atom < 65535 → length (literal_field literal) ≤ 6
-literal_short literal small = signed literal.positive
-  where
-    digits : length (decimal (literal.atom + 1)) ≤ 5
-    digits = length-decimal-le_wide 5 (literal.atom + 1) (omega arith) (omega arith) (omega arith)
-
-    signed : (b : Bool) → length (cond b (decimal (literal.atom + 1)) (45 ∷ decimal (literal.atom + 1))) ≤ 6
-    signed true = omega (arith, digits)
-    signed false = omega (arith, digits)
-
-clause_short : (clause : List Literal) → IsSmall clause → weight (clause_fields clause) ≤ 16
-clause_short [] small = omega arith
-clause_short (l ∷ []) small = omega (arith, literal_short l (All-head (λ x. x.atom < 65535) l [] small.atoms))
-clause_short (l ∷ k ∷ []) small =
-    omega (
-      arith,
-      literal_short l (All-head (λ x. x.atom < 65535) l (k ∷ []) small.atoms),
-      literal_short k (All-head (λ x. x.atom < 65535) k [] (All-tail (λ x. x.atom < 65535) l (k ∷ []) small.atoms)),
-    )
-clause_short (l ∷ k ∷ m ∷ rest) small = absurd (omega (arith, small.few))
-
-pub clauses_short : (clauses : List (List Literal)) → All IsSmall clauses → weight (flat_map clause_fields clauses) ≤ 16 * length clauses
-clauses_short [] small = omega arith
-clauses_short (clause ∷ clauses) small =
-    omega (
-      arith,
-      weight-append (clause_fields clause) (flat_map clause_fields clauses),
-      clause_short clause (All-head IsSmall clause clauses small),
-      clauses_short clauses (All-tail IsSmall clause clauses small),
-    )
-
-pub short_two : (id : ℕ) (clauses : List (List Literal)) → FitsDecimal id → All IsSmall clauses → length clauses ≤ 6112
-    → IsShortLine (L.Expr id (E.Two clauses))
-short_two id clauses at small few =
-    short_by (L.Expr id (E.Two clauses))
-    (omega (arith, decimal_short id at, decimal_short (length clauses) (omega (arith, few)), clauses_short clauses small, few))
-
-pub short_not : (id set : ℕ) → FitsDecimal id → FitsDecimal set → IsShortLine (L.Expr id (E.Not set))
-short_not id set a b = short_by (L.Expr id (E.Not set)) (omega (arith, decimal_short id a, decimal_short set b))
-
-pub short_before : (id set acts : ℕ) → FitsDecimal id → FitsDecimal set → FitsDecimal acts → IsShortLine (L.Expr id (E.Before set acts))
-short_before id set acts a b c =
-    short_by (L.Expr id (E.Before set acts)) (omega (arith, decimal_short id a, decimal_short set b, decimal_short acts c))

@@ -1,7 +1,7 @@
-pub mod Lists
 pub mod Listed
 pub mod Enclosing
 pub mod Trapped
+pub mod Covered
 pub mod Sides
 pub mod TwoBasics
 pub mod Formulas

@@ -1,8 +1,9 @@
 -- The clauses that deny conjunctions: when they are true, and which conjunctions are listed.
-use Rattle.std.proofs.Common.{◌≡◌, ℕ, ◌+◌, ◌-◌, ◌<◌, ◌≤◌, ◌∙◌, ◌⊎◌, ◌&&◌, ◌||◌, Bool, true, false, not, cond, IsTrue, ◌↔◌, List, [], ◌∷◌, ◌++◌, if◌then◌else◌, refl, sym, ap, subst, inl, inr, arith, append_assoc}
-use Rattle.std.proofs.lemmas.Bool.{lt-ltb, ltb-true}
+use Rattle.std.proofs.Common.{◌≡◌, ℕ, ◌+◌, ◌-◌, ◌<◌, ◌≤◌, ◌∙◌, ◌&&◌, ◌||◌, Bool, true, false, not, cond, IsTrue, ◌↔◌, List, [], ◌∷◌, ◌++◌, if◌then◌else◌, refl, sym, ap, subst, inl, inr, arith, append_assoc}
+use Rattle.std.proofs.lemmas.Bool.{and_from, and_parts, both_ways, cases_Bool, lt-ltb, ltb-true, not-true}
 use Rattle.std.proofs.lemmas.List.Elements.{All-append, All-cons, All-head, All-nil, All-tail, filter-append}
 use Rattle.std.proofs.lemmas.List.Folds.{list_all-append}
+use Rattle.std.proofs.lemmas.List.Concat.{flat_map-append}
 use Rattle.std.specs.List.{All, Contains, filter, flat_map, range_with_len}
 use Rattle.std.specs.Prelude.{nat_lt}
 use Rattle.hv_task.specs.State.{has_atom, names_atom}
@@ -11,29 +12,8 @@ use Rattle.hv_sets.specs.Cubes.{SpeakBelow, opposite}
 use Rattle.hv_sets.specs.Truth.{in_clause, in_clauses, in_cube, in_literal}
 use Rattle.hv_sets.specs.declared.literal.Literal.{Literal}
 use Rattle.hv_clauses.specs.Clausal.{AreClauses}
+use Rattle.hv_lines.proofs.Lists.{All-below, All-flat_map, All-range, in_range, pieces_more}
 use Rattle.hv_trap.specs.Conjunctions.{conjunctions, denying_clause, denial_in, denials_of, denies, denies_one, affirms, is_short, over_greater, over_one, over_two}
-use Rattle.hv_trap.proofs.Lists.{All-below, All-flat_map, All-range, and_both, and_left, and_right, in_range, pieces_more}
-
-pub bool_dec : (b : Bool) → (b ≡ true) ⊎ (b ≡ false)
-bool_dec true = inl refl
-bool_dec false = inr refl
-
-pub both_ways : (b : Bool) → b ≡ true → b ≡ false → ⊥
-both_ways b is fails = let e : true ≡ false = sym is ∙ fails in cc (e)
-
-pub not_true : (b : Bool) → not b ≡ true → b ≡ false
-not_true true e = absurd (cc (e))
-not_true false e = refl
-
-not_false : (b : Bool) → not b ≡ false → b ≡ true
-not_false true e = refl
-not_false false e = absurd (cc (e))
-
--- one list after the other
-
-pub flat_append : {X Y : Type 0} (f : X → List Y) (xs ys : List X) → flat_map f (xs ++ ys) ≡ flat_map f xs ++ flat_map f ys
-flat_append f [] ys = refl
-flat_append f (x ∷ xs) ys = ap (λ zs. f x ++ zs) (flat_append f xs ys) ∙ sym (append_assoc (f x) (flat_map f xs) (flat_map f ys))
 
 pub denials_next : (set : List Literal → Bool) (f : ℕ → List (List Literal)) (a n : ℕ) (old now new : List (List Literal)) → a ≤ n
     → now ≡ old ++ denials_of set (flat_map f (range_with_len a (n - a))) → new ≡ now ++ denials_of set (f n)
@@ -44,7 +24,7 @@ denials_next set f a n old now new upto is more =
     ∙ (ap (λ ys. ys ++ denials_of set (f n)) is
     ∙ (append_assoc old (denials_of set front) (denials_of set (f n))
     ∙ ap (λ ys. old ++ ys)
-    (sym (flat_append (denial_in set) front (f n))
+    (sym (flat_map-append (denial_in set) front (f n))
     ∙ ap (denials_of set) (pieces_more f a n [] front (front ++ f n) upto refl refl))))
 
 -- the clause that denies a conjunction is true where that is false
@@ -89,7 +69,7 @@ module _ (set : List Literal → Bool) (state : List Bool) where
 
   denied_one : (c : List Literal) (b : Bool) → b ≡ true → in_clauses (if b then denying_clause c ∷ [] else []) state ≡ true → in_cube c state ≡ false
   denied_one c false is all = absurd (cc (is))
-  denied_one c true is all = not_true (in_cube c state) (sym (denial_true c state) ∙ and_left (in_clause (denying_clause c) state) true all)
+  denied_one c true is all = not-true (in_cube c state) (sym (denial_true c state) ∙ (and_parts (in_clause (denying_clause c) state) true all).0)
 
   -- where all clauses are true, each conjunction of the set is false
   pub true_denials : (cs : List (List Literal)) → in_clauses (denials_of set cs) state ≡ true
@@ -98,18 +78,18 @@ module _ (set : List Literal → Bool) (state : List Bool) where
   true_denials (c ∷ cs) all =
       let both = sym (list_all-append (λ x. in_clause x state) (denial_in set c) (denials_of set cs)) ∙ all in
       All-cons (λ x. set x ≡ true → in_cube x state ≡ false) c cs
-      (λ is. denied_one c (set c) is (and_left (in_clauses (denial_in set c) state) (in_clauses (denials_of set cs) state) both))
-      (true_denials cs (and_right (in_clauses (denial_in set c) state) (in_clauses (denials_of set cs) state) both))
+      (λ is. denied_one c (set c) is (and_parts (in_clauses (denial_in set c) state) (in_clauses (denials_of set cs) state) both).0)
+      (true_denials cs (and_parts (in_clauses (denial_in set c) state) (in_clauses (denials_of set cs) state) both).1)
 
   broken_one : (c : List Literal) (b : Bool) → in_clauses (if b then denying_clause c ∷ [] else []) state ≡ false
       → (b ≡ true) × (in_cube c state ≡ true)
   broken_one c false all = absurd (cc (all))
   broken_one c true all =
-      elim (bool_dec (in_cube c state)) [
+      elim (cases_Bool (in_cube c state)) [
         | inl is ↦ (refl, is)
         | inr fails ↦
-            absurd (both_ways (in_clauses (denying_clause c ∷ []) state)
-            (and_both (in_clause (denying_clause c) state) true (denial_true c state ∙ ap not fails) refl) all)
+            absurd (both_ways (in_clauses (denying_clause c ∷ []) state) all
+            (and_from (in_clause (denying_clause c) state) true (denial_true c state ∙ ap not fails) refl))
       ]
 
   -- where some clause is false, some conjunction of the set is true
@@ -117,13 +97,13 @@ module _ (set : List Literal → Bool) (state : List Bool) where
       → (c : List Literal) × (set c ≡ true) × (in_cube c state ≡ true)
   false_denials [] all = absurd (cc (all))
   false_denials (c ∷ cs) all =
-      elim (bool_dec (in_clauses (denial_in set c) state)) [
+      elim (cases_Bool (in_clauses (denial_in set c) state)) [
         | inl is ↦
-            elim (bool_dec (in_clauses (denials_of set cs) state)) [
+            elim (cases_Bool (in_clauses (denials_of set cs) state)) [
               | inl also ↦
-                  absurd (both_ways (in_clauses (denial_in set c ++ denials_of set cs) state)
+                  absurd (both_ways (in_clauses (denial_in set c ++ denials_of set cs) state) all
                   (list_all-append (λ x. in_clause x state) (denial_in set c) (denials_of set cs)
-                  ∙ and_both (in_clauses (denial_in set c) state) (in_clauses (denials_of set cs) state) is also) all)
+                  ∙ and_from (in_clauses (denial_in set c) state) (in_clauses (denials_of set cs) state) is also))
               | inr fails ↦ false_denials cs fails
             ]
         | inr fails ↦ let w = broken_one c (set c) fails in (c, w.0, w.1)
@@ -158,7 +138,7 @@ below_lt a b e = ltb-true a b e
 lt_below : (a b : ℕ) → a < b → nat_lt a b ≡ true
 lt_below a b e = lt-ltb a b e
 
--- what affirms of each listed conjunction affirms of each that is short and denies a goal atom
+-- what holds of each listed conjunction holds of each that is short and denies a goal atom
 module _ (P : List Literal → Type 0) (n : ℕ) (goal : List ℕ) (all : All P (conjunctions n)) where
   single : (p : ℕ) → p < n → P (denies p ∷ [])
   single p below =
@@ -199,8 +179,8 @@ module _ (P : List Literal → Type 0) (n : ℕ) (goal : List ℕ) (all : All P 
       of_one l.atom l.positive (names_atom goal l.atom) (below_lt l.atom n short) denied
   listed (l ∷ m ∷ []) short denied =
       of_two l.atom m.atom l.positive m.positive (names_atom goal l.atom) (names_atom goal m.atom)
-      (below_lt l.atom m.atom (and_left (nat_lt l.atom m.atom) (nat_lt m.atom n) short))
-      (below_lt m.atom n (and_right (nat_lt l.atom m.atom) (nat_lt m.atom n) short)) denied
+      (below_lt l.atom m.atom (and_parts (nat_lt l.atom m.atom) (nat_lt m.atom n) short).0)
+      (below_lt m.atom n (and_parts (nat_lt l.atom m.atom) (nat_lt m.atom n) short).1) denied
   listed (l ∷ m ∷ k ∷ c) short denied = absurd (cc (short))
 
 -- each listed conjunction is short
@@ -219,7 +199,7 @@ all_short n =
 
     two : (p q : ℕ) → p < q → q < n → All Short (over_two p q)
     two p q less below =
-        let short = and_both (nat_lt p q) (nat_lt q n) (lt_below p q less) (lt_below q n below) in
+        let short = and_from (nat_lt p q) (nat_lt q n) (lt_below p q less) (lt_below q n below) in
         All-cons Short (denies p ∷ denies q ∷ []) ((denies p ∷ affirms q ∷ []) ∷ (affirms p ∷ denies q ∷ []) ∷ []) short
         (All-cons Short (denies p ∷ affirms q ∷ []) ((affirms p ∷ denies q ∷ []) ∷ []) short
         (All-cons Short (affirms p ∷ denies q ∷ []) [] short (All-nil Short)))
@@ -230,8 +210,8 @@ denial_below n [] short = absurd (cc (short))
 denial_below n (l ∷ []) short =
     All-cons (λ (x : Literal). x.atom < n) (opposite l) [] (below_lt l.atom n short) (All-nil (λ (x : Literal). x.atom < n))
 denial_below n (l ∷ m ∷ []) short =
-    let less = below_lt l.atom m.atom (and_left (nat_lt l.atom m.atom) (nat_lt m.atom n) short) in
-    let below = below_lt m.atom n (and_right (nat_lt l.atom m.atom) (nat_lt m.atom n) short) in
+    let less = below_lt l.atom m.atom (and_parts (nat_lt l.atom m.atom) (nat_lt m.atom n) short).0 in
+    let below = below_lt m.atom n (and_parts (nat_lt l.atom m.atom) (nat_lt m.atom n) short).1 in
     All-cons (λ (x : Literal). x.atom < n) (opposite l) (opposite m ∷ []) (omega (arith, less, below))
     (All-cons (λ (x : Literal). x.atom < n) (opposite m) [] below (All-nil (λ (x : Literal). x.atom < n)))
 denial_below n (l ∷ m ∷ k ∷ c) short = absurd (cc (short))
@@ -250,7 +230,7 @@ denials_below n set short (c ∷ cs) =
 pub named_as : (list : List ℕ) (p : ℕ) (b : Bool) → IsTrue b ↔ Contains list p → b ≡ names_atom list p
 named_as list p true tells = sym ((names_atom-Decides list p).1 (tells.0 refl))
 named_as list p false tells =
-    elim (bool_dec (names_atom list p)) [
+    elim (cases_Bool (names_atom list p)) [
       | inl is ↦ tells.1 ((names_atom-Decides list p).0 is) ∙ sym is
       | inr fails ↦ sym fails
     ]
@@ -265,17 +245,3 @@ denials_first set f n old now new is more =
     subst (λ k. new ≡ old ++ denials_of set (flat_map f (range_with_len 0 k))) next
     (denials_next set f 0 n old now new (omega arith)
     (subst (λ k. now ≡ old ++ denials_of set (flat_map f (range_with_len 0 k))) none is) more)
-
--- the clauses over two atoms, put one after the other
-pub denials_three : (set : List Literal → Bool) (a b c : List Literal) (old one two new : List (List Literal)) → one ≡ old ++ denial_in set a
-    → two ≡ one ++ denial_in set b → new ≡ two ++ denial_in set c → new ≡ old ++ denials_of set (a ∷ b ∷ c ∷ [])
-denials_three set a b c old one two new first second third =
-    third
-    ∙ (ap (λ ys. ys ++ denial_in set c) (second ∙ ap (λ ys. ys ++ denial_in set b) first)
-    ∙ (append_assoc (old ++ denial_in set a) (denial_in set b) (denial_in set c)
-    ∙ (append_assoc old (denial_in set a) (denial_in set b ++ denial_in set c)
-    ∙ ap (λ ys. old ++ (denial_in set a ++ (denial_in set b ++ ys))) (sym (append_empty (denial_in set c))))))
-  where
-    append_empty : (xs : List (List Literal)) → xs ++ [] ≡ xs
-    append_empty [] = refl
-    append_empty (x ∷ xs) = ap (λ zs. x ∷ zs) (append_empty xs)

@@ -1,6 +1,7 @@
 -- The lines of a proof are determined by the task; they conclude, and are good where the initial state satisfies a conjunction of the
 -- greatest trap.
 use Rattle.std.proofs.Common.{◌≡◌, ◌≤◌, ◌∙◌, Bool, true, false, List, length, sym, ap, subst}
+use Rattle.std.proofs.lemmas.Bool.{both_ways}
 use Rattle.hv_task.specs.Strips.{Strips, atoms, start_state}
 use Rattle.hv_lines.specs.Drafts.{IsGoodTable}
 use Rattle.hv_lines.specs.Judged.{Concludes}
@@ -13,7 +14,6 @@ use Rattle.hv_trap.specs.Written.{IsTrapProof, trap_proof}
 use Rattle.hv_trap.proofs.Block.{good_trap_proof, trap_concludes}
 use Rattle.hv_trap.proofs.Enclosing.{enclose_below}
 use Rattle.hv_trap.proofs.Formulas.{trap_formula}
-use Rattle.hv_trap.proofs.Listed.{both_ways}
 use Rattle.hv_trap.proofs.Trapped.{trap_encloses, trap_once, trap_satisfied}
 
 pub trap_proof_once : (task : Strips) (x y : List Line) → IsTrapProof task x → IsTrapProof task y → x ≡ y
@@ -39,8 +39,9 @@ module _ (task : Strips) (clauses : List (List Literal)) (trap : AreTrapClauses 
   module _ (b : Bool) (tells : b ≡ in_clauses clauses start) where
     pub start_out : b ≡ true → IsSatisfied task (start_state task) → ⊥
     start_out is satisfied =
-        both_ways (in_clauses clauses start) (sym tells ∙ is)
+        both_ways (in_clauses clauses start)
         (ap (in_clauses clauses) is_start ∙ (trap_satisfied task clauses trap (start_state task)).1 satisfied)
+        (sym tells ∙ is)
 
     pub start_breaks : b ≡ false → in_clauses clauses (start_state task) ≡ false
     start_breaks is = sym (ap (in_clauses clauses) is_start) ∙ (sym tells ∙ is)

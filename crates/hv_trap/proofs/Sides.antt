@@ -1,30 +1,15 @@
 -- The sides of a basic statement by the literals that are their leaves, and what it asks.
-use Rattle.std.proofs.Common.{◌≡◌, ℕ, zero, suc, ◌+◌, ◌≤◌, ◌∙◌, ◌⊎◌, ◌++◌, Bool, true, false, not, List, [], ◌∷◌, Option, Some, None, length, refl, sym, ap, subst, inl, inr, arith}
+use Rattle.std.proofs.Common.{◌≡◌, ℕ, ◌+◌, ◌≤◌, ◌∙◌, ◌⊎◌, ◌++◌, Bool, true, false, not, List, [], ◌∷◌, Option, length, refl, sym, ap, subst, inl, inr}
 use Rattle.std.proofs.lemmas.List.Elements.{Contains-append_cases, Contains-append_left, Contains-append_right}
 use Rattle.std.specs.List.{Contains}
-use Rattle.hv_lines.specs.Literals.{IsLiteral, IsPlainExpr}
-use Rattle.hv_lines.specs.Numbering.{expr_at}
-use Rattle.hv_lines.specs.Shapes.{Askings, AskingsRise, HasSides, IsAsked, IsFamilyOf, IsLeftLeaf, IsLiteralOf, IsOfFamily, IsOrLeaf, IsQuestion, Question, asks_sides_after, family_of, most_operands}
+use Rattle.hv_lines.specs.Literals.{IsLiteral}
+use Rattle.hv_lines.specs.Shapes.{Askings, AskingsRise, HasSides, IsAsked, IsFamilyOf, IsLeftLeaf, IsLiteralOf, IsOfFamily, IsOrLeaf, IsQuestion, Question, asks_sides_after, most_operands}
 use Rattle.hv_lines.specs.declared.family.FormulaFamily.TheVariants as F
-use Rattle.hv_lines.specs.declared.line.Expr.{Expr}
 use Rattle.hv_lines.specs.declared.line.Line.{Line}
 use Rattle.hv_lines.specs.declared.line.Word.{Word}
+use Rattle.hv_lines.proofs.GoodQuestions.{IsSetOf}
 use Rattle.hv_lines.proofs.Shaped.{literal_from, literal_once}
-
--- lists
-
-pub head_in : {X : Type 0} (x : X) (xs : List X) → Contains (x ∷ xs) x
-head_in x xs = (0, omega arith, refl)
-
-pub tail_in : {X : Type 0} (x : X) (xs : List X) (y : X) → Contains xs y → Contains (x ∷ xs) y
-tail_in x xs y c = (suc c.0, omega (arith, c.1), c.2)
-
-pub cons_cases : {X : Type 0} (x : X) (xs : List X) (y : X) → Contains (x ∷ xs) y → (x ≡ y) ⊎ Contains xs y
-cons_cases x xs y (zero, within, e) = inl e
-cons_cases x xs y (suc k, within, e) = inr (k, omega (arith, within), e)
-
-pub nothing_in : {X : Type 0} (y : X) → Contains [] y → ⊥
-nothing_in y c = omega (arith, c.1)
+use Rattle.hv_lines.proofs.Elements.{cons_cases, head_in, nothing_in, tail_in}
 
 -- literals: formulas and constants, each itself (true) or its negation (false)
 abbrev pub Literals : Type 0
@@ -145,8 +130,7 @@ two_question word early lefts rights acts = record {
 
 -- the set is a constant or a 2CNF formula
 abbrev pub IsTwoSet : List Line → ℕ → Type 0
-IsTwoSet lines set =
-    (expr : Expr) × (expr_at lines set ≡ Some expr) × IsPlainExpr expr × ((family_of expr ≡ None) ⊎ (family_of expr ≡ Some F.Two))
+IsTwoSet lines set = IsSetOf F.Two lines set
 
 not_not : (b : Bool) → b ≡ not (not b)
 not_not true = refl

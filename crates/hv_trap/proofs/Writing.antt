@@ -1,6 +1,6 @@
 -- What stands after the pruner's answer: in each of its cases.
-use Rattle.std.proofs.Common.{◌≡◌, ℕ, zero, suc, ◌+◌, ◌≤◌, ◌∙◌, ◌⊎◌, ◌++◌, Bool, false, List, [], ◌∷◌, Option, Some, None, Result, Ok, Err, length, slice_get, refl, sym, ap, subst, inl, inr, arith}
-use Rattle.std.proofs.lemmas.Option.{same_Some}
+use Rattle.std.proofs.Common.{◌≡◌, ℕ, ◌+◌, ◌≤◌, ◌∙◌, ◌++◌, Bool, false, List, [], ◌∷◌, Option, Some, None, Result, Ok, Err, length, slice_get, refl, sym, ap, subst, inl, inr, arith}
+use Rattle.std.proofs.lemmas.Bool.{both_ways, cases_Bool}
 use Rattle.std.specs.Option.{SomeIff}
 use Rattle.std.specs.Result.{IfOk, OnErr}
 use Rattle.hv_task.specs.Strips.{Strips, IsState, atoms}
@@ -17,9 +17,10 @@ use Rattle.hv_lines.specs.declared.line.Statement.TheVariants as T
 use Rattle.hv_lines.specs.declared.line.Word.TheVariants as W
 use Rattle.hv_lines.specs.declared.note.Note.{Note}
 use Rattle.hv_lines.proofs.Drafting.{table_of}
-use Rattle.hv_lines.proofs.Extended.{begun_acts, begun_dead, begun_empty, begun_goal, exprs_few, extends_by, extends_none, first_noted_once, knowns_few, noted_dead}
+use Rattle.hv_lines.proofs.Extended.{exprs_few, extends_by, extends_none, first_noted_once, knowns_few, noted_dead, prelude_begins}
 use Rattle.hv_lines.proofs.Carried.{expr_onto}
 use Rattle.hv_lines.proofs.Laws.{expr_at_here, set_in, set_out, statement_at_here}
+use Rattle.hv_lines.proofs.Elements.{last_cases}
 use Rattle.hv_trap.specs.Working.Fitting.{notes_fit}
 use Rattle.hv_trap.specs.Pruner.{AreTrapNotes, IsTrapBlock, IsTrapSet, TrapCovers}
 use Rattle.hv_trap.specs.Working.Pruner.{IsOutcome}
@@ -28,15 +29,7 @@ use Rattle.hv_trap.specs.Written.{trap_block}
 use Rattle.hv_trap.proofs.Block.{good_trap_block}
 use Rattle.hv_trap.proofs.Enclosing.{enclose_below}
 use Rattle.hv_trap.proofs.Formulas.{trap_formula}
-use Rattle.hv_trap.proofs.Listed.{bool_dec, both_ways}
 use Rattle.hv_trap.proofs.Trapped.{trap_encloses, trap_satisfied}
-
--- the last of a list, or one before
-last_cases : {X : Type 0} (xs : List X) (x y : X) (k : ℕ) → slice_get (xs ++ x ∷ []) k ≡ Some y → (slice_get xs k ≡ Some y) ⊎ (x ≡ y)
-last_cases [] x y zero at = inr (same_Some x y at)
-last_cases [] x y (suc k) at = absurd (cc (at))
-last_cases (z ∷ xs) x y zero at = inl at
-last_cases (z ∷ xs) x y (suc k) at = last_cases xs x y k at
 
 -- the clauses of the trap are over the atoms of a state
 pub trap_below : (task : Strips) (clauses : List (List Literal)) (state : List Bool) → AreTrapClauses task clauses → IsState task state
@@ -49,7 +42,7 @@ module _ (task : Strips) (lines : List Line) (table : IsTable lines) (set formul
     (negates : expr_at lines set ≡ Some (E.Not formula)) (says : expr_at lines formula ≡ Some (E.Two clauses)) (state : List Bool) where
   pub set_breaks : states_in task lines set state → in_clauses clauses state ≡ false
   set_breaks inside =
-      elim (bool_dec (in_clauses clauses state)) [
+      elim (cases_Bool (in_clauses clauses state)) [
         | inl all ↦
             absurd (set_out task (draft_setting task).nodes lines set (E.Not formula) table negates state inside
             (set_in task (draft_setting task).nodes lines formula (E.Two clauses) table says state all))
@@ -59,8 +52,8 @@ module _ (task : Strips) (lines : List Line) (table : IsTable lines) (set formul
   pub breaks_set : in_clauses clauses state ≡ false → states_in task lines set state
   breaks_set fails =
       set_in task (draft_setting task).nodes lines set (E.Not formula) table negates state
-      (λ inside. both_ways (in_clauses clauses state)
-      (set_out task (draft_setting task).nodes lines formula (E.Two clauses) table says state inside) fails)
+      (λ inside. both_ways (in_clauses clauses state) fails
+      (set_out task (draft_setting task).nodes lines formula (E.Two clauses) table says state inside))
 
 -- the clauses that stand there are those of the trap
 pub asked_clauses : (task : Strips) (lines : List Line) (set : ℕ) → IsTrapSet task lines set → (formula : ℕ) (clauses : List (List Literal))
@@ -135,8 +128,8 @@ pub written_good : (task : Strips) (lines : List Line) (clauses : List (List Lit
     → IsGoodTable task (onto (trap_block (expr_count lines) (known_count lines) clauses) lines)
 written_good task lines clauses begins good few small trap =
     good_trap_block task lines good (expr_count lines) (known_count lines) clauses refl refl (omega (arith, few, exprs_few lines))
-    (omega (arith, few, knowns_few lines)) (begun_acts task lines begins good) (begun_empty task lines begins good)
-    (begun_goal task lines begins good) (begun_dead task lines begins good) (trap_formula task clauses small trap)
+    (omega (arith, few, knowns_few lines)) (prelude_begins task lines begins good)
+    (trap_formula task clauses small trap)
 
 -- where it is written
 

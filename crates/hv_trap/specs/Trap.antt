@@ -32,6 +32,11 @@ AreTrapClauses task clauses =
     × ((c : List Literal) → (trap c ≡ true) ↔ InGreatestTrap task c)
     × (clauses ≡ denials trap (atoms task))
 
+-- the state satisfies a conjunction of the greatest trap
+abbrev pub IsSatisfied : Strips → List Bool → Type 0
+IsSatisfied task state =
+    (c : List Literal) × InGreatestTrap task c × (in_cube c state ≡ true)
+
 -- How the greatest trap is found: conjunctions are taken out of a set.
 
 -- the action leads from no state that breaks a clause to one in which all are true
@@ -40,8 +45,3 @@ Stays task clauses number =
     (action : Action) → slice_get task.actions number ≡ Some action
     → (state : List Bool) → IsState task state → applicable action state ≡ true
     → in_clauses clauses (successor action state) ≡ true → in_clauses clauses state ≡ true
-
--- the state satisfies a conjunction of the greatest trap
-abbrev pub IsSatisfied : Strips → List Bool → Type 0
-IsSatisfied task state =
-    (c : List Literal) × InGreatestTrap task c × (in_cube c state ≡ true)

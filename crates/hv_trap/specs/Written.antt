@@ -1,5 +1,5 @@
--- The proof that is written where the initial state satisfies a conjunction of the greatest trap: the
--- states that satisfy one are dead.
+-- The proof that is written where the initial state satisfies a conjunction of the greatest trap:
+-- the states that satisfy one are dead.
 use Rattle.std.specs.Prelude.{◌≡◌, ◌≤◌, ◌+◌, ℕ, List, [], ◌∷◌, length}
 use Rattle.std.specs.List.{All}
 use Rattle.hv_task.specs.Strips.{Strips}

@@ -11,7 +11,8 @@ use hv_sets::{Clauses, Literal};
 use hv_task::{AtomList, Task};
 use std::alloc::{AllocError, Global};
 
-/// The clauses that deny all conjunctions of one or two literals with a negated goal atom, in order.
+/// The clauses that deny all conjunctions of one or two literals with a negated goal atom, in
+/// order.
 pub(crate) fn candidates(alloc: Global, task: &Task) -> Result<Clauses, AllocError>
     ensures { IfOk result (λ clauses.
         clauses ≡ denials (denies_one task.now.goal) (atoms task.now)) }

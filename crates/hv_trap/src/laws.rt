@@ -1,6 +1,7 @@
 //! What is true of the greatest trap, whatever program finds it.
 
 ghost use Rattle.std.specs.Prelude.{◌≡◌, ◌≤◌, ◌↔◌, ℕ, Bool, true, false, List, length};
+ghost use Rattle.hv_task.specs.Deadness.{AreDead};
 ghost use Rattle.hv_task.specs.Strips.{Strips, atoms, is_goal, start_state};
 ghost use Rattle.hv_sets.specs.Truth.{in_clauses};
 ghost use Rattle.hv_sets.specs.declared.literal.Literal.{Literal};
@@ -12,12 +13,14 @@ ghost use Rattle.hv_trap.specs.Written.{IsModest, IsTrapProof};
 
 /// Does nothing: its contract states that a task has one list of clauses of its greatest trap; that
 /// they are true in the states that satisfy no conjunction of the greatest trap, and in no others;
-/// that no action leads from another state to such a one; that each goal state is such a one; and
-/// that up to 64 atoms there are at most 6,112.
+/// that no action leads from another state to such a one; that each goal state is such a one; that
+/// up to 64 atoms there are at most 6,112; and that each state is dead that satisfies a conjunction
+/// of the greatest trap: no plan traverses it. So each state is dead that `TrapPruner` covers.
 pub fn laws_of_traps()
     ensures once { (task : Strips) (x y : List (List Literal))
         → AreTrapClauses task x → AreTrapClauses task y → x ≡ y }
-    ensures satisfied { (task : Strips) (clauses : List (List Literal)) → AreTrapClauses task clauses
+    ensures satisfied { (task : Strips) (clauses : List (List Literal))
+        → AreTrapClauses task clauses
         → (state : List Bool) → (in_clauses clauses state ≡ false) ↔ IsSatisfied task state }
     ensures stays { (task : Strips) (clauses : List (List Literal)) → AreTrapClauses task clauses
         → (number : ℕ) → Stays task clauses number }
@@ -26,6 +29,7 @@ pub fn laws_of_traps()
         → is_goal task state ≡ true → in_clauses clauses state ≡ true }
     ensures few { (task : Strips) (clauses : List (List Literal)) → AreTrapClauses task clauses
         → atoms task ≤ 64 → length clauses ≤ 6112 }
+    ensures dead { (task : Strips) → AreDead task (IsSatisfied task) }
 {}
 
 /// Does nothing: its contract states that a task has one proof by its greatest trap, of seventeen

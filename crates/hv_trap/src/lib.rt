@@ -1,5 +1,5 @@
-//! The greatest trap of a task: the conjunctions of which one holds for ever, with a part of the goal
-//! denied, once one holds.
+//! The greatest trap of a task: the conjunctions of which one holds for ever, with a part of the
+//! goal denied, once one holds.
 #![tactic(auto)]
 
 mod conjunctions;

@@ -17,8 +17,8 @@ use hv_sets::Clauses;
 use hv_task::Task;
 use std::alloc::{AllocError, Global};
 
-/// The proof that the task has no plan where the initial state satisfies a conjunction of the greatest
-/// trap; otherwise there is none.
+/// The proof that the task has no plan where the initial state satisfies a conjunction of the
+/// greatest trap; otherwise there is none.
 pub fn prove_trap(alloc: Global, task: &Task) -> Result<Option<Draft>, TrapFault>
     ensures few { IfOk result (λ _. atoms task.now ≤ 64) }
     ensures many { IfErr result (λ fault. (fault ≡ F.TooManyAtoms) ↔ (64 < atoms task.now)) }

@@ -1,6 +1,6 @@
-//! Where an action may lead from a state in which a clause is false to one in which all are true, by
-//! what follows from which literals. Nothing is promised of what is seen here: it is tried on the
-//! clauses before anything is taken out, and what isn't seen is found by queries.
+//! Where an action may lead from a state in which a clause is false to one in which all are true,
+//! by what follows from which literals. Nothing is promised of what is seen here: it is tried on
+//! the clauses before anything is taken out, and what isn't seen is found by queries.
 
 ghost use Rattle.std.specs.Prelude.{◌<◌};
 ghost use Rattle.hv_task.specs.State.{AreBelow};
@@ -25,7 +25,8 @@ pub(crate) struct Rows {
     forced: Mask,
 }
 
-/// What an action asks for, the atoms that it sets, and what is true after it where all clauses are.
+/// What an action asks for, the atoms that it sets, and what is true after it where all clauses
+/// are.
 #[derive(Clone, Copy)]
 struct Step {
     pre: u64,
@@ -50,8 +51,8 @@ impl Rows {
         }
     }
 
-    /// The literals from which other ones follow, by one clause or by any number, than in other rows:
-    /// all, where other ones follow from the clauses alone.
+    /// The literals from which other ones follow, by one clause or by any number, than in other
+    /// rows: all, where other ones follow from the clauses alone.
     pub(crate) fn changed(&self, other: &Rows) -> Mask {
         if !self.forced.same(other.forced) {
             return Mask::all();
@@ -77,8 +78,8 @@ impl Rows {
             || self.concern_others(&action.del, true, changed)
     }
 
-    // Whether some of these are the opposites of literals that follow by one clause from these atoms,
-    // or from their negations.
+    // Whether some of these are the opposites of literals that follow by one clause from these
+    // atoms, or from their negations.
     fn concern_others(&self, atoms: &AtomList, positive: bool, changed: Mask) -> bool
         requires { AreBelow 64 atoms.now }
     {
@@ -135,8 +136,8 @@ impl Rows {
         None
     }
 
-    // The same where the literal is true before and false after the action, and some clause that has
-    // its opposite is false before.
+    // The same where the literal is true before and false after the action, and some clause that
+    // has its opposite is false before.
     fn lacked_from(&self, step: Step, before: Literal) -> Option<u64>
         requires { before.atom < 64 }
     {

@@ -13,8 +13,8 @@ use hv_sets::Clauses;
 use hv_task::{State, Task};
 use std::alloc::{AllocError, Global};
 
-/// What follows by the clauses that are left, from which literals that changed in the last sweep and
-/// in this one, and room for two states.
+/// What follows by the clauses that are left, from which literals that changed in the last sweep
+/// and in this one, and room for two states.
 #[derive(Drop)]
 pub(crate) struct Room {
     rows: Rows,
@@ -43,8 +43,8 @@ pub(crate) fn take_out(alloc: Global, task: &Task, clauses: &mut Clauses) -> Res
     Ok(())
 }
 
-// Visits each action of which something else can be seen than when it was visited last. The answer is
-// whether a clause was taken out.
+// Visits each action of which something else can be seen than when it was visited last. The answer
+// is whether a clause was taken out.
 fn sweep(
     alloc: Global,
     task: &Task,
@@ -145,7 +145,8 @@ fn hold_others(state: &mut State, lacked: u64)
     }
 }
 
-// Whether a clause is false in the state, and the action leads from it to one in which all are true.
+// Whether a clause is false in the state, and the action leads from it to one in which all are
+// true.
 fn escapes(task: &Task, action: u32, clauses: &Clauses, before: &State, after: &mut State) -> bool
     requires action { action < length task.now.actions }
     requires clauses { AreClauses (atoms task.now) clauses.now }

@@ -17,8 +17,8 @@ use std::alloc::{AllocError, Global};
 // The most atoms of a task whose traps are looked at.
 const MOST_ATOMS: u32 = 64;
 
-/// The clauses that deny the conjunctions of the greatest trap: those of one literal by rising atom,
-/// then those over each two atoms, by the lesser and then by the greater one.
+/// The clauses that deny the conjunctions of the greatest trap: those of one literal by rising
+/// atom, then those over each two atoms, by the lesser and then by the greater one.
 pub fn greatest_trap(alloc: Global, task: &Task) -> Result<Clauses, TrapFault>
     ensures few { IfOk result (λ _. atoms task.now ≤ 64) }
     ensures many { IfErr result (λ fault. (fault ≡ F.TooManyAtoms) ↔ (64 < atoms task.now)) }

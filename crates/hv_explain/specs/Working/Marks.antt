@@ -25,4 +25,5 @@ pub record AreMarkedFrom (from : ℕ) (lines : List Line) (marks : List Bool) : 
   pub concludes : (id : ℕ) → IsConclusion lines id → is_line_marked marks id ≡ true
   pub needed : (id : ℕ) → is_line_marked marks id ≡ true → IsNeeded lines id
   pub keeps : (id : ℕ) (premises : List ℕ) → from ≤ id → premises_at lines id ≡ Some premises
-      → is_line_marked marks id ≡ true → All (λ premise. is_line_marked marks premise ≡ true) premises
+      → is_line_marked marks id ≡ true
+      → All (λ premise. is_line_marked marks premise ≡ true) premises

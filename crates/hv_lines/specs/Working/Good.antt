@@ -1,4 +1,4 @@
--- Working definitions beside those of `Good`: what contracts of private functions and proofs say.
+-- Working definitions beside those of `Good`: for private contracts and proofs.
 use Rattle.std.specs.Prelude.{List}
 use Rattle.hv_lines.specs.Spelling.{IsSpelled}
 use Rattle.hv_lines.specs.Numbering.{IsNumbered}

@@ -1,4 +1,4 @@
--- Working definitions beside those of `Queries`: what contracts of private functions and proofs say.
+-- Working definitions beside those of `Queries`: for private contracts and proofs.
 use Rattle.std.specs.Prelude.{ℕ, List, length}
 use Rattle.hv_lines.specs.declared.family.FormulaFamily.{FormulaFamily}
 use Rattle.hv_lines.specs.declared.family.FormulaFamily.TheVariants as F

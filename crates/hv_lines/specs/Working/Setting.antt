@@ -1,4 +1,4 @@
--- Working definitions beside those of `Setting`: what contracts of private functions and proofs say.
+-- Working definitions beside those of `Setting`: for private contracts and proofs.
 use Rattle.std.specs.Prelude.{◌≡◌, ◌<◌, ◌≤◌}
 use Rattle.hv_task.specs.Strips.{atoms}
 use Rattle.hv_lines.specs.Setting.{Setting, most_budget}

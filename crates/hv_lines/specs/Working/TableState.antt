@@ -1,4 +1,4 @@
--- Working definitions beside those of `TableState`: what contracts of private functions and proofs say.
+-- Working definitions beside those of `TableState`: for private contracts and proofs.
 use Rattle.std.specs.Prelude.{◌≡◌, ◌<◌, ◌-◌, ℕ, List, Some, Vec, length, slice_get, slice_index, vec_len, vec_capacity}
 use Rattle.hv_lines.specs.Numbering.{acts_count, acts_at, expr_count, expr_at, known_count, statement_at, word_at, premises_at, IsTable}
 use Rattle.hv_lines.specs.declared.line.Acts.{Acts}

@@ -41,7 +41,8 @@ IsActionSettled held queue a place =
     ⊎ AreIn (has_atom held) a.add
 
 -- what the search keeps
-pub record IsKeptSearch (actions : List Action) (held : List Bool) (queue passed : List ℕ) : Type 0 where
+pub record IsKeptSearch (actions : List Action) (held : List Bool)
+    (queue passed : List ℕ) : Type 0 where
   pub size : length passed ≡ length actions
   pub below : AreBelow (length held) queue
   pub each : (k : ℕ) (a : Action) → slice_get actions k ≡ Some a

@@ -1,5 +1,5 @@
--- Working definitions beside those of `Written`: what contracts of private functions and proofs say.
-use Rattle.std.specs.Prelude.{◌≡◌, ◌-◌, ◌≤◌, ℕ, Bool, true, List, Some, length, slice_get}
+-- Working definitions beside those of `Written`: for private contracts and proofs.
+use Rattle.std.specs.Prelude.{◌≡◌, ◌≤◌, ℕ, Bool, true, List, Some, length, slice_get}
 use Rattle.std.specs.List.{All}
 use Rattle.hv_task.specs.declared.action.Action.{Action}
 use Rattle.hv_task.specs.State.{applicable, successor}

@@ -1,4 +1,4 @@
--- Working definitions beside those of `Pruner`: what contracts of private functions and proofs say.
+-- Working definitions beside those of `Pruner`: for private contracts and proofs.
 use Rattle.std.specs.Prelude.{◌≡◌, ◌↔◌, IsTrue, ℕ, Bool, List, Option, is_some, IfSome, IfNone}
 use Rattle.hv_task.specs.Strips.{Strips}
 use Rattle.hv_lines.specs.Drafts.{DraftState}

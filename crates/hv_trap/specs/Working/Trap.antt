@@ -1,4 +1,4 @@
--- Working definitions beside those of `Trap`: what contracts of private functions and proofs say.
+-- Working definitions beside those of `Trap`: for private contracts and proofs.
 use Rattle.std.specs.Prelude.{◌≡◌, ℕ, Bool, true, false, List, Some, slice_get}
 use Rattle.hv_task.specs.declared.action.Action.{Action}
 use Rattle.hv_task.specs.State.{applicable, successor}

@@ -1,6 +1,6 @@
 use Rattle.hv_reach.specs.Reached.{has_pair}
 use Rattle.hv_reach.specs.Written.{pair_clauses}
-use Rattle.hv_reach.proofs.Lists.{pieces_more}
+use Rattle.hv_lines.proofs.Lists.{pieces_more}
 use Rattle.hv_reach.proofs.paired.deny_row.Goals as goal
 
 pub loop-second-preserved : goal.loop-second-preserved

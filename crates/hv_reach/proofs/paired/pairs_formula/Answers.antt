@@ -1,6 +1,6 @@
 use Rattle.hv_reach.specs.Reached.{has_pair}
 use Rattle.hv_reach.specs.Written.{row_clauses}
-use Rattle.hv_reach.proofs.Lists.{pieces_next}
+use Rattle.hv_lines.proofs.Lists.{pieces_next}
 use Rattle.hv_reach.proofs.paired.pairs_formula.Goals as goal
 
 pub loop-first-preserved : goal.loop-first-preserved

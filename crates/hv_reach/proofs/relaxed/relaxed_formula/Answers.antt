@@ -1,6 +1,6 @@
 use Rattle.hv_task.specs.State.{has_atom}
 use Rattle.hv_reach.specs.Written.{atom_clauses}
-use Rattle.hv_reach.proofs.Lists.{pieces_next}
+use Rattle.hv_lines.proofs.Lists.{pieces_next}
 use Rattle.hv_reach.proofs.relaxed.relaxed_formula.Goals as goal
 
 pub loop-atom-preserved : goal.loop-atom-preserved

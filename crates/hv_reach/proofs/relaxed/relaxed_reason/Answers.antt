@@ -1,8 +1,8 @@
 use Rattle.std.proofs.Common.{◌≡◌, ◌∙◌, true, refl, subst, sym}
 use Rattle.std.specs.List.{All}
+use Rattle.std.proofs.lemmas.Bool.{both_ways}
 use Rattle.hv_task.specs.State.{has_atom}
 use Rattle.hv_reach.proofs.Deciding.{relaxed_excludes, relaxed_reached}
-use Rattle.hv_reach.proofs.Denials.{false_true}
 use Rattle.hv_reach.proofs.relaxed.relaxed_reason.Goals as goal
 
 pub returns-then-row_has-clause-some : goal.returns-then-row_has-clause-some
@@ -18,7 +18,7 @@ pub returns-clause-some : goal.returns-clause-some
 returns-clause-some c =
     let r = has_atom c.in_ok-reached.reached in
     let out = relaxed_excludes c.args.task.now c.args.state.now r (λ p. (c.in_ok-reached.ensures.reached p, c.in_ok-reached.ensures.all p))
-    (λ all. false_true c.row_has.result c.if-row_has.false
+    (λ all. both_ways c.row_has.result c.if-row_has.false
     (c.row_has.ensures.1 (subst (All (λ p. r p ≡ true)) (sym (c.as_slice.ensures.items ∙ c.goal.ensures.goal)) all))) in
     (λ _. out, λ _. refl)
 

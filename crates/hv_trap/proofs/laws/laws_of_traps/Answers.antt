@@ -1,3 +1,4 @@
+use Rattle.hv_trap.proofs.Covered.{satisfied_dead}
 use Rattle.hv_trap.proofs.Formulas.{trap_few}
 use Rattle.hv_trap.proofs.Trapped.{trap_goalless, trap_once, trap_satisfied, trap_stays}
 use Rattle.hv_trap.proofs.laws.laws_of_traps.Goals as goal
@@ -16,3 +17,6 @@ returns-clause-goalless c = trap_goalless
 
 pub returns-clause-few : goal.returns-clause-few
 returns-clause-few c = trap_few
+
+pub returns-clause-dead : goal.returns-clause-dead
+returns-clause-dead c = satisfied_dead

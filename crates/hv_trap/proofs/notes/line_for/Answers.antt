@@ -1,6 +1,6 @@
 use Rattle.std.proofs.Common.{◌∙◌, refl, sym}
+use Rattle.std.proofs.lemmas.Bool.{both_ways}
 use Rattle.hv_sets.specs.Truth.{in_clauses}
-use Rattle.hv_trap.proofs.Listed.{both_ways}
 use Rattle.hv_trap.proofs.Writing.{asked_clauses, breaks_set, set_breaks, trap_below}
 use Rattle.hv_trap.proofs.notes.line_for.Goals as goal
 
@@ -14,9 +14,10 @@ are_true_in-requires c =
 pub returns-then-are_true_in : goal.returns-then-are_true_in
 returns-then-are_true_in c =
     λ inside.
-    both_ways (in_clauses c.clauses_of.result.now c.args.state.now) (sym c.are_true_in.ensures ∙ c.if-are_true_in.true)
+    both_ways (in_clauses c.clauses_of.result.now c.args.state.now)
     (set_breaks c.args.task.now c.args.table.now.lines c.expr_count-count.ensures.table c.args.note.set c.negated-formula.result
     c.clauses_of.result.now c.negated-formula.ensures c.clauses_of.ensures c.args.state.now inside)
+    (sym c.are_true_in.ensures ∙ c.if-are_true_in.true)
 
 pub returns-else-are_true_in : goal.returns-else-are_true_in
 returns-else-are_true_in c = (
