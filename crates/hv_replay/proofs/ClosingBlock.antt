@@ -1,23 +1,18 @@
 -- The twelve lines with which a replay ends are good, and conclude.
-use Rattle.std.proofs.Common.{◌≡◌, ℕ, ◌+◌, ◌<◌, ◌≤◌, ◌^◌, ◌∙◌, ◌⊎◌, ◌↔◌, ◌++◌, Bool, true, false, List, [], ◌∷◌, Some, None, length, get_or, refl, sym, ap, subst, inl, inr, arith}
-use Rattle.std.proofs.lemmas.List.Elements.{All-cons, All-nil}
-use Rattle.std.specs.List.{All, Contains, slice_get}
-use Rattle.hv_task.specs.declared.action.Action.{Action}
-use Rattle.hv_task.specs.State.{applicable, successor}
-use Rattle.hv_task.specs.Strips.{Strips, IsState, IsTask, atoms, start_state}
+use Rattle.std.proofs.Common.{◌≡◌, ℕ, ◌+◌, ◌<◌, ◌≤◌, ◌^◌, ◌⊎◌, ◌++◌, Bool, List, [], ◌∷◌, Some, length, refl, sym, subst, inl, inr, arith}
+use Rattle.std.proofs.lemmas.List.Elements.{Contains-push, Contains-push_cases}
+use Rattle.std.specs.List.{Contains}
+use Rattle.hv_task.specs.State.{successor}
+use Rattle.hv_task.specs.Strips.{Strips, IsTask, atoms, start_state}
 use Rattle.hv_sets.specs.Truth.{InStates}
-use Rattle.hv_sets.specs.declared.operand.Which.TheVariants as S
-use Rattle.hv_lines.specs.Drafts.{IsGoodNext, IsGoodTable, IsShortLine, conclusion, draft_setting, onto}
+use Rattle.hv_lines.specs.Drafts.{IsGoodTable, IsShortLine, conclusion, draft_setting, onto}
 use Rattle.hv_lines.specs.Good.{IsGood}
-use Rattle.hv_lines.specs.Working.Good.{IsFormed}
 use Rattle.hv_lines.specs.Judged.{Concludes}
-use Rattle.hv_lines.specs.Numbering.{IsTable, acts_at, acts_count, expr_at, expr_count, known_count, statement_at}
-use Rattle.hv_lines.specs.Queries.{which_at}
+use Rattle.hv_lines.specs.Numbering.{IsTable, acts_count, expr_at, expr_count, known_count, statement_at}
 use Rattle.hv_lines.specs.Pruning.{states_in}
 use Rattle.hv_lines.specs.Setting.{Setting}
-use Rattle.hv_lines.specs.Shapes.{IsOfFamily, IsOrLeaf, and_parts, or_parts}
+use Rattle.hv_lines.specs.Shapes.{and_parts, or_parts}
 use Rattle.hv_lines.specs.Spelling.{FitsDecimal}
-use Rattle.hv_lines.specs.declared.family.FormulaFamily.TheVariants as F
 use Rattle.hv_lines.specs.declared.line.Acts.TheVariants as A
 use Rattle.hv_lines.specs.declared.line.Constant.TheVariants as C
 use Rattle.hv_lines.specs.declared.line.Expr.TheVariants as E
@@ -25,20 +20,22 @@ use Rattle.hv_lines.specs.declared.line.Line.{Line}
 use Rattle.hv_lines.specs.declared.line.Line.TheVariants as L
 use Rattle.hv_lines.specs.declared.line.Statement.TheVariants as T
 use Rattle.hv_lines.specs.declared.line.Word.TheVariants as W
-use Rattle.hv_lines.proofs.Basics.{AreLeaves, leaves_ba, one_leaf}
-use Rattle.hv_lines.proofs.Carried.{acts_onto, expr_onto, known_onto}
-use Rattle.hv_lines.proofs.Drafting.{below_three, below_two, concludes, formed_expr, formed_known, good_conclusion, good_expr, good_rule, table_of}
+use Rattle.hv_lines.proofs.Carried.{expr_onto, known_onto}
+use Rattle.hv_lines.proofs.Drafting.{below_three, below_two, concludes, formed_expr, formed_sub, good_conclusion, good_expr, next_after, next_and, next_or, next_rule, table_of}
 use Rattle.hv_lines.proofs.Laws.{acts_below, expr_at_here, expr_below, known_below, set_in, set_out, speaks_at, statement_at_here}
-use Rattle.hv_lines.proofs.Lengths.{short_after, short_and, short_known, short_or}
+use Rattle.hv_lines.proofs.Nexts.{next_claim}
 use Rattle.hv_lines.proofs.Shaped.{leaf_below}
-use Rattle.hv_replay.specs.ClosingLines.{closing_block, closing_lines}
+use Rattle.hv_replay.specs.ClosingLines.{closing_block}
 use Rattle.hv_replay.specs.Working.ClosingLines.{IsClosedSearch}
 use Rattle.hv_replay.specs.Working.PrunedLines.{IsListedSet, IsPrunedUnion, Rise}
 use Rattle.hv_lines.specs.declared.note.Note.{Note}
-use Rattle.hv_replay.proofs.Explicit.{goal_states, head_in, listed_anchors, listed_states, start_anchors, start_states, states_at}
-use Rattle.hv_replay.proofs.Sided.{good_after, good_within, of_one, of_two, rise_one, rise_two}
+use Rattle.hv_lines.proofs.Elements.{head_in, of_one, of_two}
+use Rattle.hv_lines.proofs.Extended.{HasPrelude, prelude_onto}
+use Rattle.hv_lines.proofs.PlainSides.{AreLeaves, leaves_ba, one_leaf}
+use Rattle.hv_replay.proofs.Explicit.{goal_states, listed_anchors, listed_states, start_anchors, start_states, states_at}
+use Rattle.hv_replay.proofs.Sided.{good_after, good_within, rise_one, rise_two}
 use Rattle.hv_replay.proofs.Spelled.{states_fit}
-use Rattle.hv_replay.proofs.Unions.{HasPrelude, states_onto, in_new, in_old, leaf_onto, leaves_put, prelude_onto, push_cases, rise_push, size_push, states_leaf, states_single, union_onto}
+use Rattle.hv_replay.proofs.Unions.{states_onto, in_old, leaf_onto, leaves_put, rise_push, size_push, states_leaf, states_single, union_onto}
 
 -- What the right side s + 2 of two of the lines is, in any table that goes on after `old`: the leaves of the union of the pruned
 -- states, and the expanded states.
@@ -69,7 +66,7 @@ module _ (task : Strips) (old more : List Line) (table : IsTable (onto more old)
   all_rise = rise_push moved.leaves s moved.rise leaf_small
 
   pub all_listed : (leaf : ℕ) → Contains all_leaves leaf → IsListedSet Now leaf
-  all_listed leaf c = elim (push_cases moved.leaves s leaf c) [
+  all_listed leaf c = elim (Contains-push_cases moved.leaves s leaf c) [
     | inl there ↦ moved.listed leaf there
     | inr same ↦ subst (IsListedSet Now) same (E.States states, at_s, tt)
   ]
@@ -80,13 +77,13 @@ module _ (task : Strips) (old more : List Line) (table : IsTable (onto more old)
   pub all_hold : (state : List Bool) → InStates (atoms task) states state ⊎ states_in task old union.set state
       → (leaf : ℕ) × Contains all_leaves leaf × states_in task Now leaf state
   all_hold state (inl expanded) =
-      (s, in_new moved.leaves s, set_in task (draft_setting task).nodes Now s (E.States states) table at_s state expanded)
+      (s, Contains-push moved.leaves s, set_in task (draft_setting task).nodes Now s (E.States states) table at_s state expanded)
   all_hold state (inr pruned) =
       let w = moved.whole state ((states_onto task more old union.set state table d_before).0 pruned) in
       (w.0, in_old moved.leaves s w.0 w.1, w.2)
 
   pub all_new : Contains all_leaves s
-  all_new = in_new moved.leaves s
+  all_new = Contains-push moved.leaves s
 
 module _ (task : Strips) (is_task : IsTask task) (old : List Line) (good : IsGoodTable task old) (prelude : HasPrelude old) (s k count : ℕ)
     (states : List (List ℕ)) (union : Note) (s_is : s ≡ expr_count old) (k_is : k ≡ known_count old) (s_few : s + 3 < 10 ^ 18)
@@ -158,9 +155,6 @@ module _ (task : Strips) (is_task : IsTask task) (old : List Line) (good : IsGoo
   acts_some : 0 < acts_count old
   acts_some = acts_below old 0 A.All table prelude.all
 
-  known_some : 0 < k
-  known_some = omega (arith, known_below old 0 (T.Dead 0) table prelude.empty_dead, k_is)
-
   d_below : union.set < s
   d_below = omega (arith, speaks_at old union.line (T.Dead union.set) table is_union.says, s_is)
 
@@ -169,15 +163,6 @@ module _ (task : Strips) (is_task : IsTask task) (old : List Line) (good : IsGoo
 
   s_fits : FitsDecimal s
   s_fits = omega (arith, s_few)
-
-  d_fits : FitsDecimal union.set
-  d_fits = omega (arith, s_few, d_below)
-
-  m_fits : FitsDecimal union.line
-  m_fits = omega (arith, k_few, m_below)
-
-  zero_fits : FitsDecimal 0
-  zero_fits = omega arith
 
   good1 : IsGoodTable task B1
   good1 = (
@@ -191,37 +176,13 @@ module _ (task : Strips) (is_task : IsTask task) (old : List Line) (good : IsGoo
   )
 
   good2 : IsGoodTable task B2
-  good2 = (
-    record {
-      good = good_expr setting B1 (s + 1) (E.After s 0)
-          (formed_expr setting B1 (s + 1) (E.After s 0) (omega (arith, s_few)) (s_fits, zero_fits) (omega (arith, s_is))
-          (omega (arith, s_is), acts_some) tt tt);
-      short = short_after (s + 1) s 0 (omega (arith, s_few)) s_fits zero_fits;
-    },
-    good1,
-  )
+  good2 = (next_after task B1 acts_some (s + 1) s (omega (arith, s_few)) (omega (arith, s_is)) (omega arith), good1)
 
   good3 : IsGoodTable task B3
-  good3 = (
-    record {
-      good = good_expr setting B2 (s + 2) (E.Or s union.set)
-          (formed_expr setting B2 (s + 2) (E.Or s union.set) (omega (arith, s_few)) (s_fits, d_fits) (omega (arith, s_is))
-          (omega (arith, s_is), omega (arith, s_is, d_below)) tt tt);
-      short = short_or (s + 2) s union.set (omega (arith, s_few)) s_fits d_fits;
-    },
-    good2,
-  )
+  good3 = (next_or task B2 (s + 2) s union.set (omega (arith, s_few)) (omega (arith, s_is)) (omega arith) (omega (arith, d_below)), good2)
 
   good4 : IsGoodTable task B4
-  good4 = (
-    record {
-      good = good_expr setting B3 (s + 3) (E.And s 2)
-          (formed_expr setting B3 (s + 3) (E.And s 2) (omega (arith, s_few)) (s_fits, omega arith) (omega (arith, s_is))
-          (omega (arith, s_is), omega (arith, s_is, two_below)) tt tt);
-      short = short_and (s + 3) s 2 (omega (arith, s_few)) s_fits (omega arith);
-    },
-    good3,
-  )
+  good4 = (next_and task B3 (s + 3) s 2 (omega (arith, s_few)) (omega (arith, s_is)) (omega arith) (omega (arith, two_below)), good3)
 
   table4 : IsTable B4
   table4 = table_of task B4 good4
@@ -259,22 +220,15 @@ module _ (task : Strips) (is_task : IsTask task) (old : List Line) (good : IsGoo
       (s, inl (head_in s []), (E.States states, at_s, refl)) (s, head_in s [], listed_anchors B4 s states at_s)
       (of_one (λ x. states_at B4 x ≤ setting.budget) s (omega (arith, closed.few, listed_states B4 s states at_s)))
       s 0 at_after (one_leaf and_parts B4 s (E.States states) at_s refl)
-      (formed_known setting B4 k (T.Sub (s + 1) (s + 2)) W.B2 [] (omega (arith, k_few)) (omega (arith, s_few), omega (arith, s_few))
-      (All-nil FitsDecimal) refl k_is (omega (arith, s_is), omega (arith, s_is)) (All-nil (λ x. x < known_count B4)))
+      (formed_sub setting B4 k (s + 1) (s + 2) W.B2 (omega (arith, k_few)) k_is (omega (arith, s_few)) (omega (arith, s_few))
+      (omega (arith, s_is)) (omega (arith, s_is)) refl)
       (λ number a named state is_state applies inside.
       all_hold task old (L1 ∷ L2 ∷ L3 ∷ L4 ∷ []) table4 s count states union table s_is is_union at_s at_or (successor a state)
       (closed.leads number a named state
       (set_out task setting.nodes B4 s (E.States states) table4 at_s state (inside s (head_in s []))) applies))
 
   good5 : IsGoodTable task B5
-  good5 = (
-    record {
-      good = line5;
-      short = short_known k (T.Sub (s + 1) (s + 2)) W.B2 [] (omega (arith, k_few)) (omega (arith, s_few), omega (arith, s_few))
-          (All-nil FitsDecimal) (omega arith) (omega arith);
-    },
-    good4,
-  )
+  good5 = (next_claim task B4 k (T.Sub (s + 1) (s + 2)) W.B2 [] line5, good4)
 
   table5 : IsTable B5
   table5 = table_of task B5 good5
@@ -299,39 +253,24 @@ module _ (task : Strips) (is_task : IsTask task) (old : List Line) (good : IsGoo
       (omega (arith, closed.few, listed_states B5 s states at_s5)))
       (leaves_ba and_parts B5 (s + 3) s 2 (E.And s 2) at_and refl (one_leaf and_parts B5 s (E.States states) at_s5 refl)
       (one_leaf and_parts B5 2 (E.Constant C.Goal) at_goal5 refl))
-      (formed_known setting B5 (k + 1) (T.Sub (s + 3) 0) W.B1 [] (omega (arith, k_few)) (omega (arith, s_few), zero_fits)
-      (All-nil FitsDecimal) refl (omega (arith, k_is)) (omega (arith, s_is), omega arith) (All-nil (λ x. x < known_count B5)))
+      (formed_sub setting B5 (k + 1) (s + 3) 0 W.B1 (omega (arith, k_few)) (omega (arith, k_is)) (omega (arith, s_few)) (omega arith)
+      (omega (arith, s_is)) (omega arith) refl)
       (λ state is_state inside.
       absurd (closed.goalless state
       (set_out task setting.nodes B5 s (E.States states) table5 at_s5 state (inside s (1, omega arith, refl)))
       (set_out task setting.nodes B5 2 (E.Constant C.Goal) table5 at_goal5 state (inside 2 (0, omega arith, refl)))))
 
   good6 : IsGoodTable task B6
-  good6 = (
-    record {
-      good = line6;
-      short = short_known (k + 1) (T.Sub (s + 3) 0) W.B1 [] (omega (arith, k_few)) (omega (arith, s_few), zero_fits) (All-nil FitsDecimal)
-          (omega arith) (omega arith);
-    },
-    good5,
-  )
+  good6 = (next_claim task B5 (k + 1) (T.Sub (s + 3) 0) W.B1 [] line6, good5)
 
   says6 : statement_at B6 0 ≡ Some (T.Dead 0)
   says6 = known_onto (L5 ∷ L6 ∷ []) B4 0 (T.Dead 0) (table_of task B6 good6) prelude4.empty_dead
 
-  fits7 : All FitsDecimal ((k + 1) ∷ 0 ∷ [])
-  fits7 = All-cons FitsDecimal (k + 1) (0 ∷ []) (omega (arith, k_few)) (All-cons FitsDecimal 0 [] zero_fits (All-nil FitsDecimal))
-
   good7 : IsGoodTable task B7
   good7 = (
-    record {
-      good = good_rule setting B6 (k + 2) (T.Dead (s + 3)) W.Sd ((k + 1) ∷ 0 ∷ []) (λ basic. basic)
-          (formed_known setting B6 (k + 2) (T.Dead (s + 3)) W.Sd ((k + 1) ∷ 0 ∷ []) (omega (arith, k_few)) (omega (arith, s_few)) fits7
-          refl (omega (arith, k_is)) (omega (arith, s_is)) (below_two (known_count B6) (k + 1) 0 (omega (arith, k_is)) (omega arith)))
-          (0, statement_at_here (k + 1) (T.Sub (s + 3) 0) W.B1 [] B5, says6);
-      short = short_known (k + 2) (T.Dead (s + 3)) W.Sd ((k + 1) ∷ 0 ∷ []) (omega (arith, k_few)) (omega (arith, s_few)) fits7
-          (omega arith) (omega arith);
-    },
+    next_rule task B6 (k + 2) (T.Dead (s + 3)) W.Sd ((k + 1) ∷ 0 ∷ []) (λ basic. basic) (omega (arith, k_few)) (omega (arith, k_is))
+        (omega (arith, s_few)) (omega (arith, s_is)) refl (below_two (k + 2) (k + 1) 0 (omega arith) (omega arith))
+        (0, statement_at_here (k + 1) (T.Sub (s + 3) 0) W.B1 [] B5, says6),
     good6,
   )
 
@@ -342,63 +281,37 @@ module _ (task : Strips) (is_task : IsTask task) (old : List Line) (good : IsGoo
   says7 =
       known_onto (L1 ∷ L2 ∷ L3 ∷ L4 ∷ L5 ∷ L6 ∷ L7 ∷ []) old union.line (T.Dead union.set) table7 is_union.says
 
-  fits8 : All FitsDecimal (k ∷ union.line ∷ (k + 2) ∷ [])
-  fits8 =
-      All-cons FitsDecimal k (union.line ∷ (k + 2) ∷ []) (omega (arith, k_few))
-      (All-cons FitsDecimal union.line ((k + 2) ∷ []) m_fits (All-cons FitsDecimal (k + 2) [] (omega (arith, k_few)) (All-nil FitsDecimal)))
-
   good8 : IsGoodTable task B8
   good8 = (
-    record {
-      good = good_rule setting B7 (k + 3) (T.Dead s) W.Pg (k ∷ union.line ∷ (k + 2) ∷ []) (λ basic. basic)
-          (formed_known setting B7 (k + 3) (T.Dead s) W.Pg (k ∷ union.line ∷ (k + 2) ∷ []) (omega (arith, k_few)) s_fits fits8 refl
-          (omega (arith, k_is)) (omega (arith, s_is))
-          (below_three (known_count B7) k union.line (k + 2) (omega (arith, k_is)) (omega (arith, k_is, m_below)) (omega (arith, k_is)))) (
-            s + 1,
-            0,
-            s + 2,
-            union.set,
-            s + 3,
-            2,
-            known_onto (L6 ∷ L7 ∷ []) B5 k (T.Sub (s + 1) (s + 2)) table7 (statement_at_here k (T.Sub (s + 1) (s + 2)) W.B2 [] B4),
-            at_after,
-            prelude4.all,
-            at_or,
-            says7,
-            statement_at_here (k + 2) (T.Dead (s + 3)) W.Sd ((k + 1) ∷ 0 ∷ []) B6,
-            at_and,
-            prelude4.goal,
-          );
-      short = short_known (k + 3) (T.Dead s) W.Pg (k ∷ union.line ∷ (k + 2) ∷ []) (omega (arith, k_few)) s_fits fits8 (omega arith)
-          (omega arith);
-    },
+    next_rule task B7 (k + 3) (T.Dead s) W.Pg (k ∷ union.line ∷ (k + 2) ∷ []) (λ basic. basic) (omega (arith, k_few)) (omega (arith, k_is))
+        s_fits (omega (arith, s_is)) refl (below_three (k + 3) k union.line (k + 2) (omega arith) (omega (arith, m_below)) (omega arith)) (
+          s + 1,
+          0,
+          s + 2,
+          union.set,
+          s + 3,
+          2,
+          known_onto (L6 ∷ L7 ∷ []) B5 k (T.Sub (s + 1) (s + 2)) table7 (statement_at_here k (T.Sub (s + 1) (s + 2)) W.B2 [] B4),
+          at_after,
+          prelude4.all,
+          at_or,
+          says7,
+          statement_at_here (k + 2) (T.Dead (s + 3)) W.Sd ((k + 1) ∷ 0 ∷ []) B6,
+          at_and,
+          prelude4.goal,
+        ),
     good7,
   )
 
   says8 : statement_at B8 union.line ≡ Some (T.Dead union.set)
   says8 = known_onto (L8 ∷ []) B7 union.line (T.Dead union.set) (table_of task B8 good8) says7
 
-  fits9 : All FitsDecimal ((k + 3) ∷ union.line ∷ [])
-  fits9 =
-      All-cons FitsDecimal (k + 3) (union.line ∷ []) (omega (arith, k_few)) (All-cons FitsDecimal union.line [] m_fits (All-nil FitsDecimal))
-
   -- the nine lines are good
   pub good_closing_block : IsGoodTable task (onto (closing_block s k states union) old)
   good_closing_block = (
-    record {
-      good = good_rule setting B8 (k + 4) (T.Dead (s + 2)) W.Ud ((k + 3) ∷ union.line ∷ []) (λ basic. basic)
-          (formed_known setting B8 (k + 4) (T.Dead (s + 2)) W.Ud ((k + 3) ∷ union.line ∷ []) (omega (arith, k_few)) (omega (arith, s_few)) fits9
-          refl (omega (arith, k_is)) (omega (arith, s_is))
-          (below_two (known_count B8) (k + 3) union.line (omega (arith, k_is)) (omega (arith, k_is, m_below)))) (
-            s,
-            union.set,
-            at_or,
-            statement_at_here (k + 3) (T.Dead s) W.Pg (k ∷ union.line ∷ (k + 2) ∷ []) B7,
-            says8,
-          );
-      short = short_known (k + 4) (T.Dead (s + 2)) W.Ud ((k + 3) ∷ union.line ∷ []) (omega (arith, k_few)) (omega (arith, s_few)) fits9
-          (omega arith) (omega arith);
-    },
+    next_rule task B8 (k + 4) (T.Dead (s + 2)) W.Ud ((k + 3) ∷ union.line ∷ []) (λ basic. basic) (omega (arith, k_few)) (omega (arith, k_is))
+        (omega (arith, s_few)) (omega (arith, s_is)) refl (below_two (k + 4) (k + 3) union.line (omega arith) (omega (arith, m_below)))
+        (s, union.set, at_or, statement_at_here (k + 3) (T.Dead s) W.Pg (k ∷ union.line ∷ (k + 2) ∷ []) B7, says8),
     good8,
   )
 
@@ -433,8 +346,8 @@ module _ (task : Strips) (is_task : IsTask task) (old : List Line) (good : IsGoo
       (1, head_in 1 [], start_anchors B9 1 at_start9)
       (of_one (λ x. states_at B9 x ≤ setting.budget) 1 (omega (arith, start_states B9 1 at_start9)))
       (one_leaf and_parts B9 1 (E.Constant C.Start) at_start9 refl)
-      (formed_known setting B9 (k + 5) (T.Sub 1 (s + 2)) W.B1 [] (omega (arith, k_few)) (omega arith, omega (arith, s_few))
-      (All-nil FitsDecimal) refl (omega (arith, k_is)) (omega (arith, s_is, two_below), omega (arith, s_is)) (All-nil (λ x. x < known_count B9)))
+      (formed_sub setting B9 (k + 5) 1 (s + 2) W.B1 (omega (arith, k_few)) (omega (arith, k_is)) (omega arith) (omega (arith, s_few))
+      (omega (arith, s_is, two_below)) (omega (arith, s_is)) refl)
       (λ state is_state inside.
       let same : state ≡ start_state task = set_out task setting.nodes B9 1 (E.Constant C.Start) table9 at_start9 state (inside 1 (head_in 1 [])) in
       all_hold task old nine table9 s count states union table s_is is_union at_s9 at_or9 state
@@ -448,8 +361,3 @@ module _ (task : Strips) (is_task : IsTask task) (old : List Line) (good : IsGoo
 
   pub closing_concludes : Concludes (onto (conclusion (k + 5) (s + 2) (k + 4)) (onto (closing_block s k states union) old))
   closing_concludes = concludes task B9 (k + 5) (s + 2) (k + 4)
-
--- the twelve lines are the nine and the conclusion
-pub closing_same : (old : List Line) (s k : ℕ) (states : List (List ℕ)) (union : Note)
-    → onto (conclusion (k + 5) (s + 2) (k + 4)) (onto (closing_block s k states union) old) ≡ onto (closing_lines s k states union) old
-closing_same old s k states union = refl

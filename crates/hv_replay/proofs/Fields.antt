@@ -1,5 +1,5 @@
 -- The fields of the line of an entry: a letter, and decimals that rise.
-use Rattle.std.proofs.Common.{◌≡◌, ℕ, suc, ◌+◌, ◌<◌, ◌≤◌, ◌^◌, ◌∙◌, ◌++◌, Bool, true, false, List, [], ◌∷◌, Option, None, Some, MatchOption, eqb, get_or, length, map, inl, inr, refl, sym, ap, subst, arith, add-one, append-nil, append_assoc}
+use Rattle.std.proofs.Common.{◌≡◌, ℕ, ◌+◌, ◌<◌, ◌≤◌, ◌^◌, ◌∙◌, ◌++◌, Bool, true, false, List, [], ◌∷◌, Option, None, Some, MatchOption, eqb, get_or, length, map, inl, inr, refl, sym, ap, subst, arith, append-nil, append_assoc}
 use Rattle.std.specs.Prelude.{decimal}
 use Rattle.std.specs.List.{All, Contains, join_with_byte}
 use Rattle.std.specs.List.Sorted.{IsStrictlyIncreasing}
@@ -15,6 +15,7 @@ use Rattle.hv_task.specs.AtomList.{Inserts}
 use Rattle.hv_task.specs.State.{AreBelow}
 use Rattle.hv_task.proofs.Listing.{rises-push}
 use Rattle.hv_task.proofs.Rising.{same_rising}
+use Rattle.hv_lines.proofs.Lists.{increasing_tail}
 use Rattle.hv_replay.specs.Logs.{letter_of}
 use Rattle.hv_replay.specs.LogText.{IsEntryLine}
 use Rattle.hv_replay.specs.Working.Reading.{AreAtoms, fields_in}
@@ -25,13 +26,6 @@ use Rattle.hv_replay.specs.declared.log.Entry.{Entry}
 abbrev pub RisesFrom : ℕ → ℕ → List ℕ → Type 0
 RisesFrom least bound [] = Unit {0}
 RisesFrom least bound (n ∷ ns) = (least ≤ n) × (n < bound) × RisesFrom (n + 1) bound ns
-
-increasing_tail : (n : ℕ) (ns : List ℕ) → IsStrictlyIncreasing (n ∷ ns) → IsStrictlyIncreasing ns
-increasing_tail n ns rises k within =
-    let more : suc k + 1 < length (n ∷ ns) = omega arith in
-    let less = rises (suc k) more in
-    let e : get_or (n ∷ ns) (suc k + 1) 0 ≡ get_or ns (k + 1) 0 = rw (add-one, add-one) in
-    omega arith
 
 from_parts : (least bound : ℕ) (ns : List ℕ) → (0 < length ns → least ≤ get_or ns 0 0) → AreBelow bound ns → IsStrictlyIncreasing ns → RisesFrom least bound ns
 from_parts least bound [] first below rises = tt
@@ -167,9 +161,6 @@ module _ (atoms : ℕ) (line : List ℕ) where
       spelled = sym (join_with_byte-slice_split 32 line) ∙ ap (join_with_byte 32) (cut ∙ (ap (λ f. f ∷ fields) letter ∙ ap (λ fs. letter_of b ∷ fs) are.spelled));
       legal = record { below = are.below; rises = are.rises };
     }
-
-    pub no_letter : atoms < 10 ^ 18 → ((b : Bool) → first ≡ letter_of b → ⊥) → (entry : Entry) → IsEntryLine atoms line entry → ⊥
-    no_letter few none entry is = let e = sym cut ∙ cut_entry few entry is in none entry.expanded cc
 
     pub no_atoms : atoms < 10 ^ 18 → ((held : List ℕ) → AreAtoms atoms fields held → ⊥) → (entry : Entry) → IsEntryLine atoms line entry → ⊥
     no_atoms few none entry is =

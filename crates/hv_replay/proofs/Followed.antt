@@ -1,19 +1,15 @@
 -- Logs and the set of their states: what the search for the first hole rests on.
-use Rattle.std.proofs.Common.{◌≡◌, ◌≢◌, ℕ, ◌+◌, ◌<◌, ◌∙◌, ◌↔◌, Bool, true, false, List, [], Option, None, Some, Result, Ok, Err, IfOk, MatchOption, get_or, inl, inr, length, map, refl, sym, ap, subst, arith}
-use Rattle.std.specs.Prelude.{not, slice_get}
+use Rattle.std.proofs.Common.{◌≡◌, ℕ, ◌<◌, ◌∙◌, Bool, true, false, List, Option, None, Some, MatchOption, get_or, inl, inr, length, map, sym, ap, subst, arith}
 use Rattle.std.proofs.lemmas.List.{get_or-map, length-map}
-use Rattle.std.proofs.lemmas.List.Elements.{All-map, All-weaker}
 use Rattle.std.proofs.lemmas.Option.{get_or_from_slice_get, slice_get_cases, slice_get_within}
-use Rattle.hv_task.specs.declared.action.Action.{Action}
-use Rattle.hv_task.specs.State.{AreBelow, applicable, state_of, successor}
-use Rattle.hv_task.specs.Strips.{Strips, is_goal, start_state}
+use Rattle.hv_task.specs.State.{applicable, state_of, successor}
+use Rattle.hv_task.specs.Strips.{Strips}
 use Rattle.hv_sets.specs.Truth.{InStates, in_states}
 use Rattle.hv_sets.proofs.Listed.{in_states-Decides}
-use Rattle.hv_explicit.specs.Listing.{AreStates, Listing, in_listing}
-use Rattle.hv_replay.specs.Closed.{IsFirstWithout, IsSearchFollowed, IsGoalFree, IsLogged, LeadsOn, state_in}
-use Rattle.hv_replay.specs.Working.Following.{ListsLog, Follows, StaysListed}
-use Rattle.hv_replay.specs.Logs.{IsLogEntry, IsLog, SearchLog, StandsInLog}
-use Rattle.hv_replay.specs.declared.hole.ReplayFault.TheVariants as H
+use Rattle.hv_explicit.specs.Listing.{Listing, in_listing}
+use Rattle.hv_replay.specs.Closed.{IsFirstWithout, IsGoalFree, IsLogged, LeadsOn, state_in}
+use Rattle.hv_replay.specs.Working.Following.{ListsLog, StaysListed}
+use Rattle.hv_replay.specs.Logs.{SearchLog, StandsInLog}
 use Rattle.hv_replay.specs.declared.log.Entry.{Entry}
 
 -- one entry stands at a place
@@ -66,11 +62,6 @@ module _ (log : SearchLog) (set : Listing) (are : ListsLog log set) (state : Lis
       )
 
 module _ (task : Strips) (log : SearchLog) (place : ℕ) (x : Entry) (stands : StandsInLog log place x) where
-  pub pruned_leads : x.expanded ≡ false → (number : ℕ) → LeadsOn task log place number
-  pruned_leads pruned number = λ e a at holds is can.
-      let same = same_entry log place x e stands at in
-      let f : true ≡ false = sym holds ∙ (ap (λ (y : Entry). y.expanded) (sym same) ∙ pruned) in absurd cc
-
   module _ (set : Listing) (are : ListsLog log set) (holds : x.expanded ≡ true) where
     pub leads_from : (number : ℕ) → StaysListed task set (state_in log x) number → LeadsOn task log place number
     leads_from number stays = λ e a at more is can.

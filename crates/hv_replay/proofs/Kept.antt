@@ -1,14 +1,14 @@
 -- Entries that are kept as two lists: flags and states.
-use Rattle.std.proofs.Common.{◌≡◌, ◌∙◌, ◌+◌, ◌<◌, ℕ, zero, suc, Bool, List, [], ◌∷◌, ◌++◌, Option, None, Some, get_or, inl, inr, length, map, refl, sym, ap, subst, arith}
+use Rattle.std.proofs.Common.{◌≡◌, ◌∙◌, ◌<◌, ℕ, zero, suc, Bool, List, [], ◌∷◌, ◌++◌, Some, inl, inr, length, map, refl, ap, subst, arith}
 use Rattle.std.specs.Prelude.{slice_get}
 use Rattle.std.specs.List.{All, filter}
-use Rattle.std.proofs.lemmas.List.{map-append, take_more}
-use Rattle.std.proofs.lemmas.List.Elements.{All-get_or, All-map, All-weaker, filter-append}
+use Rattle.std.proofs.lemmas.List.{map-append}
+use Rattle.std.proofs.lemmas.List.Elements.{All-map, All-weaker, filter-append}
 use Rattle.std.proofs.lemmas.Option.{slice_get_cases}
 use Rattle.hv_task.specs.State.{AreBelow}
 use Rattle.hv_explicit.specs.Listing.{AreStates}
 use Rattle.hv_replay.specs.Expanded.{expanded_in}
-use Rattle.hv_replay.specs.Logs.{IsAtomSet, IsLogEntry, IsLog, SearchLog, StandsInLog}
+use Rattle.hv_replay.specs.Logs.{IsAtomSet, IsLog, SearchLog, StandsInLog}
 use Rattle.hv_replay.specs.Working.Logs.{entries_of}
 use Rattle.hv_replay.specs.declared.log.Entry.{Entry}
 

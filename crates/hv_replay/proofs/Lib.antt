@@ -19,4 +19,5 @@ pub mod PrunedBlock
 pub mod ClosingBlock
 pub mod Putting
 pub mod Several
+pub mod Alike
 pub mod Replaying

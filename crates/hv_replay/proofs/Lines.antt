@@ -1,12 +1,11 @@
 -- The lines of entries: each is that of one entry, and none is the last line of a log.
-use Rattle.std.proofs.Common.{◌≡◌, ℕ, ◌+◌, ◌<◌, ◌≤◌, ◌^◌, ◌∙◌, ◌⊎◌, Bool, true, false, List, [], ◌∷◌, ◌++◌, cond, inl, inr, length, map, refl, sym, ap, subst, arith, append_assoc}
-use Rattle.std.specs.Prelude.{codes, decimal, not}
+use Rattle.std.proofs.Common.{◌≡◌, ℕ, ◌<◌, ◌^◌, ◌∙◌, ◌⊎◌, Bool, true, false, List, [], ◌∷◌, ◌++◌, cond, inl, inr, map, refl, sym, ap, arith}
+use Rattle.std.specs.Prelude.{decimal, not}
 use Rattle.std.specs.List.{All, join_with_byte}
 use Rattle.std.proofs.lemmas.Fmt.{decimal_injective}
 use Rattle.std.proofs.lemmas.List.Elements.{All-head, All-tail, All-weaker}
 use Rattle.std.proofs.lemmas.List.Sums.{sum_by-append}
-use Rattle.hv_bytes.specs.Fields.{cut_fields}
-use Rattle.hv_replay.specs.Logs.{IsLogEntry, entry_line, expanded_count, letter_of, pruned_count}
+use Rattle.hv_replay.specs.Logs.{IsLogEntry, entry_line, letter_of}
 use Rattle.hv_replay.specs.LogText.{IsEntryLine, PassesCount, end_line}
 use Rattle.hv_replay.specs.declared.fault.LogLimit.{LogLimit}
 use Rattle.hv_replay.specs.declared.fault.LogLimit.TheVariants as W

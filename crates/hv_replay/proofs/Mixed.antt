@@ -1,12 +1,13 @@
 -- When the line is good that an explicit set is within a formula of another family, or within the negation of one.
-use Rattle.std.proofs.Common.{◌≡◌, ℕ, ◌+◌, ◌<◌, ◌≤◌, ◌∙◌, ◌⊎◌, ◌↔◌, ◌&&◌, Bool, true, false, not, cond, List, [], ◌∷◌, Option, Some, None, length, refl, sym, ap, subst, inl, inr, arith}
+use Rattle.std.proofs.Common.{◌≡◌, ℕ, ◌≤◌, ◌↔◌, Bool, true, false, not, List, [], Some, length, refl, subst, inl}
+use Rattle.std.proofs.lemmas.Bool.{and_parts, false_from_ne_true, not-false, not-true}
 use Rattle.hv_task.specs.Strips.{IsState, atoms}
 use Rattle.hv_sets.proofs.Listed.{in_states-Decides}
 use Rattle.hv_lines.specs.Good.{IsGood}
 use Rattle.hv_lines.specs.Working.Good.{IsFormed}
 use Rattle.hv_lines.specs.Literals.{IsFormula}
 use Rattle.hv_lines.specs.Meaning.{acts_of, holds, sets_of}
-use Rattle.hv_lines.specs.Mixed.{cost_of, in_line_formula, in_signed, is_between}
+use Rattle.hv_lines.specs.Mixed.{cost_of, in_line_formula, is_between}
 use Rattle.hv_lines.specs.Numbering.{IsTable, expr_at}
 use Rattle.hv_lines.specs.Setting.{Setting}
 use Rattle.hv_lines.specs.Shapes.{AreTwo, IsLiteralOf, OfTwo, family_of}
@@ -22,23 +23,11 @@ use Rattle.hv_lines.specs.declared.line.Word.TheVariants as W
 use Rattle.hv_lines.specs.declared.verdict.Verdict.TheVariants as V
 use Rattle.hv_lines.proofs.Judging.{good_basic}
 use Rattle.hv_lines.proofs.Laws.{set_in, set_out}
-use Rattle.hv_replay.proofs.Explicit.{never}
+use Rattle.hv_lines.proofs.Bools.{not_out}
 
 -- a formula that isn't explicit, with its family
 abbrev pub IsOther : Expr → FormulaFamily → Type 0
 IsOther expr family = IsFormula expr × (family_of expr ≡ Some family) × (F.States ≡ family → ⊥)
-
-both_left : (a b : Bool) → (a && b) ≡ true → a ≡ true
-both_left true b e = refl
-both_left false b e = absurd (cc (e))
-
-both_right : (a b : Bool) → (a && b) ≡ true → b ≡ true
-both_right true b e = e
-both_right false b e = absurd (cc (e))
-
-not_out : (b : Bool) → not b ≡ true → b ≡ true → ⊥
-not_out true e is = cc (e)
-not_out false e is = cc (is)
 
 module _ (setting : Setting) (lines : List Line) where
   abbrev Inside : Expr → List Bool → Type 0
@@ -91,7 +80,7 @@ module _ (setting : Setting) (lines : List Line) where
             at_set,
             (
               (length states, cost, few),
-              λ state is_state. never (is_between setting (E.States states, true) (expr, sign) state) (none state is_state),
+              λ state is_state. false_from_ne_true (is_between setting (E.States states, true) (expr, sign) state) (none state is_state),
             ),
           ),
         )
@@ -102,11 +91,11 @@ module _ (setting : Setting) (lines : List Line) where
         good_by true (same, (expr, at_set, inl other.0)) refl
         (λ state is_state clash.
         not_out (in_line_formula setting expr state)
-        (both_right (in_line_formula setting (E.States states) state) (not (in_line_formula setting expr state)) clash)
+        (and_parts (in_line_formula setting (E.States states) state) (not (in_line_formula setting expr state)) clash).1
         ((formula_in expr other.0 state).1
         (set_out setting.task setting.nodes lines set expr table at_set state
         (subst (λ s. sets_of setting.task setting.nodes lines s state) same
-        (within state is_state (in_left state (both_left (in_line_formula setting (E.States states) state) (not (in_line_formula setting expr state)) clash)))))))
+        (within state is_state (in_left state (and_parts (in_line_formula setting (E.States states) state) (not (in_line_formula setting expr state)) clash).0))))))
 
     -- within its negation
     pub good_apart : expr_at lines right ≡ Some (E.Not set) → IsGood setting lines (L.Known id (T.Sub left right) W.B4 [])
@@ -115,11 +104,8 @@ module _ (setting : Setting) (lines : List Line) where
         (λ state is_state clash.
         set_out setting.task setting.nodes lines right (E.Not set) table negated state
         (within state is_state
-        (in_left state (both_left (in_line_formula setting (E.States states) state) (not (not (in_line_formula setting expr state))) clash)))
+        (in_left state (and_parts (in_line_formula setting (E.States states) state) (not (not (in_line_formula setting expr state))) clash).0))
         (set_in setting.task setting.nodes lines set expr table at_set state ((formula_in expr other.0 state).0
-        (twice (in_line_formula setting expr state)
-        (both_right (in_line_formula setting (E.States states) state) (not (not (in_line_formula setting expr state))) clash)))))
-      where
-        twice : (b : Bool) → not (not b) ≡ true → b ≡ true
-        twice true e = refl
-        twice false e = absurd (cc (e))
+        (not-false (in_line_formula setting expr state)
+        (not-true (not (in_line_formula setting expr state))
+        (and_parts (in_line_formula setting (E.States states) state) (not (not (in_line_formula setting expr state))) clash).1)))))

@@ -1,12 +1,10 @@
 -- One answer to the pieces of a log: a log and a fault exclude each other, the log is one, and the
 -- first fault is one.
-use Rattle.std.proofs.Common.{◌≡◌, ℕ, ◌+◌, ◌<◌, ◌≤◌, ◌^◌, Bool, true, false, None, Some, List, [], ◌∷◌, ◌++◌, ◌⊎◌, cond, inl, inr, length, map, refl, sym, ◌∙◌, ap, subst, arith}
-use Rattle.std.specs.Prelude.{not}
-use Rattle.std.specs.List.{All}
+use Rattle.std.proofs.Common.{◌≡◌, ℕ, ◌+◌, ◌<◌, ◌^◌, Bool, true, false, None, Some, List, [], ◌∷◌, ◌++◌, ◌⊎◌, inl, inr, length, map, refl, sym, ◌∙◌, ap, subst, arith}
 use Rattle.std.proofs.lemmas.List.{append-nil, append_assoc}
 use Rattle.hv_bytes.specs.Pieces.{Piece, as_pieces}
 use Rattle.hv_bytes.proofs.PieceFronts.{fronts, rest_lines, same_lines}
-use Rattle.hv_replay.specs.Logs.{AreFew, IsLogEntry, IsLog, SearchLog, entry_line}
+use Rattle.hv_replay.specs.Logs.{AreFew, IsLog, SearchLog, entry_line}
 use Rattle.hv_replay.specs.LogText.{AreTextOf, Beginning, FailsLine, IsEntryLine, IsFirstFault, IsLegal, LacksForm, PassesCount, PassesLimit, PassesNext, at_end, at_entry, end_line, lines_before}
 use Rattle.hv_replay.specs.declared.fault.LogFault.{LogFault}
 use Rattle.hv_replay.specs.declared.fault.LogFault.TheVariants as F

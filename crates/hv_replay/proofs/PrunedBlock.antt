@@ -1,20 +1,20 @@
 -- The five lines of a pruned state are good.
-use Rattle.std.proofs.Common.{◌≡◌, ℕ, ◌+◌, ◌<◌, ◌≤◌, ◌^◌, ◌∙◌, ◌⊎◌, ◌↔◌, Bool, true, false, List, [], ◌∷◌, Option, Some, None, length, map, refl, sym, ap, subst, inl, inr, arith}
+use Rattle.std.proofs.Common.{◌≡◌, ℕ, ◌+◌, ◌<◌, ◌≤◌, ◌^◌, ◌∙◌, Bool, List, [], ◌∷◌, Some, None, length, refl, sym, ap, subst, inl, inr, arith}
 use Rattle.std.proofs.lemmas.List.Elements.{All-cons, All-nil}
 use Rattle.std.specs.List.{All, Contains}
 use Rattle.hv_task.specs.State.{state_of}
-use Rattle.hv_task.specs.Strips.{Strips, IsState, IsTask, atoms}
+use Rattle.hv_task.specs.Strips.{Strips, IsTask, atoms}
 use Rattle.hv_sets.specs.declared.operand.Which.TheVariants as S
-use Rattle.hv_lines.specs.Drafts.{IsGoodNext, IsGoodTable, draft_setting, onto}
+use Rattle.hv_lines.specs.Drafts.{IsGoodTable, draft_setting, onto}
 use Rattle.hv_lines.specs.Good.{IsGood}
 use Rattle.hv_lines.specs.Working.Good.{IsFormed}
 use Rattle.hv_lines.specs.Literals.{IsPlainExpr}
-use Rattle.hv_lines.specs.Numbering.{IsTable, expr_at, expr_count, known_count, statement_at}
+use Rattle.hv_lines.specs.Numbering.{IsTable, expr_at, expr_count, known_count}
 use Rattle.hv_lines.specs.Queries.{which_at}
 use Rattle.hv_lines.specs.Pruning.{states_in}
 use Rattle.hv_lines.specs.Setting.{Setting}
 use Rattle.hv_lines.specs.Shapes.{IsOrLeaf, and_parts, or_parts, alone}
-use Rattle.hv_lines.specs.Spelling.{FitsDecimal, premises_of, word_field}
+use Rattle.hv_lines.specs.Spelling.{FitsDecimal, premises_of}
 use Rattle.hv_lines.specs.declared.line.Constant.{Constant}
 use Rattle.hv_lines.specs.declared.line.Constant.TheVariants as C
 use Rattle.hv_lines.specs.declared.line.Expr.{Expr}
@@ -26,19 +26,20 @@ use Rattle.hv_lines.specs.declared.line.Word.{Word}
 use Rattle.hv_lines.specs.declared.line.Word.TheVariants as W
 use Rattle.hv_lines.specs.declared.family.FormulaFamily.{FormulaFamily}
 use Rattle.hv_lines.specs.declared.family.FormulaFamily.TheVariants as F
-use Rattle.hv_lines.proofs.Basics.{one_leaf}
 use Rattle.hv_lines.proofs.Carried.{expr_onto, known_onto}
-use Rattle.hv_lines.proofs.Drafting.{below_two, formed_expr, formed_known, good_expr, good_rule, table_of}
+use Rattle.hv_lines.proofs.Drafting.{below_two, formed_expr, formed_sub, good_expr, next_or, next_rule, table_of}
 use Rattle.hv_lines.proofs.Laws.{expr_at_here, expr_below, known_below, set_in, set_out, speaks_at, statement_at_here}
-use Rattle.hv_lines.proofs.Lengths.{short_known, short_or}
+use Rattle.hv_lines.proofs.Nexts.{next_claim}
 use Rattle.hv_lines.proofs.Shaped.{leaf_below}
 use Rattle.hv_replay.specs.Logs.{IsAtomSet}
 use Rattle.hv_replay.specs.PrunedLines.{pruned_lines, pruned_word, word_of_formula, word_of_literal}
 use Rattle.hv_replay.specs.Working.PrunedLines.{IsListedExpr, IsListedSet, IsPrunedUnion}
 use Rattle.hv_lines.specs.declared.note.Note.{Note}
-use Rattle.hv_replay.proofs.Explicit.{cons_cases, empty_states, goal_states, head_in, listed_anchors, listed_states, nothing_in, start_states, states_at}
+use Rattle.hv_lines.proofs.Elements.{cons_cases, head_in, nothing_in, of_one}
+use Rattle.hv_lines.proofs.PlainSides.{one_leaf, only_leaf}
+use Rattle.hv_replay.proofs.Explicit.{empty_states, goal_states, listed_anchors, listed_states, start_states, states_at}
 use Rattle.hv_replay.proofs.Mixed.{IsOther, good_apart, good_mixed}
-use Rattle.hv_replay.proofs.Sided.{good_outside, good_within, of_one, rise_one, sole}
+use Rattle.hv_replay.proofs.Sided.{good_outside, good_within, rise_one}
 use Rattle.hv_replay.proofs.Spelled.{short_state, states_fit}
 use Rattle.hv_replay.proofs.Unions.{IsHeld, leaf_onto, states_onto, union_onto, union_push}
 
@@ -148,8 +149,7 @@ module _ (task : Strips) (is_task : IsTask task) (old : List Line) (good : IsGoo
 
   formed2 : (w : Word) → premises_of (T.Sub p holder.set) w ≡ Some 0 → IsFormed setting B1 (L.Known k (T.Sub p holder.set) w [])
   formed2 w none =
-      formed_known setting B1 k (T.Sub p holder.set) w [] (omega (arith, k_few)) (p_fits, y_fits) (All-nil FitsDecimal) none k_is
-      (omega (arith, p_is), omega (arith, p_is, y_below)) (All-nil (λ x. x < known_count B1))
+      formed_sub setting B1 k p holder.set w (omega (arith, k_few)) k_is p_fits y_fits (omega (arith, p_is)) (omega (arith, p_is, y_below)) none
 
   p_states : states_at B1 p ≤ 1
   p_states = omega (arith, listed_states B1 p (held ∷ []) at_p)
@@ -197,7 +197,7 @@ module _ (task : Strips) (is_task : IsTask task) (old : List Line) (good : IsGoo
         → IsGood setting B1 (L.Known k (T.Sub p holder.set) W.B1 [])
     out_listed x listed at few =
         good_outside setting B1 table1 k p holder.set inner p_listed (x, at, listed) negated
-        (λ leaf of. sole and_parts B1 p (E.States (held ∷ [])) at_p refl leaf of) (alone p (E.States (held ∷ [])) at_p refl)
+        (λ leaf of. only_leaf and_parts B1 p leaf of (E.States (held ∷ [])) at_p refl) (alone p (E.States (held ∷ [])) at_p refl)
         inner_below (E.States (held ∷ []), at_p, refl) (listed_anchors B1 p (held ∷ []) at_p) (omega (arith, p_states)) few (formed2 W.B1 refl)
         (λ state is_state inside also. set_out task setting.nodes B1 holder.set (E.Not inner) table1 negated state (in_y state inside) also)
 
@@ -240,94 +240,40 @@ module _ (task : Strips) (is_task : IsTask task) (old : List Line) (good : IsGoo
             (λ states same. is_held.few inner states at (at_inner ∙ ap Some same)))
       ]
 
-  word_short : (x : Option Expr) → length (word_field (word_of_formula x)) ≤ 2
-  word_short (Some (E.Constant constant)) = omega arith
-  word_short (Some (E.States states)) = omega arith
-  word_short _ = omega arith
-
-  literal_short : (x : Option Expr) → length (word_field (word_of_literal old x)) ≤ 2
-  literal_short (Some (E.Not set)) = word_short (expr_at old set)
-  literal_short None = omega arith
-  literal_short (Some (E.Constant constant)) = omega arith
-  literal_short (Some (E.States states)) = omega arith
-  literal_short (Some (E.Horn clauses)) = omega arith
-  literal_short (Some (E.Two clauses)) = omega arith
-  literal_short (Some (E.Node node)) = omega arith
-  literal_short (Some (E.And a b)) = omega arith
-  literal_short (Some (E.Or a b)) = omega arith
-  literal_short (Some (E.After a b)) = omega arith
-  literal_short (Some (E.Before a b)) = omega arith
-
   good2 : IsGoodTable task B2
-  good2 = (
-    record {
-      good = line2;
-      short = short_known k (T.Sub p holder.set) word [] (omega (arith, k_few)) (p_fits, y_fits) (All-nil FitsDecimal)
-          (literal_short (expr_at old holder.set)) (omega arith);
-    },
-    good1,
-  )
+  good2 = (next_claim task B1 k (T.Sub p holder.set) word [] line2, good1)
 
   table2 : IsTable B2
   table2 = table_of task B2 good2
 
-  fits3 : All FitsDecimal (k ∷ holder.line ∷ [])
-  fits3 =
-      All-cons FitsDecimal k (holder.line ∷ []) (omega (arith, k_few))
-      (All-cons FitsDecimal holder.line [] (omega (arith, k_few, j_below)) (All-nil FitsDecimal))
-
   good3 : IsGoodTable task B3
   good3 = (
-    record {
-      good = good_rule setting B2 (k + 1) (T.Dead p) W.Sd (k ∷ holder.line ∷ []) (λ basic. basic)
-          (formed_known setting B2 (k + 1) (T.Dead p) W.Sd (k ∷ holder.line ∷ []) (omega (arith, k_few)) p_fits fits3 refl
-          (omega (arith, k_is)) (omega (arith, p_is))
-          (below_two (known_count B2) k holder.line (omega (arith, k_is)) (omega (arith, k_is, j_below)))) (
-            holder.set,
-            statement_at_here k (T.Sub p holder.set) word [] B1,
-            known_onto (L1 ∷ L2 ∷ []) old holder.line (T.Dead holder.set) table2 is_held.says,
-          );
-      short = short_known (k + 1) (T.Dead p) W.Sd (k ∷ holder.line ∷ []) (omega (arith, k_few)) p_fits fits3 (omega arith) (omega arith);
-    },
+    next_rule task B2 (k + 1) (T.Dead p) W.Sd (k ∷ holder.line ∷ []) (λ basic. basic) (omega (arith, k_few)) (omega (arith, k_is)) p_fits
+        (omega (arith, p_is)) refl (below_two (k + 1) k holder.line (omega arith) (omega (arith, j_below))) (
+          holder.set,
+          statement_at_here k (T.Sub p holder.set) word [] B1,
+          known_onto (L1 ∷ L2 ∷ []) old holder.line (T.Dead holder.set) table2 is_held.says,
+        ),
     good2,
   )
 
   good4 : IsGoodTable task B4
-  good4 = (
-    record {
-      good = good_expr setting B3 (p + 1) (E.Or union.set p)
-          (formed_expr setting B3 (p + 1) (E.Or union.set p) (omega (arith, p_few)) (omega (arith, p_few, d_below), p_fits)
-          (omega (arith, p_is)) (omega (arith, p_is, d_below), omega (arith, p_is)) tt tt);
-      short = short_or (p + 1) union.set p (omega (arith, p_few)) (omega (arith, p_few, d_below)) p_fits;
-    },
-    good3,
-  )
+  good4 = (next_or task B3 (p + 1) union.set p (omega (arith, p_few)) (omega (arith, p_is)) (omega (arith, d_below)) (omega arith), good3)
 
   table4 : IsTable B4
   table4 = table_of task B4 good4
 
-  fits5 : All FitsDecimal (union.line ∷ (k + 1) ∷ [])
-  fits5 =
-      All-cons FitsDecimal union.line ((k + 1) ∷ []) (omega (arith, k_few, m_below))
-      (All-cons FitsDecimal (k + 1) [] (omega (arith, k_few)) (All-nil FitsDecimal))
-
   -- the five lines are good
   pub good_pruned : IsGoodTable task (onto (pruned_lines p k held word holder union) old)
   good_pruned = (
-    record {
-      good = good_rule setting B4 (k + 2) (T.Dead (p + 1)) W.Ud (union.line ∷ (k + 1) ∷ []) (λ basic. basic)
-          (formed_known setting B4 (k + 2) (T.Dead (p + 1)) W.Ud (union.line ∷ (k + 1) ∷ []) (omega (arith, k_few)) (omega (arith, p_few)) fits5
-          refl (omega (arith, k_is)) (omega (arith, p_is))
-          (below_two (known_count B4) union.line (k + 1) (omega (arith, k_is, m_below)) (omega (arith, k_is)))) (
-            union.set,
-            p,
-            expr_at_here (p + 1) (E.Or union.set p) B3,
-            known_onto (L1 ∷ L2 ∷ L3 ∷ L4 ∷ []) old union.line (T.Dead union.set) table4 is_union.says,
-            statement_at_here (k + 1) (T.Dead p) W.Sd (k ∷ holder.line ∷ []) B2,
-          );
-      short = short_known (k + 2) (T.Dead (p + 1)) W.Ud (union.line ∷ (k + 1) ∷ []) (omega (arith, k_few)) (omega (arith, p_few)) fits5
-          (omega arith) (omega arith);
-    },
+    next_rule task B4 (k + 2) (T.Dead (p + 1)) W.Ud (union.line ∷ (k + 1) ∷ []) (λ basic. basic) (omega (arith, k_few)) (omega (arith, k_is))
+        (omega (arith, p_few)) (omega (arith, p_is)) refl (below_two (k + 2) union.line (k + 1) (omega (arith, m_below)) (omega arith)) (
+          union.set,
+          p,
+          expr_at_here (p + 1) (E.Or union.set p) B3,
+          known_onto (L1 ∷ L2 ∷ L3 ∷ L4 ∷ []) old union.line (T.Dead union.set) table4 is_union.says,
+          statement_at_here (k + 1) (T.Dead p) W.Sd (k ∷ holder.line ∷ []) B2,
+        ),
     good4,
   )
 

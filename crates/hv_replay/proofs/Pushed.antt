@@ -1,7 +1,7 @@
 -- One entry more.
-use Rattle.std.proofs.Common.{◌≡◌, ℕ, ◌+◌, ◌<◌, ◌≤◌, Bool, List, [], ◌∷◌, ◌++◌, cond, get_or, length, sym, ◌∙◌, ap, subst}
+use Rattle.std.proofs.Common.{◌≡◌, ℕ, ◌+◌, ◌≤◌, Bool, List, [], ◌∷◌, ◌++◌, cond, ◌∙◌, ap}
 use Rattle.std.specs.Prelude.{not}
-use Rattle.std.proofs.lemmas.List.Elements.{All-get_or, All-push}
+use Rattle.std.proofs.lemmas.List.Elements.{All-push}
 use Rattle.std.proofs.lemmas.List.Sums.{sum_by_push}
 use Rattle.hv_replay.specs.Logs.{AreFew, IsLogEntry, IsLog, expanded_count, listed_bytes, pruned_count}
 use Rattle.hv_replay.specs.declared.log.Entry.{Entry}
@@ -19,7 +19,3 @@ expanded_more entries entry b e = sum_by_push (λ (x : Entry). cond x.expanded 1
 
 pub pruned_more : (entries : List Entry) (entry : Entry) (b : Bool) → entry.expanded ≡ b → pruned_count (entries ++ entry ∷ []) ≡ pruned_count entries + cond (not b) 1 0
 pruned_more entries entry b e = sum_by_push (λ (x : Entry). cond (not x.expanded) 1 0) entries entry ∙ ap (λ b. pruned_count entries + cond (not b) 1 0) e
-
-pub entry_item : (atoms : ℕ) (entries : List Entry) (place : ℕ) (entry : Entry) → IsLog atoms entries → place < length entries → entry ≡ get_or entries place entry → IsLogEntry atoms entry
-entry_item atoms entries place entry log within is =
-    subst (IsLogEntry atoms) (sym is) (All-get_or (IsLogEntry atoms) entries place entry within log.each)

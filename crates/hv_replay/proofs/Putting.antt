@@ -1,20 +1,19 @@
 -- The lines that are put into a draft: those of a pruned state, and those with which a replay ends.
-use Rattle.std.proofs.Common.{◌≡◌, ℕ, ◌+◌, ◌<◌, ◌≤◌, ◌^◌, ◌-◌, ◌∙◌, Bool, List, [], ◌∷◌, Some, length, refl, sym, ap, subst, arith}
+use Rattle.std.proofs.Common.{◌≡◌, ℕ, ◌+◌, ◌<◌, ◌≤◌, ◌^◌, ◌-◌, ◌∙◌, Bool, List, Some, length, sym, ap, subst, arith}
 use Rattle.hv_task.specs.State.{state_of}
 use Rattle.hv_task.specs.Strips.{Strips, IsTask, atoms}
 use Rattle.hv_lines.specs.Drafts.{IsGoodTable, IsShortLine, conclusion, most_lines, onto}
 use Rattle.hv_lines.specs.Judged.{Concludes}
 use Rattle.hv_lines.specs.Numbering.{expr_count, known_count, statement_at}
-use Rattle.hv_lines.specs.Pruning.{BeginsAsDraft, Extends, IsDeadBy, states_in}
+use Rattle.hv_lines.specs.Pruning.{BeginsAsDraft, IsDeadBy, states_in}
 use Rattle.hv_lines.specs.declared.line.Expr.TheVariants as E
 use Rattle.hv_lines.specs.declared.line.Line.{Line}
 use Rattle.hv_lines.specs.declared.line.Line.TheVariants as L
 use Rattle.hv_lines.specs.declared.line.Statement.TheVariants as T
-use Rattle.hv_lines.specs.declared.line.Word.{Word}
 use Rattle.hv_lines.proofs.Drafting.{table_of}
-use Rattle.hv_lines.proofs.Extended.{exprs_few, knowns_few}
+use Rattle.hv_lines.proofs.Extended.{exprs_few, knowns_few, prelude_begins}
 use Rattle.hv_lines.proofs.Laws.{speaks_at}
-use Rattle.hv_replay.specs.ClosingLines.{closing_block, closing_lines}
+use Rattle.hv_replay.specs.ClosingLines.{closing_block}
 use Rattle.hv_replay.specs.Working.ClosingLines.{IsClosedSearch}
 use Rattle.hv_replay.specs.Logs.{IsAtomSet}
 use Rattle.hv_replay.specs.PrunedLines.{pruned_lines, pruned_word}
@@ -23,7 +22,7 @@ use Rattle.hv_replay.specs.Replayed.{union_after}
 use Rattle.hv_lines.specs.declared.note.Note.{Note}
 use Rattle.hv_replay.proofs.ClosingBlock.{closing_concludes, good_closing, good_closing_block}
 use Rattle.hv_replay.proofs.PrunedBlock.{good_pruned, pruned_inside, pruned_keeps, pruned_union}
-use Rattle.hv_replay.proofs.Unions.{IsHeld, held_by, prelude_begins}
+use Rattle.hv_replay.proofs.Unions.{IsHeld, held_by}
 
 -- The draft has room, and `next` has the identifiers of its next set and statement.
 pub record IsNextOf (old : List Line) (next : Note) : Type 0 where

@@ -1,15 +1,14 @@
 -- How a replay goes on, entry by entry, and what stands at its end.
-use Rattle.std.proofs.Common.{◌≡◌, ℕ, zero, suc, ◌+◌, ◌<◌, ◌≤◌, ◌∙◌, ◌⊎◌, ◌↔◌, ◌++◌, Bool, true, false, List, [], ◌∷◌, Option, Some, None, MatchOption, Result, Ok, Err, IfErr, IfOk, IfSome, OnOk, cond, get_or, inl, inr, length, map, not, refl, sym, ap, subst, take, arith}
+use Rattle.std.proofs.Common.{◌≡◌, ℕ, zero, suc, ◌+◌, ◌<◌, ◌≤◌, ◌∙◌, ◌⊎◌, ◌↔◌, ◌++◌, Bool, true, false, List, [], ◌∷◌, Option, Some, Result, Ok, Err, IfErr, IfOk, OnOk, cond, inl, inr, length, map, not, sym, ap, subst, take, arith}
 use Rattle.std.specs.Prelude.{slice_get}
-use Rattle.std.specs.List.{All, Contains, count_by, filter}
+use Rattle.std.specs.List.{All, Contains, filter}
 use Rattle.std.proofs.lemmas.Bool.{cases_lt}
-use Rattle.std.proofs.lemmas.List.{append-nil, length-append, length-map, map-append, take_more}
-use Rattle.std.proofs.lemmas.List.Elements.{All-filter, All-map, All-weaker, Contains-append_left, Contains-append_right, Contains-push, Contains-push_cases, filter-append}
+use Rattle.std.proofs.lemmas.List.{length-append, length-map, take_more}
+use Rattle.std.proofs.lemmas.List.Elements.{All-filter, All-map, Contains-append_left, Contains-append_right, Contains-push, Contains-push_cases}
 use Rattle.std.proofs.lemmas.List.Sums.{length-filter}
 use Rattle.std.proofs.lemmas.Option.{get_or_from_slice_get, slice_get_within}
-use Rattle.std.proofs.lemmas.Result.{IfOk-weaker}
 use Rattle.hv_task.specs.declared.action.Action.{Action}
-use Rattle.hv_task.specs.State.{AreBelow, applicable, state_of, successor}
+use Rattle.hv_task.specs.State.{applicable, state_of, successor}
 use Rattle.hv_task.specs.Strips.{Strips, atoms, is_goal, start_state}
 use Rattle.hv_sets.specs.Truth.{InStates}
 use Rattle.hv_lines.specs.Drafts.{IsGoodTable, onto, prelude}
@@ -20,17 +19,16 @@ use Rattle.hv_lines.specs.Rules.{Says}
 use Rattle.hv_lines.specs.declared.line.Line.{Line}
 use Rattle.hv_lines.specs.declared.line.Statement.TheVariants as T
 use Rattle.hv_lines.proofs.Drafting.{table_of}
-use Rattle.hv_lines.proofs.Extended.{goes_on_none}
+use Rattle.hv_lines.proofs.Extended.{goes_on_none, prelude_begins}
 use Rattle.hv_lines.proofs.Laws.{speaks_at}
 use Rattle.hv_replay.specs.Closed.{IsClosed, IsFirstWithout, IsFirstHole, IsSearchFollowed, IsJustified, IsLogged, state_in}
 use Rattle.hv_replay.specs.ClosingLines.{closing_lines}
 use Rattle.hv_replay.specs.Working.ClosingLines.{IsClosedSearch}
 use Rattle.hv_replay.specs.Expanded.{expanded_states}
 use Rattle.hv_replay.specs.Working.Expanded.{IsExpanded}
-use Rattle.hv_replay.specs.Working.Following.{Follows}
 use Rattle.hv_replay.specs.Logs.{IsAtomSet, IsLogEntry, IsLog, SearchLog, StandsInLog}
 use Rattle.hv_replay.specs.Progress.{IsProof}
-use Rattle.hv_replay.specs.Working.Progress.{IsProgress, IsUncovered}
+use Rattle.hv_replay.specs.Working.Progress.{IsProgress}
 use Rattle.hv_replay.specs.PrunedLines.{pruned_lines, pruned_word}
 use Rattle.hv_replay.specs.Working.PrunedLines.{IsPrunedUnion, most_pruned}
 use Rattle.hv_replay.specs.Replayed.{ArePruned, after_pruned, none, one_more, pruned_in, union_after}
@@ -38,9 +36,9 @@ use Rattle.hv_replay.specs.declared.hole.ReplayFault.{ReplayFault}
 use Rattle.hv_replay.specs.declared.hole.ReplayFault.TheVariants as H
 use Rattle.hv_replay.specs.declared.log.Entry.{Entry}
 use Rattle.hv_lines.specs.declared.note.Note.{Note}
-use Rattle.hv_replay.proofs.Explicit.{nothing_in}
+use Rattle.hv_lines.proofs.Elements.{nothing_in}
 use Rattle.hv_replay.proofs.Steps.{either, expanded_out, log_goalless, log_starts}
-use Rattle.hv_replay.proofs.Unions.{prelude_begins, size_push, states_onto, union_begins, union_extended}
+use Rattle.hv_replay.proofs.Unions.{states_onto, union_begins, union_extended}
 
 -- a set keeps its states in each extension of a draft
 states_extended : (task : Strips) (old new : List Line) (set : ℕ) (state : List Bool) → Extends task old new → set < expr_count old

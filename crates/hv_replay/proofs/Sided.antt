@@ -1,6 +1,6 @@
 -- When lines of basic statements over explicit sets are good: an explicit set within a union of such sets, or outside one, and the
 -- successors of an explicit set within such a union.
-use Rattle.std.proofs.Common.{◌≡◌, ℕ, zero, suc, ◌+◌, ◌<◌, ◌≤◌, ◌∙◌, ◌⊎◌, ◌↔◌, Bool, true, false, List, [], ◌∷◌, Option, Some, None, length, refl, sym, ap, subst, inl, inr, arith}
+use Rattle.std.proofs.Common.{◌≡◌, ℕ, zero, suc, ◌+◌, ◌<◌, ◌≤◌, ◌⊎◌, Bool, true, false, List, [], ◌∷◌, Some, None, length, refl, sym, subst, inl, inr, arith}
 use Rattle.std.specs.List.{Contains, slice_get}
 use Rattle.hv_task.specs.declared.action.Action.{Action}
 use Rattle.hv_task.specs.State.{applicable, successor}
@@ -13,77 +13,20 @@ use Rattle.hv_lines.specs.Meaning.{sets_of}
 use Rattle.hv_lines.specs.Numbering.{IsTable, expr_at}
 use Rattle.hv_lines.specs.Queries.{which_at}
 use Rattle.hv_lines.specs.Setting.{Setting}
-use Rattle.hv_lines.specs.Shapes.{AskingsRise, HasSides, IsAndLeaf, IsAsked, IsLeaf, IsLeftLeaf, IsLiteralOf, IsOfFamily, IsOrLeaf, IsStep, and_parts, or_parts, alone, of_left, of_right, asks_sides_after}
+use Rattle.hv_lines.specs.Shapes.{HasSides, IsAndLeaf, IsAsked, IsLeftLeaf, IsLiteralOf, IsOfFamily, IsOrLeaf, and_parts, or_parts, alone}
 use Rattle.hv_lines.specs.declared.family.FormulaFamily.TheVariants as F
-use Rattle.hv_lines.specs.declared.line.Expr.{Expr}
 use Rattle.hv_lines.specs.declared.line.Expr.TheVariants as E
 use Rattle.hv_lines.specs.declared.line.Line.{Line}
 use Rattle.hv_lines.specs.declared.line.Line.TheVariants as L
 use Rattle.hv_lines.specs.declared.line.Statement.TheVariants as T
-use Rattle.hv_lines.specs.declared.line.Word.{Word}
 use Rattle.hv_lines.specs.declared.line.Word.TheVariants as W
-use Rattle.hv_lines.proofs.Basics.{AreLeaves, asked_all, one_leaf}
 use Rattle.hv_lines.proofs.Questions.{alone_no_step}
-use Rattle.hv_lines.proofs.Shaped.{literal_from, literal_once, step_no_literal, step_once}
+use Rattle.hv_lines.proofs.Shaped.{literal_once}
+use Rattle.hv_lines.proofs.Elements.{nothing_in, of_two}
+use Rattle.hv_lines.proofs.PlainSides.{AreLeaves, asked_all, false_both, from_asked, only_leaf, rises_none, step_from, step_sides, step_to, still_from, still_sides, still_to, to_asked, true_both}
 use Rattle.hv_replay.specs.Working.PrunedLines.{IsListedSet, Rise}
-use Rattle.hv_replay.proofs.Explicit.{cons_cases, from_asked, good_still, good_step, head_in, listed_plain, nothing_in, plain_set, states_at, to_asked}
+use Rattle.hv_replay.proofs.Explicit.{good_still, good_step, plain_set, states_at}
 use Rattle.hv_replay.proofs.Unions.{asked_rise}
-
--- a set that is no intersection and no union is its only leaf
-pub sole : (parts : Expr → Option (ℕ × ℕ)) (lines : List Line) (set : ℕ) (x : Expr) → expr_at lines set ≡ Some x → parts x ≡ None
-    → (leaf : ℕ) → IsLeaf parts lines set leaf → set ≡ leaf
-sole parts lines set x at none leaf of =
-    elim (cons_cases set [] leaf ((one_leaf parts lines set x at none leaf).0 of)) [
-      | inl same ↦ same
-      | inr empty ↦ absurd (nothing_in leaf empty)
-    ]
-
-module _ (lines : List Line) (word : Word) (left right : ℕ) (lefts rights : List ℕ)
-    (left_to : (leaf set : ℕ) (late sign : Bool) → IsLeftLeaf lines word left leaf late → IsLiteralOf lines leaf set sign
-    → Contains lefts leaf × (late ≡ false))
-    (left_from : (leaf : ℕ) → Contains lefts leaf → IsLeftLeaf lines word left leaf false)
-    (right_leaves : AreLeaves or_parts lines right rights)
-    (left_listed : (x : ℕ) → Contains lefts x → IsListedSet lines x) (right_listed : (x : ℕ) → Contains rights x → IsListedSet lines x) where
-  -- of a constant or explicit set a literal is the set itself
-  itself : (leaf set : ℕ) (sign : Bool) → IsListedSet lines leaf → IsLiteralOf lines leaf set sign → (leaf ≡ set) × (true ≡ sign)
-  itself leaf set sign listed is = literal_once lines leaf leaf set true sign (refl, plain_set lines leaf listed) is
-
-  asked_true : (a : ℕ × Bool) → IsAsked lines word left right true a → Contains (asked_all false lefts) a
-  asked_true a (leaf, inl (side, literal)) =
-      let there = left_to leaf a.0 a.1 true side literal in
-      let same = itself leaf a.0 true (left_listed leaf there.0) literal in
-      subst (λ b. Contains (asked_all false lefts) (a.0, b)) (sym there.1)
-      (to_asked false lefts a.0 (subst (Contains lefts) same.0 there.0))
-  asked_true a (leaf, inr (side, literal)) =
-      let same = itself leaf a.0 false (right_listed leaf ((right_leaves leaf).0 side.0)) literal in
-      absurd (cc (same.1))
-
-  true_asked : (a : ℕ × Bool) → Contains (asked_all false lefts) a → IsAsked lines word left right true a
-  true_asked a c =
-      let w = from_asked false lefts a c in
-      (a.0, inl (subst (IsLeftLeaf lines word left a.0) (sym w.1) (left_from a.0 w.0), (refl, plain_set lines a.0 (left_listed a.0 w.0))))
-
-  asked_false : (a : ℕ × Bool) → IsAsked lines word left right false a → Contains (asked_all (asks_sides_after word) rights) a
-  asked_false a (leaf, inl (side, literal)) =
-      let there = left_to leaf a.0 a.1 false side literal in
-      let same = itself leaf a.0 false (left_listed leaf there.0) literal in
-      absurd (cc (same.1))
-  asked_false a (leaf, inr (side, literal)) =
-      let there = (right_leaves leaf).0 side.0 in
-      let same = itself leaf a.0 true (right_listed leaf there) literal in
-      subst (λ b. Contains (asked_all (asks_sides_after word) rights) (a.0, b)) (sym side.1)
-      (to_asked (asks_sides_after word) rights a.0 (subst (Contains rights) same.0 there))
-
-  false_asked : (a : ℕ × Bool) → Contains (asked_all (asks_sides_after word) rights) a → IsAsked lines word left right false a
-  false_asked a c =
-      let w = from_asked (asks_sides_after word) rights a c in
-      (a.0, inr (((right_leaves a.0).1 w.0, w.1), (refl, plain_set lines a.0 (right_listed a.0 w.0))))
-
-  pub true_both : (a : ℕ × Bool) → Contains (asked_all false lefts) a ↔ IsAsked lines word left right true a
-  true_both a = (λ c. true_asked a c, λ is. asked_true a is)
-
-  pub false_both : (a : ℕ × Bool) → Contains (asked_all (asks_sides_after word) rights) a ↔ IsAsked lines word left right false a
-  false_both a = (λ c. false_asked a c, λ is. asked_false a is)
 
 module _ (setting : Setting) (lines : List Line) (table : IsTable lines) (id left right : ℕ) (lefts rights : List ℕ)
     (right_leaves : AreLeaves or_parts lines right rights)
@@ -95,33 +38,26 @@ module _ (setting : Setting) (lines : List Line) (table : IsTable lines) (id lef
   abbrev Within : ℕ → List Bool → Type 0
   Within set state = sets_of setting.task setting.nodes lines set state
 
+  left_plain : (x : ℕ) → Contains lefts x → IsPlainSet lines x
+  left_plain x c = plain_set lines x (left_listed x c)
+
+  right_plain : (x : ℕ) → Contains rights x → IsPlainSet lines x
+  right_plain x c = plain_set lines x (right_listed x c)
+
   -- `b1` is good where each state in all sets on the left is in one on the right
   pub good_within : AreLeaves and_parts lines left lefts → IsFormed setting lines (L.Known id (T.Sub left right) W.B1 [])
       → ((state : List Bool) → IsState setting.task state → ((x : ℕ) → Contains lefts x → Within x state)
       → (y : ℕ) × Contains rights y × Within y state)
       → IsGood setting lines (L.Known id (T.Sub left right) W.B1 [])
   good_within left_leaves formed holds =
-      good_still setting lines table id left right W.B1 lefts rights None sides
-      (true_both lines W.B1 left right lefts rights left_to left_from right_leaves left_listed right_listed)
-      (false_both lines W.B1 left right lefts rights left_to left_from right_leaves left_listed right_listed)
+      let to = still_to lines left right lefts rights right_leaves left_plain right_plain left_leaves in
+      let from = still_from lines left right lefts rights right_leaves left_plain right_plain left_leaves in
+      good_still setting lines table id left right W.B1 lefts rights None
+      (still_sides lines left right lefts rights right_leaves left_plain right_plain left_leaves)
+      (true_both lines W.B1 left right lefts rights to from right_leaves left_plain right_plain)
+      (false_both lines W.B1 left right lefts rights to from right_leaves left_plain right_plain)
       left_listed right_listed (asked_rise false lefts left_rise) (asked_rise false rights right_rise) few some anchor within
       formed refl holds tt (λ rule. rule)
-    where
-      left_to : (leaf set : ℕ) (late sign : Bool) → IsLeftLeaf lines W.B1 left leaf late → IsLiteralOf lines leaf set sign
-          → Contains lefts leaf × (late ≡ false)
-      left_to leaf set late sign (inl (of, after)) literal = ((left_leaves leaf).0 of, after)
-      left_to leaf set late sign (inr (step, inner, by, of, is_step, leaf_of, after)) literal =
-          absurd (alone_no_step lines W.B1 left right step inner by refl is_step)
-
-      left_from : (leaf : ℕ) → Contains lefts leaf → IsLeftLeaf lines W.B1 left leaf false
-      left_from leaf c = inl ((left_leaves leaf).1 c, refl)
-
-      sides : HasSides lines W.B1 left right None
-      sides = (
-        refl,
-        λ leaf of. inl (plain_set lines leaf (left_listed leaf ((left_leaves leaf).0 of))),
-        λ leaf of. inl (plain_set lines leaf (right_listed leaf ((right_leaves leaf).0 of))),
-      )
 
   -- `b2` is good where each successor of a state in all sets of the step is in a set on the right
   pub good_after : (set acts : ℕ) → expr_at lines left ≡ Some (E.After set acts) → AreLeaves and_parts lines set lefts
@@ -131,41 +67,14 @@ module _ (setting : Setting) (lines : List Line) (table : IsTable lines) (id lef
       → (y : ℕ) × Contains rights y × Within y (successor a state))
       → IsGood setting lines (L.Known id (T.Sub left right) W.B2 [])
   good_after set acts at set_leaves formed holds =
-      good_step setting lines table id left right W.B2 lefts rights (Some acts) sides
-      (true_both lines W.B2 left right lefts rights left_to left_from right_leaves left_listed right_listed)
-      (false_both lines W.B2 left right lefts rights left_to left_from right_leaves left_listed right_listed)
+      let to = step_to lines left right lefts rights right_leaves left_plain right_plain set acts at set_leaves in
+      let from = step_from lines left right lefts rights right_leaves left_plain right_plain set acts at set_leaves in
+      good_step setting lines table id left right W.B2 lefts rights (Some acts)
+      (step_sides lines left right lefts rights right_leaves left_plain right_plain set acts at set_leaves)
+      (true_both lines W.B2 left right lefts rights to from right_leaves left_plain right_plain)
+      (false_both lines W.B2 left right lefts rights to from right_leaves left_plain right_plain)
       left_listed right_listed (asked_rise false lefts left_rise) (asked_rise true rights right_rise) few some anchor within
       acts formed refl refl holds tt (λ rule. rule)
-    where
-      step : IsStep lines W.B2 left set acts
-      step = (E.After set acts, at, refl)
-
-      left_is : (leaf : ℕ) → IsAndLeaf lines left leaf → left ≡ leaf
-      left_is leaf of = sole and_parts lines left (E.After set acts) at refl leaf of
-
-      left_to : (leaf found : ℕ) (late sign : Bool) → IsLeftLeaf lines W.B2 left leaf late → IsLiteralOf lines leaf found sign
-          → Contains lefts leaf × (late ≡ false)
-      left_to leaf found late sign (inl (of, after)) literal =
-          absurd (step_no_literal lines W.B2 leaf set acts (subst (λ l. IsStep lines W.B2 l set acts) (left_is leaf of) step)
-          (literal_from lines leaf found sign literal))
-      left_to leaf found late sign (inr (other, of_step, by, of, is_step, leaf_of, after)) literal =
-          let same = step_once lines W.B2 other of_step by set acts is_step
-          (subst (λ l. IsStep lines W.B2 l set acts) (left_is other of) step) in
-          ((set_leaves leaf).0 (subst (λ s. IsAndLeaf lines s leaf) same.0 leaf_of), after)
-
-      left_from : (leaf : ℕ) → Contains lefts leaf → IsLeftLeaf lines W.B2 left leaf false
-      left_from leaf c = inr (left, set, acts, alone left (E.After set acts) at refl, step, (set_leaves leaf).1 c, refl)
-
-      sides : HasSides lines W.B2 left right (Some acts)
-      sides = (
-        left,
-        set,
-        alone left (E.After set acts) at refl,
-        step,
-        λ leaf of. inr (sym (left_is leaf of)),
-        λ leaf of. inl (plain_set lines leaf (left_listed leaf ((set_leaves leaf).0 of))),
-        λ leaf of. inl (plain_set lines leaf (right_listed leaf ((right_leaves leaf).0 of))),
-      )
 
 -- one number, and two of which the first is less
 pub rise_one : (n : ℕ) → Rise (n ∷ [])
@@ -180,13 +89,6 @@ rise_two m n before zero (suc zero) x y less at_first at_second =
     omega (arith, before, first, second)
 rise_two m n before (suc i) (suc zero) x y less at_first at_second = absurd (omega (arith, less))
 rise_two m n before i (suc (suc j)) x y less at_first at_second = absurd (cc (at_second))
-
--- what holds of one number holds of each in its list, and so for two
-pub of_one : (P : ℕ → Type 0) (a : ℕ) → P a → (x : ℕ) → Contains (a ∷ []) x → P x
-of_one P a is x c = elim (cons_cases a [] x c) [ inl same ↦ subst P same is | inr none ↦ absurd (nothing_in x none) ]
-
-pub of_two : (P : ℕ → Type 0) (a b : ℕ) → P a → P b → (x : ℕ) → Contains (a ∷ b ∷ []) x → P x
-of_two P a b is also x c = elim (cons_cases a (b ∷ []) x c) [ inl same ↦ subst P same is | inr there ↦ of_one P b also x there ]
 
 -- `b1` is good where an explicit set is within the negation of a constant or explicit set, which has an earlier line: no state of
 -- the one is in the other
@@ -205,7 +107,7 @@ module _ (setting : Setting) (lines : List Line) (table : IsTable lines) (id lef
   left_literal = (refl, plain_set lines left left_listed)
 
   single_right : (leaf : ℕ) → IsOrLeaf lines right leaf → right ≡ leaf
-  single_right leaf of = sole or_parts lines right (E.Not inner) negated refl leaf of
+  single_right leaf of = only_leaf or_parts lines right leaf of (E.Not inner) negated refl
 
   on_left : (leaf : ℕ) (late : Bool) → IsLeftLeaf lines W.B1 left leaf late → (left ≡ leaf) × (late ≡ false)
   on_left leaf late (inl (of, after)) = (single_left leaf of, after)
@@ -252,16 +154,13 @@ module _ (setting : Setting) (lines : List Line) (table : IsTable lines) (id lef
     λ leaf of. subst (IsLiteral lines) (single_right leaf of) (inr (inner, negated, plain_set lines inner inner_listed)),
   )
 
-  no_rise : AskingsRise []
-  no_rise i j first second less at_first at_second = absurd (cc (at_first))
-
   pub good_outside : IsGood setting lines (L.Known id (T.Sub left right) W.B1 [])
   good_outside =
       good_still setting lines table id left right W.B1 (inner ∷ left ∷ []) [] None sides
       (λ a. (λ c. to_be_asked a c, λ is. asked a is))
       (λ a. (λ c. absurd (nothing_in a c), λ is. absurd (none_asked a is)))
       (of_two (IsListedSet lines) inner left inner_listed left_listed) (λ x c. absurd (nothing_in x c))
-      (asked_rise false (inner ∷ left ∷ []) (rise_two inner left before)) no_rise (omega arith)
+      (asked_rise false (inner ∷ left ∷ []) (rise_two inner left before)) rises_none (omega arith)
       (left, inl (1, omega arith, refl), of_states) (left, (1, omega arith, refl), can)
       (of_two (λ x. states_at lines x ≤ setting.budget) inner left inner_few left_few)
       formed refl

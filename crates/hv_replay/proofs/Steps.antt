@@ -1,15 +1,13 @@
 -- What the closing lines of a replayed proof say is true where the log is followed: each step from
 -- an expanded state leads to an expanded or a pruned one, no expanded state holds the goal, and the
 -- initial state is expanded or pruned.
-use Rattle.std.proofs.Common.{◌≡◌, ℕ, zero, suc, ◌+◌, ◌<◌, ◌∙◌, ◌⊎◌, Bool, true, false, List, [], ◌∷◌, ◌++◌, Some, cond, inl, inr, map, refl, sym, ap, subst, arith}
+use Rattle.std.proofs.Common.{◌≡◌, ℕ, zero, suc, ◌∙◌, ◌⊎◌, Bool, true, false, List, [], ◌∷◌, Some, cond, inl, inr, map, refl, sym, ap, subst, arith}
 use Rattle.std.specs.Prelude.{slice_get}
 use Rattle.std.specs.List.{Contains, filter}
 use Rattle.std.proofs.lemmas.List.Elements.{Contains-append_cases, Contains-append_left, Contains-append_right, Contains-push, Contains-push_cases}
-use Rattle.hv_task.specs.Deadness.{Leads}
-use Rattle.hv_task.specs.State.{applicable, state_of, successor}
+use Rattle.hv_task.specs.State.{state_of}
 use Rattle.hv_task.specs.Strips.{Strips, is_goal, start_state}
 use Rattle.hv_replay.specs.Closed.{IsSearchFollowed, IsLogged, state_in}
-use Rattle.hv_replay.specs.Expanded.{expanded_states}
 use Rattle.hv_replay.specs.Working.Expanded.{IsExpanded}
 use Rattle.hv_replay.specs.Logs.{SearchLog, StandsInLog}
 use Rattle.hv_replay.specs.declared.log.Entry.{Entry}
@@ -87,13 +85,6 @@ module _ (task : Strips) (log : SearchLog) (followed : IsSearchFollowed task log
   pub either : (state : List Bool) → IsLogged log state → IsExpanded log state ⊎ Pruned state
   either state (place, entry, at, same) =
       subst (λ s. IsExpanded log s ⊎ Pruned s) same (one_of place entry entry.expanded refl at)
-
-  -- each step from an expanded state leads to an expanded or a pruned one
-  pub log_leads : Leads task (IsExpanded log) (λ state. IsExpanded log state ⊎ Pruned state)
-  log_leads state number action of_task at can from outside =
-      let w = expanded_out log state from in
-      let listed = followed.leads w.0 number w.1 action w.2 w.3 at (ap (applicable action) w.4 ∙ can) in
-      outside (either (successor action state) (subst (λ s. IsLogged log (successor action s)) w.4 listed))
 
   -- no expanded state holds the goal
   pub log_goalless : (state : List Bool) → IsExpanded log state → is_goal task state ≡ true → ⊥

@@ -1,5 +1,6 @@
 -- What the loop that reads a log does in one turn, and what it answers.
 use Rattle.std.proofs.Common.{◌≡◌, ℕ, ◌+◌, ◌≤◌, Bool, true, false, List, [], ◌∷◌, Option, None, Some, Result, Ok, Err, IfSome, length, map, refl, sym, ◌∙◌, ap, subst, arith, append-nil}
+use Rattle.std.proofs.lemmas.Option.{IfSome_then}
 use Rattle.std.specs.Io.KnownBytes.{IsAtEnd}
 use Rattle.std.specs.List.{sum_by}
 use Rattle.std.proofs.lemmas.List.{length_push}
@@ -24,11 +25,6 @@ use Rattle.hv_replay.specs.Logs.{IsLog, SearchLog, entry_line, listed_bytes}
 use Rattle.hv_replay.specs.Working.Logs.{no_entries}
 use Rattle.hv_replay.specs.LogText.{EndsEarly, FailsLine, IsLegal, IsReadFrom, IsTextOf, PassesLimit, end_line, lines_before, log_limits}
 use Rattle.hv_replay.specs.Working.Reading.{Ends, Feeds, IsReading, begun, begun_by, fault_at, line_fault_at}
-
-weaker : (file : Option (List ℕ)) (P Q : List ℕ → Type 0) → ((bytes : List ℕ) → P bytes → Q bytes)
-    → IfSome file P → IfSome file Q
-weaker None P Q f h = tt
-weaker (Some bytes) P Q f h = f bytes h
 
 -- how many bytes the lines have together, their LFs not counted
 abbrev pub line_bytes : List (List ℕ) → ℕ
@@ -164,8 +160,7 @@ module _ (atoms : ℕ) (file : Option (List ℕ)) (reader : Reader)
       let next = line_next log_limits file coming rest (lines_before (begun_by reader)) line earlier
       count f.gave first fits (omega arith) in
       subst (λ r. IfSome file (λ bytes. IsReadFrom atoms bytes (Err r))) (sym e)
-      (weaker file _ (λ bytes. IsReadFrom atoms bytes (Err (fault_at count error)))
-      (λ bytes h. fault_here bytes line error new count h.0 h.1 t) next)
+      (IfSome_then file next (λ bytes h. fault_here bytes line error new count h.0 h.1 t))
 
   ended : (bytes : List ℕ) (result : Result SearchLog LogFault) (count : ℕ)
       → ComesNext (pieces_of log_limits bytes) (lines_before (begun_by reader)) [] count
@@ -186,10 +181,10 @@ module _ (atoms : ℕ) (file : Option (List ℕ)) (reader : Reader)
       → IfSome file (λ bytes. IsReadFrom atoms bytes result)
   end_answer count result end ends counted =
       let before = f.counted in
-      weaker file _ (λ bytes. IsReadFrom atoms bytes result) (λ bytes next.
-      ended bytes result count next ends)
+      IfSome_then file
       (end_next log_limits file coming (lines_before (begun_by reader)) earlier count f.gave end
       (omega arith))
+      (λ bytes next. ended bytes result count next ends)
 
   faulty : (file_known : Option (List ℕ)) (count : ℕ) (fault : LineFault)
       → (fault ≡ L.Long

@@ -1,31 +1,29 @@
 -- Unions of constants and explicit sets: their leaves, and that further lines change nothing of them.
-use Rattle.std.proofs.Common.{◌≡◌, ℕ, zero, suc, ◌+◌, ◌<◌, ◌≤◌, ◌∙◌, ◌⊎◌, ◌↔◌, ◌++◌, Bool, true, false, List, [], ◌∷◌, Option, Some, None, length, refl, sym, ap, subst, inl, inr, arith, length-append}
-use Rattle.std.proofs.lemmas.List.Elements.{Contains-append_cases, Contains-append_left, Contains-push}
+use Rattle.std.proofs.Common.{◌≡◌, ℕ, zero, suc, ◌+◌, ◌<◌, ◌∙◌, ◌⊎◌, ◌↔◌, ◌++◌, Bool, List, [], ◌∷◌, Some, None, length, refl, sym, ap, subst, inl, inr, arith, length-append}
+use Rattle.std.proofs.lemmas.List.Elements.{Contains-append_left, Contains-push, Contains-push_cases}
 use Rattle.std.proofs.lemmas.Option.{same_Some}
 use Rattle.std.specs.List.{Contains, slice_get}
 use Rattle.hv_task.specs.State.{state_of}
 use Rattle.hv_task.specs.Strips.{Strips, atoms}
-use Rattle.hv_bdd.specs.Nodes.{NodeList, no_nodes}
-use Rattle.hv_lines.specs.Drafts.{IsGoodTable, onto, prelude}
-use Rattle.hv_lines.specs.Literals.{IsLiteral, IsPlainExpr}
-use Rattle.hv_lines.specs.Meaning.{sets_of}
-use Rattle.hv_lines.specs.Numbering.{ExprRefersBelow, IsTable, acts_at, acts_count, expr_at, expr_count, statement_at}
-use Rattle.hv_lines.specs.Pruning.{BeginsAsDraft, DeniesFew, Extends, IsDeadBy, states_in}
-use Rattle.hv_lines.specs.Shapes.{AskedBefore, AskingsRise, IsLeaf, IsOrLeaf, alone, of_left, of_right, or_parts}
-use Rattle.hv_lines.specs.declared.line.Acts.TheVariants as A
+use Rattle.hv_bdd.specs.Nodes.{no_nodes}
+use Rattle.hv_lines.specs.Drafts.{onto}
+use Rattle.hv_lines.specs.Literals.{IsLiteral}
+use Rattle.hv_lines.specs.Numbering.{ExprRefersBelow, IsTable, acts_count, expr_at, expr_count, statement_at}
+use Rattle.hv_lines.specs.Pruning.{DeniesFew, Extends, IsDeadBy, states_in}
+use Rattle.hv_lines.specs.Shapes.{AskingsRise, IsOrLeaf, alone, of_left, of_right, or_parts}
 use Rattle.hv_lines.specs.declared.line.Constant.TheVariants as C
 use Rattle.hv_lines.specs.declared.line.Expr.{Expr}
 use Rattle.hv_lines.specs.declared.line.Expr.TheVariants as E
 use Rattle.hv_lines.specs.declared.line.Line.{Line}
 use Rattle.hv_lines.specs.declared.line.Statement.TheVariants as T
-use Rattle.hv_lines.proofs.Basics.{AreLeaves, asked_all, one_leaf}
-use Rattle.hv_lines.proofs.Carried.{acts_onto, expr_onto, known_onto, table_before}
+use Rattle.hv_lines.proofs.Carried.{expr_onto, known_onto, table_before}
 use Rattle.hv_lines.proofs.Drafting.{table_of}
-use Rattle.hv_lines.proofs.Extended.{begun_acts, begun_dead, begun_empty, begun_goal, begun_start}
-use Rattle.hv_lines.proofs.Laws.{expr_at_more, expr_below, exprs_grow, refers_below, set_in, set_out, sets_more, speaks_at}
+use Rattle.hv_lines.proofs.Laws.{expr_at_more, expr_below, exprs_grow, refers_below, set_out, speaks_at}
 use Rattle.hv_replay.specs.Working.PrunedLines.{IsListedSet, IsPrunedUnion, Rise}
 use Rattle.hv_lines.specs.declared.note.Note.{Note}
-use Rattle.hv_replay.proofs.Explicit.{cons_cases, head_in, nothing_in}
+use Rattle.hv_lines.proofs.Elements.{cons_cases, nothing_in}
+use Rattle.hv_lines.proofs.Extended.{HasPrelude, sets_onto}
+use Rattle.hv_lines.proofs.PlainSides.{AreLeaves, asked_all, one_leaf}
 
 -- the parts of a union have earlier lines
 or_below : (x : Expr) (l r m n : ℕ) → or_parts x ≡ Some (l, r) → ExprRefersBelow m n x → (l < n) × (r < n)
@@ -63,35 +61,11 @@ leaf_onto (line ∷ more) lines set leaf table below =
     let later = leaf_onto more (line ∷ lines) set leaf table (omega (arith, below, exprs_grow line lines)) in
     (λ is. later.0 (leaf_up line lines before set leaf is), λ is. leaf_down line lines before set leaf below (later.1 is))
 
-pub sets_onto : (task : Strips) (nodes : NodeList) (more lines : List Line) (set : ℕ) → IsTable (onto more lines) → set < expr_count lines
-    → sets_of task nodes (onto more lines) set ≡ sets_of task nodes lines set
-sets_onto task nodes [] lines set table below = refl
-sets_onto task nodes (line ∷ more) lines set table below =
-    sets_onto task nodes more (line ∷ lines) set table (omega (arith, below, exprs_grow line lines))
-    ∙ sets_more task nodes line lines set (table_before more (line ∷ lines) table).0 below
-
 pub states_onto : (task : Strips) (more lines : List Line) (set : ℕ) (state : List Bool) → IsTable (onto more lines) → set < expr_count lines
     → states_in task lines set state ↔ states_in task (onto more lines) set state
 states_onto task more lines set state table below =
     let same = sets_onto task (no_nodes (atoms task)) more lines set table below in
     (λ inside. subst (λ (S : List Bool → Type 0). S state) (sym same) inside, λ inside. subst (λ (S : List Bool → Type 0). S state) same inside)
-
--- the lines have those with which every draft begins
-pub record HasPrelude (lines : List Line) : Type 0 where
-  pub all : acts_at lines 0 ≡ Some A.All
-  pub empty : expr_at lines 0 ≡ Some (E.Constant C.Empty)
-  pub start : expr_at lines 1 ≡ Some (E.Constant C.Start)
-  pub goal : expr_at lines 2 ≡ Some (E.Constant C.Goal)
-  pub empty_dead : statement_at lines 0 ≡ Some (T.Dead 0)
-
-pub prelude_begins : (task : Strips) (lines : List Line) → BeginsAsDraft lines → IsGoodTable task lines → HasPrelude lines
-prelude_begins task lines begins good = record {
-  all = begun_acts task lines begins good;
-  empty = begun_empty task lines begins good;
-  start = begun_start task lines begins good;
-  goal = begun_goal task lines begins good;
-  empty_dead = begun_dead task lines begins good;
-}
 
 -- the set is a literal that holds the state, and the line says that it is dead
 pub record IsHeld (task : Strips) (lines : List Line) (held : List ℕ) (holder : Note) : Type 0 where
@@ -111,15 +85,6 @@ held_by task lines held holder by says =
       inside = subst (λ s. states_in task lines s (state_of (atoms task) held)) same by.holds;
       few = subst (DeniesFew lines) same by.dead.few;
     }
-
-pub prelude_onto : (more lines : List Line) → IsTable (onto more lines) → HasPrelude lines → HasPrelude (onto more lines)
-prelude_onto more lines table has = record {
-  all = acts_onto more lines 0 A.All table has.all;
-  empty = expr_onto more lines 0 (E.Constant C.Empty) table has.empty;
-  start = expr_onto more lines 1 (E.Constant C.Start) table has.start;
-  goal = expr_onto more lines 2 (E.Constant C.Goal) table has.goal;
-  empty_dead = known_onto more lines 0 (T.Dead 0) table has.empty_dead;
-}
 
 pub listed_onto : (more lines : List Line) (set : ℕ) → IsTable (onto more lines) → IsListedSet lines set → IsListedSet (onto more lines) set
 listed_onto more lines set table listed = (listed.0, expr_onto more lines set listed.0 table listed.1, listed.2)
@@ -238,27 +203,17 @@ size_push xs p = length-append xs (p ∷ [])
 pub in_old : (xs : List ℕ) (p x : ℕ) → Contains xs x → Contains (xs ++ p ∷ []) x
 in_old xs p x c = Contains-append_left xs (p ∷ []) x c
 
-pub in_new : (xs : List ℕ) (p : ℕ) → Contains (xs ++ p ∷ []) p
-in_new xs p = Contains-push xs p
-
-pub push_cases : (xs : List ℕ) (p x : ℕ) → Contains (xs ++ p ∷ []) x → Contains xs x ⊎ (p ≡ x)
-push_cases xs p x c =
-    elim (Contains-append_cases xs (p ∷ []) x c) [
-      | inl there ↦ inl there
-      | inr last ↦ elim (cons_cases p [] x last) [ inl same ↦ inr same | inr none ↦ absurd (nothing_in x none) ]
-    ]
-
 -- the leaves of a union with one more constant or explicit set, on either side
 module _ (lines : List Line) (u d p : ℕ) (leaves : List ℕ) (are : AreLeaves or_parts lines d leaves) (listed : IsOrLeaf lines p p)
     (single : (leaf : ℕ) → IsOrLeaf lines p leaf → p ≡ leaf) where
   from_parts : (leaf : ℕ) → IsOrLeaf lines d leaf ⊎ IsOrLeaf lines p leaf → Contains (leaves ++ p ∷ []) leaf
   from_parts leaf (inl of) = in_old leaves p leaf ((are leaf).0 of)
-  from_parts leaf (inr of) = subst (Contains (leaves ++ p ∷ [])) (single leaf of) (in_new leaves p)
+  from_parts leaf (inr of) = subst (Contains (leaves ++ p ∷ [])) (single leaf of) (Contains-push leaves p)
 
   pub leaves_push : expr_at lines u ≡ Some (E.Or d p) → AreLeaves or_parts lines u (leaves ++ p ∷ [])
   leaves_push at leaf = (
     λ is. from_parts leaf (either_leaf lines u leaf is (E.Or d p) d p at refl),
-    λ c. elim (push_cases leaves p leaf c) [
+    λ c. elim (Contains-push_cases leaves p leaf c) [
       | inl there ↦ of_left u d p leaf (E.Or d p) at refl ((are leaf).1 there)
       | inr same ↦ of_right u d p leaf (E.Or d p) at refl (subst (IsOrLeaf lines p) same listed)
     ],
@@ -270,7 +225,7 @@ module _ (lines : List Line) (u d p : ℕ) (leaves : List ℕ) (are : AreLeaves 
       | inl of ↦ from_parts leaf (inr of)
       | inr of ↦ from_parts leaf (inl of)
     ],
-    λ c. elim (push_cases leaves p leaf c) [
+    λ c. elim (Contains-push_cases leaves p leaf c) [
       | inl there ↦ of_right u p d leaf (E.Or p d) at refl ((are leaf).1 there)
       | inr same ↦ of_left u p d leaf (E.Or p d) at refl (subst (IsOrLeaf lines p) same listed)
     ],
@@ -298,13 +253,13 @@ union_push task lines pruned union u p by states table is at at_p before says = 
   leaves = is.leaves ++ p ∷ [];
   are = leaves_push lines u union.set p is.leaves is.are (states_leaf lines p states at_p) (states_single lines p states at_p) at;
   rise = rise_push is.leaves p is.rise (λ x c. before x ((is.are x).1 c));
-  listed = λ leaf c. elim (push_cases is.leaves p leaf c) [
+  listed = λ leaf c. elim (Contains-push_cases is.leaves p leaf c) [
     | inl there ↦ is.listed leaf there
     | inr same ↦ subst (IsListedSet lines) same (E.States states, at_p, tt)
   ];
   few = omega (arith, is.few, size_push is.leaves p);
   whole = λ state inside. elim (set_out task (no_nodes (atoms task)) lines u (E.Or union.set p) table at state inside) [
     | inl old ↦ let w = is.whole state old in (w.0, in_old is.leaves p w.0 w.1, w.2)
-    | inr new ↦ (p, in_new is.leaves p, new)
+    | inr new ↦ (p, Contains-push is.leaves p, new)
   ];
 }

@@ -1,5 +1,5 @@
--- Closed logs, and the first hole of one that isn't. Lines are numbered from 1: the entry at place i
--- is that of line i + 1.
+-- Closed logs, and the first hole of one that isn't. Lines are numbered from 1: the entry at place
+-- i is that of line i + 1.
 use Rattle.std.specs.Prelude.{◌≡◌, ◌<◌, ◌+◌, ℕ, Bool, true, false, List, slice_get, Some}
 use Rattle.hv_task.specs.declared.action.Action.{Action}
 use Rattle.hv_task.specs.State.{applicable, state_of, successor}

@@ -7,4 +7,5 @@ pub mod PrunedLines
 pub mod ClosingLines
 pub mod Replayed
 pub mod Progress
+pub mod Boxes
 pub mod Working

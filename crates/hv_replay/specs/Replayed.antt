@@ -1,5 +1,5 @@
 -- The proof that a closed log becomes.
-use Rattle.std.specs.Prelude.{◌≡◌, ◌+◌, ◌++◌, ℕ, Bool, List, [], ◌∷◌, map, not}
+use Rattle.std.specs.Prelude.{◌≡◌, ◌+◌, ◌++◌, ℕ, List, [], ◌∷◌, map, not}
 use Rattle.std.specs.List.{filter}
 use Rattle.hv_lines.specs.Drafts.{onto, prelude}
 use Rattle.hv_lines.specs.Numbering.{expr_count, known_count}
@@ -29,7 +29,7 @@ abbrev pub union_after : List Line → Note
 union_after lines = record { set = expr_count lines + 1; line = known_count lines + 2 }
 
 -- The lines, of which the newest is the first, begin as every draft does, and go on with these
--- pruned states: for each some lines, after which one says that a literal is dead, and its five
+-- pruned states: for each some lines, after which one says that a set is dead, and its five
 -- lines. The union of these states so far is at first the empty set.
 pub data ArePruned : List (List ℕ) → List Line → Note → Type 0 where
   none : ArePruned [] (onto prelude []) (record { set = 0; line = 0 })

@@ -6,6 +6,7 @@ ghost use Rattle.hv_task.specs.Strips.{Strips, IsState};
 ghost use Rattle.hv_lines.specs.Drafts.{IsGoodTable};
 ghost use Rattle.hv_lines.specs.Pruning.{Extends, IsDeadBy};
 ghost use Rattle.hv_lines.specs.declared.line.Line.{Line};
+ghost use Rattle.hv_replay.specs.Boxes.{CoverAlike};
 
 use hv_lines::{Draft, Pruner};
 use hv_task::{State, Task};
@@ -22,8 +23,7 @@ fn begin_one(pruner: &mut Box<dyn Pruner>)
 
 // Lets each pruner forget its notes: they then fit each draft, and cover what they covered.
 pub fn begin_all(pruners: &mut [Box<dyn Pruner>])
-    ensures covers { (task : Strips) (state : List Bool)
-        → Any (λ b. covers b task state) pruners.new ↔ Any (λ b. covers b task state) pruners.old }
+    ensures covers { CoverAlike (λ b. covers b) pruners.new pruners.old }
     ensures fits { (task : Strips) (lines : List Line) → All (λ b. fits b task lines) pruners.new }
 {
     for pruner in pruners.iter_mut() {
@@ -70,8 +70,7 @@ pub fn ask(
     requires fits { (lines : List Line) → Extends task.now draft.old.lines lines
         → All (λ b. fits b task.now lines) pruners.old }
     requires state { IsState task.now state.now }
-    ensures covers { (task : Strips) (state : List Bool)
-        → Any (λ b. covers b task state) pruners.new ↔ Any (λ b. covers b task state) pruners.old }
+    ensures covers { CoverAlike (λ b. covers b) pruners.new pruners.old }
     ensures covered { IfOk result (λ found. MatchOption found
         (Any (λ b. covers b task.now state.now) pruners.old → ⊥)
         (λ _. Any (λ b. covers b task.now state.now) pruners.old)) }

@@ -17,8 +17,8 @@ use hv_sets::StateList;
 use hv_task::Task;
 use std::alloc::{AllocError, Global};
 
-/// Puts the twelve lines last with which the proof of a closed search ends: these expanded states and
-/// the union of all pruned ones. It takes its memory before the first line.
+/// Puts the twelve lines last with which the proof of a closed search ends: these expanded states
+/// and the union of all pruned ones. It takes its memory before the first line.
 pub(crate) fn push_closing(
     alloc: Global,
     draft: &mut Draft,
@@ -33,7 +33,8 @@ pub(crate) fn push_closing(
         (states_in task.now draft.old.lines union.set) }
     requires short { IsShortLine (L.Expr (expr_count draft.old.lines) (E.States states)) }
     ensures lines { OnOk result (draft.new.lines
-        ≡ onto (closing_lines (expr_count draft.old.lines) (known_count draft.old.lines) states union)
+        ≡ onto (closing_lines (expr_count draft.old.lines)
+        (known_count draft.old.lines) states union)
         draft.old.lines) }
     ensures extends { Extends task.now draft.old.lines draft.new.lines }
     ensures concludes { OnOk result (Concludes draft.new.lines) }
@@ -49,8 +50,8 @@ pub(crate) fn push_closing(
     Ok(())
 }
 
-// The nine lines which show that the expanded states are dead, and their union with the pruned ones;
-// `next` has the identifiers of the set of the expanded states and of the first statement.
+// The nine lines which show that the expanded states are dead, and their union with the pruned
+// ones; `next` has the identifiers of the set of the expanded states and of the first statement.
 fn closing_block(
     alloc: Global,
     next: Note,

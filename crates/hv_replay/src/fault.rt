@@ -19,8 +19,8 @@ pub enum LogLimit {
     Pruned,
 }
 
-/// Why a log isn't read. Lines are counted from 1; at the end of the input the line is the one after
-/// the last.
+/// Why a log isn't read. Lines are counted from 1; at the end of the input the line is the one
+/// after the last.
 #[derive(Clone, Copy, Debug, PartialEq, Eq, Error)]
 pub enum LogFault {
     /// No line of a log is there: neither a state nor the end, or a line behind the end.

@@ -87,7 +87,8 @@ fn first_goal(task: &Task, log: &Log) -> Option<usize>
     requires { log.now.atoms ≡ atoms task.now }
     ensures { MatchOption result
         ((place : ℕ) → place < length log.now.entries → IsGoalFree task.now log.now place)
-        (λ place. (place < length log.now.entries) × IsFirstWithout (IsGoalFree task.now log.now) place) }
+        (λ place. (place < length log.now.entries)
+        × IsFirstWithout (IsGoalFree task.now log.now) place) }
 {
     for place in 0..log.len() {
         if !is_goal_free(task, log, place) {

@@ -36,7 +36,10 @@ impl Model for Entries {
 
     ghost Value = { SearchLog };
 
-    ghost view = { λ l. record { atoms = l.atoms; entries = entries_of l.expanded.items l.states } };
+    ghost view = { λ l. record {
+      atoms = l.atoms;
+      entries = entries_of l.expanded.items l.states;
+    } };
 
     ghost invariant = { λ l. IsLog l.atoms (entries_of l.expanded.items l.states)
         × (length l.expanded.items ≡ length l.states) };
@@ -155,7 +158,8 @@ impl Log {
     // The same; it is a state of the task.
     pub(crate) fn held(&self, place: usize) -> &AtomList
         requires { place < length self.now.entries }
-        ensures stands { (entry : Entry) → StandsInLog self.now place entry → result.now ≡ entry.state }
+        ensures stands { (entry : Entry) → StandsInLog self.now place entry
+            → result.now ≡ entry.state }
         ensures legal { IsAtomSet self.now.atoms result.now }
     {
         item(self.states.states(), place)

@@ -12,8 +12,8 @@ use crate::log::Log;
 use hv_explicit::Explicit;
 use hv_task::{After, AtomList, Task};
 
-/// The first place of an expanded state from which an action leads to a state that isn't listed, and
-/// the least such action there.
+/// The first place of an expanded state from which an action leads to a state that isn't listed,
+/// and the least such action there.
 pub(crate) fn first_open(task: &Task, log: &Log, rows: &Vec<Vec<u32>>) -> Option<(usize, u32)>
     requires atoms { log.now.atoms ≡ atoms task.now }
     requires rows { AreWaiting (atoms task.now) task.now.actions rows.now.items }
@@ -49,8 +49,8 @@ fn open_action(task: &Task, log: &Log, rows: &Vec<Vec<u32>>, place: usize) -> Op
     least_exit(task, log.listed(), rows, log.held(place))
 }
 
-// The least action that leads from the state of these atoms to one that isn't listed. Those alone are
-// tried that wait under an atom which is held, or that have no precondition.
+// The least action that leads from the state of these atoms to one that isn't listed. Those alone
+// are tried that wait under an atom which is held, or that have no precondition.
 fn least_exit(task: &Task, listed: &Explicit, rows: &Vec<Vec<u32>>, held: &AtomList) -> Option<u32>
     requires atoms { listed.now.atoms ≡ atoms task.now }
     requires rows { AreWaiting (atoms task.now) task.now.actions rows.now.items }

@@ -1,13 +1,14 @@
 //! Proofs of logs.
 
-ghost use Rattle.std.specs.Prelude.{◌≡◌, ◌<◌, ◌↔◌, ◌++◌, ◌∷◌, ℕ, Bool, false, [], List, IfErr, IfOk, IfSome, MatchOption, OnOk, length};
+ghost use Rattle.std.specs.Prelude.{◌≡◌, ◌<◌, ◌++◌, ◌∷◌, ℕ, false, [], List, IfErr, IfOk, IfSome, MatchOption, OnOk, length};
 ghost use Rattle.std.specs.List.{All, Any};
 ghost use Rattle.hv_task.specs.State.{state_of};
-ghost use Rattle.hv_task.specs.Strips.{Strips, IsState, atoms};
+ghost use Rattle.hv_task.specs.Strips.{IsState, atoms};
 ghost use Rattle.hv_lines.specs.Drafts.{IsGoodTable, onto, prelude};
 ghost use Rattle.hv_lines.specs.Judged.{Concludes};
 ghost use Rattle.hv_lines.specs.Pruning.{Extends};
 ghost use Rattle.hv_lines.specs.declared.line.Line.{Line};
+ghost use Rattle.hv_replay.specs.Boxes.{CoverAlike};
 ghost use Rattle.hv_replay.specs.Closed.{IsClosed, IsFirstHole, IsSearchFollowed, IsJustified};
 ghost use Rattle.hv_replay.specs.Expanded.{expanded_in, expanded_states};
 ghost use Rattle.hv_replay.specs.Logs.{IsAtomSet, IsLog, StandsInLog};
@@ -30,8 +31,8 @@ use std::alloc::{AllocError, Global};
 
 /// Makes the proof of a closed log, for whatever pruners: these are begun anew and asked in order.
 /// It answers with a proof exactly where the log is closed under what they cover, and otherwise
-/// with the first hole. Want of memory may come at any point. After any answer the pruners cover
-/// what they did before.
+/// with the first hole. Want of memory may come at any point. After any answer there are as many
+/// pruners, and each covers, at its place, what it did before.
 pub fn replay(
     alloc: Global,
     task: &Task,
@@ -46,9 +47,7 @@ pub fn replay(
     ensures replayed { IfOk result (λ draft. IsReplayed log.now draft.lines) }
     ensures good { IfOk result (λ draft. IsGoodTable task.now draft.lines) }
     ensures concludes { IfOk result (λ draft. Concludes draft.lines) }
-    ensures covers { (task : Strips) (state : List Bool)
-        → Any (λ b. covers b task state) pruners.new.items
-        ↔ Any (λ b. covers b task state) pruners.old.items }
+    ensures covers { CoverAlike (λ b. covers b) pruners.new.items pruners.old.items }
 {
     replay_by(alloc, task, log, pruners.as_mut_slice())
 }
@@ -68,9 +67,7 @@ fn replay_by(
     ensures replayed { IfOk result (λ draft. IsReplayed log.now draft.lines) }
     ensures good { IfOk result (λ draft. IsGoodTable task.now draft.lines) }
     ensures concludes { IfOk result (λ draft. Concludes draft.lines) }
-    ensures covers { (task : Strips) (state : List Bool)
-        → Any (λ b. covers b task state) pruners.new
-        ↔ Any (λ b. covers b task state) pruners.old }
+    ensures covers { CoverAlike (λ b. covers b) pruners.new pruners.old }
 {
     begin_all(pruners);
     replay_begun(alloc, task, log, pruners)
@@ -92,9 +89,7 @@ fn replay_begun(
     ensures replayed { IfOk result (λ draft. IsReplayed log.now draft.lines) }
     ensures good { IfOk result (λ draft. IsGoodTable task.now draft.lines) }
     ensures concludes { IfOk result (λ draft. Concludes draft.lines) }
-    ensures covers { (task : Strips) (state : List Bool)
-        → Any (λ b. covers b task state) pruners.new
-        ↔ Any (λ b. covers b task state) pruners.old }
+    ensures covers { CoverAlike (λ b. covers b) pruners.new pruners.old }
 {
     follow(alloc, task, log)?;
     let mut draft = Draft::new(alloc, task)?;
@@ -121,9 +116,7 @@ fn put_all(
     ensures uncovered { IfErr result (IsUncovered log.now
         (λ state. Any (λ b. covers b task.now state) pruners.old)) }
     ensures proof { OnOk result (IsProof task.now log.now draft.new.lines) }
-    ensures covers { (task : Strips) (state : List Bool)
-        → Any (λ b. covers b task state) pruners.new
-        ↔ Any (λ b. covers b task state) pruners.old }
+    ensures covers { CoverAlike (λ b. covers b) pruners.new pruners.old }
 {
     let mut state = task.start_state(alloc)?;
     let union = put_pruned(alloc, task, log, draft, &mut state, pruners)?;
@@ -171,9 +164,7 @@ fn put_pruned(
         (λ state. Any (λ b. covers b task.now state) pruners.old)) }
     ensures progress { IfOk result
         (IsProgress task.now (pruned_in log.now.entries) draft.new.lines) }
-    ensures covers { (task : Strips) (state : List Bool)
-        → Any (λ b. covers b task state) pruners.new
-        ↔ Any (λ b. covers b task state) pruners.old }
+    ensures covers { CoverAlike (λ b. covers b) pruners.new pruners.old }
 {
     let mut union = Note { set: 0, line: 0 };
     for place in 0..log.len() {
@@ -217,9 +208,7 @@ fn put_one(
         → IsProgress task.now (pruned_in (before ++ entry ∷ [])) draft.new.lines more)) }
     ensures fits { (lines : List Line) → Extends task.now draft.new.lines lines
         → All (λ b. fits b task.now lines) pruners.new }
-    ensures covers { (task : Strips) (state : List Bool)
-        → Any (λ b. covers b task state) pruners.new
-        ↔ Any (λ b. covers b task state) pruners.old }
+    ensures covers { CoverAlike (λ b. covers b) pruners.new pruners.old }
 {
     if log.expanded(place) {
         return Ok(Some(union));
@@ -253,9 +242,7 @@ fn put_state(
         → IsProgress task.now (states ++ held.now ∷ []) draft.new.lines more)) }
     ensures fits { (lines : List Line) → Extends task.now draft.new.lines lines
         → All (λ b. fits b task.now lines) pruners.new }
-    ensures covers { (task : Strips) (state : List Bool)
-        → Any (λ b. covers b task state) pruners.new
-        ↔ Any (λ b. covers b task state) pruners.old }
+    ensures covers { CoverAlike (λ b. covers b) pruners.new pruners.old }
 {
     state.hold(held);
     match ask(alloc, task, draft, state, pruners)? {

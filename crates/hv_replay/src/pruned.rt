@@ -18,8 +18,8 @@ use hv_task::{AtomList, Task};
 use std::alloc::{AllocError, Global};
 
 /// Puts the five lines of a pruned state last, of which line `by` says that a literal is dead that
-/// holds it; `union` is the union of the pruned states so far, and the answer is that with this one.
-/// It takes its memory before the first line.
+/// holds it; `union` is the union of the pruned states so far, and the answer is that with this
+/// one. It takes its memory before the first line.
 pub(crate) fn push_pruned(
     alloc: Global,
     draft: &mut Draft,

@@ -28,9 +28,10 @@ fn line_fault(fault: LineFault, number: u64) -> LogFault
     }
 }
 
-/// Reads the log of this name, of states of the task. It answers with the log exactly where the file
-/// is the text of one within the limits, and otherwise with its first fault. A line that ends past
-/// byte 8,388,608 is the fault `Limit` of `Bytes`, whatever its form, and nothing behind it is read.
+/// Reads the log of this name, of states of the task. It answers with the log exactly where the
+/// file is the text of one within the limits, and otherwise with its first fault. A line that ends
+/// past byte 8,388,608 is the fault `Limit` of `Bytes`, whatever its form, and nothing behind it is
+/// read.
 pub fn read_log<S: Shelf>(
     alloc: Global,
     shelf: &mut S,

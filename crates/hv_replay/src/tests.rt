@@ -66,8 +66,8 @@ const HOLES: &[(&str, &str)] = &[
     ("x 0\nx 1\np 2\nend\n", "none"),
 ];
 
-/// Actions of a task with four atoms. None adds the goal, the last atom. Action 3 has no precondition,
-/// and action 5 deletes and adds the same atom.
+/// Actions of a task with four atoms. None adds the goal, the last atom. Action 3 has no
+/// precondition, and action 5 deletes and adds the same atom.
 const ACTIONS: [(u32, u32, u32); 6] = [
     (0b0101, 0b0010, 0b0001),
     (0b0010, 0b0100, 0b0010),

@@ -9,9 +9,9 @@ ghost use Rattle.hv_replay.specs.Working.Waiting.{AreWaiting, IsIn, IsUnder, Row
 use hv_task::Task;
 use std::alloc::{AllocError, Global};
 
-/// A row of actions for each atom, by number, and one more. Each action waits in the row of one atom
-/// of its precondition, the one under which the fewest waited before it; in the last row wait those
-/// without precondition.
+/// A row of actions for each atom, by number, and one more. Each action waits in the row of one
+/// atom of its precondition, the one under which the fewest waited before it; in the last row wait
+/// those without precondition.
 pub(crate) fn waiting(alloc: Global, task: &Task) -> Result<Vec<Vec<u32>>, AllocError>
     ensures { IfOk result (λ rows. AreWaiting (atoms task.now) task.now.actions rows.items) }
 {

@@ -1,4 +1,4 @@
--- Working definitions beside those of `ClosingLines`: what contracts of private functions and proofs say.
+-- Working definitions beside those of `ClosingLines`: for private contracts and proofs.
 use Rattle.std.specs.Prelude.{◌≡◌, ◌≤◌, ◌⊎◌, ℕ, Bool, true, List, Some, length, slice_get}
 use Rattle.std.specs.List.{All}
 use Rattle.hv_task.specs.declared.action.Action.{Action}
@@ -9,9 +9,10 @@ use Rattle.hv_lines.specs.Drafts.{default_budget}
 use Rattle.hv_lines.specs.Meaning.{StateSet}
 use Rattle.hv_replay.specs.Logs.{IsAtomSet}
 
--- the search is closed: these expanded states, together with the pruned ones, are left by no action,
--- no expanded one holds the goal, and the initial state is one of them all
-pub record IsClosedSearch (task : Strips) (states : List (List ℕ)) (pruned : StateSet) : Type 0 where
+-- the search is closed: these expanded states, together with the pruned ones, are left by no
+-- action, no expanded one holds the goal, and the initial state is one of them all
+pub record IsClosedSearch (task : Strips) (states : List (List ℕ))
+    (pruned : StateSet) : Type 0 where
   pub atom_sets : All (IsAtomSet (atoms task)) states
   pub few : length states ≤ default_budget
   pub leads : (k : ℕ) (a : Action) → slice_get task.actions k ≡ Some a → (state : List Bool)

@@ -1,4 +1,4 @@
--- Working definitions beside those of `Expanded`: what contracts of private functions and proofs say.
+-- Working definitions beside those of `Expanded`: for private contracts and proofs.
 use Rattle.std.specs.Prelude.{Bool, List}
 use Rattle.hv_sets.specs.Truth.{InStates}
 use Rattle.hv_replay.specs.Logs.{SearchLog}

@@ -1,4 +1,4 @@
--- Working definitions beside those of `Logs`: what contracts of private functions and proofs say.
+-- Working definitions beside those of `Logs`: for private contracts and proofs.
 use Rattle.std.specs.Prelude.{ℕ, Bool, List, [], ◌∷◌}
 use Rattle.hv_replay.specs.declared.counts.Counts.{Counts}
 use Rattle.hv_replay.specs.declared.log.Entry.{Entry}

@@ -1,4 +1,4 @@
--- Working definitions beside those of `Progress`: what contracts of private functions and proofs say.
+-- Working definitions beside those of `Progress`: for private contracts and proofs.
 use Rattle.std.specs.Prelude.{◌≡◌, ◌<◌, ◌+◌, ℕ, List, length}
 use Rattle.std.specs.List.{Contains}
 use Rattle.hv_task.specs.State.{state_of}

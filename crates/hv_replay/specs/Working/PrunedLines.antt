@@ -1,4 +1,4 @@
--- Working definitions beside those of `PrunedLines`: what contracts of private functions and proofs say.
+-- Working definitions beside those of `PrunedLines`: for private contracts and proofs.
 use Rattle.std.specs.Prelude.{◌≡◌, ◌<◌, ◌+◌, ◌≤◌, ◌↔◌, ℕ, Bool, List, Some, length, slice_get}
 use Rattle.std.specs.List.{Contains}
 use Rattle.hv_task.specs.Strips.{Strips}

@@ -1,30 +1,34 @@
-use Rattle.std.proofs.Common.{◌≡◌, ◌<◌, ◌≤◌, ◌∙◌, None, arith, get_or, length}
+use Rattle.std.proofs.Common.{◌≡◌, ◌<◌, ◌≤◌, ◌∙◌, None, arith, get_or, length, refl}
 use Rattle.hv_lines.proofs.Extended.{extends_then}
-use Rattle.hv_replay.proofs.Several.{all_set, any_at, any_set, both, covered_none, covered_some, found_none, none_any, none_set}
+use Rattle.hv_replay.proofs.Alike.{alike_next, alike_same, any_alike}
+use Rattle.hv_replay.proofs.Several.{all_set, any_at, covered_none, covered_some, found_none, none_any, none_set}
 use Rattle.hv_replay.proofs.boxes.ask.Goals as goal
+
+pub loop-pruner-init : goal.loop-pruner-init
+loop-pruner-init g c = record {
+  draft = refl;
+  covers = alike_same c.args.pruners.now (λ b. (goal.Pruner-dyn g (b.vtable, b.value)).covers b.value);
+  none = λ k d from upto. absurd (omega (arith, upto));
+  fits = c.requires.fits;
+}
 
 pub returns-in_err-line-clause-covers : goal.returns-in_err-line-clause-covers
 returns-in_err-line-clause-covers g c =
     let within : c.loop-pruner.pruner-index < length c.loop-pruner.pruners = omega arith in
-    λ task state. both
-    (any_set c.loop-pruner.pruners c.loop-pruner.pruner-index c.pruner-item.result c.ask_one.new.pruner
-    (λ b. (goal.Pruner-dyn g (b.vtable, b.value)).covers b.value task state) within
-    (c.ask_one.ensures.covers task state))
-    (c.loop-pruner.invariant.covers task state)
+    alike_next c.loop-pruner.pruners c.args.pruners.now c.loop-pruner.pruner-index c.pruner-item.result c.ask_one.new.pruner
+    (λ b. (goal.Pruner-dyn g (b.vtable, b.value)).covers b.value) within c.ask_one.ensures.covers c.loop-pruner.invariant.covers
 
 pub returns-in-Some-clause-covers : goal.returns-in-Some-clause-covers
 returns-in-Some-clause-covers g c =
     let within : c.loop-pruner.pruner-index < length c.loop-pruner.pruners = omega arith in
-    λ task state. both
-    (any_set c.loop-pruner.pruners c.loop-pruner.pruner-index c.pruner-item.result c.ask_one.new.pruner
-    (λ b. (goal.Pruner-dyn g (b.vtable, b.value)).covers b.value task state) within
-    (c.ask_one.ensures.covers task state))
-    (c.loop-pruner.invariant.covers task state)
+    alike_next c.loop-pruner.pruners c.args.pruners.now c.loop-pruner.pruner-index c.pruner-item.result c.ask_one.new.pruner
+    (λ b. (goal.Pruner-dyn g (b.vtable, b.value)).covers b.value) within c.ask_one.ensures.covers c.loop-pruner.invariant.covers
 
 pub returns-in-Some-clause-covered : goal.returns-in-Some-clause-covered
 returns-in-Some-clause-covered g c =
     let within : c.loop-pruner.pruner-index < length c.loop-pruner.pruners = omega arith in
-    (c.loop-pruner.invariant.covers c.args.task.now c.args.state.now).0
+    (any_alike c.loop-pruner.pruners (λ b. (goal.Pruner-dyn g (b.vtable, b.value)).covers b.value) c.args.pruners.now
+    c.loop-pruner.invariant.covers c.args.task.now c.args.state.now).0
     (any_at c.loop-pruner.pruners c.loop-pruner.pruner-index c.pruner-item.result
     (λ b. (goal.Pruner-dyn g (b.vtable, b.value)).covers b.value c.args.task.now c.args.state.now) within
     (covered_some c.in_ok-line.field-0 c.in-Some.line
@@ -44,11 +48,9 @@ loop-pruner-preserved g c =
     let is : c.in_ok-line.field-0 ≡ None = c.in_default.is in
     record {
       draft = found_none c.in_ok-line.field-0 (c.ask_one.new.draft ≡ c.loop-pruner.draft) is c.in_ok-line.ensures.none ∙ c.loop-pruner.invariant.draft;
-      covers = λ task state. both
-          (any_set c.loop-pruner.pruners c.loop-pruner.pruner-index c.pruner-item.result c.ask_one.new.pruner
-          (λ b. (goal.Pruner-dyn g (b.vtable, b.value)).covers b.value task state) within
-          (c.ask_one.ensures.covers task state))
-          (c.loop-pruner.invariant.covers task state);
+      covers = alike_next c.loop-pruner.pruners c.args.pruners.now c.loop-pruner.pruner-index c.pruner-item.result
+          c.ask_one.new.pruner (λ b. (goal.Pruner-dyn g (b.vtable, b.value)).covers b.value) within c.ask_one.ensures.covers
+          c.loop-pruner.invariant.covers;
       none = none_set c.loop-pruner.pruners c.loop-pruner.pruner-index c.pruner-item.result c.ask_one.new.pruner
           (λ b. (goal.Pruner-dyn g (b.vtable, b.value)).covers b.value c.args.task.now c.args.state.now) within
           c.loop-pruner.invariant.none
@@ -67,4 +69,5 @@ returns-clause-covered g c =
     λ any.
     none_any c.loop-pruner.pruners c.loop-pruner.pruner-index
     (λ b. (goal.Pruner-dyn g (b.vtable, b.value)).covers b.value c.args.task.now c.args.state.now) whole c.loop-pruner.invariant.none
-    ((c.loop-pruner.invariant.covers c.args.task.now c.args.state.now).1 any)
+    ((any_alike c.loop-pruner.pruners (λ b. (goal.Pruner-dyn g (b.vtable, b.value)).covers b.value) c.args.pruners.now
+    c.loop-pruner.invariant.covers c.args.task.now c.args.state.now).1 any)

@@ -4,7 +4,8 @@ use Rattle.hv_task.specs.State.{state_of}
 use Rattle.hv_task.specs.Strips.{atoms}
 use Rattle.hv_replay.proofs.Kept.{entry_there}
 use Rattle.hv_replay.proofs.Replaying.{first_uncovered, justified_all, next_justified, progress_begins, progress_next}
-use Rattle.hv_replay.proofs.Several.{AnyOf, both, found_some, match_none, match_some}
+use Rattle.hv_replay.proofs.Alike.{alike_same, alike_then, any_alike}
+use Rattle.hv_replay.proofs.Several.{AnyOf, found_some, match_none, match_some}
 use Rattle.hv_replay.specs.Working.Progress.{IsProgress}
 use Rattle.hv_replay.specs.Replayed.{pruned_in}
 use Rattle.hv_replay.specs.declared.log.Entry.{Entry}
@@ -17,13 +18,14 @@ loop-place-init g c = record {
   state = c.requires.state;
   progress = progress_begins c.args.task.now c.args.draft.now.lines c.requires.draft c.requires.good;
   justified = λ before less. absurd (omega (arith, less));
-  covers = λ task state. (λ any. any, λ any. any);
+  covers = alike_same c.args.pruners.now (λ b. (goal.Pruner-dyn g (b.vtable, b.value)).covers b.value);
   fits = λ lines extends. c.requires.fits lines;
 }
 
 pub returns-in_err-more-clause-covers : goal.returns-in_err-more-clause-covers
-returns-in_err-more-clause-covers g c = λ task state.
-    both (c.put_one.ensures.covers task state) (c.loop-place.invariant.covers task state)
+returns-in_err-more-clause-covers g c =
+    alike_then c.put_one.new.pruners (λ b. (goal.Pruner-dyn g (b.vtable, b.value)).covers b.value) c.loop-place.pruners c.args.pruners.now
+    c.put_one.ensures.covers c.loop-place.invariant.covers
 
 pub returns-in-None-clause-uncovered : goal.returns-in-None-clause-uncovered
 returns-in-None-clause-uncovered g c =
@@ -42,12 +44,14 @@ returns-in-None-clause-uncovered g c =
       first_uncovered c.args.log.now (atoms c.args.task.now) c.requires.atoms
           (λ state. AnyOf c.args.pruners.now (λ b. (goal.Pruner-dyn g (b.vtable, b.value)).covers b.value c.args.task.now state))
           c.loop-place.place w.0 w.1 c.loop-place.invariant.justified is.0
-          (λ any. is.1 ((c.loop-place.invariant.covers c.args.task.now here).1 any)),
+          (λ any. is.1 ((any_alike c.loop-place.pruners (λ b. (goal.Pruner-dyn g (b.vtable, b.value)).covers b.value) c.args.pruners.now
+          c.loop-place.invariant.covers c.args.task.now here).1 any)),
     )
 
 pub returns-in-None-clause-covers : goal.returns-in-None-clause-covers
-returns-in-None-clause-covers g c = λ task state.
-    both (c.put_one.ensures.covers task state) (c.loop-place.invariant.covers task state)
+returns-in-None-clause-covers g c =
+    alike_then c.put_one.new.pruners (λ b. (goal.Pruner-dyn g (b.vtable, b.value)).covers b.value) c.loop-place.pruners c.args.pruners.now
+    c.put_one.ensures.covers c.loop-place.invariant.covers
 
 pub loop-place-preserved : goal.loop-place-preserved
 loop-place-preserved g c =
@@ -67,14 +71,16 @@ loop-place-preserved g c =
           (λ state. AnyOf c.args.pruners.now (λ b. (goal.Pruner-dyn g (b.vtable, b.value)).covers b.value c.args.task.now state))
           c.loop-place.place w.0 w.1 c.loop-place.invariant.justified
           (λ plain.
-          (c.loop-place.invariant.covers c.args.task.now here).0
+          (any_alike c.loop-place.pruners (λ b. (goal.Pruner-dyn g (b.vtable, b.value)).covers b.value) c.args.pruners.now
+          c.loop-place.invariant.covers c.args.task.now here).0
           (match_some c.in_ok-more.field-0 c.in-Some.more
           ((w.0.expanded ≡ false)
           × (AnyOf c.loop-place.pruners (λ b. (goal.Pruner-dyn g (b.vtable, b.value)).covers b.value c.args.task.now here) → ⊥))
           (w.0.expanded ≡ false
           → AnyOf c.loop-place.pruners (λ b. (goal.Pruner-dyn g (b.vtable, b.value)).covers b.value c.args.task.now here))
           c.in-Some.is (c.in_ok-more.ensures.covered w.0 w.1) plain));
-      covers = λ task state. both (c.put_one.ensures.covers task state) (c.loop-place.invariant.covers task state);
+      covers = alike_then c.put_one.new.pruners (λ b. (goal.Pruner-dyn g (b.vtable, b.value)).covers b.value) c.loop-place.pruners
+          c.args.pruners.now c.put_one.ensures.covers c.loop-place.invariant.covers;
       fits = c.put_one.ensures.fits;
     }
 

@@ -1,6 +1,7 @@
-use Rattle.std.proofs.Common.{◌≡◌, ◌↔◌, ◌++◌, IfErr, IfOk, arith, drop, length, sym, take}
+use Rattle.std.proofs.Common.{◌≡◌, ◌++◌, IfErr, IfOk, arith, drop, length, sym, take}
 use Rattle.hv_replay.specs.Closed.{IsClosed, IsFirstHole}
 use Rattle.hv_replay.specs.declared.hole.ReplayFault.TheVariants as H
+use Rattle.hv_replay.proofs.Alike.{AlikeOf}
 use Rattle.hv_replay.proofs.Several.{AnyOf, over_list, written_back}
 use Rattle.hv_replay.proofs.proof.replay.Goals as goal
 
@@ -19,15 +20,13 @@ returns-clause-hole g c =
     c.as_mut_slice.ensures.value c.replay_by.ensures.hole
 
 pub returns-clause-covers : goal.returns-clause-covers
-returns-clause-covers g c = λ task state.
+returns-clause-covers g c =
     let new = c.replay_by.new.pruners in
     let old = c.args.pruners.now.items in
     let size : length c.replay_by.new.pruners ≡ c.args.pruners.now.len = omega (arith, c.replay_by.auto.pruners, c.as_mut_slice.ensures.len) in
     over_list new (take c.args.pruners.now.len (new ++ drop (length new) old))
-    (λ pruners. AnyOf pruners (λ b. (goal.Pruner-dyn g (b.vtable, b.value)).covers b.value task state)
-    ↔ AnyOf old (λ b. (goal.Pruner-dyn g (b.vtable, b.value)).covers b.value task state))
+    (λ pruners. AlikeOf pruners old (λ b. (goal.Pruner-dyn g (b.vtable, b.value)).covers b.value))
     (sym (written_back c.args.pruners.now.len new (drop (length new) old) size))
     (over_list c.as_mut_slice.result.now old
-    (λ pruners. AnyOf new (λ b. (goal.Pruner-dyn g (b.vtable, b.value)).covers b.value task state)
-    ↔ AnyOf pruners (λ b. (goal.Pruner-dyn g (b.vtable, b.value)).covers b.value task state))
-    c.as_mut_slice.ensures.value (c.replay_by.ensures.covers task state))
+    (λ pruners. AlikeOf new pruners (λ b. (goal.Pruner-dyn g (b.vtable, b.value)).covers b.value))
+    c.as_mut_slice.ensures.value c.replay_by.ensures.covers)
