@@ -1,5 +1,5 @@
 -- A field stands for one token: tokens are read back from their fields.
-use Rattle.std.proofs.Common.{◌≡◌, ℕ, ◌+◌, ◌*◌, ◌<◌, ◌≤◌, ◌^◌, ◌∙◌, true, false, cond, eqb, ltb, List, [], ◌∷◌, Option, None, Some, length, map, drop, get_or, refl, sym, ap, arith, decimal, lit<}
+use Rattle.std.proofs.Common.{◌≡◌, ℕ, ◌<◌, ◌≤◌, ◌^◌, ◌∙◌, true, false, cond, eqb, ltb, List, [], ◌∷◌, Option, None, Some, length, map, drop, get_or, refl, sym, ap, arith, decimal, lit<}
 use Rattle.std.proofs.lemmas.Bool.{le-ltb, lt-ltb, ne_eqb}
 use Rattle.std.proofs.lemmas.Fmt.{decimal_is_IsNumeral}
 use Rattle.std.proofs.lemmas.List.{get_or-map, length-map}

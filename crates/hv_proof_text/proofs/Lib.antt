@@ -1,8 +1,10 @@
 pub mod Counted
 pub mod Decoding
+pub mod Gathered
 pub mod Joined
 pub mod LineFields
 pub mod LineForms
+pub mod ListedForms
 pub mod ReadBack
 pub mod Rising
 pub mod TokenLists

@@ -26,8 +26,11 @@ use Rattle.hv_proof_text.specs.declared.token.Token.TheVariants as T
 use Rattle.hv_bytes.specs.Fields.{cut_fields}
 use Rattle.hv_proof_text.specs.Working.Tokens.{AreTokens, IsToken, SpellsTokens, acts_tokens, clause_tokens, constant_letter, expr_tokens, field_of, letter, literal_token, number, state_tokens, statement_tokens, tokens_of}
 use Rattle.hv_proof_text.proofs.Decoding.{cut_joined, same_tokens}
-use Rattle.hv_proof_text.proofs.LineForms.{line_out}
-use Rattle.hv_proof_text.proofs.TokenLists.{clauses_from, clauses_only, states_from, states_only}
+use Rattle.hv_proof_text.proofs.Gathered.{peel}
+use Rattle.hv_proof_text.proofs.LineForms.{line_found, line_in, line_out}
+use Rattle.hv_proof_text.specs.Working.Forms.{LineForm}
+use Rattle.hv_proof_text.specs.Working.Gathering.{StandFor, clauses_from, states_from}
+use Rattle.hv_proof_text.proofs.TokenLists.{clauses_only, states_only}
 
 -- the tokens of a line have its fields
 
@@ -231,14 +234,38 @@ tokens_from_line line tokens bytes are spells =
     let own = tokens_from_bytes line bytes spells in
     record { spelled = spells.spelled; same = same_tokens (tokens_of line) tokens own.each are.each (own.same ∙ sym are.same) }
 
--- what is found for the tokens is found for the bytes
-pub found_in_bytes : (tokens shown : List Token) (bytes : List ℕ) → shown ≡ tokens → AreTokens tokens (cut_fields bytes) → (found : Option Line)
-    → MatchOption found ((line : Line) → SpellsTokens line shown → ⊥) (λ line. SpellsTokens line shown)
+-- what is found behind a head is found for the bytes
+pub line_behind : (bytes : List ℕ) (first : Letter) (id : ℕ) (kind : Letter) (fields : List (List ℕ)) (found : Option Line) → FitsDecimal id
+    → cut_fields bytes ≡ field_of (letter first) ∷ field_of (number id) ∷ field_of (letter kind) ∷ fields
+    → MatchOption found ((line : Line) → StandFor (λ ts. LineForm first id kind ts line) fields → ⊥)
+    (λ line. StandFor (λ ts. LineForm first id kind ts line) fields)
     → MatchOption found ((line : Line) → Spells line bytes → ⊥) (λ line. Spells line bytes)
-found_in_bytes tokens shown bytes e are (Some line) spells =
-    bytes_from_tokens line tokens bytes are (subst (SpellsTokens line) e spells)
-found_in_bytes tokens shown bytes e are None never = λ line spells.
-    never line (subst (SpellsTokens line) (sym e) (tokens_from_line line tokens bytes are spells))
+line_behind bytes first id kind fields (Some line) long cut stand =
+    let behind = stand.0 in
+    let each =
+    All-cons IsToken (letter first) (number id ∷ letter kind ∷ behind) tt
+    (All-cons IsToken (number id) (letter kind ∷ behind) long (All-cons IsToken (letter kind) behind tt stand.1.each)) in
+    let same =
+    ap (λ fs. field_of (letter first) ∷ field_of (number id) ∷ field_of (letter kind) ∷ fs) stand.1.same ∙ sym cut in
+    bytes_from_tokens line (letter first ∷ number id ∷ letter kind ∷ behind) bytes (record { each = each; same = same })
+    (line_in first id kind behind line stand.2 long stand.1.each)
+line_behind bytes first id kind fields None long cut never = λ line spells.
+    let are = subst (AreTokens (tokens_of line)) cut (tokens_from_bytes line bytes spells) in
+    let one = peel (tokens_of line) (letter first) (field_of (number id) ∷ field_of (letter kind) ∷ fields) tt are in
+    let two = peel one.0 (number id) (field_of (letter kind) ∷ fields) long one.2 in
+    let three = peel two.0 (letter kind) fields tt two.2 in
+    let e = one.1 ∙ ap (λ ts. letter first ∷ ts) two.1 ∙ ap (λ ts. letter first ∷ number id ∷ ts) three.1 in
+    line_found (tokens_of line) first id kind three.0 None e are.each (λ other form. never other (three.0, three.2, form)) line
+    (record { spelled = spells.spelled; same = refl })
+
+-- without a head there is no line
+pub no_head : (bytes : List ℕ)
+    → ((first : Letter) (id : ℕ) (kind : Letter) (tokens : List Token)
+    → AreTokens (letter first ∷ number id ∷ letter kind ∷ tokens) (cut_fields bytes) → ⊥)
+    → (line : Line) → Spells line bytes → ⊥
+no_head bytes never line spells =
+    let out = line_out line spells.spelled in
+    never out.0 out.1 out.2 out.3 (subst (λ ts. AreTokens ts (cut_fields bytes)) out.4 (tokens_from_bytes line bytes spells))
 
 -- a line is read back from its tokens
 

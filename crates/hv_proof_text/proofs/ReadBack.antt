@@ -16,6 +16,7 @@ use Rattle.hv_lines.specs.Order as O
 use Rattle.hv_lines.specs.Setting.{Setting}
 use Rattle.hv_lines.specs.Spelling.{IsSpelled, fields_of, proof_text, spelling_of}
 use Rattle.hv_lines.specs.declared.line.Line.{Line}
+use Rattle.hv_lines.proofs.Drafting.{good_of}
 use Rattle.hv_proof_text.specs.Working.Tokens.{IsToken, field_of, tokens_of}
 use Rattle.hv_proof_text.specs.declared.token.Token.{Token}
 use Rattle.hv_proof_text.proofs.Decoding.{IsVisible, visible_field}
@@ -105,10 +106,6 @@ draft_short : (task : Strips) (lines : List Line) → IsGoodTable task lines →
 draft_short task [] good = All-nil IsShortLine
 draft_short task (line ∷ older) good = All-cons IsShortLine line older good.0.short (draft_short task older good.1)
 
-draft_good : (task : Strips) (lines : List Line) → IsGoodTable task lines → AreGood (draft_setting task) lines
-draft_good task [] good = tt
-draft_good task (line ∷ older) good = (good.0.good, draft_good task older good.1)
-
 -- the text of a good draft is accepted, line by line
 pub draft_accepted : (task : Strips) (lines : List Line) → IsGoodTable task lines → length (proof_text (reverse lines)) ≤ most_file_bytes
     → Accepts (draft_setting task) (reverse (pieces_of standard (proof_text (reverse lines)))) lines
@@ -117,7 +114,7 @@ draft_accepted task lines good small =
     ap (pieces_after standard 0) (proof_lines (reverse lines) (All-reversed IsSpelled lines (draft_spelled task lines good)))
     ∙ proof_pieces 0 (reverse lines) (All-reversed IsShortLine lines (draft_short task lines good)) (omega (arith, small)) in
     subst (λ ps. Accepts (draft_setting task) ps lines) (sym (ap reverse cut ∙ map_reversed piece_of lines))
-    (accepted (draft_setting task) lines (draft_good task lines good))
+    (accepted (draft_setting task) lines (good_of task lines good))
 
 -- and judged by it, where some line concludes
 pub draft_judged : (task : Strips) (lines : List Line) → IsGoodTable task lines → Concludes lines

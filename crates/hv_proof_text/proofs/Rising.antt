@@ -8,18 +8,12 @@ use Rattle.hv_task.proofs.Rising.{same_rising}
 use Rattle.std.specs.List.{All, Contains}
 use Rattle.std.specs.List.Sorted.{IsStrictlyIncreasing}
 use Rattle.hv_lines.specs.Spelling.{FitsShortDecimal, IsRising}
+use Rattle.hv_lines.proofs.Lists.{increasing_tail}
 
 -- the first is at least so great, and each further one greater than the one before it
 abbrev pub RisesFrom : ℕ → List ℕ → Type 0
 RisesFrom least [] = Unit {0}
 RisesFrom least (n ∷ ns) = (least ≤ n) × FitsShortDecimal n × RisesFrom (n + 1) ns
-
-increasing_tail : (n : ℕ) (ns : List ℕ) → IsStrictlyIncreasing (n ∷ ns) → IsStrictlyIncreasing ns
-increasing_tail n ns rises k within =
-    let more : suc k + 1 < length (n ∷ ns) = omega arith in
-    let less = rises (suc k) more in
-    let e : get_or (n ∷ ns) (suc k + 1) 0 ≡ get_or ns (k + 1) 0 = rw (add-one, add-one) in
-    omega arith
 
 short_from : (least : ℕ) (ns : List ℕ) → RisesFrom least ns → All FitsShortDecimal ns
 short_from least [] r = All-nil FitsShortDecimal

@@ -1,12 +1,13 @@
 -- Lists of tokens read from the front: rising numbers, states and clauses.
-use Rattle.std.proofs.Common.{◌≡◌, ℕ, ◌+◌, ◌-◌, ◌<◌, ◌≤◌, ◌^◌, ◌∙◌, ◌⊎◌, inl, inr, ◌&&◌, Bool, true, false, cond, eqb, ltb, leb, List, [], ◌∷◌, ◌++◌, length, map, drop, get_or, Option, Some, None, refl, sym, ap, arith, subst, append_assoc}
+use Rattle.std.proofs.Common.{◌≡◌, ℕ, ◌+◌, ◌-◌, ◌<◌, ◌≤◌, ◌^◌, ◌∙◌, ◌⊎◌, inl, inr, ◌&&◌, Bool, true, false, cond, eqb, ltb, leb, List, [], ◌∷◌, ◌++◌, map, Option, Some, None, refl, sym, ap, arith, subst, append_assoc}
 use Rattle.std.proofs.lemmas.Bool.{ltb-true, leb-true, lt-ltb, le-leb, eqb-true, eqb-false, ne_eqb, and_parts}
-use Rattle.std.proofs.lemmas.List.{at_drop_more, at_drop_all, append-nil, map-append}
+use Rattle.std.proofs.lemmas.List.{append-nil, map-append}
 use Rattle.std.proofs.lemmas.List.Concat.{flat_map-append}
 use Rattle.std.proofs.lemmas.List.Elements.{All-nil, All-push, All-head, All-tail}
 use Rattle.std.specs.List.{All, flat_map}
 use Rattle.hv_sets.specs.declared.literal.Literal.{Literal}
 use Rattle.hv_lines.specs.Spelling.{FitsShortDecimal, FitsLiteral, IsRising}
+use Rattle.hv_proof_text.specs.Working.Gathering.{numbers_from, rising_next, states_from, states_next, clauses_from, clauses_next}
 use Rattle.hv_proof_text.specs.Working.Pieces.{state_piece, clause_piece}
 use Rattle.hv_proof_text.specs.Working.Tokens.{AreRisingNumbers, AreClauseTokens, AreStateTokens, number, literal_token, clause_tokens, state_tokens}
 use Rattle.hv_proof_text.specs.declared.lists.ClausePiece.{ClausePiece}
@@ -15,7 +16,7 @@ use Rattle.hv_proof_text.specs.declared.lists.StatePiece.{StatePiece}
 use Rattle.hv_proof_text.specs.declared.lists.StatePiece.TheVariants as Q
 use Rattle.hv_proof_text.specs.declared.token.Token.{Token}
 use Rattle.hv_proof_text.specs.declared.token.Token.TheVariants as T
-use Rattle.hv_proof_text.proofs.Rising.{RisesFrom, rising_from, from_rising, below_more}
+use Rattle.hv_proof_text.proofs.Rising.{RisesFrom, rising_from, from_rising}
 
 -- Pieces of states.
 
@@ -63,39 +64,10 @@ some_and_none some none = cc
 
 -- Rising numbers.
 
-abbrev pub rising_next : StatePiece → (ℕ → Option (List ℕ)) → Option (List ℕ)
-rising_next (Q.Atom n) go = go n
-rising_next Q.End go = None
-rising_next Q.Other go = None
-
--- the numbers so far and those of the tokens, whose next is at least so great
-abbrev pub numbers_from : List ℕ → ℕ → List Token → Option (List ℕ)
-numbers_from done least [] = Some done
-numbers_from done least (token ∷ tokens) =
-    rising_next (state_piece least token) (λ n. numbers_from (done ++ n ∷ []) (n + 1) tokens)
-
-pub numbers_step : (done : List ℕ) (least : ℕ) (tokens : List Token) (i n : ℕ) (d : Token) → i < length tokens
-    → state_piece least (get_or tokens i d) ≡ Q.Atom n
-    → numbers_from done least (drop i tokens) ≡ numbers_from (done ++ n ∷ []) (n + 1) (drop (i + 1) tokens)
-numbers_step done least tokens i n d within e =
-    at_drop_more (numbers_from done least) tokens i d within
-    ∙ ap (λ piece. rising_next piece (λ n. numbers_from (done ++ n ∷ []) (n + 1) (drop (i + 1) tokens))) e
-
-rising_stop : (piece : StatePiece) (go : ℕ → Option (List ℕ)) → ((n : ℕ) → piece ≡ Q.Atom n → ⊥) → rising_next piece go ≡ None
+pub rising_stop : (piece : StatePiece) (go : ℕ → Option (List ℕ)) → ((n : ℕ) → piece ≡ Q.Atom n → ⊥) → rising_next piece go ≡ None
 rising_stop (Q.Atom n) go never = absurd (never n refl)
 rising_stop Q.End go never = refl
 rising_stop Q.Other go never = refl
-
-pub numbers_stop : (done : List ℕ) (least : ℕ) (tokens : List Token) (i : ℕ) (d : Token) → i < length tokens
-    → ((n : ℕ) → state_piece least (get_or tokens i d) ≡ Q.Atom n → ⊥)
-    → numbers_from done least (drop i tokens) ≡ None
-numbers_stop done least tokens i d within never =
-    at_drop_more (numbers_from done least) tokens i d within
-    ∙ rising_stop (state_piece least (get_or tokens i d)) (λ n. numbers_from (done ++ n ∷ []) (n + 1) (drop (i + 1) tokens)) never
-
-pub numbers_end : (done : List ℕ) (least : ℕ) (tokens : List Token) (i : ℕ) → length tokens ≤ i
-    → numbers_from done least (drop i tokens) ≡ Some done
-numbers_end done least tokens i past = at_drop_all (numbers_from done least) tokens i past
 
 numbers_out : (rest done : List ℕ) (least : ℕ) → RisesFrom least rest → numbers_from done least (map number rest) ≡ Some (done ++ rest)
 numbers_out [] done least r = ap (λ l. Some l) (sym (append-nil done))
@@ -136,52 +108,6 @@ numbers_only tokens xs are =
 
 -- States.
 
-abbrev pub states_next : StatePiece → List (List ℕ) → List ℕ → (List (List ℕ) → List ℕ → ℕ → Option (List (List ℕ))) → Option (List (List ℕ))
-states_next (Q.Atom n) all state go = go all (state ++ n ∷ []) (n + 1)
-states_next Q.End all state go = go (all ++ state ∷ []) [] 0
-states_next Q.Other all state go = None
-
--- the states so far, if none is begun
-abbrev pub whole_states : List (List ℕ) → List ℕ → Option (List (List ℕ))
-whole_states all [] = Some all
-whole_states all (n ∷ state) = None
-
--- the states so far, the one that is begun, and those of the tokens
-abbrev pub states_from : List (List ℕ) → List ℕ → ℕ → List Token → Option (List (List ℕ))
-states_from all state least [] = whole_states all state
-states_from all state least (token ∷ tokens) =
-    states_next (state_piece least token) all state (λ a s l. states_from a s l tokens)
-
-module _ (all : List (List ℕ)) (state : List ℕ) (least : ℕ) (tokens : List Token) (i : ℕ) (d : Token) (within : i < length tokens) where
-  states_more : states_from all state least (drop i tokens)
-      ≡ states_next (state_piece least (get_or tokens i d)) all state (λ a s l. states_from a s l (drop (i + 1) tokens))
-  states_more = at_drop_more (states_from all state least) tokens i d within
-
-  states_at : (piece : StatePiece) → state_piece least (get_or tokens i d) ≡ piece
-      → states_from all state least (drop i tokens) ≡ states_next piece all state (λ a s l. states_from a s l (drop (i + 1) tokens))
-  states_at piece e = states_more ∙ ap (λ p. states_next p all state (λ a s l. states_from a s l (drop (i + 1) tokens))) e
-
-  pub states_atom : (n : ℕ) → state_piece least (get_or tokens i d) ≡ Q.Atom n
-      → states_from all state least (drop i tokens) ≡ states_from all (state ++ n ∷ []) (n + 1) (drop (i + 1) tokens)
-  states_atom n e = states_at (Q.Atom n) e
-
-  pub states_end : state_piece least (get_or tokens i d) ≡ Q.End
-      → states_from all state least (drop i tokens) ≡ states_from (all ++ state ∷ []) [] 0 (drop (i + 1) tokens)
-  states_end e = states_at Q.End e
-
-  pub states_stop : state_piece least (get_or tokens i d) ≡ Q.Other → states_from all state least (drop i tokens) ≡ None
-  states_stop e = states_at Q.Other e
-
-pub states_whole : (all : List (List ℕ)) (state : List ℕ) (least : ℕ) (tokens : List Token) (i : ℕ) → length tokens ≤ i
-    → length state ≡ 0 → states_from all state least (drop i tokens) ≡ Some all
-states_whole all [] least tokens i past none = at_drop_all (states_from all [] least) tokens i past
-states_whole all (n ∷ state) least tokens i past none = absurd (omega arith)
-
-pub states_begun : (all : List (List ℕ)) (state : List ℕ) (least : ℕ) (tokens : List Token) (i : ℕ) → length tokens ≤ i
-    → (length state ≡ 0 → ⊥) → states_from all state least (drop i tokens) ≡ None
-states_begun all [] least tokens i past some = absurd (some refl)
-states_begun all (n ∷ state) least tokens i past some = at_drop_all (states_from all (n ∷ state) least) tokens i past
-
 state_out : (rest state : List ℕ) (least : ℕ) (all : List (List ℕ)) (tokens : List Token) → RisesFrom least rest
     → states_from all state least (state_tokens rest ++ tokens) ≡ states_from (all ++ (state ++ rest) ∷ []) [] 0 tokens
 state_out [] state least all tokens r = ap (λ s. states_from (all ++ s ∷ []) [] 0 tokens) (sym (append-nil state))
@@ -196,26 +122,6 @@ states_out (state ∷ states) all each =
     state_out state [] 0 all (flat_map state_tokens states) (from_rising state (All-head IsRising state states each))
     ∙ states_out states (all ++ state ∷ []) (All-tail IsRising state states each)
     ∙ ap (λ l. Some l) (append_assoc all (state ∷ []) states)
-
--- what the reader of states keeps: at an atom, and at an end
-module _ (tokens : List Token) (all : List (List ℕ)) (state : List ℕ) (least i : ℕ) (d : Token) (within : i < length tokens)
-    (same : states_from [] [] 0 tokens ≡ states_from all state least (drop i tokens)) (new_all : List (List ℕ)) (new_state : List ℕ)
-    (new_least : ℕ) where
-  pub kept_at_atom : (n : ℕ) → Q.Atom n ≡ state_piece least (get_or tokens i d) → All (λ a. a < least) state → new_all ≡ all
-      → new_state ≡ state ++ n ∷ [] → new_least ≡ n + 1
-      → (states_from [] [] 0 tokens ≡ states_from new_all new_state new_least (drop (i + 1) tokens)) × All (λ a. a < new_least) new_state
-  kept_at_atom n read below all-is state-is least-is =
-      let is = piece_atom least n (get_or tokens i d) (sym read) in (
-        same ∙ states_atom all state least tokens i d within n (sym read) ∙ rw (all-is, state-is, least-is),
-        rw (state-is, least-is) (below_more state least n below is.1),
-      )
-
-  pub kept_at_end : Q.End ≡ state_piece least (get_or tokens i d) → new_all ≡ all ++ state ∷ [] → new_state ≡ [] → new_least ≡ 0
-      → (states_from [] [] 0 tokens ≡ states_from new_all new_state new_least (drop (i + 1) tokens)) × All (λ a. a < new_least) new_state
-  kept_at_end read all-is state-is least-is = (
-    same ∙ states_end all state least tokens i d within (sym read) ∙ rw (all-is, state-is, least-is),
-    rw state-is (All-nil (λ a. a < new_least)),
-  )
 
 -- a state that is begun rises, however it goes on
 abbrev pub GoesOn : List ℕ → ℕ → Type 0
@@ -276,68 +182,17 @@ states_only tokens xs are = ap (states_from [] [] 0) (sym are.same) ∙ states_o
 pub some_injective : {A : Type 0} {x y : A} → Some x ≡ Some y → x ≡ y
 some_injective e = cc
 
-pub same_counts : {m n : ℕ} {xs ys : List Token} → number m ∷ xs ≡ number n ∷ ys → (m ≡ n) × (xs ≡ ys)
-same_counts e = (cc, cc)
+-- two lists of numbers that are spelled alike are one
+pub same_numbers : (xs ys : List ℕ) (tokens : List Token) → AreRisingNumbers xs tokens → AreRisingNumbers ys tokens → xs ≡ ys
+same_numbers xs ys tokens left right =
+    let l = numbers_only tokens xs left in let r = numbers_only tokens ys right in some_injective (sym l ∙ r)
 
 -- two lists of states that are spelled alike are one
 pub same_states : (xs ys : List (List ℕ)) (tokens : List Token) → AreStateTokens xs tokens → AreStateTokens ys tokens → xs ≡ ys
 same_states xs ys tokens left right =
     let l = states_only tokens xs left in let r = states_only tokens ys right in some_injective (sym l ∙ r)
 
--- a count that isn't that of the states which follow is that of no others
-pub miscounted_states : (tokens rest : List Token) (count : ℕ) (xs : List (List ℕ)) → tokens ≡ number count ∷ rest
-    → AreStateTokens xs rest → (length xs ≡ count → ⊥) → (ys : List (List ℕ)) (items : List Token)
-    → tokens ≡ number (length ys) ∷ items → AreStateTokens ys items → ⊥
-miscounted_states tokens rest count xs head are other ys items same are_too =
-    let h = same_counts (sym head ∙ same) in
-    other (ap length (same_states xs ys rest are (subst (AreStateTokens ys) (sym h.1) are_too)) ∙ sym h.0)
-
 -- Clauses.
-
-abbrev pub clauses_next : ClausePiece → List (List Literal) → List Literal → (List (List Literal) → List Literal → Option (List (List Literal))) → Option (List (List Literal))
-clauses_next (P.Literal literal) all clause go = go all (clause ++ literal ∷ [])
-clauses_next P.End all clause go = go (all ++ clause ∷ []) []
-clauses_next P.Other all clause go = None
-
--- the clauses so far, if none is begun
-abbrev pub whole_clauses : List (List Literal) → List Literal → Option (List (List Literal))
-whole_clauses all [] = Some all
-whole_clauses all (literal ∷ clause) = None
-
--- the clauses so far, the one that is begun, and those of the tokens
-abbrev pub clauses_from : List (List Literal) → List Literal → List Token → Option (List (List Literal))
-clauses_from all clause [] = whole_clauses all clause
-clauses_from all clause (token ∷ tokens) = clauses_next (clause_piece token) all clause (λ a c. clauses_from a c tokens)
-
-module _ (all : List (List Literal)) (clause : List Literal) (tokens : List Token) (i : ℕ) (d : Token) (within : i < length tokens) where
-  clauses_more : clauses_from all clause (drop i tokens)
-      ≡ clauses_next (clause_piece (get_or tokens i d)) all clause (λ a c. clauses_from a c (drop (i + 1) tokens))
-  clauses_more = at_drop_more (clauses_from all clause) tokens i d within
-
-  clauses_at : (piece : ClausePiece) → clause_piece (get_or tokens i d) ≡ piece
-      → clauses_from all clause (drop i tokens) ≡ clauses_next piece all clause (λ a c. clauses_from a c (drop (i + 1) tokens))
-  clauses_at piece e = clauses_more ∙ ap (λ p. clauses_next p all clause (λ a c. clauses_from a c (drop (i + 1) tokens))) e
-
-  pub clauses_literal : (literal : Literal) → clause_piece (get_or tokens i d) ≡ P.Literal literal
-      → clauses_from all clause (drop i tokens) ≡ clauses_from all (clause ++ literal ∷ []) (drop (i + 1) tokens)
-  clauses_literal literal e = clauses_at (P.Literal literal) e
-
-  pub clauses_end : clause_piece (get_or tokens i d) ≡ P.End
-      → clauses_from all clause (drop i tokens) ≡ clauses_from (all ++ clause ∷ []) [] (drop (i + 1) tokens)
-  clauses_end e = clauses_at P.End e
-
-  pub clauses_stop : clause_piece (get_or tokens i d) ≡ P.Other → clauses_from all clause (drop i tokens) ≡ None
-  clauses_stop e = clauses_at P.Other e
-
-pub clauses_whole : (all : List (List Literal)) (clause : List Literal) (tokens : List Token) (i : ℕ) → length tokens ≤ i
-    → length clause ≡ 0 → clauses_from all clause (drop i tokens) ≡ Some all
-clauses_whole all [] tokens i past none = at_drop_all (clauses_from all []) tokens i past
-clauses_whole all (literal ∷ clause) tokens i past none = absurd (omega arith)
-
-pub clauses_begun : (all : List (List Literal)) (clause : List Literal) (tokens : List Token) (i : ℕ) → length tokens ≤ i
-    → (length clause ≡ 0 → ⊥) → clauses_from all clause (drop i tokens) ≡ None
-clauses_begun all [] tokens i past some = absurd (some refl)
-clauses_begun all (literal ∷ clause) tokens i past some = at_drop_all (clauses_from all (literal ∷ clause)) tokens i past
 
 positive_piece : (atom : ℕ) → atom + 1 < 10 ^ 9 → clause_piece (T.Number (atom + 1)) ≡ P.Literal (record { atom = atom; positive = true })
 positive_piece atom short =
@@ -483,11 +338,3 @@ clauses_only tokens xs are = ap (clauses_from [] []) (sym are.same) ∙ clauses_
 pub same_clauses : (xs ys : List (List Literal)) (tokens : List Token) → AreClauseTokens xs tokens → AreClauseTokens ys tokens → xs ≡ ys
 same_clauses xs ys tokens left right =
     let l = clauses_only tokens xs left in let r = clauses_only tokens ys right in some_injective (sym l ∙ r)
-
--- a count that isn't that of the clauses which follow is that of no others
-pub miscounted_clauses : (tokens rest : List Token) (count : ℕ) (xs : List (List Literal)) → tokens ≡ number count ∷ rest
-    → AreClauseTokens xs rest → (length xs ≡ count → ⊥) → (ys : List (List Literal)) (items : List Token)
-    → tokens ≡ number (length ys) ∷ items → AreClauseTokens ys items → ⊥
-miscounted_clauses tokens rest count xs head are other ys items same are_too =
-    let h = same_counts (sym head ∙ same) in
-    other (ap length (same_clauses xs ys rest are (subst (AreClauseTokens ys) (sym h.1) are_too)) ∙ sym h.0)

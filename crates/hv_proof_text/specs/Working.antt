@@ -3,3 +3,5 @@ pub mod Tokens
 pub mod Forms
 pub mod Pieces
 pub mod Writing
+pub mod Gathering
+pub mod Heads

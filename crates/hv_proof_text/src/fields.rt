@@ -1,27 +1,57 @@
-//! The fields of a line, and the token that each stands for.
+//! The fields of a line, one after the other, and the tokens that they stand for.
 
-ghost use Rattle.std.specs.Prelude.{◌≡◌, ◌==◌, ℕ, true, false, List, Ok};
-ghost use Rattle.hv_bytes.specs.Fields.{cut_fields};
-ghost use Rattle.hv_proof_text.specs.Working.Tokens.{AreTokens};
+ghost use Rattle.std.specs.Prelude.{◌≡◌, ◌<◌, ◌≤◌, ◌^◌, ℕ, ◌∷◌, true, false, decimal, length, List, MatchOption, Ok};
+ghost use Rattle.hv_proof_text.specs.Working.Gathering.{fields_behind};
+ghost use Rattle.hv_proof_text.specs.Working.Tokens.{AreTokens, letter, letter_field, number};
+ghost use Rattle.hv_proof_text.specs.declared.token.Letter.{Letter};
 ghost use Rattle.hv_proof_text.specs.declared.token.Token.{Token};
 
-use crate::token::{Token, token_of};
+use crate::token::{Letter, Token, letter_of, number_of, token_of};
+use hv_bytes::split_field;
 use std::alloc::AllocError;
 
-/// Puts the tokens of the fields in place of what was there, and says whether each field is one:
-/// the bytes are cut at each space. The memory grows with the fields before the first one that is
-/// no token.
-pub(crate) fn tokens_in(tokens: &mut Vec<Token>, bytes: &[u8]) -> Result<bool, AllocError>
-    ensures some { result ≡ Ok true → AreTokens tokens.new.items (cut_fields bytes.now) }
-    ensures none { result ≡ Ok false
-        → (others : List Token) → AreTokens others (cut_fields bytes.now) → ⊥ }
+/// The letter of the first field, and what follows that.
+pub(crate) fn first_letter(fields: Option<&[u8]>) -> Option<(Letter, Option<&[u8]>)>
+    ensures { MatchOption result
+        ((first : Letter) (tokens : List Token) → AreTokens (letter first ∷ tokens)
+        (fields_behind fields.entry (λ f. f.now)) → ⊥)
+        (λ p. fields_behind fields.entry (λ f. f.now)
+        ≡ letter_field p.0 ∷ fields_behind p.1 (λ f. f.now)) }
+{
+    let (field, behind) = split_field(fields?);
+    Some((letter_of(field)?, behind))
+}
+
+/// The number of the first field, and what follows that.
+pub(crate) fn first_number(fields: Option<&[u8]>) -> Option<(u64, Option<&[u8]>)>
+    ensures { MatchOption result
+        ((n : ℕ) (tokens : List Token) → AreTokens (number n ∷ tokens)
+        (fields_behind fields.entry (λ f. f.now)) → ⊥)
+        (λ p. (p.0 < 10 ^ 18) × (fields_behind fields.entry (λ f. f.now)
+        ≡ decimal p.0 ∷ fields_behind p.1 (λ f. f.now))) }
+{
+    let (field, behind) = split_field(fields?);
+    Some((number_of(field)?, behind))
+}
+
+/// Puts the tokens of the fields in place of what was there, and says whether each field is one.
+pub(crate) fn tokens_in(tokens: &mut Vec<Token>, fields: Option<&[u8]>) -> Result<bool, AllocError>
+    ensures some { result ≡ Ok true
+        → AreTokens tokens.new.items (fields_behind fields.entry (λ f. f.now)) }
+    ensures none { result ≡ Ok false → (others : List Token)
+        → AreTokens others (fields_behind fields.entry (λ f. f.now)) → ⊥ }
 {
     tokens.clear();
-    for field in bytes.split(|byte| *byte == b' ') {
-        match token_of(field) {
-            Some(token) => tokens.push(token)?,
-            None => return Ok(false),
-        }
+    let mut rest = fields;
+    'fields: loop {
+        let Some(line) = rest else {
+            return Ok(true);
+        };
+        let (field, behind) = split_field(line);
+        let Some(token) = token_of(field) else {
+            return Ok(false);
+        };
+        tokens.push(token)?;
+        rest = behind;
     }
-    Ok(true)
 }

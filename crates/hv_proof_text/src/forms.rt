@@ -1,7 +1,7 @@
 //! Lines from tokens: what may stand behind each letter.
 
-ghost use Rattle.std.specs.Prelude.{◌≡◌, ℕ, List, ◌∷◌, MatchOption, IfOk, length};
-ghost use Rattle.std.specs.List.{All};
+ghost use Rattle.std.specs.Prelude.{◌≡◌, ℕ, List, ◌∷◌, None, MatchOption, IfOk, length};
+ghost use Rattle.hv_lines.specs.Spelling.{Spells};
 ghost use Rattle.hv_lines.specs.declared.line.Acts.{Acts};
 ghost use Rattle.hv_lines.specs.declared.line.Expr.{Expr};
 ghost use Rattle.hv_lines.specs.declared.line.Line.{Line};
@@ -9,12 +9,16 @@ ghost use Rattle.hv_lines.specs.declared.line.Statement.{Statement};
 ghost use Rattle.hv_lines.specs.declared.line.Word.{Word};
 ghost use Rattle.hv_proof_text.specs.Working.Forms.{ActsForm, ExprForm, ClaimForm, SupportForm, LineForm};
 ghost use Rattle.hv_sets.specs.declared.literal.Literal.{Literal};
-ghost use Rattle.hv_proof_text.specs.Working.Tokens.{number, AreClauseTokens, AreStateTokens, IsToken, SpellsTokens};
+ghost use Rattle.hv_proof_text.specs.Working.Gathering.{BeginsWithCount, StandFor, fields_behind};
+ghost use Rattle.hv_proof_text.specs.Working.Heads.{listed_by, listed_kind, listed_letter};
+ghost use Rattle.hv_proof_text.specs.Working.Tokens.{AreClauseTokens, AreRisingNumbers, AreStateTokens};
 ghost use Rattle.hv_proof_text.specs.declared.token.Token.{Token};
 
+use crate::fields::{first_number, tokens_in};
+use crate::shapes::{Head, Listed};
 use crate::token::{Letter, Token};
 use crate::{lists, shapes};
-use hv_lines::{Acts, Expr, Line, Premises, Statement, Word};
+use hv_lines::{ActionList, Acts, Expr, Line, Premises, Statement, Word};
 use hv_sets::{Clauses, StateList};
 use std::alloc::{AllocError, Global};
 
@@ -80,101 +84,42 @@ fn support_of(statement: &Statement, tokens: &[Token]) -> Option<Support>
     Some(Support { word, premises })
 }
 
-/// The action set behind its letter.
-fn acts_of(alloc: Global, kind: Letter, tokens: &[Token]) -> Result<Option<Acts>, AllocError>
-    ensures { IfOk result (λ found. MatchOption found
+/// The action set behind its letter, where that isn't listed.
+fn acts_of(kind: Letter, tokens: &[Token]) -> Option<Acts>
+    requires { listed_by Letter.A kind ≡ None }
+    ensures { MatchOption result
         ((acts : Acts) → ActsForm kind tokens.now acts → ⊥)
-        (λ acts. ActsForm kind tokens.now acts)) }
+        (λ acts. ActsForm kind tokens.now acts) }
 {
     match kind {
         Letter::A => match tokens {
-            [] => Ok(Some(Acts::All)),
-            _ => Ok(None),
+            [] => Some(Acts::All),
+            _ => None,
         },
-        Letter::B => listed_acts(alloc, tokens),
         Letter::U => match shapes::two_numbers(tokens) {
-            Some(pair) => Ok(Some(Acts::Both(pair.0, pair.1))),
-            None => Ok(None),
+            Some(pair) => Some(Acts::Both(pair.0, pair.1)),
+            None => None,
         },
-        _ => Ok(None),
+        _ => None,
     }
 }
 
-/// A count and so many actions.
-fn listed_acts(alloc: Global, tokens: &[Token]) -> Result<Option<Acts>, AllocError>
-    ensures { IfOk result (λ found. MatchOption found
-        ((acts : Acts) → ActsForm Letter.B tokens.now acts → ⊥)
-        (λ acts. ActsForm Letter.B tokens.now acts)) }
-{
-    let Some(counted) = shapes::counted(tokens) else {
-        return Ok(None);
-    };
-    match lists::rising_numbers(alloc, counted.1)? {
-        Some(actions) if actions.len() as u64 == counted.0 => Ok(Some(Acts::List(actions))),
-        _ => Ok(None),
-    }
-}
-
-/// The set behind its letter.
-fn expr_of(alloc: Global, kind: Letter, tokens: &[Token]) -> Result<Option<Expr>, AllocError>
-    ensures { IfOk result (λ found. MatchOption found
+/// The set behind its letter, where that isn't listed.
+fn expr_of(kind: Letter, tokens: &[Token]) -> Option<Expr>
+    requires { listed_by Letter.E kind ≡ None }
+    ensures { MatchOption result
         ((expr : Expr) → ExprForm kind tokens.now expr → ⊥)
-        (λ expr. ExprForm kind tokens.now expr)) }
+        (λ expr. ExprForm kind tokens.now expr) }
 {
     match kind {
-        Letter::C => Ok(shapes::constant_of(tokens).map(Expr::Constant)),
-        Letter::H => Ok(counted_clauses(alloc, tokens)?.map(Expr::Horn)),
-        Letter::T => Ok(counted_clauses(alloc, tokens)?.map(Expr::Two)),
-        Letter::X => Ok(counted_states(alloc, tokens)?.map(Expr::States)),
-        Letter::B => Ok(shapes::one_short_number(tokens).map(Expr::Node)),
-        Letter::N => Ok(shapes::one_number(tokens).map(Expr::Not)),
-        Letter::I => Ok(shapes::two_numbers(tokens).map(|pair| Expr::And(pair.0, pair.1))),
-        Letter::U => Ok(shapes::two_numbers(tokens).map(|pair| Expr::Or(pair.0, pair.1))),
-        Letter::P => Ok(shapes::two_numbers(tokens).map(|pair| Expr::After(pair.0, pair.1))),
-        Letter::R => Ok(shapes::two_numbers(tokens).map(|pair| Expr::Before(pair.0, pair.1))),
-        _ => Ok(None),
-    }
-}
-
-/// A count and so many clauses.
-fn counted_clauses(alloc: Global, tokens: &[Token]) -> Result<Option<Clauses>, AllocError>
-    ensures { IfOk result (λ found. MatchOption found
-        ((clauses : List (List Literal)) (items : List Token)
-        → tokens.now ≡ number (length clauses) ∷ items → AreClauseTokens clauses items → ⊥)
-        (λ clauses. (items : List Token) × (tokens.now ≡ number (length clauses) ∷ items)
-        × AreClauseTokens clauses items)) }
-{
-    let Some(counted) = shapes::counted(tokens) else {
-        return Ok(None);
-    };
-    let Some(clauses) = lists::clauses_in(alloc, counted.1)? else {
-        return Ok(None);
-    };
-    if clauses.len() as u64 == counted.0 {
-        Ok(Some(clauses.share()?))
-    } else {
-        Ok(None)
-    }
-}
-
-/// A count and so many states.
-fn counted_states(alloc: Global, tokens: &[Token]) -> Result<Option<StateList>, AllocError>
-    ensures { IfOk result (λ found. MatchOption found
-        ((states : List (List ℕ)) (items : List Token)
-        → tokens.now ≡ number (length states) ∷ items → AreStateTokens states items → ⊥)
-        (λ states. (items : List Token) × (tokens.now ≡ number (length states) ∷ items)
-        × AreStateTokens states items)) }
-{
-    let Some(counted) = shapes::counted(tokens) else {
-        return Ok(None);
-    };
-    let Some(states) = lists::states_in(alloc, counted.1)? else {
-        return Ok(None);
-    };
-    if states.len() as u64 == counted.0 {
-        Ok(Some(states.share()?))
-    } else {
-        Ok(None)
+        Letter::C => shapes::constant_of(tokens).map(Expr::Constant),
+        Letter::B => shapes::one_short_number(tokens).map(Expr::Node),
+        Letter::N => shapes::one_number(tokens).map(Expr::Not),
+        Letter::I => shapes::two_numbers(tokens).map(|pair| Expr::And(pair.0, pair.1)),
+        Letter::U => shapes::two_numbers(tokens).map(|pair| Expr::Or(pair.0, pair.1)),
+        Letter::P => shapes::two_numbers(tokens).map(|pair| Expr::After(pair.0, pair.1)),
+        Letter::R => shapes::two_numbers(tokens).map(|pair| Expr::Before(pair.0, pair.1)),
+        _ => None,
     }
 }
 
@@ -194,41 +139,173 @@ fn known_of(id: usize, kind: Letter, tokens: &[Token]) -> Option<Line>
     })
 }
 
-/// The line behind its letter.
-fn line_by(
-    alloc: Global,
-    letter: Letter,
-    id: usize,
-    kind: Letter,
-    tokens: &[Token],
-) -> Result<Option<Line>, AllocError>
-    ensures { IfOk result (λ found. MatchOption found
+/// The line behind its head, where nothing is listed there.
+fn plain_line(letter: Letter, id: usize, kind: Letter, tokens: &[Token]) -> Option<Line>
+    requires { listed_by letter kind ≡ None }
+    ensures { MatchOption result
         ((line : Line) → LineForm letter id kind tokens.now line → ⊥)
-        (λ line. LineForm letter id kind tokens.now line)) }
+        (λ line. LineForm letter id kind tokens.now line) }
 {
     match letter {
-        Letter::A => match acts_of(alloc, kind, tokens)? {
-            Some(acts) => Ok(Some(Line::Acts { id, acts })),
-            None => Ok(None),
+        Letter::A => match acts_of(kind, tokens) {
+            Some(acts) => Some(Line::Acts { id, acts }),
+            None => None,
         },
-        Letter::E => match expr_of(alloc, kind, tokens)? {
-            Some(expr) => Ok(Some(Line::Expr { id, expr })),
-            None => Ok(None),
+        Letter::E => match expr_of(kind, tokens) {
+            Some(expr) => Some(Line::Expr { id, expr }),
+            None => None,
         },
-        Letter::K => Ok(known_of(id, kind, tokens)),
-        _ => Ok(None),
+        Letter::K => known_of(id, kind, tokens),
+        _ => None,
     }
 }
 
-/// The line of these tokens.
-pub(crate) fn line_of(alloc: Global, tokens: &[Token]) -> Result<Option<Line>, AllocError>
-    requires { All IsToken tokens.now }
+/// A count and so many actions.
+fn counted_actions(alloc: Global, fields: Option<&[u8]>) -> Result<Option<ActionList>, AllocError>
     ensures { IfOk result (λ found. MatchOption found
-        ((line : Line) → SpellsTokens line tokens.now → ⊥)
-        (λ line. SpellsTokens line tokens.now)) }
+        ((actions : List ℕ) → StandFor (BeginsWithCount (AreRisingNumbers actions) (length actions))
+        (fields_behind fields.entry (λ f. f.now)) → ⊥)
+        (λ actions. StandFor (BeginsWithCount (AreRisingNumbers actions) (length actions))
+        (fields_behind fields.entry (λ f. f.now)))) }
 {
-    match shapes::head_of(tokens) {
-        Some(head) => line_by(alloc, head.letter, head.id, head.kind, head.rest),
+    let Some((count, behind)) = first_number(fields) else {
+        return Ok(None);
+    };
+    let Some(actions) = lists::rising_numbers(alloc, behind)? else {
+        return Ok(None);
+    };
+    if actions.len() as u64 == count {
+        Ok(Some(actions))
+    } else {
+        Ok(None)
+    }
+}
+
+/// A count and so many clauses.
+fn counted_clauses(alloc: Global, fields: Option<&[u8]>) -> Result<Option<Clauses>, AllocError>
+    ensures { IfOk result (λ found. MatchOption found
+        ((clauses : List (List Literal)) → StandFor
+        (BeginsWithCount (AreClauseTokens clauses) (length clauses))
+        (fields_behind fields.entry (λ f. f.now)) → ⊥)
+        (λ clauses. StandFor (BeginsWithCount (AreClauseTokens clauses) (length clauses))
+        (fields_behind fields.entry (λ f. f.now)))) }
+{
+    let Some((count, behind)) = first_number(fields) else {
+        return Ok(None);
+    };
+    let Some(clauses) = lists::clauses_in(alloc, behind)? else {
+        return Ok(None);
+    };
+    if clauses.len() as u64 == count {
+        Ok(Some(clauses.share()?))
+    } else {
+        Ok(None)
+    }
+}
+
+/// A count and so many states.
+fn counted_states(alloc: Global, fields: Option<&[u8]>) -> Result<Option<StateList>, AllocError>
+    ensures { IfOk result (λ found. MatchOption found
+        ((states : List (List ℕ)) → StandFor
+        (BeginsWithCount (AreStateTokens states) (length states))
+        (fields_behind fields.entry (λ f. f.now)) → ⊥)
+        (λ states. StandFor (BeginsWithCount (AreStateTokens states) (length states))
+        (fields_behind fields.entry (λ f. f.now)))) }
+{
+    let Some((count, behind)) = first_number(fields) else {
+        return Ok(None);
+    };
+    let Some(states) = lists::states_in(alloc, behind)? else {
+        return Ok(None);
+    };
+    if states.len() as u64 == count {
+        Ok(Some(states.share()?))
+    } else {
+        Ok(None)
+    }
+}
+
+/// The line of a list behind its head.
+fn listed_line(
+    alloc: Global,
+    listed: Listed,
+    id: usize,
+    fields: Option<&[u8]>,
+) -> Result<Option<Line>, AllocError>
+    ensures { IfOk result (λ found. MatchOption found
+        ((line : Line) → StandFor
+        (λ ts. LineForm (listed_letter listed) id (listed_kind listed) ts line)
+        (fields_behind fields.entry (λ f. f.now)) → ⊥)
+        (λ line. StandFor
+        (λ ts. LineForm (listed_letter listed) id (listed_kind listed) ts line)
+        (fields_behind fields.entry (λ f. f.now)))) }
+{
+    match listed {
+        Listed::Actions => match counted_actions(alloc, fields)? {
+            Some(actions) => Ok(Some(Line::Acts {
+                id,
+                acts: Acts::List(actions),
+            })),
+            None => Ok(None),
+        },
+        Listed::Horn => match counted_clauses(alloc, fields)? {
+            Some(clauses) => Ok(Some(Line::Expr {
+                id,
+                expr: Expr::Horn(clauses),
+            })),
+            None => Ok(None),
+        },
+        Listed::Two => match counted_clauses(alloc, fields)? {
+            Some(clauses) => Ok(Some(Line::Expr {
+                id,
+                expr: Expr::Two(clauses),
+            })),
+            None => Ok(None),
+        },
+        Listed::States => match counted_states(alloc, fields)? {
+            Some(states) => Ok(Some(Line::Expr {
+                id,
+                expr: Expr::States(states),
+            })),
+            None => Ok(None),
+        },
+    }
+}
+
+/// The line behind its head.
+fn line_by(
+    alloc: Global,
+    tokens: &mut Vec<Token>,
+    head: &Head<'_>,
+) -> Result<Option<Line>, AllocError>
+    ensures { IfOk result (λ found. MatchOption found
+        ((line : Line) → StandFor (λ ts. LineForm head.now.letter head.now.id head.now.kind ts line)
+        (fields_behind head.now.rest (λ f. f.now)) → ⊥)
+        (λ line. StandFor (λ ts. LineForm head.now.letter head.now.id head.now.kind ts line)
+        (fields_behind head.now.rest (λ f. f.now)))) }
+{
+    if let Some(listed) = shapes::listed_by(head.letter, head.kind) {
+        return listed_line(alloc, listed, head.id, head.rest);
+    }
+    if tokens_in(tokens, head.rest)? {
+        Ok(plain_line(head.letter, head.id, head.kind, tokens))
+    } else {
+        Ok(None)
+    }
+}
+
+/// The line of these bytes, in the memory for tokens.
+pub(crate) fn line_of(
+    alloc: Global,
+    tokens: &mut Vec<Token>,
+    bytes: &[u8],
+) -> Result<Option<Line>, AllocError>
+    ensures { IfOk result (λ found. MatchOption found
+        ((line : Line) → Spells line bytes.now → ⊥)
+        (λ line. Spells line bytes.now)) }
+{
+    match shapes::head_of(bytes) {
+        Some(head) => line_by(alloc, tokens, &head),
         None => Ok(None),
     }
 }

@@ -1,17 +1,24 @@
-//! Lists in a line: actions, clauses and states, each with its end.
+//! Lists in a line: actions, clauses and states, each with its end. Their fields are taken one by
+//! one, so that the tokens of a list never stand in memory together.
 
 ghost use Rattle.std.specs.Prelude.{◌≡◌, ◌<◌, ◌^◌, ℕ, List, [], ◌∷◌, ◌++◌, MatchOption, IfOk, OnOk};
+ghost use Rattle.std.specs.Prelude.{true, false, None, Ok, Some};
 ghost use Rattle.std.specs.List.{All};
 ghost use Rattle.hv_sets.specs.declared.literal.Literal.{Literal};
+ghost use Rattle.hv_proof_text.specs.Working.Gathering.{ReadsField, StandFor, StopsAtField};
+ghost use Rattle.hv_proof_text.specs.Working.Gathering.{clauses_from, fields_behind, numbers_from};
+ghost use Rattle.hv_proof_text.specs.Working.Gathering.{states_from, whole_clauses, whole_states};
 ghost use Rattle.hv_proof_text.specs.Working.Pieces as Pieces;
 ghost use Rattle.hv_proof_text.specs.Working.Tokens.{AreRisingNumbers, AreClauseTokens, AreStateTokens};
 
 use crate::shapes::NOT_SHORT;
-use crate::token::Token;
+use crate::token::{Token, token_of};
+use hv_bytes::split_field;
 use hv_lines::ActionList;
 use hv_sets::{Clause, Clauses, Literal, StateList};
 use hv_task::AtomList;
 use std::alloc::{AllocError, Global};
+use std::mem;
 
 /// A token of a state, or of another list that rises.
 enum StatePiece {
@@ -67,79 +74,175 @@ fn clause_piece(token: Token) -> ClausePiece
 /// Short decimals that rise.
 pub(crate) fn rising_numbers(
     alloc: Global,
-    tokens: &[Token],
+    fields: Option<&[u8]>,
 ) -> Result<Option<ActionList>, AllocError>
     ensures { IfOk result (λ found. MatchOption found
-        ((numbers : List ℕ) → AreRisingNumbers numbers tokens.now → ⊥)
-        (λ numbers. AreRisingNumbers numbers tokens.now)) }
+        ((numbers : List ℕ) → StandFor (AreRisingNumbers numbers)
+        (fields_behind fields.entry (λ f. f.now)) → ⊥)
+        (λ numbers. StandFor (AreRisingNumbers numbers)
+        (fields_behind fields.entry (λ f. f.now)))) }
 {
     let mut numbers = ActionList::new(alloc);
     let mut least = 0;
-    for token in tokens {
-        match state_piece(*token, least) {
-            StatePiece::Atom(number) => {
-                numbers.push(number)?;
-                least = number + 1;
-            }
-            StatePiece::End | StatePiece::Other => return Ok(None),
+    let mut rest = fields;
+    'fields: loop {
+        let Some(line) = rest else {
+            return Ok(Some(numbers));
+        };
+        let (field, behind) = split_field(line);
+        if !take_number(&mut numbers, &mut least, field)? {
+            return Ok(None);
         }
+        rest = behind;
     }
-    Ok(Some(numbers))
+}
+
+/// Puts the number of a field last. The answer is false where none can stand there.
+fn take_number(numbers: &mut ActionList, least: &mut u32, field: &[u8]) -> Result<bool, AllocError>
+    ensures taken { result ≡ Ok true → ReadsField (numbers_from numbers.old least.old) field.now
+        (numbers_from numbers.new least.new) }
+    ensures stopped { result ≡ Ok false
+        → StopsAtField (numbers_from numbers.old least.old) field.now }
+{
+    let Some(token) = token_of(field) else {
+        return Ok(false);
+    };
+    match state_piece(token, *least) {
+        StatePiece::Atom(number) => {
+            numbers.push(number)?;
+            *least = number + 1;
+            Ok(true)
+        }
+        StatePiece::End | StatePiece::Other => Ok(false),
+    }
 }
 
 /// Clauses, each with its end.
-pub(crate) fn clauses_in(alloc: Global, tokens: &[Token]) -> Result<Option<Clauses>, AllocError>
+pub(crate) fn clauses_in(
+    alloc: Global,
+    fields: Option<&[u8]>,
+) -> Result<Option<Clauses>, AllocError>
     ensures { IfOk result (λ found. MatchOption found
-        ((clauses : List (List Literal)) → AreClauseTokens clauses tokens.now → ⊥)
-        (λ clauses. AreClauseTokens clauses tokens.now)) }
+        ((clauses : List (List Literal)) → StandFor (AreClauseTokens clauses)
+        (fields_behind fields.entry (λ f. f.now)) → ⊥)
+        (λ clauses. StandFor (AreClauseTokens clauses)
+        (fields_behind fields.entry (λ f. f.now)))) }
 {
     let mut all = Clauses::new(alloc);
     let mut clause = Clause::new(alloc);
-    for token in tokens {
-        match clause_piece(*token) {
-            ClausePiece::Literal(literal) => clause.push(literal)?,
-            ClausePiece::End => {
-                all.push_literals(clause.as_slice())?;
-                clause.clear();
-            }
-            ClausePiece::Other => return Ok(None),
+    let mut rest = fields;
+    'fields: loop {
+        let Some(line) = rest else {
+            return Ok(closed_clauses(all, &clause));
+        };
+        let (field, behind) = split_field(line);
+        if !take_in_clauses(&mut all, &mut clause, field)? {
+            return Ok(None);
         }
-    }
-    if clause.is_empty() {
-        Ok(Some(all))
-    } else {
-        Ok(None)
+        rest = behind;
     }
 }
 
+/// Takes a field of clauses: a literal goes last in the clause that is begun, and an end puts that
+/// last. The answer is false where neither can stand there.
+fn take_in_clauses(all: &mut Clauses, clause: &mut Clause, field: &[u8]) -> Result<bool, AllocError>
+    ensures taken { result ≡ Ok true → ReadsField (clauses_from all.old clause.old) field.now
+        (clauses_from all.new clause.new) }
+    ensures stopped { result ≡ Ok false
+        → StopsAtField (clauses_from all.old clause.old) field.now }
+{
+    let Some(token) = token_of(field) else {
+        return Ok(false);
+    };
+    match clause_piece(token) {
+        ClausePiece::Literal(literal) => {
+            clause.push(literal)?;
+            Ok(true)
+        }
+        ClausePiece::End => {
+            all.push_literals(clause.as_slice())?;
+            clause.clear();
+            Ok(true)
+        }
+        ClausePiece::Other => Ok(false),
+    }
+}
+
+/// The clauses, if none is begun.
+fn closed_clauses(all: Clauses, clause: &Clause) -> Option<Clauses>
+    ensures { MatchOption result (whole_clauses all clause.now ≡ None)
+        (λ clauses. whole_clauses all clause.now ≡ Some clauses) }
+{
+    if clause.is_empty() { Some(all) } else { None }
+}
+
 /// States, each with its end.
-pub(crate) fn states_in(alloc: Global, tokens: &[Token]) -> Result<Option<StateList>, AllocError>
+pub(crate) fn states_in(
+    alloc: Global,
+    fields: Option<&[u8]>,
+) -> Result<Option<StateList>, AllocError>
     ensures { IfOk result (λ found. MatchOption found
-        ((states : List (List ℕ)) → AreStateTokens states tokens.now → ⊥)
-        (λ states. AreStateTokens states tokens.now)) }
+        ((states : List (List ℕ)) → StandFor (AreStateTokens states)
+        (fields_behind fields.entry (λ f. f.now)) → ⊥)
+        (λ states. StandFor (AreStateTokens states)
+        (fields_behind fields.entry (λ f. f.now)))) }
 {
     let mut all = StateList::new(alloc);
     let mut state = AtomList::new(alloc);
     let mut least = 0;
-    for token in tokens {
-        match state_piece(*token, least) {
-            StatePiece::Atom(atom) => {
-                push_last(&mut state, atom)?;
-                least = atom + 1;
-            }
-            StatePiece::End => {
-                all.push(state)?;
-                state = AtomList::new(alloc);
-                least = 0;
-            }
-            StatePiece::Other => return Ok(None),
+    let mut rest = fields;
+    'fields: loop {
+        let Some(line) = rest else {
+            return Ok(closed_states(all, &state));
+        };
+        let (field, behind) = split_field(line);
+        if !take_in_states(alloc, &mut all, &mut state, &mut least, field)? {
+            return Ok(None);
         }
+        rest = behind;
     }
-    if state.len() == 0 {
-        Ok(Some(all))
-    } else {
-        Ok(None)
+}
+
+/// Takes a field of states: an atom goes last in the state that is begun, and an end puts that
+/// last. The answer is false where neither can stand there.
+fn take_in_states(
+    alloc: Global,
+    all: &mut StateList,
+    state: &mut AtomList,
+    least: &mut u32,
+    field: &[u8],
+) -> Result<bool, AllocError>
+    requires { All (λ a. a < least.old) state.old }
+    ensures taken { result ≡ Ok true → ReadsField (states_from all.old state.old least.old)
+        field.now (states_from all.new state.new least.new) }
+    ensures below { result ≡ Ok true → All (λ a. a < least.new) state.new }
+    ensures stopped { result ≡ Ok false
+        → StopsAtField (states_from all.old state.old least.old) field.now }
+{
+    let Some(token) = token_of(field) else {
+        return Ok(false);
+    };
+    match state_piece(token, *least) {
+        StatePiece::Atom(atom) => {
+            push_last(state, atom)?;
+            *least = atom + 1;
+            Ok(true)
+        }
+        StatePiece::End => {
+            all.push(mem::replace(state, AtomList::new(alloc)))?;
+            *least = 0;
+            Ok(true)
+        }
+        StatePiece::Other => Ok(false),
     }
+}
+
+/// The states, if none is begun.
+fn closed_states(all: StateList, state: &AtomList) -> Option<StateList>
+    ensures { MatchOption result (whole_states all state.now ≡ None)
+        (λ states. whole_states all state.now ≡ Some states) }
+{
+    if state.len() == 0 { Some(all) } else { None }
 }
 
 /// Puts in an atom that is greater than all others.

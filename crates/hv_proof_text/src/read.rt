@@ -1,11 +1,9 @@
 //! A line from its bytes.
 
-ghost use Rattle.std.specs.Prelude.{◌≡◌, ◌↔◌, ℕ, List, IsTrue, MatchOption, IfOk};
-ghost use Rattle.hv_lines.specs.Spelling.{IsSkipped, Spells};
-ghost use Rattle.hv_lines.specs.declared.line.Line.{Line};
+ghost use Rattle.std.specs.Prelude.{◌↔◌, IsTrue};
+ghost use Rattle.hv_lines.specs.Spelling.{IsSkipped};
 ghost use Rattle.hv_proof_text.specs.Reading.{IsRead};
 
-use crate::fields::tokens_in;
 use crate::forms::line_of;
 use crate::token::Token;
 use hv_lines::Line;
@@ -63,7 +61,7 @@ impl LineReader {
         if is_skipped(bytes) {
             return Ok(None);
         }
-        match spelled_line(alloc, &mut self.tokens, bytes)? {
+        match line_of(alloc, &mut self.tokens, bytes)? {
             Some(line) => Ok(Some(line)),
             None => Err(LineError::Grammar),
         }
@@ -77,22 +75,5 @@ fn is_skipped(bytes: &[u8]) -> bool
     match bytes {
         [] | [b'#', ..] => true,
         _ => false,
-    }
-}
-
-/// The line that the bytes spell, in the memory for tokens.
-fn spelled_line(
-    alloc: Global,
-    tokens: &mut Vec<Token>,
-    bytes: &[u8],
-) -> Result<Option<Line>, AllocError>
-    ensures { IfOk result (λ found. MatchOption found
-        ((line : Line) → Spells line bytes.now → ⊥)
-        (λ line. Spells line bytes.now)) }
-{
-    if tokens_in(tokens, bytes)? {
-        line_of(alloc, tokens)
-    } else {
-        Ok(None)
     }
 }

@@ -1,49 +1,86 @@
 //! Short rows of tokens: numbers, a constant, a word, premises.
 
-ghost use Rattle.std.specs.Prelude.{◌≡◌, ◌<◌, ◌≤◌, ◌^◌, ℕ, List, [], ◌∷◌, MatchOption, length, map};
+ghost use Rattle.std.specs.Prelude.{◌≡◌, ◌<◌, ◌≤◌, ◌^◌, ℕ, List, [], ◌∷◌, MatchOption, decimal, length, map};
+ghost use Rattle.hv_bytes.specs.Fields.{cut_fields};
 ghost use Rattle.hv_lines.specs.Spelling.{FitsShortDecimal};
 ghost use Rattle.hv_lines.specs.declared.line.Constant.{Constant};
 ghost use Rattle.hv_lines.specs.declared.line.Word.{Word};
-ghost use Rattle.hv_proof_text.specs.Working.Tokens.{constant_letter, letter, number};
+ghost use Rattle.hv_proof_text.specs.Working.Gathering.{fields_behind};
+ghost use Rattle.hv_proof_text.specs.Working.Heads.{listed_by};
+ghost use Rattle.hv_proof_text.specs.Working.Tokens.{AreTokens, constant_letter, letter, letter_field, number};
 ghost use Rattle.hv_proof_text.specs.declared.token.Letter.{Letter};
 ghost use Rattle.hv_proof_text.specs.declared.token.Token.{Token};
 ghost use Rattle.hv_proof_text.specs.declared.token.Token.TheVariants as T;
 
+use crate::fields::{first_letter, first_number};
 use crate::token::{Letter, Token};
 use hv_lines::{Constant, Premises, Word};
 
 /// The least number that isn't a short decimal.
 pub(crate) const NOT_SHORT: u64 = 1_000_000_000;
 
-/// The first three tokens of a line, and the rest.
+/// What the first three fields of a line stand for, and what follows them.
 #[derive(Drop)]
 pub(crate) struct Head<'a> {
     pub(crate) letter: Letter,
     pub(crate) id: usize,
     pub(crate) kind: Letter,
-    pub(crate) rest: &'a [Token],
+    pub(crate) rest: Option<&'a [u8]>,
 }
 
 /// The head of a line.
-pub(crate) fn head_of(tokens: &[Token]) -> Option<Head<'_>>
+pub(crate) fn head_of(line: &[u8]) -> Option<Head<'_>>
     ensures { MatchOption result
-        ((first : Letter) (id : ℕ) (kind : Letter) (rest : List Token)
-        → tokens.now ≡ letter first ∷ number id ∷ letter kind ∷ rest → ⊥)
-        (λ head. tokens.now ≡ letter head.letter ∷ number head.id ∷ letter head.kind
-        ∷ head.rest.now) }
+        ((first : Letter) (id : ℕ) (kind : Letter) (tokens : List Token)
+        → AreTokens (letter first ∷ number id ∷ letter kind ∷ tokens) (cut_fields line.now) → ⊥)
+        (λ head. (head.id < 10 ^ 18) × (cut_fields line.now ≡ letter_field head.letter
+        ∷ decimal head.id ∷ letter_field head.kind ∷ fields_behind head.rest (λ f. f.now))) }
 {
-    match tokens {
-        [
-            Token::Letter(letter),
-            Token::Number(id),
-            Token::Letter(kind),
-            rest @ ..,
-        ] => Some(Head {
-            letter: *letter,
-            id: *id as usize,
-            kind: *kind,
-            rest,
-        }),
+    let Some((letter, behind)) = first_letter(Some(line)) else {
+        return None;
+    };
+    let Some((id, behind)) = first_number(behind) else {
+        return None;
+    };
+    let Some((kind, rest)) = first_letter(behind) else {
+        return None;
+    };
+    Some(Head {
+        letter,
+        id: id as usize,
+        kind,
+        rest,
+    })
+}
+
+/// The lists that a line may have.
+#[derive(Clone, Copy)]
+pub(crate) enum Listed {
+    /// Actions.
+    Actions,
+    /// Clauses of a Horn formula.
+    Horn,
+    /// Clauses of a 2CNF formula.
+    Two,
+    /// States.
+    States,
+}
+
+/// The list behind a head of these letters, if there is one.
+pub(crate) fn listed_by(letter: Letter, kind: Letter) -> Option<Listed>
+    ensures { result ≡ listed_by letter kind }
+{
+    match letter {
+        Letter::A => match kind {
+            Letter::B => Some(Listed::Actions),
+            _ => None,
+        },
+        Letter::E => match kind {
+            Letter::H => Some(Listed::Horn),
+            Letter::T => Some(Listed::Two),
+            Letter::X => Some(Listed::States),
+            _ => None,
+        },
         _ => None,
     }
 }

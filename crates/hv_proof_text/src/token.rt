@@ -67,7 +67,7 @@ pub(crate) fn token_of(field: &[u8]) -> Option<Token>
 }
 
 /// A letter.
-fn letter_of(field: &[u8]) -> Option<Letter>
+pub(crate) fn letter_of(field: &[u8]) -> Option<Letter>
     ensures { MatchOption result
         ((letter : Letter) → letter_field letter ≡ field.now → ⊥)
         (λ letter. letter_field letter ≡ field.now) }
@@ -94,7 +94,7 @@ fn letter_of(field: &[u8]) -> Option<Letter>
 }
 
 /// A decimal of at most 18 digits.
-fn number_of(field: &[u8]) -> Option<u64>
+pub(crate) fn number_of(field: &[u8]) -> Option<u64>
     ensures { MatchOption result
         ((n : ℕ) → n < 10 ^ 18 → decimal n ≡ field.now → ⊥)
         (λ n. (n < 10 ^ 18) × (decimal n ≡ field.now)) }

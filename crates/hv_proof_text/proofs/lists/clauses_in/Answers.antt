@@ -1,29 +1,29 @@
-use Rattle.std.proofs.Common.{◌∙◌, sym, length}
-use Rattle.std.proofs.lemmas.Bool.{eqb-true, eqb-false}
-use Rattle.hv_proof_text.proofs.TokenLists.{clauses_stop, clauses_whole, clauses_begun, clauses_found, clauses_only, some_and_none}
+use Rattle.std.proofs.Common.{◌∙◌, [], ap}
+use Rattle.hv_bytes.specs.Fields.{cut_fields}
+use Rattle.hv_proof_text.specs.Working.Gathering.{clauses_from, fields_behind}
+use Rattle.hv_proof_text.specs.Working.Tokens.{AreClauseTokens}
+use Rattle.hv_proof_text.proofs.Gathered.{gathers_end, gathers_more, gathers_stop, split_is}
+use Rattle.hv_proof_text.proofs.TokenLists.{clauses_found, clauses_only}
 use Rattle.hv_proof_text.proofs.lists.clauses_in.Goals as goal
 
-pub returns-in-Other : goal.returns-in-Other
-returns-in-Other c = λ clauses are.
-    let some = clauses_only c.args.tokens.now clauses are in
-    let none =
-    c.loop-token.invariant
-    ∙ clauses_stop c.loop-token.all c.loop-token.clause c.args.tokens.now c.loop-token.token-index _ c.loop-token-test.true
-    (sym c.in-Other.ensures) in
-    some_and_none some none
+pub returns-in_default : goal.returns-in_default
+returns-in_default c =
+    gathers_end (clauses_from [] []) (clauses_from c.fields.all c.fields.clause)
+    (fields_behind c.args.fields (λ f. f.now)) (fields_behind c.fields.rest (λ f. f.now)) AreClauseTokens c.fields.invariant
+    clauses_only c.closed_clauses.result (ap (λ o. fields_behind o (λ f. f.now)) c.in_default.is) c.closed_clauses.ensures clauses_found
 
-pub returns-then-is_empty : goal.returns-then-is_empty
-returns-then-is_empty c =
-    let none = eqb-true (length c.loop-token.clause) 0 (sym c.if-is_empty.ensures) in
-    clauses_found c.args.tokens.now c.loop-token.all
-    (c.loop-token.invariant
-    ∙ clauses_whole c.loop-token.all c.loop-token.clause c.args.tokens.now c.loop-token.token-index c.loop-token-test.false none)
+pub returns-then-not-branch : goal.returns-then-not-branch
+returns-then-not-branch c =
+    let first = ap (λ o. fields_behind o (λ f. f.now)) c.in-Some.is
+    ∙ split_is c.split_field.result.1 (λ f. f.now) (cut_fields c.in-Some.line.now) c.split_field.result.0.now c.split_field.ensures.fields in
+    gathers_stop (clauses_from [] []) (clauses_from c.fields.all c.fields.clause)
+    (fields_behind c.args.fields (λ f. f.now)) (fields_behind c.fields.rest (λ f. f.now)) AreClauseTokens c.fields.invariant
+    clauses_only c.split_field.result.0.now (fields_behind c.split_field.result.1 (λ f. f.now)) first (c.in_ok-take_in_clauses.ensures.stopped (cc))
 
-pub returns-else-is_empty : goal.returns-else-is_empty
-returns-else-is_empty c = λ clauses are.
-    let some = clauses_only c.args.tokens.now clauses are in
-    let begun = eqb-false (length c.loop-token.clause) 0 (sym c.if-is_empty.ensures) in
-    let none =
-    c.loop-token.invariant
-    ∙ clauses_begun c.loop-token.all c.loop-token.clause c.args.tokens.now c.loop-token.token-index c.loop-token-test.false begun in
-    some_and_none some none
+pub fields-preserved : goal.fields-preserved
+fields-preserved c =
+    let first = ap (λ o. fields_behind o (λ f. f.now)) c.in-Some.is
+    ∙ split_is c.split_field.result.1 (λ f. f.now) (cut_fields c.in-Some.line.now) c.split_field.result.0.now c.split_field.ensures.fields in
+    gathers_more (clauses_from [] []) (clauses_from c.fields.all c.fields.clause) (clauses_from c.take_in_clauses.new.all c.take_in_clauses.new.clause)
+    (fields_behind c.args.fields (λ f. f.now)) (fields_behind c.fields.rest (λ f. f.now))
+    (fields_behind c.split_field.result.1 (λ f. f.now)) c.split_field.result.0.now c.fields.invariant first (c.in_ok-take_in_clauses.ensures.taken (cc))

@@ -1,6 +1,9 @@
-use Rattle.std.proofs.Common.{◌≡◌, [], drop}
-use Rattle.hv_proof_text.proofs.TokenLists.{clauses_from}
+use Rattle.std.proofs.Common.{[], length}
+use Rattle.hv_proof_text.specs.Working.Gathering.{Gathers, clauses_from, fields_behind}
 use Rattle.hv_proof_text.proofs.lists.clauses_in.Given as goal
 
-abbrev pub invariant-loop-token : goal.invariant-loop-token
-invariant-loop-token l = clauses_from [] [] l.tokens ≡ clauses_from l.all l.clause (drop l.token-index l.tokens)
+abbrev pub invariant-fields : goal.invariant-fields
+invariant-fields l = Gathers (clauses_from [] []) (fields_behind l.fn.fields (λ f. f.now)) (clauses_from l.all l.clause) (fields_behind l.rest (λ f. f.now))
+
+abbrev pub decreases-fields : goal.decreases-fields
+decreases-fields l = length (fields_behind l.rest (λ f. f.now))

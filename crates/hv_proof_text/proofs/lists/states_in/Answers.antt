@@ -1,47 +1,32 @@
-use Rattle.std.proofs.Common.{◌∙◌, sym}
-use Rattle.hv_proof_text.proofs.TokenLists.{states_stop, states_whole, states_begun, states_found, states_only, kept_at_atom, kept_at_end, some_and_none}
+use Rattle.std.proofs.Common.{◌∙◌, [], ap}
+use Rattle.hv_bytes.specs.Fields.{cut_fields}
+use Rattle.hv_proof_text.specs.Working.Gathering.{states_from, fields_behind}
+use Rattle.hv_proof_text.specs.Working.Tokens.{AreStateTokens}
+use Rattle.hv_proof_text.proofs.Gathered.{gathers_end, gathers_more, gathers_stop, split_is}
+use Rattle.hv_proof_text.proofs.TokenLists.{states_found, states_only}
 use Rattle.hv_proof_text.proofs.lists.states_in.Goals as goal
-use Rattle.hv_proof_text.proofs.lists.states_in.Goals.{in-Atom+in_ok-push_last-in-Atom, in-End+in_ok-push-in-End}
 
-pub returns-in-Other : goal.returns-in-Other
-returns-in-Other c = λ states are.
-    let some = states_only c.args.tokens.now states are in
-    let none =
-    c.loop-token.invariant.same
-    ∙ states_stop c.loop-token.all c.loop-token.state c.loop-token.least c.args.tokens.now c.loop-token.token-index _
-    c.loop-token-test.true (sym c.in-Other.ensures) in
-    some_and_none some none
+pub returns-in_default : goal.returns-in_default
+returns-in_default c =
+    gathers_end (states_from [] [] 0) (states_from c.fields.all c.fields.state c.fields.least)
+    (fields_behind c.args.fields (λ f. f.now)) (fields_behind c.fields.rest (λ f. f.now)) AreStateTokens c.fields.invariant.same
+    states_only c.closed_states.result (ap (λ o. fields_behind o (λ f. f.now)) c.in_default.is) c.closed_states.ensures states_found
 
-pub loop-token-preserved : goal.loop-token-preserved
-loop-token-preserved c =
-    elim c.match-state_piece.branch [
-      | in-Atom+in_ok-push_last-in-Atom w ↦
-          let kept =
-          kept_at_atom c.args.tokens.now c.loop-token.all c.loop-token.state c.loop-token.least c.loop-token.token-index _
-          c.loop-token-test.true c.loop-token.invariant.same c.match-state_piece.all c.match-state_piece.state c.match-state_piece.least
-          w.in-Atom.atom w.in-Atom.ensures c.loop-token.invariant.below w.all-is (w.state-is ∙ w.in_ok-push_last-in-Atom.ensures)
-          w.least-is in
-          record { same = kept.0; below = kept.1 }
-      | in-End+in_ok-push-in-End w ↦
-          let kept =
-          kept_at_end c.args.tokens.now c.loop-token.all c.loop-token.state c.loop-token.least c.loop-token.token-index _
-          c.loop-token-test.true c.loop-token.invariant.same c.match-state_piece.all c.match-state_piece.state c.match-state_piece.least
-          w.in-End.ensures (w.all-is ∙ w.in_ok-push-in-End.ensures.ok) (w.state-is ∙ w.new-state-in-End.ensures) w.least-is in
-          record { same = kept.0; below = kept.1 }
-    ]
+pub returns-then-not-branch : goal.returns-then-not-branch
+returns-then-not-branch c =
+    let first = ap (λ o. fields_behind o (λ f. f.now)) c.in-Some.is
+    ∙ split_is c.split_field.result.1 (λ f. f.now) (cut_fields c.in-Some.line.now) c.split_field.result.0.now c.split_field.ensures.fields in
+    gathers_stop (states_from [] [] 0) (states_from c.fields.all c.fields.state c.fields.least)
+    (fields_behind c.args.fields (λ f. f.now)) (fields_behind c.fields.rest (λ f. f.now)) AreStateTokens c.fields.invariant.same
+    states_only c.split_field.result.0.now (fields_behind c.split_field.result.1 (λ f. f.now)) first (c.in_ok-take_in_states.ensures.stopped (cc))
 
-pub returns-then-len-eq0 : goal.returns-then-len-eq0
-returns-then-len-eq0 c =
-    states_found c.args.tokens.now c.loop-token.all
-    (c.loop-token.invariant.same
-    ∙ states_whole c.loop-token.all c.loop-token.state c.loop-token.least c.args.tokens.now c.loop-token.token-index
-    c.loop-token-test.false (sym c.len.ensures.len ∙ c.if-len-eq0.true))
-
-pub returns-else-len-eq0 : goal.returns-else-len-eq0
-returns-else-len-eq0 c = λ states are.
-    let some = states_only c.args.tokens.now states are in
-    let none =
-    c.loop-token.invariant.same
-    ∙ states_begun c.loop-token.all c.loop-token.state c.loop-token.least c.args.tokens.now c.loop-token.token-index
-    c.loop-token-test.false (λ e. c.if-len-eq0.false (c.len.ensures.len ∙ e)) in
-    some_and_none some none
+pub fields-preserved : goal.fields-preserved
+fields-preserved c =
+    let first = ap (λ o. fields_behind o (λ f. f.now)) c.in-Some.is
+    ∙ split_is c.split_field.result.1 (λ f. f.now) (cut_fields c.in-Some.line.now) c.split_field.result.0.now c.split_field.ensures.fields in
+    record {
+      same = gathers_more (states_from [] [] 0) (states_from c.fields.all c.fields.state c.fields.least) (states_from c.take_in_states.new.all c.take_in_states.new.state c.take_in_states.new.least)
+          (fields_behind c.args.fields (λ f. f.now)) (fields_behind c.fields.rest (λ f. f.now))
+          (fields_behind c.split_field.result.1 (λ f. f.now)) c.split_field.result.0.now c.fields.invariant.same first (c.in_ok-take_in_states.ensures.taken (cc));
+      below = c.in_ok-take_in_states.ensures.below (cc);
+    }

@@ -1,10 +1,13 @@
-use Rattle.std.proofs.Common.{◌≡◌, ◌<◌, [], drop}
+use Rattle.std.proofs.Common.{◌<◌, [], length}
 use Rattle.std.specs.List.{All}
-use Rattle.hv_proof_text.proofs.TokenLists.{states_from}
+use Rattle.hv_proof_text.specs.Working.Gathering.{Gathers, states_from, fields_behind}
 use Rattle.hv_proof_text.proofs.lists.states_in.Given as goal
 
-abbrev pub invariant-loop-token : goal.invariant-loop-token
-invariant-loop-token l = record {
-  same : states_from [] [] 0 l.tokens ≡ states_from l.all l.state l.least (drop l.token-index l.tokens);
+abbrev pub invariant-fields : goal.invariant-fields
+invariant-fields l = record {
+  same : Gathers (states_from [] [] 0) (fields_behind l.fn.fields (λ f. f.now)) (states_from l.all l.state l.least) (fields_behind l.rest (λ f. f.now));
   below : All (λ a. a < l.least) l.state;
 }
+
+abbrev pub decreases-fields : goal.decreases-fields
+decreases-fields l = length (fields_behind l.rest (λ f. f.now))

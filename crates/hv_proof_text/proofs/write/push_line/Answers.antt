@@ -1,4 +1,4 @@
-use Rattle.std.proofs.Common.{◌++◌, ◌∷◌, ◌∙◌, ap, codes, decimal, map}
+use Rattle.std.proofs.Common.{◌++◌, ◌∷◌, codes, decimal, map}
 use Rattle.std.proofs.lemmas.Result.{on_ok_weaker}
 use Rattle.hv_lines.specs.Spelling.{acts_fields, expr_fields, statement_fields, word_field}
 use Rattle.hv_proof_text.proofs.Joined.{spelled, further}

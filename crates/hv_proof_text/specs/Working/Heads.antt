@@ -1,0 +1,27 @@
+-- Which lines have a list behind their head.
+use Rattle.std.specs.Prelude.{Option, None, Some}
+use Rattle.hv_proof_text.specs.declared.shapes.Listed.{Listed}
+use Rattle.hv_proof_text.specs.declared.shapes.Listed.TheVariants as D
+use Rattle.hv_proof_text.specs.declared.token.Letter.{Letter}
+use Rattle.hv_proof_text.specs.declared.token.Letter.TheVariants as L
+
+-- the list behind a head of these letters, if there is one
+abbrev pub listed_by : Letter → Letter → Option Listed
+listed_by L.A L.B = Some D.Actions
+listed_by L.E L.H = Some D.Horn
+listed_by L.E L.T = Some D.Two
+listed_by L.E L.X = Some D.States
+listed_by _ _ = None
+
+-- the letters of a head with this list behind it
+abbrev pub listed_letter : Listed → Letter
+listed_letter D.Actions = L.A
+listed_letter D.Horn = L.E
+listed_letter D.Two = L.E
+listed_letter D.States = L.E
+
+abbrev pub listed_kind : Listed → Letter
+listed_kind D.Actions = L.B
+listed_kind D.Horn = L.H
+listed_kind D.Two = L.T
+listed_kind D.States = L.X
