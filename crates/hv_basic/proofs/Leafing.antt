@@ -1,10 +1,9 @@
 -- Going through the sets that a set is made of, from the newest to the oldest, and keeping its leaves.
-use Rattle.std.proofs.Common.{◌≡◌, ℕ, ◌<◌, ◌≤◌, ◌⊎◌, ◌↔◌, ◌++◌, ◌∙◌, true, false, List, [], ◌∷◌, Option, Some, None, refl, sym, subst, inl, inr, arith}
+use Rattle.std.proofs.Common.{◌≡◌, ℕ, ◌<◌, ◌≤◌, ◌⊎◌, ◌++◌, ◌∙◌, List, [], ◌∷◌, Option, Some, None, refl, sym, subst, inl, inr, arith}
 use Rattle.std.proofs.lemmas.List.Elements.{Contains-append_left, Contains-push, Contains-push_cases}
 use Rattle.std.proofs.lemmas.Option.{same_Some}
 use Rattle.std.specs.List.{Contains}
-use Rattle.std.specs.Ordering.{nat_cmp}
-use Rattle.std.specs.BTreeSet.{BTreeSet, contains}
+use Rattle.std.specs.BTreeSet.{BTreeSet}
 use Rattle.hv_lines.specs.Numbering.{expr_at, expr_count}
 use Rattle.hv_lines.specs.Shapes.{IsLeaf, alone, of_left, of_right}
 use Rattle.hv_lines.specs.declared.line.Expr.{Expr}
@@ -107,26 +106,3 @@ pub leafing_step : (lines : List Line) (side : Side) (root set bound : ℕ) (old
     → IsLeafing (parts_on side) lines root new kept set
 leafing_step lines side root set bound old mid new found kept leafing taken (expr, at, is) =
     looked (parts_on side) lines root set bound expr at old mid new found kept leafing taken (parts_on side expr) refl is
-
--- where nothing is left to be looked at, the leaves are found
-pub leafing_done : (lines : List Line) (side : Side) (root bound : ℕ) (work : BTreeSet ℕ) (found : List ℕ)
-    → IsLeafing (parts_on side) lines root work found bound → ((id : ℕ) → contains nat_cmp work id ≡ false)
-    → (leaf : ℕ) → Contains found leaf ↔ IsLeaf (parts_on side) lines root leaf
-leafing_done lines side root bound work found leafing none leaf = (
-  leafing.done leaf,
-  λ of. elim (leafing.covers leaf of) [
-    | inl here ↦ here
-    | inr later ↦ let both : false ≡ true = sym (none later.0) ∙ later.1 in absurd (cc (both))
-  ],
-)
-
--- at first the root alone is to be looked at
-pub leafing_start : (lines : List Line) (side : Side) (root : ℕ) (work : BTreeSet ℕ) → root < expr_count lines
-    → ((id : ℕ) → Has work id → id ≡ root) → Has work root → IsLeafing (parts_on side) lines root work [] (expr_count lines)
-leafing_start lines side root work below only has = record {
-  within = omega arith;
-  below = λ set h. omega (arith, below, only set h);
-  covers = λ leaf of. inr (root, has, of);
-  ahead = λ set leaf h of. subst (λ y. IsLeaf (parts_on side) lines y leaf) (only set h) of;
-  done = λ leaf c. absurd (omega (arith, c.1));
-}

@@ -1,5 +1,5 @@
 -- What a left side asks, and the question that it asks together with a right side that is kept.
-use Rattle.std.proofs.Common.{◌≡◌, ℕ, ◌<◌, ◌+◌, ◌≤◌, ◌∙◌, ◌⊎◌, ◌↔◌, Bool, true, false, List, [], Option, Some, None, get_or, length, refl, sym, ap, subst, inl, inr, arith}
+use Rattle.std.proofs.Common.{◌≡◌, ℕ, ◌<◌, ◌+◌, ◌≤◌, ◌∙◌, ◌↔◌, Bool, true, false, List, [], Option, Some, None, get_or, length, refl, sym, subst, inl, inr, arith}
 use Rattle.std.proofs.lemmas.List.Elements.{All-contains, Contains-get_or}
 use Rattle.std.specs.List.{All, Contains}
 use Rattle.hv_sets.specs.declared.operand.Operand.{Operand}
@@ -12,7 +12,6 @@ use Rattle.hv_lines.specs.declared.line.Statement.TheVariants as T
 use Rattle.hv_lines.specs.declared.verdict.Verdict.{Verdict}
 use Rattle.hv_lines.specs.Shapes.{OfSets, Askings, AskingsRise, HasSides, IsAndLeaf, IsAsked, IsFamilyOf, IsLeftLeaf, IsLiteralOf, IsOfFamily, IsOrLeaf, IsQuestion, IsStep, IsWithinFamily, asks_sides_after, most_operands}
 use Rattle.hv_lines.specs.declared.family.FormulaFamily.{FormulaFamily}
-use Rattle.hv_lines.specs.declared.family.FormulaFamily.TheVariants as F
 use Rattle.hv_lines.specs.declared.line.Line.{Line}
 use Rattle.hv_lines.specs.declared.line.Word.{Word}
 use Rattle.hv_lines.specs.Numbering.{IsTable, expr_count}

@@ -1,6 +1,6 @@
 -- Going through the action sets that an action set is made of, from the newest to the oldest.
 use Rattle.std.proofs.Common.{◌≡◌, ℕ, ◌+◌, ◌<◌, ◌≤◌, ◌∙◌, ◌⊎◌, ◌↔◌, ◌||◌, Bool, true, false, List, length, get_or, set, eqb, refl, sym, ap, subst, inl, inr, arith, Some}
-use Rattle.std.proofs.lemmas.Bool.{cases_lt}
+use Rattle.std.proofs.lemmas.Bool.{cases_lt, or_cases}
 use Rattle.std.proofs.lemmas.List.{get_or_default, get_or-set_same, get_or-set_other, get_or-replicate, length-set, length-replicate}
 use Rattle.std.specs.List.{list_any}
 use Rattle.hv_lines.specs.Meaning.{acts_of, has_action}
@@ -28,21 +28,12 @@ pub record IsMarking (lines : List Line) (root actions : ℕ) (flags wanted : Li
   pub each : length flags ≡ actions
   pub covers : (number : ℕ) → number < actions → Covers lines root flags wanted bound number
 
-or_cases : (a b : Bool) → (a || b) ≡ true → (a ≡ true) ⊎ (b ≡ true)
-or_cases true b e = inl refl
-or_cases false b e = inr e
-
 or_left : (a b : Bool) → a ≡ true → (a || b) ≡ true
 or_left a b e = rw e refl
 
 or_right : (a b : Bool) → b ≡ true → (a || b) ≡ true
 or_right true b e = refl
 or_right false b e = e
-
-same_bool : (a b : Bool) → (a ≡ true) ↔ (b ≡ true) → a ≡ b
-same_bool true b h = sym (h.0 refl)
-same_bool false true h = h.1 refl
-same_bool false false h = refl
 
 -- a flag that is set stays set
 set_keeps : (xs : List Bool) (i j : ℕ) → i < length xs → flag_or_false xs j ≡ true → flag_or_false (set xs i true) j ≡ true
@@ -68,42 +59,8 @@ set_was xs i j e =
           ]
     ]
 
--- at first the root alone is wanted, and no flag is set
-pub covers_first : (lines : List Line) (root number : ℕ) (flags wanted : List Bool) → flag_or_false flags number ≡ false
-    → flag_or_false wanted root ≡ true → ((id : ℕ) → flag_or_false wanted id ≡ true → id ≡ root) → Covers lines root flags wanted (root + 1) number
-covers_first lines root number flags wanted none root_wanted alone = (
-  λ has. inr (root, omega arith, root_wanted, has),
-  λ e. elim e [
-    | inl flag ↦ absurd (let clash : true ≡ false = sym flag ∙ none in cc)
-    | inr w ↦ subst (λ id. acts_of lines id number ≡ true) (alone w.0 w.2) w.3
-  ],
-)
-
--- at the end nothing is wanted, and the flags say what the root has
-pub covers_last : (lines : List Line) (root number : ℕ) (flags wanted : List Bool) → Covers lines root flags wanted 0 number
-    → flag_or_false flags number ≡ acts_of lines root number
-covers_last lines root number flags wanted covers =
-    same_bool (flag_or_false flags number) (acts_of lines root number)
-    (λ e. covers.1 (inl e), λ has. elim (covers.0 has) [ inl flag ↦ flag | inr w ↦ absurd (omega (arith, w.1)) ])
-
 module _ (lines : List Line) (root : ℕ) (flags wanted : List Bool) (bound number : ℕ)
     (covers : Covers lines root flags wanted (bound + 1) number) where
-  -- an action set that isn't wanted is passed over
-  pub covers_skip : flag_or_false wanted bound ≡ false → Covers lines root flags wanted bound number
-  covers_skip unwanted = (
-    λ has. elim (covers.0 has) [
-      | inl flag ↦ inl flag
-      | inr w ↦
-          elim (cases_lt w.0 bound) [
-            | inl less ↦ inr (w.0, less, w.2, w.3)
-            | inr upto ↦
-                let same : w.0 ≡ bound = omega (arith, w.1) in
-                absurd (let clash : true ≡ false = sym w.2 ∙ (ap (λ id. flag_or_false wanted id) same ∙ unwanted) in cc)
-          ]
-    ],
-    λ e. elim e [ inl flag ↦ covers.1 (inl flag) | inr w ↦ covers.1 (inr (w.0, omega (arith, w.1), w.2, w.3)) ],
-  )
-
   module _ (is_wanted : flag_or_false wanted bound ≡ true) (acts : Acts) (refers : ActsReferBelow bound acts)
       (meaning : acts_of lines bound number ≡ has_action (acts_of lines) acts number) where
     -- the root has what the action set has

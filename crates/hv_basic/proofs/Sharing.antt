@@ -1,19 +1,19 @@
 -- What is kept of a right side stays right, and grows with the union.
-use Rattle.std.proofs.Common.{◌≡◌, ℕ, zero, suc, ◌<◌, ◌≤◌, ◌+◌, ◌-◌, ◌∙◌, ◌⊎◌, ◌↔◌, ◌++◌, Bool, true, false, List, [], ◌∷◌, Option, Some, None, length, map, get_or, drop, eqb, refl, sym, ap, ap₂, subst, inl, inr, arith}
+use Rattle.std.proofs.Common.{◌≡◌, ℕ, zero, suc, ◌<◌, ◌+◌, ◌-◌, ◌∙◌, ◌⊎◌, ◌↔◌, ◌++◌, Bool, false, List, [], ◌∷◌, Option, Some, None, length, map, get_or, drop, eqb, refl, sym, ap, ap₂, subst, inl, inr, arith}
 use Rattle.std.proofs.lemmas.Bool.{cases_lt, cond-false, ne_eqb}
 use Rattle.std.proofs.lemmas.List.{get_or_append_left, length-append, map-append}
 use Rattle.std.proofs.lemmas.List.Elements.{Contains-append_left, Contains-push, Contains-push_cases}
-use Rattle.std.proofs.lemmas.Option.{get_or_from_slice_get, same_Some, slice_get-get_or, slice_get_within}
+use Rattle.std.proofs.lemmas.Option.{get_or_from_slice_get, slice_get-get_or, slice_get_within}
 use Rattle.std.proofs.Math.Seq.{get_or-append_seam}
 use Rattle.std.specs.List.{Contains, slice_get}
 use Rattle.std.specs.Option.{IfSome}
 use Rattle.hv_sets.specs.declared.operand.Operand.{Operand}
 use Rattle.hv_sets.specs.declared.operand.Which.{Which}
 use Rattle.hv_sets.specs.declared.operand.Which.TheVariants as S
-use Rattle.hv_lines.specs.Literals.{IsLiteral, IsPlainSet}
+use Rattle.hv_lines.specs.Literals.{IsPlainSet}
 use Rattle.hv_lines.specs.Numbering.{MayFollow, IsTable, expr_at, expr_count}
 use Rattle.hv_lines.specs.Queries.{horns_of, listed_of, named_by, operand_of, twos_of, which_at}
-use Rattle.hv_lines.specs.Shapes.{AskedBefore, Askings, AskingsRise, IsLeaf, IsOfFamily, IsOrLeaf, IsWithinFamily, alone, family_of, of_left, of_right, or_parts}
+use Rattle.hv_lines.specs.Shapes.{Askings, AskingsRise, IsOfFamily, IsOrLeaf, IsWithinFamily, alone, family_of, of_left, of_right, or_parts}
 use Rattle.hv_lines.specs.declared.family.FormulaFamily.{FormulaFamily}
 use Rattle.hv_lines.specs.declared.line.Expr.{Expr}
 use Rattle.hv_lines.specs.declared.line.Expr.TheVariants as E
@@ -21,6 +21,7 @@ use Rattle.hv_lines.specs.declared.line.Line.{Line}
 use Rattle.hv_lines.specs.declared.line.Line.TheVariants as L
 use Rattle.hv_lines.proofs.Laws.{expr_at_more, expr_below, exprs_grow, refers_below}
 use Rattle.hv_lines.proofs.Truth.{or_is}
+use Rattle.hv_lines.proofs.Elements.{cons_cases, head_in, tail_in}
 use Rattle.hv_basic.specs.Sharing.{ArePlain, IsKeptFor, IsNoFormula, IsShared, IsTheFamily}
 use Rattle.hv_basic.specs.Working.Sharing.{AreAddedTo, AreSetNames, IsFamilyWith, IsMadeOf, IsPartBeside}
 use Rattle.hv_basic.specs.declared.shared.Kept.{Kept}
@@ -38,16 +39,6 @@ drop_at : (xs : List ℕ) (i d : ℕ) → i < length xs → drop i xs ≡ get_or
 drop_at [] i d below = absurd (omega (arith, below))
 drop_at (x ∷ xs) zero d below = refl
 drop_at (x ∷ xs) (suc i) d below = drop_at xs i d (omega (arith, below))
-
-first_cases : (x y : ℕ) (xs : List ℕ) → Contains (x ∷ xs) y → (x ≡ y) ⊎ Contains xs y
-first_cases x y xs (zero, below, is) = inl is
-first_cases x y xs (suc k, below, is) = inr (k, omega (arith, below), is)
-
-first_in : (x : ℕ) (xs : List ℕ) → Contains (x ∷ xs) x
-first_in x xs = (0, omega arith, refl)
-
-rest_in : (x y : ℕ) (xs : List ℕ) → Contains xs y → Contains (x ∷ xs) y
-rest_in x y xs (k, below, is) = (suc k, omega (arith, below), is)
 
 -- what is asked about stays in order where the last comes after all others
 rises_push : (asked : Askings) (leaf : ℕ) (after : Bool) → AskingsRise asked → ((a : ℕ × Bool) → Contains asked a → a.0 < leaf)
@@ -220,9 +211,6 @@ plain_push lines after family both asked operands leaf expr operand are plain la
 
 -- leaves that are added from the last to the first
 
-pub added_none : (after : Bool) (asked : Askings) → AreAddedTo after [] asked asked
-added_none after asked leaf = (λ c. inl c, elim [ inl c ↦ c | inr none ↦ absurd (omega (arith, none.1)) ])
-
 pub added_more : (after : Bool) (leaves : List ℕ) (i next leaf : ℕ) (old mid new : Askings) → i < length leaves → next ≡ suc i
     → leaf ≡ get_or leaves i 0 → AreAddedTo after (drop next leaves) old mid → new ≡ mid ++ (leaf, after) ∷ []
     → AreAddedTo after (drop i leaves) old new
@@ -232,17 +220,17 @@ added_more after leaves i next leaf old mid new below follows is added pushed ot
       λ c. elim (Contains-push_cases mid (leaf, after) (other, after) (subst (λ xs. Contains xs (other, after)) pushed c)) [
         | inl was ↦ elim ((added other).0 was) [
           | inl first ↦ inl first
-          | inr rest ↦ inr (subst (λ xs. Contains xs other) (sym all) (rest_in leaf other (drop next leaves) rest))
+          | inr rest ↦ inr (subst (λ xs. Contains xs other) (sym all) (tail_in leaf (drop next leaves) other rest))
         ]
         | inr same ↦
             let id : leaf ≡ other = ap (λ (p : ℕ × Bool). p.0) same in
-            inr (subst (λ xs. Contains xs other) (sym all) (subst (Contains (leaf ∷ drop next leaves)) id (first_in leaf (drop next leaves))))
+            inr (subst (λ xs. Contains xs other) (sym all) (subst (Contains (leaf ∷ drop next leaves)) id (head_in leaf (drop next leaves))))
       ],
       elim [
         | inl first ↦
             subst (λ xs. Contains xs (other, after)) (sym pushed)
             (Contains-append_left mid ((leaf, after) ∷ []) (other, after) ((added other).1 (inl first)))
-        | inr rest ↦ elim (first_cases leaf other (drop next leaves) (subst (λ xs. Contains xs other) all rest)) [
+        | inr rest ↦ elim (cons_cases leaf (drop next leaves) other (subst (λ xs. Contains xs other) all rest)) [
           | inl same ↦
               subst (λ xs. Contains xs (other, after)) (sym pushed)
               (subst (λ x. Contains (mid ++ (leaf, after) ∷ []) (x, after)) same (Contains-push mid (leaf, after)))
@@ -296,22 +284,6 @@ made_of lines kept root part shared (below, (first, same, or)) leaf =
         ],
       )
     ]
-
--- what is kept is plain, where the union is made of it and a part
-pub plain_of : (lines : List Line) (kept : Kept) (root part : ℕ) → IsShared lines kept → IsPartBeside lines kept.root root part
-    → ArePlain lines kept.after kept.family kept.question.negative.items kept.query.negative
-plain_of lines kept root part shared (below, (first, same, or)) =
-    (subst (λ r. IfSome r (IsKeptFor lines kept)) same shared).plain
-
--- where nothing is asked about yet
-pub plain_none : (lines : List Line) (after : Bool) → IsTable lines → ArePlain lines after None [] []
-plain_none lines after table = record {
-  table = table;
-  plain = λ a c. absurd (omega (arith, c.1));
-  rises = λ i j first second less at_first at_second. absurd (omega (arith, slice_get_within [] i first at_first));
-  one_family = λ a c. absurd (omega (arith, c.1));
-  named = refl;
-}
 
 -- what comes after the last comes after all
 pub after_last : (asked : Askings) (leaf : ℕ) → AskingsRise asked → 0 < length asked

@@ -1,6 +1,6 @@
 -- The two sides of a statement, from their leaves.
 use Rattle.std.proofs.Common.{◌≡◌, ℕ, ◌<◌, ◌+◌, ◌≤◌, ◌↔◌, Bool, true, false, List, [], Option, Some, None, length, sym, ap, subst, inl, inr, arith}
-use Rattle.std.proofs.lemmas.List.Elements.{All-contains, Contains-get_or}
+use Rattle.std.proofs.lemmas.List.Elements.{All-contains}
 use Rattle.std.specs.List.{All, Contains}
 use Rattle.hv_lines.specs.Literals.{IsLiteral, IsPlainSet}
 use Rattle.hv_lines.specs.Numbering.{IsTable, expr_count}
@@ -16,12 +16,10 @@ use Rattle.hv_lines.specs.declared.line.Word.TheVariants as W
 use Rattle.hv_lines.proofs.Questions.{alone_no_step}
 use Rattle.hv_lines.proofs.Rising.{rising_once}
 use Rattle.hv_lines.proofs.Shaped.{step_no_literal, step_once}
+use Rattle.hv_lines.proofs.Elements.{all_from}
 use Rattle.hv_basic.specs.Working.Asked.{AreChosen}
 use Rattle.hv_basic.specs.Working.Gathered.{AreAskings, AreGathered, HasLeft, IsFamilyIn, IsGiven, IsOnlyStep, IsStepAdded}
 use Rattle.hv_basic.specs.declared.literals.Asking.{Asking}
-
-all_in : {X : Type 0} (P : X → Type 0) (xs : List X) → ((x : X) → Contains xs x → P x) → All P xs
-all_in P xs each k d below = each (_) (Contains-get_or xs k d below)
 
 -- the set and the action set of the only step are one
 only_once : (lines : List Line) (word : Word) (leaves : List ℕ) (set acts other by : ℕ) → IsOnlyStep lines word leaves set acts
@@ -48,14 +46,14 @@ module _ (lines : List Line) (word : Word) (leaves : List ℕ) where
   inner_fails other set by only inner is out None has = other has.0
   inner_fails other set by only inner is out (Some acts) has =
       let same : set ≡ has.0 = (only_once lines word leaves set by has.0 acts only has.1).0 in
-      out (all_in (IsLiteral lines) inner (λ leaf c. has.2 leaf (subst (λ s. IsAndLeaf lines s leaf) same ((is leaf).0 c))))
+      out (all_from (IsLiteral lines) inner (λ leaf c. has.2 leaf (subst (λ s. IsAndLeaf lines s leaf) same ((is leaf).0 c))))
 
 module _ (lines : List Line) (word : Word) (left right : ℕ) (lefts rights : List ℕ)
     (are_lefts : (leaf : ℕ) → Contains lefts leaf ↔ IsAndLeaf lines left leaf)
     (are_rights : (leaf : ℕ) → Contains rights leaf ↔ IsOrLeaf lines right leaf) where
   -- the left side of a statement with the shape
   pub left_has : (acts : Option ℕ) → HasSides lines word left right acts → HasLeft lines word lefts acts
-  left_has None sides = (sides.0, all_in (IsLiteral lines) lefts (λ leaf c. sides.1 leaf ((are_lefts leaf).0 c)))
+  left_has None sides = (sides.0, all_from (IsLiteral lines) lefts (λ leaf c. sides.1 leaf ((are_lefts leaf).0 c)))
   left_has (Some acts) sides = (
     sides.1,
     record {
@@ -68,8 +66,8 @@ module _ (lines : List Line) (word : Word) (left right : ℕ) (lefts rights : Li
   )
 
   pub right_fails : (All (IsLiteral lines) rights → ⊥) → (acts : Option ℕ) → HasSides lines word left right acts → ⊥
-  right_fails out None sides = out (all_in (IsLiteral lines) rights (λ leaf c. sides.2 leaf ((are_rights leaf).0 c)))
-  right_fails out (Some acts) sides = out (all_in (IsLiteral lines) rights (λ leaf c. sides.6 leaf ((are_rights leaf).0 c)))
+  right_fails out None sides = out (all_from (IsLiteral lines) rights (λ leaf c. sides.2 leaf ((are_rights leaf).0 c)))
+  right_fails out (Some acts) sides = out (all_from (IsLiteral lines) rights (λ leaf c. sides.6 leaf ((are_rights leaf).0 c)))
 
   pub left_fails : ((acts : Option ℕ) → HasLeft lines word lefts acts → ⊥) → (acts : Option ℕ) → HasSides lines word left right acts → ⊥
   left_fails out acts sides = out acts (left_has acts sides)
@@ -207,15 +205,11 @@ module _ (lines : List Line) (word : Word) (left right : ℕ) (askings : List As
       let n : length q.negative ≡ length negative = ap length also in
       omega (arith, many, is.few, p, n)
 
-pub sides_fail : (lines : List Line) (word : Word) (left right : ℕ) → ((acts : Option ℕ) → HasSides lines word left right acts → ⊥)
-    → (q : Question) → IsQuestion lines word left right q → ⊥
-sides_fail lines word left right out q is = out q.acts is.sides
-
 -- what is asked about has a line
 pub asked_lines : (lines : List Line) (word : Word) (left right : ℕ) (askings : List Asking) → IsTable lines
     → AreAskings lines word left right askings → All (λ asking. asking.set < expr_count lines) askings
 asked_lines lines word left right askings table are =
-    all_in (λ (a : Asking). a.set < expr_count lines) askings (λ a c. below a.positive a ((are a).0 c))
+    all_from (λ (a : Asking). a.set < expr_count lines) askings (λ a c. below a.positive a ((are a).0 c))
   where
     line : (set : ℕ) → IsPlainSet lines set → set < expr_count lines
     line set plain = expr_below lines set plain.0 table plain.1

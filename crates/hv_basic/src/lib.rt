@@ -24,6 +24,7 @@ pub mod verdicts;
 mod walk;
 
 pub use basic::Basic;
+pub use hv_lines::{Clash, Verdict};
 pub use kinds::is_of_its_family;
 pub use laws::laws_of_verdicts;
 pub use shapes::{ShapeFault, shape};

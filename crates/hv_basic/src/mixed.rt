@@ -342,7 +342,8 @@ fn find_together(
 ) -> Result<Option<Finding>, AllocError>
     requires budget { budget ≤ most_budget }
     requires atoms { formula_atoms left.now ≡ formula_atoms right.now }
-    ensures answer { IfOk result (λ found. IsFoundInclusion budget (together_cost left.now right.now)
+    ensures answer { IfOk result
+        (λ found. IsFoundInclusion budget (together_cost left.now right.now)
         (formula_atoms left.now)
         (difference (complement (formula_has left.now)) (formula_has right.now))
         found scratch.new.state) }
@@ -375,7 +376,8 @@ fn together_by_right(
     requires budget { budget ≤ most_budget }
     requires atoms { formula_atoms left.now ≡ formula_atoms right.now }
     requires other { clause_count (expr_of left.now) ≡ None }
-    ensures answer { IfOk result (λ found. IsFoundInclusion budget (together_cost left.now right.now)
+    ensures answer { IfOk result
+        (λ found. IsFoundInclusion budget (together_cost left.now right.now)
         (formula_atoms left.now)
         (difference (complement (formula_has right.now)) (formula_has left.now))
         found scratch.new.state) }

@@ -103,8 +103,8 @@ fn verdict_by_kept(
     requires nodes { NamesNodes (node_count diagrams.now) table.now.lines }
     requires store { IsStoreOf task.now table.now.lines store.now }
     requires kept { IsShared table.now.lines kept.old }
-    ensures answer { IfOk result (λ found. IfSome found
-        (IsVerdictOfSub (setting_of task.now diagrams.now budget) table.now.lines word left right)) }
+    ensures answer { IfOk result (λ found. IfSome found (IsVerdictOfSub
+        (setting_of task.now diagrams.now budget) table.now.lines word left right)) }
     ensures kept { IsShared table.now.lines kept.new }
     ensures lengths { KeepsLengths scratch.old scratch.new }
 {

@@ -5,10 +5,11 @@ ghost use Rattle.std.specs.List.{All};
 ghost use Rattle.hv_task.specs.Strips.{Strips, atoms};
 ghost use Rattle.hv_sets.specs.Kinds.{IsHornClause, IsTwoClause};
 ghost use Rattle.hv_clauses.specs.Clausal.{AreClauses};
-ghost use Rattle.hv_lines.specs.Numbering.{IsNumbered};
+ghost use Rattle.hv_lines.specs.Numbering.{IsNumbered, expr_count};
 ghost use Rattle.hv_lines.specs.Queries.{named_by};
 ghost use Rattle.hv_lines.specs.declared.line.Expr.TheVariants as E;
 ghost use Rattle.hv_lines.specs.declared.line.Line.{Line};
+ghost use Rattle.hv_lines.specs.declared.line.Line.TheVariants as L;
 ghost use Rattle.hv_basic.specs.Stores.{CanBeStored, IsStoreOf, LineCanBeStored, formula, with_expr, with_line};
 ghost use Rattle.hv_basic.specs.Working.Stores.{IsUnstored};
 
@@ -83,8 +84,22 @@ impl Store {
         }
     }
 
-    /// Adds what the next `e` line says: its formula goes to the store of its family.
-    fn add(&mut self, task: &Task, expr: &Expr) -> Result<(), AllocError>
+    /// Adds what the next `e` line says: its formula goes to the store of its family. Stores that
+    /// have the formulas of the lines before have those of all lines then.
+    pub fn add(&mut self, task: &Task, expr: &Expr) -> Result<(), AllocError>
+        requires { CanBeStored (atoms task.now) expr.now }
+        ensures ok { OnOk result (self.new ≡ with_expr (atoms task.now) self.old expr.now) }
+        ensures err { OnErr result (self.new ≡ self.old) }
+        ensures stands { OnOk result ((lines : List Line) (id : ℕ)
+            → IsStoreOf task.now lines self.old → id ≡ expr_count lines
+            → IsStoreOf task.now (L.Expr id expr.now ∷ lines) self.new) }
+    {
+        self.put(task, expr)?;
+        Ok(())
+    }
+
+    // The same by itself, without the lines before.
+    fn put(&mut self, task: &Task, expr: &Expr) -> Result<(), AllocError>
         requires { CanBeStored (atoms task.now) expr.now }
         ensures ok { OnOk result (self.new ≡ with_expr (atoms task.now) self.old expr.now) }
         ensures err { OnErr result (self.new ≡ self.old) }

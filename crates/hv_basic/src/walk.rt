@@ -24,7 +24,8 @@ pub(crate) fn walk<F: Family>(
     budget: u64,
     scratch: &mut Scratch,
 ) -> Result<Verdict, AllocError>
-    requires ready { AreAllReady (F.count sets.now) (length task.now.actions) query.old actions.now }
+    requires ready { AreAllReady (F.count sets.now)
+        (length task.now.actions) query.old actions.now }
     requires anchor { F.wants_anchor sets.now → HasAnchor query.old }
     requires task { F.is_over sets.now (atoms task.now) }
     ensures answer { IfOk result (IsDecided (λ q. F.passes sets.now task.now q budget)

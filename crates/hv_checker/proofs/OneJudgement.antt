@@ -43,7 +43,7 @@ cut_cases (x ∷ f) (y ∷ g) b c r s h =
 
 module _ (setting : Setting) where
   -- what is accepted of pieces is one list of lines
-  accepts_once : (pieces : List LineText) (a b : List Line) → Accepts setting pieces a → Accepts setting pieces b → a ≡ b
+  pub accepts_once : (pieces : List LineText) (a b : List Line) → Accepts setting pieces a → Accepts setting pieces b → a ≡ b
   accepts_once [] a b x y = x ∙ sym y
   accepts_once (None ∷ older) a b x y = absurd x
   accepts_once (Some bytes ∷ older) a b (inl x) (inl y) = accepts_once older a b x.1 y.1

@@ -212,7 +212,8 @@ fn fault(
     requires shared { IsShared table.now.lines shared.old }
     requires spelled { IsSpelled line.now }
     ensures shared { IsShared table.now.lines shared.new }
-    ensures fault { IfOk result (λ f. IsLineFault (setting_on bench.now) table.now.lines line.now f) }
+    ensures fault { IfOk result
+        (λ f. IsLineFault (setting_on bench.now) table.now.lines line.now f) }
 {
     if !is_numbered(table, line) {
         return Ok(Some(Reason::Number));
@@ -243,7 +244,8 @@ fn fault_in_meaning(
     requires spelled { IsSpelled line.now }
     requires back { RefersBack table.now.lines line.now }
     ensures shared { IsShared table.now.lines shared.new }
-    ensures fault { IfOk result (λ f. IsLineFault (setting_on bench.now) table.now.lines line.now f) }
+    ensures fault { IfOk result
+        (λ f. IsLineFault (setting_on bench.now) table.now.lines line.now f) }
 {
     match line {
         Line::Acts { .. } => Ok(None),

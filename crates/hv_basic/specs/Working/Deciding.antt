@@ -1,4 +1,4 @@
--- Working definitions beside those of `Deciding`: what contracts of private functions and proofs say.
+-- Working definitions beside those of `Deciding`: for private contracts and proofs.
 use Rattle.std.specs.Prelude.{◌≡◌, ◌<◌, ℕ, List, Option, Some, IfSome, length, map, slice_get}
 use Rattle.hv_task.specs.Strips.{Strips, atoms}
 use Rattle.hv_sets.specs.Query.{IsReady, is_clash}
@@ -34,5 +34,6 @@ pub record IsQueryFor (task : Strips) (nodes : ℕ) (lines : List Line) (questio
     (actions : List (Option ℕ)) : Type 0
   where
     pub is : (action : Option ℕ) → with_action query action ≡ query_of lines question action
-    pub ready : AreAllReady (count_of lines question.family nodes) (length task.actions) query actions
+    pub ready : AreAllReady (count_of lines question.family nodes)
+        (length task.actions) query actions
     pub all : map (with_action query) actions ≡ queries_of task lines question

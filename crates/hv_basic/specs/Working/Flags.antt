@@ -13,7 +13,8 @@ flag_or_false flags place = slice_index_or flags place false
 -- one flag for each of so many actions, true for those of the action set
 pub record AreFlagsOf (lines : List Line) (acts actions : ℕ) (flags : List Bool) : Type 0 where
   pub each : length flags ≡ actions
-  pub true_for : (number : ℕ) → number < actions → flag_or_false flags number ≡ acts_of lines acts number
+  pub true_for : (number : ℕ) → number < actions
+      → flag_or_false flags number ≡ acts_of lines acts number
 
 -- flags and wanted action sets after an action set was looked at: where it is all actions every
 -- flag is set, where it lists some those are set, and where it is made of two others these are
@@ -24,7 +25,8 @@ Marks A.All flags wanted new_flags new_wanted =
 Marks (A.List listed) flags wanted new_flags new_wanted =
     (length new_flags ≡ length flags)
     × ((number : ℕ) → number < length flags
-    → flag_or_false new_flags number ≡ flag_or_false flags number || list_any (λ n. nat_eq n number) listed)
+    → flag_or_false new_flags number ≡ flag_or_false flags number || list_any
+    (λ n. nat_eq n number) listed)
     × (new_wanted ≡ wanted)
 Marks (A.Both left right) flags wanted new_flags new_wanted =
     (new_flags ≡ flags) × (new_wanted ≡ slice_set (slice_set wanted left true) right true)

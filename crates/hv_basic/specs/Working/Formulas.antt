@@ -61,7 +61,8 @@ abbrev pub AreApart : AnyFormula → AnyFormula → Type 0
 AreApart left right = family_of (expr_of left) ≡ family_of (expr_of right) → ⊥
 
 -- the answer to an inclusion with this cost, if it is decided
-abbrev pub IsFoundInclusion : ℕ → Option ℕ → ℕ → (List Bool → Bool) → Option Finding → List Bool → Type 0
+abbrev pub IsFoundInclusion : ℕ → Option ℕ → ℕ → (List Bool → Bool) → Option Finding → List Bool
+    → Type 0
 IsFoundInclusion budget cost atoms clash None state = cost ≡ None
 IsFoundInclusion budget cost atoms clash (Some found) state =
     (steps : ℕ) × (cost ≡ Some steps) × IsAnswer found (budget < steps) atoms clash state

@@ -1,4 +1,4 @@
--- Working definitions beside those of `Sharing`: what contracts of private functions and proofs say.
+-- Working definitions beside those of `Sharing`: for private contracts and proofs.
 use Rattle.std.specs.Prelude.{◌≡◌, ◌<◌, ◌⊎◌, ◌↔◌, ℕ, Bool, List, Option, None, Some, length, map, slice_get}
 use Rattle.std.specs.List.{Contains}
 use Rattle.hv_sets.specs.declared.operand.Which.{Which}

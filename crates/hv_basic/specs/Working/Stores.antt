@@ -1,4 +1,4 @@
--- Working definitions beside those of `Stores`: what contracts of private functions and proofs say.
+-- Working definitions beside those of `Stores`: for private contracts and proofs.
 use Rattle.hv_lines.specs.declared.line.Expr.{Expr}
 use Rattle.hv_lines.specs.declared.line.Expr.TheVariants as E
 

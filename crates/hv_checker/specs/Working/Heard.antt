@@ -1,4 +1,4 @@
--- Working definitions beside those of `Heard`: what contracts of private functions and proofs say.
+-- Working definitions beside those of `Heard`: for private contracts and proofs.
 use Rattle.std.specs.Prelude.{◌≡◌, List, Option, Some, None}
 use Rattle.hv_lines.specs.Good.{IsGood}
 use Rattle.hv_lines.specs.Working.Good.{IsReasonOf}

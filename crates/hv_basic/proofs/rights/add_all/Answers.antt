@@ -1,6 +1,6 @@
-use Rattle.std.proofs.Common.{◌≡◌, ◌+◌, ◌-◌, suc, ap, arith, drop, get_or, length, refl, subst}
+use Rattle.std.proofs.Common.{◌≡◌, ◌+◌, ◌-◌, ap, arith, drop, get_or, length, subst}
 use Rattle.hv_basic.specs.Working.Sharing.{AreAddedTo}
-use Rattle.hv_basic.proofs.Sharing.{added_more, added_none}
+use Rattle.hv_basic.proofs.Sharing.{added_more}
 use Rattle.hv_basic.proofs.rights.add_all.Goals as goal
 
 pub loop-count-preserved : goal.loop-count-preserved

@@ -1,4 +1,4 @@
-use Rattle.hv_basic.proofs.Sharing.{made_of, plain_of}
+use Rattle.hv_basic.proofs.Sharing.{made_of}
 use Rattle.hv_basic.proofs.rights.extend.Goals as goal
 
 pub grow-requires-clause-made : goal.grow-requires-clause-made
