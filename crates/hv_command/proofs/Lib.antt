@@ -1,4 +1,3 @@
-pub mod AcceptedLines
 pub mod AtomTexts
 pub mod Numbers
 pub mod Checked

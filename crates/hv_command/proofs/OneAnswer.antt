@@ -15,11 +15,10 @@ use Rattle.hv_lines.specs.Setting.{Setting, setting_of}
 use Rattle.hv_lines.specs.declared.reason.Clash.{Clash}
 use Rattle.hv_lines.specs.declared.reason.Reason.{Reason}
 use Rattle.hv_lines.specs.declared.reason.Reason.TheVariants as R
-use Rattle.hv_checker.proofs.OneJudgement.{judged_once}
+use Rattle.hv_checker.proofs.OneJudgement.{accepts_once, judged_once}
 use Rattle.hv_explain.proofs.OneText.{one_explanation}
 use Rattle.hv_explain.specs.Explained.{IsExplanation}
 use Rattle.hv_lines.specs.declared.line.Line.{Line}
-use Rattle.hv_command.proofs.AcceptedLines.{accepts_once}
 use Rattle.hv_replay.specs.Logs.{SearchLog}
 use Rattle.hv_replay.specs.LogText.{log_limits}
 use Rattle.hv_replay.proofs.OneAnswer.{one_fault as one_log_fault, one_log, text_or_fault as log_or_fault}

@@ -1,6 +1,6 @@
 -- What is reached in the task of a sample, and the two proofs for it.
 use Rattle.std.proofs.Common.{◌≡◌, ◌↔◌, ℕ, zero, suc, ◌+◌, ◌-◌, ◌*◌, ◌%◌, ◌<◌, ◌≤◌, ◌∙◌, ◌&&◌, ◌||◌, ◌⊎◌, Bool, true, false, eqb, ltb, List, [], ◌∷◌, ◌++◌, Option, Some, None, IfSome, IsTrue, codes, decimal, length, map, slice_get, refl, sym, ap, ap₂, subst, inl, inr, append_assoc, arith, length-append}
-use Rattle.std.proofs.lemmas.Bool.{cases_eq, eq-eqb, eqb-true, false≢true, lt-ltb, ltb-true, ne_eqb}
+use Rattle.std.proofs.lemmas.Bool.{and_from, and_parts, cases_eq, eq-eqb, eqb-true, false_from_ne_true, false≢true, lt-ltb, ltb-true, ne_eqb}
 use Rattle.std.proofs.lemmas.List.Concat.{flat_map-append}
 use Rattle.std.proofs.lemmas.List.Elements.{All-cons, All-head, All-nil}
 use Rattle.std.proofs.lemmas.List.FromFn.{get_or-map-range_with_len, length-map-range_with_len, map-range_with_len_more}
@@ -19,19 +19,15 @@ use Rattle.hv_lines.specs.Numbering.{expr_at, expr_count}
 use Rattle.hv_lines.specs.declared.line.Expr.{Expr}
 use Rattle.hv_lines.specs.declared.line.Expr.TheVariants as E
 use Rattle.hv_lines.specs.declared.line.Line.{Line}
+use Rattle.hv_lines.proofs.Bools.{same_truth}
 use Rattle.hv_reach.specs.Reached.{AreIn, ClosedAtoms, ClosedPairs, HasPairsOf, LeavesAlone, ReachedAtom, ReachedPair}
 use Rattle.hv_reach.specs.Written.{IsPairsProof, IsRelaxedProof, PairsExclude, RelaxedExcludes, atom_clauses, horn_proof, pair_clauses, pairs_formula, relaxed_formula, row_clauses}
-use Rattle.hv_reach.proofs.Lists.{and_both, and_left, and_right}
-use Rattle.hv_reach.proofs.Sets.{has_within}
+use Rattle.hv_lines.proofs.Lists.{range_push}
+use Rattle.hv_task.proofs.Listing.{within_state}
 use Rattle.hv_command.specs.Sample.{count_line, move_from, proof_line, room_name, sample_task, unreached_pairs}
 use Rattle.hv_command.specs.Working.Sample.{IsHornProof}
 use Rattle.hv_command.specs.Replies.{unsolvable_text}
 use Rattle.hv_command.specs.Words.{IsRooms}
-
-same_truth : (a b : Bool) → (a ≡ true → b ≡ true) → (b ≡ true → a ≡ true) → a ≡ b
-same_truth true b there back = sym (there refl)
-same_truth false true there back = back refl
-same_truth false false there back = refl
 
 -- a list that rises and has one atom alone
 pub one_listed : (list : List ℕ) (atom : ℕ) → Inserts [] atom list → list ≡ atom ∷ []
@@ -145,7 +141,7 @@ module _ (rooms : ℕ) (is : IsRooms rooms) where
   -- the state holds the first room alone
   starts_in : (p : ℕ) → has_atom (start_state (sample_task rooms)) p ≡ true → p ≡ 0
   starts_in p held =
-      let within = has_within (start_state (sample_task rooms)) p held in
+      let within = within_state (start_state (sample_task rooms)) p held in
       let size = length-state_of (atoms (sample_task rooms)) (0 ∷ []) in
       let below : p < atoms (sample_task rooms) = omega (arith, within, size) in
       elim (cases_eq 0 p) [
@@ -203,12 +199,12 @@ module _ (rooms : ℕ) (is : IsRooms rooms) where
   is_one p q = eqb p q && ltb p rooms
 
   one_room : (p q : ℕ) → p ≡ q → p < rooms → is_one p q ≡ true
-  one_room p q e below = and_both (eqb p q) (ltb p rooms) (eq-eqb p q e) (lt-ltb p rooms below)
+  one_room p q e below = and_from (eqb p q) (ltb p rooms) (eq-eqb p q e) (lt-ltb p rooms below)
 
   same_room : (p q : ℕ) → is_one p q ≡ true → (p ≡ q) × (p < rooms)
   same_room p q e = (
-    eqb-true p q (and_left (eqb p q) (ltb p rooms) e),
-    ltb-true p rooms (and_right (eqb p q) (ltb p rooms) e),
+    eqb-true p q (and_parts (eqb p q) (ltb p rooms) e).0,
+    ltb-true p rooms (and_parts (eqb p q) (ltb p rooms) e).1,
   )
 
   paired_one : (set : ℕ → ℕ → Bool) (p : ℕ) → set p p ≡ true → HasPairsOf set (p ∷ [])
@@ -276,10 +272,6 @@ module _ (rooms : ℕ) (is : IsRooms rooms) where
 
   -- the clauses of the formula of unreached atoms: one for the key
 
-  bool_of : (b : Bool) → (b ≡ true → ⊥) → b ≡ false
-  bool_of true fails = absurd (fails refl)
-  bool_of false fails = refl
-
   none_of_rooms : (a n : ℕ) → a + n ≤ rooms → length (flat_map (atom_clauses is_room) (range_with_len a n)) ≡ 0
   none_of_rooms a zero upto = refl
   none_of_rooms a (suc n) upto =
@@ -288,22 +280,13 @@ module _ (rooms : ℕ) (is : IsRooms rooms) where
       let rest = none_of_rooms (a + 1) n (omega (arith, upto)) in
       ap (λ cs. length (cs ++ flat_map (atom_clauses is_room) (range_with_len (a + 1) n))) none ∙ rest
 
-  range_more : (a n : ℕ) → range_with_len a (n + 1) ≡ range_with_len a n ++ (a + n) ∷ []
-  range_more a zero = ap (λ x. x ∷ []) (omega arith)
-  range_more a (suc n) =
-      let more : suc n + 1 ≡ suc (n + 1) = omega arith in
-      let moved : (a + 1) + n ≡ a + suc n = omega arith in
-      ap (range_with_len a) more
-      ∙ (ap (λ xs. a ∷ xs) (range_more (a + 1) n)
-      ∙ ap (λ x. a ∷ (range_with_len (a + 1) n ++ x ∷ [])) moved)
-
   one_more : {X : Type 0} (f : ℕ → List X) (n : ℕ)
       → length (flat_map f (range_with_len 0 (n + 1))) ≡ length (flat_map f (range_with_len 0 n)) + length (f n)
   one_more {X} f n =
       let none : List X = [] in
       let at : 0 + n ≡ n = omega arith in
       let range : range_with_len 0 (n + 1) ≡ range_with_len 0 n ++ n ∷ [] =
-      range_more 0 n ∙ ap (λ x. range_with_len 0 n ++ x ∷ []) at in
+      range_push 0 n ∙ ap (λ x. range_with_len 0 n ++ x ∷ []) at in
       let split = ap (flat_map f) range ∙ flat_map-append f (range_with_len 0 n) (n ∷ []) in
       let size = length-append (flat_map f (range_with_len 0 n)) (f n ++ none) in
       let last = length-append (f n) none in
@@ -311,7 +294,7 @@ module _ (rooms : ℕ) (is : IsRooms rooms) where
 
   relaxed_size : length (relaxed_formula (rooms + 1) is_room) ≡ 1
   relaxed_size =
-      let key : is_room rooms ≡ false = bool_of (is_room rooms) not_room in
+      let key : is_room rooms ≡ false = false_from_ne_true (is_room rooms) not_room in
       let last : length (atom_clauses is_room rooms) ≡ 1 = rw key refl in
       let all = one_more (atom_clauses is_room) rooms in
       let none = none_of_rooms 0 rooms (omega arith) in
@@ -322,7 +305,7 @@ module _ (rooms : ℕ) (is : IsRooms rooms) where
   apart : (p q : ℕ) → p < q → length (pair_clauses is_one p q) ≡ 1
   apart p q less =
       let none : is_one p q ≡ false =
-      bool_of (is_one p q) (λ e. let same = (same_room p q e).0 in omega (arith, same, less)) in
+      false_from_ne_true (is_one p q) (λ e. let same = (same_room p q e).0 in omega (arith, same, less)) in
       rw none refl
 
   row_behind : (p a n : ℕ) → p < a → length (flat_map (pair_clauses is_one p) (range_with_len a n)) ≡ n
@@ -344,7 +327,7 @@ module _ (rooms : ℕ) (is : IsRooms rooms) where
 
   row_of_key : length (row_clauses (rooms + 1) is_one rooms) ≡ 1
   row_of_key =
-      let key : is_one rooms rooms ≡ false = bool_of (is_one rooms rooms) not_one in
+      let key : is_one rooms rooms ≡ false = false_from_ne_true (is_one rooms rooms) not_one in
       let count : (rooms + 1) - rooms ≡ 1 = omega arith in
       let one : length (pair_clauses is_one rooms rooms) ≡ 1 = rw key refl in
       let none : List (List Literal) = [] in

@@ -20,9 +20,9 @@ ghost use Rattle.hv_command.specs.declared.status.Status.TheVariants as S;
 
 use crate::feeding::feed_file;
 use crate::job::{FileName, Report};
+use crate::job_fault::JobFault;
 use crate::reply::{Reply, fixed, misplaced, misplaced_node, passed, passed_by_nodes, refusal};
 use crate::status::Status;
-use crate::stop::Stop;
 use crate::task_fault::fault_reply;
 use hv_bdd::{Diagrams, NodesFault, read_nodes};
 use hv_bytes::{Limits, Shelf};
@@ -43,7 +43,7 @@ pub(crate) fn check<S: Shelf>(
     proof: &FileName,
     nodes: &Option<FileName>,
     budget: u64,
-) -> Result<Reply, Stop>
+) -> Result<Reply, JobFault>
     requires task { IsTrue (S.allows shelf.old task.now) }
     requires proof { IsTrue (S.allows shelf.old proof.now) }
     requires nodes { IfSome nodes.now (λ name. IsTrue (S.allows shelf.old name)) }
@@ -55,7 +55,7 @@ pub(crate) fn check<S: Shelf>(
     ensures held { S.held shelf.new ≡ S.held shelf.old }
     ensures allows { S.allows shelf.new ≡ S.allows shelf.old }
     ensures later { S.faults shelf.old ≤ S.faults shelf.new }
-    ensures cause { IsErrOf result Stop.ReadFault → Rose (S.faults shelf.old) (S.faults shelf.new) }
+    ensures cause { IsErrOf result JobFault.ReadFault → Rose (S.faults shelf.old) (S.faults shelf.new) }
 {
     match read_task(alloc, shelf, task.as_str(), Limits::STANDARD) {
         Ok(task) => {
@@ -70,10 +70,10 @@ pub(crate) fn check<S: Shelf>(
 }
 
 // What is answered to a node file that isn't read.
-fn nodes_fault_reply(alloc: Global, fault: NodesFault) -> Result<Reply, Stop>
+fn nodes_fault_reply(alloc: Global, fault: NodesFault) -> Result<Reply, JobFault>
     ensures { MatchResult result
         (λ r. IsReply r S.BadInput (nodes_fault_text fault) × IsNodesFault fault)
-        (λ stop. stop ≡ Stop.ReadFault → fault ≡ N.ReadFault) }
+        (λ met. met ≡ JobFault.ReadFault → fault ≡ N.ReadFault) }
 {
     match fault {
         NodesFault::Place(line, kind) => {
@@ -84,8 +84,8 @@ fn nodes_fault_reply(alloc: Global, fault: NodesFault) -> Result<Reply, Stop>
             let answer = passed_by_nodes(alloc, line, limit)?;
             Ok(answer)
         }
-        NodesFault::ReadFault => Err(Stop::ReadFault),
-        NodesFault::Memory => Err(Stop::Memory),
+        NodesFault::ReadFault => Err(JobFault::ReadFault),
+        NodesFault::Memory => Err(JobFault::Memory),
     }
 }
 
@@ -98,7 +98,7 @@ fn check_task<S: Shelf>(
     proof: &FileName,
     nodes: &Option<FileName>,
     budget: u64,
-) -> Result<Reply, Stop>
+) -> Result<Reply, JobFault>
     requires proof { IsTrue (S.allows shelf.old proof.now) }
     requires nodes { IfSome nodes.now (λ name. IsTrue (S.allows shelf.old name)) }
     requires some { 0 < budget }
@@ -109,7 +109,7 @@ fn check_task<S: Shelf>(
     ensures held { S.held shelf.new ≡ S.held shelf.old }
     ensures allows { S.allows shelf.new ≡ S.allows shelf.old }
     ensures later { S.faults shelf.old ≤ S.faults shelf.new }
-    ensures cause { IsErrOf result Stop.ReadFault → Rose (S.faults shelf.old) (S.faults shelf.new) }
+    ensures cause { IsErrOf result JobFault.ReadFault → Rose (S.faults shelf.old) (S.faults shelf.new) }
 {
     match nodes {
         None => {
@@ -133,7 +133,7 @@ fn check_with_nodes<S: Shelf>(
     proof: &FileName,
     nodes: &FileName,
     budget: u64,
-) -> Result<Reply, Stop>
+) -> Result<Reply, JobFault>
     requires proof { IsTrue (S.allows shelf.old proof.now) }
     requires nodes { IsTrue (S.allows shelf.old nodes.now) }
     requires some { 0 < budget }
@@ -144,7 +144,7 @@ fn check_with_nodes<S: Shelf>(
     ensures held { S.held shelf.new ≡ S.held shelf.old }
     ensures allows { S.allows shelf.new ≡ S.allows shelf.old }
     ensures later { S.faults shelf.old ≤ S.faults shelf.new }
-    ensures cause { IsErrOf result Stop.ReadFault → Rose (S.faults shelf.old) (S.faults shelf.new) }
+    ensures cause { IsErrOf result JobFault.ReadFault → Rose (S.faults shelf.old) (S.faults shelf.new) }
 {
     match read_nodes(alloc, shelf, nodes.as_str(), task.atoms(), Limits::STANDARD) {
         Ok(diagrams) => {
@@ -167,7 +167,7 @@ pub(crate) fn check_proof<S: Shelf>(
     diagrams: &Diagrams,
     proof: &FileName,
     budget: u64,
-) -> Result<Reply, Stop>
+) -> Result<Reply, JobFault>
     requires over { diagrams.now.atoms ≡ atoms task.now }
     requires allowed { IsTrue (S.allows shelf.old proof.now) }
     requires some { 0 < budget }
@@ -178,7 +178,7 @@ pub(crate) fn check_proof<S: Shelf>(
     ensures held { S.held shelf.new ≡ S.held shelf.old }
     ensures allows { S.allows shelf.new ≡ S.allows shelf.old }
     ensures later { S.faults shelf.old ≤ S.faults shelf.new }
-    ensures cause { IsErrOf result Stop.ReadFault → Rose (S.faults shelf.old) (S.faults shelf.new) }
+    ensures cause { IsErrOf result JobFault.ReadFault → Rose (S.faults shelf.old) (S.faults shelf.new) }
 {
     let mut checker = Checker::new(alloc, task, diagrams, budget)?;
     judge_file(alloc, shelf, report, proof, &mut checker)
@@ -191,7 +191,7 @@ fn judge_file<S: Shelf>(
     report: Report,
     proof: &FileName,
     checker: &mut Checker<'_>,
-) -> Result<Reply, Stop>
+) -> Result<Reply, JobFault>
     requires allowed { IsTrue (S.allows shelf.old proof.now) }
     requires unfed { checker.old.fed ≡ 0 }
     requires going { checker.old.stop ≡ C.Going }
@@ -202,7 +202,7 @@ fn judge_file<S: Shelf>(
     ensures held { S.held shelf.new ≡ S.held shelf.old }
     ensures allows { S.allows shelf.new ≡ S.allows shelf.old }
     ensures later { S.faults shelf.old ≤ S.faults shelf.new }
-    ensures cause { IsErrOf result Stop.ReadFault → Rose (S.faults shelf.old) (S.faults shelf.new) }
+    ensures cause { IsErrOf result JobFault.ReadFault → Rose (S.faults shelf.old) (S.faults shelf.new) }
 {
     feed_file(alloc, shelf, proof.as_str(), checker)?;
     let answer = judgement_reply(alloc, report, checker)?;

@@ -8,7 +8,7 @@ ghost use Rattle.hv_checker.specs.Stands.{Stands};
 ghost use Rattle.hv_bytes.specs.Standard.{standard};
 ghost use Rattle.hv_checker.specs.declared.stop.Stop.TheVariants as C;
 
-use crate::stop::Stop;
+use crate::job_fault::JobFault;
 use hv_bytes::{Limits, LineFault, Lines, Next, Shelf};
 use hv_checker::{Checker, Fed, Piece};
 use std::alloc::Global;
@@ -20,7 +20,7 @@ pub(crate) fn feed_file<S: Shelf>(
     shelf: &mut S,
     name: &str,
     checker: &mut Checker<'_>,
-) -> Result<(), Stop>
+) -> Result<(), JobFault>
     requires allowed { IsTrue (S.allows shelf.old name.now) }
     requires unfed { checker.old.fed ≡ 0 }
     requires going { checker.old.stop ≡ C.Going }
@@ -32,7 +32,7 @@ pub(crate) fn feed_file<S: Shelf>(
     ensures held { S.held shelf.new ≡ S.held shelf.old }
     ensures allows { S.allows shelf.new ≡ S.allows shelf.old }
     ensures later { S.faults shelf.old ≤ S.faults shelf.new }
-    ensures cause { IsErrOf result Stop.ReadFault → Rose (S.faults shelf.old) (S.faults shelf.new) }
+    ensures cause { IsErrOf result JobFault.ReadFault → Rose (S.faults shelf.old) (S.faults shelf.new) }
 {
     shelf.open(name)?;
     let mut lines = Lines::new(alloc, Limits::STANDARD)?;
@@ -48,8 +48,8 @@ pub(crate) fn feed_file<S: Shelf>(
                 checker.feed(Piece::Long)?;
                 return Ok(());
             }
-            Err(LineFault::Failed) => return Err(Stop::ReadFault),
-            Err(LineFault::Memory) => return Err(Stop::Memory),
+            Err(LineFault::Failed) => return Err(JobFault::ReadFault),
+            Err(LineFault::Memory) => return Err(JobFault::Memory),
         }
     }
 }

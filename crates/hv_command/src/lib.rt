@@ -8,6 +8,7 @@ mod checking;
 mod explain_tests;
 mod feeding;
 pub mod job;
+mod job_fault;
 pub mod laws;
 #[cfg(test)]
 mod produce_tests;
@@ -23,7 +24,6 @@ mod sampling;
 #[cfg(test)]
 mod statement_tests;
 pub mod status;
-mod stop;
 mod task_fault;
 #[cfg(test)]
 mod tests;

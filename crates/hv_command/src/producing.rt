@@ -11,9 +11,9 @@ ghost use Rattle.hv_command.specs.declared.job.Kind.TheVariants as K;
 ghost use Rattle.hv_command.specs.declared.status.Status.TheVariants as S;
 
 use crate::job::{FileName, Kind};
+use crate::job_fault::JobFault;
 use crate::reply::{Reply, fixed};
 use crate::status::Status;
-use crate::stop::Stop;
 use crate::task_fault::fault_reply;
 use hv_bytes::{Limits, Shelf, Text};
 use hv_lines::Draft;
@@ -30,7 +30,7 @@ pub(crate) fn produce<S: Shelf>(
     shelf: &mut S,
     kind: Kind,
     task: &FileName,
-) -> Result<Reply, Stop>
+) -> Result<Reply, JobFault>
     requires { IsTrue (S.allows shelf.old task.now) }
     ensures answer { IfSome (S.held shelf.old) (λ held. IfOk result (λ r.
         AfterTask (bytes_of held task.now) (AnswersProduce kind) r.status r.text)) }
@@ -38,7 +38,7 @@ pub(crate) fn produce<S: Shelf>(
     ensures held { S.held shelf.new ≡ S.held shelf.old }
     ensures allows { S.allows shelf.new ≡ S.allows shelf.old }
     ensures later { S.faults shelf.old ≤ S.faults shelf.new }
-    ensures cause { IsErrOf result Stop.ReadFault → Rose (S.faults shelf.old) (S.faults shelf.new) }
+    ensures cause { IsErrOf result JobFault.ReadFault → Rose (S.faults shelf.old) (S.faults shelf.new) }
 {
     match read_task(alloc, shelf, task.as_str(), Limits::STANDARD) {
         Ok(task) => {

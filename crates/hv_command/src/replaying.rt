@@ -16,10 +16,10 @@ ghost use Rattle.hv_command.specs.Working.Reply.{IsReply};
 ghost use Rattle.hv_command.specs.declared.status.Status.TheVariants as S;
 
 use crate::job::FileName;
+use crate::job_fault::JobFault;
 use crate::producing::written;
 use crate::reply::{Reply, fixed, text_fault};
 use crate::status::Status;
-use crate::stop::Stop;
 use crate::task_fault::fault_reply;
 use hv_bytes::{Limits, Shelf, Text};
 use hv_lines::Pruner;
@@ -35,7 +35,7 @@ pub(crate) fn replay_files<S: Shelf>(
     task: &FileName,
     log: &FileName,
     pruners: &mut Vec<Box<dyn Pruner>>,
-) -> Result<Reply, Stop>
+) -> Result<Reply, JobFault>
     requires task { IsTrue (S.allows shelf.old task.now) }
     requires log { IsTrue (S.allows shelf.old log.now) }
     ensures answer { IfSome (S.held shelf.old) (λ held. IfOk result (λ r.
@@ -45,7 +45,7 @@ pub(crate) fn replay_files<S: Shelf>(
     ensures held { S.held shelf.new ≡ S.held shelf.old }
     ensures allows { S.allows shelf.new ≡ S.allows shelf.old }
     ensures later { S.faults shelf.old ≤ S.faults shelf.new }
-    ensures cause { IsErrOf result Stop.ReadFault → Rose (S.faults shelf.old) (S.faults shelf.new) }
+    ensures cause { IsErrOf result JobFault.ReadFault → Rose (S.faults shelf.old) (S.faults shelf.new) }
 {
     match read_task(alloc, shelf, task.as_str(), Limits::STANDARD) {
         Ok(task) => {
@@ -66,7 +66,7 @@ fn replay_of_task<S: Shelf>(
     task: &Task,
     log: &FileName,
     pruners: &mut Vec<Box<dyn Pruner>>,
-) -> Result<Reply, Stop>
+) -> Result<Reply, JobFault>
     requires log { IsTrue (S.allows shelf.old log.now) }
     ensures answer { IfSome (S.held shelf.old) (λ held. IfOk result (λ r.
         AfterLog task.now (bytes_of held log.now)
@@ -76,7 +76,7 @@ fn replay_of_task<S: Shelf>(
     ensures held { S.held shelf.new ≡ S.held shelf.old }
     ensures allows { S.allows shelf.new ≡ S.allows shelf.old }
     ensures later { S.faults shelf.old ≤ S.faults shelf.new }
-    ensures cause { IsErrOf result Stop.ReadFault → Rose (S.faults shelf.old) (S.faults shelf.new) }
+    ensures cause { IsErrOf result JobFault.ReadFault → Rose (S.faults shelf.old) (S.faults shelf.new) }
 {
     match read_log(alloc, shelf, log.as_str(), task) {
         Ok(log) => {
@@ -142,10 +142,10 @@ fn hole_reply(alloc: Global, hole: ReplayFault) -> Result<Reply, AllocError>
 }
 
 // What is answered to a log that isn't read.
-fn log_fault_reply(alloc: Global, fault: LogFault) -> Result<Reply, Stop>
+fn log_fault_reply(alloc: Global, fault: LogFault) -> Result<Reply, JobFault>
     ensures { MatchResult result
         (λ r. IsReply r S.BadInput (log_fault_text fault) × IsLogFault fault)
-        (λ stop. stop ≡ Stop.ReadFault → fault ≡ L.ReadFault) }
+        (λ met. met ≡ JobFault.ReadFault → fault ≡ L.ReadFault) }
 {
     match fault {
         LogFault::Place(line) => {
@@ -156,8 +156,8 @@ fn log_fault_reply(alloc: Global, fault: LogFault) -> Result<Reply, Stop>
             let answer = text_fault(alloc, b"log line ", line, b": limit ", limit.word())?;
             Ok(answer)
         }
-        LogFault::ReadFault => Err(Stop::ReadFault),
-        LogFault::Memory => Err(Stop::Memory),
+        LogFault::ReadFault => Err(JobFault::ReadFault),
+        LogFault::Memory => Err(JobFault::Memory),
     }
 }
 

@@ -20,11 +20,11 @@ ghost use Rattle.hv_command.specs.declared.status.Status.TheVariants as S;
 
 use crate::checking::check_proof;
 use crate::job::{DEFAULT_BUDGET, FileName, Report};
+use crate::job_fault::JobFault;
 use crate::producing::written;
 use crate::reply::Reply;
 use crate::sample::sample_task;
 use crate::status::Status;
-use crate::stop::Stop;
 use hv_bdd::Diagrams;
 use hv_bytes::{SureShelf, Text};
 use hv_lines::{Draft, Expr, Table};
@@ -197,17 +197,17 @@ fn judged_bytes(alloc: Global, task: &Task, proof: &[u8]) -> Result<Reply, Alloc
     shelf.add("proof", proof)?;
     match judged_file(alloc, &mut shelf, task) {
         Ok(answer) => Ok(answer),
-        Err(Stop::ReadFault) => unreachable!(),
-        Err(Stop::Memory) => Err(AllocError),
+        Err(JobFault::ReadFault) => unreachable!(),
+        Err(JobFault::Memory) => Err(AllocError),
     }
 }
 
 // What is said of the file `proof` of the shelf.
-fn judged_file(alloc: Global, shelf: &mut SureShelf, task: &Task) -> Result<Reply, Stop>
+fn judged_file(alloc: Global, shelf: &mut SureShelf, task: &Task) -> Result<Reply, JobFault>
     requires { JudgedBytes (draft_setting task.now) standard
         (bytes_of (held_of shelf.old.files) (codes "proof")) Unsolvable }
     ensures answer { IfOk result (λ r. IsReply r S.Done unsolvable_text) }
-    ensures cause { IsErrOf result Stop.ReadFault → Rose 0 0 }
+    ensures cause { IsErrOf result JobFault.ReadFault → Rose 0 0 }
 {
     let name = FileName::new(alloc, "proof")?;
     let diagrams = Diagrams::none(alloc, task.atoms());

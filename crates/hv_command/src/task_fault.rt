@@ -7,16 +7,16 @@ ghost use Rattle.hv_command.specs.Working.Replies.{IsTextFault};
 ghost use Rattle.hv_command.specs.Working.Reply.{IsReply};
 ghost use Rattle.hv_command.specs.declared.status.Status.TheVariants as S;
 
+use crate::job_fault::JobFault;
 use crate::reply::{Reply, misplaced, passed};
-use crate::stop::Stop;
 use hv_task_text::TaskFault;
 use std::alloc::Global;
 
 /// What is answered to a task text that isn't read.
-pub(crate) fn fault_reply(alloc: Global, fault: TaskFault) -> Result<Reply, Stop>
+pub(crate) fn fault_reply(alloc: Global, fault: TaskFault) -> Result<Reply, JobFault>
     ensures { MatchResult result
         (λ r. IsReply r S.BadInput (task_fault_text fault) × IsTextFault fault)
-        (λ stop. stop ≡ Stop.ReadFault → fault ≡ F.ReadFault) }
+        (λ met. met ≡ JobFault.ReadFault → fault ≡ F.ReadFault) }
 {
     match fault {
         TaskFault::Place(line, kind) => {
@@ -27,7 +27,7 @@ pub(crate) fn fault_reply(alloc: Global, fault: TaskFault) -> Result<Reply, Stop
             let answer = passed(alloc, line, limit)?;
             Ok(answer)
         }
-        TaskFault::ReadFault => Err(Stop::ReadFault),
-        TaskFault::Memory => Err(Stop::Memory),
+        TaskFault::ReadFault => Err(JobFault::ReadFault),
+        TaskFault::Memory => Err(JobFault::Memory),
     }
 }

@@ -12,12 +12,12 @@ ghost use Rattle.hv_command.specs.declared.status.Status.{Status as StatusOf};
 
 use crate::checking::check;
 use crate::job::{Job, Report, read_job};
+use crate::job_fault::JobFault;
 use crate::producing::produce;
 use crate::replaying::replay_files;
 use crate::reply::{Reply, fixed};
 use crate::sampling::sample;
 use crate::status::Status;
-use crate::stop::Stop;
 use crate::words::Words;
 use hv_bytes::{Shelf, Sink, send};
 use hv_lines::Pruner;
@@ -79,8 +79,8 @@ pub fn run<S: Shelf, K: Sink>(
             Ok(()) => reply.status,
             Err(_) => Status::WriteFault,
         },
-        Err(Stop::ReadFault) => Status::ReadFault,
-        Err(Stop::Memory) => Status::Memory,
+        Err(JobFault::ReadFault) => Status::ReadFault,
+        Err(JobFault::Memory) => Status::Memory,
     }
 }
 
@@ -90,7 +90,7 @@ fn answer<S: Shelf>(
     words: &Words,
     shelf: &mut S,
     pruners: &mut Vec<Box<dyn Pruner>>,
-) -> Result<Reply, Stop>
+) -> Result<Reply, JobFault>
     requires { (name : List ℕ) → HasName (job_of words.now) name
         → IsTrue (S.allows shelf.old name) }
     ensures answer { IfOk result (λ r.
@@ -99,11 +99,11 @@ fn answer<S: Shelf>(
     ensures answered { IfOk result (λ r. IsAnswered r.status) }
     ensures usage { IfOk result (λ r. r.status ≡ Status.Usage → job_of words.now ≡ None) }
     ensures no_job { IfOk result (λ r. job_of words.now ≡ None → r.status ≡ Status.Usage) }
-    ensures a_job { IsErrOf result Stop.ReadFault → job_of words.now ≡ None → ⊥ }
+    ensures a_job { IsErrOf result JobFault.ReadFault → job_of words.now ≡ None → ⊥ }
     ensures held { S.held shelf.new ≡ S.held shelf.old }
     ensures allows { S.allows shelf.new ≡ S.allows shelf.old }
     ensures later { S.faults shelf.old ≤ S.faults shelf.new }
-    ensures cause { IsErrOf result Stop.ReadFault → Rose (S.faults shelf.old) (S.faults shelf.new) }
+    ensures cause { IsErrOf result JobFault.ReadFault → Rose (S.faults shelf.old) (S.faults shelf.new) }
 {
     match read_job(alloc, words)? {
         None => {
@@ -122,7 +122,7 @@ fn do_job<S: Shelf>(
     shelf: &mut S,
     job: &Job,
     pruners: &mut Vec<Box<dyn Pruner>>,
-) -> Result<Reply, Stop>
+) -> Result<Reply, JobFault>
     requires bounded { IsBounded job.now }
     requires allowed { (name : List ℕ) → HasName (Some job.now) name
         → IsTrue (S.allows shelf.old name) }
@@ -133,7 +133,7 @@ fn do_job<S: Shelf>(
     ensures held { S.held shelf.new ≡ S.held shelf.old }
     ensures allows { S.allows shelf.new ≡ S.allows shelf.old }
     ensures later { S.faults shelf.old ≤ S.faults shelf.new }
-    ensures cause { IsErrOf result Stop.ReadFault → Rose (S.faults shelf.old) (S.faults shelf.new) }
+    ensures cause { IsErrOf result JobFault.ReadFault → Rose (S.faults shelf.old) (S.faults shelf.new) }
 {
     match job {
         Job::Check {

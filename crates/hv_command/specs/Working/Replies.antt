@@ -1,5 +1,4 @@
--- Working definitions beside those of `Replies`: what contracts of private functions and proofs say.
-use Rattle.hv_lines.specs.Judged.{Refused}
+-- Working definitions beside those of `Replies`: for private contracts and proofs.
 use Rattle.hv_task_text.specs.declared.fault.TaskFault.{TaskFault}
 use Rattle.hv_task_text.specs.declared.fault.TaskFault.TheVariants as F
 use Rattle.hv_bdd.specs.declared.fault.NodesFault.{NodesFault}

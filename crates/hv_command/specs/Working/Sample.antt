@@ -1,5 +1,5 @@
--- Working definitions beside those of `Sample`: what contracts of private functions and proofs say.
-use Rattle.std.specs.Prelude.{◌≡◌, ◌-◌, List}
+-- Working definitions beside those of `Sample`: for private contracts and proofs.
+use Rattle.std.specs.Prelude.{◌≡◌, List}
 use Rattle.hv_sets.specs.declared.literal.Literal.{Literal}
 use Rattle.hv_lines.specs.declared.line.Line.{Line}
 use Rattle.hv_reach.specs.Written.{horn_proof}

@@ -1,5 +1,4 @@
 use Rattle.std.proofs.Common.{inl, inr}
-use Rattle.hv_replay.proofs.Several.{AnyOf}
 use Rattle.hv_command.proofs.replaying.log_reply.Goals as goal
 
 pub returns-in_ok-answer-in-Ok-clause-answer : goal.returns-in_ok-answer-in-Ok-clause-answer
