@@ -3,6 +3,8 @@
 
 mod file_shelf;
 mod file_sink;
+#[cfg(test)]
+mod tests;
 
 use file_shelf::FileShelf;
 use file_sink::FileSink;
