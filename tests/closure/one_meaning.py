@@ -3,10 +3,9 @@
 
 The names of ROLES are exempt. They are those of parts that several rooms have: what is said of
 each text that is read line by line, of each table of chains, of each kind of clauses, of each
-pruner and its proof, of each list of rows; and the child and the place of a node, which are said
-of a list of nodes and once more of the sets that a tuple of them stands for. What such a name
-says in one room is not held to what it says in another: that is for the reader. A name that a
-room passes on by `pub use` is no definition of that room.
+pruner and its proof, of each list of rows. What such a name says in one room is not held to what
+it says in another: that is for the reader. A name that a room passes on by `pub use` is no
+definition of that room.
 Usage: tests/closure/one_meaning.py
 """
 import sys
@@ -23,7 +22,6 @@ IsChain IsEnd IsLinked slot_at slot_of
 AreOver IsEither IsFault or_else
 IsModest IsOutcome with_budget
 IsIn RowsBelow
-child top
 """.split()
 
 

@@ -189,7 +189,7 @@ class Sources:
                 names.take(line)
             elif re.match(r"(pub )?use ", line):
                 place = self.take_use(lines, place, uses)
-            elif line.startswith("#[cfg(test)]") and lines[place + 1].startswith("mod"):
+            elif line.startswith("#[cfg(test)]") and re.match(r"mod \w+ \{", lines[place + 1]):
                 break
             elif RUST_TYPE.match(line):
                 place = self.add_type(crate, room, names, lines, place)
@@ -458,7 +458,11 @@ class Sources:
             item.cites[key] = True
 
     def cited_by(self, key, by_value=False):
-        """What a definition or a type cites; where it has a model, what that or its value does."""
+        """What a definition or a type cites; where it has a model, what that or its value does. By
+        value, a type that can't be named from outside its crate cites nothing: its fields are no
+        part of a contract."""
+        if by_value and key in self.types and not self.types[key].public:
+            return {}
         if by_value and key in self.models:
             return self.value_cites(self.models[key])
         for table in (self.defs, self.traits, self.models, self.types):
