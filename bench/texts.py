@@ -145,3 +145,22 @@ def got_in_turn(atoms, actions):
     deleted one after the other, but for those that deny the first atom."""
     steps = [([atom], [atom + 1], []) for atom in range(atoms - 1)]
     return task_text(atoms, [], list(range(atoms)), (steps * (actions // len(steps) + 1))[:actions])
+
+
+def long_clause(atoms, order):
+    """A Horn clause of many atoms, of which an action's precondition and implications make all but two true: one after the
+    other, as the clause lists them or the other way round, or all at once; or clauses of one atom in the same formula do."""
+    true = list(range(atoms - 2))
+    clause = " ".join("-%d" % (atom + 1) for atom in range(atoms)) + " 0"
+    if order == "reverse":
+        true.reverse()
+    pre = true[:1] if order in ("listed", "reverse") else true if order == "at once" else []
+    if order in ("listed", "reverse"):
+        others = ["-%d %d 0" % (true[place] + 1, true[place + 1] + 1) for place in range(len(true) - 1)]
+    else:
+        others = ["%d 0" % (atom + 1) for atom in true] if order == "one formula" else ["1 0"]
+    task = task_text(atoms, [], [atoms - 1], [(pre, [], [])])
+    if order == "one formula":
+        return task, PRELUDE + "e 3 h %d %s %s\nk 1 s 3 3 b1\n" % (len(others) + 1, clause, " ".join(others))
+    lines = ["e 3 h 1 " + clause, "e 4 h %d %s" % (len(others), " ".join(others)), "e 5 i 3 4", "e 6 p 5 0"]
+    return task, PRELUDE + "\n".join(lines) + "\nk 1 s 6 4 b2\n"
