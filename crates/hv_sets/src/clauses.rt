@@ -62,7 +62,7 @@ impl Clauses {
         Ok(Clauses { alloc, pieces })
     }
 
-    /// Puts the item last.
+    /// Puts the item last. More than 4,294,967,295 literals in all are answered as want of memory.
     pub fn push(&mut self, item: Clause) -> Result<(), AllocError>
         ensures ok { OnOk result (self.new ≡ self.old ++ item ∷ []) }
         ensures err { OnErr result (self.new ≡ self.old) }
@@ -70,7 +70,8 @@ impl Clauses {
         self.push_literals(item.as_slice())
     }
 
-    /// Puts the clause of these literals last. Copies that are shared stay as they are.
+    /// Puts the clause of these literals last. Copies that are shared stay as they are. More than
+    /// 4,294,967,295 literals in all are answered as want of memory.
     pub fn push_literals(&mut self, literals: &[Literal]) -> Result<(), AllocError>
         ensures ok { OnOk result (self.new ≡ self.old ++ literals.now ∷ []) }
         ensures err { OnErr result (self.new ≡ self.old) }

@@ -1,6 +1,7 @@
 //! The literals of clauses in one list, with the end of each clause.
 
-ghost use Rattle.std.specs.Prelude.{◌≡◌, ◌<◌, ◌≤◌, [], ◌∷◌, ◌++◌, length, slice_get, slice_range, IfOk, Some, OnOk, OnErr};
+ghost use Rattle.std.specs.Prelude.{◌≡◌, ◌<◌, ◌≤◌, ◌+◌, [], ◌∷◌, ◌++◌, length, slice_get, slice_range};
+ghost use Rattle.std.specs.Prelude.{IfOk, IfSome, Some, OnOk, OnErr};
 ghost use Rattle.hv_sets.specs.Working.Pieces.{EndAt, pieces, start_of};
 
 use crate::literal::Literal;
@@ -12,7 +13,7 @@ use std::marker::Model;
 pub(crate) struct FlatClauses {
     literals: Vec<Literal>,
     // Where each clause ends among them.
-    ends: Vec<usize>,
+    ends: Vec<u32>,
 }
 
 impl Model for FlatClauses {
@@ -49,14 +50,18 @@ impl FlatClauses {
         Ok(FlatClauses { literals, ends })
     }
 
-    /// Puts the clause of these literals last.
+    /// Puts the clause of these literals last. More than 4,294,967,295 literals in all are answered
+    /// as want of memory.
     pub(crate) fn push(&mut self, literals: &[Literal]) -> Result<(), AllocError>
         ensures ok { OnOk result (self.new ≡ self.old ++ literals.now ∷ []) }
         ensures err { OnErr result (self.new ≡ self.old) }
     {
+        let Some(end) = end_after(self.literals.len(), literals.len()) else {
+            return Err(AllocError);
+        };
         self.ends.reserve(1)?;
         self.literals.extend_from_slice(literals)?;
-        self.ends.push_reserved(self.literals.len());
+        self.ends.push_reserved(end);
         Ok(())
     }
 
@@ -76,13 +81,23 @@ impl FlatClauses {
     }
 }
 
+// Where so many more literals after so many end, if there is room.
+fn end_after(len: usize, more: usize) -> Option<u32>
+    ensures { IfSome result (λ end. end ≡ len + more) }
+{
+    match len.checked_add(more) {
+        Some(end) if end <= u32::MAX as usize => Some(end as u32),
+        _ => None,
+    }
+}
+
 // The piece at a place.
-fn piece_at<'a>(literals: &'a [Literal], ends: &[usize], place: usize) -> &'a [Literal]
+fn piece_at<'a>(literals: &'a [Literal], ends: &[u32], place: usize) -> &'a [Literal]
     requires ended { EndAt literals.now 0 ends.now }
     requires place { place < length ends.now }
     ensures { slice_get (pieces literals.now 0 ends.now) place ≡ Some result.now }
 {
-    between(literals, start_of(ends, place), ends[place])
+    between(literals, start_of(ends, place), ends[place] as usize)
 }
 
 fn between(literals: &[Literal], start: usize, end: usize) -> &[Literal]
@@ -94,9 +109,13 @@ fn between(literals: &[Literal], start: usize, end: usize) -> &[Literal]
 }
 
 // Where the piece at a place begins.
-fn start_of(ends: &[usize], place: usize) -> usize
+fn start_of(ends: &[u32], place: usize) -> usize
     requires { place < length ends.now }
     ensures { result ≡ start_of 0 ends.now place }
 {
-    if place == 0 { 0 } else { ends[place - 1] }
+    if place == 0 {
+        0
+    } else {
+        ends[place - 1] as usize
+    }
 }
