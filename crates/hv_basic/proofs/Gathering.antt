@@ -1,6 +1,9 @@
 -- Gathering what literals ask about, leaf by leaf.
-use Rattle.std.proofs.Common.{◌≡◌, ℕ, zero, suc, ◌<◌, ◌≤◌, ◌+◌, ◌∙◌, ◌⊎◌, ◌++◌, Bool, true, false, List, [], ◌∷◌, length, get_or, take, refl, sym, ap, subst, inl, inr, arith}
-use Rattle.std.proofs.lemmas.List.Elements.{Contains-append_left, Contains-push, Contains-push_cases}
+use Rattle.std.proofs.Common.{◌≡◌, ℕ, zero, suc, ◌<◌, ◌≤◌, ◌+◌, ◌∙◌, ◌⊎◌, ◌++◌, Bool, true, false}
+use Rattle.std.proofs.Common.{List, [], ◌∷◌, length, get_or, take, refl, sym, ap, subst, inl, inr}
+use Rattle.std.proofs.Common.{arith}
+use Rattle.std.proofs.lemmas.List.Elements.{Contains-append_left, Contains-push}
+use Rattle.std.proofs.lemmas.List.Elements.{Contains-push_cases}
 use Rattle.std.proofs.lemmas.List.{take_all}
 use Rattle.std.specs.List.{Contains}
 use Rattle.hv_lines.specs.Literals.{IsLiteral}
@@ -12,7 +15,8 @@ use Rattle.hv_basic.specs.declared.literals.Asking.{Asking}
 use Rattle.hv_basic.specs.declared.literals.Literal.{Literal}
 
 -- one more of a list
-pub take_more : {X : Type 0} (xs : List X) (i : ℕ) (d : X) → i < length xs → take (suc i) xs ≡ take i xs ++ get_or xs i d ∷ []
+pub take_more : {X : Type 0} (xs : List X) (i : ℕ) (d : X) → i < length xs
+    → take (suc i) xs ≡ take i xs ++ get_or xs i d ∷ []
 take_more [] i d within = absurd (omega (arith, within))
 take_more (x ∷ xs) zero d within = refl
 take_more (x ∷ xs) (suc i) d within = ap (λ t. x ∷ t) (take_more xs i d (omega (arith, within)))
@@ -24,71 +28,100 @@ sign_twice true b = refl
 sign_twice false true = refl
 sign_twice false false = refl
 
-module _ (lines : List Line) (leaves : List ℕ) (i : ℕ) (within : i < length leaves) (on_left after : Bool) (old mid : List Asking)
+module _ (lines : List Line) (leaves : List ℕ) (i : ℕ) (within : i < length leaves)
+    (on_left after : Bool) (old mid : List Asking)
     (before : AreGathered lines (take i leaves) on_left after old mid) where
   one_more : take (i + 1) leaves ≡ take i leaves ++ get_or leaves i 0 ∷ []
   one_more =
       let next : i + 1 ≡ suc i = omega arith in
       ap (λ n. take n leaves) next ∙ take_more leaves i 0 within
 
-  still_given : (asking : Asking) → IsGiven lines (take i leaves) on_left after asking → IsGiven lines (take (i + 1) leaves) on_left after asking
-  still_given asking given =
-      (given.0, subst (λ ls. Contains ls given.0) (sym one_more) (Contains-append_left (take i leaves) (get_or leaves i 0 ∷ []) given.0 given.1), given.2, given.3)
+  still_given : (asking : Asking) → IsGiven lines (take i leaves) on_left after asking
+      → IsGiven lines (take (i + 1) leaves) on_left after asking
+  still_given asking given = (
+    given.0,
+    subst (λ ls. Contains ls given.0) (sym one_more)
+        (Contains-append_left (take i leaves) (get_or leaves i 0 ∷ []) given.0 given.1),
+    given.2,
+    given.3,
+  )
 
   -- what was given is given by an earlier leaf, or by this one
   given_cases : (asking : Asking) → IsGiven lines (take (i + 1) leaves) on_left after asking
       → IsGiven lines (take i leaves) on_left after asking
-      ⊎ (IsLiteralOf lines (get_or leaves i 0) asking.set (sign_on on_left asking.positive) × (asking.after ≡ after))
+      ⊎ (IsLiteralOf lines (get_or leaves i 0) asking.set (sign_on on_left asking.positive)
+      × (asking.after ≡ after))
   given_cases asking given =
-      elim (Contains-push_cases (take i leaves) (get_or leaves i 0) given.0 (subst (λ ls. Contains ls given.0) one_more given.1)) [
+      elim (Contains-push_cases (take i leaves) (get_or leaves i 0) given.0
+      (subst (λ ls. Contains ls given.0) one_more given.1)) [
         | inl earlier ↦ inl (given.0, earlier, given.2, given.3)
-        | inr same ↦ inr (subst (λ leaf. IsLiteralOf lines leaf asking.set (sign_on on_left asking.positive)) (sym same) given.2, given.3)
+        | inr same ↦ inr (
+          subst (λ leaf. IsLiteralOf lines leaf asking.set
+              (sign_on on_left asking.positive)) (sym same) given.2,
+          given.3,
+        )
       ]
 
   -- a leaf that is no literal asks nothing
-  pub gathered_other : (IsLiteral lines (get_or leaves i 0) → ⊥) → AreGathered lines (take (i + 1) leaves) on_left after old mid
+  pub gathered_other : (IsLiteral lines (get_or leaves i 0) → ⊥)
+      → AreGathered lines (take (i + 1) leaves) on_left after old mid
   gathered_other other asking = (
-    λ c. elim ((before asking).0 c) [ inl was ↦ inl was | inr given ↦ inr (still_given asking given) ],
+    λ c. elim ((before asking).0 c) [
+      | inl was ↦ inl was
+      | inr given ↦ inr (still_given asking given)
+    ],
     elim [
       | inl was ↦ (before asking).1 (inl was)
       | inr given ↦ elim (given_cases asking given) [
         | inl earlier ↦ (before asking).1 (inr earlier)
-        | inr here ↦ absurd (other (literal_from lines (get_or leaves i 0) asking.set (sign_on on_left asking.positive) here.0))
+        | inr here ↦ absurd (other (literal_from lines (get_or leaves i 0) asking.set
+            (sign_on on_left asking.positive) here.0))
       ]
     ],
   )
 
   -- a literal asks about its formula or constant
-  pub gathered_more : (literal : Literal) (positive : Bool) → IsThe lines (get_or leaves i 0) literal → positive ≡ sign_on on_left literal.is_plain
-      → AreGathered lines (take (i + 1) leaves) on_left after old (mid ++ record { set = literal.set; after = after; positive = positive } ∷ [])
+  pub gathered_more : (literal : Literal) (positive : Bool)
+      → IsThe lines (get_or leaves i 0) literal → positive ≡ sign_on on_left literal.is_plain
+      → AreGathered lines (take (i + 1) leaves) on_left after old
+      (mid ++ record { set = literal.set; after = after; positive = positive } ∷ [])
   gathered_more literal positive is sign asking =
       let new : Asking = record { set = literal.set; after = after; positive = positive } in
-      let plain : sign_on on_left positive ≡ literal.is_plain = ap (sign_on on_left) sign ∙ sign_twice on_left literal.is_plain in
+      let plain : sign_on on_left positive ≡ literal.is_plain = ap (sign_on on_left) sign
+      ∙ sign_twice on_left literal.is_plain in
       let here : IsGiven lines (take (i + 1) leaves) on_left after new = (
         get_or leaves i 0,
-        subst (λ ls. Contains ls (get_or leaves i 0)) (sym one_more) (Contains-push (take i leaves) (get_or leaves i 0)),
+        subst (λ ls. Contains ls (get_or leaves i 0)) (sym one_more)
+            (Contains-push (take i leaves) (get_or leaves i 0)),
         subst (IsLiteralOf lines (get_or leaves i 0) literal.set) (sym plain) is,
         refl,
       ) in (
         λ c. elim (Contains-push_cases mid new asking c) [
-          | inl was ↦ elim ((before asking).0 was) [ inl first ↦ inl first | inr given ↦ inr (still_given asking given) ]
+          | inl was ↦ elim ((before asking).0 was)
+              [ inl first ↦ inl first | inr given ↦ inr (still_given asking given) ]
           | inr same ↦ inr (subst (IsGiven lines (take (i + 1) leaves) on_left after) same here)
         ],
         elim [
           | inl was ↦ Contains-append_left mid (new ∷ []) asking ((before asking).1 (inl was))
           | inr given ↦ elim (given_cases asking given) [
-            | inl earlier ↦ Contains-append_left mid (new ∷ []) asking ((before asking).1 (inr earlier))
+            | inl earlier ↦ Contains-append_left mid (new ∷ []) asking
+                ((before asking).1 (inr earlier))
             | inr now ↦
-                let one = literal_once lines (get_or leaves i 0) literal.set asking.set literal.is_plain (sign_on on_left asking.positive) is now.0 in
-                let signs : positive ≡ asking.positive = sign ∙ (ap (sign_on on_left) one.1 ∙ sign_twice on_left asking.positive) in
-                let same : new ≡ asking = let late : after ≡ asking.after = sym now.1 in λ k. record { set = one.0 k; after = late k; positive = signs k } in
+                let one = literal_once lines (get_or leaves i 0) literal.set asking.set
+                literal.is_plain (sign_on on_left asking.positive) is now.0 in
+                let signs : positive ≡ asking.positive = sign
+                ∙ (ap (sign_on on_left) one.1 ∙ sign_twice on_left asking.positive) in
+                let same : new ≡ asking = let late : after ≡ asking.after = sym now.1 in
+                λ k. record { set = one.0 k; after = late k; positive = signs k } in
                 subst (Contains (mid ++ new ∷ [])) same (Contains-push mid new)
           ]
         ],
       )
 
 -- what all leaves give
-pub gathered_whole : (lines : List Line) (leaves : List ℕ) (i : ℕ) → length leaves ≤ i → (on_left after : Bool) (old new : List Asking)
-    → AreGathered lines (take i leaves) on_left after old new → AreGathered lines leaves on_left after old new
+pub gathered_whole : (lines : List Line) (leaves : List ℕ) (i : ℕ) → length leaves ≤ i
+    → (on_left after : Bool) (old new : List Asking)
+    → AreGathered lines (take i leaves) on_left after old new
+    → AreGathered lines leaves on_left after old new
 gathered_whole lines leaves i size on_left after old new is =
     subst (λ ls. AreGathered lines ls on_left after old new) (take_all i leaves size) is

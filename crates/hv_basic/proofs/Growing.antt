@@ -1,86 +1,123 @@
 -- A line more, and the stores stand for the lines again.
-use Rattle.std.proofs.Common.{◌≡◌, ℕ, ◌<◌, ◌∙◌, ◌++◌, List, [], ◌∷◌, Some, eqb, length, map, sym, ap, subst, inl, inr, arith}
+use Rattle.std.proofs.Common.{◌≡◌, ℕ, ◌<◌, ◌∙◌, ◌++◌, List, [], ◌∷◌, Some, eqb, length, map, sym}
+use Rattle.std.proofs.Common.{ap, subst, inl, inr, arith}
 use Rattle.std.proofs.lemmas.Bool.{cases_lt, cond-true, cond-false, eq-eqb, ne_eqb}
-use Rattle.std.proofs.lemmas.List.{get_or_append_left, get_or_push, length-append, length-map, map-append}
+use Rattle.std.proofs.lemmas.List.{get_or_append_left, get_or_push, length-append, length-map}
+use Rattle.std.proofs.lemmas.List.{map-append}
 use Rattle.std.proofs.lemmas.Option.{slice_get-get_or}
 use Rattle.std.specs.List.{slice_get}
 use Rattle.hv_task.specs.Strips.{Strips, atoms}
 use Rattle.hv_lines.specs.Numbering.{IsNumbered, expr_count}
-use Rattle.hv_lines.specs.Queries.{horn_in, two_in, listed_in, horns_of, twos_of, listed_of, named_by, which_at}
+use Rattle.hv_lines.specs.Queries.{horn_in, two_in, listed_in, horns_of, twos_of, listed_of}
+use Rattle.hv_lines.specs.Queries.{named_by, which_at}
 use Rattle.hv_lines.specs.declared.line.Expr.{Expr}
 use Rattle.hv_lines.specs.declared.line.Line.{Line}
 use Rattle.hv_lines.specs.declared.line.Line.TheVariants as L
 use Rattle.hv_basic.specs.Stores.{IsStoreOf, StoreState, formula, listing, with_expr, with_line}
 
 -- of a list with one more item, the items before it and that item
-got_before : {X : Type 0} (xs : List X) (x : X) (i : ℕ) → i < length xs → slice_get (xs ++ x ∷ []) i ≡ slice_get xs i
+got_before : {X : Type 0} (xs : List X) (x : X) (i : ℕ) → i < length xs
+    → slice_get (xs ++ x ∷ []) i ≡ slice_get xs i
 got_before xs x i within =
     let longer = length-append xs (x ∷ []) in
     let less : i < length (xs ++ x ∷ []) = omega (arith, within, longer) in
     slice_get-get_or (xs ++ x ∷ []) i x less
     ∙ (ap Some (get_or_append_left xs (x ∷ []) x i within) ∙ sym (slice_get-get_or xs i x within))
 
-got_last : {X : Type 0} (xs : List X) (x : X) (i : ℕ) → i ≡ length xs → slice_get (xs ++ x ∷ []) i ≡ Some x
+got_last : {X : Type 0} (xs : List X) (x : X) (i : ℕ) → i ≡ length xs
+    → slice_get (xs ++ x ∷ []) i ≡ Some x
 got_last xs x i size =
     let longer = length-append xs (x ∷ []) in
     let less : i < length (xs ++ x ∷ []) = omega (arith, size, longer) in
     slice_get-get_or (xs ++ x ∷ []) i x less ∙ ap Some (get_or_push xs x x i (sym size))
 
 -- formulas with those of one more line
-more_of : {X Y : Type 0} (f : X → Y) (store : List Y) (old new : List X) → store ≡ map f old → store ++ map f new ≡ map f (old ++ new)
+more_of : {X Y : Type 0} (f : X → Y) (store : List Y) (old new : List X) → store ≡ map f old
+    → store ++ map f new ≡ map f (old ++ new)
 more_of f store old new is = ap (λ ys. ys ++ map f new) is ∙ sym (map-append f old new)
 
-how_many : {X Y : Type 0} (f : X → Y) (store : List Y) (old : List X) → store ≡ map f old → length store ≡ length old
+how_many : {X Y : Type 0} (f : X → Y) (store : List Y) (old : List X) → store ≡ map f old
+    → length store ≡ length old
 how_many f store old is = ap length is ∙ length-map old f
 
-module _ (task : Strips) (older : List Line) (store : StoreState) (is : IsStoreOf task older store) where
-  named_alike : (expr : Expr) → named_by (length store.horns) (length store.twos) (length store.listed) expr
-      ≡ named_by (length (horns_of older)) (length (twos_of older)) (length (listed_of older)) expr
-  named_alike expr = λ i.
-      named_by (how_many (formula (atoms task)) store.horns (horns_of older) is.horns i)
-      (how_many (formula (atoms task)) store.twos (twos_of older) is.twos i)
-      (how_many (listing (atoms task)) store.listed (listed_of older) is.listed i) expr
+module _ (task : Strips) (older : List Line) (store : StoreState) (is : IsStoreOf task older store)
+  where
+    named_alike : (expr : Expr) → named_by (length store.horns) (length store.twos)
+        (length store.listed) expr
+        ≡ named_by (length (horns_of older)) (length (twos_of older)) (length (listed_of older))
+        expr
+    named_alike expr = λ i.
+        named_by (how_many (formula (atoms task)) store.horns (horns_of older) is.horns i)
+        (how_many (formula (atoms task)) store.twos (twos_of older) is.twos i)
+        (how_many (listing (atoms task)) store.listed (listed_of older) is.listed i) expr
 
-  name_at : (own : ℕ) (expr : Expr) → own ≡ expr_count older → (id : ℕ) → id < expr_count (L.Expr own expr ∷ older)
-      → slice_get (with_expr (atoms task) store expr).names id ≡ Some (which_at (L.Expr own expr ∷ older) id)
-  name_at own expr numbered id below =
-      elim (cases_lt id (expr_count older)) [
-        | inl less ↦
-            let within : id < length store.names = omega (arith, less, is.each) in
-            got_before store.names (named_by (length store.horns) (length store.twos) (length store.listed) expr) id within
-            ∙ (is.names id less
-            ∙ ap Some (sym (cond-false (eqb id own) (named_by (length (horns_of older)) (length (twos_of older)) (length (listed_of older)) expr) (which_at older id)
-            (ne_eqb id own (λ same. let both : id ≡ expr_count older = same ∙ numbered in omega (arith, less, both))))))
-        | inr upto ↦
-            let here : id ≡ expr_count older = omega (arith, upto, below) in
-            let last : id ≡ length store.names = here ∙ sym is.each in
-            got_last store.names (named_by (length store.horns) (length store.twos) (length store.listed) expr) id last
-            ∙ ap Some (named_alike expr
-            ∙ sym (cond-true (eqb id own) (named_by (length (horns_of older)) (length (twos_of older)) (length (listed_of older)) expr) (which_at older id)
-            (eq-eqb id own (here ∙ sym numbered))))
-      ]
+    name_at : (own : ℕ) (expr : Expr) → own ≡ expr_count older → (id : ℕ)
+        → id < expr_count (L.Expr own expr ∷ older)
+        → slice_get (with_expr (atoms task) store expr).names id
+        ≡ Some (which_at (L.Expr own expr ∷ older) id)
+    name_at own expr numbered id below =
+        elim (cases_lt id (expr_count older)) [
+          | inl less ↦
+              let within : id < length store.names = omega (arith, less, is.each) in
+              got_before store.names (named_by (length store.horns) (length store.twos)
+              (length store.listed) expr) id within
+              ∙ (is.names id less
+              ∙ ap Some (sym (cond-false (eqb id own)
+              (named_by (length (horns_of older)) (length (twos_of older))
+              (length (listed_of older)) expr) (which_at older id)
+              (ne_eqb id own (λ same. let both : id ≡ expr_count older = same ∙ numbered in
+              omega (arith, less, both))))))
+          | inr upto ↦
+              let here : id ≡ expr_count older = omega (arith, upto, below) in
+              let last : id ≡ length store.names = here ∙ sym is.each in
+              got_last store.names (named_by (length store.horns) (length store.twos)
+              (length store.listed) expr) id last
+              ∙ ap Some (named_alike expr
+              ∙ sym (cond-true (eqb id own) (named_by (length (horns_of older))
+              (length (twos_of older)) (length (listed_of older)) expr) (which_at older id)
+              (eq-eqb id own (here ∙ sym numbered))))
+        ]
 
-  expr_more : (own : ℕ) (expr : Expr) → own ≡ expr_count older → IsStoreOf task (L.Expr own expr ∷ older) (with_expr (atoms task) store expr)
-  expr_more own expr numbered = record {
-    horns = more_of (formula (atoms task)) store.horns (horns_of older) (horn_in expr) is.horns;
-    twos = more_of (formula (atoms task)) store.twos (twos_of older) (two_in expr) is.twos;
-    listed = more_of (listing (atoms task)) store.listed (listed_of older) (listed_in expr) is.listed;
-    each =
-        let longer = length-append store.names (named_by (length store.horns) (length store.twos) (length store.listed) expr ∷ []) in
-        omega (arith, longer, is.each);
-    names = name_at own expr numbered;
-  }
+    expr_more : (own : ℕ) (expr : Expr) → own ≡ expr_count older
+        → IsStoreOf task (L.Expr own expr ∷ older) (with_expr (atoms task) store expr)
+    expr_more own expr numbered = record {
+      horns = more_of (formula (atoms task)) store.horns (horns_of older) (horn_in expr) is.horns;
+      twos = more_of (formula (atoms task)) store.twos (twos_of older) (two_in expr) is.twos;
+      listed = more_of (listing (atoms task)) store.listed (listed_of older) (listed_in expr)
+          is.listed;
+      each =
+          let longer = length-append store.names
+          (named_by (length store.horns) (length store.twos) (length store.listed) expr ∷ []) in
+          omega (arith, longer, is.each);
+      names = name_at own expr numbered;
+    }
 
-  -- with what the next line says the stores stand for all lines
-  pub line_more : (line : Line) → IsNumbered older line → IsStoreOf task (line ∷ older) (with_line (atoms task) store line)
-  line_more (L.Acts id acts) numbered =
-      record { horns = is.horns; twos = is.twos; listed = is.listed; each = is.each; names = is.names }
-  line_more (L.Expr id expr) numbered = expr_more id expr numbered
-  line_more (L.Known id statement word premises) numbered =
-      record { horns = is.horns; twos = is.twos; listed = is.listed; each = is.each; names = is.names }
+    -- with what the next line says the stores stand for all lines
+    pub line_more : (line : Line) → IsNumbered older line
+        → IsStoreOf task (line ∷ older) (with_line (atoms task) store line)
+    line_more (L.Acts id acts) numbered =
+        record {
+          horns = is.horns;
+          twos = is.twos;
+          listed = is.listed;
+          each = is.each;
+          names =
+              is.names;
+        }
+    line_more (L.Expr id expr) numbered = expr_more id expr numbered
+    line_more (L.Known id statement word premises) numbered =
+        record {
+          horns = is.horns;
+          twos = is.twos;
+          listed = is.listed;
+          each = is.each;
+          names =
+              is.names;
+        }
 
 -- stores without formulas stand for no lines
-pub none_yet : (task : Strips) (store : StoreState) → store.horns ≡ [] → store.twos ≡ [] → store.listed ≡ [] → store.names ≡ []
+pub none_yet : (task : Strips) (store : StoreState) → store.horns ≡ [] → store.twos ≡ []
+    → store.listed ≡ [] → store.names ≡ []
     → IsStoreOf task [] store
 none_yet task store horns twos listed names = record {
   horns = horns;
@@ -91,7 +128,10 @@ none_yet task store horns twos listed names = record {
 }
 
 -- the stores after a line, by what they are then
-pub stands_with : (task : Strips) (older : List Line) (old new : StoreState) (line : Line) → IsStoreOf task older old
-    → IsNumbered older line → new ≡ with_line (atoms task) old line → IsStoreOf task (line ∷ older) new
+pub stands_with : (task : Strips) (older : List Line) (old new : StoreState) (line : Line)
+    → IsStoreOf task older old
+    → IsNumbered older line → new ≡ with_line (atoms task) old line
+    → IsStoreOf task (line ∷ older) new
 stands_with task older old new line is numbered same =
-    subst (λ s. IsStoreOf task (line ∷ older) s) (sym same) (line_more task older old is line numbered)
+    subst (λ s. IsStoreOf task (line ∷ older) s) (sym same)
+    (line_more task older old is line numbered)

@@ -1,5 +1,6 @@
 -- What a left side asks, and the question that it asks together with a right side that is kept.
-use Rattle.std.proofs.Common.{◌≡◌, ℕ, ◌<◌, ◌+◌, ◌≤◌, ◌∙◌, ◌↔◌, Bool, true, false, List, [], Option, Some, None, get_or, length, refl, sym, subst, inl, inr, arith}
+use Rattle.std.proofs.Common.{◌≡◌, ℕ, ◌<◌, ◌+◌, ◌≤◌, ◌∙◌, ◌↔◌, Bool, true, false, List, [], Option}
+use Rattle.std.proofs.Common.{Some, None, get_or, length, refl, sym, subst, inl, inr, arith}
 use Rattle.std.proofs.lemmas.List.Elements.{All-contains, Contains-get_or}
 use Rattle.std.specs.List.{All, Contains}
 use Rattle.hv_sets.specs.declared.operand.Operand.{Operand}
@@ -10,7 +11,10 @@ use Rattle.hv_lines.specs.Verdicts.{IsVerdict}
 use Rattle.hv_lines.specs.declared.line.Statement.{Statement}
 use Rattle.hv_lines.specs.declared.line.Statement.TheVariants as T
 use Rattle.hv_lines.specs.declared.verdict.Verdict.{Verdict}
-use Rattle.hv_lines.specs.Shapes.{OfSets, Askings, AskingsRise, HasSides, IsAndLeaf, IsAsked, IsFamilyOf, IsLeftLeaf, IsLiteralOf, IsOfFamily, IsOrLeaf, IsQuestion, IsStep, IsWithinFamily, asks_sides_after, most_operands}
+use Rattle.hv_lines.specs.Shapes.{OfSets, Askings, AskingsRise, HasSides, IsAndLeaf, IsAsked}
+use Rattle.hv_lines.specs.Shapes.{IsFamilyOf, IsLeftLeaf, IsLiteralOf, IsOfFamily, IsOrLeaf}
+use Rattle.hv_lines.specs.Shapes.{IsQuestion, IsStep, IsWithinFamily, asks_sides_after}
+use Rattle.hv_lines.specs.Shapes.{most_operands}
 use Rattle.hv_lines.specs.declared.family.FormulaFamily.{FormulaFamily}
 use Rattle.hv_lines.specs.declared.line.Line.{Line}
 use Rattle.hv_lines.specs.declared.line.Word.{Word}
@@ -21,14 +25,20 @@ use Rattle.hv_lines.proofs.Shaped.{literal_once, step_no_literal, step_once}
 use Rattle.hv_basic.specs.Working.Asked.{AreChosen}
 use Rattle.hv_basic.specs.Working.Gathered.{AreGathered, IsGiven, IsStepAdded}
 use Rattle.hv_basic.specs.Sharing.{ArePlain, IsTheFamily}
-use Rattle.hv_basic.specs.Working.Sharing.{AreLeftAskings, IsFamilyBeside, IsLeftSide, IsVerdictOfSub}
+use Rattle.hv_basic.specs.Working.Sharing.{AreLeftAskings, IsFamilyBeside, IsLeftSide}
+use Rattle.hv_basic.specs.Working.Sharing.{IsVerdictOfSub}
 use Rattle.hv_basic.specs.declared.literals.Asking.{Asking}
 
 module _ (lines : List Line) (word : Word) (left : ℕ) (lefts : List ℕ)
     (are_lefts : (leaf : ℕ) → Contains lefts leaf ↔ IsAndLeaf lines left leaf) where
   -- the left side has the shape
-  pub left_side : (acts : Option ℕ) (old new : List Asking) → IsStepAdded lines word lefts acts old new → IsLeftSide lines word left acts
-  left_side None old new added = (added.0, λ leaf of. All-contains (IsLiteral lines) lefts leaf added.1 ((are_lefts leaf).1 of))
+  pub left_side : (acts : Option ℕ) (old new : List Asking)
+      → IsStepAdded lines word lefts acts old new → IsLeftSide lines word left acts
+  left_side None old new added = (
+    added.0,
+    λ leaf of. All-contains (IsLiteral lines) lefts leaf
+        added.1 ((are_lefts leaf).1 of),
+  )
   left_side (Some acts) old new added = (
     added.2.step,
     added.0,
@@ -38,9 +48,11 @@ module _ (lines : List Line) (word : Word) (left : ℕ) (lefts : List ℕ)
     λ leaf of. All-contains (IsLiteral lines) added.1 leaf added.4 ((added.3 leaf).1 of),
   )
 
-  module _ (first : List Asking) (gathered : AreGathered lines lefts true (asks_sides_after word) [] first) where
+  module _ (first : List Asking) (gathered : AreGathered lines lefts true (asks_sides_after word) []
+      first) where
     AsksLeft : Asking → Type 0
-    AsksLeft a = (leaf : ℕ) × IsLeftLeaf lines word left leaf a.after × IsLiteralOf lines leaf a.set a.positive
+    AsksLeft a = (leaf : ℕ) × IsLeftLeaf lines word left leaf a.after
+        × IsLiteralOf lines leaf a.set a.positive
 
     from_first : (a : Asking) → Contains first a → AsksLeft a
     unfolding AsksLeft
@@ -54,7 +66,8 @@ module _ (lines : List Line) (word : Word) (left : ℕ) (lefts : List ℕ)
     to_first a given = (gathered a).1 (inr given)
 
     -- what was gathered is all that the left side asks
-    pub left_askings : (acts : Option ℕ) (third : List Asking) → IsStepAdded lines word lefts acts first third
+    pub left_askings : (acts : Option ℕ) (third : List Asking)
+        → IsStepAdded lines word lefts acts first third
         → AreLeftAskings lines word left third
     unfolding AsksLeft
     left_askings None third added a = (
@@ -62,8 +75,10 @@ module _ (lines : List Line) (word : Word) (left : ℕ) (lefts : List ℕ)
       λ asks. subst (λ xs. Contains xs a) (sym added.2) (back asks),
     )
       where
-        back : (leaf : ℕ) × IsLeftLeaf lines word left leaf a.after × IsLiteralOf lines leaf a.set a.positive → Contains first a
-        back (leaf, inl (of, after), literal) = to_first a (leaf, (are_lefts leaf).1 of, literal, after)
+        back : (leaf : ℕ) × IsLeftLeaf lines word left leaf a.after
+            × IsLiteralOf lines leaf a.set a.positive → Contains first a
+        back (leaf, inl (of, after), literal) = to_first a
+            (leaf, (are_lefts leaf).1 of, literal, after)
         back (leaf, inr (step, set, acts, of, is_step, leaf_of, after), literal) =
             absurd (alone_no_step lines word left left step set acts added.0 is_step)
     left_askings (Some by) third (set, inner, only, are_inner, all, added) a = (
@@ -71,42 +86,77 @@ module _ (lines : List Line) (word : Word) (left : ℕ) (lefts : List ℕ)
         | inl was ↦ from_first a was
         | inr given ↦ (
           given.0,
-          inr (only.step, set, by, (are_lefts only.step).0 only.among, only.is, (are_inner given.0).0 given.1, given.3),
+          inr (
+            only.step,
+            set,
+            by,
+            (are_lefts only.step).0 only.among,
+            only.is,
+            (are_inner given.0).0 given.1,
+            given.3,
+          ),
           given.2,
         )
       ],
       back,
     )
       where
-        back : (leaf : ℕ) × IsLeftLeaf lines word left leaf a.after × IsLiteralOf lines leaf a.set a.positive → Contains third a
-        back (leaf, inl (of, after), literal) = (added a).1 (inl (to_first a (leaf, (are_lefts leaf).1 of, literal, after)))
+        back : (leaf : ℕ) × IsLeftLeaf lines word left leaf a.after
+            × IsLiteralOf lines leaf a.set a.positive → Contains third a
+        back (leaf, inl (of, after), literal) = (added a).1
+            (inl (to_first a (leaf, (are_lefts leaf).1 of, literal, after)))
         back (leaf, inr (step, other, acts, of, is_step, leaf_of, after), literal) =
             elim (only.others step ((are_lefts step).1 of)) [
               | inl plain ↦ absurd (step_no_literal lines word step other acts is_step plain)
               | inr same ↦
-                  let one : other ≡ set = (step_once lines word only.step other acts set by (subst (λ s. IsStep lines word s other acts) same is_step) only.is).0 in
-                  (added a).1 (inr (leaf, (are_inner leaf).1 (subst (λ s. IsAndLeaf lines s leaf) one leaf_of), literal, after))
+                  let one : other ≡ set = (step_once lines word only.step other acts set by
+                  (subst (λ s. IsStep lines word s other acts) same is_step) only.is).0 in
+                  (added a).1 (inr (
+                    leaf,
+                    (are_inner leaf).1
+                        (subst (λ s. IsAndLeaf lines s leaf) one leaf_of),
+                    literal,
+                    after,
+                  ))
             ]
 
-module _ (lines : List Line) (word : Word) (left right : ℕ) (askings : List Asking) (after : Bool) (kept : Option FormulaFamily)
+module _ (lines : List Line) (word : Word) (left right : ℕ) (askings : List Asking) (after : Bool)
+    (kept : Option FormulaFamily)
     (asked : Askings) (operands : List Operand) (are : ArePlain lines after kept asked operands)
-    (leaves : (leaf : ℕ) → Contains asked (leaf, after) ↔ IsOrLeaf lines right leaf) (late : after ≡ asks_sides_after word)
-    (asks : AreLeftAskings lines word left askings) (plus : (a : Asking) → Contains askings a → a.positive ≡ true) where
+    (leaves : (leaf : ℕ) → Contains asked (leaf, after) ↔ IsOrLeaf lines right leaf)
+    (late : after ≡ asks_sides_after word)
+    (asks : AreLeftAskings lines word left askings)
+    (plus : (a : Asking) → Contains askings a → a.positive ≡ true) where
   right_plain : (leaf : ℕ) → IsOrLeaf lines right leaf → IsPlainSet lines leaf
   right_plain leaf of = (are.plain (leaf, after) ((leaves leaf).1 of)).0
 
-  sides_with : (acts : Option ℕ) → IsLeftSide lines word left acts → HasSides lines word left right acts
+  sides_with : (acts : Option ℕ) → IsLeftSide lines word left acts
+      → HasSides lines word left right acts
   sides_with None side = (side.0, side.1, λ leaf of. inl (right_plain leaf of))
-  sides_with (Some acts) side = (side.0, side.1, side.2, side.3, side.4, side.5, λ leaf of. inl (right_plain leaf of))
+  sides_with (Some acts) side = (
+    side.0,
+    side.1,
+    side.2,
+    side.3,
+    side.4,
+    side.5,
+    λ leaf of. inl
+        (right_plain leaf of),
+  )
 
   -- what is asked about with the sign of the left side's formulas
-  plus_out : (a : ℕ × Bool) → Contains askings (record { set = a.0; after = a.1; positive = true }) → IsAsked lines word left right true a
-  plus_out a c = let h = (asks (record { set = a.0; after = a.1; positive = true })).0 c in (h.0, inl (h.1, h.2))
+  plus_out : (a : ℕ × Bool) → Contains askings (record { set = a.0; after = a.1; positive = true })
+      → IsAsked lines word left right true a
+  plus_out a c = let h = (asks (record { set = a.0; after = a.1; positive = true })).0 c in
+      (h.0, inl (h.1, h.2))
 
-  plus_in : (a : ℕ × Bool) → IsAsked lines word left right true a → Contains askings (record { set = a.0; after = a.1; positive = true })
-  plus_in a (leaf, inl (side, literal)) = (asks (record { set = a.0; after = a.1; positive = true })).1 (leaf, side, literal)
+  plus_in : (a : ℕ × Bool) → IsAsked lines word left right true a
+      → Contains askings (record { set = a.0; after = a.1; positive = true })
+  plus_in a (leaf, inl (side, literal)) =
+      (asks (record { set = a.0; after = a.1; positive = true })).1 (leaf, side, literal)
   plus_in a (leaf, inr ((of, is), literal)) =
-      let both : true ≡ false = (literal_once lines leaf leaf a.0 true false (refl, right_plain leaf of) literal).1 in absurd (cc (both))
+      let both : true ≡ false = (literal_once lines leaf leaf a.0 true false
+      (refl, right_plain leaf of) literal).1 in absurd (cc (both))
 
   -- what is asked about with the other sign
   minus_out : (a : ℕ × Bool) → Contains asked a → IsAsked lines word left right false a
@@ -118,11 +168,14 @@ module _ (lines : List Line) (word : Word) (left right : ℕ) (askings : List As
   minus_in : (a : ℕ × Bool) → IsAsked lines word left right false a → Contains asked a
   minus_in a (leaf, inl (side, literal)) =
       let both : false ≡ true = plus (record { set = a.0; after = a.1; positive = false })
-      ((asks (record { set = a.0; after = a.1; positive = false })).1 (leaf, side, literal)) in absurd (cc (both))
+      ((asks (record { set = a.0; after = a.1; positive = false })).1 (leaf, side, literal)) in
+      absurd (cc (both))
   minus_in a (leaf, inr ((of, is), literal)) =
-      subst (λ x. Contains asked (x, a.1)) literal.0 (subst (λ b. Contains asked (leaf, b)) (late ∙ sym is) ((leaves leaf).1 of))
+      subst (λ x. Contains asked (x, a.1)) literal.0
+      (subst (λ b. Contains asked (leaf, b)) (late ∙ sym is) ((leaves leaf).1 of))
 
-  family_none : (family : FormulaFamily) → IsTheFamily lines asked None → IsFamilyBeside lines askings None family
+  family_none : (family : FormulaFamily) → IsTheFamily lines asked None
+      → IsFamilyBeside lines askings None family
       → IsFamilyOf lines word left right family
   family_none family none is = record {
     within = within;
@@ -131,35 +184,56 @@ module _ (lines : List Line) (word : Word) (left right : ℕ) (askings : List As
       | inr (a, has, of) ↦
           let a_true : a ≡ record { set = a.set; after = a.after; positive = true } =
           λ i. record { set = a.set; after = a.after; positive = plus a has i } in
-          inr (true, (a.set, a.after), plus_out (a.set, a.after) (subst (Contains askings) a_true has), of)
+          inr (
+            true,
+            (a.set, a.after),
+            plus_out (a.set, a.after)
+                (subst (Contains askings) a_true has),
+            of,
+          )
     ];
   }
     where
-      within : (sign : Bool) (a : ℕ × Bool) → IsAsked lines word left right sign a → IsWithinFamily lines family a.0
-      within true a of = is.within (record { set = a.0; after = a.1; positive = true }) (plus_in a of)
+      within : (sign : Bool) (a : ℕ × Bool) → IsAsked lines word left right sign a
+          → IsWithinFamily lines family a.0
+      within true a of = is.within (record { set = a.0; after = a.1; positive = true })
+          (plus_in a of)
       within false a of = let no = none a (minus_in a of) in (no.0, no.1, inl no.2)
 
-  family_some : (family first : FormulaFamily) → IsTheFamily lines asked (Some first) → IsFamilyBeside lines askings (Some first) family
+  family_some : (family first : FormulaFamily) → IsTheFamily lines asked (Some first)
+      → IsFamilyBeside lines askings (Some first) family
       → IsFamilyOf lines word left right family
   family_some family first (all, (some, has, of)) (same, is) = record {
     within = within;
-    some = inr (false, some, minus_out some has, subst (λ f. IsOfFamily lines f some.0) (sym same) of);
+    some = inr (
+      false,
+      some,
+      minus_out some has,
+      subst
+          (λ f. IsOfFamily lines f some.0) (sym same) of,
+    );
   }
     where
-      within : (sign : Bool) (a : ℕ × Bool) → IsAsked lines word left right sign a → IsWithinFamily lines family a.0
+      within : (sign : Bool) (a : ℕ × Bool) → IsAsked lines word left right sign a
+          → IsWithinFamily lines family a.0
       within true a of_a = is (record { set = a.0; after = a.1; positive = true }) (plus_in a of_a)
-      within false a of_a = subst (λ f. IsWithinFamily lines f a.0) (sym same) (all a (minus_in a of_a))
+      within false a of_a = subst (λ f. IsWithinFamily lines f a.0) (sym same)
+          (all a (minus_in a of_a))
 
-  family_with : (k : Option FormulaFamily) (family : FormulaFamily) → IsTheFamily lines asked k → IsFamilyBeside lines askings k family
+  family_with : (k : Option FormulaFamily) (family : FormulaFamily) → IsTheFamily lines asked k
+      → IsFamilyBeside lines askings k family
       → IsFamilyOf lines word left right family
   family_with None family of is = family_none family of is
   family_with (Some first) family of is = family_some family first of is
 
   -- the question of the statement
-  pub question_by : (acts : Option ℕ) (family : FormulaFamily) (positive : Askings) → IsLeftSide lines word left acts
-      → IsFamilyBeside lines askings kept family → AskingsRise positive → AreChosen askings true positive
+  pub question_by : (acts : Option ℕ) (family : FormulaFamily) (positive : Askings)
+      → IsLeftSide lines word left acts
+      → IsFamilyBeside lines askings kept family → AskingsRise positive
+      → AreChosen askings true positive
       → length positive + length asked ≤ most_operands
-      → IsQuestion lines word left right (record { family = family; positive = positive; negative = asked; acts = acts })
+      → IsQuestion lines word left right (record
+      { family = family; positive = positive; negative = asked; acts = acts })
   question_by acts family positive side beside rises chosen few = record {
     sides = sides_with acts side;
     positive = λ a. (λ c. plus_out a ((chosen a).0 c), λ of. (chosen a).1 (plus_in a of));
@@ -171,21 +245,27 @@ module _ (lines : List Line) (word : Word) (left right : ℕ) (askings : List As
   }
 
 -- what the left side asks about has a line
-pub left_below : (lines : List Line) (word : Word) (left : ℕ) (askings : List Asking) → IsTable lines
+pub left_below : (lines : List Line) (word : Word) (left : ℕ) (askings : List Asking)
+    → IsTable lines
     → AreLeftAskings lines word left askings → All (λ asking. asking.set < expr_count lines) askings
 left_below lines word left askings table asks k d within =
     let a : Asking = get_or askings k d in
     let said = (asks a).0 (Contains-get_or askings k d within) in
     below a.set a.positive said.0 said.2
   where
-    below : (set : ℕ) (sign : Bool) (leaf : ℕ) → IsLiteralOf lines leaf set sign → set < expr_count lines
+    below : (set : ℕ) (sign : Bool) (leaf : ℕ) → IsLiteralOf lines leaf set sign
+        → set < expr_count lines
     below set true leaf is = expr_below lines set is.1.0 table is.1.1
     below set false leaf is = expr_below lines set is.1.0 table is.1.1
 
 -- the verdict on the question is that of the statement
-pub verdict_shared : (setting : Setting) (lines : List Line) (statement : Statement) (word : Word) (left right : ℕ) (found : Option Verdict)
+pub verdict_shared : (setting : Setting) (lines : List Line) (statement : Statement) (word : Word)
+    (left right : ℕ) (found : Option Verdict)
     (verdict : Verdict) → statement ≡ T.Sub left right → found ≡ Some verdict
-    → IfSome found (IsVerdictOfSub setting lines word left right) → IsVerdict setting lines statement word verdict
+    → IfSome found (IsVerdictOfSub setting lines word left right)
+    → IsVerdict setting lines statement word verdict
 verdict_shared setting lines statement word left right found verdict same is answers =
-    let answer : IsVerdictOfSub setting lines word left right verdict = subst (λ f. IfSome f (IsVerdictOfSub setting lines word left right)) is answers in
-    subst (λ s. IsVerdict setting lines s word verdict) (sym same) (OfSets word answer.0, (refl, answer.1), answer.2)
+    let answer : IsVerdictOfSub setting lines word left right verdict = subst
+    (λ f. IfSome f (IsVerdictOfSub setting lines word left right)) is answers in
+    subst (λ s. IsVerdict setting lines s word verdict) (sym same)
+    (OfSets word answer.0, (refl, answer.1), answer.2)

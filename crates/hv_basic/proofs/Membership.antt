@@ -1,5 +1,6 @@
 -- What holds of each literal, and of the formulas that are asked about.
-use Rattle.std.proofs.Common.{◌≡◌, ℕ, ◌<◌, ◌+◌, ◌∙◌, ◌⊎◌, List, [], Option, Some, None, length, get_or, refl, sym, ap, subst, inl, inr, arith}
+use Rattle.std.proofs.Common.{◌≡◌, ℕ, ◌<◌, ◌+◌, ◌∙◌, ◌⊎◌, List, [], Option, Some, None, length}
+use Rattle.std.proofs.Common.{get_or, refl, sym, ap, subst, inl, inr, arith}
 use Rattle.std.proofs.lemmas.Bool.{cases_lt}
 use Rattle.std.proofs.lemmas.List.{get_or_default}
 use Rattle.std.proofs.lemmas.List.Elements.{All-contains, Contains-get_or}
@@ -16,7 +17,8 @@ use Rattle.hv_twocnf.specs.declared.two_cnf.TwoCnfFault.{TwoCnfFault}
 use Rattle.hv_twocnf.specs.declared.two_cnf.TwoCnfFault.TheVariants as T
 use Rattle.hv_lines.specs.Literals.{IsLiteral}
 use Rattle.hv_lines.specs.Numbering.{ExprRefersBelow, IsTable, expr_at, expr_count}
-use Rattle.hv_lines.specs.Shapes.{IsOfFamily, IsStep, IsWithinFamily, after_parts, before_parts, family_of, asked_step}
+use Rattle.hv_lines.specs.Shapes.{IsOfFamily, IsStep, IsWithinFamily, after_parts, before_parts}
+use Rattle.hv_lines.specs.Shapes.{family_of, asked_step}
 use Rattle.hv_lines.specs.declared.family.FormulaFamily.{FormulaFamily}
 use Rattle.hv_lines.specs.declared.family.FormulaFamily.TheVariants as F
 use Rattle.hv_lines.specs.declared.line.Expr.{Expr}
@@ -32,7 +34,8 @@ use Rattle.hv_basic.specs.declared.literals.Step.{Step}
 
 -- what holds at the places before one and there holds before the next
 module _ {X : Type 0} (P : X → Type 0) (xs : List X) (i : ℕ) (within : i < length xs) where
-  pub more : ((k : ℕ) (d : X) → k < i → P (get_or xs k d)) → (e : X) → P (get_or xs i e) → (k : ℕ) (d : X) → k < i + 1 → P (get_or xs k d)
+  pub more : ((k : ℕ) (d : X) → k < i → P (get_or xs k d)) → (e : X) → P (get_or xs i e)
+      → (k : ℕ) (d : X) → k < i + 1 → P (get_or xs k d)
   more before e here k d below =
       elim (cases_lt k i) [
         | inl less ↦ before k d less
@@ -42,19 +45,24 @@ module _ {X : Type 0} (P : X → Type 0) (xs : List X) (i : ℕ) (within : i < l
       ]
 
 -- of what is at hand, none is of another kind
-pub no_horn_fault : (clauses : List (List Literal)) (fault : HornFault) (place : ℕ) → fault ≡ H.NotHorn place → IsHornFault clauses fault
+pub no_horn_fault : (clauses : List (List Literal)) (fault : HornFault) (place : ℕ)
+    → fault ≡ H.NotHorn place → IsHornFault clauses fault
     → All IsHornClause clauses → ⊥
 no_horn_fault clauses fault place is found all =
-    let first : IsFirstOther IsHornClause clauses place = subst (IsHornFault clauses) is found in first.other (all place [] first.among)
+    let first : IsFirstOther IsHornClause clauses place = subst (IsHornFault clauses) is found in
+    first.other (all place [] first.among)
 
-pub no_two_fault : (clauses : List (List Literal)) (fault : TwoCnfFault) (place : ℕ) → fault ≡ T.NotTwo place → IsTwoFault clauses fault
+pub no_two_fault : (clauses : List (List Literal)) (fault : TwoCnfFault) (place : ℕ)
+    → fault ≡ T.NotTwo place → IsTwoFault clauses fault
     → All IsTwoClause clauses → ⊥
 no_two_fault clauses fault place is found all =
-    let first : IsFirstOther IsTwoClause clauses place = subst (IsTwoFault clauses) is found in first.other (all place [] first.among)
+    let first : IsFirstOther IsTwoClause clauses place = subst (IsTwoFault clauses) is found in
+    first.other (all place [] first.among)
 
 -- the one family
 
-no_family : (lines : List Line) (set : ℕ) (expr : Expr) → expr_at lines set ≡ Some expr → None ≡ family_of expr
+no_family : (lines : List Line) (set : ℕ) (expr : Expr) → expr_at lines set ≡ Some expr
+    → None ≡ family_of expr
     → (family : FormulaFamily) → IsOfFamily lines family set → ⊥
 no_family lines set expr at none family (x, found, is) =
     let same : x ≡ expr = cc (found, at) in
@@ -63,45 +71,60 @@ no_family lines set expr at none family (x, found, is) =
     cc (both)
 
 pub no_family_more : (lines : List Line) (askings : List Asking) (i : ℕ) → i < length askings
-    → ((k : ℕ) (d : Asking) → k < i → (family : FormulaFamily) → IsOfFamily lines family (get_or askings k d).set → ⊥)
-    → (e : Asking) (expr : Expr) → expr_at lines (get_or askings i e).set ≡ Some expr → None ≡ family_of expr
-    → (k : ℕ) (d : Asking) → k < i + 1 → (family : FormulaFamily) → IsOfFamily lines family (get_or askings k d).set → ⊥
+    → ((k : ℕ) (d : Asking) → k < i → (family : FormulaFamily)
+    → IsOfFamily lines family (get_or askings k d).set → ⊥)
+    → (e : Asking) (expr : Expr) → expr_at lines (get_or askings i e).set ≡ Some expr
+    → None ≡ family_of expr
+    → (k : ℕ) (d : Asking) → k < i + 1 → (family : FormulaFamily)
+    → IsOfFamily lines family (get_or askings k d).set → ⊥
 no_family_more lines askings i within before e expr at none =
-    more (λ (a : Asking). (family : FormulaFamily) → IsOfFamily lines family a.set → ⊥) askings i within before e
+    more (λ (a : Asking). (family : FormulaFamily) → IsOfFamily lines family a.set → ⊥) askings i
+    within before e
     (no_family lines (get_or askings i e).set expr at none)
 
 pub no_family_all : (lines : List Line) (askings : List Asking) (i : ℕ) → length askings ≡ i
-    → ((k : ℕ) (d : Asking) → k < i → (family : FormulaFamily) → IsOfFamily lines family (get_or askings k d).set → ⊥)
-    → (family : FormulaFamily) (asking : Asking) → Contains askings asking → IsOfFamily lines family asking.set → ⊥
+    → ((k : ℕ) (d : Asking) → k < i → (family : FormulaFamily)
+    → IsOfFamily lines family (get_or askings k d).set → ⊥)
+    → (family : FormulaFamily) (asking : Asking) → Contains askings asking
+    → IsOfFamily lines family asking.set → ⊥
 no_family_all lines askings i size before family asking c of =
-    before c.0 asking (omega (arith, c.1, size)) family (subst (λ (a : Asking). IsOfFamily lines family a.set) (sym c.2) of)
+    before c.0 asking (omega (arith, c.1, size)) family
+    (subst (λ (a : Asking). IsOfFamily lines family a.set) (sym c.2) of)
 
-either : (lines : List Line) (set : ℕ) (expr : Expr) (found : Option FormulaFamily) → expr_at lines set ≡ Some expr → family_of expr ≡ found
+either : (lines : List Line) (set : ℕ) (expr : Expr) (found : Option FormulaFamily)
+    → expr_at lines set ≡ Some expr → family_of expr ≡ found
     → ((family : FormulaFamily) → IsOfFamily lines family set → ⊥) → IsWithinFamily lines F.Horn set
 either lines set expr None at is none = (expr, at, inl is)
 either lines set expr (Some family) at is none = absurd (none family (expr, at, is))
 
-pub constants_alone : (lines : List Line) (askings : List Asking) → IsTable lines → All (λ asking. asking.set < expr_count lines) askings
-    → ((family : FormulaFamily) (asking : Asking) → Contains askings asking → IsOfFamily lines family asking.set → ⊥)
+pub constants_alone : (lines : List Line) (askings : List Asking) → IsTable lines
+    → All (λ asking. asking.set < expr_count lines) askings
+    → ((family : FormulaFamily) (asking : Asking) → Contains askings asking
+    → IsOfFamily lines family asking.set → ⊥)
     → IsFamilyIn lines askings F.Horn
 constants_alone lines askings table below none = record {
   within = λ asking c.
-      let line = expr_within lines asking.set table (All-contains (λ (a : Asking). a.set < expr_count lines) askings asking below c) in
-      either lines asking.set line.0 (family_of line.0) line.1 refl (λ family of. none family asking c of);
+      let line = expr_within lines asking.set table
+      (All-contains (λ (a : Asking). a.set < expr_count lines) askings asking below c) in
+      either lines asking.set line.0 (family_of line.0) line.1 refl
+      (λ family of. none family asking c of);
   some = inl refl;
 }
 
 pub family_found : (lines : List Line) (askings : List Asking) (family : FormulaFamily)
     → (asking : Asking) × Contains askings asking × IsOfFamily lines family asking.set
-    → All (λ asking. IsWithinFamily lines family asking.set) askings → IsFamilyIn lines askings family
+    → All (λ asking. IsWithinFamily lines family asking.set) askings
+    → IsFamilyIn lines askings family
 family_found lines askings family some all = record {
-  within = λ asking c. All-contains (λ (a : Asking). IsWithinFamily lines family a.set) askings asking all c;
+  within = λ asking c. All-contains (λ (a : Asking). IsWithinFamily lines family a.set) askings
+      asking all c;
   some = inr some;
 }
 
 pub family_missed : (lines : List Line) (askings : List Asking) (family : FormulaFamily)
     → (asking : Asking) × Contains askings asking × IsOfFamily lines family asking.set
-    → (All (λ asking. IsWithinFamily lines family asking.set) askings → ⊥) → (other : FormulaFamily) → IsFamilyIn lines askings other → ⊥
+    → (All (λ asking. IsWithinFamily lines family asking.set) askings → ⊥) → (other : FormulaFamily)
+    → IsFamilyIn lines askings other → ⊥
 family_missed lines askings family (asking, c, (expr, at, is)) out other of =
     out (λ k d below.
     subst (λ f. IsWithinFamily lines f (get_or askings k d).set) (same (of.within asking c))
@@ -110,7 +133,8 @@ family_missed lines askings family (asking, c, (expr, at, is)) out other of =
     same : IsWithinFamily lines other asking.set → other ≡ family
     same (x, found, inl none) =
         let one : x ≡ expr = cc (found, at) in
-        let no_one : family_of expr ≡ None = subst (λ y. family_of y ≡ None) one none in absurd (cc (no_one, is))
+        let no_one : family_of expr ≡ None = subst (λ y. family_of y ≡ None) one none in
+        absurd (cc (no_one, is))
     same (x, found, inr some) =
         let one : x ≡ expr = cc (found, at) in
         let also : family_of expr ≡ Some other = subst (λ y. family_of y ≡ Some other) one some in
@@ -118,38 +142,48 @@ family_missed lines askings family (asking, c, (expr, at, is)) out other of =
 
 -- the only step
 
-pub all_then_no_step : (lines : List Line) (word : Word) (leaves : List ℕ) → All (IsLiteral lines) leaves
+pub all_then_no_step : (lines : List Line) (word : Word) (leaves : List ℕ)
+    → All (IsLiteral lines) leaves
     → (set acts : ℕ) → IsOnlyStep lines word leaves set acts → ⊥
 all_then_no_step lines word leaves all set acts only =
-    step_no_literal lines word only.step set acts only.is (All-contains (IsLiteral lines) leaves only.step all only.among)
+    step_no_literal lines word only.step set acts only.is
+    (All-contains (IsLiteral lines) leaves only.step all only.among)
 
-the_step : (lines : List Line) (word : Word) (leaves : List ℕ) (leaf set acts : ℕ) → Contains leaves leaf → (IsLiteral lines leaf → ⊥)
+the_step : (lines : List Line) (word : Word) (leaves : List ℕ) (leaf set acts : ℕ)
+    → Contains leaves leaf → (IsLiteral lines leaf → ⊥)
     → (only : IsOnlyStep lines word leaves set acts) → leaf ≡ only.step
 the_step lines word leaves leaf set acts c other only =
     elim (only.others leaf c) [ inl literal ↦ absurd (other literal) | inr same ↦ same ]
 
 pub others_then_no_step : (lines : List Line) (word : Word) (leaves : List ℕ) (leaf : ℕ)
     → Contains leaves leaf × (IsLiteral lines leaf → ⊥)
-    → (All (λ l. IsLiteral lines l ⊎ (l ≡ leaf)) leaves → ⊥) → (set acts : ℕ) → IsOnlyStep lines word leaves set acts → ⊥
+    → (All (λ l. IsLiteral lines l ⊎ (l ≡ leaf)) leaves → ⊥) → (set acts : ℕ)
+    → IsOnlyStep lines word leaves set acts → ⊥
 others_then_no_step lines word leaves leaf found out set acts only =
     let same = the_step lines word leaves leaf set acts found.0 found.1 only in
-    out (λ k d below. subst (λ l. IsLiteral lines (get_or leaves k d) ⊎ (get_or leaves k d ≡ l)) (sym same)
+    out (λ k d below. subst (λ l. IsLiteral lines (get_or leaves k d) ⊎ (get_or leaves k d ≡ l))
+    (sym same)
     (only.others (get_or leaves k d) (Contains-get_or leaves k d below)))
 
 pub no_step_there : (lines : List Line) (word : Word) (leaves : List ℕ) (leaf : ℕ) (expr : Expr)
     → Contains leaves leaf × (IsLiteral lines leaf → ⊥)
-    → expr_at lines leaf ≡ Some expr → None ≡ asked_step word expr → (set acts : ℕ) → IsOnlyStep lines word leaves set acts → ⊥
+    → expr_at lines leaf ≡ Some expr → None ≡ asked_step word expr → (set acts : ℕ)
+    → IsOnlyStep lines word leaves set acts → ⊥
 no_step_there lines word leaves leaf expr found at none set acts only =
     let same = the_step lines word leaves leaf set acts found.0 found.1 only in
-    let is : IsStep lines word leaf set acts = subst (λ l. IsStep lines word l set acts) (sym same) only.is in
+    let is : IsStep lines word leaf set acts = subst
+    (λ l. IsStep lines word l set acts) (sym same) only.is in
     let one : is.0 ≡ expr = cc (is.1, at) in
-    let some : asked_step word expr ≡ Some (set, acts) = subst (λ y. asked_step word y ≡ Some (set, acts)) one is.2 in
+    let some : asked_step word expr ≡ Some (set, acts) = subst
+    (λ y. asked_step word y ≡ Some (set, acts)) one is.2 in
     let both : None ≡ Some (set, acts) = none ∙ some in
     cc (both)
 
-pub step_there : (lines : List Line) (word : Word) (leaves : List ℕ) (leaf : ℕ) (expr : Expr) (step : Step)
+pub step_there : (lines : List Line) (word : Word) (leaves : List ℕ) (leaf : ℕ) (expr : Expr)
+    (step : Step)
     → Contains leaves leaf × (IsLiteral lines leaf → ⊥)
-    → All (λ l. IsLiteral lines l ⊎ (l ≡ leaf)) leaves → expr_at lines leaf ≡ Some expr → Some (step.set, step.acts) ≡ asked_step word expr
+    → All (λ l. IsLiteral lines l ⊎ (l ≡ leaf)) leaves → expr_at lines leaf ≡ Some expr
+    → Some (step.set, step.acts) ≡ asked_step word expr
     → IsOnlyStep lines word leaves step.set step.acts
 step_there lines word leaves leaf expr step found all at is = record {
   step = leaf;
@@ -160,20 +194,26 @@ step_there lines word leaves leaf expr step found all at is = record {
 
 -- a step refers to earlier lines
 
-after_refers : (a e : ℕ) (expr : Expr) (p : ℕ × ℕ) → after_parts expr ≡ Some p → ExprRefersBelow a e expr → (p.0 < e) × (p.1 < a)
-after_refers a e (E.After x y) p is refers = subst (λ (q : ℕ × ℕ). (q.0 < e) × (q.1 < a)) (same_Some (x, y) p is) refers
+after_refers : (a e : ℕ) (expr : Expr) (p : ℕ × ℕ) → after_parts expr ≡ Some p
+    → ExprRefersBelow a e expr → (p.0 < e) × (p.1 < a)
+after_refers a e (E.After x y) p is refers = subst
+    (λ (q : ℕ × ℕ). (q.0 < e) × (q.1 < a)) (same_Some (x, y) p is) refers
 after_refers a e _ p is refers = absurd (cc (is))
 
-before_refers : (a e : ℕ) (expr : Expr) (p : ℕ × ℕ) → before_parts expr ≡ Some p → ExprRefersBelow a e expr → (p.0 < e) × (p.1 < a)
-before_refers a e (E.Before x y) p is refers = subst (λ (q : ℕ × ℕ). (q.0 < e) × (q.1 < a)) (same_Some (x, y) p is) refers
+before_refers : (a e : ℕ) (expr : Expr) (p : ℕ × ℕ) → before_parts expr ≡ Some p
+    → ExprRefersBelow a e expr → (p.0 < e) × (p.1 < a)
+before_refers a e (E.Before x y) p is refers = subst
+    (λ (q : ℕ × ℕ). (q.0 < e) × (q.1 < a)) (same_Some (x, y) p is) refers
 before_refers a e _ p is refers = absurd (cc (is))
 
-pub step_refers : (a e : ℕ) (word : Word) (expr : Expr) (p : ℕ × ℕ) → Some p ≡ asked_step word expr → ExprRefersBelow a e expr
+pub step_refers : (a e : ℕ) (word : Word) (expr : Expr) (p : ℕ × ℕ) → Some p ≡ asked_step word expr
+    → ExprRefersBelow a e expr
     → (p.0 < e) × (p.1 < a)
 step_refers a e W.B2 expr p is refers = after_refers a e expr p (sym is) refers
 step_refers a e W.B3 expr p is refers = before_refers a e expr p (sym is) refers
 step_refers a e _ expr p is refers = absurd (cc (is))
 
 -- what a list gives at a place is what stands there
-pub at_place : {A : Type 0} (xs : List A) (place : ℕ) (d x : A) → slice_get xs place ≡ Some x → x ≡ get_or xs place d
+pub at_place : {A : Type 0} (xs : List A) (place : ℕ) (d x : A) → slice_get xs place ≡ Some x
+    → x ≡ get_or xs place d
 at_place xs place d x is = ap (λ o. unwrap_or o d) (sym is) ∙ unwrap_or-slice_get xs place d

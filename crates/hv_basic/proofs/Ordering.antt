@@ -1,8 +1,10 @@
 -- What is asked about, put in order.
-use Rattle.std.proofs.Common.{◌≡◌, ℕ, suc, ◌<◌, ◌+◌, ◌∙◌, ◌++◌, Bool, true, false, List, [], ◌∷◌, length, get_or, take, refl, sym, ap, ap₂, subst, inl, inr, arith}
+use Rattle.std.proofs.Common.{◌≡◌, ℕ, suc, ◌<◌, ◌+◌, ◌∙◌, ◌++◌, Bool, true, false, List, [], ◌∷◌}
+use Rattle.std.proofs.Common.{length, get_or, take, refl, sym, ap, ap₂, subst, inl, inr, arith}
 use Rattle.std.proofs.lemmas.Bool.{cases_lt, cond-true, cond-false}
 use Rattle.std.proofs.lemmas.Cmp.{nat_cmp_total}
-use Rattle.std.proofs.lemmas.List.Elements.{Contains-append_left, Contains-push, Contains-push_cases}
+use Rattle.std.proofs.lemmas.List.Elements.{Contains-append_left, Contains-push}
+use Rattle.std.proofs.lemmas.List.Elements.{Contains-push_cases}
 use Rattle.std.proofs.lemmas.Map.Keys.{Less-from_sorted}
 use Rattle.std.proofs.lemmas.Map.Lookups.{exact_pairs, exact_unsigned}
 use Rattle.std.proofs.lemmas.Map.Views.{btree_set_contains_iff, tells_apart}
@@ -44,11 +46,13 @@ order_less p q e =
       | inr upto ↦ elim (cases_lt q.0 p.0) [
         | inl more ↦
             let is : nat_cmp p.0 q.0 ≡ Greater = sym (nat_cmp_is p.0 q.0 Greater more) in
-            let both : Greater ≡ Less = sym (ap (λ o. ordering_then o (bool_cmp p.1 q.1)) is) ∙ e in absurd (cc (both))
+            let both : Greater ≡ Less = sym (ap (λ o. ordering_then o (bool_cmp p.1 q.1)) is) ∙ e in
+            absurd (cc (both))
         | inr also ↦
             let same : p.0 ≡ q.0 = omega (arith, upto, also) in
             let is : nat_cmp p.0 q.0 ≡ Equal = sym (nat_cmp_is p.0 q.0 Equal same) in
-            let flags = bool_less p.1 q.1 (sym (ap (λ o. ordering_then o (bool_cmp p.1 q.1)) is) ∙ e) in
+            let flags = bool_less p.1 q.1 (sym (ap (λ o. ordering_then o (bool_cmp p.1 q.1)) is)
+            ∙ e) in
             inr (same, flags.0, flags.1)
       ]
     ]
@@ -61,63 +65,83 @@ ordered_rises asked sorted i j first second less at_first at_second =
     order_less first second
     (sym (ap₂ order x y) ∙ Less-from_sorted order asked i j first sorted less within)
 
-pub chosen_of : (askings : List Asking) (positive : Bool) (keys : BTreeSet (ℕ × Bool)) → AreKeys askings positive keys
+pub chosen_of : (askings : List Asking) (positive : Bool) (keys : BTreeSet (ℕ × Bool))
+    → AreKeys askings positive keys
     → AreChosen askings positive keys.keys
 chosen_of askings positive keys are asked =
-    let iff = btree_set_contains_iff (then_total (on_total (λ (t : ℕ × Bool). t.0) nat_cmp_total) (on_total (λ (t : ℕ × Bool). t.1) bool_cmp_total)) order_exact keys asked in
+    let iff = btree_set_contains_iff (then_total (on_total (λ (t : ℕ × Bool). t.0) nat_cmp_total)
+    (on_total (λ (t : ℕ × Bool). t.1) bool_cmp_total)) order_exact keys asked in
     (λ c. (are asked).0 (iff.1 c), λ c. iff.0 ((are asked).1 c))
 
-module _ (askings : List Asking) (positive : Bool) (i : ℕ) (within : i < length askings) (keys new : BTreeSet (ℕ × Bool)) (d : Asking)
+module _ (askings : List Asking) (positive : Bool) (i : ℕ) (within : i < length askings)
+    (keys new : BTreeSet (ℕ × Bool)) (d : Asking)
     (before : AreKeys (take i askings) positive keys) where
   seen : ℕ × Bool → Asking
   seen asked = record { set = asked.0; after = asked.1; positive = positive }
 
   next : take (i + 1) askings ≡ take i askings ++ get_or askings i d ∷ []
-  next = let more : i + 1 ≡ suc i = omega arith in ap (λ n. take n askings) more ∙ take_more askings i d within
+  next = let more : i + 1 ≡ suc i = omega arith in
+      ap (λ n. take n askings) more ∙ take_more askings i d within
 
   -- what has the other sign changes nothing
-  pub keys_kept : ((get_or askings i d).positive ≡ positive → ⊥) → AreKeys (take (i + 1) askings) positive keys
+  pub keys_kept : ((get_or askings i d).positive ≡ positive → ⊥)
+      → AreKeys (take (i + 1) askings) positive keys
   keys_kept other asked =
       let a : Asking = record { set = asked.0; after = asked.1; positive = positive } in (
-        λ c. subst (λ xs. Contains xs a) (sym next) (Contains-append_left (take i askings) (get_or askings i d ∷ []) a ((before asked).0 c)),
-        λ c. elim (Contains-push_cases (take i askings) (get_or askings i d) a (subst (λ xs. Contains xs a) next c)) [
-          | inl earlier ↦ (before asked).1 earlier
-          | inr same ↦ absurd (other (ap (λ (x : Asking). x.positive) same))
-        ],
+        λ c. subst (λ xs. Contains xs a) (sym next)
+            (Contains-append_left (take i askings) (get_or askings i d ∷ []) a
+            ((before asked).0 c)),
+        λ c. elim (Contains-push_cases (take i askings) (get_or askings i d) a
+            (subst (λ xs. Contains xs a) next c)) [
+              | inl earlier ↦ (before asked).1 earlier
+              | inr same ↦ absurd (other (ap (λ (x : Asking). x.positive) same))
+            ],
       )
 
   -- what has the sign is put in
-  module _ (sign : (get_or askings i d).positive ≡ positive) (key : ℕ × Bool) (set : key.0 ≡ (get_or askings i d).set)
+  module _ (sign : (get_or askings i d).positive ≡ positive) (key : ℕ × Bool)
+      (set : key.0 ≡ (get_or askings i d).set)
       (after : key.1 ≡ (get_or askings i d).after) (updates : Updates order keys new key true) where
-    there : (asked : ℕ × Bool) (b : Bool) → is_at (order key) asked ≡ b → contains order new asked ≡ true
-        → Contains (take i askings ++ get_or askings i d ∷ []) (record { set = asked.0; after = asked.1; positive = positive })
+    there : (asked : ℕ × Bool) (b : Bool) → is_at (order key) asked ≡ b
+        → contains order new asked ≡ true
+        → Contains (take i askings ++ get_or askings i d ∷ [])
+        (record { set = asked.0; after = asked.1; positive = positive })
     there asked true at has =
         let same : key ≡ asked = at_same key asked at in
         let ids : (get_or askings i d).set ≡ asked.0 = sym set ∙ ap (λ p. p.0) same in
         let late : (get_or askings i d).after ≡ asked.1 = sym after ∙ ap (λ p. p.1) same in
-        let is : get_or askings i d ≡ record { set = asked.0; after = asked.1; positive = positive } =
+        let is : get_or askings i d ≡ record { set = asked.0; after = asked.1; positive = positive }
+        =
         λ k. record { set = ids k; after = late k; positive = sign k } in
-        subst (Contains (take i askings ++ get_or askings i d ∷ [])) is (Contains-push (take i askings) (get_or askings i d))
+        subst (Contains (take i askings ++ get_or askings i d ∷ [])) is
+        (Contains-push (take i askings) (get_or askings i d))
     there asked false at has =
         let old : contains order keys asked ≡ true =
-        sym (cond-false (is_at (order key) asked) true (contains order keys asked) at) ∙ (sym (updates.0 asked) ∙ has) in
-        Contains-append_left (take i askings) (get_or askings i d ∷ []) (record { set = asked.0; after = asked.1; positive = positive })
+        sym (cond-false (is_at (order key) asked) true (contains order keys asked) at)
+        ∙ (sym (updates.0 asked) ∙ has) in
+        Contains-append_left (take i askings) (get_or askings i d ∷ [])
+        (record { set = asked.0; after = asked.1; positive = positive })
         ((before asked).0 old)
 
-    kept : (asked : ℕ × Bool) (b : Bool) → is_at (order key) asked ≡ b → contains order keys asked ≡ true → contains order new asked ≡ true
-    kept asked true at has = updates.0 asked ∙ cond-true (is_at (order key) asked) true (contains order keys asked) at
-    kept asked false at has = updates.0 asked ∙ (cond-false (is_at (order key) asked) true (contains order keys asked) at ∙ has)
+    kept : (asked : ℕ × Bool) (b : Bool) → is_at (order key) asked ≡ b
+        → contains order keys asked ≡ true → contains order new asked ≡ true
+    kept asked true at has = updates.0 asked
+        ∙ cond-true (is_at (order key) asked) true (contains order keys asked) at
+    kept asked false at has = updates.0 asked
+        ∙ (cond-false (is_at (order key) asked) true (contains order keys asked) at ∙ has)
 
     pub keys_more : AreKeys (take (i + 1) askings) positive new
     keys_more asked =
         let a : Asking = record { set = asked.0; after = asked.1; positive = positive } in (
-          λ has. subst (λ xs. Contains xs a) (sym next) (there asked (is_at (order key) asked) refl has),
-          λ c. elim (Contains-push_cases (take i askings) (get_or askings i d) a (subst (λ xs. Contains xs a) next c)) [
-            | inl earlier ↦ kept asked (is_at (order key) asked) refl ((before asked).1 earlier)
-            | inr same ↦
-                let ids : key.0 ≡ asked.0 = set ∙ ap (λ (x : Asking). x.set) same in
-                let late : key.1 ≡ asked.1 = after ∙ ap (λ (x : Asking). x.after) same in
-                let one : key ≡ asked = λ k. (ids k, late k) in
-                subst (λ p. contains order new p ≡ true) one updates.1
-          ],
+          λ has. subst (λ xs. Contains xs a) (sym next)
+              (there asked (is_at (order key) asked) refl has),
+          λ c. elim (Contains-push_cases (take i askings) (get_or askings i d) a
+              (subst (λ xs. Contains xs a) next c)) [
+                | inl earlier ↦ kept asked (is_at (order key) asked) refl ((before asked).1 earlier)
+                | inr same ↦
+                    let ids : key.0 ≡ asked.0 = set ∙ ap (λ (x : Asking). x.set) same in
+                    let late : key.1 ≡ asked.1 = after ∙ ap (λ (x : Asking). x.after) same in
+                    let one : key ≡ asked = λ k. (ids k, late k) in
+                    subst (λ p. contains order new p ≡ true) one updates.1
+              ],
         )

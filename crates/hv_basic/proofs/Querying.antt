@@ -1,5 +1,6 @@
 -- The query of a question, as it is built from the stores.
-use Rattle.std.proofs.Common.{◌≡◌, ℕ, suc, ◌<◌, ◌∙◌, Bool, List, [], ◌∷◌, Option, Some, None, length, map, get_or, refl, sym, ap, ap₂, subst, inl, inr, arith}
+use Rattle.std.proofs.Common.{◌≡◌, ℕ, suc, ◌<◌, ◌∙◌, Bool, List, [], ◌∷◌, Option, Some, None}
+use Rattle.std.proofs.Common.{length, map, get_or, refl, sym, ap, ap₂, subst, inl, inr, arith}
 use Rattle.std.proofs.lemmas.Option.{get_or_from_slice_get, slice_get_within}
 use Rattle.std.specs.List.{Contains, slice_get}
 use Rattle.std.specs.Option.{IfSome}
@@ -9,7 +10,8 @@ use Rattle.hv_sets.specs.declared.operand.Which.{Which}
 use Rattle.hv_sets.specs.declared.operand.Which.TheVariants as S
 use Rattle.hv_sets.specs.declared.query.Query.{Query}
 use Rattle.hv_lines.specs.Numbering.{IsTable, acts_count, expr_count}
-use Rattle.hv_lines.specs.Queries.{IsOffered, NamesNodes, asked_actions, operand_of, queries_of, query_of, which_at}
+use Rattle.hv_lines.specs.Queries.{IsOffered, NamesNodes, asked_actions, operand_of, queries_of}
+use Rattle.hv_lines.specs.Queries.{query_of, which_at}
 use Rattle.hv_lines.specs.Working.Queries.{count_of}
 use Rattle.hv_lines.specs.Setting.{Setting}
 use Rattle.hv_lines.specs.Shapes.{Askings, HasSides, IsQuestion, Question}
@@ -27,51 +29,73 @@ use Rattle.hv_basic.specs.Working.Deciding.{AreAllReady, IsDecidedOver, IsQueryF
 use Rattle.hv_basic.proofs.Membership.{step_refers}
 
 -- operands by the stored names are those of the lines
-pub operands_are : (lines : List Line) (names : List Which) (asked : Askings) → length names ≡ expr_count lines
+pub operands_are : (lines : List Line) (names : List Which) (asked : Askings)
+    → length names ≡ expr_count lines
     → ((id : ℕ) → id < expr_count lines → slice_get names id ≡ Some (which_at lines id))
-    → ((a : ℕ × Bool) → Contains asked a → a.0 < expr_count lines) → map (named_operand names) asked ≡ map (λ a. operand_of lines a) asked
+    → ((a : ℕ × Bool) → Contains asked a → a.0 < expr_count lines)
+    → map (named_operand names) asked ≡ map (λ a. operand_of lines a) asked
 operands_are lines names [] size named below = refl
 operands_are lines names (a ∷ asked) size named below =
     let within = below a (0, omega arith, refl) in
-    let which : get_or names a.0 S.Empty ≡ which_at lines a.0 = get_or_from_slice_get names a.0 (which_at lines a.0) S.Empty (named a.0 within) in
+    let which : get_or names a.0 S.Empty ≡ which_at lines a.0 = get_or_from_slice_get names a.0
+    (which_at lines a.0) S.Empty (named a.0 within) in
     ap₂ (λ x xs. x ∷ xs) (λ i. record { which = which i; id = a.0; after = a.1 })
     (operands_are lines names asked size named (λ b c. below b (suc c.0, omega (arith, c.1), c.2)))
 
-module _ (lines : List Line) (table : IsTable lines) (word : Word) (left right : ℕ) (q : Question) (is : IsQuestion lines word left right q) where
-  pub acts_below_of : (acts : Option ℕ) → HasSides lines word left right acts → IfSome acts (λ a. a < acts_count lines)
+module _ (lines : List Line) (table : IsTable lines) (word : Word) (left right : ℕ) (q : Question)
+    (is : IsQuestion lines word left right q) where
+  pub acts_below_of : (acts : Option ℕ) → HasSides lines word left right acts
+      → IfSome acts (λ a. a < acts_count lines)
   acts_below_of None sides = tt
   acts_below_of (Some acts) sides =
-      (step_refers (acts_count lines) (expr_count lines) word sides.3.0 (sides.1, acts) (sym sides.3.2)
+      (step_refers (acts_count lines) (expr_count lines) word sides.3.0 (sides.1, acts)
+      (sym sides.3.2)
       (refers_below lines sides.0 sides.3.0 table sides.3.1)).1
 
-  module _ (nodes : ℕ) (known : NamesNodes nodes lines) (names : List Which) (size : length names ≡ expr_count lines)
-      (named : (id : ℕ) → id < expr_count lines → slice_get names id ≡ Some (which_at lines id)) (query : Query)
-      (positive : query.positive ≡ map (named_operand names) q.positive) (negative : query.negative ≡ map (named_operand names) q.negative) where
+  module _ (nodes : ℕ) (known : NamesNodes nodes lines) (names : List Which)
+      (size : length names ≡ expr_count lines)
+      (named : (id : ℕ) → id < expr_count lines → slice_get names id ≡ Some (which_at lines id))
+      (query : Query)
+      (positive : query.positive ≡ map (named_operand names) q.positive)
+      (negative : query.negative ≡ map (named_operand names) q.negative) where
     pub query_is : (action : Option ℕ) → with_action query action ≡ query_of lines q action
     query_is action =
-        let p = positive ∙ operands_are lines names q.positive size named (λ a c. asked_exprs lines table word left right q is a (inl c)) in
-        let n = negative ∙ operands_are lines names q.negative size named (λ a c. asked_exprs lines table word left right q is a (inr c)) in
+        let p = positive ∙ operands_are lines names q.positive size named
+        (λ a c. asked_exprs lines table word left right q is a (inl c)) in
+        let n = negative ∙ operands_are lines names q.negative size named
+        (λ a c. asked_exprs lines table word left right q is a (inr c)) in
         λ i. record { positive = p i; negative = n i; action = action }
 
-    pub are_ready : (task : Strips) (actions : List (Option ℕ)) → actions ≡ asked_actions task lines q.acts
+    pub are_ready : (task : Strips) (actions : List (Option ℕ))
+        → actions ≡ asked_actions task lines q.acts
         → AreAllReady (count_of lines q.family nodes) (length task.actions) query actions
     are_ready task actions all = record {
-      ready = λ place action at. subst (IsReady (count_of lines q.family nodes)) (sym (query_is action))
-          (question_ready lines table word left right q is nodes known task action (there place action at));
+      ready = λ place action at. subst (IsReady (count_of lines q.family nodes))
+          (sym (query_is action))
+          (question_ready lines table word left right q is nodes known task action
+          (there place action at));
       below = λ place action at. asked_below task lines q.acts action (there place action at);
     }
       where
-        there : (place : ℕ) (action : Option ℕ) → slice_get actions place ≡ Some action → Contains (asked_actions task lines q.acts) action
+        there : (place : ℕ) (action : Option ℕ) → slice_get actions place ≡ Some action
+            → Contains (asked_actions task lines q.acts) action
         there place action at =
-            subst (λ xs. Contains xs action) all
-            (place, slice_get_within actions place action at, get_or_from_slice_get actions place action action at)
+            subst (λ xs. Contains xs action) all (
+              place,
+              slice_get_within actions place action at,
+              get_or_from_slice_get actions place
+                  action action at,
+            )
 
-    pub queries_are : (task : Strips) (actions : List (Option ℕ)) → actions ≡ asked_actions task lines q.acts
+    pub queries_are : (task : Strips) (actions : List (Option ℕ))
+        → actions ≡ asked_actions task lines q.acts
         → map (with_action query) actions ≡ queries_of task lines q
-    queries_are task actions all = (λ i. map (λ a. query_is a i) actions) ∙ ap (map (query_of lines q)) all
+    queries_are task actions all = (λ i. map (λ a. query_is a i) actions)
+        ∙ ap (map (query_of lines q)) all
 
     -- the query asks what the question asks
-    pub asks_question : (task : Strips) (actions : List (Option ℕ)) → actions ≡ asked_actions task lines q.acts
+    pub asks_question : (task : Strips) (actions : List (Option ℕ))
+        → actions ≡ asked_actions task lines q.acts
         → IsQueryFor task nodes lines q query actions
     asks_question task actions all = record {
       is = query_is;
@@ -82,7 +106,8 @@ module _ (lines : List Line) (table : IsTable lines) (word : Word) (left right :
 -- what is offered, by the family
 module _ (lines : List Line) (q : Question) where
   abbrev IsOfferedIn : FormulaFamily → Type 0
-  IsOfferedIn family = IsOffered lines (record { family = family; positive = q.positive; negative = q.negative; acts = q.acts })
+  IsOfferedIn family = IsOffered lines (record
+      { family = family; positive = q.positive; negative = q.negative; acts = q.acts })
 
   pub offered_horn : q.family ≡ F.Horn → IsOffered lines q
   offered_horn is = subst IsOfferedIn (sym is) tt
@@ -90,20 +115,25 @@ module _ (lines : List Line) (q : Question) where
   pub offered_two : q.family ≡ F.Two → IsOffered lines q
   offered_two is = subst IsOfferedIn (sym is) tt
 
-  pub offered_listed : (query : Query) → with_action query None ≡ query_of lines q None → q.family ≡ F.States → HasAnchor query
+  pub offered_listed : (query : Query) → with_action query None ≡ query_of lines q None
+      → q.family ≡ F.States → HasAnchor query
       → IsOffered lines q
   offered_listed query same is anchor = subst IsOfferedIn (sym is) (subst HasAnchor same anchor)
 
-  pub unoffered_listed : (query : Query) → with_action query None ≡ query_of lines q None → q.family ≡ F.States
+  pub unoffered_listed : (query : Query) → with_action query None ≡ query_of lines q None
+      → q.family ≡ F.States
       → (HasAnchor query → ⊥) → IsOffered lines q → ⊥
-  unoffered_listed query same is none offered = none (subst HasAnchor (sym same) (subst IsOfferedIn is offered))
+  unoffered_listed query same is none offered = none
+      (subst HasAnchor (sym same) (subst IsOfferedIn is offered))
 
   pub offered_node : q.family ≡ F.Node → IsOffered lines q
   offered_node is = subst IsOfferedIn (sym is) tt
 
 -- a verdict by the queries is one of the question
-pub verdict_by : (setting : Setting) (lines : List Line) (q : Question) (queries : List Query) (verdict : Verdict) → IsOffered lines q
-    → queries ≡ queries_of setting.task lines q → IsDecidedOver setting lines q.family queries verdict
+pub verdict_by : (setting : Setting) (lines : List Line) (q : Question) (queries : List Query)
+    (verdict : Verdict) → IsOffered lines q
+    → queries ≡ queries_of setting.task lines q
+    → IsDecidedOver setting lines q.family queries verdict
     → IsVerdictOfSets setting lines q verdict
 verdict_by setting lines q queries V.True offered is decided =
     (offered, subst (λ qs. IsDecidedOver setting lines q.family qs V.True) is decided)
@@ -114,7 +144,8 @@ verdict_by setting lines q queries (V.False found) offered is decided =
 verdict_by setting lines q queries V.NotOffered offered is decided = absurd decided
 
 -- the same, by the family
-pub verdict_in : (setting : Setting) (lines : List Line) (q : Question) (family : FormulaFamily) (queries : List Query) (verdict : Verdict)
+pub verdict_in : (setting : Setting) (lines : List Line) (q : Question) (family : FormulaFamily)
+    (queries : List Query) (verdict : Verdict)
     → q.family ≡ family → IsOffered lines q → queries ≡ queries_of setting.task lines q
     → IsDecidedOver setting lines family queries verdict → IsVerdictOfSets setting lines q verdict
 verdict_in setting lines q family queries verdict is offered all decided =

@@ -1,8 +1,11 @@
 -- What is kept of a right side stays right, and grows with the union.
-use Rattle.std.proofs.Common.{◌≡◌, ℕ, zero, suc, ◌<◌, ◌+◌, ◌-◌, ◌∙◌, ◌⊎◌, ◌↔◌, ◌++◌, Bool, false, List, [], ◌∷◌, Option, Some, None, length, map, get_or, drop, eqb, refl, sym, ap, ap₂, subst, inl, inr, arith}
+use Rattle.std.proofs.Common.{◌≡◌, ℕ, zero, suc, ◌<◌, ◌+◌, ◌-◌, ◌∙◌, ◌⊎◌, ◌↔◌, ◌++◌, Bool, false}
+use Rattle.std.proofs.Common.{List, [], ◌∷◌, Option, Some, None, length, map, get_or, drop, eqb}
+use Rattle.std.proofs.Common.{refl, sym, ap, ap₂, subst, inl, inr, arith}
 use Rattle.std.proofs.lemmas.Bool.{cases_lt, cond-false, ne_eqb}
 use Rattle.std.proofs.lemmas.List.{get_or_append_left, length-append, map-append}
-use Rattle.std.proofs.lemmas.List.Elements.{Contains-append_left, Contains-push, Contains-push_cases}
+use Rattle.std.proofs.lemmas.List.Elements.{Contains-append_left, Contains-push}
+use Rattle.std.proofs.lemmas.List.Elements.{Contains-push_cases}
 use Rattle.std.proofs.lemmas.Option.{get_or_from_slice_get, slice_get-get_or, slice_get_within}
 use Rattle.std.proofs.Math.Seq.{get_or-append_seam}
 use Rattle.std.specs.List.{Contains, slice_get}
@@ -13,7 +16,8 @@ use Rattle.hv_sets.specs.declared.operand.Which.TheVariants as S
 use Rattle.hv_lines.specs.Literals.{IsPlainSet}
 use Rattle.hv_lines.specs.Numbering.{MayFollow, IsTable, expr_at, expr_count}
 use Rattle.hv_lines.specs.Queries.{horns_of, listed_of, named_by, operand_of, twos_of, which_at}
-use Rattle.hv_lines.specs.Shapes.{Askings, AskingsRise, IsOfFamily, IsOrLeaf, IsWithinFamily, alone, family_of, of_left, of_right, or_parts}
+use Rattle.hv_lines.specs.Shapes.{Askings, AskingsRise, IsOfFamily, IsOrLeaf, IsWithinFamily, alone}
+use Rattle.hv_lines.specs.Shapes.{family_of, of_left, of_right, or_parts}
 use Rattle.hv_lines.specs.declared.family.FormulaFamily.{FormulaFamily}
 use Rattle.hv_lines.specs.declared.line.Expr.{Expr}
 use Rattle.hv_lines.specs.declared.line.Expr.TheVariants as E
@@ -23,16 +27,20 @@ use Rattle.hv_lines.proofs.Laws.{expr_at_more, expr_below, exprs_grow, refers_be
 use Rattle.hv_lines.proofs.Truth.{or_is}
 use Rattle.hv_lines.proofs.Elements.{cons_cases, head_in, tail_in}
 use Rattle.hv_basic.specs.Sharing.{ArePlain, IsKeptFor, IsNoFormula, IsShared, IsTheFamily}
-use Rattle.hv_basic.specs.Working.Sharing.{AreAddedTo, AreSetNames, IsFamilyWith, IsMadeOf, IsPartBeside}
+use Rattle.hv_basic.specs.Working.Sharing.{AreAddedTo, AreSetNames, IsFamilyWith, IsMadeOf}
+use Rattle.hv_basic.specs.Working.Sharing.{IsPartBeside}
 use Rattle.hv_basic.specs.declared.shared.Kept.{Kept}
 use Rattle.hv_basic.proofs.Leafing.{leaf_parts}
 
 -- lists
 
-left_at : {X : Type 0} (xs ys : List X) (i : ℕ) (x : X) → i < length xs → slice_get (xs ++ ys) i ≡ Some x → get_or xs i x ≡ x
-left_at xs ys i x below at = sym (get_or_append_left xs ys x i below) ∙ get_or_from_slice_get (xs ++ ys) i x x at
+left_at : {X : Type 0} (xs ys : List X) (i : ℕ) (x : X) → i < length xs
+    → slice_get (xs ++ ys) i ≡ Some x → get_or xs i x ≡ x
+left_at xs ys i x below at = sym (get_or_append_left xs ys x i below)
+    ∙ get_or_from_slice_get (xs ++ ys) i x x at
 
-contained_at : {X : Type 0} (xs ys : List X) (i : ℕ) (x : X) → i < length xs → slice_get (xs ++ ys) i ≡ Some x → Contains xs x
+contained_at : {X : Type 0} (xs ys : List X) (i : ℕ) (x : X) → i < length xs
+    → slice_get (xs ++ ys) i ≡ Some x → Contains xs x
 contained_at xs ys i x below at = (i, below, left_at xs ys i x below at)
 
 drop_at : (xs : List ℕ) (i d : ℕ) → i < length xs → drop i xs ≡ get_or xs i d ∷ drop (suc i) xs
@@ -41,23 +49,30 @@ drop_at (x ∷ xs) zero d below = refl
 drop_at (x ∷ xs) (suc i) d below = drop_at xs i d (omega (arith, below))
 
 -- what is asked about stays in order where the last comes after all others
-rises_push : (asked : Askings) (leaf : ℕ) (after : Bool) → AskingsRise asked → ((a : ℕ × Bool) → Contains asked a → a.0 < leaf)
+rises_push : (asked : Askings) (leaf : ℕ) (after : Bool) → AskingsRise asked
+    → ((a : ℕ × Bool) → Contains asked a → a.0 < leaf)
     → AskingsRise (asked ++ (leaf, after) ∷ [])
 rises_push asked leaf after rises later i j first second less at_first at_second =
-    let size : length (asked ++ (leaf, after) ∷ []) ≡ length asked + 1 = length-append asked ((leaf, after) ∷ []) in
-    let within : j < length (asked ++ (leaf, after) ∷ []) = slice_get_within (asked ++ (leaf, after) ∷ []) j second at_second in
+    let size : length (asked ++ (leaf, after) ∷ [])
+    ≡ length asked + 1 = length-append asked ((leaf, after) ∷ []) in
+    let within : j < length (asked ++ (leaf, after) ∷ []) = slice_get_within
+    (asked ++ (leaf, after) ∷ []) j second at_second in
     let before : i < length asked = omega (arith, size, within, less) in
-    let has : Contains asked first = contained_at asked ((leaf, after) ∷ []) i first before at_first in
+    let has : Contains asked first = contained_at asked ((leaf, after) ∷ []) i first before
+    at_first in
     elim (cases_lt j (length asked)) [
       | inl below ↦
           rises i j first second less
-          (slice_get-get_or asked i first before ∙ ap Some (left_at asked ((leaf, after) ∷ []) i first before at_first))
-          (slice_get-get_or asked j second below ∙ ap Some (left_at asked ((leaf, after) ∷ []) j second below at_second))
+          (slice_get-get_or asked i first before
+          ∙ ap Some (left_at asked ((leaf, after) ∷ []) i first before at_first))
+          (slice_get-get_or asked j second below
+          ∙ ap Some (left_at asked ((leaf, after) ∷ []) j second below at_second))
       | inr past ↦
           let here : j ≡ length asked = omega (arith, size, within, past) in
           let last : second ≡ (leaf, after) =
           sym (get_or_from_slice_get (asked ++ (leaf, after) ∷ []) j second second at_second)
-          ∙ (ap (λ k. get_or (asked ++ (leaf, after) ∷ []) k second) here ∙ get_or-append_seam asked (leaf, after) [] second) in
+          ∙ (ap (λ k. get_or (asked ++ (leaf, after) ∷ []) k second) here
+          ∙ get_or-append_seam asked (leaf, after) [] second) in
           let id : second.0 ≡ leaf = ap (λ (p : ℕ × Bool). p.0) last in
           inl (omega (arith, later first has, id))
     ]
@@ -66,50 +81,70 @@ rises_push asked leaf after rises later i j first second less at_first at_second
 
 module _ (line : Line) (older : List Line) (next : MayFollow older line) where
   plain_more : (set : ℕ) → IsTable older → IsPlainSet older set → IsPlainSet (line ∷ older) set
-  plain_more set table (expr, at, plain) = (expr, expr_at_more line older set next (expr_below older set expr table at) ∙ at, plain)
+  plain_more set table (expr, at, plain) =
+      (expr, expr_at_more line older set next (expr_below older set expr table at) ∙ at, plain)
 
-  formula_more : (family : FormulaFamily) (set : ℕ) → IsTable older → IsOfFamily older family set → IsOfFamily (line ∷ older) family set
-  formula_more family set table (expr, at, of) = (expr, expr_at_more line older set next (expr_below older set expr table at) ∙ at, of)
+  formula_more : (family : FormulaFamily) (set : ℕ) → IsTable older → IsOfFamily older family set
+      → IsOfFamily (line ∷ older) family set
+  formula_more family set table (expr, at, of) =
+      (expr, expr_at_more line older set next (expr_below older set expr table at) ∙ at, of)
 
   within_more : (family : FormulaFamily) (set : ℕ) → IsTable older → IsWithinFamily older family set
       → IsWithinFamily (line ∷ older) family set
-  within_more family set table (expr, at, of) = (expr, expr_at_more line older set next (expr_below older set expr table at) ∙ at, of)
+  within_more family set table (expr, at, of) =
+      (expr, expr_at_more line older set next (expr_below older set expr table at) ∙ at, of)
 
-  no_formula_more : (set : ℕ) → IsTable older → IsNoFormula older set → IsNoFormula (line ∷ older) set
-  no_formula_more set table (expr, at, of) = (expr, expr_at_more line older set next (expr_below older set expr table at) ∙ at, of)
+  no_formula_more : (set : ℕ) → IsTable older → IsNoFormula older set
+      → IsNoFormula (line ∷ older) set
+  no_formula_more set table (expr, at, of) =
+      (expr, expr_at_more line older set next (expr_below older set expr table at) ∙ at, of)
 
-  family_more : (asked : Askings) (family : Option FormulaFamily) → IsTable older → IsTheFamily older asked family
+  family_more : (asked : Askings) (family : Option FormulaFamily) → IsTable older
+      → IsTheFamily older asked family
       → IsTheFamily (line ∷ older) asked family
   family_more asked None table none = λ a c. no_formula_more a.0 table (none a c)
-  family_more asked (Some family) table (within, (some, has, of)) =
-      (λ a c. within_more family a.0 table (within a c), (some, has, formula_more family some.0 table of))
+  family_more asked (Some family) table (within, (some, has, of)) = (
+    λ a c. within_more family a.0 table (within a c),
+    (some, has, formula_more family some.0 table of),
+  )
 
-  leaf_more : (set leaf : ℕ) → IsTable older → IsOrLeaf older set leaf → IsOrLeaf (line ∷ older) set leaf
-  leaf_more _ _ table (alone set x at none) = alone set x (expr_at_more line older set next (expr_below older set x table at) ∙ at) none
+  leaf_more : (set leaf : ℕ) → IsTable older → IsOrLeaf older set leaf
+      → IsOrLeaf (line ∷ older) set leaf
+  leaf_more _ _ table (alone set x at none) = alone set x
+      (expr_at_more line older set next (expr_below older set x table at) ∙ at) none
   leaf_more _ _ table (of_left set left right leaf x at has of) =
-      of_left set left right leaf x (expr_at_more line older set next (expr_below older set x table at) ∙ at) has (leaf_more left leaf table of)
+      of_left set left right leaf x (expr_at_more line older set next
+      (expr_below older set x table at) ∙ at) has (leaf_more left leaf table of)
   leaf_more _ _ table (of_right set left right leaf x at has of) =
-      of_right set left right leaf x (expr_at_more line older set next (expr_below older set x table at) ∙ at) has (leaf_more right leaf table of)
+      of_right set left right leaf x (expr_at_more line older set next
+      (expr_below older set x table at) ∙ at) has (leaf_more right leaf table of)
 
-  parts_below : (set left right : ℕ) (x : Expr) → IsTable older → expr_at older set ≡ Some x → or_parts x ≡ Some (left, right)
+  parts_below : (set left right : ℕ) (x : Expr) → IsTable older → expr_at older set ≡ Some x
+      → or_parts x ≡ Some (left, right)
       → (left < expr_count older) × (right < expr_count older)
   parts_below set left right x table at has =
       refers_below older set (E.Or left right) table (at ∙ ap Some (or_is x left right has))
 
-  leaf_before : (set leaf : ℕ) → IsTable older → set < expr_count older → IsOrLeaf (line ∷ older) set leaf → IsOrLeaf older set leaf
-  leaf_before _ _ table below (alone set x at none) = alone set x (sym (expr_at_more line older set next below) ∙ at) none
+  leaf_before : (set leaf : ℕ) → IsTable older → set < expr_count older
+      → IsOrLeaf (line ∷ older) set leaf → IsOrLeaf older set leaf
+  leaf_before _ _ table below (alone set x at none) = alone set x
+      (sym (expr_at_more line older set next below) ∙ at) none
   leaf_before _ _ table below (of_left set left right leaf x at has of) =
       let was = sym (expr_at_more line older set next below) ∙ at in
-      of_left set left right leaf x was has (leaf_before left leaf table (parts_below set left right x table was has).0 of)
+      of_left set left right leaf x was has
+      (leaf_before left leaf table (parts_below set left right x table was has).0 of)
   leaf_before _ _ table below (of_right set left right leaf x at has of) =
       let was = sym (expr_at_more line older set next below) ∙ at in
-      of_right set left right leaf x was has (leaf_before right leaf table (parts_below set left right x table was has).1 of)
+      of_right set left right leaf x was has
+      (leaf_before right leaf table (parts_below set left right x table was has).1 of)
 
-which_at_more : (line : Line) (older : List Line) (e : ℕ) → MayFollow older line → e < expr_count older
+which_at_more : (line : Line) (older : List Line) (e : ℕ) → MayFollow older line
+    → e < expr_count older
     → which_at (line ∷ older) e ≡ which_at older e
 which_at_more (L.Acts id x) older e next below = refl
 which_at_more (L.Expr id x) older e next below =
-    cond-false (eqb e id) (named_by (length (horns_of older)) (length (twos_of older)) (length (listed_of older)) x) (which_at older e)
+    cond-false (eqb e id) (named_by (length (horns_of older)) (length (twos_of older))
+    (length (listed_of older)) x) (which_at older e)
     (ne_eqb e id (λ h. absurd (omega (arith, h, below, next.numbered))))
 which_at_more (L.Known id st w ps) older e next below = refl
 
@@ -123,24 +158,32 @@ operands_more line older (a ∷ asked) next below =
     (operands_more line older asked next (λ b c. below b (suc c.0, omega (arith, c.1), c.2)))
 
 -- what is asked about has a line
-pub asked_below : (lines : List Line) (after : Bool) (family : Option FormulaFamily) (asked : Askings) (operands : List Operand)
-    → ArePlain lines after family asked operands → (a : ℕ × Bool) → Contains asked a → a.0 < expr_count lines
+pub asked_below : (lines : List Line) (after : Bool) (family : Option FormulaFamily)
+    (asked : Askings) (operands : List Operand)
+    → ArePlain lines after family asked operands → (a : ℕ × Bool) → Contains asked a
+    → a.0 < expr_count lines
 asked_below lines after family asked operands are a c =
     let plain = (are.plain a c).0 in expr_below lines a.0 plain.0 are.table plain.1
 
-kept_more : (line : Line) (older : List Line) (kept : Kept) (root : ℕ) → MayFollow older line → IsKeptFor older kept root
+kept_more : (line : Line) (older : List Line) (kept : Kept) (root : ℕ) → MayFollow older line
+    → IsKeptFor older kept root
     → IsKeptFor (line ∷ older) kept root
 kept_more line older kept root next is = record {
   below = omega (arith, is.below, exprs_grow line older);
   plain = record {
     table = (next, is.plain.table);
-    plain = λ a c. (plain_more line older next a.0 is.plain.table (is.plain.plain a c).0, (is.plain.plain a c).1);
+    plain = λ a c. (
+      plain_more line older next a.0 is.plain.table (is.plain.plain a c).0,
+      (is.plain.plain a c).1,
+    );
     rises = is.plain.rises;
-    one_family = family_more line older next kept.question.negative.items kept.family is.plain.table is.plain.one_family;
+    one_family = family_more line older next kept.question.negative.items kept.family is.plain.table
+        is.plain.one_family;
     named =
         is.plain.named
         ∙ operands_more line older kept.question.negative.items next
-        (asked_below older kept.after kept.family kept.question.negative.items kept.query.negative is.plain);
+        (asked_below older kept.after kept.family kept.question.negative.items kept.query.negative
+        is.plain);
   };
   leaves = λ leaf. (
     λ c. leaf_more line older next root leaf is.plain.table ((is.leaves leaf).0 c),
@@ -149,17 +192,21 @@ kept_more line older kept root next is = record {
 }
 
 -- what is kept stays right when a line is added
-pub shared_more : (line : Line) (older : List Line) (kept : Kept) → MayFollow older line → IsShared older kept → IsShared (line ∷ older) kept
+pub shared_more : (line : Line) (older : List Line) (kept : Kept) → MayFollow older line
+    → IsShared older kept → IsShared (line ∷ older) kept
 shared_more line older kept next is = more kept.root is
   where
-    more : (root : Option ℕ) → IfSome root (IsKeptFor older kept) → IfSome root (IsKeptFor (line ∷ older) kept)
+    more : (root : Option ℕ) → IfSome root (IsKeptFor older kept)
+        → IfSome root (IsKeptFor (line ∷ older) kept)
     more None h = tt
     more (Some root) h = kept_more line older kept root next h
 
 -- one more leaf
 
-family_push : (lines : List Line) (asked : Askings) (leaf : ℕ) (after : Bool) (family both : Option FormulaFamily) (expr : Expr)
-    → IsTheFamily lines asked family → expr_at lines leaf ≡ Some expr → (next : Option FormulaFamily) → family_of expr ≡ next
+family_push : (lines : List Line) (asked : Askings) (leaf : ℕ) (after : Bool)
+    (family both : Option FormulaFamily) (expr : Expr)
+    → IsTheFamily lines asked family → expr_at lines leaf ≡ Some expr
+    → (next : Option FormulaFamily) → family_of expr ≡ next
     → IsFamilyWith family next both → IsTheFamily lines (asked ++ (leaf, after) ∷ []) both
 family_push lines asked leaf after None both expr none at None is with =
     subst (IsTheFamily lines (asked ++ (leaf, after) ∷ [])) (sym with)
@@ -175,76 +222,100 @@ family_push lines asked leaf after None both expr none at (Some next) is with =
       ],
       ((leaf, after), Contains-push asked (leaf, after), (expr, at, is)),
     )
-family_push lines asked leaf after (Some family) both expr (within, (some, has, of)) at None is with =
+family_push lines asked leaf after (Some family) both expr (within, (some, has, of)) at None is with
+    =
     subst (IsTheFamily lines (asked ++ (leaf, after) ∷ [])) (sym with) (
       λ a c. elim (Contains-push_cases asked (leaf, after) a c) [
         | inl was ↦ within a was
-        | inr same ↦ subst (λ (p : ℕ × Bool). IsWithinFamily lines family p.0) same (expr, at, inl is)
+        | inr same ↦ subst (λ (p : ℕ × Bool). IsWithinFamily lines family p.0) same
+            (expr, at, inl is)
       ],
       (some, Contains-append_left asked ((leaf, after) ∷ []) some has, of),
     )
-family_push lines asked leaf after (Some family) both expr (within, (some, has, of)) at (Some next) is (equal, with) =
+family_push lines asked leaf after (Some family) both expr (within, (some, has, of)) at (Some next)
+    is (equal, with) =
     subst (IsTheFamily lines (asked ++ (leaf, after) ∷ [])) (sym with) (
       λ a c. elim (Contains-push_cases asked (leaf, after) a c) [
         | inl was ↦ within a was
-        | inr same ↦ subst (λ (p : ℕ × Bool). IsWithinFamily lines family p.0) same (expr, at, inr (is ∙ ap Some (sym equal)))
+        | inr same ↦ subst (λ (p : ℕ × Bool). IsWithinFamily lines family p.0) same
+            (expr, at, inr (is ∙ ap Some (sym equal)))
       ],
       (some, Contains-append_left asked ((leaf, after) ∷ []) some has, of),
     )
 
-pub plain_push : (lines : List Line) (after : Bool) (family both : Option FormulaFamily) (asked : Askings) (operands : List Operand)
-    (leaf : ℕ) (expr : Expr) (operand : Operand) → ArePlain lines after family asked operands → IsPlainSet lines leaf
-    → ((a : ℕ × Bool) → Contains asked a → a.0 < leaf) → expr_at lines leaf ≡ Some expr → IsFamilyWith family (family_of expr) both
-    → operand ≡ operand_of lines (leaf, after) → ArePlain lines after both (asked ++ (leaf, after) ∷ []) (operands ++ operand ∷ [])
-plain_push lines after family both asked operands leaf expr operand are plain later at with is = record {
-  table = are.table;
-  plain = λ a c. elim (Contains-push_cases asked (leaf, after) a c) [
-    | inl was ↦ are.plain a was
-    | inr same ↦ subst (λ (p : ℕ × Bool). IsPlainSet lines p.0 × (p.1 ≡ after)) same (plain, refl)
-  ];
-  rises = rises_push asked leaf after are.rises later;
-  one_family = family_push lines asked leaf after family both expr are.one_family at (family_of expr) refl with;
-  named =
-      ap₂ (λ (xs : List Operand) (x : Operand). xs ++ x ∷ []) are.named is
-      ∙ sym (map-append (λ a. operand_of lines a) asked ((leaf, after) ∷ []));
-}
+pub plain_push : (lines : List Line) (after : Bool) (family both : Option FormulaFamily)
+    (asked : Askings) (operands : List Operand)
+    (leaf : ℕ) (expr : Expr) (operand : Operand) → ArePlain lines after family asked operands
+    → IsPlainSet lines leaf
+    → ((a : ℕ × Bool) → Contains asked a → a.0 < leaf) → expr_at lines leaf ≡ Some expr
+    → IsFamilyWith family (family_of expr) both
+    → operand ≡ operand_of lines (leaf, after)
+    → ArePlain lines after both (asked ++ (leaf, after) ∷ []) (operands ++ operand ∷ [])
+plain_push lines after family both asked operands leaf expr operand are plain later at with is =
+    record {
+      table = are.table;
+      plain = λ a c. elim (Contains-push_cases asked (leaf, after) a c) [
+        | inl was ↦ are.plain a was
+        | inr same ↦ subst (λ (p : ℕ × Bool). IsPlainSet lines p.0 × (p.1 ≡ after)) same
+            (plain, refl)
+      ];
+      rises = rises_push asked leaf after are.rises later;
+      one_family = family_push lines asked leaf after family both expr are.one_family at
+          (family_of expr) refl with;
+      named =
+          ap₂ (λ (xs : List Operand) (x : Operand). xs ++ x ∷ []) are.named is
+          ∙ sym (map-append (λ a. operand_of lines a) asked ((leaf, after) ∷ []));
+    }
 
 -- leaves that are added from the last to the first
 
-pub added_more : (after : Bool) (leaves : List ℕ) (i next leaf : ℕ) (old mid new : Askings) → i < length leaves → next ≡ suc i
-    → leaf ≡ get_or leaves i 0 → AreAddedTo after (drop next leaves) old mid → new ≡ mid ++ (leaf, after) ∷ []
+pub added_more : (after : Bool) (leaves : List ℕ) (i next leaf : ℕ) (old mid new : Askings)
+    → i < length leaves → next ≡ suc i
+    → leaf ≡ get_or leaves i 0 → AreAddedTo after (drop next leaves) old mid
+    → new ≡ mid ++ (leaf, after) ∷ []
     → AreAddedTo after (drop i leaves) old new
 added_more after leaves i next leaf old mid new below follows is added pushed other =
     let all : drop i leaves ≡ leaf ∷ drop next leaves =
-    drop_at leaves i 0 below ∙ ap₂ (λ x xs. x ∷ xs) (sym is) (ap (λ k. drop k leaves) (sym follows)) in (
-      λ c. elim (Contains-push_cases mid (leaf, after) (other, after) (subst (λ xs. Contains xs (other, after)) pushed c)) [
-        | inl was ↦ elim ((added other).0 was) [
-          | inl first ↦ inl first
-          | inr rest ↦ inr (subst (λ xs. Contains xs other) (sym all) (tail_in leaf (drop next leaves) other rest))
-        ]
-        | inr same ↦
-            let id : leaf ≡ other = ap (λ (p : ℕ × Bool). p.0) same in
-            inr (subst (λ xs. Contains xs other) (sym all) (subst (Contains (leaf ∷ drop next leaves)) id (head_in leaf (drop next leaves))))
-      ],
+    drop_at leaves i 0 below ∙ ap₂ (λ x xs. x ∷ xs) (sym is)
+    (ap (λ k. drop k leaves) (sym follows)) in (
+      λ c. elim (Contains-push_cases mid (leaf, after) (other, after)
+          (subst (λ xs. Contains xs (other, after)) pushed c)) [
+            | inl was ↦ elim ((added other).0 was) [
+              | inl first ↦ inl first
+              | inr rest ↦ inr (subst (λ xs. Contains xs other) (sym all)
+                  (tail_in leaf (drop next leaves) other rest))
+            ]
+            | inr same ↦
+                let id : leaf ≡ other = ap (λ (p : ℕ × Bool). p.0) same in
+                inr (subst (λ xs. Contains xs other) (sym all)
+                (subst (Contains (leaf ∷ drop next leaves)) id (head_in leaf (drop next leaves))))
+          ],
       elim [
         | inl first ↦
             subst (λ xs. Contains xs (other, after)) (sym pushed)
-            (Contains-append_left mid ((leaf, after) ∷ []) (other, after) ((added other).1 (inl first)))
-        | inr rest ↦ elim (cons_cases leaf (drop next leaves) other (subst (λ xs. Contains xs other) all rest)) [
-          | inl same ↦
-              subst (λ xs. Contains xs (other, after)) (sym pushed)
-              (subst (λ x. Contains (mid ++ (leaf, after) ∷ []) (x, after)) same (Contains-push mid (leaf, after)))
-          | inr more ↦
-              subst (λ xs. Contains xs (other, after)) (sym pushed)
-              (Contains-append_left mid ((leaf, after) ∷ []) (other, after) ((added other).1 (inr more)))
-        ]
+            (Contains-append_left mid ((leaf, after) ∷ []) (other, after)
+            ((added other).1 (inl first)))
+        | inr rest ↦ elim (cons_cases leaf (drop next leaves) other
+            (subst (λ xs. Contains xs other) all rest)) [
+              | inl same ↦
+                  subst (λ xs. Contains xs (other, after)) (sym pushed)
+                  (subst (λ x. Contains (mid ++ (leaf, after) ∷ []) (x, after)) same
+                  (Contains-push mid (leaf, after)))
+              | inr more ↦
+                  subst (λ xs. Contains xs (other, after)) (sym pushed)
+                  (Contains-append_left mid ((leaf, after) ∷ []) (other, after)
+                  ((added other).1 (inr more)))
+            ]
       ],
     )
 
 -- what is kept becomes the union's
-pub kept_for : (lines : List Line) (root part : ℕ) (after : Bool) (leaves : List ℕ) (old new : Askings)
-    → ((leaf : ℕ) → IsOrLeaf lines root leaf ↔ (Contains old (leaf, after) ⊎ IsOrLeaf lines part leaf))
-    → ((leaf : ℕ) → Contains leaves leaf ↔ IsOrLeaf lines part leaf) → AreAddedTo after leaves old new
+pub kept_for : (lines : List Line) (root part : ℕ) (after : Bool) (leaves : List ℕ)
+    (old new : Askings)
+    → ((leaf : ℕ) → IsOrLeaf lines root leaf
+    ↔ (Contains old (leaf, after) ⊎ IsOrLeaf lines part leaf))
+    → ((leaf : ℕ) → Contains leaves leaf ↔ IsOrLeaf lines part leaf)
+    → AreAddedTo after leaves old new
     → (leaf : ℕ) → Contains new (leaf, after) ↔ IsOrLeaf lines root leaf
 kept_for lines root part after leaves old new made are added leaf = (
   λ c. elim ((added leaf).0 c) [
@@ -258,10 +329,12 @@ kept_for lines root part after leaves old new made are added leaf = (
 )
 
 -- a union of what is kept and a part is made of both
-pub made_of : (lines : List Line) (kept : Kept) (root part : ℕ) → IsShared lines kept → IsPartBeside lines kept.root root part
+pub made_of : (lines : List Line) (kept : Kept) (root part : ℕ) → IsShared lines kept
+    → IsPartBeside lines kept.root root part
     → IsMadeOf lines kept root part
 made_of lines kept root part shared (below, (first, same, or)) leaf =
-    let is : IsKeptFor lines kept first = subst (λ r. IfSome r (IsKeptFor lines kept)) same shared in
+    let is : IsKeptFor lines kept first = subst
+    (λ r. IfSome r (IsKeptFor lines kept)) same shared in
     elim or [
       | inl at ↦ (
         λ of. elim (leaf_parts or_parts lines root leaf (E.Or first part) (first, part) at refl of) [
@@ -269,7 +342,8 @@ made_of lines kept root part shared (below, (first, same, or)) leaf =
           | inr right ↦ inr right
         ],
         elim [
-          | inl has ↦ of_left root first part leaf (E.Or first part) at refl ((is.leaves leaf).0 has)
+          | inl has ↦ of_left root first part leaf (E.Or first part) at refl
+              ((is.leaves leaf).0 has)
           | inr right ↦ of_right root first part leaf (E.Or first part) at refl right
         ],
       )
@@ -279,7 +353,8 @@ made_of lines kept root part shared (below, (first, same, or)) leaf =
           | inr right ↦ inl ((is.leaves leaf).1 right)
         ],
         elim [
-          | inl has ↦ of_right root part first leaf (E.Or part first) at refl ((is.leaves leaf).0 has)
+          | inl has ↦ of_right root part first leaf (E.Or part first) at refl
+              ((is.leaves leaf).0 has)
           | inr left ↦ of_left root part first leaf (E.Or part first) at refl left
         ],
       )
@@ -287,36 +362,52 @@ made_of lines kept root part shared (below, (first, same, or)) leaf =
 
 -- what comes after the last comes after all
 pub after_last : (asked : Askings) (leaf : ℕ) → AskingsRise asked → 0 < length asked
-    → (get_or asked (length asked - 1) (0, false)).0 < leaf → (a : ℕ × Bool) → Contains asked a → a.0 < leaf
+    → (get_or asked (length asked - 1) (0, false)).0 < leaf → (a : ℕ × Bool) → Contains asked a
+    → a.0 < leaf
 after_last asked leaf rises some last a (k, below, is) =
     let last_at = slice_get-get_or asked (length asked - 1) (0, false) (omega (arith, some)) in
     elim (cases_lt k (length asked - 1)) [
-      | inl before ↦ elim (rises k (length asked - 1) a (get_or asked (length asked - 1) (0, false)) before (slice_get-get_or asked k a below ∙ ap Some is) last_at) [
-        | inl less ↦ omega (arith, less, last)
-        | inr same ↦ omega (arith, same.0, last)
-      ]
+      | inl before ↦ elim (rises k (length asked - 1) a (get_or asked (length asked - 1) (0, false))
+          before (slice_get-get_or asked k a below ∙ ap Some is) last_at) [
+            | inl less ↦ omega (arith, less, last)
+            | inr same ↦ omega (arith, same.0, last)
+          ]
       | inr past ↦
           let here : k ≡ length asked - 1 = omega (arith, past, below) in
           let one : a ≡ get_or asked (length asked - 1) (0, false) =
-          sym is ∙ (ap (λ i. get_or asked i a) here ∙ sym (get_or_from_slice_get asked (length asked - 1) (get_or asked (length asked - 1) a) (0, false) (slice_get-get_or asked (length asked - 1) a (omega (arith, some))))) in
+          sym is ∙ (ap (λ i. get_or asked i a) here
+          ∙ sym (get_or_from_slice_get asked (length asked - 1)
+          (get_or asked (length asked - 1) a) (0, false)
+          (slice_get-get_or asked (length asked - 1) a (omega (arith, some))))) in
           subst (λ (p : ℕ × Bool). p.0 < leaf) (sym one) last
     ]
 
 -- the operand that asks about a leaf
-operand_here : (lines : List Line) (names : List Which) (leaf : ℕ) (after : Bool) → AreSetNames lines names → leaf < expr_count lines
-    → record { which = get_or names leaf S.Empty; id = leaf; after = after } ≡ operand_of lines (leaf, after)
+operand_here : (lines : List Line) (names : List Which) (leaf : ℕ) (after : Bool)
+    → AreSetNames lines names → leaf < expr_count lines
+    → record { which = get_or names leaf S.Empty; id = leaf; after = after }
+    ≡ operand_of lines (leaf, after)
 operand_here lines names leaf after are below =
-    let which : get_or names leaf S.Empty ≡ which_at lines leaf = get_or_from_slice_get names leaf (which_at lines leaf) S.Empty (are.is leaf below) in
+    let which : get_or names leaf S.Empty ≡ which_at lines leaf = get_or_from_slice_get names leaf
+    (which_at lines leaf) S.Empty (are.is leaf below) in
     λ i. record { which = which i; id = leaf; after = after }
 
-pub plain_pushed : (lines : List Line) (names : List Which) (after : Bool) (family both : Option FormulaFamily) (asked more : Askings)
-    (operands further : List Operand) (leaf : ℕ) (expr : Expr) → AreSetNames lines names → leaf < expr_count lines
-    → ArePlain lines after family asked operands → IsPlainSet lines leaf → ((a : ℕ × Bool) → Contains asked a → a.0 < leaf)
-    → expr_at lines leaf ≡ Some expr → IsFamilyWith family (family_of expr) both → more ≡ asked ++ (leaf, after) ∷ []
-    → further ≡ operands ++ record { which = get_or names leaf S.Empty; id = leaf; after = after } ∷ []
+pub plain_pushed : (lines : List Line) (names : List Which) (after : Bool)
+    (family both : Option FormulaFamily) (asked more : Askings)
+    (operands further : List Operand) (leaf : ℕ) (expr : Expr) → AreSetNames lines names
+    → leaf < expr_count lines
+    → ArePlain lines after family asked operands → IsPlainSet lines leaf
+    → ((a : ℕ × Bool) → Contains asked a → a.0 < leaf)
+    → expr_at lines leaf ≡ Some expr → IsFamilyWith family (family_of expr) both
+    → more ≡ asked ++ (leaf, after) ∷ []
+    → further ≡ operands ++ record { which = get_or names leaf S.Empty; id = leaf; after = after }
+    ∷ []
     → ArePlain lines after both more further
-plain_pushed lines names after family both asked more operands further leaf expr are below plain is later at with pushed put =
+plain_pushed lines names after family both asked more operands further leaf expr are below plain is
+    later at with pushed put =
     subst (λ (xs : Askings). ArePlain lines after both xs further) (sym pushed)
-    (subst (λ (xs : List Operand). ArePlain lines after both (asked ++ (leaf, after) ∷ []) xs) (sym put)
-    (plain_push lines after family both asked operands leaf expr (record { which = get_or names leaf S.Empty; id = leaf; after = after })
+    (subst (λ (xs : List Operand). ArePlain lines after both (asked ++ (leaf, after) ∷ []) xs)
+    (sym put)
+    (plain_push lines after family both asked operands leaf expr
+    (record { which = get_or names leaf S.Empty; id = leaf; after = after })
     plain is later at with (operand_here lines names leaf after are below)))

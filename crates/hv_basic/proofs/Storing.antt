@@ -1,5 +1,6 @@
 -- The stores stand for the formulas of the lines.
-use Rattle.std.proofs.Common.{◌≡◌, ℕ, ◌<◌, ◌∙◌, Bool, List, [], Option, Some, None, length, map, get_or, refl, ap, subst, arith}
+use Rattle.std.proofs.Common.{◌≡◌, ℕ, ◌<◌, ◌∙◌, Bool, List, [], Option, Some, None, length, map}
+use Rattle.std.proofs.Common.{get_or, refl, ap, subst, arith}
 use Rattle.std.proofs.lemmas.List.{get_or-map, length-map}
 use Rattle.std.proofs.lemmas.Option.{slice_get-map, unwrap_or-slice_get}
 use Rattle.std.specs.List.{slice_get}
@@ -19,12 +20,14 @@ use Rattle.hv_lines.specs.declared.verdict.Verdict.{Verdict}
 use Rattle.hv_basic.specs.Stores.{formula, listing}
 
 module _ (n : ℕ) (xs : List (List (List Literal))) where
-  clauses_in : (found : Option (List (List Literal))) → clauses_found (option_map (formula n) found) ≡ unwrap_or found []
+  clauses_in : (found : Option (List (List Literal)))
+      → clauses_found (option_map (formula n) found) ≡ unwrap_or found []
   clauses_in None = refl
   clauses_in (Some clauses) = refl
 
   pub formulas_are : formula_at (map (formula n) xs) ≡ (λ k. get_or xs k [])
-  formulas_are = λ i k. (ap clauses_found (slice_get-map (formula n) xs k) ∙ (clauses_in (slice_get xs k) ∙ unwrap_or-slice_get xs k [])) i
+  formulas_are = λ i k. (ap clauses_found (slice_get-map (formula n) xs k)
+      ∙ (clauses_in (slice_get xs k) ∙ unwrap_or-slice_get xs k [])) i
 
   pub are_over : AreOver (map (formula n) xs) n
   are_over k d below =
@@ -33,12 +36,17 @@ module _ (n : ℕ) (xs : List (List (List Literal))) where
       ap (λ (f : Formula). f.atoms) (get_or-map (formula n) xs k [] d within)
 
   -- the verdict of queries of the store is that of the formulas
-  pub formulas_decided : (task : Strips) (budget count : ℕ) (queries : List Query) (verdict : Verdict) (store : List Formula)
+  pub formulas_decided : (task : Strips) (budget count : ℕ) (queries : List Query)
+      (verdict : Verdict) (store : List Formula)
       → store ≡ map (formula n) xs
-      → IsDecided (λ q. ClausesPass task (sizes_of (formula_at store)) q budget) (is_clash task (tests_of (formula_at store))) count queries verdict
-      → IsDecided (λ q. ClausesPass task (λ k. length (get_or xs k [])) q budget) (is_clash task (λ k s. in_clauses (get_or xs k []) s)) count queries verdict
+      → IsDecided (λ q. ClausesPass task (sizes_of (formula_at store)) q budget)
+      (is_clash task (tests_of (formula_at store))) count queries verdict
+      → IsDecided (λ q. ClausesPass task (λ k. length (get_or xs k [])) q budget)
+      (is_clash task (λ k s. in_clauses (get_or xs k []) s)) count queries verdict
   formulas_decided task budget count queries verdict store is decided =
-      subst (λ (f : ℕ → List (List Literal)). IsDecided (λ q. ClausesPass task (λ k. length (f k)) q budget) (is_clash task (λ k s. in_clauses (f k) s)) count queries verdict)
+      subst (λ (f : ℕ → List (List Literal)). IsDecided
+      (λ q. ClausesPass task (λ k. length (f k)) q budget)
+      (is_clash task (λ k s. in_clauses (f k) s)) count queries verdict)
       (ap formula_at is ∙ formulas_are) decided
 
 module _ (n : ℕ) (xs : List (List (List ℕ))) where
@@ -47,18 +55,21 @@ module _ (n : ℕ) (xs : List (List (List ℕ))) where
   in_listed None state = refl
   in_listed (Some states) state = refl
 
-  count_listed : (found : Option (List (List ℕ))) → count_found (option_map (listing n) found) ≡ length (unwrap_or found [])
+  count_listed : (found : Option (List (List ℕ)))
+      → count_found (option_map (listing n) found) ≡ length (unwrap_or found [])
   count_listed None = refl
   count_listed (Some states) = refl
 
   sets_are : in_set (map (listing n) xs) ≡ (λ k state. in_states n (get_or xs k []) state)
   sets_are = λ i k state.
       (ap (λ o. in_found o state) (slice_get-map (listing n) xs k)
-      ∙ (in_listed (slice_get xs k) state ∙ ap (λ ss. in_states n ss state) (unwrap_or-slice_get xs k []))) i
+      ∙ (in_listed (slice_get xs k) state ∙ ap
+      (λ ss. in_states n ss state) (unwrap_or-slice_get xs k []))) i
 
   counts_are : states_listed (map (listing n) xs) ≡ (λ k. length (get_or xs k []))
   counts_are = λ i k.
-      (ap count_found (slice_get-map (listing n) xs k) ∙ (count_listed (slice_get xs k) ∙ ap length (unwrap_or-slice_get xs k []))) i
+      (ap count_found (slice_get-map (listing n) xs k)
+      ∙ (count_listed (slice_get xs k) ∙ ap length (unwrap_or-slice_get xs k []))) i
 
   pub listed_over : AreListedOver (map (listing n) xs) n
   listed_over k d below =
@@ -66,12 +77,18 @@ module _ (n : ℕ) (xs : List (List (List ℕ))) where
       let within : k < length xs = omega (arith, below, size) in
       ap (λ (l : Listing). l.atoms) (get_or-map (listing n) xs k [] d within)
 
-  pub listed_decided : (task : Strips) (budget count : ℕ) (queries : List Query) (verdict : Verdict) (store : List Listing)
+  pub listed_decided : (task : Strips) (budget count : ℕ) (queries : List Query) (verdict : Verdict)
+      (store : List Listing)
       → store ≡ map (listing n) xs
-      → IsDecided (λ q. StatesPass (states_listed store) q budget) (is_clash task (in_set store)) count queries verdict
-      → IsDecided (λ q. StatesPass (λ k. length (get_or xs k [])) q budget) (is_clash task (λ k s. in_states n (get_or xs k []) s)) count queries verdict
+      → IsDecided (λ q. StatesPass (states_listed store) q budget) (is_clash task (in_set store))
+      count queries verdict
+      → IsDecided (λ q. StatesPass (λ k. length (get_or xs k [])) q budget)
+      (is_clash task (λ k s. in_states n (get_or xs k []) s)) count queries verdict
   listed_decided task budget count queries verdict store is decided =
-      subst (λ (h : ℕ → List Bool → Bool). IsDecided (λ q. StatesPass (λ k. length (get_or xs k [])) q budget) (is_clash task h) count queries verdict)
+      subst (λ (h : ℕ → List Bool → Bool). IsDecided
+      (λ q. StatesPass (λ k. length (get_or xs k [])) q budget) (is_clash task h) count queries
+      verdict)
       (ap in_set is ∙ sets_are)
-      (subst (λ (f : ℕ → ℕ). IsDecided (λ q. StatesPass f q budget) (is_clash task (in_set store)) count queries verdict)
+      (subst (λ (f : ℕ → ℕ). IsDecided (λ q. StatesPass f q budget) (is_clash task (in_set store))
+      count queries verdict)
       (ap states_listed is ∙ counts_are) decided)

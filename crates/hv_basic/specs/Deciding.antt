@@ -1,7 +1,8 @@
 -- What is decided: basic statements over a table, in a setting.
 use Rattle.std.specs.Prelude.{◌<◌, ℕ, List}
 use Rattle.hv_lines.specs.Numbering.{acts_count}
-use Rattle.hv_lines.specs.Shapes.{AreOfTwoFamilies, Basic, OfSets, OfTwo, OfActs, IsQuestion, Question}
+use Rattle.hv_lines.specs.Shapes.{AreOfTwoFamilies, Basic, OfSets, OfTwo, OfActs, IsQuestion}
+use Rattle.hv_lines.specs.Shapes.{Question}
 use Rattle.hv_lines.specs.declared.line.Line.{Line}
 use Rattle.hv_lines.specs.declared.line.Word.{Word}
 

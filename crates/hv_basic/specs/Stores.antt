@@ -8,7 +8,8 @@ use Rattle.hv_sets.specs.declared.operand.Which.{Which}
 use Rattle.hv_clauses.specs.Clausal.{AreClauses, Formula}
 use Rattle.hv_explicit.specs.Listing.{AreStates, Listing}
 use Rattle.hv_lines.specs.Numbering.{expr_count}
-use Rattle.hv_lines.specs.Queries.{horn_in, two_in, listed_in, horns_of, twos_of, listed_of, named_by, which_at}
+use Rattle.hv_lines.specs.Queries.{horn_in, two_in, listed_in, horns_of, twos_of, listed_of}
+use Rattle.hv_lines.specs.Queries.{named_by, which_at}
 use Rattle.hv_lines.specs.declared.line.Expr.{Expr}
 use Rattle.hv_lines.specs.declared.line.Expr.TheVariants as E
 use Rattle.hv_lines.specs.declared.line.Line.{Line}

@@ -8,7 +8,8 @@ ghost use Rattle.hv_lines.specs.Numbering.{expr_at};
 ghost use Rattle.hv_lines.specs.Queries.{NamesNodes};
 ghost use Rattle.hv_lines.specs.Shapes.{IsOfFamily};
 ghost use Rattle.hv_lines.specs.declared.family.FormulaFamily.{FormulaFamily};
-ghost use Rattle.hv_basic.specs.Working.Formulas.{IsFormulaFor, expr_of, formula_atoms, formula_has};
+ghost use Rattle.hv_basic.specs.Working.Formulas.{IsFormulaFor, expr_of, formula_atoms};
+ghost use Rattle.hv_basic.specs.Working.Formulas.{formula_has};
 ghost use Rattle.hv_basic.specs.Stores.{IsStoreOf};
 
 use crate::store::Store;

@@ -7,12 +7,16 @@ ghost use Rattle.hv_sets.specs.Room.{KeepsLengths};
 ghost use Rattle.hv_explicit.specs.Listing.{full_cubes, in_listing};
 ghost use Rattle.hv_mixed.specs.Inclusion.{complement, difference};
 ghost use Rattle.hv_bdd.specs.Nodes.{node_count};
-ghost use Rattle.hv_lines.specs.Mixed.{clause_count, cost_of, count_unless, is_between, listed_count};
+ghost use Rattle.hv_lines.specs.Mixed.{clause_count, cost_of, count_unless, is_between};
+ghost use Rattle.hv_lines.specs.Mixed.{listed_count};
 ghost use Rattle.hv_lines.specs.Queries.{NamesNodes};
 ghost use Rattle.hv_lines.specs.Setting.{most_budget, setting_of};
 ghost use Rattle.hv_lines.specs.Shapes.{AreOfTwoFamilies};
 ghost use Rattle.hv_lines.specs.Verdicts.{IsVerdictOfSides, IsVerdictOfTwo};
-ghost use Rattle.hv_basic.specs.Working.Formulas.{AreApart, IsFormulaFor, IsFoundInclusion, apart_cost, expr_of, formula_atoms, formula_has, inside_count, outside_count, together_cost, within_cost};
+ghost use Rattle.hv_basic.specs.Working.Formulas.{AreApart, IsFormulaFor, IsFoundInclusion};
+ghost use Rattle.hv_basic.specs.Working.Formulas.{apart_cost, expr_of, formula_atoms, formula_has};
+ghost use Rattle.hv_basic.specs.Working.Formulas.{inside_count, outside_count, together_cost};
+ghost use Rattle.hv_basic.specs.Working.Formulas.{within_cost};
 ghost use Rattle.hv_basic.specs.Stores.{IsStoreOf};
 
 use crate::formula::{AnyFormula, formula_of};

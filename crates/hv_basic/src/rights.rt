@@ -1,13 +1,15 @@
 //! Keeping what a right side asks: where it is the union of the one before and a further set, only
 //! that set is looked at.
 
-ghost use Rattle.std.specs.Prelude.{◌≡◌, ◌<◌, ◌++◌, ◌∷◌, ◌↔◌, ℕ, Bool, true, [], None, Some, IfOk, IfSome, length};
+ghost use Rattle.std.specs.Prelude.{◌≡◌, ◌<◌, ◌++◌, ◌∷◌, ◌↔◌, ℕ, Bool, true, [], None, Some, IfOk};
+ghost use Rattle.std.specs.Prelude.{IfSome, length};
 ghost use Rattle.std.specs.List.{All, Contains};
 ghost use Rattle.hv_lines.specs.Literals.{IsPlainSet};
 ghost use Rattle.hv_lines.specs.Numbering.{expr_count};
 ghost use Rattle.hv_lines.specs.Shapes.{AskingsRise};
 ghost use Rattle.hv_basic.specs.Sharing.{ArePlain, IsShared};
-ghost use Rattle.hv_basic.specs.Working.Sharing.{AreAddedTo, AreSetNames, IsFamilyWith, IsMadeOf, IsPartBeside};
+ghost use Rattle.hv_basic.specs.Working.Sharing.{AreAddedTo, AreSetNames, IsFamilyWith, IsMadeOf};
+ghost use Rattle.hv_basic.specs.Working.Sharing.{IsPartBeside};
 
 use crate::families::family_of;
 use crate::leaves::{Side, leaves};

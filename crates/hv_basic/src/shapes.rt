@@ -3,7 +3,8 @@
 ghost use Rattle.std.specs.Prelude.{◌≡◌, ◌<◌, ℕ, Bool, IfOk, IfErr, MatchOption};
 ghost use Rattle.std.specs.List.{All};
 ghost use Rattle.hv_lines.specs.Numbering.{SpeaksBelow, acts_count, expr_count};
-ghost use Rattle.hv_lines.specs.Shapes.{AreTwo, HasShape, HasSides, IsQuestion, IsShaped, Question as AskedQuestion};
+ghost use Rattle.hv_lines.specs.Shapes.{AreTwo, HasShape, HasSides, IsQuestion, IsShaped};
+ghost use Rattle.hv_lines.specs.Shapes.{Question as AskedQuestion};
 ghost use Rattle.hv_basic.specs.Deciding.{IsBasicOver, IsQuestionOver};
 ghost use Rattle.hv_basic.specs.Faults.{IsShapeFault};
 ghost use Rattle.hv_basic.specs.Working.Gathered.{AreAskings};

@@ -15,7 +15,8 @@ ghost use Rattle.hv_basic.specs.Deciding.{IsQuestionOver};
 ghost use Rattle.hv_basic.specs.Faults.{IsShapeFault};
 ghost use Rattle.hv_basic.specs.Stores.{IsStoreOf};
 ghost use Rattle.hv_basic.specs.Sharing.{IsKeptFor, IsShared};
-ghost use Rattle.hv_basic.specs.Working.Sharing.{AreLeftAskings, AreSetNames, IsAskedBy, IsLeftSide, IsVerdictOfSub};
+ghost use Rattle.hv_basic.specs.Working.Sharing.{AreLeftAskings, AreSetNames, IsAskedBy};
+ghost use Rattle.hv_basic.specs.Working.Sharing.{IsLeftSide, IsVerdictOfSub};
 ghost use Rattle.hv_basic.specs.Working.Views.{question_of};
 
 use crate::actions::asked_actions;

@@ -10,7 +10,8 @@ ghost use Rattle.hv_lines.specs.Queries.{named_by};
 ghost use Rattle.hv_lines.specs.declared.line.Expr.TheVariants as E;
 ghost use Rattle.hv_lines.specs.declared.line.Line.{Line};
 ghost use Rattle.hv_lines.specs.declared.line.Line.TheVariants as L;
-ghost use Rattle.hv_basic.specs.Stores.{CanBeStored, IsStoreOf, LineCanBeStored, formula, with_expr, with_line};
+ghost use Rattle.hv_basic.specs.Stores.{CanBeStored, IsStoreOf, LineCanBeStored, formula};
+ghost use Rattle.hv_basic.specs.Stores.{with_expr, with_line};
 ghost use Rattle.hv_basic.specs.Working.Stores.{IsUnstored};
 
 use hv_explicit::{Explicit, Explicits};

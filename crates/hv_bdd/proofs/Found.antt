@@ -1,5 +1,6 @@
 -- What the search through live tuples knows when it answers.
-use Rattle.std.proofs.Common.{◌≡◌, ℕ, ◌<◌, ◌≤◌, ◌∙◌, ◌⊎◌, Bool, true, false, List, [], None, Some, cond, length, get_or, set, refl, sym, ap, arith, inl, inr, subst}
+use Rattle.std.proofs.Common.{◌≡◌, ℕ, ◌<◌, ◌≤◌, ◌∙◌, ◌⊎◌, Bool, true, false, List, [], None, Some}
+use Rattle.std.proofs.Common.{cond, length, get_or, set, refl, sym, ap, arith, inl, inr, subst}
 use Rattle.std.proofs.lemmas.List.{get_or_default, length-map}
 use Rattle.std.proofs.lemmas.List.Elements.{All-get_or}
 use Rattle.std.specs.List.{All}
@@ -10,7 +11,8 @@ use Rattle.hv_bdd.specs.declared.search.Search.{Search}
 use Rattle.hv_bdd.specs.Working.Graphs.{AgreesWithNodes, FitsBits, Suits, in_asked}
 use Rattle.hv_bdd.specs.Live.{moves, roots}
 use Rattle.hv_bdd.specs.Order.{atom_at}
-use Rattle.hv_bdd.specs.Working.Search.{IsEndTuple, IsExplored, IsTupleSearch, IsTuple, link_at, setting, tuple_at}
+use Rattle.hv_bdd.specs.Working.Search.{IsEndTuple, IsExplored, IsTupleSearch, IsTuple, link_at}
+use Rattle.hv_bdd.specs.Working.Search.{setting, tuple_at}
 use Rattle.hv_bdd.specs.Tuples.{IsReached, TuplesPass, is_live, least, move_all, next}
 use Rattle.hv_bdd.proofs.Explored.{all_there, item_at, items, passes, within_budget}
 use Rattle.hv_bdd.proofs.Moved.{back, back_fits, complete_from, ended, next_is}
@@ -18,31 +20,40 @@ use Rattle.hv_bdd.specs.Working.Ordered.{order_of}
 use Rattle.hv_bdd.proofs.Steps.{least_below}
 use Rattle.hv_bdd.proofs.Tupled.{lim, nodes_of, reached_live, reached_tuple, roots_nodes, truths}
 
-module _ (s : Search) (search : IsTupleSearch s) (done : ℕ) (keys : List (SmallVec ℕ)) (ls : List Link)
-    (known : IsExplored (moves (setting s)) s.asked.now (roots (setting s) s.asked.now) done (items keys) ls) where
+module _ (s : Search) (search : IsTupleSearch s) (done : ℕ) (keys : List (SmallVec ℕ))
+    (ls : List Link)
+    (known : IsExplored (moves (setting s)) s.asked.now (roots (setting s) s.asked.now) done
+    (items keys) ls) where
   abbrev pub agrees : List Bool → List ℕ → Type 0
-  agrees state ts = AgreesWithNodes (in_asked (setting s)) (λ (o : Asked). o.positive) state s.asked.now ts
+  agrees state ts = AgreesWithNodes (in_asked (setting s))
+      (λ (o : Asked). o.positive) state s.asked.now ts
 
   pub len : length (items keys) ≡ length keys
   len = length-map keys (λ (v : SmallVec ℕ). v.items)
 
-  reached_at : (k : ℕ) → k < length keys → IsReached (moves (setting s)) s.asked.now (roots (setting s) s.asked.now) (tuple_at (items keys) k)
+  reached_at : (k : ℕ) → k < length keys → IsReached (moves (setting s)) s.asked.now
+      (roots (setting s) s.asked.now) (tuple_at (items keys) k)
   reached_at k within =
       let size = len in
-      All-get_or (IsReached (moves (setting s)) s.asked.now (roots (setting s) s.asked.now)) (items keys) k [] (omega arith) known.reached
+      All-get_or (IsReached (moves (setting s)) s.asked.now (roots (setting s) s.asked.now))
+      (items keys) k [] (omega arith) known.reached
 
   tuple_here : (k : ℕ) → k < length keys → IsTuple s (tuple_at (items keys) k)
   tuple_here k within = reached_tuple s search (tuple_at (items keys) k) (reached_at k within)
 
   -- a tuple that is read
-  pub tuple_read : (k : ℕ) (v : SmallVec ℕ) (ts : List ℕ) → k < length keys → get_or keys k v ≡ v → ts ≡ v.items → IsTuple s ts
-  tuple_read k v ts within is same = subst (IsTuple s) (item_at keys k v within is ∙ sym same) (tuple_here k within)
+  pub tuple_read : (k : ℕ) (v : SmallVec ℕ) (ts : List ℕ) → k < length keys → get_or keys k v ≡ v
+      → ts ≡ v.items → IsTuple s ts
+  tuple_read k v ts within is same = subst (IsTuple s) (item_at keys k v within is ∙ sym same)
+      (tuple_here k within)
 
   pub all_tuples : All (λ (t : SmallVec ℕ). IsTuple s t.items) keys
-  all_tuples k d within = tuple_read k (get_or keys k d) (get_or keys k d).items within (get_or_default keys k (get_or keys k d) d within) refl
+  all_tuples k d within = tuple_read k (get_or keys k d) (get_or keys k d).items within
+      (get_or_default keys k (get_or keys k d) d within) refl
 
   -- a step back along a link
-  module _ (at : ℕ) (some : 0 < at) (within : at < length keys) (link : Link) (is : link ≡ get_or ls at link) where
+  module _ (at : ℕ) (some : 0 < at) (within : at < length keys) (link : Link)
+      (is : link ≡ get_or ls at link) where
     link_is : link_at ls at ≡ link
     link_is =
         let size = known.size in
@@ -55,23 +66,29 @@ module _ (s : Search) (search : IsTupleSearch s) (done : ℕ) (keys : List (Smal
         let less = known.parent at some (omega arith) in
         let same = ap (λ (l : Link). l.parent) link_is in omega arith
 
-    leads : next (moves (setting s)) s.asked.now (tuple_at (items keys) link.parent) link.bit ≡ Some (tuple_at (items keys) at)
+    leads : next (moves (setting s)) s.asked.now (tuple_at (items keys) link.parent) link.bit
+        ≡ Some (tuple_at (items keys) at)
     leads =
         let size = len in
-        ap (λ (l : Link). next (moves (setting s)) s.asked.now (tuple_at (items keys) l.parent) l.bit) (sym link_is)
+        ap (λ (l : Link). next (moves (setting s)) s.asked.now (tuple_at (items keys) l.parent)
+        l.bit) (sym link_is)
         ∙ known.linked at some (omega arith)
 
     module _ (v : SmallVec ℕ) (place atom : ℕ) (read : get_or keys link.parent v ≡ v)
-        (place_is : place ≡ least (moves (setting s)) s.asked.now v.items) (atom_is : atom ≡ atom_at s.nodes.now place) where
+        (place_is : place ≡ least (moves (setting s)) s.asked.now v.items)
+        (atom_is : atom ≡ atom_at s.nodes.now place) where
       item : tuple_at (items keys) link.parent ≡ v.items
       item = let less = parent_less in item_at keys link.parent v (omega arith) read
 
       says : (least (moves (setting s)) s.asked.now v.items < s.nodes.now.atoms)
-          × ((moves (setting s)).allows (least (moves (setting s)) s.asked.now v.items) link.bit ≡ true)
+          × ((moves (setting s)).allows (least (moves (setting s)) s.asked.now v.items) link.bit
+          ≡ true)
           × (is_live (moves (setting s)) s.asked.now (tuple_at (items keys) at) ≡ true)
-          × (move_all (moves (setting s)) (least (moves (setting s)) s.asked.now v.items) link.bit s.asked.now v.items ≡ tuple_at (items keys) at)
+          × (move_all (moves (setting s)) (least (moves (setting s)) s.asked.now v.items) link.bit
+          s.asked.now v.items ≡ tuple_at (items keys) at)
       says =
-          next_is (moves (setting s)) (lim s) (in_asked (setting s)) (truths s search) s.asked.now v.items (tuple_at (items keys) at) link.bit
+          next_is (moves (setting s)) (lim s) (in_asked (setting s)) (truths s search) s.asked.now
+          v.items (tuple_at (items keys) at) link.bit
           (ap (λ ts. next (moves (setting s)) s.asked.now ts link.bit) (sym item) ∙ leads)
 
       atom_here : atom ≡ atom_at s.nodes.now (least (moves (setting s)) s.asked.now v.items)
@@ -79,62 +96,84 @@ module _ (s : Search) (search : IsTupleSearch s) (done : ℕ) (keys : List (Smal
 
       pub atom_less : atom < s.nodes.now.atoms
       atom_less =
-          let less = (order_of s.nodes.now).atom_in (least (moves (setting s)) s.asked.now v.items) says.0 in
+          let less = (order_of s.nodes.now).atom_in (least (moves (setting s)) s.asked.now v.items)
+          says.0 in
           let same = atom_here in omega arith
 
-      pub fits_back : (state new : List Bool) → new ≡ set state atom link.bit → FitsBits (moves (setting s)) state → FitsBits (moves (setting s)) new
+      pub fits_back : (state new : List Bool) → new ≡ set state atom link.bit
+          → FitsBits (moves (setting s)) state → FitsBits (moves (setting s)) new
       fits_back state new is_new fits =
-          subst (FitsBits (moves (setting s))) (sym (is_new ∙ ap (λ a. set state a link.bit) atom_here))
-          (back_fits (moves (setting s)) (lim s) (in_asked (setting s)) (truths s search) state (least (moves (setting s)) s.asked.now v.items) link.bit says.0 says.1 fits)
+          subst (FitsBits (moves (setting s)))
+          (sym (is_new ∙ ap (λ a. set state a link.bit) atom_here))
+          (back_fits (moves (setting s)) (lim s) (in_asked (setting s)) (truths s search) state
+          (least (moves (setting s)) s.asked.now v.items) link.bit says.0 says.1 fits)
 
-      pub agrees_back : (state new : List Bool) → new ≡ set state atom link.bit → FitsBits (moves (setting s)) state → agrees state (tuple_at (items keys) at)
+      pub agrees_back : (state new : List Bool) → new ≡ set state atom link.bit
+          → FitsBits (moves (setting s)) state → agrees state (tuple_at (items keys) at)
           → agrees new (tuple_at (items keys) link.parent)
       agrees_back state new is_new fits old =
           let less = parent_less in
           subst (λ ts. agrees new ts) (sym item)
           (subst (λ x. agrees x v.items) (sym (is_new ∙ ap (λ a. set state a link.bit) atom_here))
-          (back (moves (setting s)) (lim s) (in_asked (setting s)) (truths s search) state (least (moves (setting s)) s.asked.now v.items) link.bit
+          (back (moves (setting s)) (lim s) (in_asked (setting s)) (truths s search) state
+          (least (moves (setting s)) s.asked.now v.items) link.bit
           s.asked.now v.items fits.0 says.0
-          (nodes_of s v.items (subst (IsTuple s) item (tuple_here link.parent (omega arith)))) (omega arith)
+          (nodes_of s v.items (subst (IsTuple s) item (tuple_here link.parent (omega arith))))
+          (omega arith)
           (subst (λ ts. agrees state ts) (sym says.3) old)))
 
   -- at the first tuple stand the roots
-  pub suits_root : (state : List Bool) → 0 < length keys → FitsBits (moves (setting s)) state → agrees state (tuple_at (items keys) 0)
+  pub suits_root : (state : List Bool) → 0 < length keys → FitsBits (moves (setting s)) state
+      → agrees state (tuple_at (items keys) 0)
       → Suits (setting s) s.asked.now state
   suits_root state some fits old =
-      let size = len in
-      (fits, subst (λ ts. agrees state ts) (sym (root_is (is_live (moves (setting s)) s.asked.now (roots (setting s) s.asked.now)) (known.first (omega arith)))) old)
+      let size = len in (
+        fits,
+        subst (λ ts. agrees state ts) (sym
+            (root_is (is_live (moves (setting s)) s.asked.now (roots (setting s) s.asked.now))
+            (known.first (omega arith)))) old,
+      )
     where
-      root_is : (b : Bool) → cond b (Some (roots (setting s) s.asked.now)) None ≡ Some (tuple_at (items keys) 0)
+      root_is : (b : Bool) → cond b (Some (roots (setting s) s.asked.now)) None
+          ≡ Some (tuple_at (items keys) 0)
           → roots (setting s) s.asked.now ≡ tuple_at (items keys) 0
       root_is true e = cc
       root_is false e = absurd cc
 
   -- each state is in a live tuple of ends
-  pub end_agrees : (k : ℕ) (state : List Bool) → k < length keys → IsEndTuple s (tuple_at (items keys) k) → agrees state (tuple_at (items keys) k)
+  pub end_agrees : (k : ℕ) (state : List Bool) → k < length keys
+      → IsEndTuple s (tuple_at (items keys) k) → agrees state (tuple_at (items keys) k)
   end_agrees k state within end =
-      ended (moves (setting s)) (lim s) (in_asked (setting s)) (truths s search) state s.asked.now (tuple_at (items keys) k)
-      (nodes_of s (tuple_at (items keys) k) (tuple_here k within)) (omega arith) (reached_live s search (tuple_at (items keys) k) (reached_at k within))
+      ended (moves (setting s)) (lim s) (in_asked (setting s)) (truths s search) state s.asked.now
+      (tuple_at (items keys) k)
+      (nodes_of s (tuple_at (items keys) k) (tuple_here k within)) (omega arith)
+      (reached_live s search (tuple_at (items keys) k) (reached_at k within))
 
   -- where no tuple ends, no state suits the operands
-  pub no_state : length keys ≤ done → All (λ (t : SmallVec ℕ). IsEndTuple s t.items → ⊥) keys → (state : List Bool) → Suits (setting s) s.asked.now state → ⊥
+  pub no_state : length keys ≤ done → All (λ (t : SmallVec ℕ). IsEndTuple s t.items → ⊥) keys
+      → (state : List Bool) → Suits (setting s) s.asked.now state → ⊥
   no_state past none state suits =
       let size = len in
-      let found = complete_from (moves (setting s)) (lim s) (in_asked (setting s)) (truths s search) state s.asked.now (roots (setting s) s.asked.now)
+      let found = complete_from (moves (setting s)) (lim s) (in_asked (setting s)) (truths s search)
+      state s.asked.now (roots (setting s) s.asked.now)
       suits.0 (roots_nodes s search) suits.1 in
-      let there = all_there (moves (setting s)) s.asked.now (roots (setting s) s.asked.now) done (items keys) ls known (omega arith) found.0 found.1 in
+      let there = all_there (moves (setting s)) s.asked.now (roots (setting s) s.asked.now) done
+      (items keys) ls known (omega arith) found.0 found.1 in
       let below = least_below (moves (setting s)) s.asked.now found.0 in
       let end : IsEndTuple s found.0 = omega (arith, found.2) in
       let v : SmallVec ℕ = record { items = []; capacity = 0 } in
       let inside : there.0 < length keys = omega (arith, there.1) in
       let same = sym there.2 ∙ get_or_default (items keys) there.0 found.0 [] there.1
-      ∙ item_at keys there.0 (get_or keys there.0 v) inside (get_or_default keys there.0 (get_or keys there.0 v) v inside) in
+      ∙ item_at keys there.0 (get_or keys there.0 v) inside
+      (get_or_default keys there.0 (get_or keys there.0 v) v inside) in
       none there.0 v inside (subst (IsEndTuple s) same end)
 
-  pub over_budget : (budget : ℕ) → budget < length keys → TuplesPass (moves (setting s)) s.asked.now (roots (setting s) s.asked.now) budget
+  pub over_budget : (budget : ℕ) → budget < length keys
+      → TuplesPass (moves (setting s)) s.asked.now (roots (setting s) s.asked.now) budget
   over_budget budget over =
       let size = len in
-      passes (moves (setting s)) s.asked.now (roots (setting s) s.asked.now) done budget (items keys) ls known (omega arith)
+      passes (moves (setting s)) s.asked.now (roots (setting s) s.asked.now) done budget
+      (items keys) ls known (omega arith)
 
   pub not_over : (budget : ℕ) → length keys ≤ budget → (budget < length keys) ⊎ (length keys ≤ done)
       → TuplesPass (moves (setting s)) s.asked.now (roots (setting s) s.asked.now) budget → ⊥
@@ -143,8 +182,10 @@ module _ (s : Search) (search : IsTupleSearch s) (done : ℕ) (keys : List (Smal
       elim either [
         | inl over ↦ absurd (omega arith)
         | inr past ↦
-            within_budget (moves (setting s)) s.asked.now (roots (setting s) s.asked.now) done budget (items keys) ls known (omega arith) (omega arith) pass
+            within_budget (moves (setting s)) s.asked.now (roots (setting s) s.asked.now) done
+            budget (items keys) ls known (omega arith) (omega arith) pass
       ]
 
-  pub is_past : (budget : ℕ) → length keys ≤ budget → (budget < length keys) ⊎ (length keys ≤ done) → length keys ≤ done
+  pub is_past : (budget : ℕ) → length keys ≤ budget → (budget < length keys) ⊎ (length keys ≤ done)
+      → length keys ≤ done
   is_past budget few either = elim either [ inl over ↦ absurd (omega arith) | inr past ↦ past ]

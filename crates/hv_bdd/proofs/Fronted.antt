@@ -1,7 +1,10 @@
 -- What stays of the literals of a path where its stack turns.
-use Rattle.std.proofs.Common.{◌≡◌, ℕ, zero, suc, ◌<◌, ◌≤◌, ◌+◌, ◌-◌, ◌∙◌, Bool, true, false, not, List, [], ◌∷◌, ◌++◌, get_or, length, take, refl, sym, ap, arith, inl, inr, subst}
+use Rattle.std.proofs.Common.{◌≡◌, ℕ, zero, suc, ◌<◌, ◌≤◌, ◌+◌, ◌-◌, ◌∙◌, Bool, true, false, not}
+use Rattle.std.proofs.Common.{List, [], ◌∷◌, ◌++◌, get_or, length, take, refl, sym, ap, arith, inl}
+use Rattle.std.proofs.Common.{inr, subst}
 use Rattle.std.proofs.lemmas.Bool.{cases_lt}
-use Rattle.std.proofs.lemmas.List.{length-append, length-take, length-take-le, take-append-le, take_all}
+use Rattle.std.proofs.lemmas.List.{length-append, length-take, length-take-le, take-append-le}
+use Rattle.std.proofs.lemmas.List.{take_all}
 use Rattle.std.proofs.lemmas.List.Elements.{All-nil}
 use Rattle.std.proofs.Math.Bool.{beq}
 use Rattle.hv_sets.specs.Cubes.{SpeakBelow}
@@ -141,7 +144,8 @@ first_walk list node end cursor literals within less new none = record {
 -- the paths as cubes are the set or its complement
 pub inside_paths : (list : NodeList) (node : ℕ) → IsReduced list → IsNode list node
     → (s : List Bool) → in_cubes (paths list 1 node) s ≡ in_node list node s
-inside_paths list node reduced within s = in_paths list 1 reduced (omega arith) s node within ∙ beq_true (in_node list node s)
+inside_paths list node reduced within s = in_paths list 1 reduced (omega arith) s node within
+    ∙ beq_true (in_node list node s)
   where
     beq_true : (b : Bool) → beq b true ≡ b
     beq_true true = refl
@@ -149,7 +153,8 @@ inside_paths list node reduced within s = in_paths list 1 reduced (omega arith) 
 
 pub outside_paths : (list : NodeList) (node : ℕ) → IsReduced list → IsNode list node
     → (s : List Bool) → in_cubes (paths list 0 node) s ≡ not (in_node list node s)
-outside_paths list node reduced within s = in_paths list 0 reduced (omega arith) s node within ∙ beq_false (in_node list node s)
+outside_paths list node reduced within s = in_paths list 0 reduced (omega arith) s node within
+    ∙ beq_false (in_node list node s)
   where
     beq_false : (b : Bool) → beq b false ≡ not b
     beq_false true = refl

@@ -1,7 +1,10 @@
 -- What lists of atoms and of literals say as marks, and as a state.
-use Rattle.std.proofs.Common.{◌≡◌, ℕ, zero, suc, ◌<◌, ◌≤◌, ◌+◌, ◌∙◌, Bool, true, false, List, [], ◌∷◌, Option, None, Some, cond, get_or, length, set, refl, sym, ap, arith, inl, inr}
+use Rattle.std.proofs.Common.{◌≡◌, ℕ, zero, suc, ◌<◌, ◌≤◌, ◌+◌, ◌∙◌, Bool, true, false, List, []}
+use Rattle.std.proofs.Common.{◌∷◌, Option, None, Some, cond, get_or, length, set, refl, sym, ap}
+use Rattle.std.proofs.Common.{arith, inl, inr}
 use Rattle.std.proofs.lemmas.Bool.{cases_eq, cases_lt}
-use Rattle.std.proofs.lemmas.List.{get_or-map, get_or-set_other, get_or-set_same, get_or_past, get_or_default, length-map, length-set, same_lists}
+use Rattle.std.proofs.lemmas.List.{get_or-map, get_or-set_other, get_or-set_same, get_or_past}
+use Rattle.std.proofs.lemmas.List.{get_or_default, length-map, length-set, same_lists}
 use Rattle.std.proofs.lemmas.List.FromFn.{get_or-map-range_with_len, length-map-range_with_len}
 use Rattle.std.specs.Prelude.{IfSome}
 use Rattle.std.specs.List.{Contains}
@@ -42,7 +45,8 @@ pub length-literals : (ls : List Literal) (marks : List (Option Bool))
     → length (mark_literals ls marks) ≡ length marks
 length-literals [] marks = refl
 length-literals (l ∷ ls) marks =
-    length-literals ls (set marks l.atom (Some l.positive)) ∙ length-set marks l.atom (Some l.positive)
+    length-literals ls (set marks l.atom (Some l.positive))
+    ∙ length-set marks l.atom (Some l.positive)
 
 -- literals of other atoms leave a mark alone
 pub unsigned : (ls : List Literal) (marks : List (Option Bool)) (a : ℕ)
@@ -50,7 +54,8 @@ pub unsigned : (ls : List Literal) (marks : List (Option Bool)) (a : ℕ)
     → bit_mark_of (mark_literals ls marks) a ≡ bit_mark_of marks a
 unsigned [] marks a none = refl
 unsigned (l ∷ ls) marks a none =
-    unsigned ls (set marks l.atom (Some l.positive)) a (λ k less same. none (suc k) (omega arith) same)
+    unsigned ls (set marks l.atom (Some l.positive)) a
+    (λ k less same. none (suc k) (omega arith) same)
     ∙ get_or-set_other marks l.atom a (Some l.positive) None (λ e. none 0 (omega arith) (sym e))
 
 -- the literal of an atom gives its sign
@@ -90,8 +95,10 @@ has_held n held p below =
       | inr upto ↦ past upto (names_atom held p) refl
     ]
   where
-    past : n ≤ p → (b : Bool) → names_atom held p ≡ b → has_atom (state_of n held) p ≡ names_atom held p
-    past upto false e = get_or_past (state_of n held) p false (let size = length-state_of n held in omega arith) ∙ sym e
+    past : n ≤ p → (b : Bool) → names_atom held p ≡ b
+        → has_atom (state_of n held) p ≡ names_atom held p
+    past upto false e = get_or_past (state_of n held) p false
+        (let size = length-state_of n held in omega arith) ∙ sym e
     past upto true e =
         let c = (names_atom-Decides held p).0 e in
         let less = below c.0 p c.1 in
@@ -134,7 +141,8 @@ none_signed ls a place rises first none k inside here =
       | inr upto ↦ elim (cases_eq k place) [
         | inl same ↦ none (omega arith) (ap (λ n. (literal_at ls n).atom) (sym same) ∙ here)
         | inr other ↦
-            let at_place = get_or-map (λ (l : Literal). l.atom) ls place d 0 (omega (arith, upto, other)) in
+            let at_place = get_or-map (λ (l : Literal). l.atom) ls place d 0
+            (omega (arith, upto, other)) in
             let from = first.2 place (omega arith) (omega (arith, upto, other)) in
             let later = rising ls rises place k (omega (arith, upto, other)) inside in
             omega arith
@@ -145,7 +153,8 @@ none_signed ls a place rises first none k inside here =
 pub is_named : (held : List ℕ) (p : ℕ) (b : Bool) → (b ≡ true → Contains held p)
     → (Contains held p → b ≡ true) → b ≡ names_atom held p
 is_named held p b there back =
-    same_from_decides {P = Contains held p} b (names_atom held p) (there, back) (names_atom-Decides held p)
+    same_from_decides {P = Contains held p} b (names_atom held p) (there, back)
+    (names_atom-Decides held p)
 
 -- sets that agree have the same next atom
 pub next_agrees : (f g : ℕ → Bool) (from : ℕ) (next : Option ℕ) → ((p : ℕ) → f p ≡ g p)

@@ -1,14 +1,17 @@
 -- Marks: those of an action, and a state with the marked bits.
-use Rattle.std.proofs.Common.{◌≡◌, ℕ, zero, suc, ◌<◌, ◌+◌, ◌∙◌, ◌||◌, ◌&&◌, Bool, true, false, not, List, [], ◌∷◌, Option, None, Some, cond, length, refl, sym, ap, arith}
+use Rattle.std.proofs.Common.{◌≡◌, ℕ, zero, suc, ◌<◌, ◌+◌, ◌∙◌, ◌||◌, ◌&&◌, Bool, true, false, not}
+use Rattle.std.proofs.Common.{List, [], ◌∷◌, Option, None, Some, cond, length, refl, sym, ap, arith}
 use Rattle.std.proofs.lemmas.List.{get_or-replicate, length-replicate}
 use Rattle.std.proofs.lemmas.List.FromFn.{get_or-map-range_with_len, length-map-range_with_len}
 use Rattle.hv_task.specs.declared.action.Action.{Action}
 use Rattle.hv_task.specs.State.{has_atom, names_atom, successor}
 use Rattle.hv_task.proofs.Places.{has_atom-successor, length-successor, same_state}
 use Rattle.hv_bdd.specs.Working.Graphs.{with_marks}
-use Rattle.hv_bdd.specs.Live.{changed_at, changed_by, bit_mark_of, needed_at, needed_by, no_marks, or_else}
+use Rattle.hv_bdd.specs.Live.{changed_at, changed_by, bit_mark_of, needed_at, needed_by, no_marks}
+use Rattle.hv_bdd.specs.Live.{or_else}
 
-pub length-over : (marks : List (Option Bool)) (s : List Bool) → length (with_marks marks s) ≡ length s
+pub length-over : (marks : List (Option Bool)) (s : List Bool)
+    → length (with_marks marks s) ≡ length s
 length-over marks [] = refl
 length-over [] (b ∷ s) = refl
 length-over (m ∷ marks) (b ∷ s) = ap suc (length-over marks s)
@@ -34,19 +37,25 @@ pub length-changed_by : (n : ℕ) (action : Option Action) → length (changed_b
 length-changed_by n None = length-no_marks n
 length-changed_by n (Some action) = length-map-range_with_len (changed_at action) 0 n
 
-pub mark_of-needed : (n p : ℕ) (action : Action) → p < n → bit_mark_of (needed_by n (Some action)) p ≡ needed_at action p
-mark_of-needed n p action less = get_or-map-range_with_len (needed_at action) 0 n p p None less (let f : 0 + p ≡ p = omega arith in f)
+pub mark_of-needed : (n p : ℕ) (action : Action) → p < n
+    → bit_mark_of (needed_by n (Some action)) p ≡ needed_at action p
+mark_of-needed n p action less = get_or-map-range_with_len (needed_at action) 0 n p p None less
+    (let f : 0 + p ≡ p = omega arith in f)
 
-pub mark_of-changed : (n p : ℕ) (action : Action) → p < n → bit_mark_of (changed_by n (Some action)) p ≡ changed_at action p
-mark_of-changed n p action less = get_or-map-range_with_len (changed_at action) 0 n p p None less (let f : 0 + p ≡ p = omega arith in f)
+pub mark_of-changed : (n p : ℕ) (action : Action) → p < n
+    → bit_mark_of (changed_by n (Some action)) p ≡ changed_at action p
+mark_of-changed n p action less = get_or-map-range_with_len (changed_at action) 0 n p p None less
+    (let f : 0 + p ≡ p = omega arith in f)
 
-effect : (a d h : Bool) → or_else (cond a (Some true) (cond d (Some false) None)) h ≡ (a || (not d && h))
+effect : (a d h : Bool) → or_else (cond a (Some true) (cond d (Some false) None)) h
+    ≡ (a || (not d && h))
 effect true d h = refl
 effect false true h = refl
 effect false false h = refl
 
 -- a state with the marks of an action is its successor
-pub over_action : (n : ℕ) (action : Action) (s : List Bool) → length s ≡ n → with_marks (changed_by n (Some action)) s ≡ successor action s
+pub over_action : (n : ℕ) (action : Action) (s : List Bool) → length s ≡ n
+    → with_marks (changed_by n (Some action)) s ≡ successor action s
 over_action n action s size =
     same_state (with_marks (changed_by n (Some action)) s) (successor action s)
     (length-over (changed_by n (Some action)) s ∙ sym (length-successor action s))
@@ -62,4 +71,5 @@ over_none n s size =
     same_state (with_marks (no_marks n) s) s (length-over (no_marks n) s)
     (λ p less.
     let len = length-over (no_marks n) s in
-    has_atom-over (no_marks n) s p (omega arith) ∙ ap (λ m. or_else m (has_atom s p)) (mark_of-no_marks n p (omega arith)))
+    has_atom-over (no_marks n) s p (omega arith)
+    ∙ ap (λ m. or_else m (has_atom s p)) (mark_of-no_marks n p (omega arith)))

@@ -1,6 +1,7 @@
 -- One answer to the pieces of a node file: a list and a fault exclude each other, the list is one,
 -- and the first fault is one.
-use Rattle.std.proofs.Common.{◌≡◌, ℕ, ◌+◌, ◌<◌, ◌^◌, Option, None, Some, List, [], ◌∷◌, ◌++◌, inl, inr, length, map, refl, sym, ◌∙◌, ap, subst, arith}
+use Rattle.std.proofs.Common.{◌≡◌, ℕ, ◌+◌, ◌<◌, ◌^◌, Option, None, Some, List, [], ◌∷◌, ◌++◌, inl}
+use Rattle.std.proofs.Common.{inr, length, map, refl, sym, ◌∙◌, ap, subst, arith}
 use Rattle.std.specs.Prelude.{codes}
 use Rattle.std.proofs.lemmas.Fmt.{decimal_injective}
 use Rattle.std.proofs.lemmas.List.{append-nil, append_cancel_left, length-append}
@@ -13,7 +14,9 @@ use Rattle.hv_bdd.specs.declared.fault.NodesFault.TheVariants as F
 use Rattle.hv_bdd.specs.declared.node.Node.{Node}
 use Rattle.hv_bdd.specs.Building.{fault_of}
 use Rattle.hv_bdd.specs.Nodes.{NodeList}
-use Rattle.hv_bdd.specs.NodeText.{AreTextOf, Beginning, FailsLine, IsFirstFault, IsLegal, LacksForm, PassesLimit, PassesNext, at_header, at_node, header_line, lines_before, list_over, node_line}
+use Rattle.hv_bdd.specs.NodeText.{AreTextOf, Beginning, FailsLine, IsFirstFault, IsLegal, LacksForm}
+use Rattle.hv_bdd.specs.NodeText.{PassesLimit, PassesNext, at_header, at_node, header_line}
+use Rattle.hv_bdd.specs.NodeText.{lines_before, list_over, node_line}
 use Rattle.hv_bdd.specs.Reduced.{IsReduced}
 use Rattle.hv_bdd.proofs.Prefixed.{are_short, next_good, next_node_of, same_nodes}
 use Rattle.hv_bdd.proofs.Tripled.{one_triple}

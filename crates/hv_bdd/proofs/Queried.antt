@@ -1,5 +1,6 @@
 -- Why the search through live tuples answers a query.
-use Rattle.std.proofs.Common.{◌≡◌, ℕ, ◌<◌, ◌∙◌, Bool, true, false, List, Result, Ok, Err, IfOk, get_or, length, map, refl, sym, ap, arith, subst}
+use Rattle.std.proofs.Common.{◌≡◌, ℕ, ◌<◌, ◌∙◌, Bool, true, false, List, Result, Ok, Err, IfOk}
+use Rattle.std.proofs.Common.{get_or, length, map, refl, sym, ap, arith, subst}
 use Rattle.std.proofs.lemmas.List.Elements.{All-append, All-map}
 use Rattle.std.specs.List.{All}
 use Rattle.std.specs.declared.alloc.AllocError.{AllocError}

@@ -42,5 +42,6 @@ any_listed nodes node false listed absent = by (list_any (same_node node) nodes)
         let found = Any-from_list_any (same_node node) nodes e in
         let d : Node = record { atom = 0; low = 0; high = 0 } in
         let there : listed_at nodes found.0 ≡ node =
-        get_or_default nodes found.0 d found.1 found.2 ∙ (found.3 ∙ sym (one_node node found.1 found.4)) in
+        get_or_default nodes found.0 d found.1 found.2
+        ∙ (found.3 ∙ sym (one_node node found.1 found.4)) in
         absurd (let none = absent refl found.0 found.2 there in omega arith)

@@ -1,11 +1,14 @@
 -- The lines of a node file: a line with three decimals has three fields, and these are the
 -- decimals.
-use Rattle.std.proofs.Common.{◌≡◌, ℕ, ◌<◌, ◌^◌, ◌∙◌, ◌++◌, List, [], ◌∷◌, Option, None, Some, MatchOption, eqb, get_or, length, refl, sym, ap, arith, decimal, true, false}
+use Rattle.std.proofs.Common.{◌≡◌, ℕ, ◌<◌, ◌^◌, ◌∙◌, ◌++◌, List, [], ◌∷◌, Option, None, Some}
+use Rattle.std.proofs.Common.{MatchOption, eqb, get_or, length, refl, sym, ap, arith, decimal, true}
+use Rattle.std.proofs.Common.{false}
 use Rattle.std.specs.List.{All, join_with_byte}
 use Rattle.std.specs.Option.{is_some}
 use Rattle.std.proofs.lemmas.Bool.{ne_eqb}
 use Rattle.std.proofs.lemmas.Grind.{get_or_default_zero}
-use Rattle.std.proofs.lemmas.List.Splits.{join_with_byte-slice_split, length-slice_split, slice_split_at, slice_split_none}
+use Rattle.std.proofs.lemmas.List.Splits.{join_with_byte-slice_split, length-slice_split}
+use Rattle.std.proofs.lemmas.List.Splits.{slice_split_at, slice_split_none}
 use Rattle.hv_bytes.specs.Decimals.{IsDecimal}
 use Rattle.hv_bytes.specs.Fields.{cut_fields}
 use Rattle.hv_bytes.proofs.DecimalTexts.{IsDecimal-same, decimal_digit_at}

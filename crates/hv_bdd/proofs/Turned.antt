@@ -1,5 +1,7 @@
 -- What the loop that reads a node file does in one turn, and what it answers.
-use Rattle.std.proofs.Common.{◌≡◌, ℕ, ◌+◌, ◌<◌, List, [], ◌∷◌, ◌++◌, Option, None, Some, Result, Ok, Err, IfSome, length, map, refl, sym, ◌∙◌, ap, subst, arith, append-nil, append_assoc, inl, inr}
+use Rattle.std.proofs.Common.{◌≡◌, ℕ, ◌+◌, ◌<◌, List, [], ◌∷◌, ◌++◌, Option, None, Some, Result, Ok}
+use Rattle.std.proofs.Common.{Err, IfSome, length, map, refl, sym, ◌∙◌, ap, subst, arith}
+use Rattle.std.proofs.Common.{append-nil, append_assoc, inl, inr}
 use Rattle.std.specs.Io.KnownBytes.{IsAtEnd}
 use Rattle.std.proofs.lemmas.List.{length_push, map-append, map_push}
 use Rattle.hv_bytes.specs.Files.{Names, Opens}
@@ -20,8 +22,11 @@ use Rattle.hv_bdd.specs.declared.fault.NodesFault.TheVariants as F
 use Rattle.hv_bdd.specs.declared.reader.Reader.{Reader}
 use Rattle.hv_bdd.specs.Building.{fault_of}
 use Rattle.hv_bdd.specs.Nodes.{NodeList}
-use Rattle.hv_bdd.specs.NodeText.{AreLegal, Beginning, EndsEarly, IsLegal, IsReadFrom, IsTextOf, IsTriple, at_node, header_line, lines_before, list_over, node_line}
-use Rattle.hv_bdd.specs.Working.Reading.{AreBegun, Ends, Feeds, IsReading, Stops, StopsAt, begun, line_fault_at, read_by}
+use Rattle.hv_bdd.specs.NodeText.{AreLegal, Beginning, EndsEarly, IsLegal, IsReadFrom, IsTextOf}
+use Rattle.hv_bdd.specs.NodeText.{IsTriple, at_node, header_line, lines_before, list_over}
+use Rattle.hv_bdd.specs.NodeText.{node_line}
+use Rattle.hv_bdd.specs.Working.Reading.{AreBegun, Ends, Feeds, IsReading, Stops, StopsAt, begun}
+use Rattle.hv_bdd.specs.Working.Reading.{line_fault_at, read_by}
 use Rattle.hv_bdd.specs.Working.Reading.{node_lines_of as nodes_of}
 use Rattle.hv_bdd.proofs.Built.{passes_from, reduced_more}
 
@@ -92,7 +97,8 @@ whole_text atoms pieces count nodes legal whole cut = record {
 -- of a known file the lines that were given come first
 gave_cut : (limits : Limits) (file : Option (List ℕ)) (given : List (List ℕ))
     (coming : Option (List ℕ)) (earlier : ℕ) → GaveLines limits file given coming earlier
-    → IfSome file (λ bytes. (rest : List Piece) × (pieces_of limits bytes ≡ as_pieces given ++ rest))
+    → IfSome file (λ bytes. (rest : List Piece)
+    × (pieces_of limits bytes ≡ as_pieces given ++ rest))
 gave_cut limits None given coming earlier gave = tt
 gave_cut limits (Some bytes) given None earlier gave = absurd gave
 gave_cut limits (Some bytes) given (Some coming) earlier gave =
@@ -115,20 +121,22 @@ module _ (limits : Limits) (atoms : ℕ) where
   stop_answer : (bytes : List ℕ) (lines : List (List ℕ)) (rest : List Piece) (fault : NodesFault)
       → pieces_of limits bytes ≡ as_pieces lines ++ rest → StopsAt atoms lines fault
       → IsReadFrom limits atoms bytes (Err fault)
-  stop_answer bytes lines rest (F.Place number kind) cut (front, line, more, legal, split, at, fails) = (
-    front,
-    Some line ∷ (as_pieces more ++ rest),
-    legal,
-    stop_cut bytes lines (lines_before front) more line rest number cut split at,
-    fails,
-  )
-  stop_answer bytes lines rest (F.Limit number limit) cut (front, line, more, legal, split, at, passes) = (
-    front,
-    Some line ∷ (as_pieces more ++ rest),
-    legal,
-    stop_cut bytes lines (lines_before front) more line rest number cut split at,
-    passes,
-  )
+  stop_answer bytes lines rest (F.Place number kind) cut
+      (front, line, more, legal, split, at, fails) = (
+        front,
+        Some line ∷ (as_pieces more ++ rest),
+        legal,
+        stop_cut bytes lines (lines_before front) more line rest number cut split at,
+        fails,
+      )
+  stop_answer bytes lines rest (F.Limit number limit) cut
+      (front, line, more, legal, split, at, passes) = (
+        front,
+        Some line ∷ (as_pieces more ++ rest),
+        legal,
+        stop_cut bytes lines (lines_before front) more line rest number cut split at,
+        passes,
+      )
   stop_answer bytes lines rest F.ReadFault cut stops = tt
   stop_answer bytes lines rest F.Memory cut stops = tt
 
@@ -149,7 +157,8 @@ module _ (limits : Limits) (atoms : ℕ) (file : Option (List ℕ)) (reader : Re
         ready = t.0;
         counted = omega arith;
         gave = subst (λ ls. GaveLines limits file ls rest after) (sym t.2)
-            (gave_more limits file coming rest (read_by reader) line earlier after f.gave first passed
+            (gave_more limits file coming rest (read_by reader) line earlier after f.gave first
+            passed
             fits);
       }
 

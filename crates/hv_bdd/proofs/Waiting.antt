@@ -1,5 +1,7 @@
 -- Nodes that wait for their tests: what the reader says of them and of the lines behind them.
-use Rattle.std.proofs.Common.{◌≡◌, ℕ, ◌<◌, ◌≤◌, ◌+◌, ◌∙◌, List, [], ◌∷◌, ◌++◌, Option, None, Some, Result, Ok, Err, append-nil, append_assoc, length, map, refl, sym, ap, ap₂, arith, inl, inr, subst}
+use Rattle.std.proofs.Common.{◌≡◌, ℕ, ◌<◌, ◌≤◌, ◌+◌, ◌∙◌, List, [], ◌∷◌, ◌++◌, Option, None, Some}
+use Rattle.std.proofs.Common.{Result, Ok, Err, append-nil, append_assoc, length, map, refl, sym, ap}
+use Rattle.std.proofs.Common.{ap₂, arith, inl, inr, subst}
 use Rattle.std.proofs.lemmas.List.{length-append, length-map, map_push}
 use Rattle.std.proofs.lemmas.List.Elements.{All-nil, All-push}
 use Rattle.std.specs.List.{All}
@@ -17,8 +19,11 @@ use Rattle.hv_bdd.specs.Building.{fault_of}
 use Rattle.hv_bdd.specs.Working.Building.{as_node}
 use Rattle.hv_bdd.specs.Working.Chains.{IsChained}
 use Rattle.hv_bdd.specs.Nodes.{NodeList}
-use Rattle.hv_bdd.specs.NodeText.{AreLegal, FailsLine, IsHeader, IsLegal, IsTriple, at_header, at_node, header_line, lines_before, list_over, node_line}
-use Rattle.hv_bdd.specs.Working.Reading.{AddsNodes, AddsAll, AreBegun, Ends, Feeds, IsReading, IsShortTriple, Settles, Stops, StopsAt, begun, begun_by, line_fault_at, node_lines_of, read_by}
+use Rattle.hv_bdd.specs.NodeText.{AreLegal, FailsLine, IsHeader, IsLegal, IsTriple, at_header}
+use Rattle.hv_bdd.specs.NodeText.{at_node, header_line, lines_before, list_over, node_line}
+use Rattle.hv_bdd.specs.Working.Reading.{AddsNodes, AddsAll, AreBegun, Ends, Feeds, IsReading}
+use Rattle.hv_bdd.specs.Working.Reading.{IsShortTriple, Settles, Stops, StopsAt, begun, begun_by}
+use Rattle.hv_bdd.specs.Working.Reading.{line_fault_at, node_lines_of, read_by}
 use Rattle.hv_bdd.specs.Reduced.{IsReduced}
 use Rattle.hv_bdd.proofs.Turned.{more_legal, more_lines}
 
@@ -52,13 +57,15 @@ pub size_before : (count : ℕ) (nodes : List Node)
 size_before count nodes = let size = length-map nodes node_line in omega arith
 
 module _ (atoms count : ℕ) (nodes : List Node) (triple : Triple) (rest : List Triple)
-    (legal : AreLegal atoms count nodes) (less : length nodes < count) (short : IsShortTriple triple) where
+    (legal : AreLegal atoms count nodes) (less : length nodes < count)
+    (short : IsShortTriple triple) where
   -- a node that waits and has no fault is listed
   pub listed_legal : fault_of (list_over atoms nodes) (as_node triple) ≡ None
       → AreLegal atoms count (nodes ++ as_node triple ∷ [])
   listed_legal good = more_legal atoms count nodes (as_node triple) legal (λ e. omega arith) good
 
-  pub listed_lines : lines_before (at_node count (nodes ++ as_node triple ∷ [])) ++ node_lines_of rest
+  pub listed_lines : lines_before (at_node count (nodes ++ as_node triple ∷ []))
+      ++ node_lines_of rest
       ≡ lines_before (at_node count nodes) ++ node_lines_of (triple ∷ rest)
   listed_lines =
       ap (λ ls. ls ++ node_lines_of rest)
@@ -139,7 +146,8 @@ module _ (count : ℕ) (r : Reader) (is : r.count ≡ Some count) (ready : IsRea
 
   -- a fault among them is one of the lines that were read
   pub unsettled : (new : NodeList) (fault : NodesFault)
-      → AddsNodes (Err fault) count r.list r.waiting.items new → StopsAt r.list.atoms (read_by r) fault
+      → AddsNodes (Err fault) count r.list r.waiting.items new
+      → StopsAt r.list.atoms (read_by r) fault
   unsettled new fault adds =
       subst (λ ls. StopsAt r.list.atoms ls fault) (sym read_is) adds
 
@@ -166,15 +174,18 @@ module _ (count : ℕ) (r : Reader) (is : r.count ≡ Some count) (ready : IsRea
               let one = one_of other (sym is ∙ (sym same ∙ e)) in
               let longer = ap length more in
               let nodes = ap (λ (l : NodeList). length l.nodes) list in omega (arith, open_one);
-          short = subst (All IsShortTriple) (sym more) (All-push IsShortTriple r.waiting.items triple ready.short short);
+          short = subst (All IsShortTriple) (sym more)
+              (All-push IsShortTriple r.waiting.items triple ready.short short);
           seen = subst (λ (l : NodeList). IsChained l.nodes new.seen) (sym list)
               (subst (IsChained r.list.nodes) (sym seen) ready.seen);
         },
         ap (λ (l : NodeList). l.atoms) list,
         ap (λ o. lines_before (begun o new.list.nodes) ++ node_lines_of new.waiting.items) same
-            ∙ (ap (λ (l : NodeList). lines_before (begun r.count l.nodes) ++ node_lines_of new.waiting.items) list
+            ∙ (ap (λ (l : NodeList). lines_before (begun r.count l.nodes)
+            ++ node_lines_of new.waiting.items) list
             ∙ (ap (λ w. lines_before (begun_by r) ++ w) (lines_more more)
-            ∙ sym (append_assoc (lines_before (begun_by r)) (node_lines_of r.waiting.items) (line ∷ [])))),
+            ∙ sym (append_assoc (lines_before (begun_by r)) (node_lines_of r.waiting.items)
+            (line ∷ [])))),
       )
     where
       no_count : ◌≡◌ {A = Option ℕ} (Some count) None → ⊥
@@ -243,7 +254,8 @@ module _ (r : Reader) (none : r.count ≡ None) (ready : IsReading r) where
         },
         ap (λ (l : NodeList). l.atoms) list,
         ap (λ o. lines_before (begun o new.list.nodes) ++ node_lines_of new.waiting.items) some
-            ∙ (ap₂ (λ (l : NodeList) w. lines_before (at_node count l.nodes) ++ node_lines_of w) list (waiting ∙ empty)
+            ∙ (ap₂ (λ (l : NodeList) w. lines_before (at_node count l.nodes) ++ node_lines_of w)
+            list (waiting ∙ empty)
             ∙ (ap (λ ns. (header_line count ∷ map node_line ns) ++ []) nodes
             ∙ (ap (λ l. l ∷ []) (sym is.spelled) ∙ ap (λ ls. ls ++ line ∷ []) (sym read_none)))),
       )
@@ -253,12 +265,24 @@ module _ (r : Reader) (none : r.count ≡ None) (ready : IsReading r) where
 
   pub header_lacks : Ends (Err (F.Place 1 K.Header)) r
   header_lacks =
-      inr (K.Header, at_header, (tt, read_none), ap (λ (ls : List (List ℕ)). F.Place (length ls + 1) K.Header) (sym read_none), refl)
+      inr (
+        K.Header,
+        at_header,
+        (tt, read_none),
+        ap
+            (λ (ls : List (List ℕ)). F.Place (length ls + 1) K.Header) (sym read_none),
+        refl,
+      )
 
   pub header_stops : (fault : LineFault) (answer : NodesFault) → answer ≡ line_fault_at 1 fault
       → Stops fault r answer
   header_stops fault answer is =
-      inr (at_header, (tt, read_none), is ∙ ap (λ (ls : List (List ℕ)). line_fault_at (length ls + 1) fault) (sym read_none))
+      inr (
+        at_header,
+        (tt, read_none),
+        is ∙ ap
+            (λ (ls : List (List ℕ)). line_fault_at (length ls + 1) fault) (sym read_none),
+      )
 
 -- The end behind the nodes.
 module _ (count : ℕ) (r : Reader) (is : r.count ≡ Some count) (ready : IsReading r) (new : Reader)
@@ -288,13 +312,25 @@ module _ (count : ℕ) (r : Reader) (is : r.count ≡ Some count) (ready : IsRea
   pub end_lacks : (number : ℕ) → number ≡ length new.list.nodes + 2 → length new.list.nodes < count
       → Ends (Err (F.Place number K.Node)) r
   end_lacks number at less =
-      inr (K.Node, at_node count new.list.nodes, begun_all, ap (λ n. F.Place n K.Node) (number_is number at), (refl, less))
+      inr (
+        K.Node,
+        at_node count new.list.nodes,
+        begun_all,
+        ap
+            (λ n. F.Place n K.Node) (number_is number at),
+        (refl, less),
+      )
 
   pub stops_behind : (fault : LineFault) (answer : NodesFault) (number : ℕ)
       → number ≡ length new.list.nodes + 2 → answer ≡ line_fault_at number fault
       → Stops fault r answer
   stops_behind fault answer number at e =
-      inr (at_node count new.list.nodes, begun_all, e ∙ ap (λ n. line_fault_at n fault) (number_is number at))
+      inr (
+        at_node count new.list.nodes,
+        begun_all,
+        e
+            ∙ ap (λ n. line_fault_at n fault) (number_is number at),
+      )
 
 -- only a failing shelf is told as one
 pub only_failed : (fault : LineFault) (number : ℕ) → line_fault_at number fault ≡ F.ReadFault

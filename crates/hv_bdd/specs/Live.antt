@@ -1,5 +1,6 @@
 -- Live tuples: what the cost of a query over diagrams counts.
-use Rattle.std.specs.Prelude.{◌+◌, ◌-◌, ◌++◌, ℕ, zero, suc, Bool, true, false, List, Option, None, Some, cond, map, nat_lt, replicate, slice_index_or}
+use Rattle.std.specs.Prelude.{◌+◌, ◌-◌, ◌++◌, ℕ, zero, suc, Bool, true, false, List, Option, None}
+use Rattle.std.specs.Prelude.{Some, cond, map, nat_lt, replicate, slice_index_or}
 use Rattle.std.proofs.Math.Bool.{beq}
 use Rattle.hv_task.specs.declared.action.Action.{Action}
 use Rattle.std.specs.List.{range_with_len}

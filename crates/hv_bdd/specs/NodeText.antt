@@ -1,6 +1,7 @@
 -- Node files: which pieces of a file are the text of a list of nodes, and otherwise their first
 -- fault.
-use Rattle.std.specs.Prelude.{◌≡◌, ◌<◌, ◌≤◌, ◌^◌, ◌⊎◌, ◌++◌, ℕ, List, [], ◌∷◌, None, Some, Result, Ok, Err, codes, decimal, length, map}
+use Rattle.std.specs.Prelude.{◌≡◌, ◌<◌, ◌≤◌, ◌^◌, ◌⊎◌, ◌++◌, ℕ, List, [], ◌∷◌, None, Some, Result}
+use Rattle.std.specs.Prelude.{Ok, Err, codes, decimal, length, map}
 use Rattle.hv_bytes.specs.declared.cutting.Limits.{Limits}
 use Rattle.hv_bytes.specs.Pieces.{ComesNext, Piece, as_pieces, pieces_of}
 use Rattle.hv_bdd.specs.declared.fault.NodeKind.{NodeKind}

@@ -1,5 +1,6 @@
 -- The nodes of decision diagrams, and when a state is in one.
-use Rattle.std.specs.Prelude.{ℕ, zero, suc, ◌+◌, ◌-◌, ◌<◌, Bool, List, [], Option, Some, None, cond, length, nat_eq, nat_lt, slice_get}
+use Rattle.std.specs.Prelude.{ℕ, zero, suc, ◌+◌, ◌-◌, ◌<◌, Bool, List, [], Option, Some, None, cond}
+use Rattle.std.specs.Prelude.{length, nat_eq, nat_lt, slice_get}
 use Rattle.hv_task.specs.State.{has_atom}
 use Rattle.hv_bdd.specs.declared.node.Node.{Node}
 

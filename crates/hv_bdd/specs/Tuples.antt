@@ -1,5 +1,6 @@
 -- Tuples: a node for each of several operands, moved together by the bits of a state.
-use Rattle.std.specs.Prelude.{◌≡◌, ◌<◌, ◌+◌, ◌&&◌, ℕ, Bool, true, List, [], ◌∷◌, Option, None, Some, cond, length, min, nat_eq, nat_lt, not, slice_index_or}
+use Rattle.std.specs.Prelude.{◌≡◌, ◌<◌, ◌+◌, ◌&&◌, ℕ, Bool, true, List, [], ◌∷◌, Option, None, Some}
+use Rattle.std.specs.Prelude.{cond, length, min, nat_eq, nat_lt, not, slice_index_or}
 use Rattle.std.specs.List.{All}
 
 -- how operands move: by the bits of a state, place by place

@@ -1,9 +1,11 @@
 //! Nodes of a list, found by their numbers.
 
-ghost use Rattle.std.specs.Prelude.{◌≡◌, ◌<◌, ◌≤◌, ◌-◌, ◌+◌, ◌^◌, ◌++◌, ◌∷◌, ℕ, [], false, length, slice_index, IsTrue, OnOk};
+ghost use Rattle.std.specs.Prelude.{◌≡◌, ◌<◌, ◌≤◌, ◌-◌, ◌+◌, ◌^◌, ◌++◌, ◌∷◌, ℕ, [], false, length};
+ghost use Rattle.std.specs.Prelude.{slice_index, IsTrue, OnOk};
 ghost use Rattle.std.specs.List.{list_any};
 ghost use Rattle.hv_bdd.specs.Building.{same_node};
-ghost use Rattle.hv_bdd.specs.Working.Chains.{IsChain, IsChained, IsLinked, listed_at, slot_at, slot_of};
+ghost use Rattle.hv_bdd.specs.Working.Chains.{IsChain, IsChained, IsLinked, listed_at, slot_at};
+ghost use Rattle.hv_bdd.specs.Working.Chains.{slot_of};
 ghost use Rattle.hv_bdd.specs.Working.Chains.{AreAllBelow, IsListedNode};
 
 use crate::node::Node;

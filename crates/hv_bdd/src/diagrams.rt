@@ -1,6 +1,7 @@
 //! Lists of nodes of decision diagrams, and which states a node holds.
 
-ghost use Rattle.std.specs.Prelude.{◌≡◌, ◌<◌, ◌≤◌, ◌↔◌, ◌&&◌, None, Some, IfSome, IsTrue, MatchResult, OnErr, OnOk, length, nat_lt};
+ghost use Rattle.std.specs.Prelude.{◌≡◌, ◌<◌, ◌≤◌, ◌↔◌, ◌&&◌, None, Some, IfSome, IsTrue};
+ghost use Rattle.std.specs.Prelude.{MatchResult, OnErr, OnOk, length, nat_lt};
 ghost use Rattle.hv_task.specs.Atoms.{IsNext};
 ghost use Rattle.hv_task.specs.State.{has_atom};
 ghost use Rattle.hv_bdd.specs.Building.{fault_of, is_later, plain_fault};

@@ -1,9 +1,11 @@
 //! The search through live tuples: all that are reached, up to the budget, and the state of one
 //! that ends.
 
-ghost use Rattle.std.specs.Prelude.{◌≡◌, ◌<◌, ◌+◌, ℕ, List, length, map, option_map, slice_index_or, [], IfOk, MatchOption, OnOk};
+ghost use Rattle.std.specs.Prelude.{◌≡◌, ◌<◌, ◌+◌, ℕ, List, length, map, option_map};
+ghost use Rattle.std.specs.Prelude.{slice_index_or, [], IfOk, MatchOption, OnOk};
 ghost use Rattle.std.specs.List.{All};
-ghost use Rattle.hv_bdd.specs.Working.Graphs.{AgreesWithNodes, FitsBits, IsLiveAnswer, Suits, in_asked};
+ghost use Rattle.hv_bdd.specs.Working.Graphs.{AgreesWithNodes, FitsBits, IsLiveAnswer, Suits};
+ghost use Rattle.hv_bdd.specs.Working.Graphs.{in_asked};
 ghost use Rattle.hv_bdd.specs.Live.{moves, roots};
 ghost use Rattle.hv_bdd.specs.Tuples.{if_live};
 
@@ -40,7 +42,8 @@ impl Reached {
 }
 
 impl Search<'_> {
-    ghost use Rattle.hv_bdd.specs.Working.Search.{Explored, IsDone, IsEndTuple, IsTupleSearch, IsTuple, setting, tuple_at, tuples_of};
+    ghost use Rattle.hv_bdd.specs.Working.Search.{Explored, IsDone, IsEndTuple, IsTupleSearch};
+    ghost use Rattle.hv_bdd.specs.Working.Search.{IsTuple, setting, tuple_at, tuples_of};
 
     /// Looks for a state that suits the operands.
     pub(crate) fn find(

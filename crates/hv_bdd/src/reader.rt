@@ -7,7 +7,8 @@ ghost use Rattle.hv_bdd.specs.declared.fault.NodesFault.TheVariants as F;
 ghost use Rattle.hv_bdd.specs.Working.Chains.{IsChained};
 ghost use Rattle.hv_bdd.specs.NodeText.{AreLegal};
 ghost use Rattle.hv_bdd.specs.Nodes.{no_nodes};
-ghost use Rattle.hv_bdd.specs.Working.Reading.{AddsNodes, Ends, FaultBehind, Feeds, IsReading, IsShortTriple, Settles, Stops, line_fault_at};
+ghost use Rattle.hv_bdd.specs.Working.Reading.{AddsNodes, Ends, FaultBehind, Feeds, IsReading};
+ghost use Rattle.hv_bdd.specs.Working.Reading.{IsShortTriple, Settles, Stops, line_fault_at};
 
 use crate::building::add;
 use crate::chains::Chains;

@@ -3,7 +3,8 @@
 ghost use Rattle.std.specs.Prelude.{◌≡◌, ◌<◌, ◌≤◌, ◌-◌, true, cond, option_map, IfOk};
 ghost use Rattle.hv_sets.specs.declared.operand.Which.TheVariants as W;
 ghost use Rattle.hv_bdd.specs.Working.Graphs.{limit};
-ghost use Rattle.hv_bdd.specs.Live.{asks_goal, first_asked, graph_child, graph_top, is_marked, bit_mark_of, moves, or_else, root, roots};
+ghost use Rattle.hv_bdd.specs.Live.{asks_goal, first_asked, graph_child, graph_top, is_marked};
+ghost use Rattle.hv_bdd.specs.Live.{bit_mark_of, moves, or_else, root, roots};
 ghost use Rattle.hv_bdd.specs.Order.{atom_at};
 ghost use Rattle.hv_bdd.specs.Tuples.{is_live, least, move_all, move_one, next};
 

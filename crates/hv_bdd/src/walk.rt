@@ -1,7 +1,8 @@
 //! Walks over the paths from a node to an end: a cursor has the nodes of the present path, and a
 //! step changes what follows the last of them where the walk can still turn.
 
-ghost use Rattle.std.specs.Prelude.{◌≡◌, ◌<◌, ◌≤◌, ◌≢◌, ◌++◌, ◌∷◌, [], ◌-◌, ℕ, List, Ok, false, true, length, map, take, IsTrue, IfNone, IfOk, IfSome, OnOk};
+ghost use Rattle.std.specs.Prelude.{◌≡◌, ◌<◌, ◌≤◌, ◌≢◌, ◌++◌, ◌∷◌, [], ◌-◌, ℕ, List, Ok, false};
+ghost use Rattle.std.specs.Prelude.{true, length, map, take, IsTrue, IfNone, IfOk, IfSome, OnOk};
 ghost use Rattle.hv_sets.specs.Cubes.{SpeakBelow, cube_of};
 ghost use Rattle.hv_sets.specs.Walks.{StepSpeaksBelow, TakesCube};
 ghost use Rattle.hv_bdd.specs.Nodes.{IsNode};

@@ -1,8 +1,13 @@
 -- The decimals are the short texts of digits without a leading zero.
-use Rattle.std.proofs.Common.{◌≡◌, ℕ, zero, suc, ◌<◌, ◌≤◌, ◌^◌, List, Option, None, Some, IfSome, IfNone, length, length-take, get_or, take, sym, ap, subst, ◌∙◌, arith, decimal}
+use Rattle.std.proofs.Common.{◌≡◌, ℕ, zero, suc, ◌<◌, ◌≤◌, ◌^◌, List, Option, None, Some, IfSome}
+use Rattle.std.proofs.Common.{IfNone, length, length-take, get_or, take, sym, ap, subst, ◌∙◌, arith}
+use Rattle.std.proofs.Common.{decimal}
 use Rattle.std.specs.Str.Parse.{AllDigits, digits_value}
-use Rattle.std.proofs.lemmas.Str.Parse.{IsNumeralModel, numerals_by_value, tells_digits, digit_at, digits_value_short}
-use Rattle.std.proofs.lemmas.Fmt.{decimal-digits_value, digits_decimal, first_decimal, length-decimal-le, decimal_nonempty, decimal_digit, decimal_injective}
+use Rattle.std.proofs.lemmas.Str.Parse.{IsNumeralModel, numerals_by_value, tells_digits, digit_at}
+use Rattle.std.proofs.lemmas.Str.Parse.{digits_value_short}
+use Rattle.std.proofs.lemmas.Fmt.{decimal-digits_value, digits_decimal, first_decimal}
+use Rattle.std.proofs.lemmas.Fmt.{length-decimal-le, decimal_nonempty, decimal_digit}
+use Rattle.std.proofs.lemmas.Fmt.{decimal_injective}
 use Rattle.hv_bytes.specs.Decimals.{IsDecimal, IsShortDecimal}
 use Rattle.hv_bytes.specs.Working.Decimals.{HasDecimalShape}
 
@@ -10,9 +15,11 @@ abbrev own : IsNumeralModel (AllDigits 10) (digits_value 10)
 own = numerals_by_value (AllDigits 10) tells_digits
 
 -- digits of a decimal's shape spell their value
-pub IsDecimal-digits : (bytes : List ℕ) → HasDecimalShape bytes → AllDigits 10 bytes → IsDecimal bytes (digits_value 10 bytes)
+pub IsDecimal-digits : (bytes : List ℕ) → HasDecimalShape bytes → AllDigits 10 bytes
+    → IsDecimal bytes (digits_value 10 bytes)
 IsDecimal-digits bytes shape digits =
-    let small : digits_value 10 bytes < 10 ^ 18 = digits_value_short own bytes 18 digits shape.short in
+    let small : digits_value 10 bytes < 10 ^ 18 = digits_value_short own bytes 18 digits
+    shape.short in
     record {
       spelled = sym (decimal-digits_value own bytes digits shape.some shape.plain (omega arith));
       short = small;
@@ -33,30 +40,39 @@ decimal_shape bytes n h =
 
 -- each byte of a decimal is a digit
 pub decimal_digits : (bytes : List ℕ) (n : ℕ) → IsDecimal bytes n → AllDigits 10 bytes
-decimal_digits bytes n h = subst (AllDigits 10) (sym h.spelled) (digits_decimal own n (omega (arith, h.short)))
+decimal_digits bytes n h = subst (AllDigits 10) (sym h.spelled)
+    (digits_decimal own n (omega (arith, h.short)))
 
 -- the same, byte by byte
-pub decimal_digit_at : (bytes : List ℕ) (n : ℕ) → IsDecimal bytes n → (k : ℕ) → k < length bytes → (48 ≤ get_or bytes k 0) × (get_or bytes k 0 ≤ 57)
+pub decimal_digit_at : (bytes : List ℕ) (n : ℕ) → IsDecimal bytes n → (k : ℕ) → k < length bytes
+    → (48 ≤ get_or bytes k 0) × (get_or bytes k 0 ≤ 57)
 decimal_digit_at bytes n h k l = digit_at bytes k (decimal_digits bytes n h) l
 
 -- a decimal spells one number
 pub IsDecimal-same : (bytes : List ℕ) (m n : ℕ) → IsDecimal bytes m → IsDecimal bytes n → m ≡ n
-IsDecimal-same bytes m n p q = decimal_injective m n (omega (arith, p.short)) (omega (arith, q.short)) (sym p.spelled ∙ q.spelled)
+IsDecimal-same bytes m n p q = decimal_injective m n (omega (arith, p.short))
+    (omega (arith, q.short)) (sym p.spelled ∙ q.spelled)
 
 -- what reading the digits of a text of a decimal's shape gives, as a decimal
-pub decimal_read : (bytes : List ℕ) (r : Option ℕ) → HasDecimalShape bytes → IfSome r (λ n. AllDigits 10 bytes × (n ≡ digits_value 10 bytes)) → IfSome r (IsDecimal bytes)
+pub decimal_read : (bytes : List ℕ) (r : Option ℕ) → HasDecimalShape bytes
+    → IfSome r (λ n. AllDigits 10 bytes × (n ≡ digits_value 10 bytes)) → IfSome r (IsDecimal bytes)
 decimal_read bytes None shape h = tt
-decimal_read bytes (Some n) shape h = subst (IsDecimal bytes) (sym h.1) (IsDecimal-digits bytes shape h.0)
+decimal_read bytes (Some n) shape h = subst (IsDecimal bytes) (sym h.1)
+    (IsDecimal-digits bytes shape h.0)
 
-pub decimal_unread : (bytes : List ℕ) (r : Option ℕ) → IfNone r (AllDigits 10 bytes → ⊥) → IfNone r ((n : ℕ) → IsDecimal bytes n → ⊥)
+pub decimal_unread : (bytes : List ℕ) (r : Option ℕ) → IfNone r (AllDigits 10 bytes → ⊥)
+    → IfNone r ((n : ℕ) → IsDecimal bytes n → ⊥)
 decimal_unread bytes None h = λ n is. h (decimal_digits bytes n is)
 decimal_unread bytes (Some n) h = tt
 
 -- fewer than 18 digits leave room for one more
-pub digits_room : (bytes : List ℕ) (i : ℕ) → i < length bytes → length bytes ≤ 18 → AllDigits 10 (take i bytes) → digits_value 10 (take i bytes) < 10 ^ 17
-digits_room bytes i l short digits = digits_value_short own (take i bytes) 17 digits (omega (arith, length-take i bytes))
+pub digits_room : (bytes : List ℕ) (i : ℕ) → i < length bytes → length bytes ≤ 18
+    → AllDigits 10 (take i bytes) → digits_value 10 (take i bytes) < 10 ^ 17
+digits_room bytes i l short digits = digits_value_short own (take i bytes) 17 digits
+    (omega (arith, length-take i bytes))
 
-pub short_decimal : (bytes : List ℕ) (n : ℕ) → IsDecimal bytes n → n < 10 ^ 9 → IsShortDecimal bytes n
+pub short_decimal : (bytes : List ℕ) (n : ℕ) → IsDecimal bytes n → n < 10 ^ 9
+    → IsShortDecimal bytes n
 short_decimal bytes n h small = record { spelled = h.spelled; short = small }
 
 pub decimal_from_short : (bytes : List ℕ) (n : ℕ) → IsShortDecimal bytes n → IsDecimal bytes n

@@ -1,5 +1,6 @@
 -- The first field of a line.
-use Rattle.std.proofs.Common.{◌≡◌, ◌≢◌, ℕ, ◌+◌, Bool, true, false, List, [], ◌∷◌, ◌++◌, take, drop, refl, sym, ap, ◌∙◌, eqb, take-append-drop}
+use Rattle.std.proofs.Common.{◌≡◌, ◌≢◌, ℕ, ◌+◌, Bool, true, false, List, [], ◌∷◌, ◌++◌, take, drop}
+use Rattle.std.proofs.Common.{refl, sym, ap, ◌∙◌, eqb, take-append-drop}
 use Rattle.std.proofs.lemmas.Bool.{eqb-true}
 use Rattle.std.proofs.lemmas.List.Elements.{All-weaker}
 use Rattle.std.proofs.lemmas.List.Splits.{slice_split_at, slice_split_none}
@@ -18,13 +19,16 @@ abbrev FailsSpace : ℕ → Type 0
 FailsSpace b = eqb b 32 ≡ false
 
 fail_space : (bytes : List ℕ) → HasNoSpace bytes → All FailsSpace bytes
-fail_space bytes clean = All-weaker IsNoSpace FailsSpace (λ b ne. differs b (eqb b 32) refl ne) bytes clean
+fail_space bytes clean = All-weaker IsNoSpace FailsSpace
+    (λ b ne. differs b (eqb b 32) refl ne) bytes clean
 
 -- a field that ends at the first space
-pub cut_fields-at : (line : List ℕ) (at : ℕ) → IsFirstSpace line at → cut_fields line ≡ take at line ∷ cut_fields (drop (at + 1) line)
+pub cut_fields-at : (line : List ℕ) (at : ℕ) → IsFirstSpace line at
+    → cut_fields line ≡ take at line ∷ cut_fields (drop (at + 1) line)
 cut_fields-at line at first =
     ap cut_fields (sym (take-append-drop at line) ∙ ap (λ bytes. take at line ++ bytes) first.here)
-    ∙ slice_split_at (λ b. eqb b 32) (take at line) 32 (drop (at + 1) line) (fail_space (take at line) first.clean) refl
+    ∙ slice_split_at (λ b. eqb b 32) (take at line) 32 (drop (at + 1) line)
+    (fail_space (take at line) first.clean) refl
 
 -- the last field
 pub cut_fields-last : (line : List ℕ) → HasNoSpace line → cut_fields line ≡ line ∷ []

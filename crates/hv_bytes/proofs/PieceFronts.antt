@@ -4,7 +4,8 @@ use Rattle.hv_bytes.specs.Pieces.{Piece, as_pieces}
 
 -- of two lists of lines that come first, one begins with the other
 pub fronts : (xs ys : List (List ℕ)) (a b : List Piece) → as_pieces xs ++ a ≡ as_pieces ys ++ b
-    → ((mid : List (List ℕ)) × (ys ≡ xs ++ mid) × (a ≡ as_pieces mid ++ b)) ⊎ ((mid : List (List ℕ)) × (xs ≡ ys ++ mid) × (b ≡ as_pieces mid ++ a))
+    → ((mid : List (List ℕ)) × (ys ≡ xs ++ mid) × (a ≡ as_pieces mid ++ b))
+    ⊎ ((mid : List (List ℕ)) × (xs ≡ ys ++ mid) × (b ≡ as_pieces mid ++ a))
 fronts [] ys a b e = inl (ys, refl, e)
 fronts (x ∷ xs) [] a b e = inr (x ∷ xs, refl, sym e)
 fronts (x ∷ xs) (y ∷ ys) a b e =
@@ -16,7 +17,8 @@ fronts (x ∷ xs) (y ∷ ys) a b e =
     ]
 
 -- where all pieces are lines, so is the rest behind some of them
-pub rest_lines : (xs ys : List (List ℕ)) (rest : List Piece) → as_pieces xs ≡ as_pieces ys ++ rest → (mid : List (List ℕ)) × (xs ≡ ys ++ mid) × (rest ≡ as_pieces mid)
+pub rest_lines : (xs ys : List (List ℕ)) (rest : List Piece) → as_pieces xs ≡ as_pieces ys ++ rest
+    → (mid : List (List ℕ)) × (xs ≡ ys ++ mid) × (rest ≡ as_pieces mid)
 rest_lines xs [] rest e = (xs, refl, sym e)
 rest_lines [] (y ∷ ys) rest e = absurd cc
 rest_lines (x ∷ xs) (y ∷ ys) rest e =

@@ -1,5 +1,8 @@
 -- A reader that takes the lines of a file one after another, against the pieces of the whole file.
-use Rattle.std.proofs.Common.{◌≡◌, ℕ, ◌+◌, ◌≤◌, ◌&&◌, All, Bool, true, false, cond, List, [], ◌∷◌, ◌++◌, Option, None, Some, IfSome, length, nat_le, refl, sym, subst, ap, ◌∙◌, arith, inl, inr, ⊎_elim, append_assoc, append-nil, length-append}
+use Rattle.std.proofs.Common.{◌≡◌, ℕ, ◌+◌, ◌≤◌, ◌&&◌, All, Bool, true, false, cond, List, [], ◌∷◌}
+use Rattle.std.proofs.Common.{◌++◌, Option, None, Some, IfSome, length, nat_le, refl, sym, subst}
+use Rattle.std.proofs.Common.{ap, ◌∙◌, arith, inl, inr, ⊎_elim, append_assoc, append-nil}
+use Rattle.std.proofs.Common.{length-append}
 use Rattle.std.specs.Io.KnownBytes.{IsAtEnd, prepend_known}
 use Rattle.std.proofs.Math.Bool.{and-false}
 use Rattle.std.proofs.lemmas.Bool.{le-leb, leb-true, lt-leb}
@@ -8,7 +11,8 @@ use Rattle.std.proofs.lemmas.List.Elements.{All-head, All-tail}
 use Rattle.std.proofs.lemmas.List.Sums.{sum_by-cons}
 use Rattle.hv_bytes.specs.Files.{Names, Opens, bytes_of}
 use Rattle.hv_bytes.specs.Working.Files.{file_of}
-use Rattle.hv_bytes.specs.FirstLine.{BeginsLong, FitsLimits, IsFirstLine, IsLong, MovesBytes, TakesLine, last_byte}
+use Rattle.hv_bytes.specs.FirstLine.{BeginsLong, FitsLimits, IsFirstLine, IsLong, MovesBytes}
+use Rattle.hv_bytes.specs.FirstLine.{TakesLine, last_byte}
 use Rattle.hv_bytes.specs.LineCuts.{lines_of}
 use Rattle.hv_bytes.specs.Working.LineCuts.{bytes_in}
 use Rattle.hv_bytes.specs.Pieces.{ComesNext, Piece, as_pieces, fits_limits, pieces_after, pieces_of}
@@ -21,12 +25,19 @@ abbrev pub IsWithin : ℕ → List ℕ → Type 0
 IsWithin most line = length line ≤ most
 
 -- the test says what it is to be within the limits
-pub fits-true : (limits : Limits) (earlier size : ℕ) → FitsLimits limits.line limits.file earlier size → fits_limits limits earlier size ≡ true
-fits-true limits earlier size fits = rw (le-leb size limits.line fits.in_line, le-leb (earlier + last_byte size) limits.file fits.in_file)
+pub fits-true : (limits : Limits) (earlier size : ℕ)
+    → FitsLimits limits.line limits.file earlier size → fits_limits limits earlier size ≡ true
+fits-true limits earlier size fits = rw (
+  le-leb size limits.line fits.in_line,
+  le-leb
+      (earlier + last_byte size) limits.file fits.in_file,
+)
 
-pub fits-false : (limits : Limits) (earlier size : ℕ) → IsLong limits.line limits.file earlier size → fits_limits limits earlier size ≡ false
+pub fits-false : (limits : Limits) (earlier size : ℕ) → IsLong limits.line limits.file earlier size
+    → fits_limits limits earlier size ≡ false
 fits-false limits earlier size (inl long) = rw (lt-leb size limits.line long)
-fits-false limits earlier size (inr long) = rw (lt-leb (earlier + last_byte size) limits.file long) (and-false (nat_le size limits.line))
+fits-false limits earlier size (inr long) = rw (lt-leb (earlier + last_byte size) limits.file long)
+    (and-false (nat_le size limits.line))
 
 and-left : (a b : Bool) → (a && b) ≡ true → a ≡ true
 and-left true b e = refl
@@ -36,31 +47,44 @@ and-right : (a b : Bool) → (a && b) ≡ true → b ≡ true
 and-right true b e = e
 and-right false b e = absurd cc
 
-pub fits_from-true : (limits : Limits) (earlier size : ℕ) → fits_limits limits earlier size ≡ true → FitsLimits limits.line limits.file earlier size
+pub fits_from-true : (limits : Limits) (earlier size : ℕ) → fits_limits limits earlier size ≡ true
+    → FitsLimits limits.line limits.file earlier size
 fits_from-true limits earlier size is = record {
-  in_line = leb-true size limits.line (and-left (nat_le size limits.line) (nat_le (earlier + last_byte size) limits.file) is);
-  in_file = leb-true (earlier + last_byte size) limits.file (and-right (nat_le size limits.line) (nat_le (earlier + last_byte size) limits.file) is);
+  in_line = leb-true size limits.line (and-left (nat_le size limits.line)
+      (nat_le (earlier + last_byte size) limits.file) is);
+  in_file = leb-true (earlier + last_byte size) limits.file
+      (and-right (nat_le size limits.line) (nat_le (earlier + last_byte size) limits.file) is);
 }
 
 -- the first of the coming pieces is a line that fits
-pub pieces-line : (limits : Limits) (earlier : ℕ) (line : List ℕ) (lines : List (List ℕ)) → FitsLimits limits.line limits.file earlier (length line)
-    → pieces_after limits earlier (line ∷ lines) ≡ Some line ∷ pieces_after limits (earlier + (length line + 1)) lines
+pub pieces-line : (limits : Limits) (earlier : ℕ) (line : List ℕ) (lines : List (List ℕ))
+    → FitsLimits limits.line limits.file earlier (length line)
+    → pieces_after limits earlier (line ∷ lines) ≡ Some line
+    ∷ pieces_after limits (earlier + (length line + 1)) lines
 pieces-line limits earlier line lines fits = rw (fits-true limits earlier (length line) fits)
 
 -- or a long one, and then the last
-pub pieces-long : (limits : Limits) (earlier : ℕ) (line : List ℕ) (lines : List (List ℕ)) → IsLong limits.line limits.file earlier (length line) → pieces_after limits earlier (line ∷ lines) ≡ None ∷ []
+pub pieces-long : (limits : Limits) (earlier : ℕ) (line : List ℕ) (lines : List (List ℕ))
+    → IsLong limits.line limits.file earlier (length line)
+    → pieces_after limits earlier (line ∷ lines) ≡ None ∷ []
 pieces-long limits earlier line lines long = rw (fits-false limits earlier (length line) long)
 
-as_pieces-push : (given : List (List ℕ)) (line : List ℕ) → as_pieces (given ++ line ∷ []) ≡ as_pieces given ++ Some line ∷ []
+as_pieces-push : (given : List (List ℕ)) (line : List ℕ)
+    → as_pieces (given ++ line ∷ []) ≡ as_pieces given ++ Some line ∷ []
 as_pieces-push given line = map-append (λ l. Some l) given (line ∷ [])
 
 -- the pieces of the coming bytes, the first of which is a line that was taken off
-pieces_taken : (limits : Limits) (old line new : List ℕ) (before after : ℕ) → IsFirstLine old line new → after + length new ≡ before + length old → FitsLimits limits.line limits.file before (length line)
-    → pieces_after limits before (lines_of old) ≡ Some line ∷ pieces_after limits after (lines_of new)
+pieces_taken : (limits : Limits) (old line new : List ℕ) (before after : ℕ)
+    → IsFirstLine old line new → after + length new ≡ before + length old
+    → FitsLimits limits.line limits.file before (length line)
+    → pieces_after limits before (lines_of old) ≡ Some line
+    ∷ pieces_after limits after (lines_of new)
 pieces_taken limits old line new before after first sums fits =
-    ap (pieces_after limits before) (lines_of-first old line new first) ∙ pieces-line limits before line (lines_of new) fits
+    ap (pieces_after limits before) (lines_of-first old line new first)
+    ∙ pieces-line limits before line (lines_of new) fits
     ∙ ⊎_elim
-    (λ ended. let next : before + (length line + 1) ≡ after = omega (arith, ap length ended, length-append line (10 ∷ new)) in
+    (λ ended. let next : before + (length line + 1)
+    ≡ after = omega (arith, ap length ended, length-append line (10 ∷ new)) in
     ap (λ n. Some line ∷ pieces_after limits n (lines_of new)) next)
     (λ last. rw (last.1) refl)
     first.cut
@@ -71,82 +95,125 @@ gave_none limits None = tt
 gave_none limits (Some file) = refl
 
 -- what holds of the file's bytes, where they are known
-pub known : (files : Option Names) (name : List ℕ) (P : List ℕ → Type 0) → IfSome (file_of files name) P → IfSome files (λ f. P (bytes_of f name))
+pub known : (files : Option Names) (name : List ℕ) (P : List ℕ → Type 0)
+    → IfSome (file_of files name) P → IfSome files (λ f. P (bytes_of f name))
 known None name P h = tt
 known (Some files) name P h = h
 
 -- a file that was opened just now
-pub opened : (files : Option Names) (name : List ℕ) (limits : Limits) (left : Option (List ℕ)) → Opens files name left → GaveLines limits (file_of files name) [] (prepend_known [] left) 0
+pub opened : (files : Option Names) (name : List ℕ) (limits : Limits) (left : Option (List ℕ))
+    → Opens files name left → GaveLines limits (file_of files name) [] (prepend_known [] left) 0
 opened None name limits left o = tt
 opened (Some files) name limits left o =
-    subst (λ l. GaveLines limits (Some (bytes_of files name)) [] (prepend_known [] l) 0) (sym o) (gave_none limits (Some (bytes_of files name)))
+    subst (λ l. GaveLines limits (Some (bytes_of files name)) [] (prepend_known [] l) 0) (sym o)
+    (gave_none limits (Some (bytes_of files name)))
 
 -- one more line
-pub gave_more : (limits : Limits) (file old new : Option (List ℕ)) (given : List (List ℕ)) (line : List ℕ) (before after : ℕ) → GaveLines limits file given old before → TakesLine old new line → MovesBytes old new before after
-    → FitsLimits limits.line limits.file before (length line) → GaveLines limits file (given ++ line ∷ []) new after
+pub gave_more : (limits : Limits) (file old new : Option (List ℕ)) (given : List (List ℕ))
+    (line : List ℕ) (before after : ℕ) → GaveLines limits file given old before
+    → TakesLine old new line → MovesBytes old new before after
+    → FitsLimits limits.line limits.file before (length line)
+    → GaveLines limits file (given ++ line ∷ []) new after
 gave_more limits None old new given line before after gave first sums fits = tt
 gave_more limits (Some file) None new given line before after gave first sums fits = absurd gave
-gave_more limits (Some file) (Some old) None given line before after gave first sums fits = absurd first
+gave_more limits (Some file) (Some old) None given line before after gave first sums fits = absurd
+    first
 gave_more limits (Some file) (Some old) (Some new) given line before after gave first sums fits =
-    gave ∙ ap (λ ps. as_pieces given ++ ps) (pieces_taken limits old line new before after first sums fits)
-    ∙ sym (append_assoc (as_pieces given) (Some line ∷ []) (pieces_after limits after (lines_of new)))
+    gave ∙ ap (λ ps. as_pieces given ++ ps)
+    (pieces_taken limits old line new before after first sums fits)
+    ∙ sym (append_assoc (as_pieces given) (Some line ∷ [])
+    (pieces_after limits after (lines_of new)))
     ∙ ap (λ ps. ps ++ pieces_after limits after (lines_of new)) (sym (as_pieces-push given line))
 
 -- at the end all pieces were given: they are the lines of the file, none of them long
-pub gave_all : (limits : Limits) (file coming : Option (List ℕ)) (given : List (List ℕ)) (earlier : ℕ) → GaveLines limits file given coming earlier → IsAtEnd coming
+pub gave_all : (limits : Limits) (file coming : Option (List ℕ)) (given : List (List ℕ))
+    (earlier : ℕ) → GaveLines limits file given coming earlier → IsAtEnd coming
     → IfSome file (λ bytes. pieces_of limits bytes ≡ as_pieces given)
 gave_all limits None coming given earlier gave end = tt
 gave_all limits (Some file) None given earlier gave end = absurd gave
 gave_all limits (Some file) (Some coming) given earlier gave end =
-    gave ∙ ap (λ bytes. as_pieces given ++ pieces_after limits earlier (lines_of bytes)) end ∙ append-nil (as_pieces given)
+    gave ∙ ap (λ bytes. as_pieces given ++ pieces_after limits earlier (lines_of bytes)) end
+    ∙ append-nil (as_pieces given)
 
 -- where the next line is long, it is the last piece
-pub gave_long : (limits : Limits) (file coming : Option (List ℕ)) (given : List (List ℕ)) (earlier : ℕ) → GaveLines limits file given coming earlier → BeginsLong coming limits.line limits.file earlier
+pub gave_long : (limits : Limits) (file coming : Option (List ℕ)) (given : List (List ℕ))
+    (earlier : ℕ) → GaveLines limits file given coming earlier
+    → BeginsLong coming limits.line limits.file earlier
     → IfSome file (λ bytes. pieces_of limits bytes ≡ as_pieces given ++ None ∷ [])
 gave_long limits None coming given earlier gave long = tt
 gave_long limits (Some file) None given earlier gave long = absurd gave
 gave_long limits (Some file) (Some coming) given earlier gave long =
-    gave ∙ ap (λ ps. as_pieces given ++ ps) (ap (pieces_after limits earlier) (lines_of-first coming long.0 long.1 long.2) ∙ pieces-long limits earlier long.0 (lines_of long.1) long.3)
+    gave ∙ ap (λ ps. as_pieces given ++ ps)
+    (ap (pieces_after limits earlier) (lines_of-first coming long.0 long.1 long.2)
+    ∙ pieces-long limits earlier long.0 (lines_of long.1) long.3)
 
 -- the given lines are the first pieces, wherever the reader stops
-pub gave_front : (limits : Limits) (file coming : Option (List ℕ)) (given : List (List ℕ)) (earlier : ℕ) → GaveLines limits file given coming earlier
-    → IfSome file (λ bytes. (rest : List Piece) × (pieces_of limits bytes ≡ as_pieces given ++ rest))
+pub gave_front : (limits : Limits) (file coming : Option (List ℕ)) (given : List (List ℕ))
+    (earlier : ℕ) → GaveLines limits file given coming earlier
+    → IfSome file (λ bytes. (rest : List Piece)
+    × (pieces_of limits bytes ≡ as_pieces given ++ rest))
 gave_front limits None coming given earlier gave = tt
 gave_front limits (Some file) None given earlier gave = absurd gave
-gave_front limits (Some file) (Some coming) given earlier gave = (pieces_after limits earlier (lines_of coming), gave)
+gave_front limits (Some file) (Some coming) given earlier gave =
+    (pieces_after limits earlier (lines_of coming), gave)
 
 -- what comes next after the given lines: a line, a long line, or the end
-pub line_next : (limits : Limits) (file old new : Option (List ℕ)) (given : List (List ℕ)) (line : List ℕ) (before number : ℕ) → GaveLines limits file given old before → TakesLine old new line
-    → FitsLimits limits.line limits.file before (length line) → number ≡ length given + 1 → IfSome file (λ bytes. (rest : List Piece) × ComesNext (pieces_of limits bytes) given (Some line ∷ rest) number)
+pub line_next : (limits : Limits) (file old new : Option (List ℕ)) (given : List (List ℕ))
+    (line : List ℕ) (before number : ℕ) → GaveLines limits file given old before
+    → TakesLine old new line
+    → FitsLimits limits.line limits.file before (length line) → number ≡ length given + 1
+    → IfSome file (λ bytes. (rest : List Piece)
+    × ComesNext (pieces_of limits bytes) given (Some line ∷ rest) number)
 line_next limits None old new given line before number gave first fits counted = tt
 line_next limits (Some file) None new given line before number gave first fits counted = absurd gave
-line_next limits (Some file) (Some old) None given line before number gave first fits counted = absurd first
-line_next limits (Some file) (Some old) (Some new) given line before number gave first fits counted =
-    let pieces = ap (pieces_after limits before) (lines_of-first old line new first) ∙ pieces-line limits before line (lines_of new) fits in (
+line_next limits (Some file) (Some old) None given line before number gave first fits counted =
+    absurd first
+line_next limits (Some file) (Some old) (Some new) given line before number gave first fits counted
+    =
+    let pieces = ap (pieces_after limits before) (lines_of-first old line new first)
+    ∙ pieces-line limits before line (lines_of new) fits in (
       pieces_after limits (before + (length line + 1)) (lines_of new),
       record { cut = gave ∙ ap (λ ps. as_pieces given ++ ps) pieces; counted = counted },
     )
 
-pub long_next : (limits : Limits) (file coming : Option (List ℕ)) (given : List (List ℕ)) (earlier number : ℕ) → GaveLines limits file given coming earlier → BeginsLong coming limits.line limits.file earlier
-    → number ≡ length given + 1 → IfSome file (λ bytes. ComesNext (pieces_of limits bytes) given (None ∷ []) number)
+pub long_next : (limits : Limits) (file coming : Option (List ℕ)) (given : List (List ℕ))
+    (earlier number : ℕ) → GaveLines limits file given coming earlier
+    → BeginsLong coming limits.line limits.file earlier
+    → number ≡ length given + 1 → IfSome file
+    (λ bytes. ComesNext (pieces_of limits bytes) given (None ∷ []) number)
 long_next limits None coming given earlier number gave long counted = tt
 long_next limits (Some file) None given earlier number gave long counted = absurd gave
 long_next limits (Some file) (Some coming) given earlier number gave long counted =
-    record { cut = gave_long limits (Some file) (Some coming) given earlier gave long; counted = counted }
+    record {
+      cut = gave_long limits (Some file) (Some coming) given earlier gave long;
+      counted =
+          counted;
+    }
 
-pub end_next : (limits : Limits) (file coming : Option (List ℕ)) (given : List (List ℕ)) (earlier number : ℕ) → GaveLines limits file given coming earlier → IsAtEnd coming
-    → number ≡ length given + 1 → IfSome file (λ bytes. ComesNext (pieces_of limits bytes) given [] number)
+pub end_next : (limits : Limits) (file coming : Option (List ℕ)) (given : List (List ℕ))
+    (earlier number : ℕ) → GaveLines limits file given coming earlier → IsAtEnd coming
+    → number ≡ length given + 1 → IfSome file
+    (λ bytes. ComesNext (pieces_of limits bytes) given [] number)
 end_next limits None coming given earlier number gave end counted = tt
 end_next limits (Some file) None given earlier number gave end counted = absurd gave
 end_next limits (Some file) (Some coming) given earlier number gave end counted =
-    record { cut = gave_all limits (Some file) (Some coming) given earlier gave end ∙ sym (append-nil (as_pieces given)); counted = counted }
+    record {
+      cut = gave_all limits (Some file) (Some coming) given earlier gave end
+          ∙ sym (append-nil (as_pieces given));
+      counted = counted;
+    }
 
-piece_some : (limits : Limits) (earlier : ℕ) (line : List ℕ) (lines : List (List ℕ)) (fits : Bool) → cond fits (Some line ∷ pieces_after limits (earlier + (length line + 1)) lines) (None ∷ []) ≡ [] → ⊥
+piece_some : (limits : Limits) (earlier : ℕ) (line : List ℕ) (lines : List (List ℕ)) (fits : Bool)
+    → cond fits (Some line ∷ pieces_after limits (earlier + (length line + 1)) lines) (None ∷ [])
+    ≡ [] → ⊥
 piece_some limits earlier line lines true e = cc
 piece_some limits earlier line lines false e = cc
 
-line_from : (limits : Limits) (earlier : ℕ) (line f : List ℕ) (lines found : List (List ℕ)) (fits : Bool) → cond fits (Some line ∷ pieces_after limits (earlier + (length line + 1)) lines) (None ∷ []) ≡ Some f ∷ as_pieces found
-    → (pieces_after limits (earlier + (length line + 1)) lines ≡ as_pieces found → found ≡ lines) → f ∷ found ≡ line ∷ lines
+line_from : (limits : Limits) (earlier : ℕ) (line f : List ℕ) (lines found : List (List ℕ))
+    (fits : Bool) → cond fits (Some line ∷ pieces_after limits (earlier + (length line + 1)) lines)
+    (None ∷ []) ≡ Some f ∷ as_pieces found
+    → (pieces_after limits (earlier + (length line + 1)) lines ≡ as_pieces found → found ≡ lines)
+    → f ∷ found ≡ line ∷ lines
 line_from limits earlier line f lines found true e later =
     let rest : pieces_after limits (earlier + (length line + 1)) lines ≡ as_pieces found = cc in
     let same : found ≡ lines = later rest in
@@ -154,22 +221,31 @@ line_from limits earlier line f lines found true e later =
     cc
 line_from limits earlier line f lines found false e later = absurd cc
 
-lines_from : (limits : Limits) (earlier : ℕ) (lines found : List (List ℕ)) → pieces_after limits earlier lines ≡ as_pieces found → found ≡ lines
+lines_from : (limits : Limits) (earlier : ℕ) (lines found : List (List ℕ))
+    → pieces_after limits earlier lines ≡ as_pieces found → found ≡ lines
 lines_from limits earlier [] [] e = refl
 lines_from limits earlier [] (f ∷ found) e = absurd cc
-lines_from limits earlier (line ∷ lines) [] e = absurd (piece_some limits earlier line lines (fits_limits limits earlier (length line)) e)
-lines_from limits earlier (line ∷ lines) (f ∷ found) e = line_from limits earlier line f lines found (fits_limits limits earlier (length line)) e (lines_from limits (earlier + (length line + 1)) lines found)
+lines_from limits earlier (line ∷ lines) [] e = absurd
+    (piece_some limits earlier line lines (fits_limits limits earlier (length line)) e)
+lines_from limits earlier (line ∷ lines) (f ∷ found) e = line_from limits earlier line f lines found
+    (fits_limits limits earlier (length line)) e
+    (lines_from limits (earlier + (length line + 1)) lines found)
 
 -- pieces of which none is long are the lines of the file
-pub lines_from_pieces : (limits : Limits) (file : List ℕ) (lines : List (List ℕ)) → pieces_of limits file ≡ as_pieces lines → lines ≡ lines_of file
+pub lines_from_pieces : (limits : Limits) (file : List ℕ) (lines : List (List ℕ))
+    → pieces_of limits file ≡ as_pieces lines → lines ≡ lines_of file
 lines_from_pieces limits file lines e = lines_from limits 0 (lines_of file) lines e
 
 -- lines that are short enough for a line, and all together for the file, are the pieces
-pub pieces_of_short : (limits : Limits) (earlier : ℕ) (lines : List (List ℕ)) → All (IsWithin limits.line) lines → earlier + bytes_in lines ≤ limits.file
+pub pieces_of_short : (limits : Limits) (earlier : ℕ) (lines : List (List ℕ))
+    → All (IsWithin limits.line) lines → earlier + bytes_in lines ≤ limits.file
     → pieces_after limits earlier lines ≡ as_pieces lines
 pieces_of_short limits earlier [] each all = refl
 pieces_of_short limits earlier (line ∷ lines) each all =
-    let more : bytes_in (line ∷ lines) ≡ (length line + 1) + bytes_in lines = sum_by-cons (λ l. length l + 1) line lines in
+    let more : bytes_in (line ∷ lines) ≡ (length line + 1) + bytes_in lines = sum_by-cons
+    (λ l. length l + 1) line lines in
     let last : last_byte (length line) ≤ length line + 1 = omega arith in
-    pieces-line limits earlier line lines (record { in_line = All-head (IsWithin limits.line) line lines each; in_file = omega arith })
-    ∙ ap (λ ps. Some line ∷ ps) (pieces_of_short limits (earlier + (length line + 1)) lines (All-tail (IsWithin limits.line) line lines each) (omega arith))
+    pieces-line limits earlier line lines (record
+    { in_line = All-head (IsWithin limits.line) line lines each; in_file = omega arith })
+    ∙ ap (λ ps. Some line ∷ ps) (pieces_of_short limits (earlier + (length line + 1)) lines
+    (All-tail (IsWithin limits.line) line lines each) (omega arith))

@@ -1,5 +1,6 @@
 -- The pieces of a file: its lines in order, up to the first one that is long.
-use Rattle.std.specs.Prelude.{◌≡◌, ℕ, ◌+◌, ◌&&◌, Bool, List, [], ◌∷◌, ◌++◌, Option, None, Some, map, length, nat_le, if◌then◌else◌}
+use Rattle.std.specs.Prelude.{◌≡◌, ℕ, ◌+◌, ◌&&◌, Bool, List, [], ◌∷◌, ◌++◌, Option, None, Some, map}
+use Rattle.std.specs.Prelude.{length, nat_le, if◌then◌else◌}
 use Rattle.hv_bytes.specs.FirstLine.{last_byte}
 use Rattle.hv_bytes.specs.LineCuts.{lines_of}
 use Rattle.hv_bytes.specs.declared.cutting.Limits.{Limits}

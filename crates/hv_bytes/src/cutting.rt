@@ -1,6 +1,8 @@
 //! Limits of lines and files, and the lines of an input, cut one by one.
 
-ghost use Rattle.std.specs.Prelude.{◌≡◌, ◌≢◌, ◌+◌, ◌<◌, ◌≤◌, ◌^◌, ◌↔◌, [], ◌++◌, length, take, drop, true, false, Ok, Err, IsTrue, IsOk, IfOk, IfSome, IfNone, OnOk, OnErr, IsErrOf, unwrap_or};
+ghost use Rattle.std.specs.Prelude.{◌≡◌, ◌≢◌, ◌+◌, ◌<◌, ◌≤◌, ◌^◌, ◌↔◌, [], ◌++◌, length, take};
+ghost use Rattle.std.specs.Prelude.{drop, true, false, Ok, Err, IsTrue, IsOk, IfOk, IfSome, IfNone};
+ghost use Rattle.std.specs.Prelude.{OnOk, OnErr, IsErrOf, unwrap_or};
 ghost use Rattle.std.specs.Io.KnownBytes.{IsAtEnd, prepend_known};
 ghost use Rattle.hv_bytes.specs.Devices.{Rose};
 ghost use Rattle.hv_bytes.specs.FirstLine.{BeginsLong, FitsLimits, IsLong, MovesBytes, TakesLine};

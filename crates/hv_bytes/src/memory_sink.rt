@@ -1,6 +1,7 @@
 //! A sink in memory that takes bytes in pieces and fails at calls that it is told.
 
-ghost use Rattle.std.specs.Prelude.{◌≡◌, ◌<◌, ◌≤◌, ◌-◌, ◌⊎◌, ◌↔◌, [], ◌∷◌, ◌++◌, length, take, min, Contains, Some, IsErr, IfOk, OnOk, OnErr};
+ghost use Rattle.std.specs.Prelude.{◌≡◌, ◌<◌, ◌≤◌, ◌-◌, ◌⊎◌, ◌↔◌, [], ◌∷◌, ◌++◌, length, take, min};
+ghost use Rattle.std.specs.Prelude.{Contains, Some, IsErr, IfOk, OnOk, OnErr};
 ghost use Rattle.std.specs.Io.KnownBytes.{WriteAppends};
 ghost use Rattle.hv_bytes.specs.Devices.{HasCause, next_count};
 

@@ -1,6 +1,7 @@
 //! Texts that grow at their end, and decimals.
 
-ghost use Rattle.std.specs.Prelude.{◌≡◌, ℕ, ◌≤◌, ◌++◌, [], ◌↔◌, length, take, IsTrue, OnOk, OnErr, IfSome, IfNone, decimal};
+ghost use Rattle.std.specs.Prelude.{◌≡◌, ℕ, ◌≤◌, ◌++◌, [], ◌↔◌, length, take, IsTrue, OnOk, OnErr};
+ghost use Rattle.std.specs.Prelude.{IfSome, IfNone, decimal};
 ghost use Rattle.std.specs.Str.Parse.{AllDigits, digits_value};
 ghost use Rattle.hv_bytes.specs.Decimals.{IsDecimal, IsShortDecimal};
 ghost use Rattle.hv_bytes.specs.Working.Decimals.{HasDecimalShape};

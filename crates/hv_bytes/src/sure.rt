@@ -1,6 +1,8 @@
 //! A shelf and a sink in memory that never fail.
 
-ghost use Rattle.std.specs.Prelude.{◌≡◌, ◌<◌, ◌≤◌, ◌+◌, ◌-◌, ◌^◌, ◌≢◌, [], ◌∷◌, ◌++◌, ◌↔◌, ℕ, List, length, take, drop, min, Some, Ok, IsTrue, IsOk, IsSome, IfOk, OnOk, OnErr};
+ghost use Rattle.std.specs.Prelude.{◌≡◌, ◌<◌, ◌≤◌, ◌+◌, ◌-◌, ◌^◌, ◌≢◌, [], ◌∷◌, ◌++◌, ◌↔◌, ℕ, List};
+ghost use Rattle.std.specs.Prelude.{length, take, drop, min, Some, Ok, IsTrue, IsOk, IsSome, IfOk};
+ghost use Rattle.std.specs.Prelude.{OnOk, OnErr};
 ghost use Rattle.std.specs.List.{position};
 ghost use Rattle.std.specs.Str.{bytes_eq};
 ghost use Rattle.std.specs.Io.{ReadsAtMost};

@@ -1,5 +1,6 @@
 //! Worked examples, and each call that takes memory once on its happy path.
-ghost use Rattle.std.specs.Prelude.{None, true, ◌≡◌, ◌≤◌, ◌^◌, [], ◌∷◌, ◌++◌, map, IfOk, IfSome, OnOk};
+ghost use Rattle.std.specs.Prelude.{None, true, ◌≡◌, ◌≤◌, ◌^◌, [], ◌∷◌, ◌++◌, map, IfOk, IfSome};
+ghost use Rattle.std.specs.Prelude.{OnOk};
 ghost use Rattle.hv_bytes.specs.Pieces.{as_pieces, pieces_of};
 
 use crate::{

@@ -1,6 +1,8 @@
 -- A checker, and the pieces that it was fed.
-use Rattle.std.specs.Prelude.{◌≡◌, ◌≢◌, ◌+◌, ℕ, List, ◌∷◌, ◌++◌, Option, Some, None, length, reverse}
-use Rattle.hv_lines.specs.Judged.{LineText, Accepts, Concludes, IsReason, IsRefused, IsJudgedUnsolvable, IsInconclusive}
+use Rattle.std.specs.Prelude.{◌≡◌, ◌≢◌, ◌+◌, ℕ, List, ◌∷◌, ◌++◌, Option, Some, None, length}
+use Rattle.std.specs.Prelude.{reverse}
+use Rattle.hv_lines.specs.Judged.{LineText, Accepts, Concludes, IsReason, IsRefused}
+use Rattle.hv_lines.specs.Judged.{IsJudgedUnsolvable, IsInconclusive}
 use Rattle.hv_lines.specs.Setting.{Setting}
 use Rattle.hv_lines.specs.declared.line.Line.{Line}
 use Rattle.hv_lines.specs.declared.reason.Reason.{Reason}

@@ -3,8 +3,10 @@
 ghost use Rattle.std.specs.Prelude.{◌≡◌, ◌<◌, ◌↔◌, length, IsTrue};
 ghost use Rattle.std.specs.List.{All};
 ghost use Rattle.hv_task.specs.State.{AreBelow};
-ghost use Rattle.hv_lines.specs.Numbering.{ActsReferBelow, ExprRefersBelow, IsNumbered, RefersBack, SpeaksBelow, acts_count, expr_count, known_count};
-ghost use Rattle.hv_lines.specs.Good.{ActsAreWithin, ClausesAreBelow, ExprIsWithin, FamilyFits, IsKnown, NamesWithin};
+ghost use Rattle.hv_lines.specs.Numbering.{ActsReferBelow, ExprRefersBelow, IsNumbered, RefersBack};
+ghost use Rattle.hv_lines.specs.Numbering.{SpeaksBelow, acts_count, expr_count, known_count};
+ghost use Rattle.hv_lines.specs.Good.{ActsAreWithin, ClausesAreBelow, ExprIsWithin, FamilyFits};
+ghost use Rattle.hv_lines.specs.Good.{IsKnown, NamesWithin};
 
 use hv_basic::is_of_its_family;
 use hv_bdd::Diagrams;

@@ -1,6 +1,9 @@
 -- Why a clause of two literals need not be looked into once one of them is false.
-use Rattle.std.proofs.Common.{◌≡◌, ℕ, zero, suc, ◌+◌, ◌-◌, ◌<◌, ◌≤◌, ◌∙◌, ◌⊎◌, Bool, true, false, List, [], ◌∷◌, Option, None, Some, length, get_or, take, drop, refl, sym, ap, arith, inl, inr, subst}
-use Rattle.std.proofs.lemmas.List.{get_or-drop, get_or-take, length-drop, length-set, length-take-le}
+use Rattle.std.proofs.Common.{◌≡◌, ℕ, zero, suc, ◌+◌, ◌-◌, ◌<◌, ◌≤◌, ◌∙◌, ◌⊎◌, Bool, true, false}
+use Rattle.std.proofs.Common.{List, [], ◌∷◌, Option, None, Some, length, get_or, take, drop, refl}
+use Rattle.std.proofs.Common.{sym, ap, arith, inl, inr, subst}
+use Rattle.std.proofs.lemmas.List.{get_or-drop, get_or-take, length-drop, length-set}
+use Rattle.std.proofs.lemmas.List.{length-take-le}
 use Rattle.std.proofs.lemmas.List.Elements.{All-contains}
 use Rattle.std.proofs.lemmas.List.Folds.{Any-from_list_any}
 use Rattle.std.specs.List.{All, Contains}
@@ -15,7 +18,8 @@ use Rattle.hv_clauses.specs.Working.Choices.{clause_at}
 use Rattle.hv_clauses.specs.Implied.{IsPair}
 use Rattle.hv_clauses.specs.Marks.{known, over}
 use Rattle.hv_clauses.specs.Working.Marks.{Agrees, mark_for}
-use Rattle.hv_clauses.specs.Working.Occurrences.{AreBeside, AreLeft, AreOccurrences, IsBeside, IsIndexOf, no_literal}
+use Rattle.hv_clauses.specs.Working.Occurrences.{AreBeside, AreLeft, AreOccurrences, IsBeside}
+use Rattle.hv_clauses.specs.Working.Occurrences.{IsIndexOf, no_literal}
 use Rattle.hv_clauses.specs.Working.Trail.{Grows, Knowledge, literal_of, marks_of, written}
 use Rattle.hv_clauses.specs.Units.{IsSettled, value_of}
 use Rattle.hv_clauses.specs.Working.Units.{IsConcluded}
@@ -26,7 +30,8 @@ use Rattle.hv_clauses.proofs.Rounds.{never}
 use Rattle.hv_clauses.proofs.Trailed.{known-set_same, length-marks}
 
 -- a clause of two literals
-pub two_are : (clause : List Literal) (d : Literal) → length clause ≡ 2 → clause ≡ get_or clause 0 d ∷ get_or clause 1 d ∷ []
+pub two_are : (clause : List Literal) (d : Literal) → length clause ≡ 2
+    → clause ≡ get_or clause 0 d ∷ get_or clause 1 d ∷ []
 two_are [] d e = absurd (omega arith)
 two_are (x ∷ []) d e = absurd (omega arith)
 two_are (x ∷ y ∷ []) d e = refl
@@ -39,7 +44,8 @@ pair_two x y = record {
   only = each;
 }
   where
-    each : (k : ℕ) (d : Literal) → k < 2 → (get_or (x ∷ y ∷ []) k d ≡ x) ⊎ (get_or (x ∷ y ∷ []) k d ≡ y)
+    each : (k : ℕ) (d : Literal) → k < 2 → (get_or (x ∷ y ∷ []) k d ≡ x)
+        ⊎ (get_or (x ∷ y ∷ []) k d ≡ y)
     each zero d less = inl refl
     each (suc zero) d less = inr refl
     each (suc (suc k)) d less = absurd (omega arith)
@@ -53,7 +59,8 @@ pair_turned clause a b pair = record {
 
 -- the part of a sorted list that has the occurrences of one atom has no other
 pub part_here : (xs : List Occurrence) (atom from upto : ℕ) → from ≤ upto → upto ≤ length xs
-    → AreLeft (λ o. atom ≤ o.atom) (λ o. o.atom < atom) xs from → AreLeft (λ o. atom < o.atom) (λ o. o.atom ≤ atom) xs upto
+    → AreLeft (λ o. atom ≤ o.atom) (λ o. o.atom < atom) xs from
+    → AreLeft (λ o. atom < o.atom) (λ o. o.atom ≤ atom) xs upto
     → All (λ o. o.atom ≡ atom) (take (upto - from) (drop from xs))
 part_here xs atom from upto order within first second k d less =
     let size = length-drop from xs in
@@ -61,11 +68,14 @@ part_here xs atom from upto order within first second k d less =
     let is = get_or-take (upto - from) (drop from xs) k d (omega arith) ∙ get_or-drop from xs k d in
     let low = first.1 (from + k) d (omega arith) (omega arith) in
     let high = second.0 (from + k) d (omega arith) in
-    ap (λ (o : Occurrence). o.atom) is ∙ (let e : (get_or xs (from + k) d).atom ≡ atom = omega arith in e)
+    ap (λ (o : Occurrence). o.atom) is ∙ (let e : (get_or xs (from + k) d).atom
+    ≡ atom = omega arith in e)
 
 -- what stands beside a part of a list is the part of what stands beside it
-pub part_beside : (sign : Bool) (clauses : List (List Literal)) (xs : List Occurrence) (es : List ℕ) (from upto : ℕ) → from ≤ upto → upto ≤ length xs
-    → AreBeside sign clauses xs es → AreBeside sign clauses (take (upto - from) (drop from xs)) (take (upto - from) (drop from es))
+pub part_beside : (sign : Bool) (clauses : List (List Literal)) (xs : List Occurrence) (es : List ℕ)
+    (from upto : ℕ) → from ≤ upto → upto ≤ length xs
+    → AreBeside sign clauses xs es → AreBeside sign clauses (take (upto - from) (drop from xs))
+    (take (upto - from) (drop from es))
 part_beside sign clauses xs es from upto order within beside =
     let all = beside.size in
     let size = length-drop from xs in
@@ -79,16 +89,21 @@ part_beside sign clauses xs es from upto order within beside =
           get_or-take (upto - from) (drop from xs) k o (omega arith) ∙ get_or-drop from xs k o in
           let eis : get_or (take (upto - from) (drop from es)) k 0 ≡ get_or es (from + k) 0 =
           get_or-take (upto - from) (drop from es) k 0 (omega arith) ∙ get_or-drop from es k 0 in
-          subst (λ (x : Occurrence). IsBeside (clause_at clauses x.place) (record { atom = x.atom; positive = sign }) (get_or (take (upto - from) (drop from es)) k 0))
+          subst (λ (x : Occurrence). IsBeside (clause_at clauses x.place)
+          (record { atom = x.atom; positive = sign })
+          (get_or (take (upto - from) (drop from es)) k 0))
           (sym is)
-          (subst (λ e. IsBeside (clause_at clauses (get_or xs (from + k) o).place) (record { atom = (get_or xs (from + k) o).atom; positive = sign }) e)
+          (subst (λ e. IsBeside (clause_at clauses (get_or xs (from + k) o).place)
+          (record { atom = (get_or xs (from + k) o).atom; positive = sign }) e)
           (sym eis) (beside.each (from + k) o (omega arith)));
     }
 
 -- one literal of two is false, so what the clause says is that the other one is true
-pub pair_followed : (e : List ℕ) (old new : Knowledge) (own other : Literal) (clause : List Literal) (result : Bool) → SpeakBelow (length old.base) clause
+pub pair_followed : (e : List ℕ) (old new : Knowledge) (own other : Literal) (clause : List Literal)
+    (result : Bool) → SpeakBelow (length old.base) clause
     → IsPair clause own other → value_of e (marks_of old) own ≡ Some false
-    → IsConcluded (λ s. in_literal other (over e s) ≡ true) (λ m. value_of e m other ≡ Some true) (marks_of old) (marks_of new) result → Grows old new
+    → IsConcluded (λ s. in_literal other (over e s) ≡ true)
+    (λ m. value_of e m other ≡ Some true) (marks_of old) (marks_of new) result → Grows old new
     → IsFollowed (λ s. in_clause clause (over e s) ≡ true) old new result
 pair_followed e old new own other clause result below pair out concluded grown =
     let size = length-marks old in
@@ -96,88 +111,118 @@ pair_followed e old new own other clause result below pair out concluded grown =
       base = grown.base;
       more = grown.more;
       grows = grown.grows;
-      follows = λ s long is agrees. concluded.follows s (long ∙ sym size) (rest s long is agrees) agrees;
-      broken = λ no s long is agrees. concluded.broken no s (long ∙ sym size) (rest s long is agrees) agrees;
+      follows = λ s long is agrees. concluded.follows s (long ∙ sym size) (rest s long is agrees)
+          agrees;
+      broken = λ no s long is agrees. concluded.broken no s (long ∙ sym size)
+          (rest s long is agrees) agrees;
     }
   where
-    rest : (s : List Bool) → length s ≡ length old.base → in_clause clause (over e s) ≡ true → Agrees (marks_of old) s
+    rest : (s : List Bool) → length s ≡ length old.base → in_clause clause (over e s) ≡ true
+        → Agrees (marks_of old) s
         → in_literal other (over e s) ≡ true
     rest s long is agrees =
         let some = Any-from_list_any (λ c. in_literal c (over e s)) clause is in
         let at : Contains clause some.1 = (some.0, some.2, some.3) in
-        let low : own.atom < length old.base = All-contains (λ c. c.atom < length old.base) clause own below pair.has_first in
+        let low : own.atom < length old.base = All-contains
+        (λ c. c.atom < length old.base) clause own below pair.has_first in
         elim (All-contains (λ c. (c ≡ own) ⊎ (c ≡ other)) clause some.1 pair.only at) [
           | inl first ↦
-              let no : in_literal own (over e s) ≡ true = subst (λ c. in_literal c (over e s) ≡ true) first some.4 in
+              let no : in_literal own (over e s) ≡ true = subst
+              (λ c. in_literal c (over e s) ≡ true) first some.4 in
               never (sym no ∙ value_false e (marks_of old) own s out agrees (omega (arith, long)))
           | inr second ↦ subst (λ c. in_literal c (over e s) ≡ true) second some.4
         ]
 
-pub pair_settled : (e m : List ℕ) (own other : Literal) (clause : List Literal) → IsPair clause own other → value_of e m other ≡ Some true
+pub pair_settled : (e m : List ℕ) (own other : Literal) (clause : List Literal)
+    → IsPair clause own other → value_of e m other ≡ Some true
     → IsSettled e m clause
 pair_settled e m own other clause pair is = inl (other, pair.has_second, is)
 
 -- something is known of the atom of each literal of a trail
-written_stays : (ls : List Literal) (m : List ℕ) (p : ℕ) → (known m p ≡ None → ⊥) → known (written ls m) p ≡ None → ⊥
+written_stays : (ls : List Literal) (m : List ℕ) (p : ℕ) → (known m p ≡ None → ⊥)
+    → known (written ls m) p ≡ None → ⊥
 written_stays ls m p some none =
     elim (written_or ls m p) [
       | inl same ↦ some (sym same ∙ none)
       | inr found ↦ let no = sym found.3 ∙ none in absurd cc
     ]
 
-written_known : (ls : List Literal) (m : List ℕ) (k : ℕ) (d : Literal) → k < length ls → (get_or ls k d).atom < length m
+written_known : (ls : List Literal) (m : List ℕ) (k : ℕ) (d : Literal) → k < length ls
+    → (get_or ls k d).atom < length m
     → known (written ls m) (get_or ls k d).atom ≡ None → ⊥
 written_known [] m k d less below = absurd (omega arith)
 written_known (l ∷ ls) m zero d less below =
     written_stays ls (slice_set m l.atom (mark_for l.positive)) l.atom
     (λ none. let no = sym (known-set_same m l.atom l.positive below) ∙ none in absurd cc)
 written_known (l ∷ ls) m (suc k) d less below =
-    written_known ls (slice_set m l.atom (mark_for l.positive)) k d (omega arith) (let e = length-set m l.atom (mark_for l.positive) in omega arith)
+    written_known ls (slice_set m l.atom (mark_for l.positive)) k d (omega arith)
+    (let e = length-set m l.atom (mark_for l.positive) in omega arith)
 
 -- where the opposite of the next literal of the trail isn't false, its clauses are true
-pub kept_true : (e : List ℕ) (clauses : List (List Literal)) (m : Knowledge) (from : ℕ) (literal : Literal)
-    → from < length m.trail → get_or m.trail from literal ≡ literal → literal.atom < length m.base → AreKept e clauses m from
+pub kept_true : (e : List ℕ) (clauses : List (List Literal)) (m : Knowledge) (from : ℕ)
+    (literal : Literal)
+    → from < length m.trail → get_or m.trail from literal ≡ literal → literal.atom < length m.base
+    → AreKept e clauses m from
     → (value_of e (marks_of m) (opposite literal) ≡ Some false → ⊥) → AreKept e clauses m (from + 1)
 kept_true e clauses m from literal less at below kept out =
     kept_beyond e clauses m from literal less at kept
-    (λ place within has apart. inl (opposite literal, has, is (value_of e (marks_of m) (opposite literal)) refl))
+    (λ place within has apart. inl (
+      opposite literal,
+      has,
+      is
+          (value_of e (marks_of m) (opposite literal)) refl,
+    ))
   where
     is : (v : Option Bool) → value_of e (marks_of m) (opposite literal) ≡ v → v ≡ Some true
     is (Some true) same = refl
     is (Some false) same = absurd (out same)
     is None same =
         let none = (value_none e (marks_of m) (opposite literal) same).1 in
-        absurd (written_known m.trail m.base from literal less (subst (λ (l : Literal). l.atom < length m.base) (sym at) below)
+        absurd (written_known m.trail m.base from literal less
+        (subst (λ (l : Literal). l.atom < length m.base) (sym at) below)
         (subst (λ (l : Literal). known (marks_of m) l.atom ≡ None) (sym at) none))
 
 -- The clause at a place of such lists.
-module _ (clauses : List (List Literal)) (listed : List Occurrence) (entries : List ℕ) (own : Literal) (index : ℕ) (less : index < length listed) where
-  pub listed_inside : All (λ o. o.place < length clauses) listed → (o : Occurrence) → (get_or listed index o).place < length clauses
+module _ (clauses : List (List Literal)) (listed : List Occurrence) (entries : List ℕ)
+    (own : Literal) (index : ℕ) (less : index < length listed) where
+  pub listed_inside : All (λ o. o.place < length clauses) listed → (o : Occurrence)
+      → (get_or listed index o).place < length clauses
   listed_inside inside o = inside index o less
 
-  pub listed_pair : AreBeside own.positive clauses listed entries → All (λ o. o.atom ≡ own.atom) listed → (other : Literal)
-      → other ≡ literal_of (get_or entries index 0) → (get_or entries index 0 ≡ no_literal → ⊥) → (o : Occurrence)
+  pub listed_pair : AreBeside own.positive clauses listed entries
+      → All (λ o. o.atom ≡ own.atom) listed → (other : Literal)
+      → other ≡ literal_of (get_or entries index 0) → (get_or entries index 0 ≡ no_literal → ⊥)
+      → (o : Occurrence)
       → IsPair (clause_at clauses (get_or listed index o).place) own other
   listed_pair beside here other is some o =
       let atom = here index o less in
-      let same : ◌≡◌ {A = Literal} (record { atom = (get_or listed index o).atom; positive = own.positive }) own =
+      let same : ◌≡◌ {A = Literal} (record {
+        atom = (get_or listed index o).atom;
+        positive =
+            own.positive;
+      }) own =
       ap (λ n. record { atom = n; positive = own.positive }) atom in
       subst (λ l. IsPair (clause_at clauses (get_or listed index o).place) l other) same
-      (subst (λ l. IsPair (clause_at clauses (get_or listed index o).place) (record { atom = (get_or listed index o).atom; positive = own.positive }) l)
+      (subst (λ l. IsPair (clause_at clauses (get_or listed index o).place)
+      (record { atom = (get_or listed index o).atom; positive = own.positive }) l)
       (sym is) ((beside.each index o less).pair some))
 
 -- what follows from the clause at a place follows from all
-pub one_followed : (e : List ℕ) (clauses : List (List Literal)) (place : ℕ) (old new : Knowledge) (result : Bool) → place < length clauses
+pub one_followed : (e : List ℕ) (clauses : List (List Literal)) (place : ℕ) (old new : Knowledge)
+    (result : Bool) → place < length clauses
     → IsFollowed (λ s. in_clause (clause_at clauses place) (over e s) ≡ true) old new result
     → IsFollowed (λ s. in_clauses clauses (over e s) ≡ true) old new result
 one_followed e clauses place old new result less one =
-    followed_same (λ s. in_clause (clause_at clauses place) (over e s) ≡ true) (λ s. in_clauses clauses (over e s) ≡ true) old new result
+    followed_same (λ s. in_clause (clause_at clauses place) (over e s) ≡ true)
+    (λ s. in_clauses clauses (over e s) ≡ true) old new result
     (λ state size holds. true_at e clauses place less state holds) one
 
 -- what comes from a later place on comes from an earlier one on
-pub kept_sooner : (e : List ℕ) (clause : List Literal) (k : Knowledge) (from later : ℕ) → from ≤ later → later ≤ length k.trail
+pub kept_sooner : (e : List ℕ) (clause : List Literal) (k : Knowledge) (from later : ℕ)
+    → from ≤ later → later ≤ length k.trail
     → IsKept e clause k later → IsKept e clause k from
-kept_sooner e clause k from later h within kept = kept_earlier e (clause ∷ []) k from later h within by 0 (omega arith)
+kept_sooner e clause k from later h within kept = kept_earlier e (clause ∷ []) k from later h within
+    by 0 (omega arith)
   where
     by : AreKept e (clause ∷ []) k later
     by zero less = kept
@@ -186,6 +231,7 @@ kept_sooner e clause k from later h within kept = kept_earlier e (clause ∷ [])
 -- both lists make the index
 pub index_from : (clauses : List (List Literal)) (occurs : Occurrences)
     → AreOccurrences false clauses occurs.negative.items occurs.beside_negative.items
-    → AreOccurrences true clauses occurs.positive.items occurs.beside_positive.items → IsIndexOf clauses occurs
+    → AreOccurrences true clauses occurs.positive.items occurs.beside_positive.items
+    → IsIndexOf clauses occurs
 index_from clauses occurs out inside true = inside
 index_from clauses occurs out inside false = out

@@ -1,6 +1,7 @@
 -- Numbers in blocks: those that give the same when they are divided by the size of a block.
 use Rattle.std.proofs.Common.{◌≡◌, ℕ, ◌<◌, ◌≤◌, ◌+◌, ◌*◌, ◌/◌, ap, arith}
-use Rattle.std.proofs.Math.Nat.{div-div-eq-div-mul, div-mul-le_self, le-mul_of_pos_right, lt-div-mul-add, mul-div_cancel}
+use Rattle.std.proofs.Math.Nat.{div-div-eq-div-mul, div-mul-le_self, le-mul_of_pos_right}
+use Rattle.std.proofs.Math.Nat.{lt-div-mul-add, mul-div_cancel}
 use Rattle.std.proofs.lemmas.Nat.{div_below, le-div, mul-le}
 
 pub below_end : (n w : ℕ) → 0 < w → n < (n / w + 1) * w
@@ -8,7 +9,8 @@ below_end n w some = omega (arith, lt-div-mul-add {a = n} {b = w} some)
 
 -- a block that begins below a whole number of blocks ends there at the latest
 pub end_within : (n w k : ℕ) → 0 < w → n < k * w → (n / w + 1) * w ≤ k * w
-end_within n w k some less = mul-le (n / w + 1) w k w (let q = div_below n w k some less in omega arith) (omega arith)
+end_within n w k some less = mul-le (n / w + 1) w k w
+    (let q = div_below n w k some less in omega arith) (omega arith)
 
 -- a later number is in no earlier block
 pub div_rises : (m n w : ℕ) → 0 < w → m ≤ n → m / w ≤ n / w
@@ -20,13 +22,16 @@ div_between n w q some low high =
     let b = div_below n w (q + 1) some high in omega arith
 
 -- the first number of a block that isn't below another
-pub first_next : (next block size : ℕ) → 0 < size → next / size ≤ block → block * size < next → next / size ≡ block
-first_next next block size some ahead past = let a = le-div block next size some (omega arith) in omega arith
+pub first_next : (next block size : ℕ) → 0 < size → next / size ≤ block → block * size < next
+    → next / size ≡ block
+first_next next block size some ahead past = let a = le-div block next size some (omega arith) in
+    omega arith
 
 pub first_start : (block size : ℕ) → 0 < size → block * size / size ≡ block
 first_start block size some = mul-div_cancel block some
 
-pub before_start : (block size number : ℕ) → 0 < size → number < block * size → number / size < block
+pub before_start : (block size number : ℕ) → 0 < size → number < block * size
+    → number / size < block
 before_start block size number some less = div_below number size block some less
 
 -- A block of blocks: of so many that have this size.
@@ -34,9 +39,11 @@ module _ (next part count : ℕ) (some_part : 0 < part) (some_count : 0 < count)
   pub front_is : next / part / count ≡ next / (part * count)
   front_is = div-div-eq-div-mul next part count
 
-  pub rest_front : (rest : ℕ) → next / part ≤ rest → rest < (next / part / count + 1) * count → rest / count ≡ next / part / count
+  pub rest_front : (rest : ℕ) → next / part ≤ rest → rest < (next / part / count + 1) * count
+      → rest / count ≡ next / part / count
   rest_front rest ahead less =
-      div_between rest count (next / part / count) some_count (omega (arith, div-mul-le_self (next / part) count, ahead)) less
+      div_between rest count (next / part / count) some_count
+      (omega (arith, div-mul-le_self (next / part) count, ahead)) less
 
   pub first_less : next / part < (next / part / count + 1) * count
   first_less = below_end (next / part) count some_count
@@ -46,15 +53,23 @@ module _ (next part count : ℕ) (some_part : 0 < part) (some_count : 0 < count)
     end_less =
         let q = next / (part * count) in
         let e : next / part / count ≡ q = front_is in
-        let w : 0 < part * count = (let a = mul-le 1 1 part count (omega arith) (omega arith) in omega arith) in
+        let w : 0 < part * count = (let a = mul-le 1 1 part count (omega arith) (omega arith) in
+        omega arith) in
         let bound = end_within next (part * count) rest_size w (omega (arith, is, less)) in
-        let same : (next / part / count + 1) * count * part ≡ (q + 1) * count * part = ap (λ n. (n + 1) * count * part) e in
+        let same : (next / part / count + 1) * count * part ≡ (q + 1) * count * part = ap
+        (λ n. (n + 1) * count * part) e in
         omega (arith, same, bound, is)
 
     pub end_few : (next / part / count + 1) * count ≤ total
-    end_few = omega (arith, end_less, le-mul_of_pos_right ((next / part / count + 1) * count) some_part)
+    end_few = omega (
+      arith,
+      end_less,
+      le-mul_of_pos_right ((next / part / count + 1) * count)
+          some_part,
+    )
 
     pub rest_less : (rest : ℕ) → rest < (next / part / count + 1) * count → rest * part < total
     rest_less rest within =
-        let a = mul-le (rest + 1) part ((next / part / count + 1) * count) part (omega arith) (omega arith) in
+        let a = mul-le (rest + 1) part ((next / part / count + 1) * count) part (omega arith)
+        (omega arith) in
         omega (arith, a, end_less, some_part)

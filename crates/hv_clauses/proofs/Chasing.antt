@@ -1,8 +1,12 @@
 -- Why it is enough to look again at the clauses that have the opposite of a literal of the trail.
-use Rattle.std.proofs.Common.{◌≡◌, ℕ, zero, suc, ◌+◌, ◌<◌, ◌≤◌, ◌∙◌, ◌⊎◌, Bool, true, false, not, cond, List, [], ◌∷◌, ◌++◌, Option, None, Some, length, get_or, drop, take, refl, sym, ap, ap₂, arith, inl, inr, subst, append_assoc}
+use Rattle.std.proofs.Common.{◌≡◌, ℕ, zero, suc, ◌+◌, ◌<◌, ◌≤◌, ◌∙◌, ◌⊎◌, Bool, true, false, not}
+use Rattle.std.proofs.Common.{cond, List, [], ◌∷◌, ◌++◌, Option, None, Some, length, get_or, drop}
+use Rattle.std.proofs.Common.{take, refl, sym, ap, ap₂, arith, inl, inr, subst, append_assoc}
 use Rattle.std.proofs.lemmas.Bool.{cases_eq, cases_lt}
-use Rattle.std.proofs.lemmas.List.{append-nil, drop-append-le, drop_more, drop_all, take_at, get_or_append_left, get_or_default, length-append, length-set}
-use Rattle.std.proofs.lemmas.List.Elements.{All-contains, Contains-append_left, Contains-append_right}
+use Rattle.std.proofs.lemmas.List.{append-nil, drop-append-le, drop_more, drop_all, take_at}
+use Rattle.std.proofs.lemmas.List.{get_or_append_left, get_or_default, length-append, length-set}
+use Rattle.std.proofs.lemmas.List.Elements.{All-contains, Contains-append_left}
+use Rattle.std.proofs.lemmas.List.Elements.{Contains-append_right}
 use Rattle.std.proofs.lemmas.List.Folds.{Any-from_list_any, list_any_none}
 use Rattle.std.proofs.lemmas.Option.{get_or_from_slice_get}
 use Rattle.std.specs.List.{All, Contains}
@@ -24,32 +28,48 @@ use Rattle.hv_clauses.specs.Working.Trail.{Grows, Knowledge, marks_of, written}
 use Rattle.hv_clauses.specs.Units.{IsSettled, first_of, value_of}
 use Rattle.hv_clauses.specs.Working.Units.{AreFalse, AreSettled}
 use Rattle.hv_clauses.proofs.Effects.{list_all_get}
-use Rattle.hv_clauses.proofs.Marked.{extends_same, extends_then, extends_write, known_past, value_false, value_marked, value_none}
+use Rattle.hv_clauses.proofs.Marked.{extends_same, extends_then, extends_write, known_past}
+use Rattle.hv_clauses.proofs.Marked.{value_false, value_marked, value_none}
 use Rattle.hv_clauses.proofs.Rounds.{never}
 use Rattle.hv_clauses.proofs.Steps.{IsMarked, follows_write, grows_write}
 use Rattle.hv_clauses.proofs.Trailed.{known-set_other, known-set_same, length-marks, written-push}
 
-written-append : (xs ys : List Literal) (m : List ℕ) → written (xs ++ ys) m ≡ written ys (written xs m)
+written-append : (xs ys : List Literal) (m : List ℕ)
+    → written (xs ++ ys) m ≡ written ys (written xs m)
 written-append [] ys m = refl
 written-append (x ∷ xs) ys m = written-append xs ys (slice_set m x.atom (mark_for x.positive))
 
 -- of each atom the same is known as before, or what a literal of the trail says
 pub written_or : (ls : List Literal) (m : List ℕ) (p : ℕ)
-    → (known (written ls m) p ≡ known m p) ⊎ ((l : Literal) × Contains ls l × (l.atom ≡ p) × (known (written ls m) p ≡ Some l.positive))
+    → (known (written ls m) p ≡ known m p)
+    ⊎ ((l : Literal) × Contains ls l × (l.atom ≡ p)
+    × (known (written ls m) p ≡ Some l.positive))
 written_or [] m p = inl refl
 written_or (x ∷ xs) m p =
     let rest = slice_set m x.atom (mark_for x.positive) in
     elim (written_or xs rest p) [
-      | inr found ↦ inr (found.0, (suc found.1.0, omega (arith, found.1.1), found.1.2), found.2, found.3)
+      | inr found ↦ inr (
+        found.0,
+        (suc found.1.0, omega (arith, found.1.1), found.1.2),
+        found.2,
+        found.3,
+      )
       | inl same ↦
           elim (cases_eq x.atom p) [
             | inr other ↦ inl (same ∙ known-set_other m x.atom p x.positive (λ e. other (sym e)))
             | inl here ↦
                 elim (cases_lt x.atom (length m)) [
-                  | inl less ↦ inr (x, (0, omega arith, refl), here, same ∙ (sym (ap (known rest) here) ∙ known-set_same m x.atom x.positive less))
+                  | inl less ↦ inr (
+                    x,
+                    (0, omega arith, refl),
+                    here,
+                    same
+                        ∙ (sym (ap (known rest) here) ∙ known-set_same m x.atom x.positive less),
+                  )
                   | inr past ↦
                       let size = length-set m x.atom (mark_for x.positive) in
-                      inl (same ∙ (known_past rest p (omega (arith, here)) ∙ sym (known_past m p (omega (arith, here)))))
+                      inl (same ∙ (known_past rest p (omega (arith, here))
+                      ∙ sym (known_past m p (omega (arith, here)))))
                 ]
           ]
     ]
@@ -61,15 +81,18 @@ not_twice false true h = absurd (h refl)
 not_twice false false h = refl
 
 -- a literal whose opposite isn't found true has the value that it had, or it is true
-value_or : (e m : List ℕ) (more : List Literal) (l : Literal) → ((x : Literal) → Contains more x → opposite x ≡ l → ⊥)
+value_or : (e m : List ℕ) (more : List Literal) (l : Literal)
+    → ((x : Literal) → Contains more x → opposite x ≡ l → ⊥)
     → (value_of e (written more m) l ≡ value_of e m l) ⊎ (value_of e (written more m) l ≡ Some true)
 value_or e m more l apart =
     elim (written_or more m l.atom) [
-      | inl same ↦ inl (ap (λ o. option_map (λ value. cond l.positive value (not value)) (first_of (known e l.atom) o)) same)
+      | inl same ↦ inl (ap (λ o. option_map
+          (λ value. cond l.positive value (not value)) (first_of (known e l.atom) o)) same)
       | inr found ↦
           let x = found.0 in
           let sign : x.positive ≡ l.positive =
-          not_twice x.positive l.positive (λ e. apart x found.1 (λ i. record { atom = found.2 i; positive = turned x.positive l.positive e i })) in
+          not_twice x.positive l.positive (λ e. apart x found.1
+          (λ i. record { atom = found.2 i; positive = turned x.positive l.positive e i })) in
           by (known e l.atom) refl (found.3 ∙ ap (λ (b : Bool). Some b) sign)
     ]
   where
@@ -80,11 +103,14 @@ value_or e m more l apart =
     turned false false h = sym h
 
     by : (o : Option Bool) → known e l.atom ≡ o → known (written more m) l.atom ≡ Some l.positive
-        → (value_of e (written more m) l ≡ value_of e m l) ⊎ (value_of e (written more m) l ≡ Some true)
+        → (value_of e (written more m) l ≡ value_of e m l)
+        ⊎ (value_of e (written more m) l ≡ Some true)
     by None none here = inr (value_marked e (written more m) l none here)
     by (Some v) some here =
-        let word : Option Bool → Option Bool = λ o. option_map (λ value. cond l.positive value (not value)) o in
-        inl (ap (λ o. word (first_of o (known (written more m) l.atom))) some ∙ sym (ap (λ o. word (first_of o (known m l.atom))) some))
+        let word : Option Bool → Option Bool = λ o. option_map
+        (λ value. cond l.positive value (not value)) o in
+        inl (ap (λ o. word (first_of o (known (written more m) l.atom))) some
+        ∙ sym (ap (λ o. word (first_of o (known m l.atom))) some))
 
 -- so a clause without the opposite of a literal that is found true stays settled
 settled_on : (e m : List ℕ) (more clause : List Literal)
@@ -109,34 +135,43 @@ settled_on e m more clause apart settled =
     ]
 
 -- what was kept is kept while the trail grows
-pub kept_on : (e : List ℕ) (clause : List Literal) (old new : Knowledge) (from : ℕ) → new.base ≡ old.base
-    → ((more : List Literal) × (new.trail ≡ old.trail ++ more)) → from ≤ length old.trail → IsKept e clause old from → IsKept e clause new from
+pub kept_on : (e : List ℕ) (clause : List Literal) (old new : Knowledge) (from : ℕ)
+    → new.base ≡ old.base
+    → ((more : List Literal) × (new.trail ≡ old.trail ++ more)) → from ≤ length old.trail
+    → IsKept e clause old from → IsKept e clause new from
 kept_on e clause old new from base grown h kept = λ apart.
     let more = grown.0 in
-    let split : drop from new.trail ≡ drop from old.trail ++ more = ap (drop from) grown.1 ∙ drop-append-le from old.trail more h in
+    let split : drop from new.trail ≡ drop from old.trail ++ more = ap (drop from) grown.1
+    ∙ drop-append-le from old.trail more h in
     let marks : marks_of new ≡ written more (marks_of old) =
     ap (λ b. written new.trail b) base
     ∙ (ap (λ ls. written ls old.base) grown.1 ∙ written-append old.trail more old.base) in
     subst (λ m. IsSettled e m clause) (sym marks)
     (settled_on e (marks_of old) more clause
     (λ x l at has same. apart x
-    (subst (λ ls. Contains ls x) (sym split) (Contains-append_right (drop from old.trail) more x at))
+    (subst (λ ls. Contains ls x) (sym split)
+    (Contains-append_right (drop from old.trail) more x at))
     (subst (λ y. Contains clause y) (sym same) has))
-    (kept (λ x at has. apart x (subst (λ ls. Contains ls x) (sym split) (Contains-append_left (drop from old.trail) more x at)) has)))
+    (kept (λ x at has. apart x (subst (λ ls. Contains ls x) (sym split)
+    (Contains-append_left (drop from old.trail) more x at)) has)))
 
 -- a clause has the literal or not
 has_or : (clause : List Literal) (l : Literal) → Contains clause l ⊎ (Contains clause l → ⊥)
 has_or clause l = by (names_literal clause l.atom l.positive) refl
   where
-    by : (b : Bool) → names_literal clause l.atom l.positive ≡ b → Contains clause l ⊎ (Contains clause l → ⊥)
+    by : (b : Bool) → names_literal clause l.atom l.positive ≡ b
+        → Contains clause l ⊎ (Contains clause l → ⊥)
     by true e = inl ((names_literal-Decides clause l.atom l.positive).0 e)
-    by false e = inr (λ has. let is = (names_literal-Decides clause l.atom l.positive).1 has in never (sym is ∙ e))
+    by false e = inr (λ has. let is = (names_literal-Decides clause l.atom l.positive).1 has in
+        never (sym is ∙ e))
 
 -- once this is so of each clause with the opposite of the next literal of the trail, what is left
 -- begins behind it
-pub kept_beyond : (e : List ℕ) (clauses : List (List Literal)) (m : Knowledge) (from : ℕ) (literal : Literal)
+pub kept_beyond : (e : List ℕ) (clauses : List (List Literal)) (m : Knowledge) (from : ℕ)
+    (literal : Literal)
     → from < length m.trail → get_or m.trail from literal ≡ literal → AreKept e clauses m from
-    → ((place : ℕ) → place < length clauses → Contains (clause_at clauses place) (opposite literal) → IsKept e (clause_at clauses place) m (from + 1))
+    → ((place : ℕ) → place < length clauses → Contains (clause_at clauses place) (opposite literal)
+    → IsKept e (clause_at clauses place) m (from + 1))
     → AreKept e clauses m (from + 1)
 kept_beyond e clauses m from literal h at kept seen place less =
     elim (has_or (clause_at clauses place) (opposite literal)) [
@@ -144,22 +179,28 @@ kept_beyond e clauses m from literal h at kept seen place less =
       | inr none ↦ λ apart.
           let split : drop from m.trail ≡ literal ∷ drop (from + 1) m.trail =
           drop_more m.trail from literal h ∙ ap (λ y. y ∷ drop (from + 1) m.trail) at in
-          kept place less (λ x has within. either x none apart within (subst (λ ls. Contains ls x) split has))
+          kept place less (λ x has within. either x none apart within
+          (subst (λ ls. Contains ls x) split has))
     ]
   where
     either : (x : Literal) → (Contains (clause_at clauses place) (opposite literal) → ⊥)
-        → IsApart m.trail (from + 1) (clause_at clauses place) → Contains (clause_at clauses place) (opposite x)
+        → IsApart m.trail (from + 1) (clause_at clauses place)
+        → Contains (clause_at clauses place) (opposite x)
         → Contains (literal ∷ drop (from + 1) m.trail) x → ⊥
     either x none apart within has = by has.0 has.1 has.2
       where
-        by : (k : ℕ) → k < length (literal ∷ drop (from + 1) m.trail) → get_or (literal ∷ drop (from + 1) m.trail) k x ≡ x → ⊥
-        by zero less is = none (subst (λ (y : Literal). Contains (clause_at clauses place) (opposite y)) (sym is) within)
+        by : (k : ℕ) → k < length (literal ∷ drop (from + 1) m.trail)
+            → get_or (literal ∷ drop (from + 1) m.trail) k x ≡ x → ⊥
+        by zero less is = none (subst (λ (y : Literal). Contains (clause_at clauses place)
+            (opposite y)) (sym is) within)
         by (suc k) less is = apart x (k, omega arith, is) within
 
 -- once each clause with the opposite of the next literal of the trail was looked at, what is left
 -- begins behind it
-pub kept_next : (e : List ℕ) (clauses : List (List Literal)) (occurs listed : List Occurrence) (m : Knowledge) (from : ℕ) (literal : Literal)
-    → from < length m.trail → get_or m.trail from literal ≡ literal → AreKept e clauses m from → ListsAll (not literal.positive) clauses occurs
+pub kept_next : (e : List ℕ) (clauses : List (List Literal)) (occurs listed : List Occurrence)
+    (m : Knowledge) (from : ℕ) (literal : Literal)
+    → from < length m.trail → get_or m.trail from literal ≡ literal → AreKept e clauses m from
+    → ListsAll (not literal.positive) clauses occurs
     → ((o : Occurrence) → Contains occurs o → o.atom ≡ literal.atom → Contains listed o)
     → ((o : Occurrence) → Contains listed o → IsKept e (clause_at clauses o.place) m (from + 1))
     → AreKept e clauses m (from + 1)
@@ -170,11 +211,13 @@ kept_next e clauses occurs listed m from literal h at kept lists all seen =
     seen o (all o (lists place (opposite literal) less found refl) refl))
 
 -- when nothing is left on the trail, all clauses are settled
-pub settled_end : (e : List ℕ) (clauses : List (List Literal)) (m : Knowledge) (from : ℕ) → length m.trail ≤ from → AreKept e clauses m from
+pub settled_end : (e : List ℕ) (clauses : List (List Literal)) (m : Knowledge) (from : ℕ)
+    → length m.trail ≤ from → AreKept e clauses m from
     → AreSettled e clauses (marks_of m)
 settled_end e clauses m from h kept = λ k d less.
     subst (λ c. IsSettled e (marks_of m) c) (get_or_default clauses k [] d less)
-    (kept k less (λ x has within. nothing x (subst (λ ls. Contains ls x) (drop_all from m.trail h) has)))
+    (kept k less (λ x has within. nothing x
+    (subst (λ ls. Contains ls x) (drop_all from m.trail h) has)))
   where
     nothing : (x : Literal) → Contains [] x → ⊥
     nothing x has = omega (arith, has.1)
@@ -189,45 +232,60 @@ followed_none Holds k = record {
   broken = λ is. never is;
 }
 
-pub followed_then : (P Q : List Bool → Type 0) (a b c : Knowledge) (result : Bool) → ((state : List Bool) → length state ≡ length a.base → P state → Q state)
+pub followed_then : (P Q : List Bool → Type 0) (a b c : Knowledge) (result : Bool)
+    → ((state : List Bool) → length state ≡ length a.base → P state → Q state)
     → IsFollowed P a b true → IsFollowed Q b c result → IsFollowed P a c result
 followed_then P Q a b c result weaker first second = record {
   base = second.base ∙ first.base;
   more = (
     first.more.0 ++ second.more.0,
-    second.more.1 ∙ (ap (λ ls. ls ++ second.more.0) first.more.1 ∙ append_assoc a.trail first.more.0 second.more.0),
+    second.more.1 ∙ (ap (λ ls. ls ++ second.more.0) first.more.1
+        ∙ append_assoc a.trail first.more.0 second.more.0),
   );
   grows = extends_then (marks_of a) (marks_of b) (marks_of c) first.grows second.grows;
   follows = λ state size holds agrees.
-      second.follows state (size ∙ sym (ap length first.base)) (weaker state size holds) (first.follows state size holds agrees);
+      second.follows state (size ∙ sym (ap length first.base)) (weaker state size holds)
+      (first.follows state size holds agrees);
   broken = λ is state size holds agrees.
-      second.broken is state (size ∙ sym (ap length first.base)) (weaker state size holds) (first.follows state size holds agrees);
+      second.broken is state (size ∙ sym (ap length first.base)) (weaker state size holds)
+      (first.follows state size holds agrees);
 }
 
 -- clauses that are all true are true at each place
-pub true_at : (e : List ℕ) (clauses : List (List Literal)) (place : ℕ) → place < length clauses → (state : List Bool)
-    → in_clauses clauses (over e state) ≡ true → in_clause (clause_at clauses place) (over e state) ≡ true
-true_at e clauses place less state holds = list_all_get (λ c. in_clause c (over e state)) clauses place [] holds less
+pub true_at : (e : List ℕ) (clauses : List (List Literal)) (place : ℕ) → place < length clauses
+    → (state : List Bool)
+    → in_clauses clauses (over e state) ≡ true
+    → in_clause (clause_at clauses place) (over e state) ≡ true
+true_at e clauses place less state holds = list_all_get
+    (λ c. in_clause c (over e state)) clauses place [] holds less
 
 -- single steps
-pub marked_more : (k : Knowledge) (l : Literal) → l.atom < length k.base → IsMarked l (marks_of k) (marks_of (record { base = k.base; trail = k.trail ++ l ∷ [] }))
+pub marked_more : (k : Knowledge) (l : Literal) → l.atom < length k.base
+    → IsMarked l (marks_of k) (marks_of (record { base = k.base; trail = k.trail ++ l ∷ [] }))
 marked_more k l h =
     let size = length-marks k in
-    let more : marks_of (record { base = k.base; trail = k.trail ++ l ∷ [] }) ≡ slice_set (marks_of k) l.atom (mark_for l.positive) =
+    let more : marks_of (record { base = k.base; trail = k.trail ++ l ∷ [] })
+    ≡ slice_set (marks_of k) l.atom (mark_for l.positive) =
     written-push k.trail l k.base in
     let wide = length-marks (record { base = k.base; trail = k.trail ++ l ∷ [] }) in
     record {
       size = wide ∙ sym size;
-      here = ap (λ m. known m l.atom) more ∙ known-set_same (marks_of k) l.atom l.positive (omega arith);
-      others = λ p other. ap (λ m. known m p) more ∙ known-set_other (marks_of k) l.atom p l.positive other;
+      here = ap (λ m. known m l.atom) more ∙ known-set_same (marks_of k) l.atom l.positive
+          (omega arith);
+      others = λ p other. ap (λ m. known m p) more
+          ∙ known-set_other (marks_of k) l.atom p l.positive other;
     }
 
-pub step_followed : (e : List ℕ) (k : Knowledge) (l : Literal) (clause : List Literal) → SpeakBelow (length k.base) clause → Contains clause l
-    → value_of e (marks_of k) l ≡ None → All (λ c. (c ≡ l) ⊎ (value_of e (marks_of k) c ≡ Some false)) clause
-    → IsFollowed (λ s. in_clause clause (over e s) ≡ true) k (record { base = k.base; trail = k.trail ++ l ∷ [] }) true
+pub step_followed : (e : List ℕ) (k : Knowledge) (l : Literal) (clause : List Literal)
+    → SpeakBelow (length k.base) clause → Contains clause l
+    → value_of e (marks_of k) l ≡ None → All
+    (λ c. (c ≡ l) ⊎ (value_of e (marks_of k) c ≡ Some false)) clause
+    → IsFollowed (λ s. in_clause clause (over e s) ≡ true) k
+    (record { base = k.base; trail = k.trail ++ l ∷ [] }) true
 step_followed e k l clause below has nothing all =
     let size = length-marks k in
-    let within : l.atom < length k.base = All-contains (λ c. c.atom < length k.base) clause l below has in
+    let within : l.atom < length k.base = All-contains
+    (λ c. c.atom < length k.base) clause l below has in
     let new : Knowledge = record { base = k.base; trail = k.trail ++ l ∷ [] } in
     let more = marked_more k l within in
     record {
@@ -237,23 +295,36 @@ step_followed e k l clause below has nothing all =
       follows = λ state is holds agrees.
           let some = Any-from_list_any (λ c. in_literal c (over e state)) clause holds in
           let at : Contains clause some.1 = (some.0, some.2, some.3) in
-          let low : some.1.atom < length k.base = All-contains (λ c. c.atom < length k.base) clause some.1 below at in
-          elim (All-contains (λ c. (c ≡ l) ⊎ (value_of e (marks_of k) c ≡ Some false)) clause some.1 all at) [
+          let low : some.1.atom < length k.base = All-contains
+          (λ c. c.atom < length k.base) clause some.1 below at in
+          elim (All-contains (λ c. (c ≡ l) ⊎ (value_of e (marks_of k) c ≡ Some false)) clause some.1
+          all at) [
             | inl same ↦
-                follows_write e (marks_of k) l (marks_of new) nothing more (omega arith) state (is ∙ sym size)
+                follows_write e (marks_of k) l (marks_of new) nothing more (omega arith) state
+                (is ∙ sym size)
                 (ap (λ c. in_literal c (over e state)) (sym same) ∙ some.4) agrees
-            | inr out ↦ never (sym some.4 ∙ value_false e (marks_of k) some.1 state out agrees (omega (arith, is)))
+            | inr out ↦ never (sym some.4 ∙ value_false e (marks_of k) some.1 state out agrees
+                (omega (arith, is)))
           ];
       broken = λ is. never is;
     }
 
-pub step_settled : (e : List ℕ) (k : Knowledge) (l : Literal) (clause : List Literal) → SpeakBelow (length k.base) clause → Contains clause l
-    → value_of e (marks_of k) l ≡ None → IsSettled e (marks_of (record { base = k.base; trail = k.trail ++ l ∷ [] })) clause
+pub step_settled : (e : List ℕ) (k : Knowledge) (l : Literal) (clause : List Literal)
+    → SpeakBelow (length k.base) clause → Contains clause l
+    → value_of e (marks_of k) l ≡ None → IsSettled e
+    (marks_of (record { base = k.base; trail = k.trail ++ l ∷ [] })) clause
 step_settled e k l clause below has nothing =
-    let within : l.atom < length k.base = All-contains (λ c. c.atom < length k.base) clause l below has in
-    inl (l, has, value_marked e _ l (value_none e (marks_of k) l nothing).0 (marked_more k l within).here)
+    let within : l.atom < length k.base = All-contains
+    (λ c. c.atom < length k.base) clause l below has in
+    inl (
+      l,
+      has,
+      value_marked e _ l (value_none e (marks_of k) l nothing).0
+          (marked_more k l within).here,
+    )
 
-pub broken_followed : (e : List ℕ) (k : Knowledge) (clause : List Literal) → SpeakBelow (length k.base) clause → AreFalse e clause (marks_of k)
+pub broken_followed : (e : List ℕ) (k : Knowledge) (clause : List Literal)
+    → SpeakBelow (length k.base) clause → AreFalse e clause (marks_of k)
     → IsFollowed (λ s. in_clause clause (over e s) ≡ true) k k false
 broken_followed e k clause below all = record {
   base = refl;
@@ -267,72 +338,99 @@ broken_followed e k clause below all = record {
       (subst (λ n. (get_or clause j d).atom < n) (sym long) (below j d h))));
 }
 
-pub longer : (Holds : List Bool → Type 0) (a b : Knowledge) (result : Bool) → IsFollowed Holds a b result → length a.trail ≤ length b.trail
-longer Holds a b result followed = omega (arith, ap length followed.more.1, length-append a.trail followed.more.0)
+pub longer : (Holds : List Bool → Type 0) (a b : Knowledge) (result : Bool)
+    → IsFollowed Holds a b result → length a.trail ≤ length b.trail
+longer Holds a b result followed = omega
+    (arith, ap length followed.more.1, length-append a.trail followed.more.0)
 
 -- The clause at a place, as calls give it.
-module _ (e : List ℕ) (clauses : List (List Literal)) (place : ℕ) (clause : List Literal) (less : place < length clauses)
+module _ (e : List ℕ) (clauses : List (List Literal)) (place : ℕ) (clause : List Literal)
+    (less : place < length clauses)
     (read : slice_get clauses place ≡ Some clause) where
   pub clause_is : clause ≡ clause_at clauses place
   clause_is = sym (get_or_from_slice_get clauses place clause [] read)
 
   pub clause_below : (n m : ℕ) → AreClauses n clauses → m ≡ n → SpeakBelow m clause
-  clause_below n m all same = subst (λ k. SpeakBelow k clause) (sym same) (subst (λ c. SpeakBelow n c) (sym clause_is) (all place [] less))
+  clause_below n m all same = subst (λ k. SpeakBelow k clause) (sym same)
+      (subst (λ c. SpeakBelow n c) (sym clause_is) (all place [] less))
 
-  pub clause_followed : (a b c : Knowledge) (result : Bool) → IsFollowed (λ s. in_clauses clauses (over e s) ≡ true) a b true
-      → IsFollowed (λ s. in_clause clause (over e s) ≡ true) b c result → IsFollowed (λ s. in_clauses clauses (over e s) ≡ true) a c result
+  pub clause_followed : (a b c : Knowledge) (result : Bool)
+      → IsFollowed (λ s. in_clauses clauses (over e s) ≡ true) a b true
+      → IsFollowed (λ s. in_clause clause (over e s) ≡ true) b c result
+      → IsFollowed (λ s. in_clauses clauses (over e s) ≡ true) a c result
   clause_followed a b c result first second =
-      followed_then (λ s. in_clauses clauses (over e s) ≡ true) (λ s. in_clause clause (over e s) ≡ true) a b c result
-      (λ state size holds. ap (λ c. in_clause c (over e state)) clause_is ∙ true_at e clauses place less state holds) first second
+      followed_then (λ s. in_clauses clauses (over e s) ≡ true)
+      (λ s. in_clause clause (over e s) ≡ true) a b c result
+      (λ state size holds. ap (λ c. in_clause c (over e state)) clause_is
+      ∙ true_at e clauses place less state holds) first second
 
-  pub clause_kept : (k : Knowledge) (from : ℕ) → IsSettled e (marks_of k) clause → IsKept e (clause_at clauses place) k from
+  pub clause_kept : (k : Knowledge) (from : ℕ) → IsSettled e (marks_of k) clause
+      → IsKept e (clause_at clauses place) k from
   clause_kept k from settled = λ apart. subst (λ c. IsSettled e (marks_of k) c) clause_is settled
 
 -- what a trail has at a place it has there while it grows
-pub read_on : (old new more : List Literal) (from : ℕ) (l : Literal) → from < length old → new ≡ old ++ more → slice_get old from ≡ Some l
+pub read_on : (old new more : List Literal) (from : ℕ) (l : Literal) → from < length old
+    → new ≡ old ++ more → slice_get old from ≡ Some l
     → get_or new from l ≡ l
 read_on old new more from l less e read =
-    ap (λ ls. get_or ls from l) e ∙ (get_or_append_left old more l from less ∙ get_or_from_slice_get old from l l read)
+    ap (λ ls. get_or ls from l) e ∙ (get_or_append_left old more l from less
+    ∙ get_or_from_slice_get old from l l read)
 
 -- the same for all clauses
-pub kept_grown : (e : List ℕ) (clauses : List (List Literal)) (old new : Knowledge) (from : ℕ) → Grows old new → from ≤ length old.trail
+pub kept_grown : (e : List ℕ) (clauses : List (List Literal)) (old new : Knowledge) (from : ℕ)
+    → Grows old new → from ≤ length old.trail
     → AreKept e clauses old from → AreKept e clauses new from
 kept_grown e clauses old new from grown h kept = λ place less.
     kept_on e (clause_at clauses place) old new from grown.base grown.more h (kept place less)
 
 -- a trial that is taken back
-pub undone_same : (old mid new : Knowledge) → Grows old mid → new ≡ record { base = mid.base; trail = take (length old.trail) mid.trail } → new ≡ old
+pub undone_same : (old mid new : Knowledge) → Grows old mid
+    → new ≡ record { base = mid.base; trail = take (length old.trail) mid.trail } → new ≡ old
 undone_same old mid new grown e =
-    e ∙ ap₂ (λ (b : List ℕ) (ls : List Literal). let k : Knowledge = record { base = b; trail = ls } in k) grown.base
-    (ap (take (length old.trail)) grown.more.1 ∙ take_at old.trail grown.more.0 (length old.trail) refl)
+    e ∙ ap₂ (λ (b : List ℕ) (ls : List Literal). let k : Knowledge = record
+    { base = b; trail = ls } in k) grown.base
+    (ap (take (length old.trail)) grown.more.1
+    ∙ take_at old.trail grown.more.0 (length old.trail) refl)
 
 pub grows_then : (a b c : Knowledge) → Grows a b → Grows b c → Grows a c
 grows_then a b c first second = record {
   base = second.base ∙ first.base;
   more = (
     first.more.0 ++ second.more.0,
-    second.more.1 ∙ (ap (λ ls. ls ++ second.more.0) first.more.1 ∙ append_assoc a.trail first.more.0 second.more.0),
+    second.more.1 ∙ (ap (λ ls. ls ++ second.more.0) first.more.1
+        ∙ append_assoc a.trail first.more.0 second.more.0),
   );
   grows = extends_then (marks_of a) (marks_of b) (marks_of c) first.grows second.grows;
 }
 
 pub grows_same : (k : Knowledge) → Grows k k
-grows_same k = record { base = refl; more = ([], sym (append-nil k.trail)); grows = extends_same (marks_of k) }
+grows_same k = record {
+  base = refl;
+  more = ([], sym (append-nil k.trail));
+  grows = extends_same
+      (marks_of k);
+}
 
 -- one literal more
-pub grown_more : (k : Knowledge) (l : Literal) → l.atom < length k.base → known (marks_of k) l.atom ≡ None
+pub grown_more : (k : Knowledge) (l : Literal) → l.atom < length k.base
+    → known (marks_of k) l.atom ≡ None
     → Grows k (record { base = k.base; trail = k.trail ++ l ∷ [] })
 grown_more k l less none = record {
   base = refl;
   more = (l ∷ [], refl);
-  grows = extends_write (marks_of k) (marks_of (record { base = k.base; trail = k.trail ++ l ∷ [] })) l.atom none (marked_more k l less).others;
+  grows = extends_write (marks_of k) (marks_of
+      (record { base = k.base; trail = k.trail ++ l ∷ [] })) l.atom none
+      (marked_more k l less).others;
 }
 
-pub grown_by : (P : List Bool → Type 0) (old new : Knowledge) (result : Bool) → IsFollowed P old new result → Grows old new
-grown_by P old new result followed = record { base = followed.base; more = followed.more; grows = followed.grows }
+pub grown_by : (P : List Bool → Type 0) (old new : Knowledge) (result : Bool)
+    → IsFollowed P old new result → Grows old new
+grown_by P old new result followed = record
+    { base = followed.base; more = followed.more; grows = followed.grows }
 
 -- the same under other words
-pub followed_same : (P Q : List Bool → Type 0) (old new : Knowledge) (result : Bool) → ((state : List Bool) → length state ≡ length old.base → Q state → P state)
+pub followed_same : (P Q : List Bool → Type 0) (old new : Knowledge) (result : Bool)
+    → ((state : List Bool) → length state ≡ length old.base → Q state → P state)
     → IsFollowed P old new result → IsFollowed Q old new result
 followed_same P Q old new result back one = record {
   base = one.base;
@@ -343,18 +441,30 @@ followed_same P Q old new result back one = record {
 }
 
 -- a settled clause that the effect leaves alone is settled through the effect
-pub settled_through : (e m : List ℕ) (clause : List Literal) → All (λ l. known e l.atom ≡ None) clause → IsSettled [] m clause → IsSettled e m clause
+pub settled_through : (e m : List ℕ) (clause : List Literal)
+    → All (λ l. known e l.atom ≡ None) clause → IsSettled [] m clause → IsSettled e m clause
 settled_through e m clause alone settled =
     elim settled [
       | inl at ↦ inl (at.0, at.1, value_same at.0 at.1 ∙ at.2)
-      | inr two ↦ inr (two.0, two.1, two.2, two.3, two.4, value_same two.0 two.2 ∙ two.5, value_same two.1 two.3 ∙ two.6)
+      | inr two ↦ inr (
+        two.0,
+        two.1,
+        two.2,
+        two.3,
+        two.4,
+        value_same two.0 two.2
+            ∙ two.5,
+        value_same two.1 two.3 ∙ two.6,
+      )
     ]
   where
     value_same : (l : Literal) → Contains clause l → value_of e m l ≡ value_of [] m l
     value_same l has =
-        ap (λ o. option_map (λ value. cond l.positive value (not value)) (first_of o (known m l.atom)))
+        ap (λ o. option_map (λ value. cond l.positive value (not value))
+        (first_of o (known m l.atom)))
         (All-contains (λ l. known e l.atom ≡ None) clause l alone has)
 
 -- where all clauses are settled, nothing is left to follow up
-pub kept_settled : (e : List ℕ) (clauses : List (List Literal)) (k : Knowledge) (from : ℕ) → AreSettled e clauses (marks_of k) → AreKept e clauses k from
+pub kept_settled : (e : List ℕ) (clauses : List (List Literal)) (k : Knowledge) (from : ℕ)
+    → AreSettled e clauses (marks_of k) → AreKept e clauses k from
 kept_settled e clauses k from settled = λ place less apart. settled place [] less

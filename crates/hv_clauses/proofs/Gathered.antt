@@ -1,8 +1,10 @@
 -- Codes that are put together clause by clause.
-use Rattle.std.proofs.Common.{◌≡◌, ℕ, ◌+◌, ◌<◌, ◌≤◌, ◌∙◌, ◌↔◌, ◌⊎◌, Bool, false, List, [], ◌∷◌, ◌++◌, length, get_or, map, take, sym, ap, subst, arith, inl, inr}
+use Rattle.std.proofs.Common.{◌≡◌, ℕ, ◌+◌, ◌<◌, ◌≤◌, ◌∙◌, ◌↔◌, ◌⊎◌, Bool, false, List, [], ◌∷◌}
+use Rattle.std.proofs.Common.{◌++◌, length, get_or, map, take, sym, ap, subst, arith, inl, inr}
 use Rattle.std.proofs.lemmas.Bool.{cases_lt}
 use Rattle.std.proofs.lemmas.List.{take_more}
-use Rattle.std.proofs.lemmas.List.Elements.{Contains-append_left, Contains-push, Contains-push_cases}
+use Rattle.std.proofs.lemmas.List.Elements.{Contains-append_left, Contains-push}
+use Rattle.std.proofs.lemmas.List.Elements.{Contains-push_cases}
 use Rattle.std.specs.List.{Contains}
 use Rattle.hv_sets.specs.declared.literal.Literal.{Literal}
 use Rattle.std.specs.List.Sorted.{IsStrictlyIncreasing}
@@ -11,7 +13,8 @@ use Rattle.hv_clauses.specs.Working.Negative.{IsNegativeCode}
 use Rattle.hv_clauses.specs.Working.Rows.{AreRows, ListsCodes, PutsCodes, code, place_of_code}
 
 -- the codes of one item more
-pub lists_more : (Of : ℕ → ℕ → Type 0) (k : ℕ) (codes new : List ℕ) → ListsCodes Of k codes → PutsCodes (Of k) codes new
+pub lists_more : (Of : ℕ → ℕ → Type 0) (k : ℕ) (codes new : List ℕ) → ListsCodes Of k codes
+    → PutsCodes (Of k) codes new
     → ListsCodes Of (k + 1) new
 lists_more Of k codes new lists puts c = (
   λ has. elim ((puts c).0 has) [
@@ -21,64 +24,93 @@ lists_more Of k codes new lists puts c = (
   λ found. (puts c).1
       (elim (cases_lt found.0 k) [
         | inl less ↦ inl ((lists c).1 (found.0, less, found.2))
-        | inr more ↦ let same : found.0 ≡ k = omega (arith, found.1) in inr (subst (λ j. Of j c) same found.2)
+        | inr more ↦ let same : found.0 ≡ k = omega (arith, found.1) in
+            inr (subst (λ j. Of j c) same found.2)
       ]),
 )
 
 -- some codes and then some more
-pub puts_both : (First Second Both : ℕ → Type 0) (old middle new : List ℕ) → PutsCodes First old middle → PutsCodes Second middle new
+pub puts_both : (First Second Both : ℕ → Type 0) (old middle new : List ℕ)
+    → PutsCodes First old middle → PutsCodes Second middle new
     → ((c : ℕ) → Both c ↔ (First c ⊎ Second c)) → PutsCodes Both old new
 puts_both First Second Both old middle new first second both c = (
   λ has. elim ((second c).0 has) [
-    | inl before ↦ elim ((first c).0 before) [ inl was ↦ inl was | inr is ↦ inr ((both c).1 (inl is)) ]
+    | inl before ↦ elim ((first c).0 before)
+        [ inl was ↦ inl was | inr is ↦ inr ((both c).1 (inl is)) ]
     | inr is ↦ inr ((both c).1 (inr is))
   ],
   λ parts. elim parts [
     | inl was ↦ (second c).1 (inl ((first c).1 (inl was)))
-    | inr is ↦ elim ((both c).0 is) [ inl one ↦ (second c).1 (inl ((first c).1 (inr one))) | inr two ↦ (second c).1 (inr two) ]
+    | inr is ↦ elim ((both c).0 is) [
+      | inl one ↦ (second c).1 (inl ((first c).1 (inr one)))
+      | inr two
+          ↦ (second c).1 (inr two)
+    ]
   ],
 )
 
 -- the codes of one literal more
-pub negative_more : (clause : List Literal) (i number : ℕ) (literal : Literal) → i < length clause → literal ≡ get_or clause i literal → (c : ℕ)
+pub negative_more : (clause : List Literal) (i number : ℕ) (literal : Literal) → i < length clause
+    → literal ≡ get_or clause i literal → (c : ℕ)
     → IsNegativeCode (take (i + 1) clause) number c
-    ↔ (IsNegativeCode (take i clause) number c ⊎ ((literal.positive ≡ false) × (c ≡ code literal.atom number)))
+    ↔ (IsNegativeCode (take i clause) number c
+    ⊎ ((literal.positive ≡ false) × (c ≡ code literal.atom number)))
 negative_more clause i number literal within is c = (
-  λ n. elim (Contains-push_cases (take i clause) literal (record { atom = n.0; positive = false }) (subst (λ (ls : List Literal). Contains ls (record { atom = n.0; positive = false })) front n.1)) [
-    | inl old ↦ inl (n.0, old, n.2)
-    | inr same ↦ inr (ap (λ (l : Literal). l.positive) same, n.2 ∙ ap (λ (l : Literal). code l.atom number) (sym same))
-  ],
+  λ n. elim (Contains-push_cases (take i clause) literal (record { atom = n.0; positive = false })
+      (subst (λ (ls : List Literal). Contains ls (record { atom = n.0; positive = false })) front
+      n.1)) [
+        | inl old ↦ inl (n.0, old, n.2)
+        | inr same ↦ inr (
+          ap (λ (l : Literal). l.positive) same,
+          n.2
+              ∙ ap (λ (l : Literal). code l.atom number) (sym same),
+        )
+      ],
   λ parts. elim parts [
     | inl n ↦ (
       n.0,
-      subst (λ (ls : List Literal). Contains ls (record { atom = n.0; positive = false })) (sym front)
-          (Contains-append_left (take i clause) (literal ∷ []) (record { atom = n.0; positive = false }) n.1),
+      subst (λ (ls : List Literal). Contains ls (record { atom = n.0; positive = false }))
+          (sym front)
+          (Contains-append_left (take i clause) (literal ∷ [])
+          (record { atom = n.0; positive = false }) n.1),
       n.2,
     )
     | inr n ↦
-        let shape : literal ≡ record { atom = literal.atom; positive = false } = ap (λ (b : Bool). record { atom = literal.atom; positive = b }) n.0 in (
+        let shape : literal ≡ record { atom = literal.atom; positive = false } = ap
+        (λ (b : Bool). record { atom = literal.atom; positive = b }) n.0 in (
           literal.atom,
-          subst (λ (ls : List Literal). Contains ls (record { atom = literal.atom; positive = false })) (sym front)
-              (subst (Contains (take i clause ++ literal ∷ [])) shape (Contains-push (take i clause) literal)),
+          subst (λ (ls : List Literal). Contains ls
+              (record { atom = literal.atom; positive = false })) (sym front)
+              (subst (Contains (take i clause ++ literal ∷ [])) shape
+              (Contains-push (take i clause) literal)),
           n.1,
         )
   ],
 )
   where
     front : take (i + 1) clause ≡ take i clause ++ literal ∷ []
-    front = take_more clause i literal within ∙ ap (λ (l : Literal). take i clause ++ l ∷ []) (sym is)
+    front = take_more clause i literal within
+        ∙ ap (λ (l : Literal). take i clause ++ l ∷ []) (sym is)
 
 -- all codes, in order
-pub negative_rows : (clauses : List (List Literal)) (listed sorted numbers : List ℕ) → length clauses ≤ 4294967296
-    → ListsCodes (λ k. IsNegativeCode (get_or clauses k []) k) (length clauses) listed → IsStrictlyIncreasing sorted
+pub negative_rows : (clauses : List (List Literal)) (listed sorted numbers : List ℕ)
+    → length clauses ≤ 4294967296
+    → ListsCodes (λ k. IsNegativeCode (get_or clauses k []) k) (length clauses) listed
+    → IsStrictlyIncreasing sorted
     → ((c : ℕ) → Contains sorted c ↔ Contains listed c) → numbers ≡ map place_of_code sorted
     → AreRows (StandsNegatively clauses) sorted numbers
 negative_rows clauses listed sorted numbers few lists rises has are = record {
   rises = rises;
   has = λ c. (
     λ there.
-        let found = (lists c).0 ((has c).0 there) in
-        (found.2.0, found.0, found.2.2, omega (arith, found.1), record { among = found.1; has = found.2.1 }),
+        let found = (lists c).0 ((has c).0 there) in (
+          found.2.0,
+          found.0,
+          found.2.2,
+          omega (arith, found.1),
+          record
+              { among = found.1; has = found.2.1 },
+        ),
     λ pair. (has c).1 ((lists c).1 (pair.1, pair.4.among, (pair.0, pair.4.has, pair.2))),
   );
   small = λ key number pair. let among = pair.among in omega arith;

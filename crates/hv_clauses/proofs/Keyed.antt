@@ -1,5 +1,6 @@
 -- Numbers by key, kept as one rising list of codes.
-use Rattle.std.proofs.Common.{◌≡◌, ℕ, ◌+◌, ◌-◌, ◌<◌, ◌≤◌, ◌∙◌, List, inl, inr, length, get_or, refl, sym, ap, subst, arith}
+use Rattle.std.proofs.Common.{◌≡◌, ℕ, ◌+◌, ◌-◌, ◌<◌, ◌≤◌, ◌∙◌, List, inl, inr, length, get_or, refl}
+use Rattle.std.proofs.Common.{sym, ap, subst, arith}
 use Rattle.std.proofs.lemmas.Bool.{cases_lt}
 use Rattle.std.proofs.lemmas.List.{get_or_default, get_or-map, length-map}
 use Rattle.std.proofs.lemmas.List.Edits.{get_or-between, length-between}
@@ -9,13 +10,15 @@ use Rattle.std.specs.List.Sorted.{IsNonDecreasingBy, IsStrictlyIncreasing}
 use Rattle.std.specs.Prelude.{slice_range}
 use Rattle.hv_task.proofs.Rising.{rises_apart}
 use Rattle.hv_clauses.specs.Rows.{IsRow}
-use Rattle.hv_clauses.specs.Working.Rows.{AreRows, IsPartOf, IsEndBefore, IsEndWith, code, key_of, place_of_code}
+use Rattle.hv_clauses.specs.Working.Rows.{AreRows, IsPartOf, IsEndBefore, IsEndWith, code, key_of}
+use Rattle.hv_clauses.specs.Working.Rows.{place_of_code}
 
 -- the two parts of a code
 pub key_of-code : (key number : ℕ) → number < 4294967296 → key_of (code key number) ≡ key
 key_of-code key number small = omega arith
 
-pub number_of-code : (key number : ℕ) → number < 4294967296 → place_of_code (code key number) ≡ number
+pub number_of-code : (key number : ℕ) → number < 4294967296
+    → place_of_code (code key number) ≡ number
 number_of-code key number small = omega arith
 
 pub code_is : (c : ℕ) → c ≡ code (key_of c) (place_of_code c)
@@ -37,11 +40,13 @@ keys_upto codes rises i j d upto within = elim (cases_lt i j) [
       key_upto (get_or codes i d) (get_or codes j d) (omega arith)
   | inr same ↦
       let one : i ≡ j = omega arith in
-      key_upto (get_or codes i d) (get_or codes j d) (let e = ap (λ k. get_or codes k d) one in omega arith)
+      key_upto (get_or codes i d) (get_or codes j d)
+      (let e = ap (λ k. get_or codes k d) one in omega arith)
 ]
 
 -- the codes of a key end where or after they start
-pub starts_upto : (codes : List ℕ) (key from upto : ℕ) → IsEndBefore key codes from → IsEndWith key codes upto → from ≤ upto
+pub starts_upto : (codes : List ℕ) (key from upto : ℕ) → IsEndBefore key codes from
+    → IsEndWith key codes upto → from ≤ upto
 starts_upto codes key from upto starts ends = elim (cases_lt upto from) [
   | inl less ↦
       let before = starts.before upto less in
@@ -50,7 +55,8 @@ starts_upto codes key from upto starts ends = elim (cases_lt upto from) [
   | inr more ↦ more
 ]
 
-module _ (Pair : ℕ → ℕ → Type 0) (codes numbers : List ℕ) (rows : AreRows Pair codes numbers) (key from upto : ℕ)
+module _ (Pair : ℕ → ℕ → Type 0) (codes numbers : List ℕ) (rows : AreRows Pair codes numbers)
+    (key from upto : ℕ)
     (starts : IsEndBefore key codes from) (ends : IsEndWith key codes upto) where
   size : length numbers ≡ length codes
   size = ap length rows.numbers_are ∙ length-map codes place_of_code
@@ -68,7 +74,8 @@ module _ (Pair : ℕ → ℕ → Type 0) (codes numbers : List ℕ) (rows : AreR
       let high = ends.before (from + k) (omega arith) in
       omega arith
 
-  number_at : (k : ℕ) (d : ℕ) → k < upto - from → get_or (slice_range numbers from upto) k d ≡ place_of_code (get_or codes (from + k) 0)
+  number_at : (k : ℕ) (d : ℕ) → k < upto - from
+      → get_or (slice_range numbers from upto) k d ≡ place_of_code (get_or codes (from + k) 0)
   number_at k d less =
       get_or-between numbers from upto k d (omega arith)
       ∙ ap (λ xs. get_or xs (from + k) d) rows.numbers_are
@@ -85,7 +92,8 @@ module _ (Pair : ℕ → ℕ → Type 0) (codes numbers : List ℕ) (rows : AreR
       key_at k (omega arith) ∙ sym (key_at (k + 1) (omega arith)) in
       let rise : get_or codes (from + k) 0 < get_or codes (from + (k + 1)) 0 =
       rises_apart codes (from + k) (from + (k + 1)) rows.rises (omega arith) (omega arith) in
-      let numbers_rise = number_less (get_or codes (from + k) 0) (get_or codes (from + (k + 1)) 0) rise keys in
+      let numbers_rise = number_less (get_or codes (from + k) 0) (get_or codes (from + (k + 1)) 0)
+      rise keys in
       omega arith
 
   row_only : (number : ℕ) → Contains (slice_range numbers from upto) number → Pair key number
@@ -96,8 +104,10 @@ module _ (Pair : ℕ → ℕ → Type 0) (codes numbers : List ℕ) (rows : AreR
       let x = get_or codes (from + c.0) 0 in
       let found = (rows.has x).0 (Contains-get_or codes (from + c.0) 0 (omega arith)) in
       let number_is : found.1 ≡ number =
-      sym (number_of-code found.0 found.1 found.3) ∙ (ap place_of_code (sym found.2) ∙ (sym (number_at c.0 number less) ∙ c.2)) in
-      let key_is : found.0 ≡ key = sym (key_of-code found.0 found.1 found.3) ∙ (ap key_of (sym found.2) ∙ key_at c.0 less) in
+      sym (number_of-code found.0 found.1 found.3)
+      ∙ (ap place_of_code (sym found.2) ∙ (sym (number_at c.0 number less) ∙ c.2)) in
+      let key_is : found.0 ≡ key = sym (key_of-code found.0 found.1 found.3)
+      ∙ (ap key_of (sym found.2) ∙ key_at c.0 less) in
       subst (λ n. Pair key n) number_is (subst (λ k. Pair k found.1) key_is found.4)
 
   row_all : (number : ℕ) → Pair key number → Contains (slice_range numbers from upto) number
@@ -106,8 +116,10 @@ module _ (Pair : ℕ → ℕ → Type 0) (codes numbers : List ℕ) (rows : AreR
       let c = (rows.has (code key number)).1 (key, number, refl, small, pair) in
       let e = row_size in
       let w = ends.within in
-      let is : get_or codes c.0 0 ≡ code key number = get_or_default codes c.0 0 (code key number) c.1 ∙ c.2 in
-      let key_is : key_of (get_or codes c.0 0) ≡ key = ap key_of is ∙ key_of-code key number small in
+      let is : get_or codes c.0 0 ≡ code key number = get_or_default codes c.0 0 (code key number)
+      c.1 ∙ c.2 in
+      let key_is : key_of (get_or codes c.0 0) ≡ key = ap key_of is
+      ∙ key_of-code key number small in
       let low : from ≤ c.0 = elim (cases_lt c.0 from) [
         | inl less ↦ let before = starts.before c.0 less in absurd (omega arith)
         | inr more ↦ more
@@ -130,10 +142,14 @@ module _ (Pair : ℕ → ℕ → Type 0) (codes numbers : List ℕ) (rows : AreR
   row_is = record { rises = row_rises; has = λ number. (row_only number, row_all number) }
 
 -- the part that code hands out is the row
-pub row_from : (Pair : ℕ → ℕ → Type 0) (codes numbers key_codes key_numbers : List ℕ) (key : ℕ) (part : List ℕ)
-    → AreRows Pair codes numbers → key_codes ≡ codes → key_numbers ≡ numbers → IsPartOf key key_codes key_numbers part
+pub row_from : (Pair : ℕ → ℕ → Type 0) (codes numbers key_codes key_numbers : List ℕ) (key : ℕ)
+    (part : List ℕ)
+    → AreRows Pair codes numbers → key_codes ≡ codes → key_numbers ≡ numbers
+    → IsPartOf key key_codes key_numbers part
     → IsRow Pair key part
 row_from Pair codes numbers key_codes key_numbers key part rows same_codes same_numbers is =
     let moved : IsPartOf key codes numbers part =
-    subst (λ xs. IsPartOf key codes xs part) same_numbers (subst (λ xs. IsPartOf key xs key_numbers part) same_codes is) in
-    subst (IsRow Pair key) (sym moved.4) (row_is Pair codes numbers rows key moved.0 moved.1 moved.2 moved.3)
+    subst (λ xs. IsPartOf key codes xs part) same_numbers
+    (subst (λ xs. IsPartOf key xs key_numbers part) same_codes is) in
+    subst (IsRow Pair key) (sym moved.4) (row_is Pair codes numbers rows key moved.0 moved.1 moved.2
+    moved.3)

@@ -1,16 +1,20 @@
 -- The clauses of what operands name: how many there are, when they are true, of which atoms they
 -- speak, and which stands where.
-use Rattle.std.proofs.Common.{◌≡◌, ℕ, zero, suc, ◌<◌, ◌≤◌, ◌∙◌, Bool, true, false, not, ◌&&◌, ◌||◌, cond, List, [], ◌∷◌, length, map, refl, sym, ap, ap₂, subst, arith, inl, inr, length-append, get_or}
+use Rattle.std.proofs.Common.{◌≡◌, ℕ, zero, suc, ◌<◌, ◌≤◌, ◌∙◌, Bool, true, false, not, ◌&&◌, ◌||◌}
+use Rattle.std.proofs.Common.{cond, List, [], ◌∷◌, length, map, refl, sym, ap, ap₂, subst, arith}
+use Rattle.std.proofs.Common.{inl, inr, length-append, get_or}
 use Rattle.std.proofs.lemmas.Bool.{and_parts, and_from, cases_lt}
 use Rattle.std.proofs.lemmas.Bool.Decides.{same_from_decides}
-use Rattle.std.proofs.lemmas.List.{get_or-map, get_or_append_left, get_or_past, get_or_push, length-map}
+use Rattle.std.proofs.lemmas.List.{get_or-map, get_or_append_left, get_or_past, get_or_push}
+use Rattle.std.proofs.lemmas.List.{length-map}
 use Rattle.std.proofs.lemmas.List.Elements.{All-map, All-nil, All-cons, All-push, All-weaker}
 use Rattle.std.proofs.lemmas.List.Folds.{list_all-append}
 use Rattle.std.specs.Bool.{Decides}
 use Rattle.std.specs.List.{Contains}
 use Rattle.hv_task.specs.State.{AreBelow, has_all, has_atom, names_atom, state_of}
 use Rattle.hv_task.specs.Strips.{Strips, atoms}
-use Rattle.hv_task.proofs.Places.{beq-Decides, has_atom-state_of, length-state_of, names_atom-Decides, same_state}
+use Rattle.hv_task.proofs.Places.{beq-Decides, has_atom-state_of, length-state_of}
+use Rattle.hv_task.proofs.Places.{names_atom-Decides, same_state}
 use Rattle.hv_sets.specs.declared.literal.Literal.{Literal}
 use Rattle.hv_sets.specs.declared.operand.Which.{Which}
 use Rattle.hv_sets.specs.declared.operand.Which.TheVariants as W
@@ -64,9 +68,11 @@ module _ (held : List ℕ) (state : List Bool) where
   is_right atom = cond (names_atom held atom) (has_atom state atom) (not (has_atom state atom))
 
   in_more : (n : ℕ)
-      → in_clauses (clauses_of_state (suc n) held) state ≡ (in_clauses (clauses_of_state n held) state && is_right n)
+      → in_clauses (clauses_of_state (suc n) held) state
+      ≡ (in_clauses (clauses_of_state n held) state && is_right n)
   in_more n =
-      list_all-append (λ clause. in_clause clause state) (clauses_of_state n held) (unit n (names_atom held n) ∷ [])
+      list_all-append (λ clause. in_clause clause state) (clauses_of_state n held)
+      (unit n (names_atom held n) ∷ [])
       ∙ ap (λ b. in_clauses (clauses_of_state n held) state && b) (alone_and (is_right n))
 
   -- a state in which the clauses are true has just the atoms of that state
@@ -74,12 +80,14 @@ module _ (held : List ℕ) (state : List Bool) where
       → (p : ℕ) → p < n → names_atom held p ≡ has_atom state p
   flags_from_clauses zero e p less = absurd (omega arith)
   flags_from_clauses (suc n) e p less =
-      let parts = and_parts (in_clauses (clauses_of_state n held) state) (is_right n) (sym (in_more n) ∙ e) in
+      let parts = and_parts (in_clauses (clauses_of_state n held) state) (is_right n)
+      (sym (in_more n) ∙ e) in
       elim (cases_lt p n) [
         | inl before ↦ flags_from_clauses n parts.0 p before
         | inr last ↦
             let same : n ≡ p = omega arith in
-            subst (λ q. names_atom held q ≡ has_atom state q) same (same_from_literal (names_atom held n) (has_atom state n) parts.1)
+            subst (λ q. names_atom held q ≡ has_atom state q) same
+            (same_from_literal (names_atom held n) (has_atom state n) parts.1)
       ]
 
   clauses_from_flags : (n : ℕ) → ((p : ℕ) → p < n → names_atom held p ≡ has_atom state p)
@@ -91,15 +99,18 @@ module _ (held : List ℕ) (state : List Bool) where
       (literal_from_same (names_atom held n) (has_atom state n) (flags n (omega arith)))
 
   -- the clauses of one state are true in just that state
-  pub clauses_of_state_is : (n : ℕ) → length state ≡ n → is_same (state_of n held) state ≡ in_clauses (clauses_of_state n held) state
+  pub clauses_of_state_is : (n : ℕ) → length state ≡ n
+      → is_same (state_of n held) state ≡ in_clauses (clauses_of_state n held) state
   clauses_of_state_is n size =
-      same_from_decides {P = state_of n held ≡ state} (is_same (state_of n held) state) (in_clauses (clauses_of_state n held) state)
+      same_from_decides {P = state_of n held ≡ state} (is_same (state_of n held) state)
+      (in_clauses (clauses_of_state n held) state)
       (beq-Decides (state_of n held) state) (
         λ e. same_state (state_of n held) state (length-state_of n held ∙ sym size)
             (λ p within.
             let less : p < n = omega (arith, length-state_of n held) in
             has_atom-state_of n held p less ∙ flags_from_clauses n e p less),
-        λ same. clauses_from_flags n (λ p less. sym (has_atom-state_of n held p less) ∙ ap (λ s. has_atom s p) same),
+        λ same. clauses_from_flags n (λ p less. sym (has_atom-state_of n held p less)
+            ∙ ap (λ s. has_atom s p) same),
       )
 
 -- the clauses of the goal states
@@ -107,63 +118,79 @@ abbrev pub clauses_of_goal : List ℕ → List (List Literal)
 clauses_of_goal goal = map (λ atom. unit atom true) goal
 
 -- they are true in just the states that have all these atoms
-pub clauses_of_goal_are : (goal : List ℕ) (state : List Bool) → has_all goal state ≡ in_clauses (clauses_of_goal goal) state
+pub clauses_of_goal_are : (goal : List ℕ) (state : List Bool)
+    → has_all goal state ≡ in_clauses (clauses_of_goal goal) state
 clauses_of_goal_are [] state = refl
 clauses_of_goal_are (atom ∷ goal) state =
     ap₂ (λ a b. a && b) (sym (alone_or (has_atom state atom))) (clauses_of_goal_are goal state)
 
 -- the clauses of an operand are true in just the states of what it names
-pub clauses_in_is : (task : Strips) (formulas : ℕ → List (List Literal)) (which : Which) (state : List Bool)
-    → length state ≡ atoms task → in_which task (tests_of formulas) which state ≡ in_clauses (clauses_in task formulas which) state
+pub clauses_in_is : (task : Strips) (formulas : ℕ → List (List Literal)) (which : Which)
+    (state : List Bool)
+    → length state ≡ atoms task → in_which task (tests_of formulas) which state
+    ≡ in_clauses (clauses_in task formulas which) state
 clauses_in_is task formulas W.Empty state size = refl
-clauses_in_is task formulas W.Start state size = clauses_of_state_is task.start state (atoms task) size
+clauses_in_is task formulas W.Start state size = clauses_of_state_is task.start state (atoms task)
+    size
 clauses_in_is task formulas W.Goal state size = clauses_of_goal_are task.goal state
 clauses_in_is task formulas (W.Set number) state size = refl
 
 -- a state that is the one of the list, seen through an effect, makes the clauses of it true
 pub start_holds : (atoms : ℕ) (held effect : List ℕ) (state : List Bool) → length state ≡ atoms
-    → is_same (state_of atoms held) (over effect state) ≡ true → in_clauses (clauses_of_state atoms held) (over effect state) ≡ true
+    → is_same (state_of atoms held) (over effect state) ≡ true
+    → in_clauses (clauses_of_state atoms held) (over effect state) ≡ true
 start_holds atoms held effect state size e =
     sym (clauses_of_state_is held (over effect state) atoms (length-over effect state ∙ size)) ∙ e
 
 -- a clause speaks of atoms below the bound if all do
-pub clause_at_below : (bound : ℕ) (clauses : List (List Literal)) (place : ℕ) → AreClauses bound clauses
+pub clause_at_below : (bound : ℕ) (clauses : List (List Literal)) (place : ℕ)
+    → AreClauses bound clauses
     → SpeakBelow bound (clause_at clauses place)
 clause_at_below bound clauses place below =
     elim (cases_lt place (length clauses)) [
       | inl within ↦ below place [] within
-      | inr past ↦ subst (SpeakBelow bound) (sym (get_or_past clauses place [] past)) (All-nil (λ l. l.atom < bound))
+      | inr past ↦ subst (SpeakBelow bound) (sym (get_or_past clauses place [] past))
+          (All-nil (λ l. l.atom < bound))
     ]
 
 -- so does a clause of one literal
-pub one_below : (bound : ℕ) (literal : Literal) (made : List Literal) → made ≡ literal ∷ [] → literal.atom < bound
+pub one_below : (bound : ℕ) (literal : Literal) (made : List Literal) → made ≡ literal ∷ []
+    → literal.atom < bound
     → SpeakBelow bound made
 one_below bound literal made e less =
-    subst (SpeakBelow bound) (sym e) (All-cons (λ l. l.atom < bound) literal [] less (All-nil (λ l. l.atom < bound)))
+    subst (SpeakBelow bound) (sym e) (All-cons
+    (λ l. l.atom < bound) literal [] less (All-nil (λ l. l.atom < bound)))
 
-unit_below : (bound atom : ℕ) (positive : Bool) → atom < bound → SpeakBelow bound (unit atom positive)
-unit_below bound atom positive less = one_below bound (record { atom = atom; positive = positive }) (unit atom positive) refl less
+unit_below : (bound atom : ℕ) (positive : Bool) → atom < bound
+    → SpeakBelow bound (unit atom positive)
+unit_below bound atom positive less = one_below bound (record { atom = atom; positive = positive })
+    (unit atom positive) refl less
 
-clauses_of_state_below : (n bound : ℕ) (held : List ℕ) → n ≤ bound → AreClauses bound (clauses_of_state n held)
+clauses_of_state_below : (n bound : ℕ) (held : List ℕ) → n ≤ bound
+    → AreClauses bound (clauses_of_state n held)
 clauses_of_state_below zero bound held upto = All-nil (SpeakBelow bound)
 clauses_of_state_below (suc n) bound held upto =
     All-push (SpeakBelow bound) (clauses_of_state n held) (unit n (names_atom held n))
-    (clauses_of_state_below n bound held (omega arith)) (unit_below bound n (names_atom held n) (omega arith))
+    (clauses_of_state_below n bound held (omega arith))
+    (unit_below bound n (names_atom held n) (omega arith))
 
-clauses_of_goal_below : (bound : ℕ) (goal : List ℕ) → AreBelow bound goal → AreClauses bound (clauses_of_goal goal)
+clauses_of_goal_below : (bound : ℕ) (goal : List ℕ) → AreBelow bound goal
+    → AreClauses bound (clauses_of_goal goal)
 clauses_of_goal_below bound goal below =
     All-map (SpeakBelow bound) (λ atom. unit atom true) goal
     (All-weaker (λ atom. atom < bound) (λ atom. SpeakBelow bound (unit atom true))
     (λ atom less. unit_below bound atom true less) goal below)
 
 -- the clauses of an operand speak of atoms of the task alone
-pub clauses_in_below : (task : Strips) (formulas : ℕ → List (List Literal)) (which : Which) → AreBelow (atoms task) task.goal
+pub clauses_in_below : (task : Strips) (formulas : ℕ → List (List Literal)) (which : Which)
+    → AreBelow (atoms task) task.goal
     → ((number : ℕ) → which ≡ W.Set number → AreClauses (atoms task) (formulas number))
     → AreClauses (atoms task) (clauses_in task formulas which)
 clauses_in_below task formulas W.Empty goal sets =
     let none = All-nil (λ (l : Literal). l.atom < atoms task) in
     All-cons (SpeakBelow (atoms task)) [] [] none (All-nil (SpeakBelow (atoms task)))
-clauses_in_below task formulas W.Start goal sets = clauses_of_state_below (atoms task) (atoms task) task.start (omega arith)
+clauses_in_below task formulas W.Start goal sets = clauses_of_state_below (atoms task) (atoms task)
+    task.start (omega arith)
 clauses_in_below task formulas W.Goal goal sets = clauses_of_goal_below (atoms task) task.goal goal
 clauses_in_below task formulas (W.Set number) goal sets = sets number refl
 
@@ -175,7 +202,8 @@ clause_of_state_at (suc n) held place less =
     let size = length-clauses_of_state n held in
     elim (cases_lt place n) [
       | inl before ↦
-          get_or_append_left (clauses_of_state n held) (unit n (names_atom held n) ∷ []) [] place (omega arith)
+          get_or_append_left (clauses_of_state n held) (unit n (names_atom held n) ∷ []) [] place
+          (omega arith)
           ∙ clause_of_state_at n held place before
       | inr last ↦
           let same : n ≡ place = omega arith in
@@ -188,20 +216,26 @@ pub clause_of_goal_at : (goal : List ℕ) (place : ℕ) (d : ℕ) → place < le
 clause_of_goal_at goal place d less = get_or-map (λ atom. unit atom true) goal place d [] less
 
 -- the clause that is made of one literal is the one at the place
-pub made_start : (atoms : ℕ) (held : List ℕ) (atom : ℕ) (literal : Literal) (made : List Literal) → made ≡ literal ∷ []
+pub made_start : (atoms : ℕ) (held : List ℕ) (atom : ℕ) (literal : Literal) (made : List Literal)
+    → made ≡ literal ∷ []
     → literal ≡ record { atom = atom; positive = names_atom held atom } → atom < atoms
     → made ≡ clause_at (clauses_of_state atoms held) atom
-made_start atoms held atom literal made e f less = e ∙ ap (λ l. l ∷ []) f ∙ sym (clause_of_state_at atoms held atom less)
+made_start atoms held atom literal made e f less = e ∙ ap (λ l. l ∷ []) f
+    ∙ sym (clause_of_state_at atoms held atom less)
 
-pub made_goal : (goal items : List ℕ) (place : ℕ) (literal : Literal) (made : List Literal) → made ≡ literal ∷ []
-    → literal ≡ record { atom = get_or items place 0; positive = true } → items ≡ goal → place < length items
+pub made_goal : (goal items : List ℕ) (place : ℕ) (literal : Literal) (made : List Literal)
+    → made ≡ literal ∷ []
+    → literal ≡ record { atom = get_or items place 0; positive = true } → items ≡ goal
+    → place < length items
     → made ≡ clause_at (clauses_of_goal goal) place
 made_goal goal items place literal made e f same less =
     e ∙ ap (λ l. l ∷ []) f
-    ∙ sym (ap (λ atoms. clause_at (clauses_of_goal atoms) place) (sym same) ∙ clause_of_goal_at items place 0 less)
+    ∙ sym (ap (λ atoms. clause_at (clauses_of_goal atoms) place) (sym same)
+    ∙ clause_of_goal_at items place 0 less)
 
 -- whether a list names an atom, from a test for it
-pub names_from_test : (result : Bool) (held listed : List ℕ) (atom : ℕ) → Decides result (Contains listed atom) → listed ≡ held
+pub names_from_test : (result : Bool) (held listed : List ℕ) (atom : ℕ)
+    → Decides result (Contains listed atom) → listed ≡ held
     → result ≡ names_atom held atom
 names_from_test result held listed atom test e =
     let decides = subst (λ xs. Decides result (Contains xs atom)) e test in

@@ -1,5 +1,7 @@
 -- The positive operands of a query, one after the other.
-use Rattle.std.proofs.Common.{◌≡◌, ℕ, ◌+◌, ◌<◌, ◌≤◌, ◌-◌, ◌∙◌, ◌||◌, Bool, true, false, List, [], ◌∷◌, Some, length, get_or, drop, refl, sym, ap, arith, below_more, inl, inr, subst}
+use Rattle.std.proofs.Common.{◌≡◌, ℕ, ◌+◌, ◌<◌, ◌≤◌, ◌-◌, ◌∙◌, ◌||◌, Bool, true, false, List, []}
+use Rattle.std.proofs.Common.{◌∷◌, Some, length, get_or, drop, refl, sym, ap, arith, below_more}
+use Rattle.std.proofs.Common.{inl, inr, subst}
 use Rattle.std.proofs.lemmas.List.{append-nil, get_or_default, get_or-drop, length-drop}
 use Rattle.std.specs.List.{All, Contains}
 use Rattle.hv_task.specs.State.{names_atom, state_of}
@@ -21,50 +23,65 @@ use Rattle.hv_clauses.specs.Working.Problem.{AreAllLeft, AreAllSettled, IsLeft}
 use Rattle.hv_clauses.specs.Working.Trail.{Grows, Knowledge, marks_of}
 use Rattle.hv_clauses.specs.Units.{IsSettled, value_of}
 use Rattle.hv_clauses.specs.Working.Units.{AreSettled, IsConcluded}
-use Rattle.hv_clauses.proofs.Chasing.{followed_then, kept_grown, kept_on, kept_settled, settled_end, true_at}
+use Rattle.hv_clauses.proofs.Chasing.{followed_then, kept_grown, kept_on, kept_settled, settled_end}
+use Rattle.hv_clauses.proofs.Chasing.{true_at}
 use Rattle.hv_clauses.proofs.Kinded.{constants_kind}
 use Rattle.hv_clauses.proofs.Marked.{extends_same, value_extends}
-use Rattle.hv_clauses.proofs.OperandClauses.{clause_of_state_at, length-clauses_of_state, start_holds}
+use Rattle.hv_clauses.proofs.OperandClauses.{clause_of_state_at, length-clauses_of_state}
+use Rattle.hv_clauses.proofs.OperandClauses.{start_holds}
 use Rattle.hv_clauses.proofs.Trailed.{length-marks}
 
 -- a settled clause of one literal at most has a true one, which stays true
-settled_short : (e m k : List ℕ) (clause : List Literal) → IsShort clause → KeepsKnown m k → IsSettled e m clause → IsSettled e k clause
+settled_short : (e m k : List ℕ) (clause : List Literal) → IsShort clause → KeepsKnown m k
+    → IsSettled e m clause → IsSettled e k clause
 settled_short e m k clause short grows settled =
     elim settled [
       | inl at ↦ inl (at.0, at.1, value_extends e m k at.0 true grows at.2)
       | inr two ↦ absurd (two.4 (short two.0 two.1 two.2 two.3))
     ]
 
-units_stay : (e m k : List ℕ) (clauses : List (List Literal)) → All IsShort clauses → KeepsKnown m k → AreSettled e clauses m → AreSettled e clauses k
+units_stay : (e m k : List ℕ) (clauses : List (List Literal)) → All IsShort clauses → KeepsKnown m k
+    → AreSettled e clauses m → AreSettled e clauses k
 units_stay e m k clauses short grows settled = λ j d less.
     settled_short e m k (get_or clauses j d) (short j d less) grows (settled j d less)
 
 module _ (task : Strips) (formulas : ℕ → List (List Literal)) (e : List ℕ) where
-  constant_short : (which : Which) → ((number : ℕ) → which ≡ W.Set number → ⊥) → All IsShort (clauses_in task formulas which)
-  constant_short W.Empty none = constants_kind IsShort (λ c s. s) task formulas 0 W.Empty (λ n less. absurd (omega arith)) tt
-  constant_short W.Start none = constants_kind IsShort (λ c s. s) task formulas 0 W.Start (λ n less. absurd (omega arith)) tt
-  constant_short W.Goal none = constants_kind IsShort (λ c s. s) task formulas 0 W.Goal (λ n less. absurd (omega arith)) tt
+  constant_short : (which : Which) → ((number : ℕ) → which ≡ W.Set number → ⊥)
+      → All IsShort (clauses_in task formulas which)
+  constant_short W.Empty none = constants_kind IsShort (λ c s. s) task formulas 0 W.Empty
+      (λ n less. absurd (omega arith)) tt
+  constant_short W.Start none = constants_kind IsShort (λ c s. s) task formulas 0 W.Start
+      (λ n less. absurd (omega arith)) tt
+  constant_short W.Goal none = constants_kind IsShort (λ c s. s) task formulas 0 W.Goal
+      (λ n less. absurd (omega arith)) tt
   constant_short (W.Set number) none = absurd (none number refl)
 
-  pub left_ends : (which : Which) (k : Knowledge) (from : ℕ) → length k.trail ≤ from → IsLeft task formulas e which k from
+  pub left_ends : (which : Which) (k : Knowledge) (from : ℕ) → length k.trail ≤ from
+      → IsLeft task formulas e which k from
       → AreSettled e (clauses_in task formulas which) (marks_of k)
   left_ends W.Empty k from h left = left
   left_ends W.Start k from h left = left
   left_ends W.Goal k from h left = left
   left_ends (W.Set number) k from h left = settled_end e (formulas number) k from h left
 
-  pub left_grown : (which : Which) (old new : Knowledge) (from : ℕ) → Grows old new → from ≤ length old.trail
+  pub left_grown : (which : Which) (old new : Knowledge) (from : ℕ) → Grows old new
+      → from ≤ length old.trail
       → IsLeft task formulas e which old from → IsLeft task formulas e which new from
   left_grown W.Empty old new from grown h left =
-      units_stay e (marks_of old) (marks_of new) (clauses_in task formulas W.Empty) (constant_short W.Empty (λ n is. absurd cc)) grown.grows left
+      units_stay e (marks_of old) (marks_of new) (clauses_in task formulas W.Empty)
+      (constant_short W.Empty (λ n is. absurd cc)) grown.grows left
   left_grown W.Start old new from grown h left =
-      units_stay e (marks_of old) (marks_of new) (clauses_in task formulas W.Start) (constant_short W.Start (λ n is. absurd cc)) grown.grows left
+      units_stay e (marks_of old) (marks_of new) (clauses_in task formulas W.Start)
+      (constant_short W.Start (λ n is. absurd cc)) grown.grows left
   left_grown W.Goal old new from grown h left =
-      units_stay e (marks_of old) (marks_of new) (clauses_in task formulas W.Goal) (constant_short W.Goal (λ n is. absurd cc)) grown.grows left
-  left_grown (W.Set number) old new from grown h left = kept_grown e (formulas number) old new from grown h left
+      units_stay e (marks_of old) (marks_of new) (clauses_in task formulas W.Goal)
+      (constant_short W.Goal (λ n is. absurd cc)) grown.grows left
+  left_grown (W.Set number) old new from grown h left = kept_grown e (formulas number) old new from
+      grown h left
 
   -- a constant is left alone by what is followed up
-  pub left_constant : (which : Which) (k : Knowledge) (from later : ℕ) → ((number : ℕ) → which ≡ W.Set number → ⊥)
+  pub left_constant : (which : Which) (k : Knowledge) (from later : ℕ)
+      → ((number : ℕ) → which ≡ W.Set number → ⊥)
       → IsLeft task formulas e which k from → IsLeft task formulas e which k later
   left_constant W.Empty k from later none left = left
   left_constant W.Start k from later none left = left
@@ -72,9 +89,11 @@ module _ (task : Strips) (formulas : ℕ → List (List Literal)) (e : List ℕ)
   left_constant (W.Set number) k from later none left = absurd (none number refl)
 
 -- what comes from a later place on comes from an earlier one on
-pub kept_earlier : (e : List ℕ) (clauses : List (List Literal)) (k : Knowledge) (from later : ℕ) → from ≤ later → later ≤ length k.trail
+pub kept_earlier : (e : List ℕ) (clauses : List (List Literal)) (k : Knowledge) (from later : ℕ)
+    → from ≤ later → later ≤ length k.trail
     → AreKept e clauses k later → AreKept e clauses k from
-kept_earlier e clauses k from later h within kept = λ place less apart. kept place less (λ x has at. apart x (drop_earlier x has) at)
+kept_earlier e clauses k from later h within kept = λ place less apart. kept place less
+    (λ x has at. apart x (drop_earlier x has) at)
   where
     drop_earlier : (x : Literal) → Contains (drop later k.trail) x → Contains (drop from k.trail) x
     drop_earlier x has =
@@ -84,27 +103,33 @@ kept_earlier e clauses k from later h within kept = λ place less apart. kept pl
           later - from + has.0,
           omega (arith, has.1),
           get_or-drop from k.trail (later - from + has.0) x
-              ∙ (ap (λ j. get_or k.trail j x) at ∙ (sym (get_or-drop later k.trail has.0 x) ∙ has.2)),
+              ∙ (ap (λ j. get_or k.trail j x) at
+              ∙ (sym (get_or-drop later k.trail has.0 x) ∙ has.2)),
         )
 
 -- where what was known before settles all clauses, nothing comes from them but by the trail
-pub kept_based : (clauses : List (List Literal)) (k : Knowledge) → AreSettled [] clauses k.base → AreKept [] clauses k 0
+pub kept_based : (clauses : List (List Literal)) (k : Knowledge) → AreSettled [] clauses k.base
+    → AreKept [] clauses k 0
 kept_based clauses k settled = λ place less.
     let start : Knowledge = record { base = k.base; trail = [] } in
-    kept_on [] (clause_at clauses place) start k 0 refl (k.trail, refl) (omega arith) (kept_settled [] clauses start 0 settled place less)
+    kept_on [] (clause_at clauses place) start k 0 refl (k.trail, refl) (omega arith)
+    (kept_settled [] clauses start 0 settled place less)
 
-pub followed_from : (P : List Bool → Type 0) (D : List ℕ → Type 0) (a b : Knowledge) (r : Bool) → IsConcluded P D (marks_of a) (marks_of b) r → Grows a b
+pub followed_from : (P : List Bool → Type 0) (D : List ℕ → Type 0) (a b : Knowledge) (r : Bool)
+    → IsConcluded P D (marks_of a) (marks_of b) r → Grows a b
     → IsFollowed P a b r
 followed_from P D a b r one grown = record {
   base = grown.base;
   more = grown.more;
   grows = grown.grows;
   follows = λ state size holds agrees. one.follows state (size ∙ sym (length-marks a)) holds agrees;
-  broken = λ is state size holds agrees. one.broken is state (size ∙ sym (length-marks a)) holds agrees;
+  broken = λ is state size holds agrees. one.broken is state (size ∙ sym (length-marks a)) holds
+      agrees;
 }
 
 -- no state is in the empty set
-pub followed_empty : (P : List Bool → Type 0) (k : Knowledge) → ((state : List Bool) → P state → ⊥) → IsFollowed P k k false
+pub followed_empty : (P : List Bool → Type 0) (k : Knowledge) → ((state : List Bool) → P state → ⊥)
+    → IsFollowed P k k false
 followed_empty P k none = record {
   base = refl;
   more = ([], sym (append-nil k.trail));
@@ -116,17 +141,21 @@ followed_empty P k none = record {
 -- clauses of one literal each, which is true, are settled
 pub units_settled : (e m : List ℕ) (clauses : List (List Literal)) (literal_at : ℕ → Literal)
     → ((k : ℕ) → k < length clauses → clause_at clauses k ≡ literal_at k ∷ [])
-    → ((k : ℕ) → k < length clauses → value_of e m (literal_at k) ≡ Some true) → AreSettled e clauses m
+    → ((k : ℕ) → k < length clauses → value_of e m (literal_at k) ≡ Some true)
+    → AreSettled e clauses m
 units_settled e m clauses literal_at is true_in = λ k d less.
-    let at : get_or clauses k d ≡ literal_at k ∷ [] = get_or_default clauses k d [] less ∙ is k less in
-    subst (λ c. IsSettled e m c) (sym at) (inl (literal_at k, (0, omega arith, refl), true_in k less))
+    let at : get_or clauses k d ≡ literal_at k ∷ [] = get_or_default clauses k d [] less
+    ∙ is k less in
+    subst (λ c. IsSettled e m c) (sym at) (inl
+    (literal_at k, (0, omega arith, refl), true_in k less))
 
 -- the literal of an atom in the initial state is true there
 or_false : (b : Bool) → (b || false) ≡ true → b ≡ true
 or_false true h = refl
 or_false false h = absurd cc
 
-pub start_literal_in : (n : ℕ) (held e : List ℕ) (p : ℕ) (state : List Bool) → p < n → length state ≡ n
+pub start_literal_in : (n : ℕ) (held e : List ℕ) (p : ℕ) (state : List Bool) → p < n
+    → length state ≡ n
     → is_same (state_of n held) (over e state) ≡ true
     → in_literal (record { atom = p; positive = names_atom held p }) (over e state) ≡ true
 start_literal_in n held e p state less size same =
@@ -140,38 +169,53 @@ start_literal_in n held e p state less size same =
 module _ (task : Strips) (formulas : ℕ → List (List Literal)) (effect : List ℕ) where
   -- the state, seen through the effect where that is meant, is in what the operand names
   abbrev pub InOne : Operand → List Bool → Type 0
-  InOne o state = in_which task (tests_of formulas) o.which (over (late effect o.after) state) ≡ true
+  InOne o state = in_which task (tests_of formulas) o.which (over (late effect o.after) state)
+      ≡ true
 
   -- its clauses tell nothing more than what comes from the trail
   abbrev pub LeftOne : Operand → Knowledge → ℕ → Type 0
   LeftOne o k from = IsLeft task formulas (late effect o.after) o.which k from
 
-  pub all_end : (xs : List Operand) (k : Knowledge) (from : ℕ) → length k.trail ≤ from → AreAllLeft task formulas effect xs k from
+  pub all_end : (xs : List Operand) (k : Knowledge) (from : ℕ) → length k.trail ≤ from
+      → AreAllLeft task formulas effect xs k from
       → AreAllSettled task formulas effect xs (marks_of k)
-  all_end xs k from h left = λ j d less. left_ends task formulas (late effect (get_or xs j d).after) (get_or xs j d).which k from h (left j d less)
+  all_end xs k from h left = λ j d less. left_ends task formulas (late effect (get_or xs j d).after)
+      (get_or xs j d).which k from h (left j d less)
 
-  pub all_stay : (xs : List Operand) (old new : Knowledge) (from : ℕ) → Grows old new → from ≤ length old.trail
+  pub all_stay : (xs : List Operand) (old new : Knowledge) (from : ℕ) → Grows old new
+      → from ≤ length old.trail
       → AreAllLeft task formulas effect xs old from → AreAllLeft task formulas effect xs new from
   all_stay xs old new from grown h left = λ j d less.
-      left_grown task formulas (late effect (get_or xs j d).after) (get_or xs j d).which old new from grown h (left j d less)
+      left_grown task formulas (late effect (get_or xs j d).after) (get_or xs j d).which old new
+      from grown h (left j d less)
 
-  module _ (xs : List Operand) (i : ℕ) (d : Operand) (within : i < length xs) (seen : List ℕ) (is : seen ≡ late effect (get_or xs i d).after) where
-    pub operand_followed : (a b c : Knowledge) (r : Bool) → IsFollowed (InAll task formulas effect xs) a b true
-        → IsFollowed (λ s. in_which task (tests_of formulas) (get_or xs i d).which (over seen s) ≡ true) b c r
+  module _ (xs : List Operand) (i : ℕ) (d : Operand) (within : i < length xs) (seen : List ℕ)
+      (is : seen ≡ late effect (get_or xs i d).after) where
+    pub operand_followed : (a b c : Knowledge) (r : Bool)
+        → IsFollowed (InAll task formulas effect xs) a b true
+        → IsFollowed (λ s. in_which task (tests_of formulas) (get_or xs i d).which (over seen s)
+        ≡ true) b c r
         → IsFollowed (InAll task formulas effect xs) a c r
     operand_followed a b c r first second =
-        followed_then (InAll task formulas effect xs) (λ s. in_which task (tests_of formulas) (get_or xs i d).which (over seen s) ≡ true) a b c r
-        (λ s size holds. ap (λ e. in_which task (tests_of formulas) (get_or xs i d).which (over e s)) is ∙ holds i d within) first second
+        followed_then (InAll task formulas effect xs)
+        (λ s. in_which task (tests_of formulas) (get_or xs i d).which (over seen s) ≡ true) a b
+        c r
+        (λ s size holds. ap (λ e. in_which task (tests_of formulas) (get_or xs i d).which
+        (over e s)) is ∙ holds i d within) first second
 
-    pub operand_left : (k : Knowledge) (from : ℕ) → AreAllLeft task formulas effect xs k from → IsLeft task formulas seen (get_or xs i d).which k from
-    operand_left k from left = subst (λ e. IsLeft task formulas e (get_or xs i d).which k from) (sym is) (left i d within)
+    pub operand_left : (k : Knowledge) (from : ℕ) → AreAllLeft task formulas effect xs k from
+        → IsLeft task formulas seen (get_or xs i d).which k from
+    operand_left k from left = subst (λ e. IsLeft task formulas e (get_or xs i d).which k from)
+        (sym is) (left i d within)
 
     -- what was seen stays seen, and one more is
     pub operand_seen : (old new : Knowledge) (from : ℕ) → Grows old new → from ≤ length old.trail
-        → ((k : ℕ) → k < i → (f : Operand) → LeftOne (get_or xs k f) old from) → IsLeft task formulas seen (get_or xs i d).which new from
+        → ((k : ℕ) → k < i → (f : Operand) → LeftOne (get_or xs k f) old from)
+        → IsLeft task formulas seen (get_or xs i d).which new from
         → (k : ℕ) → k < i + 1 → (f : Operand) → LeftOne (get_or xs k f) new from
     operand_seen old new from grown h before here =
         below_more (λ k. (f : Operand) → LeftOne (get_or xs k f) new from) i
-        (λ k less f. left_grown task formulas (late effect (get_or xs k f).after) (get_or xs k f).which old new from grown h (before k less f))
+        (λ k less f. left_grown task formulas (late effect (get_or xs k f).after)
+        (get_or xs k f).which old new from grown h (before k less f))
         (λ f. subst (λ o. LeftOne o new from) (get_or_default xs i d f within)
         (subst (λ e. IsLeft task formulas e (get_or xs i d).which new from) is here))

@@ -1,6 +1,7 @@
 -- Conclusions joined one after the other. The whole condition R says both that of the first part,
 -- P, and that of the second, Q; what the parts settle settles the whole.
-use Rattle.std.proofs.Common.{◌≡◌, ℕ, ◌+◌, ◌<◌, ◌≤◌, ◌∙◌, Bool, true, false, List, length, get_or, refl, sym, ap, arith, subst, inl, inr}
+use Rattle.std.proofs.Common.{◌≡◌, ℕ, ◌+◌, ◌<◌, ◌≤◌, ◌∙◌, Bool, true, false, List, length, get_or}
+use Rattle.std.proofs.Common.{refl, sym, ap, arith, subst, inl, inr}
 use Rattle.std.proofs.lemmas.Bool.{cases_lt}
 use Rattle.std.proofs.lemmas.List.{get_or_default}
 use Rattle.std.specs.List.{All}
@@ -27,13 +28,15 @@ conclude_same P R S T m k r back on one = record {
 
 module _ (P Q R : List Bool → Type 0) (S T U : List ℕ → Type 0) (m k : List ℕ) where
   -- the first part answered false, and the second wasn't done
-  pub conclude_stop : ((state : List Bool) → length state ≡ length m → R state → P state) → IsConcluded P S m k false
+  pub conclude_stop : ((state : List Bool) → length state ≡ length m → R state → P state)
+      → IsConcluded P S m k false
       → IsConcluded R U m k false
   conclude_stop first one = record {
     size = one.size;
     grows = one.grows;
     follows = λ state size holds agrees. one.follows state size (first state size holds) agrees;
-    broken = λ e state size holds agrees. one.broken refl state size (first state size holds) agrees;
+    broken = λ e state size holds agrees. one.broken refl state size (first state size holds)
+        agrees;
     done = λ e. never (sym e);
   }
 
@@ -79,7 +82,8 @@ abbrev pub Upto : {X : Type 0} → (X → Type 0) → List X → ℕ → Type 0
 Upto {X} P xs i = (k : ℕ) (d : X) → k < i → P (get_or xs k d)
 
 -- and of the one at it, is true up to the next place
-pub upto_more : {X : Type 0} (P : X → Type 0) (xs : List X) (i : ℕ) (x : X) → i < length xs → x ≡ get_or xs i x
+pub upto_more : {X : Type 0} (P : X → Type 0) (xs : List X) (i : ℕ) (x : X) → i < length xs
+    → x ≡ get_or xs i x
     → Upto P xs i → P x → Upto P xs (i + 1)
 upto_more P xs i x within is before here = λ k d less.
     elim (cases_lt k i) [
@@ -90,15 +94,18 @@ upto_more P xs i x within is before here = λ k d less.
     ]
 
 -- one that is read under another name
-pub read_as : {X : Type 0} (xs : List X) (i : ℕ) (x y : X) → i < length xs → y ≡ x → x ≡ get_or xs i x → y ≡ get_or xs i y
+pub read_as : {X : Type 0} (xs : List X) (i : ℕ) (x y : X) → i < length xs → y ≡ x
+    → x ≡ get_or xs i x → y ≡ get_or xs i y
 read_as xs i x y within same is = same ∙ (is ∙ get_or_default xs i x y within)
 
 -- one that is read with a default
-pub read_at : {X : Type 0} (xs : List X) (i : ℕ) (d : X) → i < length xs → get_or xs i d ≡ get_or xs i (get_or xs i d)
+pub read_at : {X : Type 0} (xs : List X) (i : ℕ) (d : X) → i < length xs
+    → get_or xs i d ≡ get_or xs i (get_or xs i d)
 read_at xs i d within = get_or_default xs i d (get_or xs i d) within
 
 -- a conclusion for each element of a list, one after the other
-module _ {X : Type 0} (P : X → List Bool → Type 0) (S : X → List ℕ → Type 0) (xs : List X) (i : ℕ) (x : X)
+module _ {X : Type 0} (P : X → List Bool → Type 0) (S : X → List ℕ → Type 0) (xs : List X) (i : ℕ)
+    (x : X)
     (within : i < length xs) (is : x ≡ get_or xs i x) where
   at_it : (state : List Bool) → Upto (λ y. P y state) xs (i + 1) → P x state
   at_it state holds = subst (λ y. P y state) (sym is) (holds i x (omega arith))
@@ -106,7 +113,8 @@ module _ {X : Type 0} (P : X → List Bool → Type 0) (S : X → List ℕ → T
   among : (state : List Bool) → All (λ y. P y state) xs → P x state
   among state holds = subst (λ y. P y state) (sym is) (holds i x within)
 
-  pub conclude_more : (m k n : List ℕ) → ((old new : List ℕ) (y : X) → KeepsKnown old new → S y old → S y new)
+  pub conclude_more : (m k n : List ℕ) → ((old new : List ℕ) (y : X) → KeepsKnown old new → S y old
+      → S y new)
       → IsConcluded (λ s. Upto (λ y. P y s) xs i) (λ w. Upto (λ y. S y w) xs i) m k true
       → IsConcluded (P x) (S x) k n true
       → IsConcluded (λ s. Upto (λ y. P y s) xs (i + 1)) (λ w. Upto (λ y. S y w) xs (i + 1)) m n true
@@ -127,12 +135,15 @@ module _ {X : Type 0} (P : X → List Bool → Type 0) (S : X → List ℕ → T
       (λ s size holds q d less. holds q d (omega arith)) (λ s size holds. among s holds) one two
 
 -- and at the end of the list
-module _ {X : Type 0} (P : X → List Bool → Type 0) (S : X → List ℕ → Type 0) (xs : List X) (i : ℕ) (upto : i ≤ length xs)
+module _ {X : Type 0} (P : X → List Bool → Type 0) (S : X → List ℕ → Type 0) (xs : List X) (i : ℕ)
+    (upto : i ≤ length xs)
     (end : length xs ≤ i) where
   pub conclude_all : (m k : List ℕ) (r : Bool)
       → IsConcluded (λ s. Upto (λ y. P y s) xs i) (λ w. Upto (λ y. S y w) xs i) m k r
       → IsConcluded (λ s. All (λ y. P y s) xs) (λ w. All (λ y. S y w) xs) m k r
   conclude_all m k r one =
-      conclude_same (λ s. Upto (λ y. P y s) xs i) (λ s. All (λ y. P y s) xs) (λ w. Upto (λ y. S y w) xs i)
+      conclude_same (λ s. Upto (λ y. P y s) xs i) (λ s. All (λ y. P y s) xs)
+      (λ w. Upto (λ y. S y w) xs i)
       (λ w. All (λ y. S y w) xs) m k r
-      (λ s size holds q d less. holds q d (omega arith)) (λ w size all q d less. all q d (omega arith)) one
+      (λ s size holds q d less. holds q d (omega arith))
+      (λ w size all q d less. all q d (omega arith)) one

@@ -19,29 +19,36 @@ use Rattle.hv_clauses.specs.Working.Trail.{marked}
 use Rattle.hv_clauses.proofs.Marked.{length-over}
 use Rattle.hv_clauses.proofs.Untouched.{agrees_beside, settled_but}
 
-module _ (task : Strips) (formulas : ℕ → List (List Literal)) (effect : List ℕ) (query : Query) (operand : Operand) (number : ℕ)
+module _ (task : Strips) (formulas : ℕ → List (List Literal)) (effect : List ℕ) (query : Query)
+    (operand : Operand) (number : ℕ)
     (among : Contains query.positive operand) (is : operand.which ≡ W.Set number) where
   -- a state that is in each positive operand is in this one
   pub inside_after : (state : List Bool) → InAll task formulas effect query.positive state
       → in_clauses (formulas number) (over (late effect operand.after) state) ≡ true
   inside_after state inside =
-      sym (ap (λ w. in_which task (tests_of formulas) w (over (late effect operand.after) state)) is)
-      ∙ All-contains (λ (o : Operand). in_which task (tests_of formulas) o.which (over (late effect o.after) state) ≡ true) query.positive operand inside among
+      sym (ap (λ w. in_which task (tests_of formulas) w (over (late effect operand.after) state))
+      is)
+      ∙ All-contains (λ (o : Operand). in_which task (tests_of formulas) o.which
+      (over (late effect o.after) state) ≡ true) query.positive operand inside among
 
-  pub start_of_forced : (literals base : List Literal) (seen : List ℕ) → base ≡ untouched seen literals → seen ≡ late effect operand.after
+  pub start_of_forced : (literals base : List Literal) (seen : List ℕ)
+      → base ≡ untouched seen literals → seen ≡ late effect operand.after
       → AreForced (atoms task) (formulas number) literals
       → IsStart task formulas effect query (record { operand = Some operand; base = base })
   start_of_forced literals base seen base_is seen_is forced =
       let e = late effect operand.after in
       let at : base ≡ untouched e literals = base_is ∙ ap (λ x. untouched x literals) seen_is in
-      subst (λ b. IsStart task formulas effect query (record { operand = Some operand; base = b })) (sym at)
+      subst (λ b. IsStart task formulas effect query (record { operand = Some operand; base = b }))
+      (sym at)
       (record {
         based = λ n same.
             let equal : W.Set number ≡ W.Set n = sym is ∙ same in
             let here : number ≡ n = cc in
-            subst (λ k. AreSettledBut e (formulas k) (marked (atoms task) (untouched e literals))) here
+            subst (λ k. AreSettledBut e (formulas k) (marked (atoms task) (untouched e literals)))
+            here
             (settled_but e (atoms task) literals (formulas number) forced.settled);
         follows = λ state size inside.
             agrees_beside e (atoms task) literals state
-            (forced.follows (over e state) (length-over e state ∙ size) (inside_after state inside));
+            (forced.follows (over e state) (length-over e state ∙ size)
+            (inside_after state inside));
       })

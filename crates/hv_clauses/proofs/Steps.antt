@@ -1,6 +1,7 @@
 -- Single steps: what a literal that is forced and what a clause that was looked through make of the
 -- marks.
-use Rattle.std.proofs.Common.{◌≡◌, ℕ, ◌<◌, ◌∙◌, Bool, true, false, not, List, length, get_or, None, Some, refl, sym, ap, arith}
+use Rattle.std.proofs.Common.{◌≡◌, ℕ, ◌<◌, ◌∙◌, Bool, true, false, not, List, length, get_or, None}
+use Rattle.std.proofs.Common.{Some, refl, sym, ap, arith}
 use Rattle.std.proofs.lemmas.Bool.{false_from_ne_true}
 use Rattle.std.proofs.lemmas.List.Folds.{list_any_at}
 use Rattle.std.specs.List.{All}
@@ -11,7 +12,9 @@ use Rattle.hv_clauses.specs.Marks.{known, over}
 use Rattle.hv_clauses.specs.Working.Marks.{Agrees, KeepsKnown}
 use Rattle.hv_clauses.specs.Units.{value_of}
 use Rattle.hv_clauses.specs.Working.Units.{IsConcluded}
-use Rattle.hv_clauses.proofs.Marked.{agrees_write, extends_same, extends_write, has_atom-literal, in_literal-opposite, value_false, value_from_opposite, value_marked, value_none, value_open}
+use Rattle.hv_clauses.proofs.Marked.{agrees_write, extends_same, extends_write, has_atom-literal}
+use Rattle.hv_clauses.proofs.Marked.{in_literal-opposite, value_false, value_from_opposite}
+use Rattle.hv_clauses.proofs.Marked.{value_marked, value_none, value_open}
 use Rattle.hv_clauses.proofs.Rounds.{conclude_same, never}
 
 -- one mark more, at the atom of a literal
@@ -35,18 +38,21 @@ module _ (e m : List ℕ) (l : Literal) where
 
   module _ (k : List ℕ) (nothing : value_of e m l ≡ None) (marks : IsMarked l m k) where
     -- what follows where the literal is true
-    pub follows_write : l.atom < length m → (state : List Bool) → length state ≡ length m → in_literal l (over e state) ≡ true
+    pub follows_write : l.atom < length m → (state : List Bool) → length state ≡ length m
+        → in_literal l (over e state) ≡ true
         → Agrees m state → Agrees k state
     follows_write within state size holds agrees =
         agrees_write m k l.atom l.positive state marks.here marks.others
-        (has_atom-literal l state (sym (value_open e m l state nothing (omega (arith, size))) ∙ holds)) agrees
+        (has_atom-literal l state (sym (value_open e m l state nothing (omega (arith, size)))
+        ∙ holds)) agrees
 
     pub grows_write : KeepsKnown m k
     grows_write = extends_write m k l.atom (value_none e m l nothing).1 marks.others
 
     -- a literal of which nothing is known
     pub force_open : l.atom < length m
-        → IsConcluded (λ s. in_literal l (over e s) ≡ true) (λ n. value_of e n l ≡ Some true) m k true
+        → IsConcluded (λ s. in_literal l (over e s) ≡ true)
+        (λ n. value_of e n l ≡ Some true) m k true
     force_open within = record {
       size = marks.size;
       grows = grows_write;
@@ -64,9 +70,12 @@ all_false clause state h = λ k d less.
 
 -- a literal is made false by its opposite
 pub deny_one : (e : List ℕ) (l : Literal) (m k : List ℕ) (r : Bool)
-    → IsConcluded (λ s. in_literal (opposite l) (over e s) ≡ true) (λ n. value_of e n (opposite l) ≡ Some true) m k r
+    → IsConcluded (λ s. in_literal (opposite l) (over e s) ≡ true)
+    (λ n. value_of e n (opposite l) ≡ Some true) m k r
     → IsConcluded (λ s. in_literal l (over e s) ≡ false) (λ n. value_of e n l ≡ Some false) m k r
 deny_one e l m k r one =
-    conclude_same (λ s. in_literal (opposite l) (over e s) ≡ true) (λ s. in_literal l (over e s) ≡ false)
+    conclude_same (λ s. in_literal (opposite l) (over e s) ≡ true)
+    (λ s. in_literal l (over e s) ≡ false)
     (λ n. value_of e n (opposite l) ≡ Some true) (λ n. value_of e n l ≡ Some false) m k r
-    (λ s size holds. in_literal-opposite l (over e s) ∙ ap not holds) (λ n size h. value_from_opposite e n l true h) one
+    (λ s size holds. in_literal-opposite l (over e s) ∙ ap not holds)
+    (λ n size h. value_from_opposite e n l true h) one

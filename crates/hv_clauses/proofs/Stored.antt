@@ -7,7 +7,8 @@ use Rattle.hv_clauses.specs.Clausal.{AreClauses, Formula}
 use Rattle.hv_clauses.specs.Working.Kinded.{IsKinded}
 use Rattle.hv_clauses.specs.Store.{AreOver, clauses_found, formula_at}
 
-module _ (IsOf : List Literal → Type 0) (formulas : List Formula) (kept : All (IsKinded IsOf) formulas) (number : ℕ) (within : number < length formulas) where
+module _ (IsOf : List Literal → Type 0) (formulas : List Formula)
+    (kept : All (IsKinded IsOf) formulas) (number : ℕ) (within : number < length formulas) where
   found : (default : Formula) → slice_get formulas number ≡ Some (get_or formulas number default)
   found default = slice_get-get_or formulas number default within
 
@@ -18,7 +19,9 @@ module _ (IsOf : List Literal → Type 0) (formulas : List Formula) (kept : All 
   stored_kind =
       subst (λ o. All IsOf (clauses_found o)) (sym (found none)) (kept number none within).of_kind
 
-  pub stored_below : (atoms : ℕ) → AreOver formulas atoms → AreClauses atoms (formula_at formulas number)
+  pub stored_below : (atoms : ℕ) → AreOver formulas atoms
+      → AreClauses atoms (formula_at formulas number)
   stored_below atoms over =
       subst (λ o. AreClauses atoms (clauses_found o)) (sym (found none))
-      (subst (λ n. AreClauses n (get_or formulas number none).clauses) (over number none within) (kept number none within).below)
+      (subst (λ n. AreClauses n (get_or formulas number none).clauses) (over number none within)
+      (kept number none within).below)

@@ -1,6 +1,8 @@
 -- Why the choices of which the effect turns a literal are enough, where the set is a positive
 -- operand at the other time.
-use Rattle.std.proofs.Common.{◌≡◌, ℕ, zero, suc, ◌*◌, ◌/◌, ◌%◌, ◌<◌, ◌∙◌, ◌⊎◌, Bool, true, false, not, cond, List, [], ◌∷◌, Option, None, Some, length, slice_get, refl, sym, ap, arith, inl, inr, subst}
+use Rattle.std.proofs.Common.{◌≡◌, ℕ, zero, suc, ◌*◌, ◌/◌, ◌%◌, ◌<◌, ◌∙◌, ◌⊎◌, Bool, true, false}
+use Rattle.std.proofs.Common.{not, cond, List, [], ◌∷◌, Option, None, Some, length, slice_get, refl}
+use Rattle.std.proofs.Common.{sym, ap, arith, inl, inr, subst}
 use Rattle.std.proofs.Math.Nat.{mod-eq_of_lt}
 use Rattle.std.proofs.lemmas.List.Elements.{All-cons, All-nil}
 use Rattle.std.proofs.lemmas.Option.{slice_get_within}
@@ -36,7 +38,8 @@ is_or (Some false) false = inl refl
 is_or (Some true) false = inr (λ e. absurd cc)
 is_or (Some false) true = inr (λ e. absurd cc)
 
-pub turned_or : (effect : List ℕ) (v : Bool) (clause : List Literal) → All (λ l. value_of effect [] l ≡ Some v → ⊥) clause
+pub turned_or : (effect : List ℕ) (v : Bool) (clause : List Literal)
+    → All (λ l. value_of effect [] l ≡ Some v → ⊥) clause
     ⊎ ((l : Literal) × Contains clause l × (value_of effect [] l ≡ Some v))
 turned_or effect v [] = inl (All-nil (λ (l : Literal). value_of effect [] l ≡ Some v → ⊥))
 turned_or effect v (l ∷ ls) =
@@ -44,13 +47,19 @@ turned_or effect v (l ∷ ls) =
       | inl is ↦ inr (l, (0, omega arith, refl), is)
       | inr other ↦
           elim (turned_or effect v ls) [
-            | inl all ↦ inl (All-cons (λ (l : Literal). value_of effect [] l ≡ Some v → ⊥) l ls other all)
-            | inr found ↦ inr (found.0, (suc found.1.0, omega (arith, found.1.1), found.1.2), found.2)
+            | inl all ↦ inl (All-cons (λ (l : Literal). value_of effect [] l ≡ Some v → ⊥) l ls
+                other all)
+            | inr found ↦ inr (
+              found.0,
+              (suc found.1.0, omega (arith, found.1.1), found.1.2),
+              found.2,
+            )
           ]
     ]
 
 -- what an atom of a turned literal is made, and the sign of the literal
-pub turned_by : (effect : List ℕ) (after : Bool) (l : Literal) → value_of effect [] l ≡ Some (not after)
+pub turned_by : (effect : List ℕ) (after : Bool) (l : Literal)
+    → value_of effect [] l ≡ Some (not after)
     → (v : Bool) × (known effect l.atom ≡ Some v) × (l.positive ≡ turning_sign after v)
 turned_by effect after l h =
     let parts = value_some effect [] l (not after) h in
@@ -59,7 +68,8 @@ turned_by effect after l h =
       | inr both ↦ let none = known_past [] l.atom (omega arith) in absurd cc
     ]
   where
-    sign : (after v positive : Bool) → cond positive v (not v) ≡ not after → positive ≡ turning_sign after v
+    sign : (after v positive : Bool) → cond positive v (not v) ≡ not after
+        → positive ≡ turning_sign after v
     sign true true true e = absurd cc
     sign true true false e = refl
     sign true false true e = refl
@@ -71,111 +81,159 @@ turned_by effect after l h =
 
 -- Operands of which all but one are the empty set.
 module _ (task : Strips) (formulas : ℕ → List (List Literal)) (effect : List ℕ) where
-  all_empty : (os : List Operand) → ((k : ℕ) (o : Operand) → slice_get os k ≡ Some o → o.which ≡ W.Empty)
+  all_empty : (os : List Operand) → ((k : ℕ) (o : Operand) → slice_get os k ≡ Some o
+      → o.which ≡ W.Empty)
       → choices_of task (sizes_of formulas) os ≡ 1
   all_empty [] empty = refl
   all_empty (o ∷ os) empty =
       let rest = all_empty os (λ k p at. empty (suc k) p at) in
-      let first : choices_of task (sizes_of formulas) (o ∷ os) ≡ 1 * choices_of task (sizes_of formulas) os =
-      ap (λ w. clauses_of task (sizes_of formulas) w * choices_of task (sizes_of formulas) os) (empty 0 o refl) in
+      let first : choices_of task (sizes_of formulas) (o ∷ os)
+      ≡ 1 * choices_of task (sizes_of formulas) os =
+      ap (λ w. clauses_of task (sizes_of formulas) w * choices_of task (sizes_of formulas) os)
+      (empty 0 o refl) in
       omega arith
 
   -- there are as many choices as the one has clauses
-  alone_choices : (os : List Operand) (place : ℕ) (operand : Operand) → slice_get os place ≡ Some operand
+  alone_choices : (os : List Operand) (place : ℕ) (operand : Operand)
+      → slice_get os place ≡ Some operand
       → ((k : ℕ) (o : Operand) → k < place → slice_get os k ≡ Some o → o.which ≡ W.Empty)
       → ((k : ℕ) (o : Operand) → place < k → slice_get os k ≡ Some o → o.which ≡ W.Empty)
       → choices_of task (sizes_of formulas) os ≡ clauses_of task (sizes_of formulas) operand.which
-  alone_choices [] place operand here before behind = absurd (omega (arith, slice_get_within [] place operand here))
+  alone_choices [] place operand here before behind = absurd
+      (omega (arith, slice_get_within [] place operand here))
   alone_choices (o ∷ os) zero operand here before behind =
       let one : Some o ≡ Some operand = here in
       let same : o ≡ operand = cc in
       let rest = all_empty os (λ k p at. behind (suc k) p (omega arith) at) in
-      let whole : choices_of task (sizes_of formulas) (o ∷ os) ≡ clauses_of task (sizes_of formulas) o.which * 1 =
+      let whole : choices_of task (sizes_of formulas) (o ∷ os)
+      ≡ clauses_of task (sizes_of formulas) o.which * 1 =
       ap (λ n. clauses_of task (sizes_of formulas) o.which * n) rest in
-      let named : clauses_of task (sizes_of formulas) o.which ≡ clauses_of task (sizes_of formulas) operand.which =
+      let named : clauses_of task (sizes_of formulas) o.which
+      ≡ clauses_of task (sizes_of formulas) operand.which =
       ap (λ (x : Operand). clauses_of task (sizes_of formulas) x.which) same in
       omega arith
   alone_choices (o ∷ os) (suc place) operand here before behind =
-      let rest = alone_choices os place operand here (λ k p less at. before (suc k) p (omega arith) at) (λ k p more at. behind (suc k) p (omega arith) at) in
-      let first : choices_of task (sizes_of formulas) (o ∷ os) ≡ 1 * choices_of task (sizes_of formulas) os =
-      ap (λ w. clauses_of task (sizes_of formulas) w * choices_of task (sizes_of formulas) os) (before 0 o (omega arith) refl) in
+      let rest = alone_choices os place operand here
+      (λ k p less at. before (suc k) p (omega arith) at)
+      (λ k p more at. behind (suc k) p (omega arith) at) in
+      let first : choices_of task (sizes_of formulas) (o ∷ os)
+      ≡ 1 * choices_of task (sizes_of formulas) os =
+      ap (λ w. clauses_of task (sizes_of formulas) w * choices_of task (sizes_of formulas) os)
+      (before 0 o (omega arith) refl) in
       omega arith
 
   -- and a choice is one of its clauses
-  alone_breaks : (os : List Operand) (place : ℕ) (operand : Operand) → slice_get os place ≡ Some operand
+  alone_breaks : (os : List Operand) (place : ℕ) (operand : Operand)
+      → slice_get os place ≡ Some operand
       → ((k : ℕ) (o : Operand) → k < place → slice_get os k ≡ Some o → o.which ≡ W.Empty)
       → (number : ℕ) (state : List Bool) → Breaks task formulas effect os number state
-      → in_clause (clause_at (clauses_in task formulas operand.which) (number % length (clauses_in task formulas operand.which))) (over (late effect operand.after) state) ≡ false
-  alone_breaks [] place operand here before number state breaks = absurd (omega (arith, slice_get_within [] place operand here))
+      → in_clause (clause_at (clauses_in task formulas operand.which)
+      (number % length (clauses_in task formulas operand.which)))
+      (over (late effect operand.after) state) ≡ false
+  alone_breaks [] place operand here before number state breaks = absurd
+      (omega (arith, slice_get_within [] place operand here))
   alone_breaks (o ∷ os) zero operand here before number state breaks =
       let one : Some o ≡ Some operand = here in
       let same : o ≡ operand = cc in
-      subst (λ (x : Operand). in_clause (clause_at (clauses_in task formulas x.which) (number % length (clauses_in task formulas x.which))) (over (late effect x.after) state) ≡ false) same breaks.0
+      subst (λ (x : Operand). in_clause (clause_at (clauses_in task formulas x.which)
+      (number % length (clauses_in task formulas x.which))) (over (late effect x.after) state)
+      ≡ false) same breaks.0
   alone_breaks (o ∷ os) (suc place) operand here before number state breaks =
       let next : Breaks task formulas effect os (number / 1) state =
-      subst (λ w. Breaks task formulas effect os (number / length (clauses_in task formulas w)) state) (before 0 o (omega arith) refl) breaks.1 in
+      subst (λ w. Breaks task formulas effect os (number / length (clauses_in task formulas w))
+      state) (before 0 o (omega arith) refl) breaks.1 in
       let same : number / 1 ≡ number = omega arith in
-      alone_breaks os place operand here (λ k p less at. before (suc k) p (omega arith) at) number state
+      alone_breaks os place operand here (λ k p less at. before (suc k) p (omega arith) at) number
+      state
       (subst (λ n. Breaks task formulas effect os n state) same next)
 
 -- The one negative operand is a set of the store that is a positive operand at the other time.
-module _ (task : Strips) (formulas : ℕ → List (List Literal)) (effect : List ℕ) (query : Query) (operand : Operand) (set : ℕ)
+module _ (task : Strips) (formulas : ℕ → List (List Literal)) (effect : List ℕ) (query : Query)
+    (operand : Operand) (set : ℕ)
     (framed : IsFramed query operand) (is : operand.which ≡ W.Set set) where
   pub choices_are : choices_of task (sizes_of formulas) query.negative ≡ length (formulas set)
   choices_are =
-      alone_choices task formulas effect query.negative framed.alone.place operand framed.alone.here framed.alone.before framed.alone.behind
+      alone_choices task formulas effect query.negative framed.alone.place operand framed.alone.here
+      framed.alone.before framed.alone.behind
       ∙ ap (clauses_of task (sizes_of formulas)) is
 
   -- no state fits the choice of a clause of which the effect turns no literal
-  held_none : (number : ℕ) (state : List Bool) → number < choices_of task (sizes_of formulas) query.negative
-      → All (λ l. value_of effect [] l ≡ Some (not operand.after) → ⊥) (clause_at (formulas set) number) → FitsChoice task formulas effect query number state → ⊥
+  held_none : (number : ℕ) (state : List Bool)
+      → number < choices_of task (sizes_of formulas) query.negative
+      → All (λ l. value_of effect [] l ≡ Some (not operand.after) → ⊥)
+      (clause_at (formulas set) number) → FitsChoice task formulas effect query number state → ⊥
   held_none number state less held fits =
       let within : number < length (formulas set) = omega (arith, choices_are) in
-      let breaks = alone_breaks task formulas effect query.negative framed.alone.place operand framed.alone.here framed.alone.before number state fits.outside in
-      let broken : in_clause (clause_at (formulas set) (number % length (formulas set))) (over (late effect operand.after) state) ≡ false =
-      sym (ap (λ w. in_clause (clause_at (clauses_in task formulas w) (number % length (clauses_in task formulas w))) (over (late effect operand.after) state)) is)
+      let breaks = alone_breaks task formulas effect query.negative framed.alone.place operand
+      framed.alone.here framed.alone.before number state fits.outside in
+      let broken : in_clause (clause_at (formulas set) (number % length (formulas set)))
+      (over (late effect operand.after) state) ≡ false =
+      sym (ap (λ w. in_clause (clause_at (clauses_in task formulas w)
+      (number % length (clauses_in task formulas w))) (over (late effect operand.after) state))
+      is)
       ∙ breaks in
       framed_true task formulas effect query.positive set operand.after number state within
       (subst (λ w. AsksAbout query.positive w (not operand.after)) is framed.named) held fits.inside
-      (sym (ap (λ n. in_clause (clause_at (formulas set) n) (over (late effect operand.after) state)) (mod-eq_of_lt within)) ∙ broken)
+      (sym (ap (λ n. in_clause (clause_at (formulas set) n)
+      (over (late effect operand.after) state)) (mod-eq_of_lt within)) ∙ broken)
 
   -- no state that agrees with what is known fits the choice of a clause of which a literal is true
-  pub known_none : (base : List ℕ) (number : ℕ) (state : List Bool) → number < choices_of task (sizes_of formulas) query.negative
+  pub known_none : (base : List ℕ) (number : ℕ) (state : List Bool)
+      → number < choices_of task (sizes_of formulas) query.negative
       → SpeakBelow (length state) (clause_at (formulas set) number)
-      → ((l : Literal) × Contains (clause_at (formulas set) number) l × (value_of (late effect operand.after) base l ≡ Some true))
+      → ((l : Literal) × Contains (clause_at (formulas set) number) l
+      × (value_of (late effect operand.after) base l ≡ Some true))
       → Agrees base state → FitsChoice task formulas effect query number state → ⊥
   known_none base number state less below found agrees fits =
       let within : number < length (formulas set) = omega (arith, choices_are) in
-      let breaks = alone_breaks task formulas effect query.negative framed.alone.place operand framed.alone.here framed.alone.before number state fits.outside in
-      let broken : in_clause (clause_at (formulas set) (number % length (formulas set))) (over (late effect operand.after) state) ≡ false =
-      sym (ap (λ w. in_clause (clause_at (clauses_in task formulas w) (number % length (clauses_in task formulas w))) (over (late effect operand.after) state)) is)
+      let breaks = alone_breaks task formulas effect query.negative framed.alone.place operand
+      framed.alone.here framed.alone.before number state fits.outside in
+      let broken : in_clause (clause_at (formulas set) (number % length (formulas set)))
+      (over (late effect operand.after) state) ≡ false =
+      sym (ap (λ w. in_clause (clause_at (clauses_in task formulas w)
+      (number % length (clauses_in task formulas w))) (over (late effect operand.after) state))
+      is)
       ∙ breaks in
-      known_true (late effect operand.after) base (clause_at (formulas set) number) (length state) state below refl found agrees
-      (sym (ap (λ n. in_clause (clause_at (formulas set) n) (over (late effect operand.after) state)) (mod-eq_of_lt within)) ∙ broken)
+      known_true (late effect operand.after) base (clause_at (formulas set) number) (length state)
+      state below refl found agrees
+      (sym (ap (λ n. in_clause (clause_at (formulas set) n)
+      (over (late effect operand.after) state)) (mod-eq_of_lt within)) ∙ broken)
 
   -- so it is enough to try the clauses of which it turns one
   pub met_from_touched : (occurs : Occurrences) → IsIndexOf (formulas set) occurs
       → (middle found : List Bool)
-      → IsMetAmong false (signed occurs (turning_sign operand.after false)) (λ p. known effect p ≡ Some false)
-      (choices_of task (sizes_of formulas) query.negative) (atoms task) (FitsChoice task formulas effect query) middle
+      → IsMetAmong false (signed occurs (turning_sign operand.after false))
+      (λ p. known effect p ≡ Some false)
+      (choices_of task (sizes_of formulas) query.negative) (atoms task)
+      (FitsChoice task formulas effect query) middle
       → (result : Bool)
-      → IsMetAmong result (signed occurs (turning_sign operand.after true)) (λ p. known effect p ≡ Some true)
-      (choices_of task (sizes_of formulas) query.negative) (atoms task) (FitsChoice task formulas effect query) found
-      → IsMetBelow result (choices_of task (sizes_of formulas) query.negative) (atoms task) (FitsChoice task formulas effect query) found
+      → IsMetAmong result (signed occurs (turning_sign operand.after true))
+      (λ p. known effect p ≡ Some true)
+      (choices_of task (sizes_of formulas) query.negative) (atoms task)
+      (FitsChoice task formulas effect query) found
+      → IsMetBelow result (choices_of task (sizes_of formulas) query.negative) (atoms task)
+      (FitsChoice task formulas effect query) found
   met_from_touched occurs index middle found first true second = second
   met_from_touched occurs index middle found first false second = λ number less state size fits.
       elim (turned_or effect (not operand.after) (clause_at (formulas set) number)) [
         | inl all ↦ held_none number state less all fits
         | inr some ↦
             let by = turned_by effect operand.after some.0 some.2 in
-            let listed : Contains (signed occurs (turning_sign operand.after by.0)) (record { atom = some.0.atom; place = number }) =
-            (index (turning_sign operand.after by.0)).all number some.0 (omega (arith, choices_are)) some.1 by.2 in
-            either number state size fits (record { atom = some.0.atom; place = number }) refl by.0 by.1 listed
+            let listed : Contains (signed occurs (turning_sign operand.after by.0))
+            (record { atom = some.0.atom; place = number }) =
+            (index (turning_sign operand.after by.0)).all number some.0 (omega (arith, choices_are))
+            some.1 by.2 in
+            either number state size fits (record { atom = some.0.atom; place = number }) refl by.0
+            by.1 listed
       ]
     where
-      either : (number : ℕ) (state : List Bool) → length state ≡ atoms task → FitsChoice task formulas effect query number state
-          → (o : Occurrence) → o.place ≡ number → (v : Bool) → known effect o.atom ≡ Some v → Contains (signed occurs (turning_sign operand.after v)) o → ⊥
+      either : (number : ℕ) (state : List Bool) → length state ≡ atoms task
+          → FitsChoice task formulas effect query number state
+          → (o : Occurrence) → o.place ≡ number → (v : Bool) → known effect o.atom ≡ Some v
+          → Contains (signed occurs (turning_sign operand.after v)) o → ⊥
       either number state size fits o at true is_known listed =
-          second o listed is_known state size (subst (λ n. FitsChoice task formulas effect query n state) (sym at) fits)
+          second o listed is_known state size (subst
+          (λ n. FitsChoice task formulas effect query n state) (sym at) fits)
       either number state size fits o at false is_known listed =
-          first o listed is_known state size (subst (λ n. FitsChoice task formulas effect query n state) (sym at) fits)
+          first o listed is_known state size (subst
+          (λ n. FitsChoice task formulas effect query n state) (sym at) fits)

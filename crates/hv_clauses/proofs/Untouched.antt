@@ -1,5 +1,7 @@
 -- What follows from clauses alone, beside an effect.
-use Rattle.std.proofs.Common.{◌≡◌, ℕ, suc, ◌<◌, ◌∙◌, ◌⊎◌, Bool, true, false, not, cond, List, [], ◌∷◌, Option, None, Some, length, replicate, refl, sym, ap, ap₂, arith, inl, inr}
+use Rattle.std.proofs.Common.{◌≡◌, ℕ, suc, ◌<◌, ◌∙◌, ◌⊎◌, Bool, true, false, not, cond, List, []}
+use Rattle.std.proofs.Common.{◌∷◌, Option, None, Some, length, replicate, refl, sym, ap, ap₂, arith}
+use Rattle.std.proofs.Common.{inl, inr}
 use Rattle.std.specs.Prelude.{slice_set}
 use Rattle.std.proofs.lemmas.Bool.{cases_eq, cases_lt}
 use Rattle.std.proofs.lemmas.List.{length-set}
@@ -26,16 +28,19 @@ untouched_nil [] = refl
 untouched_nil (l ∷ ls) = ap (λ xs. l ∷ xs) (untouched_nil ls)
 
 -- nothing is said of what the effect touches
-written_touched : (e : List ℕ) (ls : List Literal) (m : List ℕ) (p : ℕ) (b : Bool) → known e p ≡ Some b
+written_touched : (e : List ℕ) (ls : List Literal) (m : List ℕ) (p : ℕ) (b : Bool)
+    → known e p ≡ Some b
     → known (written (untouched e ls) m) p ≡ known m p
 written_touched e [] m p b h = refl
 written_touched e (l ∷ ls) m p b h = by (known e l.atom) refl (λ n. written_touched e ls n p b h)
   where
-    by : (o : Option Bool) → known e l.atom ≡ o → ((n : List ℕ) → known (written (untouched e ls) n) p ≡ known n p)
+    by : (o : Option Bool) → known e l.atom ≡ o
+        → ((n : List ℕ) → known (written (untouched e ls) n) p ≡ known n p)
         → known (written (put_unless o l (untouched e ls)) m) p ≡ known m p
     by None none rest =
         rest (slice_set m l.atom (mark_for l.positive))
-        ∙ known-set_other m l.atom p l.positive (λ same. let clash : Some b ≡ None = sym h ∙ (ap (known e) same ∙ none) in absurd cc)
+        ∙ known-set_other m l.atom p l.positive
+        (λ same. let clash : Some b ≡ None = sym h ∙ (ap (known e) same ∙ none) in absurd cc)
     by (Some v) some rest = rest m
 
 set_both : (m k : List ℕ) (q p : ℕ) (b : Bool) → length m ≡ length k → known m p ≡ known k p
@@ -55,32 +60,40 @@ set_both m k q p b size same =
     ]
 
 -- and of other atoms the same is said
-written_untouched : (e : List ℕ) (ls : List Literal) (m k : List ℕ) (p : ℕ) → known e p ≡ None → length m ≡ length k → known m p ≡ known k p
+written_untouched : (e : List ℕ) (ls : List Literal) (m k : List ℕ) (p : ℕ) → known e p ≡ None
+    → length m ≡ length k → known m p ≡ known k p
     → known (written (untouched e ls) m) p ≡ known (written ls k) p
 written_untouched e [] m k p h size same = same
-written_untouched e (l ∷ ls) m k p h size same = by (known e l.atom) refl (λ x y. written_untouched e ls x y p h)
+written_untouched e (l ∷ ls) m k p h size same = by (known e l.atom) refl
+    (λ x y. written_untouched e ls x y p h)
   where
     by : (o : Option Bool) → known e l.atom ≡ o
-        → ((x y : List ℕ) → length x ≡ length y → known x p ≡ known y p → known (written (untouched e ls) x) p ≡ known (written ls y) p)
-        → known (written (put_unless o l (untouched e ls)) m) p ≡ known (written ls (slice_set k l.atom (mark_for l.positive))) p
+        → ((x y : List ℕ) → length x ≡ length y → known x p ≡ known y p
+        → known (written (untouched e ls) x) p ≡ known (written ls y) p)
+        → known (written (put_unless o l (untouched e ls)) m) p
+        ≡ known (written ls (slice_set k l.atom (mark_for l.positive))) p
     by None none rest =
         let a = length-set m l.atom (mark_for l.positive) in
         let b = length-set k l.atom (mark_for l.positive) in
-        rest (slice_set m l.atom (mark_for l.positive)) (slice_set k l.atom (mark_for l.positive)) (omega arith)
+        rest (slice_set m l.atom (mark_for l.positive)) (slice_set k l.atom (mark_for l.positive))
+        (omega arith)
         (set_both m k l.atom p l.positive size same)
     by (Some v) some rest =
         let b = length-set k l.atom (mark_for l.positive) in
         rest m (slice_set k l.atom (mark_for l.positive)) (omega arith)
-        (same ∙ sym (known-set_other k l.atom p l.positive (λ is. let clash : None ≡ Some v = sym h ∙ (ap (known e) is ∙ some) in absurd cc)))
+        (same ∙ sym (known-set_other k l.atom p l.positive
+        (λ is. let clash : None ≡ Some v = sym h ∙ (ap (known e) is ∙ some) in absurd cc)))
 
 module _ (e : List ℕ) (n : ℕ) (ls : List Literal) where
-  pub said_beside : (p : ℕ) → known e p ≡ None → known (marked n (untouched e ls)) p ≡ known (marked n ls) p
+  pub said_beside : (p : ℕ) → known e p ≡ None
+      → known (marked n (untouched e ls)) p ≡ known (marked n ls) p
   said_beside p h = written_untouched e ls (replicate n 0) (replicate n 0) p h refl refl
 
   pub unsaid : (p : ℕ) (b : Bool) → known e p ≡ Some b → known (marked n (untouched e ls)) p ≡ None
   unsaid p b h = written_touched e ls (replicate n 0) p b h ∙ known-replicate n p
 
-  pub unsaid_none : (p : ℕ) → known (marked n ls) p ≡ None → known (marked n (untouched e ls)) p ≡ None
+  pub unsaid_none : (p : ℕ) → known (marked n ls) p ≡ None
+      → known (marked n (untouched e ls)) p ≡ None
   unsaid_none p none = by (known e p) refl
     where
       by : (o : Option Bool) → known e p ≡ o → known (marked n (untouched e ls)) p ≡ None
@@ -88,22 +101,41 @@ module _ (e : List ℕ) (n : ℕ) (ls : List Literal) where
       by (Some b) some = unsaid p b some
 
   -- what the state after agrees with, the state before does beside the effect
-  pub agrees_beside : (state : List Bool) → Agrees (marked n ls) (over e state) → Agrees (marked n (untouched e ls)) state
+  pub agrees_beside : (state : List Bool) → Agrees (marked n ls) (over e state)
+      → Agrees (marked n (untouched e ls)) state
   agrees_beside state agrees p v h = by (known e p) refl
     where
       by : (o : Option Bool) → known e p ≡ o → has_atom state p ≡ v
-      by None alone = sym (has_atom-over_none e state p alone) ∙ agrees p v (sym (said_beside p alone) ∙ h)
+      by None alone = sym (has_atom-over_none e state p alone)
+          ∙ agrees p v (sym (said_beside p alone) ∙ h)
       by (Some b) some = let clash : None ≡ Some v = sym (unsaid p b some) ∙ h in absurd cc
 
   -- and a settled clause stays settled, unless the effect makes a literal of it false
-  pub settled_but : (clauses : List (List Literal)) → AreSettled [] clauses (marked n ls) → AreSettledBut e clauses (marked n (untouched e ls))
+  pub settled_but : (clauses : List (List Literal)) → AreSettled [] clauses (marked n ls)
+      → AreSettledBut e clauses (marked n (untouched e ls))
   settled_but clauses settled place less held =
       elim (touched_or e (clause_at clauses place)) [
-        | inr some ↦ inl (some.0, some.1, true_one some.0 some.2 some.3 (All-contains (λ l. value_of e [] l ≡ Some false → ⊥) (clause_at clauses place) some.0 held some.1))
+        | inr some ↦ inl (
+          some.0,
+          some.1,
+          true_one some.0 some.2 some.3
+              (All-contains (λ l. value_of e [] l ≡ Some false → ⊥) (clause_at clauses place) some.0
+              held some.1),
+        )
         | inl alone ↦
             elim (settled place [] less) [
               | inl at ↦ inl (at.0, at.1, same (clause_at clauses place) alone at.0 at.1 ∙ at.2)
-              | inr two ↦ inr (two.0, two.1, two.2, two.3, two.4, same (clause_at clauses place) alone two.0 two.2 ∙ two.5, same (clause_at clauses place) alone two.1 two.3 ∙ two.6)
+              | inr two ↦ inr (
+                two.0,
+                two.1,
+                two.2,
+                two.3,
+                two.4,
+                same (clause_at clauses place)
+                    alone two.0 two.2 ∙ two.5,
+                same (clause_at clauses place) alone two.1 two.3
+                    ∙ two.6,
+              )
             ]
       ]
     where
@@ -113,55 +145,74 @@ module _ (e : List ℕ) (n : ℕ) (ls : List Literal) where
       touched_or e (l ∷ ls) = by (known e l.atom) refl (touched_or e ls)
         where
           by : (o : Option Bool) → known e l.atom ≡ o
-              → (All (λ l. known e l.atom ≡ None) ls ⊎ ((l : Literal) × Contains ls l × (v : Bool) × (known e l.atom ≡ Some v)))
+              → (All (λ l. known e l.atom ≡ None) ls
+              ⊎ ((l : Literal) × Contains ls l × (v : Bool) × (known e l.atom ≡ Some v)))
               → All (λ l. known e l.atom ≡ None) (l ∷ ls)
               ⊎ ((k : Literal) × Contains (l ∷ ls) k × (v : Bool) × (known e k.atom ≡ Some v))
           by (Some v) some rest = inr (l, (0, omega arith, refl), v, some)
           by None none rest =
               elim rest [
                 | inl all ↦ inl (All-cons (λ (l : Literal). known e l.atom ≡ None) l ls none all)
-                | inr found ↦ inr (found.0, (suc found.1.0, omega (arith, found.1.1), found.1.2), found.2, found.3)
+                | inr found ↦ inr (
+                  found.0,
+                  (suc found.1.0, omega (arith, found.1.1), found.1.2),
+                  found.2,
+                  found.3,
+                )
               ]
 
-      true_one : (l : Literal) (v : Bool) → known e l.atom ≡ Some v → (value_of e [] l ≡ Some false → ⊥)
+      true_one : (l : Literal) (v : Bool) → known e l.atom ≡ Some v
+          → (value_of e [] l ≡ Some false → ⊥)
           → value_of e (marked n (untouched e ls)) l ≡ Some true
       true_one l v h not_false =
-          ap (λ o. option_map (λ value. cond l.positive value (not value)) (first_of o (known (marked n (untouched e ls)) l.atom))) h
+          ap (λ o. option_map (λ value. cond l.positive value (not value))
+          (first_of o (known (marked n (untouched e ls)) l.atom))) h
           ∙ ap (λ (b : Bool). Some b)
           (only (cond l.positive v (not v))
-          (λ is. not_false (ap (λ o. option_map (λ value. cond l.positive value (not value)) (first_of o (known [] l.atom))) h ∙ ap (λ (b : Bool). Some b) is)))
+          (λ is. not_false (ap (λ o. option_map
+          (λ value. cond l.positive value (not value)) (first_of o (known [] l.atom))) h
+          ∙ ap (λ (b : Bool). Some b) is)))
         where
           only : (b : Bool) → (b ≡ false → ⊥) → b ≡ true
           only true h = refl
           only false h = absurd (h refl)
 
-      same : (clause : List Literal) → All (λ l. known e l.atom ≡ None) clause → (l : Literal) → Contains clause l
+      same : (clause : List Literal) → All (λ l. known e l.atom ≡ None) clause → (l : Literal)
+          → Contains clause l
           → value_of e (marked n (untouched e ls)) l ≡ value_of [] (marked n ls) l
       same clause alone l has =
-          let none : known e l.atom ≡ None = All-contains (λ l. known e l.atom ≡ None) clause l alone has in
-          ap₂ (λ o q. option_map (λ value. cond l.positive value (not value)) (first_of o q)) none (said_beside l.atom none)
+          let none : known e l.atom ≡ None = All-contains
+          (λ l. known e l.atom ≡ None) clause l alone has in
+          ap₂ (λ o q. option_map (λ value. cond l.positive value (not value)) (first_of o q)) none
+          (said_beside l.atom none)
 
 -- once each clause was looked at of which the effect makes a literal false, nothing is left but
 -- what comes from the trail
-pub turned_kept : (e : List ℕ) (clauses : List (List Literal)) (k : Knowledge) → AreSettledBut e clauses k.base
-    → ((v : Bool) (place : ℕ) (l : Literal) → place < length clauses → Contains (clause_at clauses place) l → known e l.atom ≡ Some v
+pub turned_kept : (e : List ℕ) (clauses : List (List Literal)) (k : Knowledge)
+    → AreSettledBut e clauses k.base
+    → ((v : Bool) (place : ℕ) (l : Literal) → place < length clauses
+    → Contains (clause_at clauses place) l → known e l.atom ≡ Some v
     → l.positive ≡ not v → IsKept e (clause_at clauses place) k 0)
     → AreKept e clauses k 0
 turned_kept e clauses k but seen = λ place less.
     let start : Knowledge = record { base = k.base; trail = [] } in
     elim (turned_or e false (clause_at clauses place)) [
-      | inl all ↦ kept_on e (clause_at clauses place) start k 0 refl (k.trail, refl) (omega arith) (λ apart. but place less all)
+      | inl all ↦ kept_on e (clause_at clauses place) start k 0 refl (k.trail, refl) (omega arith)
+          (λ apart. but place less all)
       | inr some ↦
           let by = turned_by e true some.0 some.2 in
           seen by.0 place some.0 less some.1 by.1 by.2
     ]
 
 pub kept_either : (e : List ℕ) (clauses : List (List Literal)) (k : Knowledge)
-    → ((place : ℕ) (l : Literal) → place < length clauses → Contains (clause_at clauses place) l → known e l.atom ≡ Some false
+    → ((place : ℕ) (l : Literal) → place < length clauses → Contains (clause_at clauses place) l
+    → known e l.atom ≡ Some false
     → l.positive ≡ true → IsKept e (clause_at clauses place) k 0)
-    → ((place : ℕ) (l : Literal) → place < length clauses → Contains (clause_at clauses place) l → known e l.atom ≡ Some true
+    → ((place : ℕ) (l : Literal) → place < length clauses → Contains (clause_at clauses place) l
+    → known e l.atom ≡ Some true
     → l.positive ≡ false → IsKept e (clause_at clauses place) k 0)
-    → (v : Bool) (place : ℕ) (l : Literal) → place < length clauses → Contains (clause_at clauses place) l → known e l.atom ≡ Some v
+    → (v : Bool) (place : ℕ) (l : Literal) → place < length clauses
+    → Contains (clause_at clauses place) l → known e l.atom ≡ Some v
     → l.positive ≡ not v → IsKept e (clause_at clauses place) k 0
 kept_either e clauses k out in_ true place l less has made sign = in_ place l less has made sign
 kept_either e clauses k out in_ false place l less has made sign = out place l less has made sign

@@ -5,7 +5,8 @@ ghost use Rattle.std.specs.Prelude.{◌≡◌, ◌<◌, ◌≤◌, ◌/◌, ◌�
 ghost use Rattle.std.specs.Prelude.{slice_range, IfOk};
 ghost use Rattle.std.specs.List.{Contains};
 ghost use Rattle.std.specs.List.Sorted.{IsStrictlyIncreasing};
-ghost use Rattle.hv_clauses.specs.Working.Rows.{IsEndBefore, IsEndWith, IsPartOf, code, key_of, place_of_code};
+ghost use Rattle.hv_clauses.specs.Working.Rows.{IsEndBefore, IsEndWith, IsPartOf, code, key_of};
+ghost use Rattle.hv_clauses.specs.Working.Rows.{place_of_code};
 
 use std::alloc::{AllocError, Global};
 

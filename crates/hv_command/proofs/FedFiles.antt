@@ -1,5 +1,6 @@
 -- A checker that is fed the lines of a file one after another, as they are read.
-use Rattle.std.proofs.Common.{◌≡◌, ℕ, ◌≤◌, ◌∙◌, List, [], ◌∷◌, ◌++◌, Option, Some, None, IfSome, append_assoc, ap, length, refl, subst, sym}
+use Rattle.std.proofs.Common.{◌≡◌, ℕ, ◌≤◌, ◌∙◌, List, [], ◌∷◌, ◌++◌, Option, Some, None, IfSome}
+use Rattle.std.proofs.Common.{append_assoc, ap, length, refl, subst, sym}
 use Rattle.std.proofs.lemmas.List.{map-append}
 use Rattle.std.specs.Io.KnownBytes.{IsAtEnd}
 use Rattle.hv_bytes.specs.FirstLine.{BeginsLong, FitsLimits, MovesBytes, TakesLine}
@@ -15,8 +16,10 @@ use Rattle.hv_checker.specs.declared.piece.Fed.TheVariants as F
 use Rattle.hv_checker.specs.declared.stop.Stop.{Stop}
 use Rattle.hv_checker.specs.declared.stop.Stop.TheVariants as S
 
--- of this file the lines given so far were fed, all were accepted, and these bytes are still to come
-pub record IsFeeding (file coming : Option (List ℕ)) (earlier number : ℕ) (checker : CheckerState) : Type 0 where
+-- of this file the lines given so far were fed, all were accepted, and these bytes are still to
+-- come
+pub record IsFeeding (file coming : Option (List ℕ)) (earlier number : ℕ) (checker : CheckerState) :
+    Type 0 where
   pub going : checker.stop ≡ S.Going
   pub few : checker.fed ≤ number
   pub given : List (List ℕ)
@@ -24,42 +27,60 @@ pub record IsFeeding (file coming : Option (List ℕ)) (earlier number : ℕ) (c
   pub stands : Stands checker (as_pieces given)
 
 -- a line that was given was fed too
-pub record IsFed (file coming : Option (List ℕ)) (earlier : ℕ) (checker : CheckerState) : Type 0 where
-  pub given : List (List ℕ)
-  pub gave : GaveLines standard file given coming earlier
-  pub stands : Stands checker (as_pieces given)
+pub record IsFed (file coming : Option (List ℕ)) (earlier : ℕ) (checker : CheckerState) : Type 0
+  where
+    pub given : List (List ℕ)
+    pub gave : GaveLines standard file given coming earlier
+    pub stands : Stands checker (as_pieces given)
 
 -- a line is given and fed
-pub fed_line : (file old new : Option (List ℕ)) (line : List ℕ) (before after number : ℕ) (was is : CheckerState)
-    → IsFeeding file old before number was → TakesLine old new line → MovesBytes old new before after
+pub fed_line : (file old new : Option (List ℕ)) (line : List ℕ) (before after number : ℕ)
+    (was is : CheckerState)
+    → IsFeeding file old before number was → TakesLine old new line
+    → MovesBytes old new before after
     → FitsLimits standard.line standard.file before (length line)
-    → ((pieces : List Piece) → Stands was pieces → Stands is (pieces ++ Some line ∷ [])) → IsFed file new after is
+    → ((pieces : List Piece) → Stands was pieces → Stands is (pieces ++ Some line ∷ []))
+    → IsFed file new after is
 fed_line file old new line before after number was is so_far takes passes fits stands = record {
   given = so_far.given ++ line ∷ [];
-  gave = gave_more standard file old new so_far.given line before after so_far.gave takes passes fits;
-  stands = subst (λ ps. Stands is ps) (sym (map-append (λ l. Some l) so_far.given (line ∷ []))) (stands (as_pieces so_far.given) so_far.stands);
+  gave = gave_more standard file old new so_far.given line before after so_far.gave takes passes
+      fits;
+  stands = subst (λ ps. Stands is ps) (sym (map-append (λ l. Some l) so_far.given (line ∷ [])))
+      (stands (as_pieces so_far.given) so_far.stands);
 }
 
 -- where a piece was refused, it is so of all longer lists too
-refused_longer : (checker : CheckerState) (reason : Reason) (pieces rest : List Piece) → StandsAt checker (S.Refused reason) pieces
+refused_longer : (checker : CheckerState) (reason : Reason) (pieces rest : List Piece)
+    → StandsAt checker (S.Refused reason) pieces
     → StandsAt checker (S.Refused reason) (pieces ++ rest)
-refused_longer checker reason pieces rest (front, bad, behind, cut, counted, accepts, why) =
-    (front, bad, behind ++ rest, ap (λ ps. ps ++ rest) cut ∙ append_assoc front (bad ∷ behind) rest, counted, accepts, why)
+refused_longer checker reason pieces rest (front, bad, behind, cut, counted, accepts, why) = (
+  front,
+  bad,
+  behind ++ rest,
+  ap (λ ps. ps ++ rest) cut
+      ∙ append_assoc front (bad ∷ behind) rest,
+  counted,
+  accepts,
+  why,
+)
 
-pub stands_longer : (checker : CheckerState) (reason : Reason) (pieces rest : List Piece) → checker.stop ≡ S.Refused reason
+pub stands_longer : (checker : CheckerState) (reason : Reason) (pieces rest : List Piece)
+    → checker.stop ≡ S.Refused reason
     → Stands checker pieces → Stands checker (pieces ++ rest)
 stands_longer checker reason pieces rest e stands =
     subst (λ s. StandsAt checker s (pieces ++ rest)) (sym e)
     (refused_longer checker reason pieces rest (subst (λ s. StandsAt checker s pieces) e stands))
 
 -- a line was refused: the checker is as the whole file leaves it
-pub fed_refused : (file coming : Option (List ℕ)) (earlier : ℕ) (checker : CheckerState) (reason : Reason)
+pub fed_refused : (file coming : Option (List ℕ)) (earlier : ℕ) (checker : CheckerState)
+    (reason : Reason)
     → IsFed file coming earlier checker → checker.stop ≡ S.Refused reason
     → IfSome file (λ bytes. Stands checker (pieces_of standard bytes))
 fed_refused None coming earlier checker reason fed e = tt
 fed_refused (Some bytes) coming earlier checker reason fed e =
     let front = gave_front standard (Some bytes) coming fed.given earlier fed.gave in
-    subst (λ ps. Stands checker ps) (sym front.1) (stands_longer checker reason (as_pieces fed.given) front.0 e fed.stands)
+    subst (λ ps. Stands checker ps) (sym front.1)
+    (stands_longer checker reason (as_pieces fed.given) front.0 e fed.stands)
 
 -- the file ended: the checker is as the whole file leaves it
 pub fed_all : (file coming : Option (List ℕ)) (earlier number : ℕ) (checker : CheckerState)
@@ -67,20 +88,24 @@ pub fed_all : (file coming : Option (List ℕ)) (earlier number : ℕ) (checker 
     → IfSome file (λ bytes. Stands checker (pieces_of standard bytes))
 fed_all None coming earlier number checker so_far end = tt
 fed_all (Some bytes) coming earlier number checker so_far end =
-    subst (λ ps. Stands checker ps) (sym (gave_all standard (Some bytes) coming so_far.given earlier so_far.gave end)) so_far.stands
+    subst (λ ps. Stands checker ps) (sym (gave_all standard (Some bytes) coming so_far.given earlier
+    so_far.gave end)) so_far.stands
 
 -- a long line was fed, which is the last piece: the checker is as the whole file leaves it
 pub fed_long : (file coming : Option (List ℕ)) (earlier number : ℕ) (was is : CheckerState)
-    → IsFeeding file coming earlier number was → BeginsLong coming standard.line standard.file earlier
+    → IsFeeding file coming earlier number was
+    → BeginsLong coming standard.line standard.file earlier
     → ((pieces : List Piece) → Stands was pieces → Stands is (pieces ++ None ∷ []))
     → IfSome file (λ bytes. Stands is (pieces_of standard bytes))
 fed_long None coming earlier number was is so_far long stands = tt
 fed_long (Some bytes) coming earlier number was is so_far long stands =
-    subst (λ ps. Stands is ps) (sym (gave_long standard (Some bytes) coming so_far.given earlier so_far.gave long))
+    subst (λ ps. Stands is ps) (sym (gave_long standard (Some bytes) coming so_far.given earlier
+    so_far.gave long))
     (stands (as_pieces so_far.given) so_far.stands)
 
 -- a checker goes on after each answer but a refusal
-pub goes_on : (before : Stop) (fed : Fed) → ((reason : Reason) → fed ≡ F.Refused reason → ⊥) → stop_after before fed ≡ before
+pub goes_on : (before : Stop) (fed : Fed) → ((reason : Reason) → fed ≡ F.Refused reason → ⊥)
+    → stop_after before fed ≡ before
 goes_on before F.Skipped other = refl
 goes_on before F.Good other = refl
 goes_on before (F.Refused reason) other = absurd (other reason refl)

@@ -1,11 +1,17 @@
 -- What is reached in the task of a sample, and the two proofs for it.
-use Rattle.std.proofs.Common.{◌≡◌, ◌↔◌, ℕ, zero, suc, ◌+◌, ◌-◌, ◌*◌, ◌%◌, ◌<◌, ◌≤◌, ◌∙◌, ◌&&◌, ◌||◌, ◌⊎◌, Bool, true, false, eqb, ltb, List, [], ◌∷◌, ◌++◌, Option, Some, None, IfSome, IsTrue, codes, decimal, length, map, slice_get, refl, sym, ap, ap₂, subst, inl, inr, append_assoc, arith, length-append}
-use Rattle.std.proofs.lemmas.Bool.{and_from, and_parts, cases_eq, eq-eqb, eqb-true, false_from_ne_true, false≢true, lt-ltb, ltb-true, ne_eqb}
+use Rattle.std.proofs.Common.{◌≡◌, ◌↔◌, ℕ, zero, suc, ◌+◌, ◌-◌, ◌*◌, ◌%◌, ◌<◌, ◌≤◌, ◌∙◌, ◌&&◌, ◌||◌}
+use Rattle.std.proofs.Common.{◌⊎◌, Bool, true, false, eqb, ltb, List, [], ◌∷◌, ◌++◌, Option, Some}
+use Rattle.std.proofs.Common.{None, IfSome, IsTrue, codes, decimal, length, map, slice_get, refl}
+use Rattle.std.proofs.Common.{sym, ap, ap₂, subst, inl, inr, append_assoc, arith, length-append}
+use Rattle.std.proofs.lemmas.Bool.{and_from, and_parts, cases_eq, eq-eqb, eqb-true}
+use Rattle.std.proofs.lemmas.Bool.{false_from_ne_true, false≢true, lt-ltb, ltb-true, ne_eqb}
 use Rattle.std.proofs.lemmas.List.Concat.{flat_map-append}
 use Rattle.std.proofs.lemmas.List.Elements.{All-cons, All-head, All-nil}
-use Rattle.std.proofs.lemmas.List.FromFn.{get_or-map-range_with_len, length-map-range_with_len, map-range_with_len_more}
+use Rattle.std.proofs.lemmas.List.FromFn.{get_or-map-range_with_len, length-map-range_with_len}
+use Rattle.std.proofs.lemmas.List.FromFn.{map-range_with_len_more}
 use Rattle.std.proofs.lemmas.Nat.{mod_below, mod-mul-add}
-use Rattle.std.proofs.lemmas.Option.{get_or_from_slice_get, same_Some, slice_get-get_or, slice_get_within}
+use Rattle.std.proofs.lemmas.Option.{get_or_from_slice_get, same_Some, slice_get-get_or}
+use Rattle.std.proofs.lemmas.Option.{slice_get_within}
 use Rattle.std.specs.List.{All, Contains, flat_map, range_with_len}
 use Rattle.std.specs.Option.{is_some}
 use Rattle.hv_task.specs.declared.action.Action.{Action}
@@ -20,11 +26,15 @@ use Rattle.hv_lines.specs.declared.line.Expr.{Expr}
 use Rattle.hv_lines.specs.declared.line.Expr.TheVariants as E
 use Rattle.hv_lines.specs.declared.line.Line.{Line}
 use Rattle.hv_lines.proofs.Bools.{same_truth}
-use Rattle.hv_reach.specs.Reached.{AreIn, ClosedAtoms, ClosedPairs, HasPairsOf, LeavesAlone, ReachedAtom, ReachedPair}
-use Rattle.hv_reach.specs.Written.{IsPairsProof, IsRelaxedProof, PairsExclude, RelaxedExcludes, atom_clauses, horn_proof, pair_clauses, pairs_formula, relaxed_formula, row_clauses}
+use Rattle.hv_reach.specs.Reached.{AreIn, ClosedAtoms, ClosedPairs, HasPairsOf, LeavesAlone}
+use Rattle.hv_reach.specs.Reached.{ReachedAtom, ReachedPair}
+use Rattle.hv_reach.specs.Written.{IsPairsProof, IsRelaxedProof, PairsExclude, RelaxedExcludes}
+use Rattle.hv_reach.specs.Written.{atom_clauses, horn_proof, pair_clauses, pairs_formula}
+use Rattle.hv_reach.specs.Written.{relaxed_formula, row_clauses}
 use Rattle.hv_lines.proofs.Lists.{range_push}
 use Rattle.hv_task.proofs.Listing.{within_state}
-use Rattle.hv_command.specs.Sample.{count_line, move_from, proof_line, room_name, sample_task, unreached_pairs}
+use Rattle.hv_command.specs.Sample.{count_line, move_from, proof_line, room_name, sample_task}
+use Rattle.hv_command.specs.Sample.{unreached_pairs}
 use Rattle.hv_command.specs.Working.Sample.{IsHornProof}
 use Rattle.hv_command.specs.Replies.{unsolvable_text}
 use Rattle.hv_command.specs.Words.{IsRooms}
@@ -34,7 +44,8 @@ pub one_listed : (list : List ℕ) (atom : ℕ) → Inserts [] atom list → lis
 one_listed [] atom inserts =
     let there = (inserts.has atom).1 (inr refl) in
     absurd (omega (arith, there.1))
-one_listed (p ∷ []) atom inserts = ap (λ x. x ∷ []) (is_it ((inserts.has p).0 (0, omega arith, refl)))
+one_listed (p ∷ []) atom inserts = ap (λ x. x ∷ [])
+    (is_it ((inserts.has p).0 (0, omega arith, refl)))
   where
     is_it : Contains [] p ⊎ (p ≡ atom) → p ≡ atom
     is_it (inl there) = absurd (omega (arith, there.1))
@@ -72,25 +83,31 @@ pub room_added : (room : ℕ) (start task new : Strips) (name : List ℕ)
 room_added room start task new name so_far named added =
     added
     ∙ (ap₂ (λ (t : Strips) (n : List ℕ). record t { names = t.names ++ n ∷ [] }) so_far named
-    ∙ ap (λ (ns : List (List ℕ)). record start { names = ns }) (sym (map-range_with_len_more room_name 0 room room (omega arith))))
+    ∙ ap (λ (ns : List (List ℕ)). record start { names = ns })
+    (sym (map-range_with_len_more room_name 0 room room (omega arith))))
 
 pub move_fits : (rooms room : ℕ) (start task : Strips) → IsRooms rooms → room < rooms
-    → task ≡ record start { actions = map (move_from rooms) (range_with_len 0 room) } → length task.actions < 1000000
+    → task ≡ record start { actions = map (move_from rooms) (range_with_len 0 room) }
+    → length task.actions < 1000000
 move_fits rooms room start task is below so_far =
     let size = length-map-range_with_len (move_from rooms) 0 room in
-    let same : length task.actions ≡ length (map (move_from rooms) (range_with_len 0 room)) = ap (λ (t : Strips). length t.actions) so_far in
+    let same : length task.actions ≡ length (map (move_from rooms) (range_with_len 0 room)) = ap
+    (λ (t : Strips). length t.actions) so_far in
     omega (arith, size, same, below, is.1)
 
 pub move_added : (rooms room : ℕ) (start task new : Strips) (action : Action)
-    → task ≡ record start { actions = map (move_from rooms) (range_with_len 0 room) } → action ≡ move_from rooms room
+    → task ≡ record start { actions = map (move_from rooms) (range_with_len 0 room) }
+    → action ≡ move_from rooms room
     → new ≡ record task { actions = task.actions ++ action ∷ [] }
     → new ≡ record start { actions = map (move_from rooms) (range_with_len 0 (room + 1)) }
 move_added rooms room start task new action so_far is added =
     added
     ∙ (ap₂ (λ (t : Strips) (a : Action). record t { actions = t.actions ++ a ∷ [] }) so_far is
-    ∙ ap (λ (xs : List Action). record start { actions = xs }) (sym (map-range_with_len_more (move_from rooms) 0 room room (omega arith))))
+    ∙ ap (λ (xs : List Action). record start { actions = xs })
+    (sym (map-range_with_len_more (move_from rooms) 0 room room (omega arith))))
 
-pub key_added : (rooms : ℕ) (before after : List (List ℕ)) (name : List ℕ) → before ≡ map room_name (range_with_len 0 rooms)
+pub key_added : (rooms : ℕ) (before after : List (List ℕ)) (name : List ℕ)
+    → before ≡ map room_name (range_with_len 0 rooms)
     → after ≡ before ++ name ∷ [] → length after ≡ rooms + 1
 key_added rooms before after name are added =
     let size = length-map-range_with_len room_name 0 rooms in
@@ -98,28 +115,35 @@ key_added rooms before after name are added =
     let more : length after ≡ length (before ++ name ∷ []) = ap length added in
     omega (arith, size, some, more, length-append before (name ∷ []))
 
-pub rooms_fit : (rooms : ℕ) (names : List (List ℕ)) → IsRooms rooms → names ≡ map room_name (range_with_len 0 rooms) → length names < 65535
+pub rooms_fit : (rooms : ℕ) (names : List (List ℕ)) → IsRooms rooms
+    → names ≡ map room_name (range_with_len 0 rooms) → length names < 65535
 rooms_fit rooms names is are =
     let size = length-map-range_with_len room_name 0 rooms in
     let some : length names ≡ length (map room_name (range_with_len 0 rooms)) = ap length are in
     omega (arith, size, some, is.1)
 
-pub below_atoms : (rooms : ℕ) (list : List ℕ) (count : ℕ) → list ≡ rooms ∷ [] → count ≡ rooms + 1 → AreBelow count list
+pub below_atoms : (rooms : ℕ) (list : List ℕ) (count : ℕ) → list ≡ rooms ∷ [] → count ≡ rooms + 1
+    → AreBelow count list
 below_atoms rooms list count is more =
-    subst (AreBelow count) (sym is) (All-cons (λ n. n < count) rooms [] (omega (arith, more)) (All-nil (λ n. n < count)))
+    subst (AreBelow count) (sym is) (All-cons
+    (λ n. n < count) rooms [] (omega (arith, more)) (All-nil (λ n. n < count)))
 
 pub sample_actions : (rooms : ℕ) → length (sample_task rooms).actions ≡ rooms
 sample_actions rooms = length-map-range_with_len (move_from rooms) 0 rooms
 
 module _ (rooms : ℕ) (is : IsRooms rooms) where
   -- the action of each room
-  action_at : (k : ℕ) → k < rooms → slice_get (sample_task rooms).actions k ≡ Some (move_from rooms k)
+  action_at : (k : ℕ) → k < rooms → slice_get (sample_task rooms).actions k
+      ≡ Some (move_from rooms k)
   action_at k below =
       let size = sample_actions rooms in
-      slice_get-get_or (sample_task rooms).actions k (move_from rooms k) (omega (arith, below, size))
-      ∙ ap Some (get_or-map-range_with_len (move_from rooms) 0 rooms k k (move_from rooms k) below (omega arith))
+      slice_get-get_or (sample_task rooms).actions k (move_from rooms k)
+      (omega (arith, below, size))
+      ∙ ap Some (get_or-map-range_with_len (move_from rooms) 0 rooms k k (move_from rooms k) below
+      (omega arith))
 
-  is_action : (k : ℕ) (a : Action) → slice_get (sample_task rooms).actions k ≡ Some a → (k < rooms) × (move_from rooms k ≡ a)
+  is_action : (k : ℕ) (a : Action) → slice_get (sample_task rooms).actions k ≡ Some a
+      → (k < rooms) × (move_from rooms k ≡ a)
   is_action k a is_at =
       let within = slice_get_within (sample_task rooms).actions k a is_at in
       let size = sample_actions rooms in
@@ -148,7 +172,8 @@ module _ (rooms : ℕ) (is : IsRooms rooms) where
         | inl e ↦ sym e
         | inr e ↦
             let none : names_atom (0 ∷ []) p ≡ false = ap (λ b. b || false) (ne_eqb 0 p e) in
-            absurd (false≢true (sym none ∙ (sym (has_atom-state_of (atoms (sample_task rooms)) (0 ∷ []) p below) ∙ held)))
+            absurd (false≢true (sym none ∙ (sym
+            (has_atom-state_of (atoms (sample_task rooms)) (0 ∷ []) p below) ∙ held)))
       ]
 
   starts : has_atom (start_state (sample_task rooms)) 0 ≡ true
@@ -167,10 +192,12 @@ module _ (rooms : ℕ) (is : IsRooms rooms) where
     keeps = λ k a at inside.
         let e = (is_action k a at).1 in
         subst (λ (b : Action). AreIn is_room b.add) e
-        (All-cons (λ p. is_room p ≡ true) ((k + 1) % rooms) [] (lt-ltb ((k + 1) % rooms) rooms (next_below k)) (All-nil (λ p. is_room p ≡ true)));
+        (All-cons (λ p. is_room p ≡ true) ((k + 1) % rooms) []
+        (lt-ltb ((k + 1) % rooms) rooms (next_below k)) (All-nil (λ p. is_room p ≡ true)));
   }
 
-  room_reached : (set : ℕ → Bool) → ClosedAtoms (sample_task rooms) (start_state (sample_task rooms)) set
+  room_reached : (set : ℕ → Bool) → ClosedAtoms (sample_task rooms)
+      (start_state (sample_task rooms)) set
       → (p : ℕ) → p < rooms → set p ≡ true
   room_reached set closed zero below = closed.begins 0 starts
   room_reached set closed (suc p) below =
@@ -181,7 +208,8 @@ module _ (rooms : ℕ) (is : IsRooms rooms) where
       let same : (p + 1) % rooms ≡ suc p = omega (arith, next) in
       subst (λ q. set q ≡ true) same (All-head (λ q. set q ≡ true) ((p + 1) % rooms) [] added)
 
-  atoms_told : (p : ℕ) → (is_room p ≡ true) ↔ ReachedAtom (sample_task rooms) (start_state (sample_task rooms)) p
+  atoms_told : (p : ℕ) → (is_room p ≡ true)
+      ↔ ReachedAtom (sample_task rooms) (start_state (sample_task rooms)) p
   atoms_told p = (
     λ e set closed. room_reached set closed p (ltb-true p rooms e),
     λ reached. reached is_room closed_rooms,
@@ -191,7 +219,12 @@ module _ (rooms : ℕ) (is : IsRooms rooms) where
   not_room e = let bad = ltb-true rooms rooms e in omega (arith, bad)
 
   pub relaxed_excludes : RelaxedExcludes (sample_task rooms)
-  relaxed_excludes = (rooms, (0, omega arith, refl), λ reached. not_room (reached is_room closed_rooms))
+  relaxed_excludes = (
+    rooms,
+    (0, omega arith, refl),
+    λ reached. not_room
+        (reached is_room closed_rooms),
+  )
 
   -- reached pairs: each room with itself
 
@@ -215,7 +248,8 @@ module _ (rooms : ℕ) (is : IsRooms rooms) where
 
   only_one : (set : ℕ → ℕ → Bool) (p : ℕ) → HasPairsOf set (p ∷ []) → set p p ≡ true
   only_one set p all =
-      All-head (λ y. set p y ≡ true) p [] (All-head (λ x. All (λ y. set x y ≡ true) (p ∷ [])) p [] all)
+      All-head (λ y. set p y ≡ true) p [] (All-head
+      (λ x. All (λ y. set x y ≡ true) (p ∷ [])) p [] all)
 
   first_two : (set : ℕ → ℕ → Bool) (q p : ℕ) → HasPairsOf set (q ∷ p ∷ []) → set q p ≡ true
   first_two set q p all =
@@ -230,14 +264,16 @@ module _ (rooms : ℕ) (is : IsRooms rooms) where
 
   closed_ones : ClosedPairs (sample_task rooms) (start_state (sample_task rooms)) is_one
   closed_ones = record {
-    even = λ p q e. let s = same_room p q e in one_room q p (sym s.0) (let t = s.0 in let b = s.1 in omega (arith, t, b));
+    even = λ p q e. let s = same_room p q e in
+        one_room q p (sym s.0) (let t = s.0 in let b = s.1 in omega (arith, t, b));
     begins = λ p q h g.
         let a = starts_in p h in
         let b = starts_in q g in
         one_room p q (a ∙ sym b) (omega (arith, a, is.0));
     both = λ k a at inside.
         subst (λ (b : Action). HasPairsOf is_one b.add) (is_action k a at).1
-        (paired_one is_one ((k + 1) % rooms) (one_room ((k + 1) % rooms) ((k + 1) % rooms) refl (next_below k)));
+        (paired_one is_one ((k + 1) % rooms)
+        (one_room ((k + 1) % rooms) ((k + 1) % rooms) refl (next_below k)));
     other = λ k a q at alone inside.
         let e = (is_action k a at).1 in
         let here = subst (λ (b : Action). HasPairsOf is_one (q ∷ b.pre)) (sym e) inside in
@@ -245,17 +281,20 @@ module _ (rooms : ℕ) (is : IsRooms rooms) where
         absurd (leaves_room k q left.1 (same_room q k (first_two is_one q k here)).0);
   }
 
-  pair_reached : (set : ℕ → ℕ → Bool) → ClosedPairs (sample_task rooms) (start_state (sample_task rooms)) set
+  pair_reached : (set : ℕ → ℕ → Bool) → ClosedPairs (sample_task rooms)
+      (start_state (sample_task rooms)) set
       → (p : ℕ) → p < rooms → set p p ≡ true
   pair_reached set closed zero below = closed.begins 0 0 starts starts
   pair_reached set closed (suc p) below =
       let before = pair_reached set closed p (omega (arith, below)) in
-      let added = closed.both p (move_from rooms p) (action_at p (omega (arith, below))) (paired_one set p before) in
+      let added = closed.both p (move_from rooms p) (action_at p (omega (arith, below)))
+      (paired_one set p before) in
       let next = next_is p (omega (arith, below)) in
       let same : (p + 1) % rooms ≡ suc p = omega (arith, next) in
       subst (λ q. set q q ≡ true) same (only_one set ((p + 1) % rooms) added)
 
-  pairs_told : (p q : ℕ) → (is_one p q ≡ true) ↔ ReachedPair (sample_task rooms) (start_state (sample_task rooms)) p q
+  pairs_told : (p q : ℕ) → (is_one p q ≡ true)
+      ↔ ReachedPair (sample_task rooms) (start_state (sample_task rooms)) p q
   pairs_told p q = (
     λ e set closed.
         let s = same_room p q e in
@@ -267,21 +306,30 @@ module _ (rooms : ℕ) (is : IsRooms rooms) where
   not_one e = let bad = (same_room rooms rooms e).1 in omega (arith, bad)
 
   pub pairs_exclude : PairsExclude (sample_task rooms)
-  pairs_exclude =
-      (rooms, rooms, (0, omega arith, refl), (0, omega arith, refl), λ reached. not_one (reached is_one closed_ones))
+  pairs_exclude = (
+    rooms,
+    rooms,
+    (0, omega arith, refl),
+    (0, omega arith, refl),
+    λ reached. not_one
+        (reached is_one closed_ones),
+  )
 
   -- the clauses of the formula of unreached atoms: one for the key
 
-  none_of_rooms : (a n : ℕ) → a + n ≤ rooms → length (flat_map (atom_clauses is_room) (range_with_len a n)) ≡ 0
+  none_of_rooms : (a n : ℕ) → a + n ≤ rooms
+      → length (flat_map (atom_clauses is_room) (range_with_len a n)) ≡ 0
   none_of_rooms a zero upto = refl
   none_of_rooms a (suc n) upto =
       let here : is_room a ≡ true = lt-ltb a rooms (omega (arith, upto)) in
       let none : atom_clauses is_room a ≡ [] = rw here refl in
       let rest = none_of_rooms (a + 1) n (omega (arith, upto)) in
-      ap (λ cs. length (cs ++ flat_map (atom_clauses is_room) (range_with_len (a + 1) n))) none ∙ rest
+      ap (λ cs. length (cs ++ flat_map (atom_clauses is_room) (range_with_len (a + 1) n))) none
+      ∙ rest
 
   one_more : {X : Type 0} (f : ℕ → List X) (n : ℕ)
-      → length (flat_map f (range_with_len 0 (n + 1))) ≡ length (flat_map f (range_with_len 0 n)) + length (f n)
+      → length (flat_map f (range_with_len 0 (n + 1)))
+      ≡ length (flat_map f (range_with_len 0 n)) + length (f n)
   one_more {X} f n =
       let none : List X = [] in
       let at : 0 + n ≡ n = omega arith in
@@ -305,15 +353,18 @@ module _ (rooms : ℕ) (is : IsRooms rooms) where
   apart : (p q : ℕ) → p < q → length (pair_clauses is_one p q) ≡ 1
   apart p q less =
       let none : is_one p q ≡ false =
-      false_from_ne_true (is_one p q) (λ e. let same = (same_room p q e).0 in omega (arith, same, less)) in
+      false_from_ne_true (is_one p q) (λ e. let same = (same_room p q e).0 in
+      omega (arith, same, less)) in
       rw none refl
 
-  row_behind : (p a n : ℕ) → p < a → length (flat_map (pair_clauses is_one p) (range_with_len a n)) ≡ n
+  row_behind : (p a n : ℕ) → p < a → length (flat_map (pair_clauses is_one p) (range_with_len a n))
+      ≡ n
   row_behind p a zero less = refl
   row_behind p a (suc n) less =
       let here = apart p a less in
       let rest = row_behind p (a + 1) n (omega (arith, less)) in
-      let size = length-append (pair_clauses is_one p a) (flat_map (pair_clauses is_one p) (range_with_len (a + 1) n)) in
+      let size = length-append (pair_clauses is_one p a)
+      (flat_map (pair_clauses is_one p) (range_with_len (a + 1) n)) in
       omega (arith, here, rest, size)
 
   row_of_room : (p n : ℕ) → p + suc n ≡ rooms → length (row_clauses (rooms + 1) is_one p) ≡ suc n
@@ -323,7 +374,8 @@ module _ (rooms : ℕ) (is : IsRooms rooms) where
       let count : (rooms + 1) - p ≡ suc (suc n) = omega (arith, e) in
       let rest = row_behind p (p + 1) (suc n) (omega arith) in
       ap (λ m. length (flat_map (pair_clauses is_one p) (range_with_len p m))) count
-      ∙ (ap (λ cs. length (cs ++ flat_map (pair_clauses is_one p) (range_with_len (p + 1) (suc n)))) none ∙ rest)
+      ∙ (ap (λ cs. length (cs ++ flat_map (pair_clauses is_one p) (range_with_len (p + 1) (suc n))))
+      none ∙ rest)
 
   row_of_key : length (row_clauses (rooms + 1) is_one rooms) ≡ 1
   row_of_key =
@@ -341,7 +393,8 @@ module _ (rooms : ℕ) (is : IsRooms rooms) where
   rows_of_rooms a (suc n) e =
       let here = row_of_room a n e in
       let rest = rows_of_rooms (a + 1) n (omega (arith, e)) in
-      let size = length-append (row_clauses (rooms + 1) is_one a) (flat_map (row_clauses (rooms + 1) is_one) (range_with_len (a + 1) n)) in
+      let size = length-append (row_clauses (rooms + 1) is_one a)
+      (flat_map (row_clauses (rooms + 1) is_one) (range_with_len (a + 1) n)) in
       omega (arith, here, rest, size)
 
   halves : (n s : ℕ) → 0 < n → 2 * s ≡ n * (n + 1) → s + 1 ≡ unreached_pairs n
@@ -355,7 +408,8 @@ module _ (rooms : ℕ) (is : IsRooms rooms) where
       let all = one_more (row_clauses (rooms + 1) is_one) rooms in
       let some = is.0 in
       let key = row_of_key in
-      let half = halves rooms (length (flat_map (row_clauses (rooms + 1) is_one) (range_with_len 0 rooms))) (omega (arith, some))
+      let half = halves rooms (length (flat_map (row_clauses (rooms + 1) is_one)
+      (range_with_len 0 rooms))) (omega (arith, some))
       (rows_of_rooms 0 rooms (omega arith)) in
       omega (arith, all, key, half)
 
@@ -365,7 +419,8 @@ module _ (rooms : ℕ) (is : IsRooms rooms) where
       → (clauses : List (List Literal)) × (lines ≡ horn_proof clauses) × (length clauses ≡ 1)
   relaxed_counted lines (r, tells, is_proof) =
       let same : r ≡ is_room =
-      λ i p. same_truth (r p) (is_room p) (λ h. (atoms_told p).1 ((tells p).0 h)) (λ h. (tells p).1 ((atoms_told p).0 h)) i in (
+      λ i p. same_truth (r p) (is_room p) (λ h. (atoms_told p).1 ((tells p).0 h))
+      (λ h. (tells p).1 ((atoms_told p).0 h)) i in (
         relaxed_formula (atoms (sample_task rooms)) r,
         is_proof,
         ap (λ n. length (relaxed_formula n r)) (sample_atoms rooms)
@@ -373,10 +428,12 @@ module _ (rooms : ℕ) (is : IsRooms rooms) where
       )
 
   pub pairs_counted : (lines : List Line) → IsPairsProof (sample_task rooms) lines
-      → (clauses : List (List Literal)) × (lines ≡ horn_proof clauses) × (length clauses ≡ unreached_pairs rooms)
+      → (clauses : List (List Literal)) × (lines ≡ horn_proof clauses)
+      × (length clauses ≡ unreached_pairs rooms)
   pairs_counted lines (r, tells, is_proof) =
       let same : r ≡ is_one =
-      λ i p q. same_truth (r p q) (is_one p q) (λ h. (pairs_told p q).1 ((tells p q).0 h)) (λ h. (tells p q).1 ((pairs_told p q).0 h)) i in (
+      λ i p q. same_truth (r p q) (is_one p q) (λ h. (pairs_told p q).1 ((tells p q).0 h))
+      (λ h. (tells p q).1 ((pairs_told p q).0 h)) i in (
         pairs_formula (atoms (sample_task rooms)) r,
         is_proof,
         ap (λ n. length (pairs_formula n r)) (sample_atoms rooms)
@@ -385,12 +442,14 @@ module _ (rooms : ℕ) (is : IsRooms rooms) where
 
 module _ (rooms : ℕ) (is : IsRooms rooms) (task : Strips) (same : task ≡ sample_task rooms) where
   -- both proofs are found
-  pub relaxed_found : (found : Option DraftState) → IsTrue (is_some found) ↔ RelaxedExcludes task → found ≡ None → ⊥
+  pub relaxed_found : (found : Option DraftState) → IsTrue (is_some found) ↔ RelaxedExcludes task
+      → found ≡ None → ⊥
   relaxed_found found tells none =
       let yes = tells.1 (subst RelaxedExcludes (sym same) (relaxed_excludes rooms is)) in
       false≢true (sym (ap is_some none) ∙ yes)
 
-  pub pairs_found : (found : Option DraftState) → IsTrue (is_some found) ↔ PairsExclude task → found ≡ None → ⊥
+  pub pairs_found : (found : Option DraftState) → IsTrue (is_some found) ↔ PairsExclude task
+      → found ≡ None → ⊥
   pairs_found found tells none =
       let yes = tells.1 (subst PairsExclude (sym same) (pairs_exclude rooms is)) in
       false≢true (sym (ap is_some none) ∙ yes)
@@ -403,14 +462,18 @@ module _ (rooms : ℕ) (is : IsRooms rooms) (task : Strips) (same : task ≡ sam
   -- and their clauses are counted
   pub relaxed_clauses : (lines : List Line) → IsRelaxedProof task lines
       → (clauses : List (List Literal)) × (lines ≡ horn_proof clauses) × (length clauses ≡ 1)
-  relaxed_clauses lines proof = relaxed_counted rooms is lines (subst (λ t. IsRelaxedProof t lines) same proof)
+  relaxed_clauses lines proof = relaxed_counted rooms is lines
+      (subst (λ t. IsRelaxedProof t lines) same proof)
 
   pub pairs_clauses : (lines : List Line) → IsPairsProof task lines
-      → (clauses : List (List Literal)) × (lines ≡ horn_proof clauses) × (length clauses ≡ unreached_pairs rooms)
-  pairs_clauses lines proof = pairs_counted rooms is lines (subst (λ t. IsPairsProof t lines) same proof)
+      → (clauses : List (List Literal)) × (lines ≡ horn_proof clauses)
+      × (length clauses ≡ unreached_pairs rooms)
+  pairs_clauses lines proof = pairs_counted rooms is lines
+      (subst (λ t. IsPairsProof t lines) same proof)
 
 -- the fourth set of a proof by a Horn formula is the formula
-pub horn_at : (lines : List Line) (clauses : List (List Literal)) → lines ≡ horn_proof clauses → expr_at lines 3 ≡ Some (E.Horn clauses)
+pub horn_at : (lines : List Line) (clauses : List (List Literal)) → lines ≡ horn_proof clauses
+    → expr_at lines 3 ≡ Some (E.Horn clauses)
 horn_at lines clauses e = ap (λ ls. expr_at ls 3) e
 
 pub horn_exprs : (lines : List Line) → IsHornProof lines → 3 < expr_count lines
@@ -423,27 +486,37 @@ horn_size lines (clauses, e) = ap length e
 
 pub is_horn : (lines : List Line) (expr : Expr) → IsHornProof lines → expr_at lines 3 ≡ Some expr
     → (clauses : List (List Literal)) × (expr ≡ E.Horn clauses)
-is_horn lines expr (clauses, e) at = (clauses, same_Some expr (E.Horn clauses) (sym at ∙ horn_at lines clauses e))
+is_horn lines expr (clauses, e) at = (
+  clauses,
+  same_Some expr (E.Horn clauses)
+      (sym at ∙ horn_at lines clauses e),
+)
 
 -- the counts of a sample are told
 module _ (rooms : ℕ) (task : Strips) (same : task ≡ sample_task rooms) where
-  pub counts_told : (old now new : List ℕ) (n m : ℕ) → n ≡ atoms task → m ≡ length task.actions → now ≡ old ++ count_line (codes "atoms ") n
+  pub counts_told : (old now new : List ℕ) (n m : ℕ) → n ≡ atoms task → m ≡ length task.actions
+      → now ≡ old ++ count_line (codes "atoms ") n
       → new ≡ now ++ count_line (codes "actions ") m
-      → new ≡ old ++ (count_line (codes "atoms ") (rooms + 1) ++ count_line (codes "actions ") rooms)
+      → new ≡ old ++ (count_line (codes "atoms ") (rooms + 1)
+      ++ count_line (codes "actions ") rooms)
   counts_told old now new n m n_is m_is first second =
       let some : n ≡ rooms + 1 = n_is ∙ (ap atoms same ∙ sample_atoms rooms) in
-      let moves : m ≡ rooms = m_is ∙ (ap (λ (t : Strips). length t.actions) same ∙ sample_actions rooms) in
+      let moves : m ≡ rooms = m_is ∙ (ap (λ (t : Strips). length t.actions) same
+      ∙ sample_actions rooms) in
       second
       ∙ (ap (λ t. t ++ count_line (codes "actions ") m) first
       ∙ (append_assoc old (count_line (codes "atoms ") n) (count_line (codes "actions ") m)
-      ∙ ap₂ (λ a b. old ++ (count_line (codes "atoms ") a ++ count_line (codes "actions ") b)) some moves))
+      ∙ ap₂ (λ a b. old ++ (count_line (codes "atoms ") a ++ count_line (codes "actions ") b)) some
+      moves))
 
 -- what is known of the draft that was found
-pub of_draft : (P : DraftState → Type 0) (found : Option DraftState) (draft : DraftState) → found ≡ Some draft → IfSome found P → P draft
+pub of_draft : (P : DraftState → Type 0) (found : Option DraftState) (draft : DraftState)
+    → found ≡ Some draft → IfSome found P → P draft
 of_draft P found draft is has = subst (λ f. IfSome f P) is has
 
 -- the formula's clauses are those of the proof
-pub same_clauses : (lines : List Line) (expr : Expr) (x clauses : List (List Literal)) → expr ≡ E.Horn x → expr_at lines 3 ≡ Some expr
+pub same_clauses : (lines : List Line) (expr : Expr) (x clauses : List (List Literal))
+    → expr ≡ E.Horn x → expr_at lines 3 ≡ Some expr
     → lines ≡ horn_proof clauses → x ≡ clauses
 same_clauses lines expr x clauses is at e =
     let there : Some expr ≡ Some (E.Horn clauses) = sym at ∙ horn_at lines clauses e in
@@ -453,12 +526,16 @@ same_clauses lines expr x clauses is at e =
 -- what is told of a proof is its line
 pub told_line : (kind old new said : List ℕ) (lines : List Line) (count size : ℕ)
     → said ≡ unsolvable_text → size ≡ length lines
-    → new ≡ old ++ (kind ++ codes " clauses " ++ decimal count ++ codes " lines " ++ decimal size ++ codes " " ++ said)
+    → new ≡ old ++ (kind ++ codes " clauses " ++ decimal count ++ codes " lines " ++ decimal size
+    ++ codes " " ++ said)
     → (clauses : List (List Literal)) → count ≡ length clauses → lines ≡ horn_proof clauses
     → new ≡ old ++ proof_line kind (length clauses) 16
 told_line kind old new said lines count size said_is size_is new_is clauses count_is lines_are =
     let sixteen : size ≡ 16 = size_is ∙ ap length lines_are in
     new_is
-    ∙ (ap (λ n. old ++ (kind ++ codes " clauses " ++ decimal n ++ codes " lines " ++ decimal size ++ codes " " ++ said)) count_is
-    ∙ (ap (λ n. old ++ (kind ++ codes " clauses " ++ decimal (length clauses) ++ codes " lines " ++ decimal n ++ codes " " ++ said)) sixteen
-    ∙ ap (λ t. old ++ (kind ++ codes " clauses " ++ decimal (length clauses) ++ codes " lines " ++ decimal 16 ++ codes " " ++ t)) said_is))
+    ∙ (ap (λ n. old ++ (kind ++ codes " clauses " ++ decimal n ++ codes " lines " ++ decimal size
+    ++ codes " " ++ said)) count_is
+    ∙ (ap (λ n. old ++ (kind ++ codes " clauses " ++ decimal (length clauses) ++ codes " lines "
+    ++ decimal n ++ codes " " ++ said)) sixteen
+    ∙ ap (λ t. old ++ (kind ++ codes " clauses " ++ decimal (length clauses) ++ codes " lines "
+    ++ decimal 16 ++ codes " " ++ t)) said_is))

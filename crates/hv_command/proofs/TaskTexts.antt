@@ -12,7 +12,8 @@ use Rattle.hv_task_text.proofs.Sets.{set_below, set_rises}
 action_over : (n : ℕ) (entry : Entry) → IsOver n (written_action n entry)
 action_over n entry = record { pre = set_below n _; add = set_below n _; del = set_below n _ }
 
-legal_task : (head : Head) (actions : List Entry) → AreActions (length actions) head actions → IsTask (task_of head actions)
+legal_task : (head : Head) (actions : List Entry) → AreActions (length actions) head actions
+    → IsTask (task_of head actions)
 legal_task head actions legal = record {
   start = set_below (length head.names) head.start;
   start_rises = set_rises (length head.names) head.start;
@@ -21,9 +22,11 @@ legal_task head actions legal = record {
   actions = All-map (IsOver (length head.names)) (written_action (length head.names)) actions
       (λ k d below. action_over (length head.names) (get_or actions k d));
   few_atoms = legal.is_head.names.few;
-  few_actions = (let size = length-map actions (written_action (length head.names)) in omega (arith, legal.few, size));
+  few_actions = (let size = length-map actions (written_action (length head.names)) in
+      omega (arith, legal.few, size));
 }
 
 -- a text stands for a task
 pub is_task : (pieces : List Piece) (task : Strips) → AreTextOf pieces task → IsTask task
-is_task pieces task (head, actions, text) = subst IsTask text.says (legal_task head actions text.legal)
+is_task pieces task (head, actions, text) = subst IsTask text.says
+    (legal_task head actions text.legal)

@@ -55,7 +55,8 @@ pub(crate) fn check<S: Shelf>(
     ensures held { S.held shelf.new ≡ S.held shelf.old }
     ensures allows { S.allows shelf.new ≡ S.allows shelf.old }
     ensures later { S.faults shelf.old ≤ S.faults shelf.new }
-    ensures cause { IsErrOf result JobFault.ReadFault → Rose (S.faults shelf.old) (S.faults shelf.new) }
+    ensures cause { IsErrOf result JobFault.ReadFault → Rose (S.faults shelf.old)
+        (S.faults shelf.new) }
 {
     match read_task(alloc, shelf, task.as_str(), Limits::STANDARD) {
         Ok(task) => {
@@ -109,7 +110,8 @@ fn check_task<S: Shelf>(
     ensures held { S.held shelf.new ≡ S.held shelf.old }
     ensures allows { S.allows shelf.new ≡ S.allows shelf.old }
     ensures later { S.faults shelf.old ≤ S.faults shelf.new }
-    ensures cause { IsErrOf result JobFault.ReadFault → Rose (S.faults shelf.old) (S.faults shelf.new) }
+    ensures cause { IsErrOf result JobFault.ReadFault → Rose (S.faults shelf.old)
+        (S.faults shelf.new) }
 {
     match nodes {
         None => {
@@ -144,7 +146,8 @@ fn check_with_nodes<S: Shelf>(
     ensures held { S.held shelf.new ≡ S.held shelf.old }
     ensures allows { S.allows shelf.new ≡ S.allows shelf.old }
     ensures later { S.faults shelf.old ≤ S.faults shelf.new }
-    ensures cause { IsErrOf result JobFault.ReadFault → Rose (S.faults shelf.old) (S.faults shelf.new) }
+    ensures cause { IsErrOf result JobFault.ReadFault → Rose (S.faults shelf.old)
+        (S.faults shelf.new) }
 {
     match read_nodes(alloc, shelf, nodes.as_str(), task.atoms(), Limits::STANDARD) {
         Ok(diagrams) => {
@@ -178,7 +181,8 @@ pub(crate) fn check_proof<S: Shelf>(
     ensures held { S.held shelf.new ≡ S.held shelf.old }
     ensures allows { S.allows shelf.new ≡ S.allows shelf.old }
     ensures later { S.faults shelf.old ≤ S.faults shelf.new }
-    ensures cause { IsErrOf result JobFault.ReadFault → Rose (S.faults shelf.old) (S.faults shelf.new) }
+    ensures cause { IsErrOf result JobFault.ReadFault → Rose (S.faults shelf.old)
+        (S.faults shelf.new) }
 {
     let mut checker = Checker::new(alloc, task, diagrams, budget)?;
     judge_file(alloc, shelf, report, proof, &mut checker)
@@ -202,7 +206,8 @@ fn judge_file<S: Shelf>(
     ensures held { S.held shelf.new ≡ S.held shelf.old }
     ensures allows { S.allows shelf.new ≡ S.allows shelf.old }
     ensures later { S.faults shelf.old ≤ S.faults shelf.new }
-    ensures cause { IsErrOf result JobFault.ReadFault → Rose (S.faults shelf.old) (S.faults shelf.new) }
+    ensures cause { IsErrOf result JobFault.ReadFault → Rose (S.faults shelf.old)
+        (S.faults shelf.new) }
 {
     feed_file(alloc, shelf, proof.as_str(), checker)?;
     let answer = judgement_reply(alloc, report, checker)?;

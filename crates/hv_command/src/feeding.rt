@@ -32,7 +32,8 @@ pub(crate) fn feed_file<S: Shelf>(
     ensures held { S.held shelf.new ≡ S.held shelf.old }
     ensures allows { S.allows shelf.new ≡ S.allows shelf.old }
     ensures later { S.faults shelf.old ≤ S.faults shelf.new }
-    ensures cause { IsErrOf result JobFault.ReadFault → Rose (S.faults shelf.old) (S.faults shelf.new) }
+    ensures cause { IsErrOf result JobFault.ReadFault → Rose (S.faults shelf.old)
+        (S.faults shelf.new) }
 {
     shelf.open(name)?;
     let mut lines = Lines::new(alloc, Limits::STANDARD)?;

@@ -45,7 +45,8 @@ pub(crate) fn replay_files<S: Shelf>(
     ensures held { S.held shelf.new ≡ S.held shelf.old }
     ensures allows { S.allows shelf.new ≡ S.allows shelf.old }
     ensures later { S.faults shelf.old ≤ S.faults shelf.new }
-    ensures cause { IsErrOf result JobFault.ReadFault → Rose (S.faults shelf.old) (S.faults shelf.new) }
+    ensures cause { IsErrOf result JobFault.ReadFault → Rose (S.faults shelf.old)
+        (S.faults shelf.new) }
 {
     match read_task(alloc, shelf, task.as_str(), Limits::STANDARD) {
         Ok(task) => {
@@ -76,7 +77,8 @@ fn replay_of_task<S: Shelf>(
     ensures held { S.held shelf.new ≡ S.held shelf.old }
     ensures allows { S.allows shelf.new ≡ S.allows shelf.old }
     ensures later { S.faults shelf.old ≤ S.faults shelf.new }
-    ensures cause { IsErrOf result JobFault.ReadFault → Rose (S.faults shelf.old) (S.faults shelf.new) }
+    ensures cause { IsErrOf result JobFault.ReadFault → Rose (S.faults shelf.old)
+        (S.faults shelf.new) }
 {
     match read_log(alloc, shelf, log.as_str(), task) {
         Ok(log) => {

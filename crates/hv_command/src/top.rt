@@ -103,7 +103,8 @@ fn answer<S: Shelf>(
     ensures held { S.held shelf.new ≡ S.held shelf.old }
     ensures allows { S.allows shelf.new ≡ S.allows shelf.old }
     ensures later { S.faults shelf.old ≤ S.faults shelf.new }
-    ensures cause { IsErrOf result JobFault.ReadFault → Rose (S.faults shelf.old) (S.faults shelf.new) }
+    ensures cause { IsErrOf result JobFault.ReadFault → Rose (S.faults shelf.old)
+        (S.faults shelf.new) }
 {
     match read_job(alloc, words)? {
         None => {
@@ -133,7 +134,8 @@ fn do_job<S: Shelf>(
     ensures held { S.held shelf.new ≡ S.held shelf.old }
     ensures allows { S.allows shelf.new ≡ S.allows shelf.old }
     ensures later { S.faults shelf.old ≤ S.faults shelf.new }
-    ensures cause { IsErrOf result JobFault.ReadFault → Rose (S.faults shelf.old) (S.faults shelf.new) }
+    ensures cause { IsErrOf result JobFault.ReadFault → Rose (S.faults shelf.old)
+        (S.faults shelf.new) }
 {
     match job {
         Job::Check {

@@ -1,5 +1,7 @@
 -- Why what was asked of lists of atoms tells whether a state is a counterexample.
-use Rattle.std.proofs.Common.{◌≡◌, ◌∙◌, ◌<◌, ◌≤◌, ◌&&◌, ◌||◌, ℕ, Bool, true, false, not, List, [], ◌∷◌, Option, None, Some, get_or, slice_get, if◌then◌else◌, refl, sym, ap, ap₂, arith, inl, inr}
+use Rattle.std.proofs.Common.{◌≡◌, ◌∙◌, ◌<◌, ◌≤◌, ◌&&◌, ◌||◌, ℕ, Bool, true, false, not, List, []}
+use Rattle.std.proofs.Common.{◌∷◌, Option, None, Some, get_or, slice_get, if◌then◌else◌, refl, sym}
+use Rattle.std.proofs.Common.{ap, ap₂, arith, inl, inr}
 use Rattle.std.proofs.lemmas.Bool.{cases_lt, and_right, or_from, false_from_ne_true}
 use Rattle.std.proofs.lemmas.List.Elements.{All-contains}
 use Rattle.std.specs.List.{All, Contains, list_all}
@@ -7,7 +9,9 @@ use Rattle.hv_task.specs.declared.action.Action.{Action}
 use Rattle.hv_task.specs.Atoms.{is_after}
 use Rattle.hv_task.specs.State.{AreBelow, applicable, has_all, names_atom, state_of, successor}
 use Rattle.hv_task.specs.Strips.{IsOver, Strips, atoms}
-use Rattle.hv_task.proofs.Places.{has_all-Decides, has_atom_past, has_atom-state_of, has_atom-successor, length-state_of, length-successor, names_atom-Decides}
+use Rattle.hv_task.proofs.Places.{has_all-Decides, has_atom_past, has_atom-state_of}
+use Rattle.hv_task.proofs.Places.{has_atom-successor, length-state_of, length-successor}
+use Rattle.hv_task.proofs.Places.{names_atom-Decides}
 use Rattle.hv_task.proofs.Next.{unnamed}
 use Rattle.hv_sets.specs.Query.{action_of, asked, in_operand, in_which, is_clash, may_apply}
 use Rattle.hv_sets.specs.declared.operand.Operand.{Operand}
@@ -18,31 +22,37 @@ use Rattle.hv_explicit.specs.declared.search.Search.{Search}
 
 -- an atom past the bound is in no list below it
 past_all : (n : ℕ) (held : List ℕ) (p : ℕ) → AreBelow n held → n ≤ p → names_atom held p ≡ false
-past_all n held p below past = unnamed held p (λ c. let less = All-contains (λ a. a < n) held p below c in omega arith)
+past_all n held p below past = unnamed held p
+    (λ c. let less = All-contains (λ a. a < n) held p below c in omega arith)
 
 pub below_list : (n : ℕ) (held : List ℕ) → AreBelow n held → IsBelow n (names_atom held)
 below_list n held below p past = past_all n held p below past
 
 -- a list stands for its state
-pub stands_list : (task : Strips) (held : List ℕ) → AreBelow (atoms task) held → HasJust task (names_atom held) (state_of (atoms task) held)
+pub stands_list : (task : Strips) (held : List ℕ) → AreBelow (atoms task) held
+    → HasJust task (names_atom held) (state_of (atoms task) held)
 stands_list task held below = record {
   of_task = length-state_of (atoms task) held;
   same = λ p. elim (cases_lt p (atoms task)) [
     | inl less ↦ sym (has_atom-state_of (atoms task) held p less)
     | inr past ↦
         past_all (atoms task) held p below past
-        ∙ sym (has_atom_past (state_of (atoms task) held) p (omega (arith, length-state_of (atoms task) held)))
+        ∙ sym (has_atom_past (state_of (atoms task) held) p
+        (omega (arith, length-state_of (atoms task) held)))
   ];
 }
 
 -- the result of an action has no atom past the bound
-pub below_after : (n : ℕ) (action : Action) (held : List ℕ) → AreBelow n held → IsOver n action → IsBelow n (is_after action held)
+pub below_after : (n : ℕ) (action : Action) (held : List ℕ) → AreBelow n held → IsOver n action
+    → IsBelow n (is_after action held)
 below_after n action held below over p past =
-    or_from (names_atom action.add p) (not (names_atom action.del p) && names_atom held p) (past_all n action.add p over.add past)
+    or_from (names_atom action.add p) (not (names_atom action.del p) && names_atom held p)
+    (past_all n action.add p over.add past)
     (and_right (not (names_atom action.del p)) (names_atom held p) (past_all n held p below past))
 
 -- and stands for the successor
-pub stands_after : (task : Strips) (action : Action) (held : List ℕ) → AreBelow (atoms task) held → IsOver (atoms task) action
+pub stands_after : (task : Strips) (action : Action) (held : List ℕ) → AreBelow (atoms task) held
+    → IsOver (atoms task) action
     → HasJust task (is_after action held) (successor action (state_of (atoms task) held))
 stands_after task action held below over =
     let size = length-state_of (atoms task) held in
@@ -52,7 +62,8 @@ stands_after task action held below over =
       same = λ p. elim (cases_lt p (atoms task)) [
         | inl less ↦
             sym (has_atom-successor action (state_of (atoms task) held) p (omega arith)
-            ∙ ap (λ b. names_atom action.add p || (not (names_atom action.del p) && b)) (has_atom-state_of (atoms task) held p less))
+            ∙ ap (λ b. names_atom action.add p || (not (names_atom action.del p) && b))
+            (has_atom-state_of (atoms task) held p less))
         | inr past ↦
             below_after (atoms task) action held below over p past
             ∙ sym (has_atom_past (successor action (state_of (atoms task) held)) p (omega arith))
@@ -60,54 +71,73 @@ stands_after task action held below over =
     }
 
 -- a list has the whole precondition exactly where its state does
-pub applies : (n : ℕ) (held pre : List ℕ) → AreBelow n held → All (λ p. Contains held p) pre → has_all pre (state_of n held) ≡ true
+pub applies : (n : ℕ) (held pre : List ℕ) → AreBelow n held → All (λ p. Contains held p) pre
+    → has_all pre (state_of n held) ≡ true
 applies n held pre below has =
     (has_all-Decides pre (state_of n held)).1 (λ k d within.
     let there = has k d within in
     let less = All-contains (λ a. a < n) held (get_or pre k d) below there in
-    has_atom-state_of n held (get_or pre k d) less ∙ (names_atom-Decides held (get_or pre k d)).1 there)
+    has_atom-state_of n held (get_or pre k d) less
+    ∙ (names_atom-Decides held (get_or pre k d)).1 there)
 
-pub applies_not : (n : ℕ) (held pre : List ℕ) → AreBelow n pre → (All (λ p. Contains held p) pre → ⊥) → has_all pre (state_of n held) ≡ false
+pub applies_not : (n : ℕ) (held pre : List ℕ) → AreBelow n pre
+    → (All (λ p. Contains held p) pre → ⊥) → has_all pre (state_of n held) ≡ false
 applies_not n held pre below none =
     false_from_ne_true (has_all pre (state_of n held)) (λ e.
     let all = (has_all-Decides pre (state_of n held)).0 e in
     none (λ k d within.
-    (names_atom-Decides held (get_or pre k d)).0 (sym (has_atom-state_of n held (get_or pre k d) (below k d within)) ∙ all k d within)))
+    (names_atom-Decides held (get_or pre k d)).0
+    (sym (has_atom-state_of n held (get_or pre k d) (below k d within)) ∙ all k d within)))
 
-all_same : {X : Type 0} (p q : X → Bool) → ((x : X) → p x ≡ q x) → (xs : List X) → list_all p xs ≡ list_all q xs
+all_same : {X : Type 0} (p q : X → Bool) → ((x : X) → p x ≡ q x) → (xs : List X)
+    → list_all p xs ≡ list_all q xs
 all_same p q same [] = refl
 all_same p q same (x ∷ xs) = ap₂ (λ a b. a && b) (same x) (all_same p q same xs)
 
-module _ (task : Strips) (sets : ℕ → List Bool → Bool) (positive negative : List Operand) (action : Option Action) (state after : List Bool)
+module _ (task : Strips) (sets : ℕ → List Bool → Bool) (positive negative : List Operand)
+    (action : Option Action) (state after : List Bool)
     (side : (b : Bool) → (if b then after else state) ≡ asked action b state) where
   one_side : (o : Operand) → in_either task sets state after o ≡ in_operand task sets action state o
   one_side o = ap (in_which task sets o.which) (side o.after)
 
-  pub sides : (list_all (in_either task sets state after) positive && list_all (λ o. not (in_either task sets state after o)) negative)
-      ≡ (list_all (λ o. in_operand task sets action state o) positive && list_all (λ o. not (in_operand task sets action state o)) negative)
+  pub sides : (list_all (in_either task sets state after) positive && list_all
+      (λ o. not (in_either task sets state after o)) negative)
+      ≡ (list_all (λ o. in_operand task sets action state o) positive && list_all
+      (λ o. not (in_operand task sets action state o)) negative)
   sides =
-      ap₂ (λ a b. a && b) (all_same (in_either task sets state after) (λ o. in_operand task sets action state o) one_side positive)
-      (all_same (λ o. not (in_either task sets state after o)) (λ o. not (in_operand task sets action state o)) (λ o. ap not (one_side o)) negative)
+      ap₂ (λ a b. a && b) (all_same (in_either task sets state after)
+      (λ o. in_operand task sets action state o) one_side positive)
+      (all_same (λ o. not (in_either task sets state after o))
+      (λ o. not (in_operand task sets action state o)) (λ o. ap not (one_side o)) negative)
 
 -- without an action
 pub clash_alone : (s : Search) (state : List Bool) → s.query.now.action ≡ None
     → is_fit s state state ≡ is_clash s.task.now (in_set s.sets.now) s.query.now state
 clash_alone s state none =
-    sides s.task.now (in_set s.sets.now) s.query.now.positive s.query.now.negative None state state side
-    ∙ ap (λ o. is_clash s.task.now (in_set s.sets.now) (record { positive = s.query.now.positive; negative = s.query.now.negative; action = o }) state) (sym none)
+    sides s.task.now (in_set s.sets.now) s.query.now.positive s.query.now.negative None state state
+    side
+    ∙ ap (λ o. is_clash s.task.now (in_set s.sets.now)
+    (record { positive = s.query.now.positive; negative = s.query.now.negative; action = o })
+    state) (sym none)
   where
     side : (b : Bool) → (if b then state else state) ≡ asked None b state
     side true = refl
     side false = refl
 
 -- with an action
-pub clash_acting : (s : Search) (state : List Bool) (number : ℕ) (action : Action) → s.query.now.action ≡ Some number
+pub clash_acting : (s : Search) (state : List Bool) (number : ℕ) (action : Action)
+    → s.query.now.action ≡ Some number
     → slice_get s.task.now.actions number ≡ Some action
-    → (applicable action state && is_fit s state (successor action state)) ≡ is_clash s.task.now (in_set s.sets.now) s.query.now state
+    → (applicable action state && is_fit s state (successor action state))
+    ≡ is_clash s.task.now (in_set s.sets.now) s.query.now state
 clash_acting s state number action acts named =
-    ap (λ b. applicable action state && b) (sides s.task.now (in_set s.sets.now) s.query.now.positive s.query.now.negative (Some action) state (successor action state) side)
-    ∙ ap (λ o. may_apply o state && (list_all (λ p. in_operand s.task.now (in_set s.sets.now) o state p) s.query.now.positive
-    && list_all (λ p. not (in_operand s.task.now (in_set s.sets.now) o state p)) s.query.now.negative))
+    ap (λ b. applicable action state && b)
+    (sides s.task.now (in_set s.sets.now) s.query.now.positive s.query.now.negative
+    (Some action) state (successor action state) side)
+    ∙ ap (λ o. may_apply o state && (list_all
+    (λ p. in_operand s.task.now (in_set s.sets.now) o state p) s.query.now.positive
+    && list_all (λ p. not (in_operand s.task.now (in_set s.sets.now) o state p))
+    s.query.now.negative))
     (sym (ap (action_of s.task.now) acts ∙ named))
   where
     side : (b : Bool) → (if b then successor action state else state) ≡ asked (Some action) b state

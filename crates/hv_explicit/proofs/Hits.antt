@@ -1,5 +1,6 @@
 -- Why look-ups tell whether a negative operand has a state.
-use Rattle.std.proofs.Common.{◌≡◌, ◌∙◌, ◌↔◌, ℕ, Bool, true, false, not, List, Option, None, Some, is_some, IsTrue, get_or, if◌then◌else◌, refl, sym, ap, subst}
+use Rattle.std.proofs.Common.{◌≡◌, ◌∙◌, ◌↔◌, ℕ, Bool, true, false, not, List, Option, None, Some}
+use Rattle.std.proofs.Common.{is_some, IsTrue, get_or, if◌then◌else◌, refl, sym, ap, subst}
 use Rattle.std.proofs.lemmas.List.Elements.{All-contains, Contains-get_or}
 use Rattle.std.proofs.lemmas.List.Folds.{list_all_at}
 use Rattle.std.proofs.lemmas.List.Sums.{list_all-from_AllPass}
@@ -14,17 +15,20 @@ use Rattle.hv_explicit.specs.Working.Search.{IsHit, in_either}
 use Rattle.hv_explicit.proofs.Anchored.{All-second}
 
 -- the negative operands name constants and sets of the store
-pub negative_named : (count : ℕ) (query : Query) (operands : List Operand) → IsReady count query → operands ≡ query.negative
+pub negative_named : (count : ℕ) (query : Query) (operands : List Operand) → IsReady count query
+    → operands ≡ query.negative
     → All (λ (o : Operand). IsNamed count o.which) operands
 negative_named count query operands ready is =
     subst (All (λ (o : Operand). IsNamed count o.which)) (sym is)
     (All-second (λ (o : Operand). IsNamed count o.which) query.positive query.negative ready.named)
 
-pub named_there : (count : ℕ) (query : Query) (which : Which) (after : Bool) → IsReady count query → AsksAbout query.negative which after
+pub named_there : (count : ℕ) (query : Query) (which : Which) (after : Bool) → IsReady count query
+    → AsksAbout query.negative which after
     → IsNamed count which
 named_there count query which after ready names =
     subst (IsNamed count) names.2
-    (All-contains (λ (o : Operand). IsNamed count o.which) query.negative names.0 (negative_named count query query.negative ready refl) names.1)
+    (All-contains (λ (o : Operand). IsNamed count o.which) query.negative names.0
+    (negative_named count query query.negative ready refl) names.1)
 
 -- an option with nothing in it
 none_from : (action : Option ℕ) → is_some action ≡ false → action ≡ None
@@ -32,34 +36,47 @@ none_from None e = refl
 none_from (Some a) e = let f : true ≡ false = e in absurd cc
 
 -- without an action no negative operand is asked about after it
-pub none_after : (task : Strips) (sets : ℕ → List Bool → Bool) (count : ℕ) (query : Query) (state : List Bool) → IsReady count query
+pub none_after : (task : Strips) (sets : ℕ → List Bool → Bool) (count : ℕ) (query : Query)
+    (state : List Bool) → IsReady count query
     → is_some query.action ≡ false → IsHit task sets query.negative true state → ⊥
 none_after task sets count query state ready none hit =
     let before = All-contains (λ (o : Operand). o.after ≡ false) query.negative hit.0
-    (All-second (λ (o : Operand). o.after ≡ false) query.positive query.negative (ready.before (none_from query.action none))) hit.1 in
+    (All-second (λ (o : Operand). o.after ≡ false) query.positive query.negative
+    (ready.before (none_from query.action none))) hit.1 in
     let clash : true ≡ false = sym hit.2 ∙ before in absurd cc
 
 -- an answer is not both
 pub not_hit : (hit : Bool) → hit ≡ false → IsTrue hit → ⊥
 not_hit hit isnt is = let clash : true ≡ false = sym is ∙ isnt in absurd cc
 
-module _ (task : Strips) (sets : ℕ → List Bool → Bool) (operands : List Operand) (before after : List Bool) where
+module _ (task : Strips) (sets : ℕ → List Bool → Bool) (operands : List Operand)
+    (before after : List Bool) where
   -- the state of a side
   abbrev pub side : Bool → List Bool
   side b = if b then after else before
 
   -- an operand that has its state is a hit
-  hit_at : (o : Operand) (b : Bool) → o.after ≡ b → Contains operands o → in_either task sets before after o ≡ true
+  hit_at : (o : Operand) (b : Bool) → o.after ≡ b → Contains operands o
+      → in_either task sets before after o ≡ true
       → IsHit task sets operands b (side b)
-  hit_at o b is among has = (o, among, is, subst (λ a. in_which task sets o.which (side a) ≡ true) is has)
+  hit_at o b is among has = (
+    o,
+    among,
+    is,
+    subst
+        (λ a. in_which task sets o.which (side a) ≡ true) is has,
+  )
 
   -- where neither side has a hit, no operand has its state
-  pub none_hit : (IsHit task sets operands false before → ⊥) → (IsHit task sets operands true after → ⊥)
+  pub none_hit : (IsHit task sets operands false before → ⊥)
+      → (IsHit task sets operands true after → ⊥)
       → list_all (λ o. not (in_either task sets before after o)) operands ≡ true
-  none_hit no_before no_after = list_all-from_AllPass (λ o. not (in_either task sets before after o)) operands
+  none_hit no_before no_after = list_all-from_AllPass
+      (λ o. not (in_either task sets before after o)) operands
       (λ k d within. by (get_or operands k d) (Contains-get_or operands k d within))
     where
-      off : (o : Operand) (b : Bool) → o.after ≡ b → Contains operands o → in_either task sets before after o ≡ true → ⊥
+      off : (o : Operand) (b : Bool) → o.after ≡ b → Contains operands o
+          → in_either task sets before after o ≡ true → ⊥
       off o true is among has = no_after (hit_at o true is among has)
       off o false is among has = no_before (hit_at o false is among has)
 
@@ -71,14 +88,17 @@ module _ (task : Strips) (sets : ℕ → List Bool → Bool) (operands : List Op
       by o among = unless (in_either task sets before after o) (off o o.after refl among)
 
   -- where a side has one, some operand has
-  pub some_hit : (b : Bool) → IsHit task sets operands b (side b) → list_all (λ o. not (in_either task sets before after o)) operands ≡ false
+  pub some_hit : (b : Bool) → IsHit task sets operands b (side b)
+      → list_all (λ o. not (in_either task sets before after o)) operands ≡ false
   some_hit b hit =
       list_all_at (λ o. not (in_either task sets before after o)) operands hit.1.0 hit.0 hit.1.1
       (ap (λ o. not (in_either task sets before after o)) hit.1.2
       ∙ ap not (subst (λ a. in_which task sets hit.0.which (side a) ≡ true) (sym hit.2) hit.3))
 
   -- where the state before the action is in none, the state after it settles the answer
-  pub when_asked : (hit : Bool) → (IsHit task sets operands false before → ⊥) → IsTrue hit ↔ IsHit task sets operands true after
+  pub when_asked : (hit : Bool) → (IsHit task sets operands false before → ⊥)
+      → IsTrue hit ↔ IsHit task sets operands true after
       → not hit ≡ list_all (λ o. not (in_either task sets before after o)) operands
   when_asked true no_before asked = sym (some_hit true (asked.0 refl))
-  when_asked false no_before asked = sym (none_hit no_before (λ hit. not_hit false refl (asked.1 hit)))
+  when_asked false no_before asked = sym (none_hit no_before
+      (λ hit. not_hit false refl (asked.1 hit)))

@@ -1,6 +1,8 @@
 //! Sets of listed states.
 
-ghost use Rattle.std.specs.Prelude.{◌≡◌, ◌<◌, ◌≤◌, ◌+◌, ◌-◌, ◌^◌, ℕ, Bool, true, List, [], length, min, map, drop, slice_index, slice_index_or, IsTrue, IfOk, IfSome, OnOk, ⊤, ◌↔◌};
+ghost use Rattle.std.specs.Prelude.{◌≡◌, ◌<◌, ◌≤◌, ◌+◌, ◌-◌, ◌^◌, ℕ, Bool, true, List, [], length};
+ghost use Rattle.std.specs.Prelude.{min, map, drop, slice_index, slice_index_or, IsTrue, IfOk};
+ghost use Rattle.std.specs.Prelude.{IfSome, OnOk, ⊤, ◌↔◌};
 ghost use Rattle.std.specs.List.{Contains};
 ghost use Rattle.std.specs.List.Sorted.{IsStrictlyIncreasing};
 ghost use Rattle.hv_task.specs.State.{AreBelow};
@@ -10,7 +12,8 @@ ghost use Rattle.hv_sets.specs.Walks.{IsStateOf, Meets};
 ghost use Rattle.hv_sets.specs.Truth.{in_states};
 ghost use Rattle.hv_explicit.specs.Codes.{IsBelow, IsSetOf};
 ghost use Rattle.hv_explicit.specs.Working.Codes.{IsCode, HasListed, IsSame};
-ghost use Rattle.hv_explicit.specs.Listing.{AreRising, AreStates, full_cube, full_cubes, in_listing};
+ghost use Rattle.hv_explicit.specs.Listing.{AreRising, AreStates, full_cube, full_cubes};
+ghost use Rattle.hv_explicit.specs.Listing.{in_listing};
 ghost use Rattle.hv_explicit.specs.Working.Listing.{AreFirsts, IsEnteredState, IsIndex};
 ghost use Rattle.hv_explicit.specs.Working.Holders.{AreHolders, IsHolderIndex};
 ghost use Rattle.hv_explicit.specs.Working.Laws as laws;

@@ -1,13 +1,15 @@
 //! Which sets list a state.
 
-ghost use Rattle.std.specs.Prelude.{◌≡◌, ◌<◌, ◌≤◌, ◌+◌, ◌^◌, ◌↔◌, ℕ, Bool, List, [], length, slice_index_or, IsTrue, IfOk, IfSome, OnOk, OnErr};
+ghost use Rattle.std.specs.Prelude.{◌≡◌, ◌<◌, ◌≤◌, ◌+◌, ◌^◌, ◌↔◌, ℕ, Bool, List, [], length};
+ghost use Rattle.std.specs.Prelude.{slice_index_or, IsTrue, IfOk, IfSome, OnOk, OnErr};
 ghost use Rattle.std.specs.List.{All};
 ghost use Rattle.hv_sets.specs.declared.operand.Operand.{Operand};
 ghost use Rattle.hv_explicit.specs.Codes.{IsBelow, IsSetOf};
 ghost use Rattle.hv_explicit.specs.Working.Codes.{code_of};
 ghost use Rattle.hv_explicit.specs.Listing.{AreOver, Listing};
 ghost use Rattle.hv_explicit.specs.Working.Listing.{AreFirsts};
-ghost use Rattle.hv_explicit.specs.Working.Owners.{AreEntered, IsEntered, IsOwned, IsOwner, IsStore, KeepsEntries};
+ghost use Rattle.hv_explicit.specs.Working.Owners.{AreEntered, IsEntered, IsOwned, IsOwner};
+ghost use Rattle.hv_explicit.specs.Working.Owners.{IsStore, KeepsEntries};
 
 use crate::codes::{code_of, list_code};
 use crate::explicit::Explicit;

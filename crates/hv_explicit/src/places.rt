@@ -1,7 +1,9 @@
 //! Places in a list of codes, found by the code.
 
-ghost use Rattle.std.specs.Prelude.{◌≡◌, ◌<◌, ◌≤◌, ◌-◌, ◌+◌, ◌^◌, ◌++◌, ◌∷◌, ℕ, [], length, slice_index, IfOk, OnOk, OnErr};
-ghost use Rattle.hv_explicit.specs.Working.Places.{IsChain, IsEnd, IsLinked, IsPlaceTable, code_at, slot_at, slot_of};
+ghost use Rattle.std.specs.Prelude.{◌≡◌, ◌<◌, ◌≤◌, ◌-◌, ◌+◌, ◌^◌, ◌++◌, ◌∷◌, ℕ, [], length};
+ghost use Rattle.std.specs.Prelude.{slice_index, IfOk, OnOk, OnErr};
+ghost use Rattle.hv_explicit.specs.Working.Places.{IsChain, IsEnd, IsLinked, IsPlaceTable, code_at};
+ghost use Rattle.hv_explicit.specs.Working.Places.{slot_at, slot_of};
 
 use std::alloc::{AllocError, Global};
 use std::marker::Model;

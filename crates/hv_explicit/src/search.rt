@@ -1,6 +1,7 @@
 //! The search through the states of the anchor.
 
-ghost use Rattle.std.specs.Prelude.{◌≡◌, ◌<◌, ◌↔◌, ℕ, Bool, List, length, slice_index_or, slice_get, Some, IsTrue, MatchOption};
+ghost use Rattle.std.specs.Prelude.{◌≡◌, ◌<◌, ◌↔◌, ℕ, Bool, List, length, slice_index_or};
+ghost use Rattle.std.specs.Prelude.{slice_get, Some, IsTrue, MatchOption};
 ghost use Rattle.std.specs.List.{All, Contains, list_all};
 ghost use Rattle.hv_task.specs.State.{AreBelow, state_of};
 ghost use Rattle.hv_task.specs.Strips.{IsState, atoms, is_goal};
@@ -33,7 +34,9 @@ pub(crate) struct Search<'a> {
 }
 
 impl Search<'_> {
-    ghost use Rattle.hv_explicit.specs.Working.Search.{clashes_at, IsFoundListed, IsHit, IsHitBy, IsListedSearch, HasJust, in_either, is_fit, is_in_none};
+    ghost use Rattle.hv_explicit.specs.Working.Search.{clashes_at, IsFoundListed, IsHit, IsHitBy};
+    ghost use Rattle.hv_explicit.specs.Working.Search.{IsListedSearch, HasJust, in_either, is_fit};
+    ghost use Rattle.hv_explicit.specs.Working.Search.{is_in_none};
 
     /// The exact answer to the query. The state is overwritten.
     pub(crate) fn answer(&self, budget: u64, state: &mut State) -> Finding

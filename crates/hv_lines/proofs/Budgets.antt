@@ -14,7 +14,8 @@ module _ (setting : Setting) (budget : ℕ) where
   abbrev other : Setting
   other = setting_of setting.task setting.nodes budget
 
-  other_acts : (older : List Line) (id : ℕ) (acts : Acts) → IsGood setting older (L.Acts id acts) → IsGood other older (L.Acts id acts)
+  other_acts : (older : List Line) (id : ℕ) (acts : Acts) → IsGood setting older (L.Acts id acts)
+      → IsGood other older (L.Acts id acts)
   other_acts older id acts good O.Length = tt
   other_acts older id acts good O.Spelling = good O.Spelling
   other_acts older id acts good O.Number = good O.Number
@@ -26,7 +27,8 @@ module _ (setting : Setting) (budget : ℕ) where
   other_acts older id acts good O.Budget = tt
   other_acts older id acts good O.Truth = tt
 
-  other_expr : (older : List Line) (id : ℕ) (expr : Expr) → IsGood setting older (L.Expr id expr) → IsGood other older (L.Expr id expr)
+  other_expr : (older : List Line) (id : ℕ) (expr : Expr) → IsGood setting older (L.Expr id expr)
+      → IsGood other older (L.Expr id expr)
   other_expr older id expr good O.Length = tt
   other_expr older id expr good O.Spelling = good O.Spelling
   other_expr older id expr good O.Number = good O.Number
@@ -38,8 +40,10 @@ module _ (setting : Setting) (budget : ℕ) where
   other_expr older id expr good O.Budget = tt
   other_expr older id expr good O.Truth = tt
 
-  other_known : (older : List Line) (id : ℕ) (statement : Statement) (word : Word) (premises : List ℕ) → (IsBasicWord word → ⊥)
-      → IsGood setting older (L.Known id statement word premises) → IsGood other older (L.Known id statement word premises)
+  other_known : (older : List Line) (id : ℕ) (statement : Statement) (word : Word)
+      (premises : List ℕ) → (IsBasicWord word → ⊥)
+      → IsGood setting older (L.Known id statement word premises)
+      → IsGood other older (L.Known id statement word premises)
   other_known older id statement word premises out good O.Length = tt
   other_known older id statement word premises out good O.Spelling = good O.Spelling
   other_known older id statement word premises out good O.Number = good O.Number
@@ -57,17 +61,27 @@ module _ (setting : Setting) (budget : ℕ) where
   AreSettled (L.Acts id acts ∷ older) = AreSettled older
   AreSettled (L.Expr id expr ∷ older) = AreSettled older
   AreSettled (L.Known id statement word premises ∷ older) =
-      ((IsBasicWord word → ⊥) ⊎ IsGood other older (L.Known id statement word premises)) × AreSettled older
+      ((IsBasicWord word → ⊥) ⊎ IsGood other older (L.Known id statement word premises))
+      × AreSettled older
 
-  either_known : (older : List Line) (id : ℕ) (statement : Statement) (word : Word) (premises : List ℕ)
+  either_known : (older : List Line) (id : ℕ) (statement : Statement) (word : Word)
+      (premises : List ℕ)
       → (IsBasicWord word → ⊥) ⊎ IsGood other older (L.Known id statement word premises)
-      → IsGood setting older (L.Known id statement word premises) → IsGood other older (L.Known id statement word premises)
-  either_known older id statement word premises (inl out) good = other_known older id statement word premises out good
+      → IsGood setting older (L.Known id statement word premises)
+      → IsGood other older (L.Known id statement word premises)
+  either_known older id statement word premises (inl out) good = other_known older id statement word
+      premises out good
   either_known older id statement word premises (inr is) good = is
 
-  pub all_other : (lines : List Line) → AreGood setting lines → AreSettled lines → AreGood other lines
+  pub all_other : (lines : List Line) → AreGood setting lines → AreSettled lines
+      → AreGood other lines
   all_other [] good settled = tt
-  all_other (L.Acts id acts ∷ older) good settled = (other_acts older id acts good.0, all_other older good.1 settled)
-  all_other (L.Expr id expr ∷ older) good settled = (other_expr older id expr good.0, all_other older good.1 settled)
-  all_other (L.Known id statement word premises ∷ older) good settled =
-      (either_known older id statement word premises settled.0 good.0, all_other older good.1 settled.1)
+  all_other (L.Acts id acts ∷ older) good settled =
+      (other_acts older id acts good.0, all_other older good.1 settled)
+  all_other (L.Expr id expr ∷ older) good settled =
+      (other_expr older id expr good.0, all_other older good.1 settled)
+  all_other (L.Known id statement word premises ∷ older) good settled = (
+    either_known older id statement word premises settled.0 good.0,
+    all_other older good.1
+        settled.1,
+  )

@@ -6,14 +6,16 @@ use Rattle.hv_lines.specs.declared.line.Acts.{Acts}
 use Rattle.hv_lines.specs.declared.line.Expr.{Expr}
 use Rattle.hv_lines.specs.declared.line.Line.{Line}
 use Rattle.hv_lines.specs.declared.line.Statement.{Statement}
-use Rattle.hv_lines.proofs.Laws.{acts_at_more, acts_below, expr_at_more, expr_below, known_below, statement_at_more}
+use Rattle.hv_lines.proofs.Laws.{acts_at_more, acts_below, expr_at_more, expr_below, known_below}
+use Rattle.hv_lines.proofs.Laws.{statement_at_more}
 
 -- the lines before the further ones are a table
 pub table_before : (more lines : List Line) → IsTable (onto more lines) → IsTable lines
 table_before [] lines table = table
 table_before (line ∷ more) lines table = (table_before more (line ∷ lines) table).1
 
-pub acts_onto : (more lines : List Line) (id : ℕ) (acts : Acts) → IsTable (onto more lines) → acts_at lines id ≡ Some acts
+pub acts_onto : (more lines : List Line) (id : ℕ) (acts : Acts) → IsTable (onto more lines)
+    → acts_at lines id ≡ Some acts
     → acts_at (onto more lines) id ≡ Some acts
 acts_onto [] lines id acts table at = at
 acts_onto (line ∷ more) lines id acts table at =
@@ -21,7 +23,8 @@ acts_onto (line ∷ more) lines id acts table at =
     acts_onto more (line ∷ lines) id acts table
     (acts_at_more line lines id before.0 (acts_below lines id acts before.1 at) ∙ at)
 
-pub expr_onto : (more lines : List Line) (id : ℕ) (expr : Expr) → IsTable (onto more lines) → expr_at lines id ≡ Some expr
+pub expr_onto : (more lines : List Line) (id : ℕ) (expr : Expr) → IsTable (onto more lines)
+    → expr_at lines id ≡ Some expr
     → expr_at (onto more lines) id ≡ Some expr
 expr_onto [] lines id expr table at = at
 expr_onto (line ∷ more) lines id expr table at =
@@ -29,7 +32,8 @@ expr_onto (line ∷ more) lines id expr table at =
     expr_onto more (line ∷ lines) id expr table
     (expr_at_more line lines id before.0 (expr_below lines id expr before.1 at) ∙ at)
 
-pub known_onto : (more lines : List Line) (id : ℕ) (statement : Statement) → IsTable (onto more lines)
+pub known_onto : (more lines : List Line) (id : ℕ) (statement : Statement)
+    → IsTable (onto more lines)
     → statement_at lines id ≡ Some statement → statement_at (onto more lines) id ≡ Some statement
 known_onto [] lines id statement table at = at
 known_onto (line ∷ more) lines id statement table at =

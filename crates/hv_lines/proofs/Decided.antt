@@ -1,5 +1,6 @@
 -- Whether a state is in a set can be decided, so a state that isn't outside a set is in it.
-use Rattle.std.proofs.Common.{◌≡◌, ℕ, zero, suc, ◌<◌, ◌⊎◌, Bool, true, false, List, [], ◌∷◌, Option, Some, None, length, map, eqb, refl, sym, ap, subst, inl, inr, arith}
+use Rattle.std.proofs.Common.{◌≡◌, ℕ, zero, suc, ◌<◌, ◌⊎◌, Bool, true, false, List, [], ◌∷◌, Option}
+use Rattle.std.proofs.Common.{Some, None, length, map, eqb, refl, sym, ap, subst, inl, inr, arith}
 use Rattle.std.proofs.lemmas.Bool.Decides.{Decides-by_or}
 use Rattle.std.proofs.lemmas.List.Elements.{Decides-contains}
 use Rattle.std.proofs.lemmas.Option.{none-some, same_Some, slice_get_within}
@@ -18,7 +19,8 @@ use Rattle.hv_lines.specs.declared.line.Expr.{Expr}
 use Rattle.hv_lines.specs.declared.line.Expr.TheVariants as E
 use Rattle.hv_lines.specs.declared.line.Line.{Line}
 use Rattle.hv_lines.specs.declared.line.Line.TheVariants as L
-use Rattle.hv_lines.specs.Meaning.{StateSet, ActionSet, IsAfter, IsBefore, holds, pick_set, acts_of, sets_of}
+use Rattle.hv_lines.specs.Meaning.{StateSet, ActionSet, IsAfter, IsBefore, holds, pick_set, acts_of}
+use Rattle.hv_lines.specs.Meaning.{sets_of}
 
 bool_dec : (b : Bool) → Dec (b ≡ true)
 bool_dec true = yes refl
@@ -35,7 +37,8 @@ contains_dec : (states : List (List Bool)) (s : List Bool) → Dec (Contains sta
 contains_dec states s =
     decides_dec (list_any (λ t. pointwise beq t s) states) (Contains states s)
     (Decides-contains states s (list_any (λ t. pointwise beq t s) states)
-    (Decides-by_or (λ t. pointwise beq t s) (λ t. t ≡ s) (list_any (λ t. pointwise beq t s)) (λ t. beq-Decides t s) refl (λ _ _. refl) states))
+    (Decides-by_or (λ t. pointwise beq t s) (λ t. t ≡ s) (list_any (λ t. pointwise beq t s))
+    (λ t. beq-Decides t s) refl (λ _ _. refl) states))
 
 -- both of two facts, either of two facts, the opposite of a fact
 
@@ -59,22 +62,29 @@ as_dec P Q there back (yes p) = yes (there p)
 as_dec P Q there back (no p) = no (λ q. p (back q))
 
 -- some number below a bound
-number_dec : (P : ℕ → Type 0) → ((number : ℕ) → Dec (P number)) → (n : ℕ) → Dec ((number : ℕ) × (number < n) × P number)
+number_dec : (P : ℕ → Type 0) → ((number : ℕ) → Dec (P number)) → (n : ℕ)
+    → Dec ((number : ℕ) × (number < n) × P number)
 number_dec P each zero = no (λ w. absurd (omega (arith, w.1)))
 number_dec P each (suc n) =
     let Below : Type 0 = (number : ℕ) × (number < n) × P number in
     as_dec (P n ⊎ Below) ((number : ℕ) × (number < suc n) × P number)
     (elim [ inl p ↦ (n, omega arith, p) | inr w ↦ (w.0, omega (arith, w.1), w.2) ])
-    (λ w. elim (last w.0 n w.1) [ inl below ↦ inr (w.0, below, w.2) | inr same ↦ inl (subst P same w.2) ])
+    (λ w. elim (last w.0 n w.1) [
+      | inl below ↦ inr (w.0, below, w.2)
+      | inr same ↦ inl
+          (subst P same w.2)
+    ])
     (either_dec (P n) Below (each n) (number_dec P each n))
   where
     last : (number n : ℕ) → number < suc n → (number < n) ⊎ (number ≡ n)
     last number n below = grind arith
 
 -- some state of so many atoms
-state_dec : (n : ℕ) (P : List Bool → Type 0) → ((s : List Bool) → length s ≡ n → Dec (P s)) → Dec ((s : List Bool) × (length s ≡ n) × P s)
+state_dec : (n : ℕ) (P : List Bool → Type 0) → ((s : List Bool) → length s ≡ n → Dec (P s))
+    → Dec ((s : List Bool) × (length s ≡ n) × P s)
 state_dec zero P each =
-    as_dec (P []) ((s : List Bool) × (length s ≡ 0) × P s) (λ p. ([], refl, p)) (λ w. none w.0 w.1 w.2) (each [] refl)
+    as_dec (P []) ((s : List Bool) × (length s ≡ 0) × P s) (λ p. ([], refl, p))
+    (λ w. none w.0 w.1 w.2) (each [] refl)
   where
     none : (s : List Bool) → length s ≡ 0 → P s → P []
     none [] e p = p
@@ -89,22 +99,27 @@ state_dec (suc n) P each =
     (state_dec n (λ s. P (true ∷ s)) (λ s e. each (true ∷ s) (ap suc e))))
   where
     first : (s : List Bool) → length s ≡ suc n → P s
-        → ((t : List Bool) × (length t ≡ n) × P (false ∷ t)) ⊎ ((t : List Bool) × (length t ≡ n) × P (true ∷ t))
+        → ((t : List Bool) × (length t ≡ n) × P (false ∷ t))
+        ⊎ ((t : List Bool) × (length t ≡ n) × P (true ∷ t))
     first [] e p = absurd (omega arith)
     first (false ∷ t) e p = inl (t, omega arith, p)
     first (true ∷ t) e p = inr (t, omega arith, p)
 
 -- one of two sets, by a test
-pick_dec : (test : Bool) (here there : StateSet) (s : List Bool) → Dec (here s) → Dec (there s) → Dec (pick_set test here there s)
+pick_dec : (test : Bool) (here there : StateSet) (s : List Bool) → Dec (here s) → Dec (there s)
+    → Dec (pick_set test here there s)
 pick_dec true here there s d e = d
 pick_dec false here there s d e = e
 
--- the action is there, its number is among the given ones, and it is applicable with a successor of which a fact holds
+-- the action is there, its number is among the given ones, and it is applicable with a successor of
+-- which a fact holds
 StepTo : Option Action → Bool → List Bool → (List Bool → Type 0) → Type 0
 StepTo found among s P =
-    (action : Action) × (among ≡ true) × (found ≡ Some action) × (applicable action s ≡ true) × P (successor action s)
+    (action : Action) × (among ≡ true) × (found ≡ Some action) × (applicable action s ≡ true)
+    × P (successor action s)
 
-step_dec : (found : Option Action) (among : Bool) (s : List Bool) (P : List Bool → Type 0) → ((a : Action) → Dec (P (successor a s)))
+step_dec : (found : Option Action) (among : Bool) (s : List Bool) (P : List Bool → Type 0)
+    → ((a : Action) → Dec (P (successor a s)))
     → Dec (StepTo found among s P)
 unfolding StepTo
 step_dec None among s P each = no (λ w. absurd (none-some w.0 w.2))
@@ -122,25 +137,41 @@ module _ (task : Strips) where
   -- some action of the set, applicable in the state, with a successor of which a fact holds
   SomeStep : ActionSet → List Bool → (List Bool → Type 0) → Type 0
   SomeStep acts s P =
-      (number : ℕ) × (number < length task.actions) × StepTo (slice_get task.actions number) (acts number) s P
+      (number : ℕ) × (number < length task.actions)
+      × StepTo (slice_get task.actions number) (acts number) s P
 
-  some_step_dec : (acts : ActionSet) (s : List Bool) (P : List Bool → Type 0) → ((a : Action) → Dec (P (successor a s)))
+  some_step_dec : (acts : ActionSet) (s : List Bool) (P : List Bool → Type 0)
+      → ((a : Action) → Dec (P (successor a s)))
       → Dec (SomeStep acts s P)
   unfolding SomeStep
   some_step_dec acts s P each =
       number_dec (λ number. StepTo (slice_get task.actions number) (acts number) s P)
-      (λ number. step_dec (slice_get task.actions number) (acts number) s P each) (length task.actions)
+      (λ number. step_dec (slice_get task.actions number) (acts number) s P each)
+      (length task.actions)
 
-  before_dec : (S : StateSet) (acts : ActionSet) (s : List Bool) → IsState task s → ((t : List Bool) → IsState task t → Dec (S t))
+  before_dec : (S : StateSet) (acts : ActionSet) (s : List Bool) → IsState task s
+      → ((t : List Bool) → IsState task t → Dec (S t))
       → Dec (IsBefore task S acts s)
   unfolding SomeStep StepTo
   before_dec S acts s is_state each =
       as_dec (SomeStep acts s S) (IsBefore task S acts s)
-      (λ w. record { number = w.0; action = w.2.0; among = w.2.1; named = w.2.2; applies = w.2.3; inside = w.2.4 })
-      (λ b. (b.number, slice_get_within task.actions b.number b.action b.named, (b.action, b.among, b.named, b.applies, b.inside)))
+      (λ w. record {
+        number = w.0;
+        action = w.2.0;
+        among = w.2.1;
+        named = w.2.2;
+        applies = w.2.3;
+        inside = w.2.4;
+      })
+      (λ b. (
+        b.number,
+        slice_get_within task.actions b.number b.action b.named,
+        (b.action, b.among, b.named, b.applies, b.inside),
+      ))
       (some_step_dec acts s S (λ a. each (successor a s) (IsState-successor task a s is_state)))
 
-  after_dec : (S : StateSet) (acts : ActionSet) (s : List Bool) → ((t : List Bool) → IsState task t → Dec (S t))
+  after_dec : (S : StateSet) (acts : ActionSet) (s : List Bool)
+      → ((t : List Bool) → IsState task t → Dec (S t))
       → Dec (IsAfter task S acts s)
   unfolding SomeStep StepTo
   after_dec S acts s each =
@@ -162,7 +193,11 @@ module _ (task : Strips) where
         i.is_state,
         (
           i.inside,
-          (i.number, slice_get_within task.actions i.number i.action i.named, (i.action, i.among, i.named, i.applies, i.result)),
+          (
+            i.number,
+            slice_get_within task.actions i.number i.action i.named,
+            (i.action, i.among, i.named, i.applies, i.result),
+          ),
         ),
       ))
       (state_dec (atoms task) From
@@ -170,32 +205,44 @@ module _ (task : Strips) where
       (some_step_dec acts t (λ r. r ≡ s) (λ a. same_dec (successor a t) s))))
 
   module _ (nodes : NodeList) where
-    holds_dec : (acts : ℕ → ActionSet) (sets : ℕ → StateSet) → ((e : ℕ) (s : List Bool) → IsState task s → Dec (sets e s)) → (x : Expr)
+    holds_dec : (acts : ℕ → ActionSet) (sets : ℕ → StateSet)
+        → ((e : ℕ) (s : List Bool) → IsState task s → Dec (sets e s)) → (x : Expr)
         → (s : List Bool) → IsState task s → Dec (holds task nodes acts sets x s)
     holds_dec acts sets each (E.Constant C.Empty) s is_state = no (λ h. h)
     holds_dec acts sets each (E.Constant C.Start) s is_state = same_dec s (start_state task)
     holds_dec acts sets each (E.Constant C.Goal) s is_state = bool_dec (is_goal task s)
     holds_dec acts sets each (E.Horn clauses) s is_state = bool_dec (in_clauses clauses s)
     holds_dec acts sets each (E.Two clauses) s is_state = bool_dec (in_clauses clauses s)
-    holds_dec acts sets each (E.States states) s is_state = contains_dec (map (state_of (atoms task)) states) s
+    holds_dec acts sets each (E.States states) s is_state = contains_dec
+        (map (state_of (atoms task)) states) s
     holds_dec acts sets each (E.Node node) s is_state = bool_dec (in_node nodes node s)
     holds_dec acts sets each (E.Not e) s is_state = not_dec (sets e s) (each e s is_state)
-    holds_dec acts sets each (E.And e f) s is_state = both_dec (sets e s) (sets f s) (each e s is_state) (each f s is_state)
-    holds_dec acts sets each (E.Or e f) s is_state = either_dec (sets e s) (sets f s) (each e s is_state) (each f s is_state)
+    holds_dec acts sets each (E.And e f) s is_state = both_dec (sets e s) (sets f s)
+        (each e s is_state) (each f s is_state)
+    holds_dec acts sets each (E.Or e f) s is_state = either_dec (sets e s) (sets f s)
+        (each e s is_state) (each f s is_state)
     holds_dec acts sets each (E.After e by) s is_state = after_dec (sets e) (acts by) s (each e)
-    holds_dec acts sets each (E.Before e by) s is_state = before_dec (sets e) (acts by) s is_state (each e)
+    holds_dec acts sets each (E.Before e by) s is_state = before_dec (sets e) (acts by) s is_state
+        (each e)
 
     -- whether a state of the task is in a set
-    pub set_dec : (lines : List Line) (e : ℕ) (s : List Bool) → IsState task s → Dec (sets_of task nodes lines e s)
+    pub set_dec : (lines : List Line) (e : ℕ) (s : List Bool) → IsState task s
+        → Dec (sets_of task nodes lines e s)
     set_dec [] e s is_state = no (λ h. h)
     set_dec (L.Acts id x ∷ older) e s is_state = set_dec older e s is_state
     set_dec (L.Expr id x ∷ older) e s is_state =
-        pick_dec (eqb e id) (holds task nodes (acts_of older) (sets_of task nodes older) x) (sets_of task nodes older e) s
-        (holds_dec (acts_of older) (sets_of task nodes older) (set_dec older) x s is_state) (set_dec older e s is_state)
+        pick_dec (eqb e id) (holds task nodes (acts_of older) (sets_of task nodes older) x)
+        (sets_of task nodes older e) s
+        (holds_dec (acts_of older) (sets_of task nodes older) (set_dec older) x s is_state)
+        (set_dec older e s is_state)
     set_dec (L.Known id st w ps ∷ older) e s is_state = set_dec older e s is_state
 
     -- a state that isn't outside a set is in it
-    pub set_stable : (lines : List Line) (e : ℕ) (s : List Bool) → IsState task s → ((sets_of task nodes lines e s → ⊥) → ⊥)
+    pub set_stable : (lines : List Line) (e : ℕ) (s : List Bool) → IsState task s
+        → ((sets_of task nodes lines e s → ⊥) → ⊥)
         → sets_of task nodes lines e s
     set_stable lines e s is_state out =
-        elim (set_dec lines e s is_state) [ yes inside ↦ inside | no outside ↦ absurd (out outside) ]
+        elim (set_dec lines e s is_state) [
+          | yes inside ↦ inside
+          | no outside ↦ absurd (out outside)
+        ]

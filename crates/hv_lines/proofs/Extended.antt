@@ -1,5 +1,6 @@
 -- Drafts that grow: what they showed of states stays so.
-use Rattle.std.proofs.Common.{◌≡◌, ℕ, ◌<◌, ◌≤◌, ◌∙◌, ◌++◌, Bool, List, [], ◌∷◌, Some, length, slice_get, refl, sym, ap, subst, inl, inr, arith, rules}
+use Rattle.std.proofs.Common.{◌≡◌, ℕ, ◌<◌, ◌≤◌, ◌∙◌, ◌++◌, Bool, List, [], ◌∷◌, Some, length}
+use Rattle.std.proofs.Common.{slice_get, refl, sym, ap, subst, inl, inr, arith, rules}
 use Rattle.std.proofs.lemmas.Bool.{cases_lt}
 use Rattle.std.proofs.lemmas.Option.{same_Some}
 use Rattle.hv_task.specs.Strips.{Strips, atoms}
@@ -7,8 +8,10 @@ use Rattle.hv_bdd.specs.Nodes.{NodeList, no_nodes}
 use Rattle.hv_lines.specs.Drafts.{IsGoodTable, onto, prelude}
 use Rattle.hv_lines.specs.Literals.{IsLiteral, IsPlainSet}
 use Rattle.hv_lines.specs.Meaning.{StateSet, sets_of}
-use Rattle.hv_lines.specs.Numbering.{IsTable, acts_at, expr_at, expr_count, known_count, statement_at}
-use Rattle.hv_lines.specs.Pruning.{BeginsAsDraft, DeniesFew, Extends, GoesOn, IsDeadBy, IsDeadLiteral, IsFirstNoted, IsNoted, states_in}
+use Rattle.hv_lines.specs.Numbering.{IsTable, acts_at, expr_at, expr_count, known_count}
+use Rattle.hv_lines.specs.Numbering.{statement_at}
+use Rattle.hv_lines.specs.Pruning.{BeginsAsDraft, DeniesFew, Extends, GoesOn, IsDeadBy}
+use Rattle.hv_lines.specs.Pruning.{IsDeadLiteral, IsFirstNoted, IsNoted, states_in}
 use Rattle.hv_lines.specs.declared.line.Acts.TheVariants as A
 use Rattle.hv_lines.specs.declared.line.Constant.TheVariants as C
 use Rattle.hv_lines.specs.declared.line.Expr.{Expr}
@@ -24,7 +27,8 @@ use Rattle.hv_lines.proofs.Laws.{expr_below, expr_within, exprs_grow, refers_bel
 
 -- lines after lines
 
-pub onto-append : (more further lines : List Line) → onto (more ++ further) lines ≡ onto further (onto more lines)
+pub onto-append : (more further lines : List Line)
+    → onto (more ++ further) lines ≡ onto further (onto more lines)
 onto-append [] further lines = refl
 onto-append (line ∷ more) further lines = onto-append more further (line ∷ lines)
 
@@ -57,17 +61,21 @@ exprs_few (L.Known id statement word premises ∷ older) = omega (arith, exprs_f
 
 -- extensions
 
-pub extends_none : (task : Strips) (lines : List Line) → IsGoodTable task lines → Extends task lines lines
+pub extends_none : (task : Strips) (lines : List Line) → IsGoodTable task lines
+    → Extends task lines lines
 extends_none task lines good = (goes_on_none lines, good)
 
-pub extends_by : (task : Strips) (more lines : List Line) → IsGoodTable task (onto more lines) → Extends task lines (onto more lines)
+pub extends_by : (task : Strips) (more lines : List Line) → IsGoodTable task (onto more lines)
+    → Extends task lines (onto more lines)
 extends_by task more lines good = (goes_on_by more lines, good)
 
-pub extends_then : (task : Strips) (old now new : List Line) → Extends task old now → Extends task now new → Extends task old new
+pub extends_then : (task : Strips) (old now new : List Line) → Extends task old now
+    → Extends task now new → Extends task old new
 extends_then task old now new first second = (goes_on_then old now new first.0 second.0, second.1)
 
 -- a set keeps its states
-pub sets_onto : (task : Strips) (nodes : NodeList) (more lines : List Line) (set : ℕ) → IsTable (onto more lines) → set < expr_count lines
+pub sets_onto : (task : Strips) (nodes : NodeList) (more lines : List Line) (set : ℕ)
+    → IsTable (onto more lines) → set < expr_count lines
     → sets_of task nodes (onto more lines) set ≡ sets_of task nodes lines set
 sets_onto task nodes [] lines set table below = refl
 sets_onto task nodes (line ∷ more) lines set table below =
@@ -85,16 +93,20 @@ module _ (task : Strips) (old new : List Line) (extends : Extends task old new) 
   table_new : IsTable (onto extends.0.0 old)
   table_new = subst IsTable extends.0.1 (table_of task new extends.1)
 
-  pub expr_extended : (id : ℕ) (expr : Expr) → expr_at old id ≡ Some expr → expr_at new id ≡ Some expr
+  pub expr_extended : (id : ℕ) (expr : Expr) → expr_at old id ≡ Some expr
+      → expr_at new id ≡ Some expr
   expr_extended id expr at =
-      subst (λ lines. expr_at lines id ≡ Some expr) (sym extends.0.1) (expr_onto extends.0.0 old id expr table_new at)
+      subst (λ lines. expr_at lines id ≡ Some expr) (sym extends.0.1)
+      (expr_onto extends.0.0 old id expr table_new at)
 
-  pub statement_extended : (id : ℕ) (statement : Statement) → statement_at old id ≡ Some statement → statement_at new id ≡ Some statement
+  pub statement_extended : (id : ℕ) (statement : Statement) → statement_at old id ≡ Some statement
+      → statement_at new id ≡ Some statement
   statement_extended id statement at =
       subst (λ lines. statement_at lines id ≡ Some statement) (sym extends.0.1)
       (known_onto extends.0.0 old id statement table_new at)
 
-  pub states_extended : (set : ℕ) → set < expr_count old → states_in task new set ≡ states_in task old set
+  pub states_extended : (set : ℕ) → set < expr_count old
+      → states_in task new set ≡ states_in task old set
   states_extended set below =
       ap (λ lines. states_in task lines set) extends.0.1
       ∙ sets_onto task (no_nodes (atoms task)) extends.0.0 old set table_new below
@@ -104,7 +116,8 @@ module _ (task : Strips) (old new : List Line) (extends : Extends task old new) 
 
   literal_extended : (set : ℕ) → IsLiteral old set → IsLiteral new set
   literal_extended set (inl plain) = inl (plain_extended set plain)
-  literal_extended set (inr (inner, at, plain)) = inr (inner, expr_extended set (E.Not inner) at, plain_extended inner plain)
+  literal_extended set (inr (inner, at, plain)) = inr
+      (inner, expr_extended set (E.Not inner) at, plain_extended inner plain)
 
   -- a literal is among the old sets
   pub literal_below : (set : ℕ) → IsLiteral old set → set < expr_count old
@@ -114,39 +127,48 @@ module _ (task : Strips) (old new : List Line) (extends : Extends task old new) 
   few_extended : (set : ℕ) → set < expr_count old → DeniesFew old set → DeniesFew new set
   few_extended set below few inner states at listed =
       let found = expr_within old set table below in
-      let is : found.0 ≡ E.Not inner = same_Some found.0 (E.Not inner) (sym (expr_extended set found.0 found.1) ∙ at) in
+      let is : found.0 ≡ E.Not inner = same_Some found.0 (E.Not inner)
+      (sym (expr_extended set found.0 found.1) ∙ at) in
       let says : expr_at old set ≡ Some (E.Not inner) = found.1 ∙ ap Some is in
       let behind = expr_within old inner table (refers_below old set (E.Not inner) table says) in
       let also : behind.0 ≡ E.States states =
       same_Some behind.0 (E.States states) (sym (expr_extended inner behind.0 behind.1) ∙ listed) in
       few inner states says (behind.1 ∙ ap Some also)
 
-  pub dead_literal_extended : (set line : ℕ) → IsDeadLiteral old set line → IsDeadLiteral new set line
+  pub dead_literal_extended : (set line : ℕ) → IsDeadLiteral old set line
+      → IsDeadLiteral new set line
   dead_literal_extended set line dead = record {
     literal = literal_extended set dead.literal;
     says = statement_extended line (T.Dead set) dead.says;
     few = few_extended set (literal_below set dead.literal) dead.few;
   }
 
-  pub dead_by_extended : (state : List Bool) (line : ℕ) → IsDeadBy task old state line → IsDeadBy task new state line
+  pub dead_by_extended : (state : List Bool) (line : ℕ) → IsDeadBy task old state line
+      → IsDeadBy task new state line
   dead_by_extended state line by = record {
     set = by.set;
     dead = dead_literal_extended by.set line by.dead;
-    holds = subst (λ (S : StateSet). S state) (sym (states_extended by.set (literal_below by.set by.dead.literal))) by.holds;
+    holds = subst (λ (S : StateSet). S state)
+        (sym (states_extended by.set (literal_below by.set by.dead.literal))) by.holds;
   }
 
-  pub noted_extended : (covered : StateSet) (note : Note) → IsNoted task covered old note → IsNoted task covered new note
+  pub noted_extended : (covered : StateSet) (note : Note) → IsNoted task covered old note
+      → IsNoted task covered new note
   noted_extended covered note noted = record {
     dead = dead_literal_extended note.set note.line noted.dead;
     within = λ state is_state inside.
         noted.within state is_state
-        (subst (λ (S : StateSet). S state) (states_extended note.set (literal_below note.set noted.dead.literal)) inside);
+        (subst (λ (S : StateSet). S state) (states_extended note.set
+        (literal_below note.set noted.dead.literal)) inside);
   }
 
 -- a note whose literal holds a state shows that the state is dead
-pub noted_dead : (task : Strips) (covered : StateSet) (lines : List Line) (note : Note) (state : List Bool)
-    → IsNoted task covered lines note → states_in task lines note.set state → IsDeadBy task lines state note.line
-noted_dead task covered lines note state noted holds = record { set = note.set; dead = noted.dead; holds = holds }
+pub noted_dead : (task : Strips) (covered : StateSet) (lines : List Line) (note : Note)
+    (state : List Bool)
+    → IsNoted task covered lines note → states_in task lines note.set state
+    → IsDeadBy task lines state note.line
+noted_dead task covered lines note state noted holds = record
+    { set = note.set; dead = noted.dead; holds = holds }
 
 -- the lines have those with which every draft begins
 pub record HasPrelude (lines : List Line) : Type 0 where
@@ -156,7 +178,8 @@ pub record HasPrelude (lines : List Line) : Type 0 where
   pub goal : expr_at lines 2 ≡ Some (E.Constant C.Goal)
   pub empty_dead : statement_at lines 0 ≡ Some (T.Dead 0)
 
-pub prelude_onto : (more lines : List Line) → IsTable (onto more lines) → HasPrelude lines → HasPrelude (onto more lines)
+pub prelude_onto : (more lines : List Line) → IsTable (onto more lines) → HasPrelude lines
+    → HasPrelude (onto more lines)
 prelude_onto more lines table has = record {
   all = acts_onto more lines 0 A.All table has.all;
   empty = expr_onto more lines 0 (E.Constant C.Empty) table has.empty;
@@ -169,23 +192,29 @@ pub prelude_has : HasPrelude (onto prelude [])
 prelude_has = record { all = refl; empty = refl; start = refl; goal = refl; empty_dead = refl }
 
 -- every draft has them
-pub prelude_begins : (task : Strips) (lines : List Line) → BeginsAsDraft lines → IsGoodTable task lines → HasPrelude lines
+pub prelude_begins : (task : Strips) (lines : List Line) → BeginsAsDraft lines
+    → IsGoodTable task lines → HasPrelude lines
 prelude_begins task lines begins good =
     subst HasPrelude (sym begins.1)
-    (prelude_onto begins.0 (onto prelude []) (subst IsTable begins.1 (table_of task lines good)) prelude_has)
+    (prelude_onto begins.0 (onto prelude []) (subst IsTable begins.1 (table_of task lines good))
+    prelude_has)
 
 -- which line answers by the notes is determined
-pub first_noted_once : (task : Strips) (lines : List Line) (notes : List Note) (state : List Bool) (a b : ℕ)
+pub first_noted_once : (task : Strips) (lines : List Line) (notes : List Note) (state : List Bool)
+    (a b : ℕ)
     → IsFirstNoted task lines notes state a → IsFirstNoted task lines notes state b → a ≡ b
 first_noted_once task lines notes state a b first also =
     elim (cases_lt first.place also.place) [
-      | inl less ↦ absurd (also.first first.place first.note (omega (arith, less)) first.at first.holds)
+      | inl less ↦ absurd (also.first first.place first.note (omega (arith, less)) first.at
+          first.holds)
       | inr upto ↦ elim (cases_lt also.place first.place) [
-        | inl less ↦ absurd (first.first also.place also.note (omega (arith, less)) also.at also.holds)
+        | inl less ↦ absurd (first.first also.place also.note (omega (arith, less)) also.at
+            also.holds)
         | inr back ↦
             let place : first.place ≡ also.place = omega (arith, upto, back) in
             let same : first.note ≡ also.note =
-            same_Some first.note also.note (sym first.at ∙ (ap (slice_get notes) place ∙ also.at)) in
+            same_Some first.note also.note (sym first.at ∙ (ap (slice_get notes) place ∙ also.at))
+            in
             sym first.by ∙ (ap (λ (n : Note). n.line) same ∙ also.by)
       ]
     ]

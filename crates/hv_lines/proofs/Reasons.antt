@@ -1,8 +1,10 @@
 -- Reasons by rank: how a line comes by its reason, that it has one alone, and what a good line is.
-use Rattle.std.proofs.Common.{◌≡◌, ℕ, zero, suc, ◌+◌, ◌<◌, ◌∙◌, List, inl, inr, refl, sym, ap, subst, arith, lit<}
+use Rattle.std.proofs.Common.{◌≡◌, ℕ, zero, suc, ◌+◌, ◌<◌, ◌∙◌, List, inl, inr, refl, sym, ap}
+use Rattle.std.proofs.Common.{subst, arith, lit<}
 use Rattle.std.proofs.Math.Nat.{eq-or-lt_of_le}
 use Rattle.std.proofs.lemmas.Bool.Decides.{leb_tells}
-use Rattle.hv_lines.specs.Good.{FamilyFits, HasNotVerdict, HasVerdictTrue, IsGood, IsKnown, IsRefutedBy, LinePasses, RuleHolds, WhereBasic}
+use Rattle.hv_lines.specs.Good.{FamilyFits, HasNotVerdict, HasVerdictTrue, IsGood, IsKnown}
+use Rattle.hv_lines.specs.Good.{IsRefutedBy, LinePasses, RuleHolds, WhereBasic}
 use Rattle.hv_lines.specs.Working.Good.{IsFormed, IsReasonOf}
 use Rattle.hv_lines.specs.Numbering.{MayFollow, IsNumbered}
 use Rattle.hv_lines.specs.Order.{Test, Gives, IsReasonBy, rank, without_state}
@@ -63,11 +65,13 @@ rank_small O.Truth = lit< tt
 
 -- a test gives one reason, but for the state of a counterexample
 module _ (IsShown : Clash → Type 0)
-    (once : (a b : Clash) → IsShown a → IsShown b → without_state (R.False a) ≡ without_state (R.False b)) where
+    (once : (a b : Clash) → IsShown a → IsShown b
+    → without_state (R.False a) ≡ without_state (R.False b)) where
   alike : (r q reason : Reason) → r ≡ reason → q ≡ reason → without_state r ≡ without_state q
   alike r q reason x y = ap without_state (x ∙ sym y)
 
-  gives_once : (test : Test) (r q : Reason) → Gives IsShown test r → Gives IsShown test q → without_state r ≡ without_state q
+  gives_once : (test : Test) (r q : Reason) → Gives IsShown test r → Gives IsShown test q
+      → without_state r ≡ without_state q
   gives_once O.Length r q x y = alike r q R.Long x y
   gives_once O.Spelling r q x y = alike r q R.Grammar x y
   gives_once O.Number r q x y = alike r q R.Number x y
@@ -88,7 +92,8 @@ module _ (Passes : Test → Type 0) where
   pub below_none : PassesBelow 0
   below_none lower less = absurd (omega arith)
 
-  pub below_next : (test : Test) → PassesBelow (rank test) → Passes test → PassesBelow (rank test + 1)
+  pub below_next : (test : Test) → PassesBelow (rank test) → Passes test
+      → PassesBelow (rank test + 1)
   below_next test before here lower less =
       elim (eq-or-lt_of_le (omega (arith, less))) [
         | inl same ↦ subst Passes (sym (rank_once lower test same)) here
@@ -100,17 +105,21 @@ module _ (Passes : Test → Type 0) where
 
   module _ (IsShown : Clash → Type 0) where
     -- what passes each test has no reason
-    pub no_reason : (reason : Reason) → IsReasonBy Passes IsShown reason → ((test : Test) → Passes test) → ⊥
+    pub no_reason : (reason : Reason) → IsReasonBy Passes IsShown reason
+        → ((test : Test) → Passes test) → ⊥
     no_reason reason why all = why.2 (all why.0)
 
     -- one reason alone, but for the state of a counterexample
-    pub reason_once : ((a b : Clash) → IsShown a → IsShown b → without_state (R.False a) ≡ without_state (R.False b))
-        → (r q : Reason) → IsReasonBy Passes IsShown r → IsReasonBy Passes IsShown q → without_state r ≡ without_state q
+    pub reason_once : ((a b : Clash) → IsShown a → IsShown b
+        → without_state (R.False a) ≡ without_state (R.False b))
+        → (r q : Reason) → IsReasonBy Passes IsShown r → IsReasonBy Passes IsShown q
+        → without_state r ≡ without_state q
     reason_once once r q x y =
         elim (leb_tells (rank x.0) (rank y.0)) [
           | inl w ↦ elim (eq-or-lt_of_le w.1) [
             | inl same ↦
-                gives_once IsShown once y.0 r q (subst (λ t. Gives IsShown t r) (rank_once x.0 y.0 same) x.1) y.1
+                gives_once IsShown once y.0 r q (subst
+                (λ t. Gives IsShown t r) (rank_once x.0 y.0 same) x.1) y.1
             | inr less ↦ absurd (x.2 (y.3 x.0 less))
           ]
           | inr w ↦ absurd (y.2 (x.3 y.0 w.1))
@@ -120,16 +129,19 @@ module _ (setting : Setting) (lines : List Line) (line : Line) where
   abbrev pub Upto : ℕ → Type 0
   Upto bound = PassesBelow (LinePasses setting lines line) bound
 
-  next_test : (test : Test) → Upto (rank test) → LinePasses setting lines line test → Upto (rank test + 1)
+  next_test : (test : Test) → Upto (rank test) → LinePasses setting lines line test
+      → Upto (rank test + 1)
   next_test test before here = below_next (LinePasses setting lines line) test before here
 
   upto_number : IsSpelled line → Upto 2
-  upto_number spelled = next_test O.Spelling (next_test O.Length (below_none (LinePasses setting lines line)) tt) spelled
+  upto_number spelled = next_test O.Spelling
+      (next_test O.Length (below_none (LinePasses setting lines line)) tt) spelled
 
   upto_reference : IsSpelled line → IsNumbered lines line → Upto 3
   upto_reference spelled numbered = next_test O.Number (upto_number spelled) numbered
 
-  upto_family : IsSpelled line → IsNumbered lines line → IsKnown setting.task setting.nodes lines line → Upto 4
+  upto_family : IsSpelled line → IsNumbered lines line
+      → IsKnown setting.task setting.nodes lines line → Upto 4
   upto_family spelled numbered known = next_test O.Reference (upto_reference spelled numbered) known
 
   upto_rule : IsFormed setting lines line → Upto 5
@@ -139,41 +151,57 @@ module _ (setting : Setting) (lines : List Line) (line : Line) where
   upto_shape : IsFormed setting lines line → RuleHolds lines line → Upto 6
   upto_shape formed rule = next_test O.Rule (upto_rule formed) rule
 
-  pub upto_offered : IsFormed setting lines line → RuleHolds lines line → WhereBasic (HasShape lines) line → Upto 7
+  pub upto_offered : IsFormed setting lines line → RuleHolds lines line
+      → WhereBasic (HasShape lines) line → Upto 7
   upto_offered formed rule shape = next_test O.Shape (upto_shape formed rule) shape
 
-  pub upto_budget : IsFormed setting lines line → RuleHolds lines line → WhereBasic (HasShape lines) line
+  pub upto_budget : IsFormed setting lines line → RuleHolds lines line
+      → WhereBasic (HasShape lines) line
       → WhereBasic (HasNotVerdict setting lines V.NotOffered) line → Upto 8
-  upto_budget formed rule shape offered = next_test O.Offered (upto_offered formed rule shape) offered
+  upto_budget formed rule shape offered = next_test O.Offered (upto_offered formed rule shape)
+      offered
 
-  pub upto_truth : IsFormed setting lines line → RuleHolds lines line → WhereBasic (HasShape lines) line
-      → WhereBasic (HasNotVerdict setting lines V.NotOffered) line → WhereBasic (HasNotVerdict setting lines V.Over) line → Upto 9
-  upto_truth formed rule shape offered within = next_test O.Budget (upto_budget formed rule shape offered) within
+  pub upto_truth : IsFormed setting lines line → RuleHolds lines line
+      → WhereBasic (HasShape lines) line
+      → WhereBasic (HasNotVerdict setting lines V.NotOffered) line
+      → WhereBasic (HasNotVerdict setting lines V.Over) line → Upto 9
+  upto_truth formed rule shape offered within = next_test O.Budget
+      (upto_budget formed rule shape offered) within
 
   -- the reason of a line, by the first test that it fails
-  pub for_number : IsSpelled line → (IsNumbered lines line → ⊥) → IsReasonOf setting lines line R.Number
+  pub for_number : IsSpelled line → (IsNumbered lines line → ⊥)
+      → IsReasonOf setting lines line R.Number
   for_number spelled failed = (O.Number, refl, failed, upto_number spelled)
 
   pub for_reference : IsSpelled line → IsNumbered lines line
-      → (IsKnown setting.task setting.nodes lines line → ⊥) → IsReasonOf setting lines line R.Unknown
-  for_reference spelled numbered failed = (O.Reference, refl, failed, upto_reference spelled numbered)
+      → (IsKnown setting.task setting.nodes lines line → ⊥)
+      → IsReasonOf setting lines line R.Unknown
+  for_reference spelled numbered failed =
+      (O.Reference, refl, failed, upto_reference spelled numbered)
 
-  pub for_family : IsSpelled line → IsNumbered lines line → IsKnown setting.task setting.nodes lines line
+  pub for_family : IsSpelled line → IsNumbered lines line
+      → IsKnown setting.task setting.nodes lines line
       → (FamilyFits line → ⊥) → IsReasonOf setting lines line R.Family
-  for_family spelled numbered known failed = (O.Family, refl, failed, upto_family spelled numbered known)
+  for_family spelled numbered known failed =
+      (O.Family, refl, failed, upto_family spelled numbered known)
 
-  pub for_rule : IsFormed setting lines line → (RuleHolds lines line → ⊥) → IsReasonOf setting lines line R.Rule
+  pub for_rule : IsFormed setting lines line → (RuleHolds lines line → ⊥)
+      → IsReasonOf setting lines line R.Rule
   for_rule formed failed = (O.Rule, refl, failed, upto_rule formed)
 
-  pub for_shape : IsFormed setting lines line → RuleHolds lines line → (WhereBasic (HasShape lines) line → ⊥) → IsReasonOf setting lines line R.Shape
+  pub for_shape : IsFormed setting lines line → RuleHolds lines line
+      → (WhereBasic (HasShape lines) line → ⊥) → IsReasonOf setting lines line R.Shape
   for_shape formed rule failed = (O.Shape, refl, failed, upto_shape formed rule)
 
   -- a line that passes each test
-  pub good_line : IsFormed setting lines line → RuleHolds lines line → WhereBasic (HasShape lines) line
-      → WhereBasic (HasNotVerdict setting lines V.NotOffered) line → WhereBasic (HasNotVerdict setting lines V.Over) line
+  pub good_line : IsFormed setting lines line → RuleHolds lines line
+      → WhereBasic (HasShape lines) line
+      → WhereBasic (HasNotVerdict setting lines V.NotOffered) line
+      → WhereBasic (HasNotVerdict setting lines V.Over) line
       → WhereBasic (HasVerdictTrue setting lines) line → IsGood setting lines line
   good_line formed rule shape offered within true =
-      passes_all (LinePasses setting lines line) (next_test O.Truth (upto_truth formed rule shape offered within) true)
+      passes_all (LinePasses setting lines line)
+      (next_test O.Truth (upto_truth formed rule shape offered within) true)
 
   -- a good line may stand after the lines before it
   pub good_next : IsGood setting lines line → MayFollow lines line
@@ -181,12 +209,15 @@ module _ (setting : Setting) (lines : List Line) (line : Line) where
       record { numbered = good O.Number; back = known.0 }
 
   -- one reason of a line alone, but for the state of a counterexample
-  refuted_once : (l : Line) (a b : Clash) → IsRefutedBy setting lines l a → IsRefutedBy setting lines l b
+  refuted_once : (l : Line) (a b : Clash) → IsRefutedBy setting lines l a
+      → IsRefutedBy setting lines l b
       → without_state (R.False a) ≡ without_state (R.False b)
   refuted_once (L.Acts id acts) a b x y = absurd x
   refuted_once (L.Expr id expr) a b x y = absurd x
-  refuted_once (L.Known id statement word premises) a b x y = clash_once setting lines a b statement word x y
+  refuted_once (L.Known id statement word premises) a b x y = clash_once setting lines a b statement
+      word x y
 
-  pub clash_of_line_once : (a b : Clash) → IsRefutedBy setting lines line a → IsRefutedBy setting lines line b
+  pub clash_of_line_once : (a b : Clash) → IsRefutedBy setting lines line a
+      → IsRefutedBy setting lines line b
       → without_state (R.False a) ≡ without_state (R.False b)
   clash_of_line_once a b x y = refuted_once line a b x y

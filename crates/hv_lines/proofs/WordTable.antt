@@ -1,5 +1,7 @@
--- The table of words: each word stands in the list of all words, no two are spelled alike, and a spelling is no other token.
-use Rattle.std.proofs.Common.{◌≡◌, ℕ, ◌<◌, ◌≤◌, ◌∙◌, ◌&&◌, Bool, true, false, cond, eqb, ltb, List, [], ◌∷◌, Option, Some, None, get_or, refl, sym, ap, subst, arith}
+-- The table of words: each word stands in the list of all words, no two are spelled alike, and a
+-- spelling is no other token.
+use Rattle.std.proofs.Common.{◌≡◌, ℕ, ◌<◌, ◌≤◌, ◌∙◌, ◌&&◌, Bool, true, false, cond, eqb, ltb, List}
+use Rattle.std.proofs.Common.{[], ◌∷◌, Option, Some, None, get_or, refl, sym, ap, subst, arith}
 use Rattle.std.proofs.lemmas.Bool.{and_parts, ltb-true}
 use Rattle.std.proofs.lemmas.List.Elements.{All-contains}
 use Rattle.std.proofs.lemmas.List.Sums.{AllPass-from_list_all}
@@ -20,12 +22,14 @@ all_words =
 
 -- whether the field begins with the two bytes of the spelling
 abbrev same_bytes : List ℕ → List ℕ → Bool
-same_bytes spelling field = eqb (get_or spelling 0 0) (get_or field 0 0) && eqb (get_or spelling 1 0) (get_or field 1 0)
+same_bytes spelling field = eqb (get_or spelling 0 0) (get_or field 0 0)
+    && eqb (get_or spelling 1 0) (get_or field 1 0)
 
 -- the first of the words that is spelled so
 abbrev found_in : List Word → List ℕ → Option Word
 found_in [] field = None
-found_in (word ∷ words) field = cond (same_bytes (word_field word) field) (Some word) (found_in words field)
+found_in (word ∷ words) field = cond (same_bytes (word_field word) field) (Some word)
+    (found_in words field)
 
 abbrev pub word_of_field : List ℕ → Option Word
 word_of_field field = found_in all_words field
@@ -67,12 +71,14 @@ one_spelling v w same =
     let e : Some v ≡ Some w = sym (word_read v) ∙ ap word_of_field same ∙ word_read w in cc (e)
 
 -- what is found in a list is there
-found_there : (words : List Word) (field : List ℕ) (word : Word) → found_in words field ≡ Some word → Contains words word
+found_there : (words : List Word) (field : List ℕ) (word : Word) → found_in words field ≡ Some word
+    → Contains words word
 found_there [] field word is = cc (is)
 found_there (first ∷ words) field word is =
     by (same_bytes (word_field first) field) refl (found_there words field word)
   where
-    by : (b : Bool) → same_bytes (word_field first) field ≡ b → (found_in words field ≡ Some word → Contains words word)
+    by : (b : Bool) → same_bytes (word_field first) field ≡ b
+        → (found_in words field ≡ Some word → Contains words word)
         → Contains (first ∷ words) word
     by true e further =
         let found : Some first ≡ Some word = rw e at is in let same : first ≡ word = cc (found) in
@@ -114,8 +120,10 @@ word_plain word =
     (AllPass-from_list_all (λ w. is_plain (word_field w)) all_words refl) (every_word word))
 
 -- no word has more than three premises
-pub premises_few : (statement : Statement) (word : Word) (n : ℕ) → premises_of statement word ≡ Some n → n ≤ 3
-premises_few statement word n is = by (is_kind (word_row word).after (kind_of_statement statement)) is
+pub premises_few : (statement : Statement) (word : Word) (n : ℕ)
+    → premises_of statement word ≡ Some n → n ≤ 3
+premises_few statement word n is = by (is_kind (word_row word).after (kind_of_statement statement))
+    is
   where
     few : (word_row word).premises < 4
     few =

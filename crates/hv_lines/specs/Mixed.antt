@@ -1,6 +1,7 @@
 -- Inclusions between formulas of two families, each plain or negated: when a state is a
 -- counterexample, which inclusions are decided, and what that costs.
-use Rattle.std.specs.Prelude.{◌&&◌, ℕ, Bool, true, false, not, List, Option, None, Some, cond, length}
+use Rattle.std.specs.Prelude.{◌&&◌, ℕ, Bool, true, false, not, List, Option, None, Some, cond}
+use Rattle.std.specs.Prelude.{length}
 use Rattle.hv_task.specs.Strips.{atoms}
 use Rattle.hv_sets.specs.Truth.{in_clauses, in_states}
 use Rattle.hv_bdd.specs.Nodes.{NodeList, in_node}

@@ -1,5 +1,6 @@
 -- Drafts that grow, what they show of states, and how a pruner answers by its notes.
-use Rattle.std.specs.Prelude.{◌≡◌, ◌<◌, ◌≤◌, ◌++◌, ℕ, Bool, List, [], ◌∷◌, Option, Some, None, length, slice_get}
+use Rattle.std.specs.Prelude.{◌≡◌, ◌<◌, ◌≤◌, ◌++◌, ℕ, Bool, List, [], ◌∷◌, Option, Some, None}
+use Rattle.std.specs.Prelude.{length, slice_get}
 use Rattle.hv_task.specs.Strips.{Strips, IsState, atoms}
 use Rattle.hv_bdd.specs.Nodes.{no_nodes}
 use Rattle.hv_lines.specs.Drafts.{DraftState, IsGoodTable, default_budget, onto, prelude}

@@ -1,6 +1,7 @@
 -- What basic statements ask: queries of the sets of a family, and when a query costs too much or
 -- has a counterexample.
-use Rattle.std.specs.Prelude.{◌≡◌, ◌<◌, ◌++◌, ℕ, zero, suc, Bool, List, [], ◌∷◌, Option, Some, None, cond, length, map, nat_eq, slice_index_or, if◌then◌else◌}
+use Rattle.std.specs.Prelude.{◌≡◌, ◌<◌, ◌++◌, ℕ, zero, suc, Bool, List, [], ◌∷◌, Option, Some, None}
+use Rattle.std.specs.Prelude.{cond, length, map, nat_eq, slice_index_or, if◌then◌else◌}
 use Rattle.hv_task.specs.Strips.{Strips, atoms}
 use Rattle.hv_sets.specs.Cost.{ClausesPass, StatesPass}
 use Rattle.hv_sets.specs.Query.{HasAnchor}

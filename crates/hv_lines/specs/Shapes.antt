@@ -1,5 +1,6 @@
 -- The shapes of basic statements: leaves, literals and families.
-use Rattle.std.specs.Prelude.{◌≡◌, ◌≤◌, ◌<◌, ◌⊎◌, ◌+◌, ◌↔◌, ℕ, Bool, true, false, not, List, Option, Some, None, length, slice_get}
+use Rattle.std.specs.Prelude.{◌≡◌, ◌≤◌, ◌<◌, ◌⊎◌, ◌+◌, ◌↔◌, ℕ, Bool, true, false, not, List, Option}
+use Rattle.std.specs.Prelude.{Some, None, length, slice_get}
 use Rattle.std.specs.List.{Contains}
 use Rattle.hv_lines.specs.Literals.{IsPlainSet, IsLiteral}
 use Rattle.hv_lines.specs.Numbering.{expr_at}

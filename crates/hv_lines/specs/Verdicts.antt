@@ -1,5 +1,6 @@
 -- The verdict of a basic statement.
-use Rattle.std.specs.Prelude.{◌≡◌, ◌<◌, ◌≤◌, ℕ, Bool, true, false, List, Some, None, length, slice_get}
+use Rattle.std.specs.Prelude.{◌≡◌, ◌<◌, ◌≤◌, ℕ, Bool, true, false, List, Some, None, length}
+use Rattle.std.specs.Prelude.{slice_get}
 use Rattle.hv_task.specs.Strips.{Strips, atoms}
 use Rattle.hv_sets.specs.Query.{is_clash}
 use Rattle.hv_sets.specs.declared.query.Query.{Query}

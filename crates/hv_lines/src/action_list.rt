@@ -1,6 +1,7 @@
 //! Lists of actions, by their numbers.
 
-ghost use Rattle.std.specs.Prelude.{◌≡◌, ◌<◌, [], ◌∷◌, ◌++◌, ◌==◌, length, slice_get, Some, OnOk, OnErr};
+ghost use Rattle.std.specs.Prelude.{◌≡◌, ◌<◌, [], ◌∷◌, ◌++◌, ◌==◌, length, slice_get, Some, OnOk};
+ghost use Rattle.std.specs.Prelude.{OnErr};
 
 use std::alloc::{AllocError, Global};
 use std::marker::Model;

@@ -1,7 +1,8 @@
 //! Drafts of proofs: tables of good lines, with room for more.
 
 ghost use Rattle.std.specs.Prelude.{◌≡◌, ◌<◌, ◌≤◌, ◌+◌, ◌^◌, ◌∷◌, [], length, IfOk, OnOk, OnErr};
-ghost use Rattle.hv_lines.specs.Drafts.{IsGoodNext, IsGoodTable, conclusion, id_of, most_lines, onto, prelude};
+ghost use Rattle.hv_lines.specs.Drafts.{IsGoodNext, IsGoodTable, conclusion, id_of, most_lines};
+ghost use Rattle.hv_lines.specs.Drafts.{onto, prelude};
 ghost use Rattle.hv_lines.specs.Pruning.{BeginsAsDraft};
 
 use crate::line::{Acts, Constant, Expr, Line, Statement, Word};

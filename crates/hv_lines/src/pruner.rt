@@ -1,6 +1,7 @@
 //! Pruners: they show of states that these are dead, each by a line of a draft.
 
-ghost use Rattle.std.specs.Prelude.{◌≡◌, ◌↔◌, Bool, List, IsTrue, IfOk, IfSome, IfNone, OnErr, is_some};
+ghost use Rattle.std.specs.Prelude.{◌≡◌, ◌↔◌, Bool, List, IsTrue, IfOk, IfSome, IfNone, OnErr};
+ghost use Rattle.std.specs.Prelude.{is_some};
 ghost use Rattle.hv_task.specs.Strips.{Strips, IsState};
 ghost use Rattle.hv_lines.specs.Drafts.{IsGoodTable};
 ghost use Rattle.hv_lines.specs.Pruning.{Extends, IsDeadBy};

@@ -1,8 +1,11 @@
 //! The lines of a proof in order, found by their letters and identifiers.
 
-ghost use Rattle.std.specs.Prelude.{◌≡◌, ◌<◌, ◌≤◌, ◌+◌, ◌^◌, min, ◌↔◌, ◌++◌, [], ◌∷◌, length, reverse, slice_get, vec_len, Some, IsTrue, OnOk, OnErr};
+ghost use Rattle.std.specs.Prelude.{◌≡◌, ◌<◌, ◌≤◌, ◌+◌, ◌^◌, min, ◌↔◌, ◌++◌, [], ◌∷◌, length};
+ghost use Rattle.std.specs.Prelude.{reverse, slice_get, vec_len, Some, IsTrue, OnOk, OnErr};
 ghost use Rattle.hv_lines.specs.Literals.{IsFormula, IsConstantExpr, IsPlainExpr, IsLiteral};
-ghost use Rattle.hv_lines.specs.Numbering.{acts_count, expr_count, known_count, acts_at, expr_at, statement_at, word_at, premises_at, ActsReferBelow, ExprRefersBelow, SpeaksBelow, MayFollow, IsTable};
+ghost use Rattle.hv_lines.specs.Numbering.{acts_count, expr_count, known_count, acts_at, expr_at};
+ghost use Rattle.hv_lines.specs.Numbering.{statement_at, word_at, premises_at, ActsReferBelow};
+ghost use Rattle.hv_lines.specs.Numbering.{ExprRefersBelow, SpeaksBelow, MayFollow, IsTable};
 ghost use Rattle.hv_lines.specs.Working.TableState.{room_of};
 ghost use Rattle.hv_task.specs.State.{AreBelow};
 

@@ -1,5 +1,7 @@
 -- Cubes that are filled literal by literal, and steps without a cube.
-use Rattle.std.proofs.Common.{◌≡◌, ℕ, zero, suc, ◌<◌, ◌+◌, ◌∙◌, ◌⊎◌, ◌&&◌, Bool, true, false, not, ◌||◌, Option, None, Some, List, [], ◌∷◌, length, get_or, take, cond, refl, sym, ap, ap₂, arith, inl, inr, subst}
+use Rattle.std.proofs.Common.{◌≡◌, ℕ, zero, suc, ◌<◌, ◌+◌, ◌∙◌, ◌⊎◌, ◌&&◌, Bool, true, false, not}
+use Rattle.std.proofs.Common.{◌||◌, Option, None, Some, List, [], ◌∷◌, length, get_or, take, cond}
+use Rattle.std.proofs.Common.{refl, sym, ap, ap₂, arith, inl, inr, subst}
 use Rattle.std.proofs.lemmas.List.Elements.{All-contains, All-contains_itself, Contains-get_or}
 use Rattle.std.proofs.lemmas.List.Folds.{list_all_more}
 use Rattle.std.specs.List.{Contains}

@@ -1,5 +1,6 @@
 -- Walks over cubes that have fronts in common, and questions that are asked along them.
-use Rattle.std.specs.Prelude.{◌≡◌, ◌≤◌, ℕ, Bool, true, false, List, [], ◌∷◌, length, take, Option, None, Some}
+use Rattle.std.specs.Prelude.{◌≡◌, ◌≤◌, ℕ, Bool, true, false, List, [], ◌∷◌, length, take, Option}
+use Rattle.std.specs.Prelude.{None, Some}
 use Rattle.hv_sets.specs.declared.literal.Literal.{Literal}
 use Rattle.hv_sets.specs.Truth.{in_cube}
 use Rattle.hv_sets.specs.Walks.{IsStateOf, in_cubes}

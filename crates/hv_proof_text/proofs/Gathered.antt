@@ -1,9 +1,11 @@
 -- Lists that are gathered field by field: how reading begins, goes on, stops and ends.
-use Rattle.std.proofs.Common.{◌≡◌, ◌<◌, ◌^◌, ℕ, ◌∙◌, List, [], ◌∷◌, ◌++◌, map, Option, Some, None, MatchOption, decimal, refl, sym, ap, subst, append_assoc}
+use Rattle.std.proofs.Common.{◌≡◌, ◌<◌, ◌^◌, ℕ, ◌∙◌, List, [], ◌∷◌, ◌++◌, map, Option, Some, None}
+use Rattle.std.proofs.Common.{MatchOption, decimal, refl, sym, ap, subst, append_assoc}
 use Rattle.std.proofs.lemmas.List.{append-nil, map-append}
 use Rattle.std.proofs.lemmas.List.Elements.{All-nil, All-cons, All-push, All-head, All-tail}
 use Rattle.std.specs.List.{All}
-use Rattle.hv_proof_text.specs.Working.Gathering.{BeginsWithCount, Gathers, ReadsField, StandFor, StopsAtField, fields_behind}
+use Rattle.hv_proof_text.specs.Working.Gathering.{BeginsWithCount, Gathers, ReadsField, StandFor}
+use Rattle.hv_proof_text.specs.Working.Gathering.{StopsAtField, fields_behind}
 use Rattle.hv_bytes.specs.Fields.{cut_fields}
 use Rattle.hv_proof_text.specs.Working.Tokens.{AreTokens, IsToken, field_of, number}
 use Rattle.hv_proof_text.specs.declared.token.Token.{Token}
@@ -11,15 +13,19 @@ use Rattle.hv_proof_text.proofs.Decoding.{same_tokens}
 
 -- a field that was split off is the first of the fields
 pub split_is : {A : Type 0} (o : Option A) (now : A → List ℕ) (all : List (List ℕ)) (first : List ℕ)
-    → MatchOption o (all ≡ first ∷ []) (λ rest. all ≡ first ∷ cut_fields (now rest)) → all ≡ first ∷ fields_behind o now
+    → MatchOption o (all ≡ first ∷ []) (λ rest. all ≡ first ∷ cut_fields (now rest))
+    → all ≡ first ∷ fields_behind o now
 split_is None now all first e = e
 split_is (Some rest) now all first e = e
 
-pub gathers_none : {A : Type 0} (whole : List Token → A) (fields : List (List ℕ)) → Gathers whole fields whole fields
+pub gathers_none : {A : Type 0} (whole : List Token → A) (fields : List (List ℕ))
+    → Gathers whole fields whole fields
 gathers_none whole fields = ([], All-nil IsToken, refl, λ tokens. refl)
 
-pub gathers_more : {A : Type 0} (whole left more : List Token → A) (fields rest later : List (List ℕ)) (field : List ℕ)
-    → Gathers whole fields left rest → rest ≡ field ∷ later → ReadsField left field more → Gathers whole fields more later
+pub gathers_more : {A : Type 0} (whole left more : List Token → A)
+    (fields rest later : List (List ℕ)) (field : List ℕ)
+    → Gathers whole fields left rest → rest ≡ field ∷ later → ReadsField left field more
+    → Gathers whole fields more later
 gathers_more whole left more fields rest later field so_far first reads =
     let done = so_far.0 in
     let token = reads.0 in (
@@ -30,7 +36,8 @@ gathers_more whole left more fields rest later field so_far first reads =
           ∙ ap (λ f. map field_of done ++ f ∷ later) reads.2
           ∙ ap (λ fs. map field_of done ++ fs) (sym first)
           ∙ so_far.2,
-      λ tokens. ap whole (append_assoc done (token ∷ []) tokens) ∙ so_far.3 (token ∷ tokens) ∙ reads.3 tokens,
+      λ tokens. ap whole (append_assoc done (token ∷ []) tokens) ∙ so_far.3 (token ∷ tokens)
+          ∙ reads.3 tokens,
     )
 
 one_injective : {A : Type 0} {x y : A} → x ∷ [] ≡ y ∷ [] → x ≡ y
@@ -43,13 +50,16 @@ same_first e = (cc, cc)
 pub same_token : (x y : Token) → IsToken x → IsToken y → field_of x ≡ field_of y → x ≡ y
 same_token x y left right e =
     one_injective
-    (same_tokens (x ∷ []) (y ∷ []) (All-cons IsToken x [] left (All-nil IsToken)) (All-cons IsToken y [] right (All-nil IsToken))
+    (same_tokens (x ∷ []) (y ∷ []) (All-cons IsToken x [] left (All-nil IsToken))
+    (All-cons IsToken y [] right (All-nil IsToken))
     (ap (λ f. f ∷ []) e))
 
 -- the tokens of fields begin with those of the first fields
-split_tokens : (done tokens : List Token) (field : List ℕ) (later : List (List ℕ)) → All IsToken done → All IsToken tokens
+split_tokens : (done tokens : List Token) (field : List ℕ) (later : List (List ℕ))
+    → All IsToken done → All IsToken tokens
     → map field_of tokens ≡ map field_of done ++ field ∷ later
-    → (token : Token) × (more : List Token) × (tokens ≡ done ++ token ∷ more) × IsToken token × (field_of token ≡ field)
+    → (token : Token) × (more : List Token) × (tokens ≡ done ++ token ∷ more) × IsToken token
+    × (field_of token ≡ field)
 split_tokens [] [] field later left right e = absurd (cc)
 split_tokens [] (token ∷ tokens) field later left right e =
     (token, tokens, refl, All-head IsToken token tokens right, (same_first e).0)
@@ -57,8 +67,10 @@ split_tokens (d ∷ done) [] field later left right e = absurd (cc)
 split_tokens (d ∷ done) (t ∷ tokens) field later left right e =
     let parts = same_first e in
     let behind =
-    split_tokens done tokens field later (All-tail IsToken d done left) (All-tail IsToken t tokens right) parts.1 in
-    let same = same_token t d (All-head IsToken t tokens right) (All-head IsToken d done left) parts.0 in (
+    split_tokens done tokens field later (All-tail IsToken d done left)
+    (All-tail IsToken t tokens right) parts.1 in
+    let same = same_token t d (All-head IsToken t tokens right) (All-head IsToken d done left)
+    parts.0 in (
       behind.0,
       behind.1,
       ap (λ x. x ∷ tokens) same ∙ ap (λ ts. d ∷ ts) behind.2,
@@ -69,10 +81,13 @@ split_tokens (d ∷ done) (t ∷ tokens) field later left right e =
 none_and_some : {A : Type 0} {o : Option A} {x : A} → o ≡ None → o ≡ Some x → ⊥
 none_and_some none some = cc
 
-module _ {A : Type 0} (whole left : List Token → Option A) (fields rest : List (List ℕ)) (P : A → List Token → Type 0)
-    (so_far : Gathers whole fields left rest) (only : (tokens : List Token) (x : A) → P x tokens → whole tokens ≡ Some x) where
+module _ {A : Type 0} (whole left : List Token → Option A) (fields rest : List (List ℕ))
+    (P : A → List Token → Type 0)
+    (so_far : Gathers whole fields left rest)
+    (only : (tokens : List Token) (x : A) → P x tokens → whole tokens ≡ Some x) where
   -- where a field can't be read, the fields stand for nothing
-  pub gathers_stop : (field : List ℕ) (later : List (List ℕ)) → rest ≡ field ∷ later → StopsAtField left field
+  pub gathers_stop : (field : List ℕ) (later : List (List ℕ)) → rest ≡ field ∷ later
+      → StopsAtField left field
       → (x : A) → StandFor (P x) fields → ⊥
   gathers_stop field later first stops x stand =
       let done = so_far.0 in
@@ -84,27 +99,38 @@ module _ {A : Type 0} (whole left : List Token → Option A) (fields rest : List
       none_and_some none (only stand.0 x stand.2)
 
   -- at the end, what is left is what the fields stand for
-  pub gathers_end : (found : Option A) → rest ≡ [] → MatchOption found (left [] ≡ None) (λ x. left [] ≡ Some x)
+  pub gathers_end : (found : Option A) → rest ≡ []
+      → MatchOption found (left [] ≡ None) (λ x. left [] ≡ Some x)
       → ((tokens : List Token) (x : A) → whole tokens ≡ Some x → P x tokens)
       → MatchOption found ((x : A) → StandFor (P x) fields → ⊥) (λ x. StandFor (P x) fields)
   gathers_end (Some x) none is finds =
       let done = so_far.0 in
-      let same = sym (append-nil (map field_of done)) ∙ ap (λ fs. map field_of done ++ fs) (sym none) ∙ so_far.2 in
-      (done, record { each = so_far.1; same = same }, finds done x (ap whole (sym (append-nil done)) ∙ so_far.3 [] ∙ is))
+      let same = sym (append-nil (map field_of done))
+      ∙ ap (λ fs. map field_of done ++ fs) (sym none) ∙ so_far.2 in (
+        done,
+        record { each = so_far.1; same = same },
+        finds done x
+            (ap whole (sym (append-nil done)) ∙ so_far.3 [] ∙ is),
+      )
   gathers_end None none is finds = λ x stand.
       let done = so_far.0 in
-      let same = sym (append-nil (map field_of done)) ∙ ap (λ fs. map field_of done ++ fs) (sym none) ∙ so_far.2 in
+      let same = sym (append-nil (map field_of done))
+      ∙ ap (λ fs. map field_of done ++ fs) (sym none) ∙ so_far.2 in
       let tokens = same_tokens stand.0 done stand.1.each so_far.1 (stand.1.same ∙ sym same) in
-      none_and_some (ap whole tokens ∙ ap whole (sym (append-nil done)) ∙ so_far.3 [] ∙ is) (only stand.0 x stand.2)
+      none_and_some (ap whole tokens ∙ ap whole (sym (append-nil done)) ∙ so_far.3 [] ∙ is)
+      (only stand.0 x stand.2)
 
 -- where the token of a field stops reading, the field does
-pub stops_at : {A : Type 0} (before : List Token → Option A) (field : List ℕ) (own : Token) → IsToken own → field_of own ≡ field
+pub stops_at : {A : Type 0} (before : List Token → Option A) (field : List ℕ) (own : Token)
+    → IsToken own → field_of own ≡ field
     → ((tokens : List Token) → before (own ∷ tokens) ≡ None) → StopsAtField before field
 stops_at before field own short is none = λ token long same tokens.
-    subst (λ t. before (t ∷ tokens) ≡ None) (same_token own token short long (is ∙ sym same)) (none tokens)
+    subst (λ t. before (t ∷ tokens) ≡ None) (same_token own token short long (is ∙ sym same))
+    (none tokens)
 
 -- the tokens behind the first one stand for the fields behind the first one
-pub tokens_behind : (token : Token) (tokens : List Token) (fields later : List (List ℕ)) (field : List ℕ)
+pub tokens_behind : (token : Token) (tokens : List Token) (fields later : List (List ℕ))
+    (field : List ℕ)
     → AreTokens (token ∷ tokens) fields → fields ≡ field ∷ later → AreTokens tokens later
 tokens_behind token tokens fields later field are first = record {
   each = All-tail IsToken token tokens are.each;
@@ -112,7 +138,8 @@ tokens_behind token tokens fields later field are first = record {
 }
 
 -- tokens begin with that of the first field
-pub peel : (tokens : List Token) (token : Token) (fields : List (List ℕ)) → IsToken token → AreTokens tokens (field_of token ∷ fields)
+pub peel : (tokens : List Token) (token : Token) (fields : List (List ℕ)) → IsToken token
+    → AreTokens tokens (field_of token ∷ fields)
     → (more : List Token) × (tokens ≡ token ∷ more) × AreTokens more fields
 peel [] token fields short are = absurd (let e = are.same in cc)
 peel (x ∷ tokens) token fields short are =
@@ -123,9 +150,11 @@ peel (x ∷ tokens) token fields short are =
     )
 
 -- a count of which the right list comes behind, or no list
-module _ {A : Type 0} (P : A → List Token → Type 0) (size : A → ℕ) (fields later : List (List ℕ)) (count : ℕ) (short : count < 10 ^ 18)
+module _ {A : Type 0} (P : A → List Token → Type 0) (size : A → ℕ) (fields later : List (List ℕ))
+    (count : ℕ) (short : count < 10 ^ 18)
     (first : fields ≡ decimal count ∷ later) where
-  pub counted_some : (x : A) → StandFor (P x) later → size x ≡ count → StandFor (BeginsWithCount (P x) (size x)) fields
+  pub counted_some : (x : A) → StandFor (P x) later → size x ≡ count
+      → StandFor (BeginsWithCount (P x) (size x)) fields
   counted_some x stand same = (
     number count ∷ stand.0,
     record {
@@ -135,43 +164,55 @@ module _ {A : Type 0} (P : A → List Token → Type 0) (size : A → ℕ) (fiel
     (stand.0, ap (λ n. number n ∷ stand.0) (sym same), stand.2),
   )
 
-  counted_behind : (x : A) → StandFor (BeginsWithCount (P x) (size x)) fields → (size x ≡ count) × StandFor (P x) later
+  counted_behind : (x : A) → StandFor (BeginsWithCount (P x) (size x)) fields
+      → (size x ≡ count) × StandFor (P x) later
   counted_behind x stand =
-      let behind = peel stand.0 (number count) later short (subst (AreTokens stand.0) first stand.1) in
+      let behind = peel stand.0 (number count) later short
+      (subst (AreTokens stand.0) first stand.1) in
       let same = same_numbers (sym stand.2.1 ∙ behind.1) in
       (same.0, (behind.0, behind.2, subst (P x) same.1 stand.2.2))
     where
-      same_numbers : {m n : ℕ} {xs ys : List Token} → number m ∷ xs ≡ number n ∷ ys → (m ≡ n) × (xs ≡ ys)
+      same_numbers : {m n : ℕ} {xs ys : List Token} → number m ∷ xs ≡ number n ∷ ys
+          → (m ≡ n) × (xs ≡ ys)
       same_numbers e = (cc, cc)
 
-  pub counted_never : ((x : A) → StandFor (P x) later → ⊥) → (x : A) → StandFor (BeginsWithCount (P x) (size x)) fields → ⊥
+  pub counted_never : ((x : A) → StandFor (P x) later → ⊥) → (x : A)
+      → StandFor (BeginsWithCount (P x) (size x)) fields → ⊥
   counted_never never x stand = never x (counted_behind x stand).1
 
-  pub counted_other : ((x y : A) (tokens : List Token) → P x tokens → P y tokens → x ≡ y) → (x : A) → StandFor (P x) later
+  pub counted_other : ((x y : A) (tokens : List Token) → P x tokens → P y tokens → x ≡ y) → (x : A)
+      → StandFor (P x) later
       → (size x ≡ count → ⊥) → (y : A) → StandFor (BeginsWithCount (P y) (size y)) fields → ⊥
   counted_other one x stand other y stand_y =
       let behind = counted_behind y stand_y in
-      let tokens = same_tokens behind.1.0 stand.0 behind.1.1.each stand.1.each (behind.1.1.same ∙ sym stand.1.same) in
+      let tokens = same_tokens behind.1.0 stand.0 behind.1.1.each stand.1.each
+      (behind.1.1.same ∙ sym stand.1.same) in
       other (ap size (one x y stand.0 stand.2 (subst (P y) tokens behind.1.2)) ∙ behind.0)
 
 -- without a count first there is no list
-pub counted_no_count : {A : Type 0} (P : A → List Token → Type 0) (size : A → ℕ) (fields : List (List ℕ))
-    → ((n : ℕ) (tokens : List Token) → AreTokens (number n ∷ tokens) fields → ⊥) → (x : A) → StandFor (BeginsWithCount (P x) (size x)) fields → ⊥
+pub counted_no_count : {A : Type 0} (P : A → List Token → Type 0) (size : A → ℕ)
+    (fields : List (List ℕ))
+    → ((n : ℕ) (tokens : List Token) → AreTokens (number n ∷ tokens) fields → ⊥) → (x : A)
+    → StandFor (BeginsWithCount (P x) (size x)) fields → ⊥
 counted_no_count P size fields never x stand =
     never (size x) stand.2.0 (subst (λ ts. AreTokens ts fields) stand.2.1 stand.1)
 
 -- tokens that are read to the end stand for all fields
-pub gathers_tokens : (items : List Token) (fields rest : List (List ℕ)) → Gathers (λ ts. ts) fields (λ ts. items ++ ts) rest → rest ≡ []
+pub gathers_tokens : (items : List Token) (fields rest : List (List ℕ))
+    → Gathers (λ ts. ts) fields (λ ts. items ++ ts) rest → rest ≡ []
     → AreTokens items fields
 gathers_tokens items fields rest so_far none =
     let done = so_far.0 in
     let same : done ≡ items = sym (append-nil done) ∙ so_far.3 [] ∙ append-nil items in
-    let spelled = sym (append-nil (map field_of done)) ∙ ap (λ fs. map field_of done ++ fs) (sym none) ∙ so_far.2 in
+    let spelled = sym (append-nil (map field_of done))
+    ∙ ap (λ fs. map field_of done ++ fs) (sym none) ∙ so_far.2 in
     subst (λ ts. AreTokens ts fields) same (record { each = so_far.1; same = spelled })
 
 -- where a field stands for no token, the fields stand for no tokens
-pub gathers_no_token : {A : Type 0} (whole left : List Token → A) (fields rest : List (List ℕ)) → Gathers whole fields left rest
-    → (field : List ℕ) (later : List (List ℕ)) → rest ≡ field ∷ later → ((token : Token) → IsToken token → field_of token ≡ field → ⊥)
+pub gathers_no_token : {A : Type 0} (whole left : List Token → A) (fields rest : List (List ℕ))
+    → Gathers whole fields left rest
+    → (field : List ℕ) (later : List (List ℕ)) → rest ≡ field ∷ later
+    → ((token : Token) → IsToken token → field_of token ≡ field → ⊥)
     → (tokens : List Token) → AreTokens tokens fields → ⊥
 gathers_no_token whole left fields rest so_far field later first never tokens are =
     let split =

@@ -1,5 +1,6 @@
 -- Fields behind one another, with a space before each.
-use Rattle.std.proofs.Common.{◌≡◌, ℕ, ◌+◌, ◌<◌, ◌∙◌, List, [], ◌∷◌, ◌++◌, length, map, take, get_or, Some, refl, sym, ap, append_assoc, decimal, slice_get}
+use Rattle.std.proofs.Common.{◌≡◌, ℕ, ◌+◌, ◌<◌, ◌∙◌, List, [], ◌∷◌, ◌++◌, length, map, take, get_or}
+use Rattle.std.proofs.Common.{Some, refl, sym, ap, append_assoc, decimal, slice_get}
 use Rattle.std.proofs.lemmas.List.{append-nil, map_more, take_more}
 use Rattle.std.proofs.lemmas.List.Concat.{flat_map-append}
 use Rattle.std.proofs.lemmas.Option.{get_or_from_slice_get, slice_get_within}
@@ -10,18 +11,24 @@ use Rattle.hv_lines.specs.declared.line.Line.{Line}
 use Rattle.hv_proof_text.specs.Working.Writing.{with_fields}
 
 -- what stands before stays before
-front : (before text : List ℕ) (fields : List (List ℕ)) → with_fields (before ++ text) fields ≡ before ++ with_fields text fields
+front : (before text : List ℕ) (fields : List (List ℕ))
+    → with_fields (before ++ text) fields ≡ before ++ with_fields text fields
 front before text [] = refl
 front before text (field ∷ fields) =
-    ap (λ t. with_fields t fields) (append_assoc before text (32 ∷ field)) ∙ front before (text ++ 32 ∷ field) fields
+    ap (λ t. with_fields t fields) (append_assoc before text (32 ∷ field))
+    ∙ front before (text ++ 32 ∷ field) fields
 
-joined : (field : List ℕ) (fields : List (List ℕ)) → with_fields field fields ≡ join_with_byte 32 (field ∷ fields)
+joined : (field : List ℕ) (fields : List (List ℕ))
+    → with_fields field fields ≡ join_with_byte 32 (field ∷ fields)
 joined field [] = refl
-joined field (next ∷ fields) = front field (32 ∷ next) fields ∙ ap (λ t. field ++ t) (front (32 ∷ []) next fields ∙ ap (λ t. 32 ∷ t) (joined next fields))
+joined field (next ∷ fields) = front field (32 ∷ next) fields
+    ∙ ap (λ t. field ++ t) (front (32 ∷ []) next fields ∙ ap (λ t. 32 ∷ t) (joined next fields))
 
 -- a first field, a second one, and the others
-pub spelled : (old letter first second new : List ℕ) (id : ℕ) (fields : List (List ℕ)) → first ≡ old ++ letter → second ≡ first ++ 32 ∷ decimal id
-    → new ≡ with_fields second fields → new ≡ old ++ join_with_byte 32 (letter ∷ decimal id ∷ fields)
+pub spelled : (old letter first second new : List ℕ) (id : ℕ) (fields : List (List ℕ))
+    → first ≡ old ++ letter → second ≡ first ++ 32 ∷ decimal id
+    → new ≡ with_fields second fields → new ≡ old
+    ++ join_with_byte 32 (letter ∷ decimal id ∷ fields)
 spelled old letter first second new id fields at_first at_second at_new =
     at_new
     ∙ ap (λ t. with_fields t fields) at_second
@@ -31,8 +38,10 @@ spelled old letter first second new id fields at_first at_second at_new =
     ∙ ap (λ t. old ++ t) (joined letter (decimal id ∷ fields))
 
 -- some fields, one more, and further ones
-pub further : (text third fourth new : List ℕ) (front_fields back_fields : List (List ℕ)) (field : List ℕ) → third ≡ with_fields text front_fields
-    → fourth ≡ third ++ 32 ∷ field → new ≡ with_fields fourth back_fields → new ≡ with_fields text (front_fields ++ field ∷ back_fields)
+pub further : (text third fourth new : List ℕ) (front_fields back_fields : List (List ℕ))
+    (field : List ℕ) → third ≡ with_fields text front_fields
+    → fourth ≡ third ++ 32 ∷ field → new ≡ with_fields fourth back_fields
+    → new ≡ with_fields text (front_fields ++ field ∷ back_fields)
 further text third fourth new front_fields back_fields field at_third at_fourth at_new =
     at_new
     ∙ ap (λ t. with_fields t back_fields) at_fourth
@@ -40,47 +49,61 @@ further text third fourth new front_fields back_fields field at_third at_fourth 
     ∙ sym (fold-append (λ t f. t ++ 32 ∷ f) text front_fields (field ∷ back_fields))
 
 -- one more number of a list
-pub one_more : (numbers : List ℕ) (i n : ℕ) (text before after : List ℕ) → i < length numbers → get_or numbers i 0 ≡ n
+pub one_more : (numbers : List ℕ) (i n : ℕ) (text before after : List ℕ) → i < length numbers
+    → get_or numbers i 0 ≡ n
     → before ≡ with_fields text (map decimal (take i numbers)) → after ≡ before ++ 32 ∷ decimal n
     → after ≡ with_fields text (map decimal (take (i + 1) numbers))
 one_more numbers i n text before after within at so_far more =
     more
     ∙ ap (λ t. t ++ 32 ∷ decimal n) so_far
     ∙ ap (λ m. with_fields text (map decimal (take i numbers)) ++ 32 ∷ decimal m) (sym at)
-    ∙ sym (fold-append (λ t f. t ++ 32 ∷ f) text (map decimal (take i numbers)) (decimal (get_or numbers i 0) ∷ []))
+    ∙ sym (fold-append (λ t f. t ++ 32 ∷ f) text (map decimal (take i numbers))
+    (decimal (get_or numbers i 0) ∷ []))
     ∙ ap (with_fields text) (sym (map_more decimal numbers i 0 within))
 
 -- one more line of a text
-pub one_line_more : (lines : List Line) (i : ℕ) (line : Line) (before middle after : List ℕ) → i < length lines → slice_get lines i ≡ Some line
-    → before ≡ proof_text (take i lines) → middle ≡ before ++ spelling_of line → after ≡ middle ++ 10 ∷ []
+pub one_line_more : (lines : List Line) (i : ℕ) (line : Line) (before middle after : List ℕ)
+    → i < length lines → slice_get lines i ≡ Some line
+    → before ≡ proof_text (take i lines) → middle ≡ before ++ spelling_of line
+    → after ≡ middle ++ 10 ∷ []
     → after ≡ proof_text (take (i + 1) lines)
 one_line_more lines i line before middle after within at so_far spelled ended =
     ended
     ∙ ap (λ t. t ++ 10 ∷ []) spelled
     ∙ append_assoc before (spelling_of line) (10 ∷ [])
     ∙ ap (λ t. t ++ (spelling_of line ++ 10 ∷ [])) so_far
-    ∙ ap (λ l. proof_text (take i lines) ++ (spelling_of l ++ 10 ∷ [])) (sym (get_or_from_slice_get lines i line line at))
-    ∙ ap (λ t. proof_text (take i lines) ++ t) (sym (append-nil (spelling_of (get_or lines i line) ++ 10 ∷ [])))
-    ∙ sym (flat_map-append (λ l. spelling_of l ++ 10 ∷ []) (take i lines) (get_or lines i line ∷ []))
+    ∙ ap (λ l. proof_text (take i lines) ++ (spelling_of l ++ 10 ∷ []))
+    (sym (get_or_from_slice_get lines i line line at))
+    ∙ ap (λ t. proof_text (take i lines) ++ t)
+    (sym (append-nil (spelling_of (get_or lines i line) ++ 10 ∷ [])))
+    ∙ sym (flat_map-append (λ l. spelling_of l ++ 10 ∷ []) (take i lines)
+    (get_or lines i line ∷ []))
     ∙ ap proof_text (sym (take_more lines i line within))
 
 -- one more line, which was written apart, behind a text
-pub line_appended : (lines : List Line) (i : ℕ) (line : Line) (old before after empty spelled ended : List ℕ) → i < length lines → slice_get lines i ≡ Some line
-    → before ≡ old ++ proof_text (take i lines) → empty ≡ [] → spelled ≡ empty ++ spelling_of line → ended ≡ spelled ++ 10 ∷ [] → after ≡ before ++ ended
+pub line_appended : (lines : List Line) (i : ℕ) (line : Line)
+    (old before after empty spelled ended : List ℕ) → i < length lines
+    → slice_get lines i ≡ Some line
+    → before ≡ old ++ proof_text (take i lines) → empty ≡ [] → spelled ≡ empty ++ spelling_of line
+    → ended ≡ spelled ++ 10 ∷ [] → after ≡ before ++ ended
     → after ≡ old ++ proof_text (take (i + 1) lines)
-line_appended lines i line old before after empty spelled ended within at so_far none spells ends appended =
+line_appended lines i line old before after empty spelled ended within at so_far none spells ends
+    appended =
     let front = proof_text (take i lines) in
     let bytes = spelling_of line in
-    let written : ended ≡ bytes ++ 10 ∷ [] = ends ∙ ap (λ t. t ++ 10 ∷ []) (spells ∙ ap (λ t. t ++ bytes) none) in
+    let written : ended ≡ bytes ++ 10 ∷ [] = ends
+    ∙ ap (λ t. t ++ 10 ∷ []) (spells ∙ ap (λ t. t ++ bytes) none) in
     appended
     ∙ ap (λ t. t ++ ended) so_far
     ∙ append_assoc old front ended
     ∙ ap (λ t. old ++ t)
     (ap (λ t. front ++ t) written ∙ sym (append_assoc front bytes (10 ∷ []))
-    ∙ one_line_more lines i line front (front ++ bytes) ((front ++ bytes) ++ 10 ∷ []) within at refl refl refl)
+    ∙ one_line_more lines i line front (front ++ bytes) ((front ++ bytes) ++ 10 ∷ []) within at refl
+    refl refl)
 
 -- the fields of one more item
-pub items_more : {A : Type 0} (fields : A → List (List ℕ)) (xs : List A) (place : ℕ) (x : A) (old text new : List ℕ) → slice_get xs place ≡ Some x
+pub items_more : {A : Type 0} (fields : A → List (List ℕ)) (xs : List A) (place : ℕ) (x : A)
+    (old text new : List ℕ) → slice_get xs place ≡ Some x
     → text ≡ with_fields old (flat_map fields (take place xs)) → new ≡ with_fields text (fields x)
     → new ≡ with_fields old (flat_map fields (take (place + 1) xs))
 items_more fields xs place x old text new is at_text at_new =
@@ -88,5 +111,7 @@ items_more fields xs place x old text new is at_text at_new =
     ∙ ap (λ t. with_fields t (fields x)) at_text
     ∙ sym (fold-append (λ t f. t ++ 32 ∷ f) old (flat_map fields (take place xs)) (fields x))
     ∙ ap (λ fs. with_fields old fs)
-    (sym (ap (λ ys. flat_map fields ys) (take_more xs place x (slice_get_within xs place x is) ∙ ap (λ y. take place xs ++ y ∷ []) (get_or_from_slice_get xs place x x is))
-    ∙ (flat_map-append fields (take place xs) (x ∷ []) ∙ ap (λ fs. flat_map fields (take place xs) ++ fs) (append-nil (fields x)))))
+    (sym (ap (λ ys. flat_map fields ys) (take_more xs place x (slice_get_within xs place x is)
+    ∙ ap (λ y. take place xs ++ y ∷ []) (get_or_from_slice_get xs place x x is))
+    ∙ (flat_map-append fields (take place xs) (x ∷ [])
+    ∙ ap (λ fs. flat_map fields (take place xs) ++ fs) (append-nil (fields x)))))

@@ -1,5 +1,6 @@
 -- The forms of lines, letter by letter, are the spellings of lines.
-use Rattle.std.proofs.Common.{◌≡◌, ℕ, ◌∙◌, List, [], ◌∷◌, ◌++◌, length, map, Option, Some, None, MatchOption, refl, sym, ap, subst, arith}
+use Rattle.std.proofs.Common.{◌≡◌, ℕ, ◌∙◌, List, [], ◌∷◌, ◌++◌, length, map, Option, Some, None}
+use Rattle.std.proofs.Common.{MatchOption, refl, sym, ap, subst, arith}
 use Rattle.std.proofs.lemmas.List.Elements.{All-cons, All-head, All-tail}
 use Rattle.std.specs.List.{All, flat_map}
 use Rattle.hv_lines.specs.Spelling.{FitsDecimal, ActsFit, ExprFits, StatementFits, IsSpelled}
@@ -16,14 +17,18 @@ use Rattle.hv_proof_text.specs.declared.token.Letter.TheVariants as L
 use Rattle.hv_proof_text.specs.declared.token.Token.{Token}
 use Rattle.hv_proof_text.specs.declared.token.Token.TheVariants as T
 use Rattle.hv_proof_text.specs.Working.Forms.{ActsForm, ExprForm, ClaimForm, LineForm}
-use Rattle.hv_proof_text.specs.Working.Tokens.{IsToken, SpellsTokens, acts_tokens, clause_tokens, constant_letter, expr_tokens, letter, number, state_tokens, statement_tokens, tokens_of}
+use Rattle.hv_proof_text.specs.Working.Tokens.{IsToken, SpellsTokens, acts_tokens, clause_tokens}
+use Rattle.hv_proof_text.specs.Working.Tokens.{constant_letter, expr_tokens, letter, number}
+use Rattle.hv_proof_text.specs.Working.Tokens.{state_tokens, statement_tokens, tokens_of}
 
 -- numbers in tokens have at most 18 digits
 
-first_long : (n : ℕ) (rest tokens : List Token) → tokens ≡ number n ∷ rest → All IsToken tokens → FitsDecimal n
+first_long : (n : ℕ) (rest tokens : List Token) → tokens ≡ number n ∷ rest → All IsToken tokens
+    → FitsDecimal n
 first_long n rest tokens e short = All-head IsToken (number n) rest (subst (All IsToken) e short)
 
-two_long : (m n : ℕ) (rest tokens : List Token) → tokens ≡ number m ∷ number n ∷ rest → All IsToken tokens → FitsDecimal m × FitsDecimal n
+two_long : (m n : ℕ) (rest tokens : List Token) → tokens ≡ number m ∷ number n ∷ rest
+    → All IsToken tokens → FitsDecimal m × FitsDecimal n
 two_long m n rest tokens e short =
     let all : All IsToken (number m ∷ number n ∷ rest) = subst (All IsToken) e short in (
       All-head IsToken (number m) (number n ∷ rest) all,
@@ -33,76 +38,96 @@ two_long m n rest tokens e short =
 all_long : (ns : List ℕ) → All IsToken (map number ns) → All FitsDecimal ns
 all_long [] short = λ k d within. absurd (omega arith)
 all_long (n ∷ ns) short =
-    All-cons FitsDecimal n ns (All-head IsToken (number n) (map number ns) short) (all_long ns (All-tail IsToken (number n) (map number ns) short))
+    All-cons FitsDecimal n ns (All-head IsToken (number n) (map number ns) short)
+    (all_long ns (All-tail IsToken (number n) (map number ns) short))
 
 -- from a form to the spelling
 
 abbrev ActsAre : Letter → List Token → Acts → Type 0
 ActsAre kind tokens acts = ActsFit acts × (acts_tokens acts ≡ letter kind ∷ tokens)
 
-acts_in : (kind : Letter) (tokens : List Token) (acts : Acts) → ActsForm kind tokens acts → All IsToken tokens → ActsAre kind tokens acts
-acts_in L.A tokens acts form short = subst (ActsAre L.A tokens) (sym form.1) (tt, ap (λ ts. letter L.A ∷ ts) (sym form.0))
+acts_in : (kind : Letter) (tokens : List Token) (acts : Acts) → ActsForm kind tokens acts
+    → All IsToken tokens → ActsAre kind tokens acts
+acts_in L.A tokens acts form short = subst (ActsAre L.A tokens) (sym form.1)
+    (tt, ap (λ ts. letter L.A ∷ ts) (sym form.0))
 acts_in L.B tokens acts form short =
     subst (ActsAre L.B tokens) (sym form.4) (
       (first_long (length form.0) form.1 tokens form.2 short, form.3.rising),
-      ap (λ ts. letter L.B ∷ number (length form.0) ∷ ts) form.3.same ∙ ap (λ ts. letter L.B ∷ ts) (sym form.2),
+      ap (λ ts. letter L.B ∷ number (length form.0) ∷ ts) form.3.same
+          ∙ ap (λ ts. letter L.B ∷ ts) (sym form.2),
     )
 acts_in L.U tokens acts form short =
-    subst (ActsAre L.U tokens) (sym form.3) (two_long form.0 form.1 [] tokens form.2 short, ap (λ ts. letter L.U ∷ ts) (sym form.2))
+    subst (ActsAre L.U tokens) (sym form.3)
+    (two_long form.0 form.1 [] tokens form.2 short, ap (λ ts. letter L.U ∷ ts) (sym form.2))
 acts_in _ tokens acts form short = absurd form
 
 abbrev ExprIs : Letter → List Token → Expr → Type 0
 ExprIs kind tokens expr = ExprFits expr × (expr_tokens expr ≡ letter kind ∷ tokens)
 
-expr_in : (kind : Letter) (tokens : List Token) (expr : Expr) → ExprForm kind tokens expr → All IsToken tokens → ExprIs kind tokens expr
-expr_in L.C tokens expr form short = subst (ExprIs L.C tokens) (sym form.2) (tt, ap (λ ts. letter L.C ∷ ts) (sym form.1))
+expr_in : (kind : Letter) (tokens : List Token) (expr : Expr) → ExprForm kind tokens expr
+    → All IsToken tokens → ExprIs kind tokens expr
+expr_in L.C tokens expr form short = subst (ExprIs L.C tokens) (sym form.2)
+    (tt, ap (λ ts. letter L.C ∷ ts) (sym form.1))
 expr_in L.H tokens expr form short =
     subst (ExprIs L.H tokens) (sym form.4) (
       (first_long (length form.0) form.1 tokens form.2 short, form.3.short),
-      ap (λ ts. letter L.H ∷ number (length form.0) ∷ ts) form.3.same ∙ ap (λ ts. letter L.H ∷ ts) (sym form.2),
+      ap (λ ts. letter L.H ∷ number (length form.0) ∷ ts) form.3.same
+          ∙ ap (λ ts. letter L.H ∷ ts) (sym form.2),
     )
 expr_in L.T tokens expr form short =
     subst (ExprIs L.T tokens) (sym form.4) (
       (first_long (length form.0) form.1 tokens form.2 short, form.3.short),
-      ap (λ ts. letter L.T ∷ number (length form.0) ∷ ts) form.3.same ∙ ap (λ ts. letter L.T ∷ ts) (sym form.2),
+      ap (λ ts. letter L.T ∷ number (length form.0) ∷ ts) form.3.same
+          ∙ ap (λ ts. letter L.T ∷ ts) (sym form.2),
     )
 expr_in L.X tokens expr form short =
     subst (ExprIs L.X tokens) (sym form.4) (
       (first_long (length form.0) form.1 tokens form.2 short, form.3.rising),
-      ap (λ ts. letter L.X ∷ number (length form.0) ∷ ts) form.3.same ∙ ap (λ ts. letter L.X ∷ ts) (sym form.2),
+      ap (λ ts. letter L.X ∷ number (length form.0) ∷ ts) form.3.same
+          ∙ ap (λ ts. letter L.X ∷ ts) (sym form.2),
     )
-expr_in L.B tokens expr form short = subst (ExprIs L.B tokens) (sym form.3) (form.2, ap (λ ts. letter L.B ∷ ts) (sym form.1))
+expr_in L.B tokens expr form short = subst (ExprIs L.B tokens) (sym form.3)
+    (form.2, ap (λ ts. letter L.B ∷ ts) (sym form.1))
 expr_in L.N tokens expr form short =
-    subst (ExprIs L.N tokens) (sym form.2) (first_long form.0 [] tokens form.1 short, ap (λ ts. letter L.N ∷ ts) (sym form.1))
+    subst (ExprIs L.N tokens) (sym form.2)
+    (first_long form.0 [] tokens form.1 short, ap (λ ts. letter L.N ∷ ts) (sym form.1))
 expr_in L.I tokens expr form short =
-    subst (ExprIs L.I tokens) (sym form.3) (two_long form.0 form.1 [] tokens form.2 short, ap (λ ts. letter L.I ∷ ts) (sym form.2))
+    subst (ExprIs L.I tokens) (sym form.3)
+    (two_long form.0 form.1 [] tokens form.2 short, ap (λ ts. letter L.I ∷ ts) (sym form.2))
 expr_in L.U tokens expr form short =
-    subst (ExprIs L.U tokens) (sym form.3) (two_long form.0 form.1 [] tokens form.2 short, ap (λ ts. letter L.U ∷ ts) (sym form.2))
+    subst (ExprIs L.U tokens) (sym form.3)
+    (two_long form.0 form.1 [] tokens form.2 short, ap (λ ts. letter L.U ∷ ts) (sym form.2))
 expr_in L.P tokens expr form short =
-    subst (ExprIs L.P tokens) (sym form.3) (two_long form.0 form.1 [] tokens form.2 short, ap (λ ts. letter L.P ∷ ts) (sym form.2))
+    subst (ExprIs L.P tokens) (sym form.3)
+    (two_long form.0 form.1 [] tokens form.2 short, ap (λ ts. letter L.P ∷ ts) (sym form.2))
 expr_in L.R tokens expr form short =
-    subst (ExprIs L.R tokens) (sym form.3) (two_long form.0 form.1 [] tokens form.2 short, ap (λ ts. letter L.R ∷ ts) (sym form.2))
+    subst (ExprIs L.R tokens) (sym form.3)
+    (two_long form.0 form.1 [] tokens form.2 short, ap (λ ts. letter L.R ∷ ts) (sym form.2))
 expr_in _ tokens expr form short = absurd form
 
 abbrev ClaimIs : Letter → List Token → List Token → Statement → Type 0
 ClaimIs kind tokens rest statement =
-    StatementFits statement × (statement_tokens statement ++ rest ≡ letter kind ∷ tokens) × All IsToken rest
+    StatementFits statement × (statement_tokens statement ++ rest ≡ letter kind ∷ tokens)
+    × All IsToken rest
 
-claim_in : (kind : Letter) (tokens : List Token) (statement : Statement) (rest : List Token) → ClaimForm kind tokens statement rest
+claim_in : (kind : Letter) (tokens : List Token) (statement : Statement) (rest : List Token)
+    → ClaimForm kind tokens statement rest
     → All IsToken tokens → ClaimIs kind tokens rest statement
 claim_in L.S tokens statement rest form short =
     subst (ClaimIs L.S tokens rest) (sym form.3) (
       two_long form.0 form.1 rest tokens form.2 short,
       ap (λ ts. letter L.S ∷ ts) (sym form.2),
       All-tail IsToken (number form.1) rest
-          (All-tail IsToken (number form.0) (number form.1 ∷ rest) (subst (All IsToken) form.2 short)),
+          (All-tail IsToken (number form.0) (number form.1 ∷ rest)
+          (subst (All IsToken) form.2 short)),
     )
 claim_in L.A tokens statement rest form short =
     subst (ClaimIs L.A tokens rest) (sym form.3) (
       two_long form.0 form.1 rest tokens form.2 short,
       ap (λ ts. letter L.A ∷ ts) (sym form.2),
       All-tail IsToken (number form.1) rest
-          (All-tail IsToken (number form.0) (number form.1 ∷ rest) (subst (All IsToken) form.2 short)),
+          (All-tail IsToken (number form.0) (number form.1 ∷ rest)
+          (subst (All IsToken) form.2 short)),
     )
 claim_in L.D tokens statement rest form short =
     subst (ClaimIs L.D tokens rest) (sym form.2) (
@@ -115,8 +140,10 @@ claim_in L.U tokens statement rest form short =
     (tt, ap (λ ts. letter L.U ∷ ts) (sym form.0), subst (All IsToken) form.0 short)
 claim_in _ tokens statement rest form short = absurd form
 
-pub line_in : (first : Letter) (id : ℕ) (kind : Letter) (tokens : List Token) (line : Line) → LineForm first id kind tokens line
-    → FitsDecimal id → All IsToken tokens → SpellsTokens line (letter first ∷ number id ∷ letter kind ∷ tokens)
+pub line_in : (first : Letter) (id : ℕ) (kind : Letter) (tokens : List Token) (line : Line)
+    → LineForm first id kind tokens line
+    → FitsDecimal id → All IsToken tokens → SpellsTokens line
+    (letter first ∷ number id ∷ letter kind ∷ tokens)
 line_in L.A id kind tokens line form long short =
     let acts = acts_in kind tokens form.0 form.1 short in
     subst (λ x. SpellsTokens x (letter L.A ∷ number id ∷ letter kind ∷ tokens)) (sym form.2)
@@ -131,10 +158,17 @@ line_in L.K id kind tokens line form long short =
     let word = form.2 in
     let premises = form.3 in
     let claim = claim_in kind tokens statement rest form.4 short in
-    let support : All IsToken (T.Word word ∷ map number premises) = subst (All IsToken) form.5.0 claim.2 in
+    let support : All IsToken (T.Word word ∷ map number premises) = subst (All IsToken) form.5.0
+    claim.2 in
     subst (λ x. SpellsTokens x (letter L.K ∷ number id ∷ letter kind ∷ tokens)) (sym form.6)
     (record {
-      spelled = (long, claim.0, all_long premises (All-tail IsToken (T.Word word) (map number premises) support), form.5.1);
+      spelled = (
+        long,
+        claim.0,
+        all_long premises
+            (All-tail IsToken (T.Word word) (map number premises) support),
+        form.5.1,
+      );
       same = ap (λ ts. letter L.K ∷ number id ∷ (statement_tokens statement ++ ts)) (sym form.5.0)
           ∙ ap (λ ts. letter L.K ∷ number id ∷ ts) claim.1;
     })
@@ -142,7 +176,8 @@ line_in _ id kind tokens line form long short = absurd form
 
 -- from the spelling to a form
 
-acts_out : (acts : Acts) → ActsFit acts → (kind : Letter) × (tokens : List Token) × (acts_tokens acts ≡ letter kind ∷ tokens) × ActsForm kind tokens acts
+acts_out : (acts : Acts) → ActsFit acts → (kind : Letter) × (tokens : List Token)
+    × (acts_tokens acts ≡ letter kind ∷ tokens) × ActsForm kind tokens acts
 acts_out A.All fits = (L.A, [], refl, (refl, refl))
 acts_out (A.List actions) fits = (
   L.B,
@@ -150,10 +185,24 @@ acts_out (A.List actions) fits = (
   refl,
   (actions, map number actions, refl, record { rising = fits.1; same = refl }, refl),
 )
-acts_out (A.Both left right) fits = (L.U, number left ∷ number right ∷ [], refl, (left, right, refl, refl))
+acts_out (A.Both left right) fits = (
+  L.U,
+  number left ∷ number right
+      ∷ [],
+  refl,
+  (left, right, refl, refl),
+)
 
-expr_out : (expr : Expr) → ExprFits expr → (kind : Letter) × (tokens : List Token) × (expr_tokens expr ≡ letter kind ∷ tokens) × ExprForm kind tokens expr
-expr_out (E.Constant constant) fits = (L.C, letter (constant_letter constant) ∷ [], refl, (constant, refl, refl))
+expr_out : (expr : Expr) → ExprFits expr
+    → (kind : Letter) × (tokens : List Token) × (expr_tokens expr ≡ letter kind ∷ tokens)
+    × ExprForm kind tokens expr
+expr_out (E.Constant constant) fits = (
+  L.C,
+  letter (constant_letter constant)
+      ∷ [],
+  refl,
+  (constant, refl, refl),
+)
 expr_out (E.Horn clauses) fits = (
   L.H,
   number (length clauses) ∷ flat_map clause_tokens clauses,
@@ -174,20 +223,59 @@ expr_out (E.States states) fits = (
 )
 expr_out (E.Node node) fits = (L.B, number node ∷ [], refl, (node, refl, fits, refl))
 expr_out (E.Not set) fits = (L.N, number set ∷ [], refl, (set, refl, refl))
-expr_out (E.And left right) fits = (L.I, number left ∷ number right ∷ [], refl, (left, right, refl, refl))
-expr_out (E.Or left right) fits = (L.U, number left ∷ number right ∷ [], refl, (left, right, refl, refl))
-expr_out (E.After set acts) fits = (L.P, number set ∷ number acts ∷ [], refl, (set, acts, refl, refl))
-expr_out (E.Before set acts) fits = (L.R, number set ∷ number acts ∷ [], refl, (set, acts, refl, refl))
+expr_out (E.And left right) fits = (
+  L.I,
+  number left ∷ number right
+      ∷ [],
+  refl,
+  (left, right, refl, refl),
+)
+expr_out (E.Or left right) fits = (
+  L.U,
+  number left ∷ number right
+      ∷ [],
+  refl,
+  (left, right, refl, refl),
+)
+expr_out (E.After set acts) fits = (
+  L.P,
+  number set ∷ number acts
+      ∷ [],
+  refl,
+  (set, acts, refl, refl),
+)
+expr_out (E.Before set acts) fits = (
+  L.R,
+  number set ∷ number acts
+      ∷ [],
+  refl,
+  (set, acts, refl, refl),
+)
 
 claim_out : (statement : Statement) (rest : List Token)
-    → (kind : Letter) × (tokens : List Token) × (statement_tokens statement ++ rest ≡ letter kind ∷ tokens) × ClaimForm kind tokens statement rest
-claim_out (S.Sub left right) rest = (L.S, number left ∷ number right ∷ rest, refl, (left, right, refl, refl))
-claim_out (S.ActSub left right) rest = (L.A, number left ∷ number right ∷ rest, refl, (left, right, refl, refl))
+    → (kind : Letter) × (tokens : List Token)
+    × (statement_tokens statement ++ rest ≡ letter kind ∷ tokens)
+    × ClaimForm kind tokens statement rest
+claim_out (S.Sub left right) rest = (
+  L.S,
+  number left ∷ number right
+      ∷ rest,
+  refl,
+  (left, right, refl, refl),
+)
+claim_out (S.ActSub left right) rest = (
+  L.A,
+  number left ∷ number right
+      ∷ rest,
+  refl,
+  (left, right, refl, refl),
+)
 claim_out (S.Dead set) rest = (L.D, number set ∷ rest, refl, (set, refl, refl))
 claim_out S.Unsolvable rest = (L.U, rest, refl, (refl, refl))
 
 pub line_out : (line : Line) → IsSpelled line
-    → (first : Letter) × (id : ℕ) × (kind : Letter) × (tokens : List Token) × (tokens_of line ≡ letter first ∷ number id ∷ letter kind ∷ tokens)
+    → (first : Letter) × (id : ℕ) × (kind : Letter) × (tokens : List Token)
+    × (tokens_of line ≡ letter first ∷ number id ∷ letter kind ∷ tokens)
     × LineForm first id kind tokens line
 line_out (N.Acts id acts) spelled =
     let out = acts_out acts spelled.1 in
@@ -202,25 +290,39 @@ line_out (N.Known id statement word premises) spelled =
       out.0,
       out.1,
       ap (λ ts. letter L.K ∷ number id ∷ ts) out.2,
-      (statement, T.Word word ∷ map number premises, word, premises, out.3, (refl, spelled.3), refl),
+      (
+        statement,
+        T.Word word ∷ map number premises,
+        word,
+        premises,
+        out.3,
+        (refl, spelled.3),
+        refl,
+      ),
     )
 
 -- two lists of tokens with the same head
 same_heads : {f f' k k' : Letter} {i i' : ℕ} {ts ts' : List Token}
-    → letter f ∷ number i ∷ letter k ∷ ts ≡ letter f' ∷ number i' ∷ letter k' ∷ ts' → (f ≡ f') × (i ≡ i') × (k ≡ k') × (ts ≡ ts')
+    → letter f ∷ number i ∷ letter k ∷ ts ≡ letter f' ∷ number i' ∷ letter k' ∷ ts'
+    → (f ≡ f') × (i ≡ i') × (k ≡ k') × (ts ≡ ts')
 same_heads e = (cc, cc, cc, cc)
 
 -- what is found behind a head is found in the whole line
-pub line_found : (tokens : List Token) (first : Letter) (id : ℕ) (kind : Letter) (rest : List Token) (found : Option Line)
+pub line_found : (tokens : List Token) (first : Letter) (id : ℕ) (kind : Letter) (rest : List Token)
+    (found : Option Line)
     → tokens ≡ letter first ∷ number id ∷ letter kind ∷ rest → All IsToken tokens
-    → MatchOption found ((line : Line) → LineForm first id kind rest line → ⊥) (λ line. LineForm first id kind rest line)
-    → MatchOption found ((line : Line) → SpellsTokens line tokens → ⊥) (λ line. SpellsTokens line tokens)
+    → MatchOption found ((line : Line) → LineForm first id kind rest line → ⊥)
+    (λ line. LineForm first id kind rest line)
+    → MatchOption found ((line : Line) → SpellsTokens line tokens → ⊥)
+    (λ line. SpellsTokens line tokens)
 line_found tokens first id kind rest (Some line) e short form =
-    let all : All IsToken (letter first ∷ number id ∷ letter kind ∷ rest) = subst (All IsToken) e short in
+    let all : All IsToken (letter first ∷ number id ∷ letter kind ∷ rest) = subst (All IsToken) e
+    short in
     let behind = All-tail IsToken (letter first) (number id ∷ letter kind ∷ rest) all in
     let last = All-tail IsToken (number id) (letter kind ∷ rest) behind in
     subst (SpellsTokens line) (sym e)
-    (line_in first id kind rest line form (All-head IsToken (number id) (letter kind ∷ rest) behind) (All-tail IsToken (letter kind) rest last))
+    (line_in first id kind rest line form (All-head IsToken (number id) (letter kind ∷ rest) behind)
+    (All-tail IsToken (letter kind) rest last))
 line_found tokens first id kind rest None e short never = λ line spells.
     let out = line_out line spells.spelled in
     let same = same_heads (sym out.4 ∙ spells.same ∙ e) in

@@ -1,6 +1,9 @@
 -- Short decimals that rise from a least number on.
-use Rattle.std.proofs.Common.{◌≡◌, ℕ, zero, suc, ◌+◌, ◌<◌, ◌≤◌, ◌∙◌, inl, inr, List, [], ◌∷◌, ◌++◌, length, get_or, refl, sym, ap, subst, arith, add-one}
-use Rattle.std.proofs.lemmas.List.Elements.{All-nil, All-cons, All-head, All-tail, All-push, All-weaker, Contains-append_left, Contains-push, Contains-push_cases}
+use Rattle.std.proofs.Common.{◌≡◌, ℕ, zero, suc, ◌+◌, ◌<◌, ◌≤◌, ◌∙◌, inl, inr, List, [], ◌∷◌, ◌++◌}
+use Rattle.std.proofs.Common.{length, get_or, refl, sym, ap, subst, arith, add-one}
+use Rattle.std.proofs.lemmas.List.Elements.{All-nil, All-cons, All-head, All-tail, All-push}
+use Rattle.std.proofs.lemmas.List.Elements.{All-weaker, Contains-append_left, Contains-push}
+use Rattle.std.proofs.lemmas.List.Elements.{Contains-push_cases}
 use Rattle.std.proofs.lemmas.Bool.{cases_order}
 use Rattle.std.proofs.lemmas.List.{get_or_append_left, get_or_push, length_push}
 use Rattle.hv_task.specs.AtomList.{Inserts}
@@ -31,36 +34,45 @@ increasing_from least (n ∷ m ∷ ns) r (suc k) within =
 pub rising_from : (ns : List ℕ) → RisesFrom 0 ns → IsRising ns
 rising_from ns r = record { short = short_from 0 ns r; rising = increasing_from 0 ns r }
 
-from_parts : (least : ℕ) (ns : List ℕ) → (0 < length ns → least ≤ get_or ns 0 0) → All FitsShortDecimal ns → IsStrictlyIncreasing ns → RisesFrom least ns
+from_parts : (least : ℕ) (ns : List ℕ) → (0 < length ns → least ≤ get_or ns 0 0)
+    → All FitsShortDecimal ns → IsStrictlyIncreasing ns → RisesFrom least ns
 from_parts least [] first short rises = tt
-from_parts least (n ∷ []) first short rises = (first (omega arith), All-head FitsShortDecimal n [] short, tt)
+from_parts least (n ∷ []) first short rises =
+    (first (omega arith), All-head FitsShortDecimal n [] short, tt)
 from_parts least (n ∷ m ∷ ns) first short rises =
     let below : 0 + 1 < length (n ∷ m ∷ ns) = omega arith in
     let less = rises 0 below in (
       first (omega arith),
       All-head FitsShortDecimal n (m ∷ ns) short,
-      from_parts (n + 1) (m ∷ ns) (λ _. omega arith) (All-tail FitsShortDecimal n (m ∷ ns) short) (increasing_tail n (m ∷ ns) rises),
+      from_parts (n + 1) (m ∷ ns) (λ _. omega arith) (All-tail FitsShortDecimal n (m ∷ ns) short)
+          (increasing_tail n (m ∷ ns) rises),
     )
 
 pub from_rising : (ns : List ℕ) → IsRising ns → RisesFrom 0 ns
 from_rising ns r = from_parts 0 ns (λ _. omega arith) r.short r.rising
 
 -- what stands below a number stands below a greater one, and so does the number itself
-pub below_more : (ns : List ℕ) (least n : ℕ) → All (λ a. a < least) ns → least ≤ n → All (λ a. a < n + 1) (ns ++ n ∷ [])
+pub below_more : (ns : List ℕ) (least n : ℕ) → All (λ a. a < least) ns → least ≤ n
+    → All (λ a. a < n + 1) (ns ++ n ∷ [])
 below_more ns least n below from =
-    All-push (λ a. a < n + 1) ns n (All-weaker (λ a. a < least) (λ a. a < n + 1) (λ a less. omega arith) ns below) (omega arith)
+    All-push (λ a. a < n + 1) ns n (All-weaker (λ a. a < least) (λ a. a < n + 1)
+    (λ a less. omega arith) ns below) (omega arith)
 
 -- the same, below the new one alone
-pub below_new : (ns : List ℕ) (least n : ℕ) → All (λ a. a < least) ns → least ≤ n → All (λ a. a < n) ns
-below_new ns least n below from = All-weaker (λ a. a < least) (λ a. a < n) (λ a less. omega arith) ns below
+pub below_new : (ns : List ℕ) (least n : ℕ) → All (λ a. a < least) ns → least ≤ n
+    → All (λ a. a < n) ns
+below_new ns least n below from = All-weaker (λ a. a < least) (λ a. a < n)
+    (λ a less. omega arith) ns below
 
 -- a rising list behind which a greater number stands
-increasing_more : (ns : List ℕ) (n : ℕ) → IsStrictlyIncreasing ns → All (λ a. a < n) ns → IsStrictlyIncreasing (ns ++ n ∷ [])
+increasing_more : (ns : List ℕ) (n : ℕ) → IsStrictlyIncreasing ns → All (λ a. a < n) ns
+    → IsStrictlyIncreasing (ns ++ n ∷ [])
 increasing_more ns n rises below k within =
     elim (cases_order (k + 1) (length ns)) [
       | inl equal ↦
           let here = get_or_append_left ns (n ∷ []) 0 k (omega arith) in
-          let last = ap (λ j. get_or (ns ++ n ∷ []) j 0) equal ∙ get_or_push ns n 0 (length ns) refl in
+          let last = ap (λ j. get_or (ns ++ n ∷ []) j 0) equal
+          ∙ get_or_push ns n 0 (length ns) refl in
           let less = below k 0 (omega arith) in omega arith
       | inr (inl less) ↦
           let here = get_or_append_left ns (n ∷ []) 0 k (omega arith) in
@@ -70,7 +82,8 @@ increasing_more ns n rises below k within =
     ]
 
 -- a number put into a list of lesser ones stands last
-pub inserted_last : (old : List ℕ) (n : ℕ) (new : List ℕ) → IsStrictlyIncreasing old → All (λ a. a < n) old → Inserts old n new
+pub inserted_last : (old : List ℕ) (n : ℕ) (new : List ℕ) → IsStrictlyIncreasing old
+    → All (λ a. a < n) old → Inserts old n new
     → new ≡ old ++ n ∷ []
 inserted_last old n new rises below puts =
     same_rising new (old ++ n ∷ []) puts.rises (increasing_more old n rises below)
@@ -78,4 +91,5 @@ inserted_last old n new rises below puts =
       | inl before ↦ Contains-append_left old (n ∷ []) a before
       | inr same ↦ subst (Contains (old ++ n ∷ [])) (sym same) (Contains-push old n)
     ])
-    (λ a c. elim (Contains-push_cases old n a c) [ inl before ↦ (puts.has a).1 (inl before) | inr same ↦ (puts.has a).1 (inr (sym same)) ])
+    (λ a c. elim (Contains-push_cases old n a c)
+    [ inl before ↦ (puts.has a).1 (inl before) | inr same ↦ (puts.has a).1 (inr (sym same)) ])

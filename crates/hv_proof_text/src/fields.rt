@@ -1,6 +1,7 @@
 //! The fields of a line, one after the other, and the tokens that they stand for.
 
-ghost use Rattle.std.specs.Prelude.{◌≡◌, ◌<◌, ◌≤◌, ◌^◌, ℕ, ◌∷◌, true, false, decimal, length, List, MatchOption, Ok};
+ghost use Rattle.std.specs.Prelude.{◌≡◌, ◌<◌, ◌≤◌, ◌^◌, ℕ, ◌∷◌, true, false, decimal, length, List};
+ghost use Rattle.std.specs.Prelude.{MatchOption, Ok};
 ghost use Rattle.hv_proof_text.specs.Working.Gathering.{fields_behind};
 ghost use Rattle.hv_proof_text.specs.Working.Tokens.{AreTokens, letter, letter_field, number};
 ghost use Rattle.hv_proof_text.specs.declared.token.Letter.{Letter};

@@ -7,11 +7,13 @@ ghost use Rattle.hv_lines.specs.declared.line.Expr.{Expr};
 ghost use Rattle.hv_lines.specs.declared.line.Line.{Line};
 ghost use Rattle.hv_lines.specs.declared.line.Statement.{Statement};
 ghost use Rattle.hv_lines.specs.declared.line.Word.{Word};
-ghost use Rattle.hv_proof_text.specs.Working.Forms.{ActsForm, ExprForm, ClaimForm, SupportForm, LineForm};
+ghost use Rattle.hv_proof_text.specs.Working.Forms.{ActsForm, ExprForm, ClaimForm, SupportForm};
+ghost use Rattle.hv_proof_text.specs.Working.Forms.{LineForm};
 ghost use Rattle.hv_sets.specs.declared.literal.Literal.{Literal};
 ghost use Rattle.hv_proof_text.specs.Working.Gathering.{BeginsWithCount, StandFor, fields_behind};
 ghost use Rattle.hv_proof_text.specs.Working.Heads.{listed_by, listed_kind, listed_letter};
-ghost use Rattle.hv_proof_text.specs.Working.Tokens.{AreClauseTokens, AreRisingNumbers, AreStateTokens};
+ghost use Rattle.hv_proof_text.specs.Working.Tokens.{AreClauseTokens, AreRisingNumbers};
+ghost use Rattle.hv_proof_text.specs.Working.Tokens.{AreStateTokens};
 ghost use Rattle.hv_proof_text.specs.declared.token.Token.{Token};
 
 use crate::fields::{first_number, tokens_in};

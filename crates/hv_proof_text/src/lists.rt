@@ -9,7 +9,8 @@ ghost use Rattle.hv_proof_text.specs.Working.Gathering.{ReadsField, StandFor, St
 ghost use Rattle.hv_proof_text.specs.Working.Gathering.{clauses_from, fields_behind, numbers_from};
 ghost use Rattle.hv_proof_text.specs.Working.Gathering.{states_from, whole_clauses, whole_states};
 ghost use Rattle.hv_proof_text.specs.Working.Pieces as Pieces;
-ghost use Rattle.hv_proof_text.specs.Working.Tokens.{AreRisingNumbers, AreClauseTokens, AreStateTokens};
+ghost use Rattle.hv_proof_text.specs.Working.Tokens.{AreRisingNumbers, AreClauseTokens};
+ghost use Rattle.hv_proof_text.specs.Working.Tokens.{AreStateTokens};
 
 use crate::shapes::NOT_SHORT;
 use crate::token::{Token, token_of};

@@ -1,13 +1,15 @@
 //! Short rows of tokens: numbers, a constant, a word, premises.
 
-ghost use Rattle.std.specs.Prelude.{◌≡◌, ◌<◌, ◌≤◌, ◌^◌, ℕ, List, [], ◌∷◌, MatchOption, decimal, length, map};
+ghost use Rattle.std.specs.Prelude.{◌≡◌, ◌<◌, ◌≤◌, ◌^◌, ℕ, List, [], ◌∷◌, MatchOption, decimal};
+ghost use Rattle.std.specs.Prelude.{length, map};
 ghost use Rattle.hv_bytes.specs.Fields.{cut_fields};
 ghost use Rattle.hv_lines.specs.Spelling.{FitsShortDecimal};
 ghost use Rattle.hv_lines.specs.declared.line.Constant.{Constant};
 ghost use Rattle.hv_lines.specs.declared.line.Word.{Word};
 ghost use Rattle.hv_proof_text.specs.Working.Gathering.{fields_behind};
 ghost use Rattle.hv_proof_text.specs.Working.Heads.{listed_by};
-ghost use Rattle.hv_proof_text.specs.Working.Tokens.{AreTokens, constant_letter, letter, letter_field, number};
+ghost use Rattle.hv_proof_text.specs.Working.Tokens.{AreTokens, constant_letter, letter};
+ghost use Rattle.hv_proof_text.specs.Working.Tokens.{letter_field, number};
 ghost use Rattle.hv_proof_text.specs.declared.token.Letter.{Letter};
 ghost use Rattle.hv_proof_text.specs.declared.token.Token.{Token};
 ghost use Rattle.hv_proof_text.specs.declared.token.Token.TheVariants as T;

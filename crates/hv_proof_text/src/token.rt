@@ -1,6 +1,7 @@
 //! Tokens: what a field of a line stands for.
 
-ghost use Rattle.std.specs.Prelude.{◌≡◌, ◌<◌, ◌^◌, ◌↔◌, ℕ, ◌∷◌, IsTrue, MatchOption, codes, decimal};
+ghost use Rattle.std.specs.Prelude.{◌≡◌, ◌<◌, ◌^◌, ◌↔◌, ℕ, ◌∷◌, IsTrue, MatchOption, codes};
+ghost use Rattle.std.specs.Prelude.{decimal};
 ghost use Rattle.hv_proof_text.specs.Working.Tokens.{letter_field, field_of, IsToken};
 ghost use Rattle.hv_proof_text.specs.declared.token.Letter.{Letter};
 ghost use Rattle.hv_proof_text.specs.declared.token.Token.{Token};

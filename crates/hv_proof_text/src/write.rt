@@ -1,8 +1,11 @@
 //! The bytes of a line, and of a proof.
 
-ghost use Rattle.std.specs.Prelude.{◌≡◌, [], ◌∷◌, ◌++◌, OnOk, OnErr, IfOk, codes, decimal, map, length, reverse};
+ghost use Rattle.std.specs.Prelude.{◌≡◌, [], ◌∷◌, ◌++◌, OnOk, OnErr, IfOk, codes, decimal, map};
+ghost use Rattle.std.specs.Prelude.{length, reverse};
 ghost use Rattle.std.specs.List.{flat_map};
-ghost use Rattle.hv_lines.specs.Spelling.{acts_fields, clause_fields, constant_field, expr_fields, literal_field, proof_text, spelling_of, state_fields, statement_fields, word_field};
+ghost use Rattle.hv_lines.specs.Spelling.{acts_fields, clause_fields, constant_field, expr_fields};
+ghost use Rattle.hv_lines.specs.Spelling.{literal_field, proof_text, spelling_of, state_fields};
+ghost use Rattle.hv_lines.specs.Spelling.{statement_fields, word_field};
 ghost use Rattle.hv_proof_text.specs.Working.Writing.{GrowsText, with_fields};
 
 use hv_bytes::Text;

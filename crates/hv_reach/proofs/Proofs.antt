@@ -1,49 +1,64 @@
--- The lines of a proof are determined by the task, and they are good and conclude where the goal is excluded.
+-- The lines of a proof are determined by the task, and they are good and conclude where the goal is
+-- excluded.
 use Rattle.std.proofs.Common.{◌≡◌, ◌≤◌, ◌∙◌, List, length, sym, ap, subst}
 use Rattle.hv_task.specs.Strips.{Strips, IsTask, atoms}
 use Rattle.hv_lines.specs.Drafts.{IsGoodTable}
 use Rattle.hv_lines.specs.Judged.{Concludes}
 use Rattle.hv_lines.specs.declared.line.Line.{Line}
 use Rattle.hv_lines.proofs.Bools.{same_truth}
-use Rattle.hv_reach.specs.Written.{IsPairsProof, IsRelaxedProof, PairsExclude, RelaxedExcludes, horn_proof, pairs_formula, relaxed_formula}
+use Rattle.hv_reach.specs.Written.{IsPairsProof, IsRelaxedProof, PairsExclude, RelaxedExcludes}
+use Rattle.hv_reach.specs.Written.{horn_proof, pairs_formula, relaxed_formula}
 use Rattle.hv_reach.proofs.Block.{good_horn_proof, horn_concludes}
 use Rattle.hv_reach.proofs.Denials.{pairs_separates, relaxed_separates}
 
-pub relaxed_good : (task : Strips) (lines : List Line) → IsTask task → RelaxedExcludes task → IsRelaxedProof task lines
+pub relaxed_good : (task : Strips) (lines : List Line) → IsTask task → RelaxedExcludes task
+    → IsRelaxedProof task lines
     → IsGoodTable task lines
 relaxed_good task lines is_task out (r, each, is) =
     subst (IsGoodTable task) (sym is)
-    (good_horn_proof task is_task (relaxed_formula (atoms task) r) (relaxed_separates task r each is_task.few_atoms out))
+    (good_horn_proof task is_task (relaxed_formula (atoms task) r)
+    (relaxed_separates task r each is_task.few_atoms out))
 
-pub relaxed_ends : (task : Strips) (lines : List Line) → IsTask task → RelaxedExcludes task → IsRelaxedProof task lines → Concludes lines
+pub relaxed_ends : (task : Strips) (lines : List Line) → IsTask task → RelaxedExcludes task
+    → IsRelaxedProof task lines → Concludes lines
 relaxed_ends task lines is_task out (r, each, is) =
     subst Concludes (sym is)
-    (horn_concludes task is_task (relaxed_formula (atoms task) r) (relaxed_separates task r each is_task.few_atoms out))
+    (horn_concludes task is_task (relaxed_formula (atoms task) r)
+    (relaxed_separates task r each is_task.few_atoms out))
 
-pub pairs_good : (task : Strips) (lines : List Line) → IsTask task → atoms task ≤ 1024 → PairsExclude task → IsPairsProof task lines
+pub pairs_good : (task : Strips) (lines : List Line) → IsTask task → atoms task ≤ 1024
+    → PairsExclude task → IsPairsProof task lines
     → IsGoodTable task lines
 pairs_good task lines is_task few out (r, each, is) =
     subst (IsGoodTable task) (sym is)
-    (good_horn_proof task is_task (pairs_formula (atoms task) r) (pairs_separates task r each few out))
+    (good_horn_proof task is_task (pairs_formula (atoms task) r)
+    (pairs_separates task r each few out))
 
-pub pairs_end : (task : Strips) (lines : List Line) → IsTask task → atoms task ≤ 1024 → PairsExclude task → IsPairsProof task lines
+pub pairs_end : (task : Strips) (lines : List Line) → IsTask task → atoms task ≤ 1024
+    → PairsExclude task → IsPairsProof task lines
     → Concludes lines
 pairs_end task lines is_task few out (r, each, is) =
-    subst Concludes (sym is) (horn_concludes task is_task (pairs_formula (atoms task) r) (pairs_separates task r each few out))
+    subst Concludes (sym is) (horn_concludes task is_task (pairs_formula (atoms task) r)
+    (pairs_separates task r each few out))
 
-pub relaxed_size : (task : Strips) (lines : List Line) → IsRelaxedProof task lines → length lines ≡ 16
+pub relaxed_size : (task : Strips) (lines : List Line) → IsRelaxedProof task lines
+    → length lines ≡ 16
 relaxed_size task lines (r, each, is) = ap length is
 
 pub pairs_size : (task : Strips) (lines : List Line) → IsPairsProof task lines → length lines ≡ 16
 pairs_size task lines (r, each, is) = ap length is
 
-pub relaxed_once : (task : Strips) (x y : List Line) → IsRelaxedProof task x → IsRelaxedProof task y → x ≡ y
+pub relaxed_once : (task : Strips) (x y : List Line) → IsRelaxedProof task x → IsRelaxedProof task y
+    → x ≡ y
 relaxed_once task x y (r, tells, is) (s, also, at) =
-    let same : r ≡ s = λ i p. same_truth (r p) (s p) (λ h. (also p).1 ((tells p).0 h)) (λ h. (tells p).1 ((also p).0 h)) i in
+    let same : r ≡ s = λ i p. same_truth (r p) (s p) (λ h. (also p).1 ((tells p).0 h))
+    (λ h. (tells p).1 ((also p).0 h)) i in
     is ∙ (ap (λ t. horn_proof (relaxed_formula (atoms task) t)) same ∙ sym at)
 
-pub pairs_once : (task : Strips) (x y : List Line) → IsPairsProof task x → IsPairsProof task y → x ≡ y
+pub pairs_once : (task : Strips) (x y : List Line) → IsPairsProof task x → IsPairsProof task y
+    → x ≡ y
 pairs_once task x y (r, tells, is) (s, also, at) =
     let same : r ≡ s =
-    λ i p q. same_truth (r p q) (s p q) (λ h. (also p q).1 ((tells p q).0 h)) (λ h. (tells p q).1 ((also p q).0 h)) i in
+    λ i p q. same_truth (r p q) (s p q) (λ h. (also p q).1 ((tells p q).0 h))
+    (λ h. (tells p q).1 ((also p q).0 h)) i in
     is ∙ (ap (λ t. horn_proof (pairs_formula (atoms task) t)) same ∙ sym at)

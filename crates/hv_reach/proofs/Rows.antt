@@ -1,5 +1,6 @@
 -- Which actions ask for an atom.
-use Rattle.std.proofs.Common.{◌≡◌, ℕ, suc, ◌+◌, ◌<◌, ◌∙◌, List, [], ◌∷◌, ◌++◌, length, get_or, sym, ap, arith, inl, inr, subst, slice_get, Some}
+use Rattle.std.proofs.Common.{◌≡◌, ℕ, suc, ◌+◌, ◌<◌, ◌∙◌, List, [], ◌∷◌, ◌++◌, length, get_or, sym}
+use Rattle.std.proofs.Common.{ap, arith, inl, inr, subst, slice_get, Some}
 use Rattle.std.proofs.lemmas.List.{get_or_default}
 use Rattle.std.proofs.lemmas.Bool.{cases_lt}
 use Rattle.std.proofs.lemmas.List.Elements.{All-nil}
@@ -10,40 +11,52 @@ use Rattle.hv_task.specs.State.{AreBelow}
 use Rattle.hv_reach.specs.Working.Index.{IsIn, IsRange, RowsBelow}
 
 -- an empty row more
-pub rows_push : (bound : ℕ) (rows : List (Vec ℕ)) (v : Vec ℕ) → v.items ≡ [] → RowsBelow bound rows → RowsBelow bound (rows ++ v ∷ [])
-rows_push bound [] v e h Prim.Native.Nat.zero row is = let f : v ≡ row = cc in subst (λ xs. AreBelow bound xs) (sym e ∙ ap (λ (r : Vec ℕ). r.items) f) (All-nil (λ n. n < bound))
+pub rows_push : (bound : ℕ) (rows : List (Vec ℕ)) (v : Vec ℕ) → v.items ≡ [] → RowsBelow bound rows
+    → RowsBelow bound (rows ++ v ∷ [])
+rows_push bound [] v e h Prim.Native.Nat.zero row is = let f : v ≡ row = cc in
+    subst (λ xs. AreBelow bound xs) (sym e ∙ ap (λ (r : Vec ℕ). r.items) f)
+    (All-nil (λ n. n < bound))
 rows_push bound [] v e h (suc p) row is = absurd cc
 rows_push bound (r ∷ rows) v e h Prim.Native.Nat.zero row is = h Prim.Native.Nat.zero row is
 rows_push bound (r ∷ rows) v e h (suc p) row is = rows_push bound rows v e (λ q. h (suc q)) p row is
 
 -- the number is in the rows of the places so far
-pub entered_more : (old new : List (Vec ℕ)) (places : List ℕ) (i x n : ℕ) → i < length places → x ≡ get_or places i 0
+pub entered_more : (old new : List (Vec ℕ)) (places : List ℕ) (i x n : ℕ) → i < length places
+    → x ≡ get_or places i 0
     → ((p k : ℕ) → IsIn old p k → IsIn new p k) → IsIn new x n
-    → ((j : ℕ) → j < i → IsIn old (get_or places j 0) n) → (j : ℕ) → j < i + 1 → IsIn new (get_or places j 0) n
+    → ((j : ℕ) → j < i → IsIn old (get_or places j 0) n) → (j : ℕ) → j < i + 1
+    → IsIn new (get_or places j 0) n
 entered_more old new places i x n less e keeps here before j below =
     elim (cases_lt j i) [
       | inl lt ↦ keeps (get_or places j 0) n (before j lt)
-      | inr ge ↦ let same : i ≡ j = omega arith in subst (λ y. IsIn new (get_or places y 0) n) same (subst (λ y. IsIn new y n) e here)
+      | inr ge ↦ let same : i ≡ j = omega arith in
+          subst (λ y. IsIn new (get_or places y 0) n) same (subst (λ y. IsIn new y n) e here)
     ]
 
 -- the actions so far are in their rows
-pub indexed_more : (old new : List (Vec ℕ)) (actions : List Action) (n : ℕ) (b : Action) → slice_get actions n ≡ Some b
+pub indexed_more : (old new : List (Vec ℕ)) (actions : List Action) (n : ℕ) (b : Action)
+    → slice_get actions n ≡ Some b
     → ((p k : ℕ) → IsIn old p k → IsIn new p k) → All (λ p. IsIn new p n) b.pre
     → ((k : ℕ) (a : Action) → k < n → slice_get actions k ≡ Some a → All (λ p. IsIn old p k) a.pre)
-    → (k : ℕ) (a : Action) → k < n + 1 → slice_get actions k ≡ Some a → All (λ p. IsIn new p k) a.pre
+    → (k : ℕ) (a : Action) → k < n + 1 → slice_get actions k ≡ Some a
+    → All (λ p. IsIn new p k) a.pre
 indexed_more old new actions n b at keeps here before k a below is =
     elim (cases_lt k n) [
       | inl lt ↦ λ i d less. keeps (get_or a.pre i d) k (before k a lt is i d less)
       | inr ge ↦
           let same : n ≡ k = omega arith in
           let e : b ≡ a = let f = subst (λ m. slice_get actions m ≡ Some b) same at in cc in
-          subst (λ m. All (λ p. IsIn new p m) a.pre) same (subst (λ (x : Action). All (λ p. IsIn new p n) x.pre) e here)
+          subst (λ m. All (λ p. IsIn new p m) a.pre) same
+          (subst (λ (x : Action). All (λ p. IsIn new p n) x.pre) e here)
     ]
 
-pub past_more : (x : ℕ) (old new : List (Vec ℕ)) (actions : List Action) (n : ℕ) (b : Action) → slice_get actions n ≡ Some b
+pub past_more : (x : ℕ) (old new : List (Vec ℕ)) (actions : List Action) (n : ℕ) (b : Action)
+    → slice_get actions n ≡ Some b
     → ((p k : ℕ) → IsIn old p k → IsIn new p k) → (length b.pre ≡ 0 → IsIn new x n)
-    → ((k : ℕ) (a : Action) → k < n → slice_get actions k ≡ Some a → length a.pre ≡ 0 → IsIn old x k)
-    → (k : ℕ) (a : Action) → k < n + 1 → slice_get actions k ≡ Some a → length a.pre ≡ 0 → IsIn new x k
+    → ((k : ℕ) (a : Action) → k < n → slice_get actions k ≡ Some a → length a.pre ≡ 0
+    → IsIn old x k)
+    → (k : ℕ) (a : Action) → k < n + 1 → slice_get actions k ≡ Some a → length a.pre ≡ 0
+    → IsIn new x k
 past_more x old new actions n b at keeps here before k a below is none =
     elim (cases_lt k n) [
       | inl lt ↦ keeps x k (before k a lt is none)
@@ -56,4 +69,5 @@ past_more x old new actions n b at keeps here before k a below is none =
 pub range_below : (n : ℕ) (xs : List ℕ) → IsRange n xs → AreBelow n xs
 range_below n xs range = λ k d less.
     let size = range.size in
-    subst (λ y. y < n) (sym (range.each k (omega arith)) ∙ get_or_default xs k 0 d less) (omega arith)
+    subst (λ y. y < n) (sym (range.each k (omega arith)) ∙ get_or_default xs k 0 d less)
+    (omega arith)

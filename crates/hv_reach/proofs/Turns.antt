@@ -1,6 +1,9 @@
 -- The turns of the search for reached pairs.
-use Rattle.std.proofs.Common.{◌≡◌, ℕ, ◌+◌, ◌<◌, ◌≤◌, ◌∙◌, Bool, true, false, cond, ◌||◌, eqb, List, length, set, get_or, refl, sym, ap, arith, inl, inr, subst, slice_get, Some}
-use Rattle.std.proofs.lemmas.Bool.{cases_Bool, cases_eq, cases_lt, cond-true, cond-false, eq-eqb, ne_eqb, or_cases, or_parts}
+use Rattle.std.proofs.Common.{◌≡◌, ℕ, ◌+◌, ◌<◌, ◌≤◌, ◌∙◌, Bool, true, false, cond, ◌||◌, eqb, List}
+use Rattle.std.proofs.Common.{length, set, get_or, refl, sym, ap, arith, inl, inr, subst, slice_get}
+use Rattle.std.proofs.Common.{Some}
+use Rattle.std.proofs.lemmas.Bool.{cases_Bool, cases_eq, cases_lt, cond-true, cond-false, eq-eqb}
+use Rattle.std.proofs.lemmas.Bool.{ne_eqb, or_cases, or_parts}
 use Rattle.std.proofs.lemmas.List.Elements.{All-contains, Contains-get_or}
 use Rattle.std.proofs.lemmas.List.{length-set, get_or_default}
 use Rattle.std.specs.Global.{Vec}
@@ -13,33 +16,51 @@ use Rattle.hv_task.proofs.Listing.{within_state}
 use Rattle.hv_reach.proofs.Steps.{ready_step}
 use Rattle.hv_reach.specs.Working.Index.{IsIn, IsActionIndex}
 use Rattle.hv_reach.specs.Reached.{has_pair}
-use Rattle.hv_reach.specs.Working.Table.{HaveTheirPairs, HaveTheirPairsBut, IsPairStep, HasItsPairs, IsPairTable, IsTrigger, IsTurn, KeepAllPairs, missing_cells}
+use Rattle.hv_reach.specs.Working.Table.{HaveTheirPairs, HaveTheirPairsBut, IsPairStep, HasItsPairs}
+use Rattle.hv_reach.specs.Working.Table.{IsPairTable, IsTrigger, IsTurn, KeepAllPairs}
+use Rattle.hv_reach.specs.Working.Table.{missing_cells}
 
-pub turn_both : (n : ℕ) (a b c : List (List Bool)) (f g h : List Bool) (m k : Bool) → IsTurn n a f b g m → IsTurn n b g c h k → IsTurn n a f c h (m || k)
+pub turn_both : (n : ℕ) (a b c : List (List Bool)) (f g h : List Bool) (m k : Bool)
+    → IsTurn n a f b g m → IsTurn n b g c h k → IsTurn n a f c h (m || k)
 turn_both n a b c f g h m k s t = record {
   table = t.table;
   size = t.size ∙ s.size;
   grows = λ p q e. t.grows p q (s.grows p q e);
   still = λ e x d. let w = or_parts m k e in s.still w.0 x (t.still w.1 x d);
   fewer = let u = s.fewer in let v = t.fewer in omega arith;
-  falls = λ e. let u = s.fewer in let v = t.fewer in elim (or_cases m k e) [ inl o ↦ let z = s.falls o in omega arith | inr o ↦ let z = t.falls o in omega arith ];
+  falls = λ e. let u = s.fewer in let v = t.fewer in
+      elim (or_cases m k e) [
+        | inl o ↦ let z = s.falls o in
+            omega arith
+        | inr o ↦ let z = t.falls o in omega arith
+      ];
 }
 
 -- a flag that is raised after one was lowered is another one, and was raised before
-pub lowered_other : (flags : List Bool) (x y : ℕ) → has_atom (set flags x false) y ≡ true → (has_atom flags y ≡ true) × (x ≡ y → ⊥)
+pub lowered_other : (flags : List Bool) (x y : ℕ) → has_atom (set flags x false) y ≡ true
+    → (has_atom flags y ≡ true) × (x ≡ y → ⊥)
 lowered_other flags x y h =
-    let less : y < length flags = let w = within_state (set flags x false) y h in omega (arith, length-set flags x false) in
+    let less : y < length flags = let w = within_state (set flags x false) y h in
+    omega (arith, length-set flags x false) in
     let e = sym (has_atom-set flags x y false less) ∙ h in
     elim (cases_eq x y) [
-      | inl same ↦ let f = sym (cond-true (eqb x y) false (has_atom flags y) (eq-eqb x y same)) ∙ e in absurd cc
-      | inr other ↦ (sym (cond-false (eqb x y) false (has_atom flags y) (ne_eqb x y other)) ∙ e, other)
+      | inl same ↦ let f = sym (cond-true (eqb x y) false (has_atom flags y) (eq-eqb x y same))
+          ∙ e in absurd cc
+      | inr other ↦ (
+        sym (cond-false (eqb x y) false (has_atom flags y) (ne_eqb x y other))
+            ∙ e,
+        other,
+      )
     ]
 
-pub lowered_stays : (flags : List Bool) (x y : ℕ) → (x ≡ y → ⊥) → has_atom flags y ≡ true → has_atom (set flags x false) y ≡ true
+pub lowered_stays : (flags : List Bool) (x y : ℕ) → (x ≡ y → ⊥) → has_atom flags y ≡ true
+    → has_atom (set flags x false) y ≡ true
 lowered_stays flags x y other h =
-    has_atom-set flags x y false (within_state flags y h) ∙ (cond-false (eqb x y) false (has_atom flags y) (ne_eqb x y other) ∙ h)
+    has_atom-set flags x y false (within_state flags y h)
+    ∙ (cond-false (eqb x y) false (has_atom flags y) (ne_eqb x y other) ∙ h)
 
-pub turn_from_step : (n : ℕ) (old new : List (List Bool)) (flags raised : List Bool) (x : ℕ) (m : Bool) → IsPairStep n old (set flags x false) new raised m
+pub turn_from_step : (n : ℕ) (old new : List (List Bool)) (flags raised : List Bool) (x : ℕ)
+    (m : Bool) → IsPairStep n old (set flags x false) new raised m
     → IsTurn n old flags new raised m
 turn_from_step n old new flags raised x m step = record {
   table = step.table;
@@ -50,7 +71,8 @@ turn_from_step n old new flags raised x m step = record {
   falls = step.falls;
 }
 
-pub lowered_after : (n : ℕ) (old new : List (List Bool)) (flags raised : List Bool) (x : ℕ) (m : Bool) → IsPairStep n old (set flags x false) new raised m
+pub lowered_after : (n : ℕ) (old new : List (List Bool)) (flags raised : List Bool) (x : ℕ)
+    (m : Bool) → IsPairStep n old (set flags x false) new raised m
     → m ≡ false → has_atom raised x ≡ false
 lowered_after n old new flags raised x m step e =
     elim (cases_Bool (has_atom raised x)) [
@@ -59,8 +81,11 @@ lowered_after n old new flags raised x m step e =
     ]
 
 -- where a flag is lowered, each action is ready or one of those that the flag stands for
-pub ready_lowered : (n : ℕ) (actions : List Action) (index : List (Vec ℕ)) (row : Vec ℕ) (rows : List (List Bool)) (flags : List Bool) (x : ℕ)
-    → IsActionIndex n actions index → slice_get index x ≡ Some row → HaveTheirPairs n actions rows flags → HaveTheirPairsBut row.items 0 n actions rows (set flags x false)
+pub ready_lowered : (n : ℕ) (actions : List Action) (index : List (Vec ℕ)) (row : Vec ℕ)
+    (rows : List (List Bool)) (flags : List Bool) (x : ℕ)
+    → IsActionIndex n actions index → slice_get index x ≡ Some row
+    → HaveTheirPairs n actions rows flags
+    → HaveTheirPairsBut row.items 0 n actions rows (set flags x false)
 ready_lowered n actions index row rows flags x is_index at_row ready k a is =
     elim (ready k a is) [
       | inl keeps ↦ inl (inl keeps)
@@ -81,9 +106,12 @@ ready_lowered n actions index row rows flags x is_index at_row ready k a is =
         ]
 
 -- after a visit of one more
-pub ready_more : (n : ℕ) (actions : List Action) (numbers : List ℕ) (i x : ℕ) (old new : List (List Bool)) (flags raised : List Bool) (m : Bool) (b : Action)
-    → x ≡ get_or numbers i 0 → IsPairTable n old → IsPairStep n old flags new raised m → HaveTheirPairsBut numbers i n actions old flags
-    → slice_get actions x ≡ Some b → HasItsPairs n new raised b → HaveTheirPairsBut numbers (i + 1) n actions new raised
+pub ready_more : (n : ℕ) (actions : List Action) (numbers : List ℕ) (i x : ℕ)
+    (old new : List (List Bool)) (flags raised : List Bool) (m : Bool) (b : Action)
+    → x ≡ get_or numbers i 0 → IsPairTable n old → IsPairStep n old flags new raised m
+    → HaveTheirPairsBut numbers i n actions old flags
+    → slice_get actions x ≡ Some b → HasItsPairs n new raised b
+    → HaveTheirPairsBut numbers (i + 1) n actions new raised
 ready_more n actions numbers i x old new flags raised m b e table step before at_x here k a is =
     elim (cases_eq k x) [
       | inl same ↦
@@ -96,15 +124,19 @@ ready_more n actions numbers i x old new flags raised m b e table step before at
           ]
     ]
   where
-    later : (k ≡ x → ⊥) → (left : (j : ℕ) × (i ≤ j) × (j < length numbers) × (get_or numbers j 0 ≡ k)) → i + 1 ≤ left.0
+    later : (k ≡ x → ⊥) → (left : (j : ℕ) × (i ≤ j) × (j < length numbers)
+        × (get_or numbers j 0 ≡ k)) → i + 1 ≤ left.0
     later other left =
         elim (cases_eq i left.0) [
-          | inl same ↦ absurd (other (sym left.3 ∙ (ap (λ j. get_or numbers j 0) (sym same) ∙ sym e)))
+          | inl same ↦ absurd (other (sym left.3
+              ∙ (ap (λ j. get_or numbers j 0) (sym same) ∙ sym e)))
           | inr differ ↦ let f = left.1 in omega arith
         ]
 
-pub quiet_more : (n : ℕ) (old new : List (List Bool)) (flags raised : List Bool) (x : ℕ) (m k : Bool) → IsTurn n old flags new raised k
-    → (m ≡ false → (y : ℕ) → y < x → has_atom flags y ≡ false) → (k ≡ false → has_atom raised x ≡ false)
+pub quiet_more : (n : ℕ) (old new : List (List Bool)) (flags raised : List Bool) (x : ℕ)
+    (m k : Bool) → IsTurn n old flags new raised k
+    → (m ≡ false → (y : ℕ) → y < x → has_atom flags y ≡ false)
+    → (k ≡ false → has_atom raised x ≡ false)
     → (m || k) ≡ false → (y : ℕ) → y < x + 1 → has_atom raised y ≡ false
 quiet_more n old new flags raised x m k turn before here e y less =
     let w = or_parts m k e in
@@ -114,29 +146,37 @@ quiet_more n old new flags raised x m k turn before here e y less =
             | inl up ↦ let f = turn.still w.1 y up in let g = before w.0 y lt in absurd cc
             | inr down ↦ down
           ]
-      | inr ge ↦ let same : x ≡ y = omega arith in subst (λ z. has_atom raised z ≡ false) same (here w.1)
+      | inr ge ↦ let same : x ≡ y = omega arith in
+          subst (λ z. has_atom raised z ≡ false) same (here w.1)
     ]
 
 -- where no flag is raised, the table keeps all pairs
-pub keeps_quiet : (n : ℕ) (actions : List Action) (rows : List (List Bool)) (flags : List Bool) → length flags ≡ n + 1 → HaveTheirPairs n actions rows flags
+pub keeps_quiet : (n : ℕ) (actions : List Action) (rows : List (List Bool)) (flags : List Bool)
+    → length flags ≡ n + 1 → HaveTheirPairs n actions rows flags
     → ((x : ℕ) → x ≤ n → has_atom flags x ≡ false) → KeepAllPairs actions (has_pair rows)
 keeps_quiet n actions rows flags size ready quiet k a is =
     elim (ready k a is) [
       | inl keeps ↦ keeps
-      | inr w ↦ let less = within_state flags w.0 w.2 in let e = quiet w.0 (omega arith) in let f = w.2 in absurd cc
+      | inr w ↦ let less = within_state flags w.0 w.2 in let e = quiet w.0 (omega arith) in
+          let f = w.2 in absurd cc
     ]
 
 -- an atom of a list isn't left where the list doesn't name it
-pub unnamed_other : (list : List ℕ) (i q : ℕ) → i < length list → names_atom list q ≡ false → get_or list i 0 ≡ q → ⊥
-unnamed_other list i q less free e = let f = (names_atom-Decides list q).1 (subst (λ x. Contains list x) e (Contains-get_or list i 0 less)) in absurd cc
+pub unnamed_other : (list : List ℕ) (i q : ℕ) → i < length list → names_atom list q ≡ false
+    → get_or list i 0 ≡ q → ⊥
+unnamed_other list i q less free e = let f = (names_atom-Decides list q).1
+    (subst (λ x. Contains list x) e (Contains-get_or list i 0 less)) in absurd cc
 
-pub not_named : (list : List ℕ) (q : ℕ) → ((k : ℕ) → k < length list → get_or list k 0 ≡ q → ⊥) → names_atom list q ≡ false
+pub not_named : (list : List ℕ) (q : ℕ) → ((k : ℕ) → k < length list → get_or list k 0 ≡ q → ⊥)
+    → names_atom list q ≡ false
 not_named list q none = unnamed list q (λ c. none c.0 c.1 (get_or_default list c.0 0 q c.1 ∙ c.2))
 
 -- one atom more is taken out
 pub taken_more : (list : List ℕ) (i : ℕ) (first old : List Bool)
-    → ((q : ℕ) → has_atom old q ≡ true → (has_atom first q ≡ true) × ((k : ℕ) → k < i → get_or list k 0 ≡ q → ⊥))
-    → (q : ℕ) → has_atom (set old (get_or list i 0) false) q ≡ true → (has_atom first q ≡ true) × ((k : ℕ) → k < i + 1 → get_or list k 0 ≡ q → ⊥)
+    → ((q : ℕ) → has_atom old q ≡ true → (has_atom first q ≡ true)
+    × ((k : ℕ) → k < i → get_or list k 0 ≡ q → ⊥))
+    → (q : ℕ) → has_atom (set old (get_or list i 0) false) q ≡ true
+    → (has_atom first q ≡ true) × ((k : ℕ) → k < i + 1 → get_or list k 0 ≡ q → ⊥)
 taken_more list i first old before q h =
     let w = lowered_other old (get_or list i 0) q h in
     let b = before q w.0 in (
@@ -148,7 +188,8 @@ taken_more list i first old before q h =
     )
 
 -- a round with a turn that put pairs in leaves fewer missing, and one without is the last
-pub work_falls : (n : ℕ) (a b c : List (List Bool)) (f g h : List Bool) (m k : Bool) → IsTurn n a f b g m → IsTurn n b g c h k
+pub work_falls : (n : ℕ) (a b c : List (List Bool)) (f g h : List Bool) (m k : Bool)
+    → IsTurn n a f b g m → IsTurn n b g c h k
     → missing_cells c + cond k 1 0 < missing_cells a + 1
 work_falls n a b c f g h m true s t = let u = s.fewer in let v = t.falls refl in omega arith
 work_falls n a b c f g h m false s t = let u = s.fewer in let v = t.fewer in omega arith

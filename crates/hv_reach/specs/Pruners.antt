@@ -1,5 +1,6 @@
 -- What the pruners by reached atoms and by reached pairs cover, and what they write.
-use Rattle.std.specs.Prelude.{◌≡◌, ◌≤◌, ◌+◌, ◌↔◌, ℕ, Bool, true, List, Some, IfSome, length, slice_get}
+use Rattle.std.specs.Prelude.{◌≡◌, ◌≤◌, ◌+◌, ◌↔◌, ℕ, Bool, true, List, Some, IfSome, length}
+use Rattle.std.specs.Prelude.{slice_get}
 use Rattle.std.specs.List.{All}
 use Rattle.hv_task.specs.State.{has_atom}
 use Rattle.hv_task.specs.Strips.{Strips, IsState, atoms}
@@ -11,7 +12,8 @@ use Rattle.hv_lines.specs.declared.line.Expr.TheVariants as E
 use Rattle.hv_lines.specs.declared.line.Line.{Line}
 use Rattle.hv_lines.specs.declared.note.Note.{Note}
 use Rattle.hv_reach.specs.Reached.{IsWithin, ReachedAtom, ReachedPair, has_pair}
-use Rattle.hv_reach.specs.Written.{IsDenial, PairsExcludeFrom, RelaxedExcludesFrom, dead_block, pairs_formula, relaxed_formula}
+use Rattle.hv_reach.specs.Written.{IsDenial, PairsExcludeFrom, RelaxedExcludesFrom, dead_block}
+use Rattle.hv_reach.specs.Written.{pairs_formula, relaxed_formula}
 
 -- a state is covered by reached pairs in a task of at most 1,024 atoms alone
 abbrev pub PairsCover : Strips → List Bool → Type 0

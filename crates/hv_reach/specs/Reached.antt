@@ -1,7 +1,8 @@
 -- The atoms and the pairs of atoms that are reached from a state: least sets that have what the
 -- state holds and what actions give. Pairs as in Haslum and Geffner, Admissible Heuristics for
 -- Optimal Planning (2000).
-use Rattle.std.specs.Prelude.{◌≡◌, ℕ, Bool, true, false, List, [], ◌∷◌, Some, slice_get, slice_index_or}
+use Rattle.std.specs.Prelude.{◌≡◌, ℕ, Bool, true, false, List, [], ◌∷◌, Some, slice_get}
+use Rattle.std.specs.Prelude.{slice_index_or}
 use Rattle.std.specs.List.{All}
 use Rattle.hv_task.specs.declared.action.Action.{Action}
 use Rattle.hv_task.specs.State.{has_atom, names_atom}

@@ -1,13 +1,16 @@
 //! The atoms that are reached from a state.
 
-ghost use Rattle.std.specs.Prelude.{◌≡◌, ◌<◌, ◌≤◌, ◌↔◌, ◌⊎◌, ℕ, Bool, true, false, length, Some, IfOk, OnOk, slice_get, slice_index};
+ghost use Rattle.std.specs.Prelude.{◌≡◌, ◌<◌, ◌≤◌, ◌↔◌, ◌⊎◌, ℕ, Bool, true, false, length, Some};
+ghost use Rattle.std.specs.Prelude.{IfOk, OnOk, slice_get, slice_index};
 ghost use Rattle.std.specs.List.{Contains};
 ghost use Rattle.hv_task.specs.declared.action.Action.{Action};
 ghost use Rattle.hv_task.specs.State.{AreBelow, has_atom};
 ghost use Rattle.hv_task.specs.Strips.{IsState, atoms};
 ghost use Rattle.hv_reach.specs.Reached.{AreIn, Keeps, ReachedAtom};
 ghost use Rattle.hv_reach.specs.Working.Index.{IsActionIndex};
-ghost use Rattle.hv_reach.specs.Working.Waiting.{AreActionsSettled, AreActionsSettledBut, GrowsWithin, IsKeptSearch, IsActionSettled, GrowsQueued};
+ghost use Rattle.hv_reach.specs.Working.Waiting.{AreActionsSettled, AreActionsSettledBut};
+ghost use Rattle.hv_reach.specs.Working.Waiting.{GrowsWithin, IsKeptSearch, IsActionSettled};
+ghost use Rattle.hv_reach.specs.Working.Waiting.{GrowsQueued};
 
 use crate::index::{index, range};
 use hv_task::{AtomList, State, Task};
@@ -80,7 +83,8 @@ fn close(
     requires index { IsActionIndex (atoms task.now) task.now.actions rows.now.items }
     requires state { IsState task.now held.old }
     requires kept { IsKeptSearch task.now.actions held.old queue.old.items passed.old.items }
-    requires settled { AreActionsSettled task.now.actions held.old queue.old.items passed.old.items }
+    requires settled { AreActionsSettled task.now.actions held.old queue.old.items
+        passed.old.items }
     ensures size { OnOk result (length held.new ≡ length held.old) }
     ensures grows { OnOk result ((p : ℕ) → has_atom held.old p ≡ true
         → has_atom held.new p ≡ true) }

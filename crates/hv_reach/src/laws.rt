@@ -6,7 +6,8 @@ ghost use Rattle.hv_task.specs.Strips.{Strips, IsTask, atoms};
 ghost use Rattle.hv_lines.specs.Drafts.{IsGoodTable};
 ghost use Rattle.hv_lines.specs.Judged.{Concludes};
 ghost use Rattle.hv_lines.specs.declared.line.Line.{Line};
-ghost use Rattle.hv_reach.specs.Written.{IsModest, IsPairsProof, IsRelaxedProof, PairsExclude, PairsExcludeFrom, RelaxedExcludes, RelaxedExcludesFrom};
+ghost use Rattle.hv_reach.specs.Written.{IsModest, IsPairsProof, IsRelaxedProof, PairsExclude};
+ghost use Rattle.hv_reach.specs.Written.{PairsExcludeFrom, RelaxedExcludes, RelaxedExcludesFrom};
 
 /// Does nothing: its contract states that a task has one proof by its reached atoms, of sixteen
 /// lines, which is good and concludes where these exclude the goal. No query of it costs more than

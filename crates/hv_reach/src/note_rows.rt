@@ -1,7 +1,9 @@
 //! What was reached for each note, kept by atom too, so that the first note is found that has all
 //! atoms of a state.
 
-ghost use Rattle.std.specs.Prelude.{◌≡◌, ◌<◌, ◌≤◌, ◌+◌, ◌*◌, ◌∷◌, ◌++◌, [], ℕ, length, IfOk, MatchOption, OnOk, OnErr, slice_index_or, vec_capacity, vec_len};
+ghost use Rattle.std.specs.Prelude.{◌≡◌, ◌<◌, ◌≤◌, ◌+◌, ◌*◌, ◌∷◌, ◌++◌, [], ℕ, length, IfOk};
+ghost use Rattle.std.specs.Prelude.{MatchOption, OnOk, OnErr, slice_index_or, vec_capacity};
+ghost use Rattle.std.specs.Prelude.{vec_len};
 ghost use Rattle.hv_task.specs.State.{AreBelow};
 ghost use Rattle.hv_reach.specs.Working.NoteRows.{AreRowsIn, AreRowsOver, IsFirstPlace, RowHas};
 

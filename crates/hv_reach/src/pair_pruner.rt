@@ -1,11 +1,14 @@
 //! The pruner by reached pairs.
 
-ghost use Rattle.std.specs.Prelude.{◌≡◌, ◌≤◌, [], ◌↔◌, ℕ, true, IsTrue, IfOk, IfSome, IfNone, MatchOption, OnErr, is_some, length};
+ghost use Rattle.std.specs.Prelude.{◌≡◌, ◌≤◌, [], ◌↔◌, ℕ, true, IsTrue, IfOk, IfSome, IfNone};
+ghost use Rattle.std.specs.Prelude.{MatchOption, OnErr, is_some, length};
 ghost use Rattle.hv_task.specs.AtomList.{IsListOf};
 ghost use Rattle.hv_task.specs.Strips.{IsState, atoms};
 ghost use Rattle.hv_lines.specs.Drafts.{IsGoodTable};
-ghost use Rattle.hv_lines.specs.Pruning.{Extends, IsPrunerAnswer, IsDeadBy, IsFirstNoted, NoneNoted};
-ghost use Rattle.hv_reach.specs.Pruners.{AreDescribed, AreHornNotes, FitPairs, HoldsPairsOf, IsPairsBlock, PairsCover};
+ghost use Rattle.hv_lines.specs.Pruning.{Extends, IsPrunerAnswer, IsDeadBy, IsFirstNoted};
+ghost use Rattle.hv_lines.specs.Pruning.{NoneNoted};
+ghost use Rattle.hv_reach.specs.Pruners.{AreDescribed, AreHornNotes, FitPairs, HoldsPairsOf};
+ghost use Rattle.hv_reach.specs.Pruners.{IsPairsBlock, PairsCover};
 ghost use Rattle.hv_reach.specs.Working.Pruners.{AreDiagonals, IsOutcome};
 ghost use Rattle.hv_reach.specs.Reached.{ReachedPair, has_pair};
 

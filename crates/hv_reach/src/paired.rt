@@ -1,12 +1,14 @@
 //! The proof by the reached pairs.
 
-ghost use Rattle.std.specs.Prelude.{◌≡◌, ◌<◌, ◌≤◌, ◌↔◌, ◌++◌, ℕ, true, IsTrue, IfOk, IfErr, IfSome, OnOk, is_some, length};
+ghost use Rattle.std.specs.Prelude.{◌≡◌, ◌<◌, ◌≤◌, ◌↔◌, ◌++◌, ℕ, true, IsTrue, IfOk, IfErr, IfSome};
+ghost use Rattle.std.specs.Prelude.{OnOk, is_some, length};
 ghost use Rattle.hv_lines.specs.Drafts.{IsGoodTable};
 ghost use Rattle.hv_lines.specs.Judged.{Concludes};
 ghost use Rattle.hv_task.specs.Strips.{IsState, atoms};
 ghost use Rattle.hv_reach.specs.declared.fault.ReachFault.TheVariants as F;
 ghost use Rattle.hv_reach.specs.Reached.{ReachedPair, has_pair};
-ghost use Rattle.hv_reach.specs.Written.{IsPairsProof, PairsExclude, PairsExcludeFrom, pair_clauses, pairs_formula, row_clauses};
+ghost use Rattle.hv_reach.specs.Written.{IsPairsProof, PairsExclude, PairsExcludeFrom};
+ghost use Rattle.hv_reach.specs.Written.{pair_clauses, pairs_formula, row_clauses};
 
 use crate::fault::ReachFault;
 use crate::horn_proof::{denied, horn_proof};

@@ -1,12 +1,14 @@
 //! The proof by the reached atoms.
 
-ghost use Rattle.std.specs.Prelude.{◌≡◌, ◌<◌, ◌↔◌, ◌++◌, ℕ, true, IsTrue, IfOk, IfSome, OnOk, is_some, length};
+ghost use Rattle.std.specs.Prelude.{◌≡◌, ◌<◌, ◌↔◌, ◌++◌, ℕ, true, IsTrue, IfOk, IfSome, OnOk};
+ghost use Rattle.std.specs.Prelude.{is_some, length};
 ghost use Rattle.hv_lines.specs.Drafts.{IsGoodTable};
 ghost use Rattle.hv_lines.specs.Judged.{Concludes};
 ghost use Rattle.hv_task.specs.State.{has_atom};
 ghost use Rattle.hv_task.specs.Strips.{IsState, atoms};
 ghost use Rattle.hv_reach.specs.Reached.{ReachedAtom};
-ghost use Rattle.hv_reach.specs.Written.{IsRelaxedProof, RelaxedExcludes, RelaxedExcludesFrom, atom_clauses, relaxed_formula};
+ghost use Rattle.hv_reach.specs.Written.{IsRelaxedProof, RelaxedExcludes, RelaxedExcludesFrom};
+ghost use Rattle.hv_reach.specs.Written.{atom_clauses, relaxed_formula};
 
 use crate::atoms::reached_state;
 use crate::horn_proof::{denied, horn_proof};

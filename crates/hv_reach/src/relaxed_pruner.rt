@@ -1,11 +1,14 @@
 //! The pruner by reached atoms.
 
-ghost use Rattle.std.specs.Prelude.{◌≡◌, [], ◌↔◌, IsTrue, IfOk, IfSome, IfNone, MatchOption, OnErr, is_some};
+ghost use Rattle.std.specs.Prelude.{◌≡◌, [], ◌↔◌, IsTrue, IfOk, IfSome, IfNone, MatchOption, OnErr};
+ghost use Rattle.std.specs.Prelude.{is_some};
 ghost use Rattle.hv_task.specs.AtomList.{IsListOf};
 ghost use Rattle.hv_task.specs.Strips.{IsState};
 ghost use Rattle.hv_lines.specs.Drafts.{IsGoodTable};
-ghost use Rattle.hv_lines.specs.Pruning.{Extends, IsPrunerAnswer, IsDeadBy, IsFirstNoted, NoneNoted};
-ghost use Rattle.hv_reach.specs.Pruners.{AreDescribed, AreHornNotes, FitRelaxed, HoldsAtomsOf, IsRelaxedBlock};
+ghost use Rattle.hv_lines.specs.Pruning.{Extends, IsPrunerAnswer, IsDeadBy, IsFirstNoted};
+ghost use Rattle.hv_lines.specs.Pruning.{NoneNoted};
+ghost use Rattle.hv_reach.specs.Pruners.{AreDescribed, AreHornNotes, FitRelaxed, HoldsAtomsOf};
+ghost use Rattle.hv_reach.specs.Pruners.{IsRelaxedBlock};
 ghost use Rattle.hv_reach.specs.Working.Pruners.{IsOutcome};
 ghost use Rattle.hv_reach.specs.Written.{RelaxedExcludesFrom};
 

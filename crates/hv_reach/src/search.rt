@@ -6,7 +6,9 @@ ghost use Rattle.hv_task.specs.State.{AreBelow, has_atom};
 ghost use Rattle.hv_task.specs.Strips.{IsOver, atoms};
 ghost use Rattle.hv_reach.specs.Reached.{has_pair};
 ghost use Rattle.hv_reach.specs.Working.Index.{IsActionIndex};
-ghost use Rattle.hv_reach.specs.Working.Table.{HaveTheirPairs, HaveTheirPairsBut, IsPairStep, HasItsPairs, IsPairTable, IsTurn, KeepAllPairs, KeepsPairs, PairsGrowWithin};
+ghost use Rattle.hv_reach.specs.Working.Table.{HaveTheirPairs, HaveTheirPairsBut, IsPairStep};
+ghost use Rattle.hv_reach.specs.Working.Table.{HasItsPairs, IsPairTable, IsTurn, KeepAllPairs};
+ghost use Rattle.hv_reach.specs.Working.Table.{KeepsPairs, PairsGrowWithin};
 
 use crate::mask::{has_pairs, spared};
 use crate::table::{join_all, mark_all};

@@ -1,11 +1,13 @@
 //! Tables of pairs: a row of flags for each atom. A new pair raises the flags of its two atoms, and
 //! that of an atom with itself besides the flag past the atoms.
 
-ghost use Rattle.std.specs.Prelude.{◌≡◌, ◌<◌, ◌+◌, ◌⊎◌, ℕ, [], true, false, length, IfOk, slice_index_or};
+ghost use Rattle.std.specs.Prelude.{◌≡◌, ◌<◌, ◌+◌, ◌⊎◌, ℕ, [], true, false, length, IfOk};
+ghost use Rattle.std.specs.Prelude.{slice_index_or};
 ghost use Rattle.std.specs.List.{All};
 ghost use Rattle.hv_task.specs.State.{AreBelow, has_atom};
 ghost use Rattle.hv_reach.specs.Reached.{ArePaired, HasPairsOf, has_pair};
-ghost use Rattle.hv_reach.specs.Working.Table.{AreRaised, IsPairStep, IsNextNew, IsPairTable, PairsGrowWithin, set_at, set_both};
+ghost use Rattle.hv_reach.specs.Working.Table.{AreRaised, IsPairStep, IsNextNew, IsPairTable};
+ghost use Rattle.hv_reach.specs.Working.Table.{PairsGrowWithin, set_at, set_both};
 
 use hv_task::State;
 use std::alloc::{AllocError, Global};

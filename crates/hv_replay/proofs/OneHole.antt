@@ -16,14 +16,16 @@ same_first P i j p q =
     ]
 
 module _ (task : Strips) (log : SearchLog) (covered : List Bool → Type 0) where
-  pub closed_or_hole : (hole : ReplayFault) → IsClosed task log covered → IsFirstHole task log covered hole → ⊥
+  pub closed_or_hole : (hole : ReplayFault) → IsClosed task log covered
+      → IsFirstHole task log covered hole → ⊥
   closed_or_hole H.NoInitial c h = h c.followed.initial
   closed_or_hole (H.GoalExpanded line) c h = h.3.0 (c.followed.goalless h.1)
   closed_or_hole (H.Open line action) c h = h.4.0 (c.followed.leads h.2 action)
   closed_or_hole (H.Unjustified line) c h = h.3.0 (c.justified h.1)
   closed_or_hole H.Memory c h = h
 
-  same_open : (i j a b : ℕ) → IsFirstWithout (LeadsOn task log i) a → IsFirstWithout (LeadsOn task log j) b
+  same_open : (i j a b : ℕ) → IsFirstWithout (LeadsOn task log i) a
+      → IsFirstWithout (LeadsOn task log j) b
       → ((before number : ℕ) → before < i → LeadsOn task log before number)
       → ((before number : ℕ) → before < j → LeadsOn task log before number) → (i ≡ j) × (a ≡ b)
   same_open i j a b p q f g =
@@ -32,10 +34,14 @@ module _ (task : Strips) (log : SearchLog) (covered : List Bool → Type 0) wher
         | inl equal ↦ equal
         | inr (inl less) ↦ absurd (p.0 (g i a less))
         | inr (inr greater) ↦ absurd (q.0 (f j b greater))
-      ] in
-      (same, same_first (LeadsOn task log j) a b (subst (λ k. IsFirstWithout (LeadsOn task log k) a) same p) q)
+      ] in (
+        same,
+        same_first (LeadsOn task log j) a b
+            (subst (λ k. IsFirstWithout (LeadsOn task log k) a) same p) q,
+      )
 
-  pub one_hole : (f g : ReplayFault) → IsFirstHole task log covered f → IsFirstHole task log covered g → f ≡ g
+  pub one_hole : (f g : ReplayFault) → IsFirstHole task log covered f
+      → IsFirstHole task log covered g → f ≡ g
   one_hole H.NoInitial H.NoInitial p q = refl
   one_hole H.NoInitial (H.GoalExpanded n) p q = absurd (p q.0)
   one_hole H.NoInitial (H.Open n b) p q = absurd (p q.0)

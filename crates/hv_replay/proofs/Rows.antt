@@ -1,5 +1,6 @@
 -- Rows of actions.
-use Rattle.std.proofs.Common.{◌≡◌, ℕ, suc, ◌+◌, ◌<◌, ◌∙◌, List, [], ◌∷◌, ◌++◌, sym, ap, arith, inl, inr, subst, slice_get, Some}
+use Rattle.std.proofs.Common.{◌≡◌, ℕ, suc, ◌+◌, ◌<◌, ◌∙◌, List, [], ◌∷◌, ◌++◌, sym, ap, arith, inl}
+use Rattle.std.proofs.Common.{inr, subst, slice_get, Some}
 use Rattle.std.proofs.lemmas.Bool.{cases_lt}
 use Rattle.std.proofs.lemmas.List.Elements.{All-nil}
 use Rattle.std.specs.Global.{Vec}
@@ -8,21 +9,25 @@ use Rattle.hv_task.specs.State.{AreBelow}
 use Rattle.hv_replay.specs.Working.Waiting.{IsIn, IsUnder, RowsBelow}
 
 -- an empty row more
-pub rows_push : (bound : ℕ) (rows : List (Vec ℕ)) (v : Vec ℕ) → v.items ≡ [] → RowsBelow bound rows → RowsBelow bound (rows ++ v ∷ [])
+pub rows_push : (bound : ℕ) (rows : List (Vec ℕ)) (v : Vec ℕ) → v.items ≡ [] → RowsBelow bound rows
+    → RowsBelow bound (rows ++ v ∷ [])
 rows_push bound [] v e h Prim.Native.Nat.zero row is =
-    let f : v ≡ row = cc in subst (λ xs. AreBelow bound xs) (sym e ∙ ap (λ (r : Vec ℕ). r.items) f) (All-nil (λ n. n < bound))
+    let f : v ≡ row = cc in subst (λ xs. AreBelow bound xs) (sym e ∙ ap (λ (r : Vec ℕ). r.items) f)
+    (All-nil (λ n. n < bound))
 rows_push bound [] v e h (suc p) row is = absurd cc
 rows_push bound (r ∷ rows) v e h Prim.Native.Nat.zero row is = h Prim.Native.Nat.zero row is
 rows_push bound (r ∷ rows) v e h (suc p) row is = rows_push bound rows v e (λ q. h (suc q)) p row is
 
 -- what waits goes on to wait
-under_keeps : (atoms : ℕ) (places : List ℕ) (old new : List (Vec ℕ)) (k : ℕ) → ((p k : ℕ) → IsIn old p k → IsIn new p k)
+under_keeps : (atoms : ℕ) (places : List ℕ) (old new : List (Vec ℕ)) (k : ℕ)
+    → ((p k : ℕ) → IsIn old p k → IsIn new p k)
     → IsUnder atoms places old k → IsUnder atoms places new k
 under_keeps atoms places old new k keeps (inl (p, has, row)) = inl (p, has, keeps p k row)
 under_keeps atoms places old new k keeps (inr row) = inr (keeps atoms k row)
 
 -- the actions so far wait
-pub under_more : (atoms : ℕ) (old new : List (Vec ℕ)) (actions : List Action) (n : ℕ) (b : Action) → slice_get actions n ≡ Some b
+pub under_more : (atoms : ℕ) (old new : List (Vec ℕ)) (actions : List Action) (n : ℕ) (b : Action)
+    → slice_get actions n ≡ Some b
     → ((p k : ℕ) → IsIn old p k → IsIn new p k) → IsUnder atoms b.pre new n
     → ((k : ℕ) (a : Action) → k < n → slice_get actions k ≡ Some a → IsUnder atoms a.pre old k)
     → (k : ℕ) (a : Action) → k < n + 1 → slice_get actions k ≡ Some a → IsUnder atoms a.pre new k
@@ -32,5 +37,6 @@ under_more atoms old new actions n b at keeps here before k a below is =
       | inr ge ↦
           let same : n ≡ k = omega arith in
           let e : b ≡ a = let f = subst (λ m. slice_get actions m ≡ Some b) same at in cc in
-          subst (λ m. IsUnder atoms a.pre new m) same (subst (λ (x : Action). IsUnder atoms x.pre new n) e here)
+          subst (λ m. IsUnder atoms a.pre new m) same
+          (subst (λ (x : Action). IsUnder atoms x.pre new n) e here)
     ]

@@ -1,66 +1,90 @@
 -- Lists of which one element changes: what holds of some, of none and of all of their elements.
-use Rattle.std.proofs.Common.{Option, Some, None, MatchOption, Result, Ok, Err, IfNone, IfOk, IfSome, ◌++◌, take, ◌≡◌, ◌≢◌, ℕ, ◌+◌, ◌<◌, ◌≤◌, ◌∙◌, ◌↔◌, List, get_or, set, length, inl, inr, sym, ap, subst, arith}
+use Rattle.std.proofs.Common.{Option, Some, None, MatchOption, Result, Ok, Err, IfNone, IfOk}
+use Rattle.std.proofs.Common.{IfSome, ◌++◌, take, ◌≡◌, ◌≢◌, ℕ, ◌+◌, ◌<◌, ◌≤◌, ◌∙◌, ◌↔◌, List}
+use Rattle.std.proofs.Common.{get_or, set, length, inl, inr, sym, ap, subst, arith}
 use Rattle.std.specs.List.{All, AllWithin, Any}
 use Rattle.std.proofs.lemmas.Bool.{cases_order}
-use Rattle.std.proofs.lemmas.List.{get_or-set_other, get_or-set_same, get_or_default, length-set, take-append-le, take_all}
+use Rattle.std.proofs.lemmas.List.{get_or-set_other, get_or-set_same, get_or_default, length-set}
+use Rattle.std.proofs.lemmas.List.{take-append-le, take_all}
 use Rattle.std.proofs.lemmas.List.Elements.{All-set, AllWithin-more_set}
 
 -- an equivalence and a further one
 pub both : {A B C : Type 0} → A ↔ B → B ↔ C → A ↔ C
 both p q = (λ a. q.0 (p.0 a), λ c. p.1 (q.1 c))
 
-pub any_at : {X : Type 0} (xs : List X) (i : ℕ) (d : X) (P : X → Type 0) → i < length xs → P (get_or xs i d) → Any P xs
-any_at xs i d P within holds = (i, get_or xs i d, within, get_or_default xs i (get_or xs i d) d within, holds)
+pub any_at : {X : Type 0} (xs : List X) (i : ℕ) (d : X) (P : X → Type 0) → i < length xs
+    → P (get_or xs i d) → Any P xs
+any_at xs i d P within holds = (
+  i,
+  get_or xs i d,
+  within,
+  get_or_default xs i (get_or xs i d) d
+      within,
+  holds,
+)
 
-pub none_any : {X : Type 0} (xs : List X) (n : ℕ) (P : X → Type 0) → length xs ≤ n → AllWithin (λ x. P x → ⊥) xs 0 n → Any P xs → ⊥
+pub none_any : {X : Type 0} (xs : List X) (n : ℕ) (P : X → Type 0) → length xs ≤ n
+    → AllWithin (λ x. P x → ⊥) xs 0 n → Any P xs → ⊥
 none_any xs n P whole no_one (k, x, within, at, holds) =
     no_one k x (omega arith) (omega (arith, whole, within)) (subst P (sym at) holds)
 
-pub all_within : {X : Type 0} (xs : List X) (n : ℕ) (P : X → Type 0) → length xs ≤ n → AllWithin P xs 0 n → All P xs
+pub all_within : {X : Type 0} (xs : List X) (n : ℕ) (P : X → Type 0) → length xs ≤ n
+    → AllWithin P xs 0 n → All P xs
 all_within xs n P whole each = λ k d less. each k d (omega arith) (omega (arith, whole, less))
 
 -- the element at a place is replaced
-module _ {X : Type 0} (xs : List X) (i : ℕ) (d y : X) (P : X → Type 0) (within : i < length xs) where
-  any_to : (P y → P (get_or xs i d)) → Any P (set xs i y) → Any P xs
-  any_to to (k, x, less, at, holds) =
-      let size = length-set xs i y in
-      elim (cases_order k i) [
-        | inl same ↦
-            let is : y ≡ x = sym (get_or-set_same xs i y x within) ∙ (ap (λ j. get_or (set xs i y) j x) (sym same) ∙ at) in
-            any_at xs i d P within (to (subst P (sym is) holds))
-        | inr (inl lower) ↦
-            let no : k ≢ i = λ e. omega (arith, e, lower) in
-            (k, x, omega (arith, size, less), sym (get_or-set_other xs i k y x no) ∙ at, holds)
-        | inr (inr upper) ↦
-            let no : k ≢ i = λ e. omega (arith, e, upper) in
-            (k, x, omega (arith, size, less), sym (get_or-set_other xs i k y x no) ∙ at, holds)
-      ]
+module _ {X : Type 0} (xs : List X) (i : ℕ) (d y : X) (P : X → Type 0) (within : i < length xs)
+  where
+    any_to : (P y → P (get_or xs i d)) → Any P (set xs i y) → Any P xs
+    any_to to (k, x, less, at, holds) =
+        let size = length-set xs i y in
+        elim (cases_order k i) [
+          | inl same ↦
+              let is : y ≡ x = sym (get_or-set_same xs i y x within)
+              ∙ (ap (λ j. get_or (set xs i y) j x) (sym same) ∙ at) in
+              any_at xs i d P within (to (subst P (sym is) holds))
+          | inr (inl lower) ↦
+              let no : k ≢ i = λ e. omega (arith, e, lower) in
+              (k, x, omega (arith, size, less), sym (get_or-set_other xs i k y x no) ∙ at, holds)
+          | inr (inr upper) ↦
+              let no : k ≢ i = λ e. omega (arith, e, upper) in
+              (k, x, omega (arith, size, less), sym (get_or-set_other xs i k y x no) ∙ at, holds)
+        ]
 
-  any_back : (P (get_or xs i d) → P y) → Any P xs → Any P (set xs i y)
-  any_back back (k, x, less, at, holds) =
-      let size = length-set xs i y in
-      elim (cases_order k i) [
-        | inl same ↦
-            let is : get_or xs i d ≡ x = get_or_default xs i d x within ∙ (ap (λ j. get_or xs j x) (sym same) ∙ at) in
-            (i, y, omega (arith, size, within), get_or-set_same xs i y y within, back (subst P (sym is) holds))
-        | inr (inl lower) ↦
-            let no : k ≢ i = λ e. omega (arith, e, lower) in
-            (k, x, omega (arith, size, less), get_or-set_other xs i k y x no ∙ at, holds)
-        | inr (inr upper) ↦
-            let no : k ≢ i = λ e. omega (arith, e, upper) in
-            (k, x, omega (arith, size, less), get_or-set_other xs i k y x no ∙ at, holds)
-      ]
+    any_back : (P (get_or xs i d) → P y) → Any P xs → Any P (set xs i y)
+    any_back back (k, x, less, at, holds) =
+        let size = length-set xs i y in
+        elim (cases_order k i) [
+          | inl same ↦
+              let is : get_or xs i d ≡ x = get_or_default xs i d x within
+              ∙ (ap (λ j. get_or xs j x) (sym same) ∙ at) in (
+                i,
+                y,
+                omega (arith, size, within),
+                get_or-set_same xs i y y within,
+                back
+                    (subst P (sym is) holds),
+              )
+          | inr (inl lower) ↦
+              let no : k ≢ i = λ e. omega (arith, e, lower) in
+              (k, x, omega (arith, size, less), get_or-set_other xs i k y x no ∙ at, holds)
+          | inr (inr upper) ↦
+              let no : k ≢ i = λ e. omega (arith, e, upper) in
+              (k, x, omega (arith, size, less), get_or-set_other xs i k y x no ∙ at, holds)
+        ]
 
-  pub any_set : (P y ↔ P (get_or xs i d)) → Any P (set xs i y) ↔ Any P xs
-  any_set same = (any_to same.0, any_back same.1)
+    pub any_set : (P y ↔ P (get_or xs i d)) → Any P (set xs i y) ↔ Any P xs
+    any_set same = (any_to same.0, any_back same.1)
 
-  pub none_set : AllWithin (λ x. P x → ⊥) xs 0 i → (P y → ⊥) → AllWithin (λ x. P x → ⊥) (set xs i y) 0 (i + 1)
-  none_set no_one not_y = AllWithin-more_set xs i y within (λ x. P x → ⊥) no_one not_y
+    pub none_set : AllWithin (λ x. P x → ⊥) xs 0 i → (P y → ⊥)
+        → AllWithin (λ x. P x → ⊥) (set xs i y) 0 (i + 1)
+    none_set no_one not_y = AllWithin-more_set xs i y within (λ x. P x → ⊥) no_one not_y
 
-  pub each_set : AllWithin P xs 0 i → P y → AllWithin P (set xs i y) 0 (i + 1)
-  each_set each of_y = AllWithin-more_set xs i y within P each of_y
+    pub each_set : AllWithin P xs 0 i → P y → AllWithin P (set xs i y) 0 (i + 1)
+    each_set each of_y = AllWithin-more_set xs i y within P each of_y
 
-pub all_set : {X : Type 0} (xs : List X) (i : ℕ) (y : X) (P : X → Type 0) → P y → All P xs → All P (set xs i y)
+pub all_set : {X : Type 0} (xs : List X) (i : ℕ) (y : X) (P : X → Type 0) → P y → All P xs
+    → All P (set xs i y)
 all_set xs i y P of_y all = All-set P xs i y of_y all
 
 -- the same words, with the list before the test
@@ -75,22 +99,27 @@ EachBefore xs n P = AllWithin P xs 0 n
 
 -- whether one was found
 
-pub covered_some : {T : Type 0} (found : Option T) (one : T) (P : Type 0) → found ≡ Some one → MatchOption found (P → ⊥) (λ _. P) → P
+pub covered_some : {T : Type 0} (found : Option T) (one : T) (P : Type 0) → found ≡ Some one
+    → MatchOption found (P → ⊥) (λ _. P) → P
 covered_some found one P is covered = subst (λ f. MatchOption f (P → ⊥) (λ _. P)) is covered
 
-pub covered_none : {T : Type 0} (found : Option T) (P : Type 0) → found ≡ None → MatchOption found (P → ⊥) (λ _. P) → P → ⊥
+pub covered_none : {T : Type 0} (found : Option T) (P : Type 0) → found ≡ None
+    → MatchOption found (P → ⊥) (λ _. P) → P → ⊥
 covered_none found P is covered = subst (λ f. MatchOption f (P → ⊥) (λ _. P)) is covered
 
 pub found_none : {T : Type 0} (found : Option T) (P : Type 0) → found ≡ None → IfNone found P → P
 found_none found P is kept = subst (λ f. IfNone f P) is kept
 
-pub found_some : {T : Type 0} (found : Option T) (one : T) (P : T → Type 0) → found ≡ Some one → IfSome found P → P one
+pub found_some : {T : Type 0} (found : Option T) (one : T) (P : T → Type 0) → found ≡ Some one
+    → IfSome found P → P one
 found_some found one P is kept = subst (λ f. IfSome f P) is kept
 
-pub match_some : {T : Type 0} (found : Option T) (one : T) (A B : Type 0) → found ≡ Some one → MatchOption found A (λ _. B) → B
+pub match_some : {T : Type 0} (found : Option T) (one : T) (A B : Type 0) → found ≡ Some one
+    → MatchOption found A (λ _. B) → B
 match_some found one A B is h = subst (λ f. MatchOption f A (λ _. B)) is h
 
-pub match_none : {T : Type 0} (found : Option T) (A B : Type 0) → found ≡ None → MatchOption found A (λ _. B) → A
+pub match_none : {T : Type 0} (found : Option T) (A B : Type 0) → found ≡ None
+    → MatchOption found A (λ _. B) → A
 match_none found A B is h = subst (λ f. MatchOption f A (λ _. B)) is h
 
 -- a list that equals another, and one that was written back to its place
@@ -98,11 +127,14 @@ match_none found A B is h = subst (λ f. MatchOption f A (λ _. B)) is h
 pub over_list : {X : Type 0} (xs ys : List X) (F : List X → Type 0) → xs ≡ ys → F xs → F ys
 over_list xs ys F is holds = subst F is holds
 
-pub written_back : {X : Type 0} (n : ℕ) (new rest : List X) → length new ≡ n → take n (new ++ rest) ≡ new
-written_back n new rest size = take-append-le n new rest (omega (arith, size)) ∙ take_all n new (omega (arith, size))
+pub written_back : {X : Type 0} (n : ℕ) (new rest : List X) → length new ≡ n
+    → take n (new ++ rest) ≡ new
+written_back n new rest size = take-append-le n new rest (omega (arith, size))
+    ∙ take_all n new (omega (arith, size))
 
 -- what is told of a state is told of the same one by another list
-pub covered_at : {E A : Type 0} (r : Result (Option A) E) (Q : List ℕ → Type 0) (x y : List ℕ) (P : Type 0) → x ≡ y → P
+pub covered_at : {E A : Type 0} (r : Result (Option A) E) (Q : List ℕ → Type 0) (x y : List ℕ)
+    (P : Type 0) → x ≡ y → P
     → IfOk r (λ found. MatchOption found (Q x → ⊥) (λ _. Q x))
     → IfOk r (λ found. MatchOption found (P × (Q y → ⊥)) (λ _. P → Q y))
 covered_at (Ok None) Q x y P e p h = (p, λ q. h (subst Q (sym e) q))

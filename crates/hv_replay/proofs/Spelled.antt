@@ -1,5 +1,6 @@
 -- Sets of atoms have a spelling, and that of one state is short.
-use Rattle.std.proofs.Common.{◌≡◌, ℕ, zero, suc, ◌+◌, ◌*◌, ◌^◌, ◌<◌, ◌≤◌, List, [], ◌∷◌, length, map, get_or, decimal, refl, subst, arith}
+use Rattle.std.proofs.Common.{◌≡◌, ℕ, zero, suc, ◌+◌, ◌*◌, ◌^◌, ◌<◌, ◌≤◌, List, [], ◌∷◌, length}
+use Rattle.std.proofs.Common.{map, get_or, decimal, refl, subst, arith}
 use Rattle.std.proofs.lemmas.List.Elements.{All-head, All-tail}
 use Rattle.std.specs.List.{All}
 use Rattle.std.specs.List.Sorted.{IsStrictlyIncreasing}
@@ -22,25 +23,32 @@ at_least_place xs (suc k) rises below =
     subst (λ n. n ≤ get_or xs n 0) same (omega (arith, step, before))
 
 -- so a list that rises is no longer than its bound
-few_below : (n : ℕ) (xs : List ℕ) (size : ℕ) → size ≡ length xs → IsStrictlyIncreasing xs → AreBelow n xs → size ≤ n
+few_below : (n : ℕ) (xs : List ℕ) (size : ℕ) → size ≡ length xs → IsStrictlyIncreasing xs
+    → AreBelow n xs → size ≤ n
 few_below n xs zero is rises below = omega arith
 few_below n xs (suc k) is rises below =
     let within : k < length xs = omega (arith, is) in
     omega (arith, at_least_place xs k rises within, below k 0 within)
 
-pub atom_set_few : (task : Strips) (held : List ℕ) → IsAtomSet (atoms task) held → length held ≤ atoms task
+pub atom_set_few : (task : Strips) (held : List ℕ) → IsAtomSet (atoms task) held
+    → length held ≤ atoms task
 atom_set_few task held is = few_below (atoms task) held (length held) refl is.rises is.below
 
-pub atom_set_rising : (task : Strips) (held : List ℕ) → IsTask task → IsAtomSet (atoms task) held → IsRising held
+pub atom_set_rising : (task : Strips) (held : List ℕ) → IsTask task → IsAtomSet (atoms task) held
+    → IsRising held
 atom_set_rising task held is_task is = record {
   short = λ k d within. let below = is.below k d within in omega (arith, below, is_task.few_atoms);
   rising = is.rises;
 }
 
-pub states_fit : (task : Strips) (states : List (List ℕ)) → IsTask task → All (IsAtomSet (atoms task)) states → length states ≤ 1000000
+pub states_fit : (task : Strips) (states : List (List ℕ)) → IsTask task
+    → All (IsAtomSet (atoms task)) states → length states ≤ 1000000
     → ExprFits (E.States states)
-states_fit task states is_task are few =
-    (omega (arith, few), λ k d within. atom_set_rising task (get_or states k d) is_task (are k d within))
+states_fit task states is_task are few = (
+  omega (arith, few),
+  λ k d within. atom_set_rising task (get_or states k d) is_task
+      (are k d within),
+)
 
 decimals_short : (ns : List ℕ) → All FitsShortDecimal ns → weight (map decimal ns) ≤ 19 * length ns
 decimals_short [] fit = omega arith
@@ -50,7 +58,8 @@ decimals_short (n ∷ ns) fit =
     omega (arith, decimal_short n wide, decimals_short ns (All-tail FitsShortDecimal n ns fit))
 
 -- the line of one state is short
-pub short_state : (task : Strips) (id : ℕ) (held : List ℕ) → IsTask task → IsAtomSet (atoms task) held → FitsDecimal id
+pub short_state : (task : Strips) (id : ℕ) (held : List ℕ) → IsTask task
+    → IsAtomSet (atoms task) held → FitsDecimal id
     → IsShortLine (L.Expr id (E.States (held ∷ [])))
 short_state task id held is_task is at =
     short_by (L.Expr id (E.States (held ∷ [])))

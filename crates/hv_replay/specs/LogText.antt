@@ -1,9 +1,11 @@
 -- Logs as texts: which pieces of a file are the text of a log, and otherwise their first fault.
-use Rattle.std.specs.Prelude.{◌≡◌, ◌<◌, ◌++◌, ℕ, List, [], ◌∷◌, None, Some, Result, Ok, Err, codes, map}
+use Rattle.std.specs.Prelude.{◌≡◌, ◌<◌, ◌++◌, ℕ, List, [], ◌∷◌, None, Some, Result, Ok, Err, codes}
+use Rattle.std.specs.Prelude.{map}
 use Rattle.hv_bytes.specs.Pieces.{ComesNext, Piece, as_pieces, pieces_of}
 use Rattle.hv_bytes.specs.Standard.{most_line_bytes}
 use Rattle.hv_bytes.specs.declared.cutting.Limits.{Limits}
-use Rattle.hv_replay.specs.Logs.{IsLogEntry, IsLog, SearchLog, entry_line, expanded_count, pruned_count}
+use Rattle.hv_replay.specs.Logs.{IsLogEntry, IsLog, SearchLog, entry_line, expanded_count}
+use Rattle.hv_replay.specs.Logs.{pruned_count}
 use Rattle.hv_replay.specs.declared.fault.LogFault.{LogFault}
 use Rattle.hv_replay.specs.declared.fault.LogFault.TheVariants as F
 use Rattle.hv_replay.specs.declared.fault.LogLimit.{LogLimit}

@@ -1,5 +1,6 @@
 -- Logs of a search: the states that it expanded and those that it pruned, in order.
-use Rattle.std.specs.Prelude.{◌≡◌, ◌≤◌, ℕ, Bool, true, false, List, ◌∷◌, Some, codes, decimal, length, map, not, slice_get}
+use Rattle.std.specs.Prelude.{◌≡◌, ◌≤◌, ℕ, Bool, true, false, List, ◌∷◌, Some, codes, decimal}
+use Rattle.std.specs.Prelude.{length, map, not, slice_get}
 use Rattle.std.specs.List.{All, count_by, join_with_byte, sum_by}
 use Rattle.std.specs.List.Sorted.{IsStrictlyIncreasing}
 use Rattle.hv_task.specs.State.{AreBelow}

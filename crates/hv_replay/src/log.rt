@@ -1,9 +1,11 @@
 //! Logs of a search.
 
-ghost use Rattle.std.specs.Prelude.{◌≡◌, ◌<◌, ◌≤◌, [], ◌∷◌, ◌++◌, Some, length, slice_get, IfOk, OnErr, OnOk};
+ghost use Rattle.std.specs.Prelude.{◌≡◌, ◌<◌, ◌≤◌, [], ◌∷◌, ◌++◌, Some, length, slice_get, IfOk};
+ghost use Rattle.std.specs.Prelude.{OnErr, OnOk};
 ghost use Rattle.hv_task.specs.Strips.{atoms};
 ghost use Rattle.hv_replay.specs.Working.Following.{ListsLog};
-ghost use Rattle.hv_replay.specs.Logs.{AreFew, IsAtomSet, IsLogEntry, IsLog, StandsInLog, listed_bytes};
+ghost use Rattle.hv_replay.specs.Logs.{AreFew, IsAtomSet, IsLogEntry, IsLog, StandsInLog};
+ghost use Rattle.hv_replay.specs.Logs.{listed_bytes};
 ghost use Rattle.hv_replay.specs.Working.Logs.{no_entries};
 ghost use Rattle.hv_replay.specs.declared.log.Entry.{Entry};
 

@@ -1,6 +1,7 @@
 //! Proofs of logs.
 
-ghost use Rattle.std.specs.Prelude.{◌≡◌, ◌<◌, ◌++◌, ◌∷◌, ℕ, false, [], List, IfErr, IfOk, IfSome, MatchOption, OnOk, length};
+ghost use Rattle.std.specs.Prelude.{◌≡◌, ◌<◌, ◌++◌, ◌∷◌, ℕ, false, [], List, IfErr, IfOk, IfSome};
+ghost use Rattle.std.specs.Prelude.{MatchOption, OnOk, length};
 ghost use Rattle.std.specs.List.{All, Any};
 ghost use Rattle.hv_task.specs.State.{state_of};
 ghost use Rattle.hv_task.specs.Strips.{IsState, atoms};

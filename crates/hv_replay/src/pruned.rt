@@ -1,6 +1,7 @@
 //! The lines by which a pruned state is dead, beside those before it.
 
-ghost use Rattle.std.specs.Prelude.{◌≡◌, ◌<◌, ◌≤◌, ◌+◌, ◌^◌, ◌∷◌, [], ℕ, Bool, List, Some, IfOk, OnErr};
+ghost use Rattle.std.specs.Prelude.{◌≡◌, ◌<◌, ◌≤◌, ◌+◌, ◌^◌, ◌∷◌, [], ℕ, Bool, List, Some, IfOk};
+ghost use Rattle.std.specs.Prelude.{OnErr};
 ghost use Rattle.hv_task.specs.State.{AreBelow, state_of};
 ghost use Rattle.hv_task.specs.Strips.{atoms};
 ghost use Rattle.hv_lines.specs.Drafts.{IsGoodTable, onto};

@@ -1,7 +1,8 @@
 //! The rules whose conclusion is an inclusion of sets, without progressions and regressions.
 
 ghost use Rattle.std.specs.Prelude.{◌↔◌, IsTrue};
-ghost use Rattle.hv_lines.specs.Rules.{FitsUr, FitsUl, FitsIr, FitsIl, FitsDi, FitsSu, FitsSi, FitsSt};
+ghost use Rattle.hv_lines.specs.Rules.{FitsUr, FitsUl, FitsIr, FitsIl, FitsDi, FitsSu, FitsSi};
+ghost use Rattle.hv_lines.specs.Rules.{FitsSt};
 ghost use Rattle.hv_rules.specs.Working.Standing.{StandsIn};
 
 use crate::look::says;

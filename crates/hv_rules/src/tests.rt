@@ -1,6 +1,7 @@
 //! Of each rule a row that fits, and rows with one letter wrong.
 ghost use Rattle.std.specs.Prelude.{◌↔◌, IsTrue};
-ghost use Rattle.hv_lines.specs.Numbering.{acts_count, expr_count, ActsReferBelow, ExprRefersBelow, SpeaksBelow};
+ghost use Rattle.hv_lines.specs.Numbering.{acts_count, expr_count, ActsReferBelow, ExprRefersBelow};
+ghost use Rattle.hv_lines.specs.Numbering.{SpeaksBelow};
 
 use crate::{is_rule, rule_fits};
 use hv_lines::{ActionList, Acts, Constant, Expr, Line, Premises, Statement, Table, Word};

@@ -1,9 +1,13 @@
 -- Cubes: where the literal of an atom stands, and a literal put in.
-use Rattle.std.proofs.Common.{◌≡◌, ℕ, ◌-◌, ◌<◌, ◌≤◌, ◌∙◌, ◌⊎◌, ◌↔◌, Bool, true, false, not, List, [], ◌∷◌, ◌++◌, length, get_or, take, drop, refl, sym, ap, ap₂, arith, ltb, ltb-true, ltb-false, if◌then◌else◌, inl, inr, Ok, Err, subst}
+use Rattle.std.proofs.Common.{◌≡◌, ℕ, ◌-◌, ◌<◌, ◌≤◌, ◌∙◌, ◌⊎◌, ◌↔◌, Bool, true, false, not, List}
+use Rattle.std.proofs.Common.{[], ◌∷◌, ◌++◌, length, get_or, take, drop, refl, sym, ap, ap₂, arith}
+use Rattle.std.proofs.Common.{ltb, ltb-true, ltb-false, if◌then◌else◌, inl, inr, Ok, Err, subst}
 use Rattle.std.proofs.lemmas.Bool.{cases_lt, cases_order}
-use Rattle.std.proofs.lemmas.List.{get_or_default, get_or-map, length-map, map-append, take-append-drop, take-map, drop-map}
+use Rattle.std.proofs.lemmas.List.{get_or_default, get_or-map, length-map, map-append}
+use Rattle.std.proofs.lemmas.List.{take-append-drop, take-map, drop-map}
 use Rattle.std.proofs.lemmas.List.Edits.{get_or-insert_at, length-insert}
-use Rattle.std.proofs.lemmas.List.Elements.{Contains-append_left, Contains-append_right, Contains-append_cases, Contains-push_cases}
+use Rattle.std.proofs.lemmas.List.Elements.{Contains-append_left, Contains-append_right}
+use Rattle.std.proofs.lemmas.List.Elements.{Contains-append_cases, Contains-push_cases}
 use Rattle.std.proofs.Math.Bool.{beq}
 use Rattle.std.specs.Cmp.{booleans_Decides}
 use Rattle.std.specs.List.{Contains, insert}
@@ -15,10 +19,12 @@ use Rattle.hv_sets.specs.Cubes.{Adds, atoms_of, opposite}
 use Rattle.hv_sets.specs.Working.Cubes.{IsFirstUpto}
 
 -- the atom at the first place that isn't less is the one, or the atom is absent
-pub place_here : (atoms : List ℕ) (atom place : ℕ) → place < length atoms → get_or atoms place 0 ≡ atom → IsPlaceOf atoms atom (Ok place)
+pub place_here : (atoms : List ℕ) (atom place : ℕ) → place < length atoms
+    → get_or atoms place 0 ≡ atom → IsPlaceOf atoms atom (Ok place)
 place_here atoms atom place within e = (within, e)
 
-pub place_absent : (atoms : List ℕ) (atom place : ℕ) → IsStrictlyIncreasing atoms → IsFirstUpto atoms atom place
+pub place_absent : (atoms : List ℕ) (atom place : ℕ) → IsStrictlyIncreasing atoms
+    → IsFirstUpto atoms atom place
     → (place < length atoms → get_or atoms place 0 ≡ atom → ⊥) → IsPlaceOf atoms atom (Err place)
 place_absent atoms atom place rises first other = (
   first.0,
@@ -41,7 +47,8 @@ place_absent atoms atom place rises first other = (
 )
 
 -- the atom of the literal at a place
-pub atom_at : (xs : List Literal) (k : ℕ) (d : Literal) → k < length xs → get_or (atoms_of xs) k 0 ≡ (get_or xs k d).atom
+pub atom_at : (xs : List Literal) (k : ℕ) (d : Literal) → k < length xs
+    → get_or (atoms_of xs) k 0 ≡ (get_or xs k d).atom
 atom_at xs k d within = get_or-map (λ l. l.atom) xs k d 0 within
 
 module _ (xs : List Literal) (l : Literal) (place : ℕ) where
@@ -49,9 +56,11 @@ module _ (xs : List Literal) (l : Literal) (place : ℕ) where
   atoms_insert : atoms_of (insert xs place l) ≡ insert (atoms_of xs) place l.atom
   atoms_insert =
       map-append (λ l. l.atom) (take place xs) (l ∷ drop place xs)
-      ∙ ap₂ (λ a b. a ++ l.atom ∷ b) (sym (take-map (λ l. l.atom) place xs)) (sym (drop-map (λ l. l.atom) place xs))
+      ∙ ap₂ (λ a b. a ++ l.atom ∷ b) (sym (take-map (λ l. l.atom) place xs))
+      (sym (drop-map (λ l. l.atom) place xs))
 
-  module _ (rises : IsStrictlyIncreasing (atoms_of xs)) (fits : IsPlaceOf (atoms_of xs) l.atom (Err place)) where
+  module _ (rises : IsStrictlyIncreasing (atoms_of xs))
+      (fits : IsPlaceOf (atoms_of xs) l.atom (Err place)) where
     within : place ≤ length xs
     within = let size = length-map xs (λ (l : Literal). l.atom) in omega (arith, fits.0)
 
@@ -59,27 +68,37 @@ module _ (xs : List Literal) (l : Literal) (place : ℕ) where
     has_insert : (a : Literal) → Contains (insert xs place l) a ↔ (Contains xs a ⊎ (a ≡ l))
     has_insert a = (
       λ c. elim (Contains-append_cases (take place xs) (l ∷ drop place xs) a c) [
-        | inl front ↦ inl (subst (λ ys. Contains ys a) (take-append-drop place xs) (Contains-append_left (take place xs) (drop place xs) a front))
+        | inl front ↦ inl (subst (λ ys. Contains ys a) (take-append-drop place xs)
+            (Contains-append_left (take place xs) (drop place xs) a front))
         | inr back ↦
             elim (Contains-append_cases (l ∷ []) (drop place xs) a back) [
-              | inl alone ↦ elim (Contains-push_cases [] l a alone) [ inl none ↦ absurd (omega (arith, none.1)) | inr e ↦ inr (sym e) ]
-              | inr rest ↦ inl (subst (λ ys. Contains ys a) (take-append-drop place xs) (Contains-append_right (take place xs) (drop place xs) a rest))
+              | inl alone ↦ elim (Contains-push_cases [] l a alone)
+                  [ inl none ↦ absurd (omega (arith, none.1)) | inr e ↦ inr (sym e) ]
+              | inr rest ↦ inl (subst (λ ys. Contains ys a) (take-append-drop place xs)
+                  (Contains-append_right (take place xs) (drop place xs) a rest))
             ]
       ],
       λ e. elim e [
         | inl old ↦
-            let parts : Contains (take place xs ++ drop place xs) a = subst (λ ys. Contains ys a) (sym (take-append-drop place xs)) old in
+            let parts : Contains (take place xs ++ drop place xs) a = subst
+            (λ ys. Contains ys a) (sym (take-append-drop place xs)) old in
             elim (Contains-append_cases (take place xs) (drop place xs) a parts) [
               | inl front ↦ Contains-append_left (take place xs) (l ∷ drop place xs) a front
-              | inr back ↦ Contains-append_right (take place xs) (l ∷ drop place xs) a (Contains-append_right (l ∷ []) (drop place xs) a back)
+              | inr back ↦ Contains-append_right (take place xs) (l ∷ drop place xs) a
+                  (Contains-append_right (l ∷ []) (drop place xs) a back)
             ]
-        | inr same ↦
-            (place, omega (arith, length-insert xs place l within, within), get_or-insert_at xs place l a within ∙ sym same)
+        | inr same ↦ (
+          place,
+          omega (arith, length-insert xs place l within, within),
+          get_or-insert_at xs
+              place l a within ∙ sym same,
+        )
       ],
     )
 
     pub rises_insert : IsStrictlyIncreasing (atoms_of (insert xs place l))
-    rises_insert = subst IsStrictlyIncreasing (sym atoms_insert) (Inserts-insert (atoms_of xs) l.atom place rises fits).rises
+    rises_insert = subst IsStrictlyIncreasing (sym atoms_insert)
+        (Inserts-insert (atoms_of xs) l.atom place rises fits).rises
 
     -- it is put in
     pub Adds-insert : Adds xs l (insert xs place l)
@@ -89,7 +108,8 @@ module _ (xs : List Literal) (l : Literal) (place : ℕ) where
     pub none_of_atom : (m : Literal) → m.atom ≡ l.atom → Contains xs m → ⊥
     none_of_atom m one_atom c =
         let size = length-map xs (λ (l : Literal). l.atom) in
-        let at : get_or (atoms_of xs) c.0 0 ≡ l.atom = atom_at xs c.0 m c.1 ∙ (ap (λ m. m.atom) c.2 ∙ one_atom) in
+        let at : get_or (atoms_of xs) c.0 0 ≡ l.atom = atom_at xs c.0 m c.1
+        ∙ (ap (λ m. m.atom) c.2 ∙ one_atom) in
         elim (cases_lt c.0 place) [
           | inl less ↦ let below = fits.1 c.0 less in absurd (omega arith)
           | inr upto ↦ let above = fits.2 c.0 upto (omega (arith, c.1)) in absurd (omega arith)
@@ -99,7 +119,8 @@ module _ (xs : List Literal) (l : Literal) (place : ℕ) where
     pub no_opposite : Contains xs (opposite l) → ⊥
     no_opposite c = none_of_atom (opposite l) refl c
 
-  module _ (rises : IsStrictlyIncreasing (atoms_of xs)) (fits : IsPlaceOf (atoms_of xs) l.atom (Ok place)) (here : Literal)
+  module _ (rises : IsStrictlyIncreasing (atoms_of xs))
+      (fits : IsPlaceOf (atoms_of xs) l.atom (Ok place)) (here : Literal)
       (is : get_or xs place here ≡ here) where
     stands : place < length xs
     stands = let size = length-map xs (λ (l : Literal). l.atom) in omega (arith, fits.0)
@@ -111,12 +132,16 @@ module _ (xs : List Literal) (l : Literal) (place : ℕ) where
     only : (a : Literal) → a.atom ≡ l.atom → Contains xs a → here ≡ a
     only a e c =
         let size = length-map xs (λ (l : Literal). l.atom) in
-        let at : get_or (atoms_of xs) c.0 0 ≡ l.atom = atom_at xs c.0 a c.1 ∙ (ap (λ m. m.atom) c.2 ∙ e) in
+        let at : get_or (atoms_of xs) c.0 0 ≡ l.atom = atom_at xs c.0 a c.1
+        ∙ (ap (λ m. m.atom) c.2 ∙ e) in
         elim (cases_order c.0 place) [
           | inl same ↦
-              sym is ∙ (get_or_default xs place here a stands ∙ (ap (λ k. get_or xs k a) (sym same) ∙ c.2))
-          | inr (inl less) ↦ let apart = rises_apart (atoms_of xs) c.0 place rises less fits.0 in absurd (omega (arith, fits.1))
-          | inr (inr more) ↦ let apart = rises_apart (atoms_of xs) place c.0 rises more (omega (arith, c.1)) in absurd (omega (arith, fits.1))
+              sym is ∙ (get_or_default xs place here a stands
+              ∙ (ap (λ k. get_or xs k a) (sym same) ∙ c.2))
+          | inr (inl less) ↦ let apart = rises_apart (atoms_of xs) c.0 place rises less fits.0 in
+              absurd (omega (arith, fits.1))
+          | inr (inr more) ↦ let apart = rises_apart (atoms_of xs) place c.0 rises more
+              (omega (arith, c.1)) in absurd (omega (arith, fits.1))
         ]
 
     -- it stands there
@@ -129,7 +154,12 @@ module _ (xs : List Literal) (l : Literal) (place : ℕ) where
             λ c. inl c,
             λ e. elim e [
               | inl c ↦ c
-              | inr it ↦ (place, stands, get_or_default xs place a here stands ∙ (is ∙ (same ∙ sym it)))
+              | inr it ↦ (
+                place,
+                stands,
+                get_or_default xs place a here stands
+                    ∙ (is ∙ (same ∙ sym it)),
+              )
             ],
           );
         }
@@ -158,7 +188,8 @@ module _ (xs : List Literal) (l : Literal) (place : ℕ) where
     -- so a test of the signs tells whether the opposite stands there
     pub opposite_test : (beq here.positive l.positive ≡ false) ↔ Contains xs (opposite l)
     opposite_test = (
-      λ e. opposite_there (λ same. let t = (booleans_Decides here.positive l.positive).1 same in absurd cc),
+      λ e. opposite_there (λ same. let t = (booleans_Decides here.positive l.positive).1 same in
+          absurd cc),
       λ there. from_not_true (beq here.positive l.positive)
           (λ t. opposite_not_there ((booleans_Decides here.positive l.positive).0 t) there),
     )
@@ -168,27 +199,32 @@ module _ (xs : List Literal) (l : Literal) (place : ℕ) where
         from_not_true false f = refl
 
 -- they rise whether the literal was put in or not
-pub rises_either : (done : Bool) (xs : List Literal) (l : Literal) (place : ℕ) (new : List Literal) → IsStrictlyIncreasing (atoms_of xs)
+pub rises_either : (done : Bool) (xs : List Literal) (l : Literal) (place : ℕ) (new : List Literal)
+    → IsStrictlyIncreasing (atoms_of xs)
     → IsPlaceOf (atoms_of xs) l.atom (Err place) → new ≡ (if done then insert xs place l else xs)
     → IsStrictlyIncreasing (atoms_of new)
 rises_either true xs l place new rises fits e =
     subst (λ ys. IsStrictlyIncreasing (atoms_of ys)) (sym e) (rises_insert xs l place rises fits)
-rises_either false xs l place new rises fits e = subst (λ ys. IsStrictlyIncreasing (atoms_of ys)) (sym e) rises
+rises_either false xs l place new rises fits e = subst
+    (λ ys. IsStrictlyIncreasing (atoms_of ys)) (sym e) rises
 
 -- where the atoms rise none is less than one before it
-pub never_falls : (xs : List Literal) → IsStrictlyIncreasing (atoms_of xs) → IsNonDecreasingBy (λ l. l.atom) xs
+pub never_falls : (xs : List Literal) → IsStrictlyIncreasing (atoms_of xs)
+    → IsNonDecreasingBy (λ l. l.atom) xs
 never_falls xs rises i j d upto within =
     let size = length-map xs (λ (l : Literal). l.atom) in
     let at_i = atom_at xs i d (omega (arith, within)) in
     let at_j = atom_at xs j d within in
     elim (cases_lt i j) [
       | inl less ↦ let apart = rises_apart (atoms_of xs) i j rises less (omega arith) in omega arith
-      | inr back ↦ let same : i ≡ j = omega arith in let e = ap (λ k. get_or (atoms_of xs) k 0) same in omega arith
+      | inr back ↦ let same : i ≡ j = omega arith in
+          let e = ap (λ k. get_or (atoms_of xs) k 0) same in omega arith
     ]
 
 -- from the point where the test "less" turns
 pub first_from_point : (xs : List Literal) (atom place : ℕ) → place ≤ length xs
-    → IsPartitionPoint (λ (l : Literal). ltb l.atom atom ≡ true) (λ (l : Literal). ltb l.atom atom ≡ false) xs place
+    → IsPartitionPoint (λ (l : Literal). ltb l.atom atom ≡ true)
+    (λ (l : Literal). ltb l.atom atom ≡ false) xs place
     → IsFirstUpto (atoms_of xs) atom place
 first_from_point xs atom place bound point =
     let size = length-map xs (λ (l : Literal). l.atom) in (
@@ -205,7 +241,8 @@ first_from_point xs atom place bound point =
 
 -- where the last atom is less, all are
 pub all_less : (xs : List Literal) (last : Literal) (atom : ℕ) → IsStrictlyIncreasing (atoms_of xs)
-    → (0 < length xs) × (last ≡ get_or xs (length xs - 1) last) → last.atom < atom → IsFirstUpto (atoms_of xs) atom (length xs)
+    → (0 < length xs) × (last ≡ get_or xs (length xs - 1) last) → last.atom < atom
+    → IsFirstUpto (atoms_of xs) atom (length xs)
 all_less xs last atom rises ends less =
     let size = length-map xs (λ (l : Literal). l.atom) in
     let some = ends.0 in
@@ -213,7 +250,9 @@ all_less xs last atom rises ends less =
     atom_at xs (length xs - 1) last (omega arith) ∙ ap (λ (l : Literal). l.atom) (sym ends.1) in
     let each : (k : ℕ) → k < length xs → get_or (atoms_of xs) k 0 < atom =
     λ k within. elim (cases_lt k (length xs - 1)) [
-      | inl before ↦ let apart = rises_apart (atoms_of xs) k (length xs - 1) rises before (omega arith) in omega arith
-      | inr here ↦ let same : k ≡ length xs - 1 = omega arith in let e = ap (λ j. get_or (atoms_of xs) j 0) same in omega arith
+      | inl before ↦ let apart = rises_apart (atoms_of xs) k (length xs - 1) rises before
+          (omega arith) in omega arith
+      | inr here ↦ let same : k ≡ length xs - 1 = omega arith in
+          let e = ap (λ j. get_or (atoms_of xs) j 0) same in omega arith
     ] in
     (omega arith, each, λ k from within. absurd (omega arith))

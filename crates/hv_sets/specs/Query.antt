@@ -1,6 +1,7 @@
 -- Queries: what a basic statement asks of the sets of a store, and when a state is a counterexample
 -- to it.
-use Rattle.std.specs.Prelude.{◌≡◌, ◌<◌, ◌≤◌, ◌⊎◌, ◌++◌, ◌&&◌, ℕ, Bool, true, false, not, List, Option, None, Some, slice_get, ⊤}
+use Rattle.std.specs.Prelude.{◌≡◌, ◌<◌, ◌≤◌, ◌⊎◌, ◌++◌, ◌&&◌, ℕ, Bool, true, false, not, List}
+use Rattle.std.specs.Prelude.{Option, None, Some, slice_get, ⊤}
 use Rattle.std.specs.List.{All, Contains, list_all}
 use Rattle.hv_task.specs.declared.action.Action.{Action}
 use Rattle.hv_task.specs.State.{applicable, successor}

@@ -1,6 +1,7 @@
 //! Clauses.
 
-ghost use Rattle.std.specs.Prelude.{◌≡◌, ◌<◌, [], ◌∷◌, ◌++◌, ◌==◌, length, slice_get, Some, OnOk, OnErr};
+ghost use Rattle.std.specs.Prelude.{◌≡◌, ◌<◌, [], ◌∷◌, ◌++◌, ◌==◌, length, slice_get, Some, OnOk};
+ghost use Rattle.std.specs.Prelude.{OnErr};
 
 use crate::literal::Literal;
 use std::alloc::{AllocError, Global};

@@ -1,6 +1,7 @@
 //! The literals of clauses in one list, with the end of each clause.
 
-ghost use Rattle.std.specs.Prelude.{◌≡◌, ◌<◌, ◌≤◌, ◌+◌, [], ◌∷◌, ◌++◌, length, slice_get, slice_range};
+ghost use Rattle.std.specs.Prelude.{◌≡◌, ◌<◌, ◌≤◌, ◌+◌, [], ◌∷◌, ◌++◌, length, slice_get};
+ghost use Rattle.std.specs.Prelude.{slice_range};
 ghost use Rattle.std.specs.Prelude.{IfOk, IfSome, Some, OnOk, OnErr};
 ghost use Rattle.hv_sets.specs.Working.Pieces.{EndAt, pieces, start_of};
 

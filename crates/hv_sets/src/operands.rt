@@ -1,6 +1,7 @@
 //! Lists of operands.
 
-ghost use Rattle.std.specs.Prelude.{◌≡◌, ◌<◌, ◌↔◌, [], ◌∷◌, ◌++◌, ◌==◌, length, slice_get, Some, IsTrue, OnOk, OnErr};
+ghost use Rattle.std.specs.Prelude.{◌≡◌, ◌<◌, ◌↔◌, [], ◌∷◌, ◌++◌, ◌==◌, length, slice_get, Some};
+ghost use Rattle.std.specs.Prelude.{IsTrue, OnOk, OnErr};
 ghost use Rattle.hv_sets.specs.Names.{AsksAbout};
 
 use crate::operand::{Operand, Which};

@@ -1,6 +1,7 @@
 //! Lists of states.
 
-ghost use Rattle.std.specs.Prelude.{◌≡◌, ◌<◌, [], ◌∷◌, ◌++◌, ◌==◌, length, slice_get, IfOk, Some, OnOk, OnErr};
+ghost use Rattle.std.specs.Prelude.{◌≡◌, ◌<◌, [], ◌∷◌, ◌++◌, ◌==◌, length, slice_get, IfOk, Some};
+ghost use Rattle.std.specs.Prelude.{OnOk, OnErr};
 
 use crate::held::Held;
 use hv_task::AtomList;

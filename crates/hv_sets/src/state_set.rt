@@ -1,10 +1,12 @@
 //! What sets of states can be asked: the traits, each with its laws.
 
-ghost use Rattle.std.specs.Prelude.{◌≡◌, ◌≤◌, ◌+◌, ℕ, Bool, List, Option, length, min, not, IfOk, OnOk};
+ghost use Rattle.std.specs.Prelude.{◌≡◌, ◌≤◌, ◌+◌, ℕ, Bool, List, Option, length, min, not, IfOk};
+ghost use Rattle.std.specs.Prelude.{OnOk};
 ghost use Rattle.hv_sets.specs.Cost.{most_counted};
 ghost use Rattle.hv_sets.specs.Cubes.{SpeakBelow};
 ghost use Rattle.hv_sets.specs.Room.{KeepsLengths};
-ghost use Rattle.hv_sets.specs.Walks.{Covers, IsNew, IsStateOf, Meets, StepSpeaksBelow, TakesCube, TakesStep, in_cubes, in_steps};
+ghost use Rattle.hv_sets.specs.Walks.{Covers, IsNew, IsStateOf, Meets, StepSpeaksBelow, TakesCube};
+ghost use Rattle.hv_sets.specs.Walks.{TakesStep, in_cubes, in_steps};
 ghost use Rattle.hv_sets.specs.declared.cursor.Cursor.{Cursor};
 ghost use Rattle.hv_sets.specs.declared.literal.Literal.{Literal};
 

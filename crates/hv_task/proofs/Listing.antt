@@ -1,29 +1,36 @@
 -- The atoms that a state holds, as a list that rises.
-use Rattle.std.proofs.Common.{◌≡◌, ℕ, ◌+◌, ◌<◌, ◌↔◌, ◌∙◌, Bool, true, List, [], ◌∷◌, ◌++◌, Some, None, length, get_or, sym, ap, arith, inl, inr, subst}
+use Rattle.std.proofs.Common.{◌≡◌, ℕ, ◌+◌, ◌<◌, ◌↔◌, ◌∙◌, Bool, true, List, [], ◌∷◌, ◌++◌, Some}
+use Rattle.std.proofs.Common.{None, length, get_or, sym, ap, arith, inl, inr, subst}
 use Rattle.std.proofs.lemmas.Bool.{both_ways, cases_lt}
 use Rattle.std.proofs.lemmas.Bool.Decides.{same_from_decides}
 use Rattle.std.proofs.lemmas.List.{get_or_push, get_or_append_left, length_push}
-use Rattle.std.proofs.lemmas.List.Elements.{Contains-get_or, Contains-append_left, Contains-push, Contains-push_cases}
+use Rattle.std.proofs.lemmas.List.Elements.{Contains-get_or, Contains-append_left, Contains-push}
+use Rattle.std.proofs.lemmas.List.Elements.{Contains-push_cases}
 use Rattle.std.specs.List.{Contains}
 use Rattle.std.specs.List.Sorted.{IsStrictlyIncreasing}
 use Rattle.hv_task.specs.AtomList.{IsListOf}
 use Rattle.hv_task.specs.Atoms.{IsNext, Lists}
 use Rattle.hv_task.specs.State.{AreBelow, has_atom, names_atom, state_of}
-use Rattle.hv_task.proofs.Places.{has_atom_past, has_atom-state_of, length-state_of, same_state, names_atom-Decides}
+use Rattle.hv_task.proofs.Places.{has_atom_past, has_atom-state_of, length-state_of, same_state}
+use Rattle.hv_task.proofs.Places.{names_atom-Decides}
 use Rattle.hv_task.proofs.Rising.{same_rising}
 
 -- a greater atom at the end keeps a list rising
-pub rises-push : (xs : List ℕ) (i : ℕ) → IsStrictlyIncreasing xs → ((k : ℕ) → k < length xs → get_or xs k 0 < i)
+pub rises-push : (xs : List ℕ) (i : ℕ) → IsStrictlyIncreasing xs
+    → ((k : ℕ) → k < length xs → get_or xs k 0 < i)
     → IsStrictlyIncreasing (xs ++ i ∷ [])
 rises-push xs i rises below k within =
     let size = length_push xs i in
-    let here : get_or (xs ++ i ∷ []) k 0 ≡ get_or xs k 0 = get_or_append_left xs (i ∷ []) 0 k (omega arith) in
+    let here : get_or (xs ++ i ∷ []) k 0 ≡ get_or xs k 0 = get_or_append_left xs (i ∷ []) 0 k
+    (omega arith) in
     elim (cases_lt (k + 1) (length xs)) [
       | inl less ↦
-          let next : get_or (xs ++ i ∷ []) (k + 1) 0 ≡ get_or xs (k + 1) 0 = get_or_append_left xs (i ∷ []) 0 (k + 1) less in
+          let next : get_or (xs ++ i ∷ []) (k + 1) 0
+          ≡ get_or xs (k + 1) 0 = get_or_append_left xs (i ∷ []) 0 (k + 1) less in
           let rise = rises k less in omega arith
       | inr last ↦
-          let next : get_or (xs ++ i ∷ []) (k + 1) 0 ≡ i = get_or_push xs i 0 (k + 1) (omega arith) in
+          let next : get_or (xs ++ i ∷ []) (k + 1) 0
+          ≡ i = get_or_push xs i 0 (k + 1) (omega arith) in
           let less = below k (omega arith) in omega arith
     ]
 
@@ -35,9 +42,11 @@ module _ (set : ℕ → Bool) where
   }
 
   -- the next atom, put last
-  pub lists_next : (from : ℕ) (xs : List ℕ) (a : ℕ) → Lists set from xs → IsNext set from (Some a) → Lists set (a + 1) (xs ++ a ∷ [])
+  pub lists_next : (from : ℕ) (xs : List ℕ) (a : ℕ) → Lists set from xs → IsNext set from (Some a)
+      → Lists set (a + 1) (xs ++ a ∷ [])
   lists_next from xs a lists next = record {
-    rises = rises-push xs a lists.rises (λ k within. let f = (lists.has (get_or xs k 0)).0 (Contains-get_or xs k 0 within) in omega (arith, f.0, next.0));
+    rises = rises-push xs a lists.rises (λ k within. let f = (lists.has (get_or xs k 0)).0
+        (Contains-get_or xs k 0 within) in omega (arith, f.0, next.0));
     has = λ b. (
       λ c. elim (Contains-push_cases xs a b c) [
         | inl old ↦ let f = (lists.has b).0 old in (omega (arith, f.0, next.0), f.1)
@@ -48,14 +57,16 @@ module _ (set : ℕ → Bool) where
         | inr upto ↦
             elim (cases_lt b a) [
               | inl less ↦ absurd (both_ways (set b) (next.2 b upto less) f.1)
-              | inr last ↦ let same : a ≡ b = omega (arith, f.0) in subst (λ p. Contains (xs ++ a ∷ []) p) same (Contains-push xs a)
+              | inr last ↦ let same : a ≡ b = omega (arith, f.0) in
+                  subst (λ p. Contains (xs ++ a ∷ []) p) same (Contains-push xs a)
             ]
       ],
     );
   }
 
   -- no next atom: the list has all
-  pub lists_all : (from : ℕ) (xs : List ℕ) → Lists set from xs → IsNext set from None → (a : ℕ) → Contains xs a ↔ (set a ≡ true)
+  pub lists_all : (from : ℕ) (xs : List ℕ) → Lists set from xs → IsNext set from None → (a : ℕ)
+      → Contains xs a ↔ (set a ≡ true)
   lists_all from xs lists next a = (
     λ c. ((lists.has a).0 c).1,
     λ e. elim (cases_lt a from) [
@@ -73,7 +84,8 @@ within_state state a held =
     ]
 
 -- no next atom of a state: the list has all that it holds
-pub lists_state : (state : List Bool) (from : ℕ) (xs : List ℕ) → Lists (has_atom state) from xs → IsNext (has_atom state) from None → IsListOf state xs
+pub lists_state : (state : List Bool) (from : ℕ) (xs : List ℕ) → Lists (has_atom state) from xs
+    → IsNext (has_atom state) from None → IsListOf state xs
 lists_state state from xs lists next = record {
   rises = lists.rises;
   has = λ a.
@@ -82,9 +94,11 @@ lists_state state from xs lists next = record {
 }
 
 -- a list that rises and has just the atoms of a state is the state
-pub state_of-listed : (state : List Bool) (held : List ℕ) → IsListOf state held → state_of (length state) held ≡ state
+pub state_of-listed : (state : List Bool) (held : List ℕ) → IsListOf state held
+    → state_of (length state) held ≡ state
 state_of-listed state held listed =
-    let size : length (state_of (length state) held) ≡ length state = length-state_of (length state) held in
+    let size : length (state_of (length state) held)
+    ≡ length state = length-state_of (length state) held in
     same_state (state_of (length state) held) state size
     (λ p within.
     let below : p < length state = omega arith in
@@ -96,15 +110,19 @@ state_of-listed state held listed =
         (λ holds. (listed.has p).1 (below, holds), λ c. ((listed.has p).0 c).1)
 
 -- the states of two lists that rise, of atoms below a number, are one only where the lists are
-pub same_listed : (n : ℕ) (xs ys : List ℕ) → IsStrictlyIncreasing xs → IsStrictlyIncreasing ys → AreBelow n xs → AreBelow n ys
+pub same_listed : (n : ℕ) (xs ys : List ℕ) → IsStrictlyIncreasing xs → IsStrictlyIncreasing ys
+    → AreBelow n xs → AreBelow n ys
     → state_of n xs ≡ state_of n ys → xs ≡ ys
 same_listed n xs ys rises_x rises_y below_x below_y same =
-    same_rising xs ys rises_x rises_y (names_in xs ys below_x same) (names_in ys xs below_y (sym same))
+    same_rising xs ys rises_x rises_y (names_in xs ys below_x same)
+    (names_in ys xs below_y (sym same))
   where
-    names_in : (us vs : List ℕ) → AreBelow n us → state_of n us ≡ state_of n vs → (a : ℕ) → Contains us a → Contains vs a
+    names_in : (us vs : List ℕ) → AreBelow n us → state_of n us ≡ state_of n vs → (a : ℕ)
+        → Contains us a → Contains vs a
     names_in us vs below e a c =
         let within : a < n = subst (λ b. b < n) c.2 (below c.0 a c.1) in
         let named : names_atom us a ≡ true = (names_atom-Decides us a).1 c in
         let other : names_atom us a ≡ names_atom vs a =
-        sym (has_atom-state_of n us a within) ∙ (ap (λ s. has_atom s a) e ∙ has_atom-state_of n vs a within) in
+        sym (has_atom-state_of n us a within)
+        ∙ (ap (λ s. has_atom s a) e ∙ has_atom-state_of n vs a within) in
         (names_atom-Decides vs a).0 (sym other ∙ named)

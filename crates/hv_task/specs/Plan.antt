@@ -1,5 +1,6 @@
 -- Runs, plans, traversed states and dead states (Eriksson, Röger and Helmert, 2018).
-use Rattle.std.specs.Prelude.{◌≡◌, ℕ, Bool, true, List, [], ◌∷◌, ◌++◌, Option, Some, None, cond, slice_get}
+use Rattle.std.specs.Prelude.{◌≡◌, ℕ, Bool, true, List, [], ◌∷◌, ◌++◌, Option, Some, None, cond}
+use Rattle.std.specs.Prelude.{slice_get}
 use Rattle.hv_task.specs.declared.action.Action.{Action}
 use Rattle.hv_task.specs.State.{applicable, successor}
 use Rattle.hv_task.specs.Strips.{Strips, start_state, is_goal}

@@ -1,6 +1,7 @@
 -- States as sets of atoms, and what an action does to them: STRIPS, as in Eriksson, Röger and
 -- Helmert (2018).
-use Rattle.std.specs.Prelude.{◌<◌, ◌==◌, ℕ, Bool, true, false, List, [], ◌∷◌, replicate, slice_index_or, slice_set}
+use Rattle.std.specs.Prelude.{◌<◌, ◌==◌, ℕ, Bool, true, false, List, [], ◌∷◌, replicate}
+use Rattle.std.specs.Prelude.{slice_index_or, slice_set}
 use Rattle.std.specs.List.{list_all, list_any, All}
 use Rattle.hv_task.specs.declared.action.Action.{Action}
 

@@ -1,6 +1,7 @@
 //! Planning tasks: their atoms, initial state, goal and actions, and which lists are plans.
 
-ghost use Rattle.std.specs.Prelude.{◌≡◌, ◌<◌, ◌++◌, ◌∷◌, ◌↔◌, [], length, true, IsTrue, IfOk, OnErr, Some, is_some, slice_get};
+ghost use Rattle.std.specs.Prelude.{◌≡◌, ◌<◌, ◌++◌, ◌∷◌, ◌↔◌, [], length, true, IsTrue, IfOk};
+ghost use Rattle.std.specs.Prelude.{OnErr, Some, is_some, slice_get};
 ghost use Rattle.hv_task.specs.declared.action.Action.{Action};
 ghost use Rattle.hv_task.specs.State.{AreBelow, applicable, successor};
 ghost use Rattle.hv_task.specs.Strips.{atoms, start_state, is_goal, IsOver, IsState, IsTask};

@@ -9,7 +9,11 @@ use Rattle.hv_task_text.specs.declared.fault.TaskKind.TheVariants as K
 use Rattle.hv_task_text.specs.declared.reader.Reader.{Reader}
 use Rattle.hv_task_text.specs.Written.{Entry, Head, written_action, add_of, del_of, pre_of, set_of}
 use Rattle.hv_task_text.specs.declared.reader.OpenAction.{OpenAction}
-use Rattle.hv_task_text.specs.Beginning.{Beginning, at_begin_atoms, at_atom_name, at_end_atoms, at_begin_init, at_init_atom, at_begin_goal, at_goal_atom, at_begin_actions, at_begin_action, at_action_name, at_cost, at_action_line, at_end_actions, at_end, IsLegal, expected_after, names_before}
+use Rattle.hv_task_text.specs.Beginning.{Beginning, at_begin_atoms, at_atom_name, at_end_atoms}
+use Rattle.hv_task_text.specs.Beginning.{at_begin_init, at_init_atom, at_begin_goal, at_goal_atom}
+use Rattle.hv_task_text.specs.Beginning.{at_begin_actions, at_begin_action, at_action_name, at_cost}
+use Rattle.hv_task_text.specs.Beginning.{at_action_line, at_end_actions, at_end, IsLegal}
+use Rattle.hv_task_text.specs.Beginning.{expected_after, names_before}
 use Rattle.hv_task_text.specs.Working.Reading.{no_action, IsReading}
 use Rattle.hv_task_text.proofs.Sets.{set_below}
 
@@ -35,21 +39,27 @@ reader expected count names start goal actions action = record {
 
 abbrev with_head : TaskKind → ℕ → Head → List Entry → OpenAction → Reader
 with_head expected count head actions action =
-    reader expected count head.names (set_of (length head.names) head.start) (set_of (length head.names) head.goal) (map (written_action (length head.names)) actions) action
+    reader expected count head.names (set_of (length head.names) head.start)
+    (set_of (length head.names) head.goal) (map (written_action (length head.names)) actions)
+    action
 
 abbrev pub held : Beginning → Reader
 held at_begin_atoms = reader K.BeginAtoms 0 [] [] [] [] no_action
 held (at_atom_name count names) = reader K.AtomName count names [] [] [] no_action
 held (at_end_atoms names) = reader K.EndAtoms (length names) names [] [] [] no_action
 held (at_begin_init names) = reader K.BeginInit (length names) names [] [] [] no_action
-held (at_init_atom names start) = reader K.InitAtom (length names) names (set_of (length names) start) [] [] no_action
-held (at_begin_goal names start) = reader K.BeginGoal (length names) names (set_of (length names) start) [] [] no_action
+held (at_init_atom names start) = reader K.InitAtom (length names) names
+    (set_of (length names) start) [] [] no_action
+held (at_begin_goal names start) = reader K.BeginGoal (length names) names
+    (set_of (length names) start) [] [] no_action
 held (at_goal_atom names start goal) =
-    reader K.GoalAtom (length names) names (set_of (length names) start) (set_of (length names) goal) [] no_action
+    reader K.GoalAtom (length names) names (set_of (length names) start)
+    (set_of (length names) goal) [] no_action
 held (at_begin_actions head) = with_head K.BeginActions (length head.names) head [] no_action
 held (at_begin_action count head actions) = with_head K.BeginAction count head actions no_action
 held (at_action_name count head actions) = with_head K.ActionName count head actions no_action
-held (at_cost count head actions name) = with_head K.Cost count head actions (record no_action { name = name })
+held (at_cost count head actions name) = with_head K.Cost count head actions
+    (record no_action { name = name })
 held (at_action_line count head actions entry) =
     with_head K.ActionLine count head actions (open_of (length head.names) entry)
 held (at_end_actions head actions) = with_head K.EndActions (length actions) head actions no_action
@@ -105,7 +115,11 @@ ready (at_begin_actions head) l = tt
 ready (at_begin_action count head actions) l = tt
 ready (at_action_name count head actions) l = tt
 ready (at_cost count head actions name) l = tt
-ready (at_action_line count head actions entry) l =
-    (rw (length-map actions (written_action (length head.names))) l.1, l.0.few, action_over (length head.names) entry)
+ready (at_action_line count head actions entry) l = (
+  rw (length-map actions (written_action (length head.names))) l.1,
+  l.0.few,
+  action_over
+      (length head.names) entry,
+)
 ready (at_end_actions head actions) l = tt
 ready (at_end head actions) l = (set_below _ head.start, set_below _ head.goal)

@@ -1,11 +1,14 @@
 -- Sets of atoms as rising lists: two of them with the same members are one list.
-use Rattle.std.proofs.Common.{◌≡◌, ℕ, suc, zero, ◌+◌, ◌<◌, ◌≤◌, Bool, true, false, eqb, cond, List, [], ◌∷◌, ◌++◌, ◌⊎◌, inl, inr, length, get_or, sum, refl, sym, ap, subst, arith}
+use Rattle.std.proofs.Common.{◌≡◌, ℕ, suc, zero, ◌+◌, ◌<◌, ◌≤◌, Bool, true, false, eqb, cond, List}
+use Rattle.std.proofs.Common.{[], ◌∷◌, ◌++◌, ◌⊎◌, inl, inr, length, get_or, sum, refl, sym, ap}
+use Rattle.std.proofs.Common.{subst, arith}
 use Rattle.std.specs.Prelude.{◌||◌, ◌==◌, ◌↔◌}
 use Rattle.std.specs.List.{AllPairs, Contains, filter, list_any, range_with_len}
 use Rattle.std.specs.List.Sorted.{IsStrictlyIncreasing}
 use Rattle.std.proofs.lemmas.Bool.Decides.{Decides-eqb}
 use Rattle.std.proofs.lemmas.List.FromFn.{get_or-range_with_len, length-range_with_len}
-use Rattle.std.proofs.lemmas.List.Elements.{Contains-push_cases, Contains-append_left, Contains-push}
+use Rattle.std.proofs.lemmas.List.Elements.{Contains-push_cases, Contains-append_left}
+use Rattle.std.proofs.lemmas.List.Elements.{Contains-push}
 use Rattle.std.proofs.lemmas.List.{get_or_default}
 use Rattle.std.proofs.lemmas.List.Sums.{sum_by-cons}
 use Rattle.std.proofs.lemmas.List.Kept.{AllPairs-from_increasing, IsStrictlyIncreasing-filter}
@@ -30,7 +33,8 @@ has a xs c = has_from_contains a xs c.0 c.1 c.2
 contains : (a : ℕ) (xs : List ℕ) → Has a xs → Contains xs a
 contains a [] h = absurd h
 contains a (x ∷ xs) (inl e) = (zero, omega arith, e)
-contains a (x ∷ xs) (inr h) = let c = contains a xs h in (suc c.0, (let l = c.1 in omega arith), c.2)
+contains a (x ∷ xs) (inr h) = let c = contains a xs h in
+    (suc c.0, (let l = c.1 in omega arith), c.2)
 
 -- the list rises, by recursion
 abbrev Rises : List ℕ → Type 0
@@ -40,38 +44,59 @@ Rises (x ∷ xs) = ((a : ℕ) → Has a xs → x < a) × Rises xs
 rises_from_pairs : (xs : List ℕ) → AllPairs (λ x y. x < y) xs → Rises xs
 rises_from_pairs [] p = tt
 rises_from_pairs (x ∷ xs) p = (
-  (λ a h. let c = contains a xs h in let l = c.1 in let b = p zero (suc c.0) a (omega arith) (omega arith) in subst (λ y. x < y) c.2 b),
+  (λ a h. let c = contains a xs h in let l = c.1 in
+      let b = p zero (suc c.0) a (omega arith) (omega arith) in subst (λ y. x < y) c.2 b),
   rises_from_pairs xs (λ i j d l m. p (suc i) (suc j) d (omega arith) (omega arith)),
 )
 
-same_members : (xs ys : List ℕ) → Rises xs → Rises ys → ((a : ℕ) → Has a xs → Has a ys) → ((a : ℕ) → Has a ys → Has a xs) → xs ≡ ys
+same_members : (xs ys : List ℕ) → Rises xs → Rises ys → ((a : ℕ) → Has a xs → Has a ys)
+    → ((a : ℕ) → Has a ys → Has a xs) → xs ≡ ys
 same_members [] [] r s f g = refl
 same_members [] (y ∷ ys) r s f g = absurd (g y (inl refl))
 same_members (x ∷ xs) [] r s f g = absurd (f x (inl refl))
 same_members (x ∷ xs) (y ∷ ys) r s f g =
-    let least : x ≡ y = elim (f x (inl refl)) [ inl e ↦ sym e | inr h ↦ elim (g y (inl refl)) [ inl e ↦ e | inr k ↦ absurd (let a = s.0 x h in let b = r.0 y k in omega arith) ] ] in
+    let least : x ≡ y = elim (f x (inl refl)) [
+      | inl e ↦ sym e
+      | inr h ↦ elim (g y (inl refl))
+          [ inl e ↦ e | inr k ↦ absurd (let a = s.0 x h in let b = r.0 y k in omega arith) ]
+    ] in
     let tails = same_members xs ys r.1 s.1
-    (λ a h. elim (f a (inr h)) [ inl e ↦ absurd (let b = r.0 a h in omega (arith, e, least)) | inr k ↦ k ])
-    (λ a h. elim (g a (inr h)) [ inl e ↦ absurd (let b = s.0 a h in omega (arith, e, least)) | inr k ↦ k ]) in
+    (λ a h. elim (f a (inr h)) [
+      | inl e ↦ absurd (let b = r.0 a h in omega (arith, e, least))
+      | inr k
+          ↦ k
+    ])
+    (λ a h. elim (g a (inr h)) [
+      | inl e ↦ absurd (let b = s.0 a h in omega (arith, e, least))
+      | inr k
+          ↦ k
+    ]) in
     cc
 
 -- rising lists with the same members are equal
-pub same_set : (xs ys : List ℕ) → IsStrictlyIncreasing xs → IsStrictlyIncreasing ys → ((a : ℕ) → Contains xs a → Contains ys a) → ((a : ℕ) → Contains ys a → Contains xs a) → xs ≡ ys
+pub same_set : (xs ys : List ℕ) → IsStrictlyIncreasing xs → IsStrictlyIncreasing ys
+    → ((a : ℕ) → Contains xs a → Contains ys a) → ((a : ℕ) → Contains ys a → Contains xs a)
+    → xs ≡ ys
 same_set xs ys r s f g =
-    same_members xs ys (rises_from_pairs xs (AllPairs-from_increasing xs r)) (rises_from_pairs ys (AllPairs-from_increasing ys s))
+    same_members xs ys (rises_from_pairs xs (AllPairs-from_increasing xs r))
+    (rises_from_pairs ys (AllPairs-from_increasing ys s))
     (λ a h. has a ys (f a (contains a xs h)))
     (λ a h. has a xs (g a (contains a ys h)))
 
-kept : (p : ℕ → Bool) (a x : ℕ) (xs rest : List ℕ) (b : Bool) → p x ≡ b → (Has a rest → Has a xs × (p a ≡ true)) → Has a (cond b (x ∷ rest) rest) → Has a (x ∷ xs) × (p a ≡ true)
+kept : (p : ℕ → Bool) (a x : ℕ) (xs rest : List ℕ) (b : Bool) → p x ≡ b
+    → (Has a rest → Has a xs × (p a ≡ true)) → Has a (cond b (x ∷ rest) rest)
+    → Has a (x ∷ xs) × (p a ≡ true)
 kept p a x xs rest true e more (inl s) = (inl s, subst (λ y. p y ≡ true) s e)
 kept p a x xs rest true e more (inr k) = let w = more k in (inr w.0, w.1)
 kept p a x xs rest false e more k = let w = more k in (inr w.0, w.1)
 
-has_from_filter : (p : ℕ → Bool) (a : ℕ) (xs : List ℕ) → Has a (filter p xs) → Has a xs × (p a ≡ true)
+has_from_filter : (p : ℕ → Bool) (a : ℕ) (xs : List ℕ) → Has a (filter p xs)
+    → Has a xs × (p a ≡ true)
 has_from_filter p a [] h = absurd h
 has_from_filter p a (x ∷ xs) h = kept p a x xs (filter p xs) (p x) refl (has_from_filter p a xs) h
 
-keeps : (p : ℕ → Bool) (a x : ℕ) (xs rest : List ℕ) (b : Bool) → p x ≡ b → p a ≡ true → (Has a xs → Has a rest) → Has a (x ∷ xs) → Has a (cond b (x ∷ rest) rest)
+keeps : (p : ℕ → Bool) (a x : ℕ) (xs rest : List ℕ) (b : Bool) → p x ≡ b → p a ≡ true
+    → (Has a xs → Has a rest) → Has a (x ∷ xs) → Has a (cond b (x ∷ rest) rest)
 keeps p a x xs rest true e t more (inl s) = inl s
 keeps p a x xs rest true e t more (inr k) = inr (more k)
 keeps p a x xs rest false e t more (inl s) = let u = ap p s in absurd cc
@@ -88,7 +113,8 @@ either false c e = inr e
 has_from_any : (a : ℕ) (xs : List ℕ) → list_any (λ n. n == a) xs ≡ true → Has a xs
 has_from_any a [] e = absurd cc
 has_from_any a (x ∷ xs) e =
-    elim (either (eqb x a) (list_any (λ n. n == a) xs) e) [ inl t ↦ inl ((Decides-eqb x a).0 t) | inr t ↦ inr (has_from_any a xs t) ]
+    elim (either (eqb x a) (list_any (λ n. n == a) xs) e)
+    [ inl t ↦ inl ((Decides-eqb x a).0 t) | inr t ↦ inr (has_from_any a xs t) ]
 
 any_has : (a : ℕ) (xs : List ℕ) → Has a xs → list_any (λ n. n == a) xs ≡ true
 any_has a [] h = absurd h
@@ -99,8 +125,12 @@ any_has a (x ∷ xs) (inr h) = rw (any_has a xs h) (or_true (eqb x a)) where
   or_true false = refl
 
 contains_range : (a n : ℕ) → a < n → Contains (range_with_len 0 n) a
-contains_range a n l =
-    (a, rw (length-range_with_len 0 n) l, (let e = get_or-range_with_len 0 n a a l in omega (arith, e)))
+contains_range a n l = (
+  a,
+  rw (length-range_with_len 0 n) l,
+  (let e = get_or-range_with_len 0 n a a l in
+      omega (arith, e)),
+)
 
 below_from_range : (a n : ℕ) → Contains (range_with_len 0 n) a → a < n
 below_from_range a n c =
@@ -118,28 +148,36 @@ range_rises n k l =
 pub set_rises : (atoms : ℕ) (listed : List ℕ) → IsStrictlyIncreasing (set_of atoms listed)
 set_rises atoms listed = IsStrictlyIncreasing-filter _ _ (range_rises atoms)
 
-pub listed_from_set : (atoms : ℕ) (listed : List ℕ) (a : ℕ) → Contains (set_of atoms listed) a → (a < atoms) × Contains listed a
+pub listed_from_set : (atoms : ℕ) (listed : List ℕ) (a : ℕ) → Contains (set_of atoms listed) a
+    → (a < atoms) × Contains listed a
 listed_from_set atoms listed a c =
     let h = has_from_filter _ a (range_with_len 0 atoms) (has a _ c) in
     (below_from_range a atoms (contains a _ h.0), contains a listed (has_from_any a listed h.1))
 
-pub set_has : (atoms : ℕ) (listed : List ℕ) (a : ℕ) → a < atoms → Contains listed a → Contains (set_of atoms listed) a
+pub set_has : (atoms : ℕ) (listed : List ℕ) (a : ℕ) → a < atoms → Contains listed a
+    → Contains (set_of atoms listed) a
 set_has atoms listed a l c =
-    contains a _ (filter_has (λ b. list_any (λ n. n == b) listed) a (range_with_len 0 atoms) (any_has a listed (has a listed c)) (has a _ (contains_range a atoms l)))
+    contains a _ (filter_has (λ b. list_any (λ n. n == b) listed) a (range_with_len 0 atoms)
+    (any_has a listed (has a listed c)) (has a _ (contains_range a atoms l)))
 
 -- one more number that is listed is put into the set
-pub set_more : (atoms n : ℕ) (listed new : List ℕ) → n < atoms → Inserts (set_of atoms listed) n new → set_of atoms (listed ++ n ∷ []) ≡ new
+pub set_more : (atoms n : ℕ) (listed new : List ℕ) → n < atoms → Inserts (set_of atoms listed) n new
+    → set_of atoms (listed ++ n ∷ []) ≡ new
 set_more atoms n listed new l i =
     same_set _ new (set_rises atoms _) i.rises
     (λ a c. let w = listed_from_set atoms (listed ++ n ∷ []) a c in
-    (i.has a).1 (elim (Contains-push_cases listed n a w.1) [ inl k ↦ inl (set_has atoms listed a w.0 k) | inr e ↦ inr (sym e) ]))
+    (i.has a).1 (elim (Contains-push_cases listed n a w.1)
+    [ inl k ↦ inl (set_has atoms listed a w.0 k) | inr e ↦ inr (sym e) ]))
     (λ a c. elim ((i.has a).0 c) [
-      | inl k ↦ let w = listed_from_set atoms listed a k in set_has atoms _ a w.0 (Contains-append_left listed (n ∷ []) a w.1)
-      | inr e ↦ subst (λ b. Contains (set_of atoms (listed ++ n ∷ [])) b) (sym e) (set_has atoms _ n l (Contains-push listed n))
+      | inl k ↦ let w = listed_from_set atoms listed a k in
+          set_has atoms _ a w.0 (Contains-append_left listed (n ∷ []) a w.1)
+      | inr e ↦ subst (λ b. Contains (set_of atoms (listed ++ n ∷ [])) b) (sym e)
+          (set_has atoms _ n l (Contains-push listed n))
     ])
 
 -- a rising list of atoms is its own set
-pub set_same : (atoms : ℕ) (listed : List ℕ) → IsStrictlyIncreasing listed → AreBelow atoms listed → set_of atoms listed ≡ listed
+pub set_same : (atoms : ℕ) (listed : List ℕ) → IsStrictlyIncreasing listed → AreBelow atoms listed
+    → set_of atoms listed ≡ listed
 set_same atoms listed r b =
     same_set _ listed (set_rises atoms listed) r (λ a c. (listed_from_set atoms listed a c).1)
     (λ a c. set_has atoms listed a (let e = b c.0 a c.1 in subst (λ x. x < atoms) c.2 e) c)
@@ -147,30 +185,38 @@ set_same atoms listed r b =
 pub set_below : (atoms : ℕ) (listed : List ℕ) → AreBelow atoms (set_of atoms listed)
 set_below atoms listed k d l =
     let set = set_of atoms listed in
-    let c = listed_from_set atoms listed (get_or set k d) (k, l, get_or_default set k (get_or set k d) d l) in c.0
+    let c = listed_from_set atoms listed (get_or set k d)
+    (k, l, get_or_default set k (get_or set k d) d l) in c.0
 
-pub set_inserted : (atoms n : ℕ) (listed : List ℕ) → n < atoms → Inserts (set_of atoms listed) n (set_of atoms (listed ++ n ∷ []))
+pub set_inserted : (atoms n : ℕ) (listed : List ℕ) → n < atoms
+    → Inserts (set_of atoms listed) n (set_of atoms (listed ++ n ∷ []))
 set_inserted atoms n listed l = record {
   rises = set_rises atoms _;
   has = λ a. (
     (λ c. let w = listed_from_set atoms (listed ++ n ∷ []) a c in
-        elim (Contains-push_cases listed n a w.1) [ inl k ↦ inl (set_has atoms listed a w.0 k) | inr e ↦ inr (sym e) ]),
+        elim (Contains-push_cases listed n a w.1)
+        [ inl k ↦ inl (set_has atoms listed a w.0 k) | inr e ↦ inr (sym e) ]),
     (λ c. elim c [
-      | inl k ↦ let w = listed_from_set atoms listed a k in set_has atoms _ a w.0 (Contains-append_left listed (n ∷ []) a w.1)
-      | inr e ↦ subst (λ b. Contains (set_of atoms (listed ++ n ∷ [])) b) (sym e) (set_has atoms _ n l (Contains-push listed n))
+      | inl k ↦ let w = listed_from_set atoms listed a k in
+          set_has atoms _ a w.0 (Contains-append_left listed (n ∷ []) a w.1)
+      | inr e ↦ subst (λ b. Contains (set_of atoms (listed ++ n ∷ [])) b) (sym e)
+          (set_has atoms _ n l (Contains-push listed n))
     ]),
   );
 }
 
 -- what is put into a set determines the new set
-pub inserted_once : (old : List ℕ) (n : ℕ) (a b : List ℕ) → Inserts old n a → Inserts old n b → a ≡ b
+pub inserted_once : (old : List ℕ) (n : ℕ) (a b : List ℕ) → Inserts old n a → Inserts old n b
+    → a ≡ b
 inserted_once old n a b i j =
-    same_set a b i.rises j.rises (λ x c. (j.has x).1 ((i.has x).0 c)) (λ x c. (i.has x).1 ((j.has x).0 c))
+    same_set a b i.rises j.rises (λ x c. (j.has x).1 ((i.has x).0 c))
+    (λ x c. (i.has x).1 ((j.has x).0 c))
 
 has_below_sum : (a : ℕ) (xs : List ℕ) → Has a xs → a ≤ sum xs
 has_below_sum a [] h = absurd h
 has_below_sum a (x ∷ xs) (inl e) = let more = sum_by-cons (λ n. n) x xs in omega arith
-has_below_sum a (x ∷ xs) (inr h) = let more = sum_by-cons (λ n. n) x xs in let later = has_below_sum a xs h in omega arith
+has_below_sum a (x ∷ xs) (inr h) = let more = sum_by-cons (λ n. n) x xs in
+    let later = has_below_sum a xs h in omega arith
 
 -- the members of a list are its numbers, each once
 pub members_rise : (listed : List ℕ) → IsStrictlyIncreasing (members listed)
@@ -179,22 +225,26 @@ members_rise listed = set_rises (sum listed + 1) listed
 pub members_has : (listed : List ℕ) (a : ℕ) → Contains (members listed) a ↔ Contains listed a
 members_has listed a = (
   (λ c. (listed_from_set (sum listed + 1) listed a c).1),
-  (λ c. let below = has_below_sum a listed (has a listed c) in set_has (sum listed + 1) listed a (omega arith) c),
+  (λ c. let below = has_below_sum a listed (has a listed c) in
+      set_has (sum listed + 1) listed a (omega arith) c),
 )
 
 -- lists of the same numbers have the same members
-pub same_members_of : (xs ys : List ℕ) → ((a : ℕ) → Contains xs a → Contains ys a) → ((a : ℕ) → Contains ys a → Contains xs a) → members xs ≡ members ys
+pub same_members_of : (xs ys : List ℕ) → ((a : ℕ) → Contains xs a → Contains ys a)
+    → ((a : ℕ) → Contains ys a → Contains xs a) → members xs ≡ members ys
 same_members_of xs ys f g =
     same_set (members xs) (members ys) (members_rise xs) (members_rise ys)
     (λ a c. (members_has ys a).1 (f a ((members_has xs a).0 c)))
     (λ a c. (members_has xs a).1 (g a ((members_has ys a).0 c)))
 
 -- one more number
-pub members_insert : (listed : List ℕ) (n : ℕ) → Inserts (members listed) n (members (listed ++ n ∷ []))
+pub members_insert : (listed : List ℕ) (n : ℕ)
+    → Inserts (members listed) n (members (listed ++ n ∷ []))
 members_insert listed n = record {
   rises = members_rise (listed ++ n ∷ []);
   has = λ a. (
-    (λ c. elim (Contains-push_cases listed n a ((members_has (listed ++ n ∷ []) a).0 c)) [ inl k ↦ inl ((members_has listed a).1 k) | inr e ↦ inr (sym e) ]),
+    (λ c. elim (Contains-push_cases listed n a ((members_has (listed ++ n ∷ []) a).0 c))
+        [ inl k ↦ inl ((members_has listed a).1 k) | inr e ↦ inr (sym e) ]),
     (λ c. (members_has (listed ++ n ∷ []) a).1
         (elim c [
           | inl k ↦ Contains-append_left listed (n ∷ []) a ((members_has listed a).0 k)
@@ -203,5 +253,7 @@ members_insert listed n = record {
   );
 }
 
-pub members_more : (listed : List ℕ) (n : ℕ) (new : List ℕ) → Inserts (members listed) n new → new ≡ members (listed ++ n ∷ [])
-members_more listed n new i = inserted_once (members listed) n new (members (listed ++ n ∷ [])) i (members_insert listed n)
+pub members_more : (listed : List ℕ) (n : ℕ) (new : List ℕ) → Inserts (members listed) n new
+    → new ≡ members (listed ++ n ∷ [])
+members_more listed n new i = inserted_once (members listed) n new (members (listed ++ n ∷ [])) i
+    (members_insert listed n)

@@ -4,7 +4,9 @@ use Rattle.std.specs.List.{All}
 use Rattle.hv_task.specs.State.{AreBelow}
 use Rattle.hv_task_text.specs.declared.fault.TaskKind.{TaskKind}
 use Rattle.hv_task_text.specs.declared.fault.TaskKind.TheVariants as K
-use Rattle.hv_task_text.specs.Written.{Item, pre, add, del, Entry, Head, name_lines, atom_lines, start_lines, goal_lines, head_lines, body_lines, action_lines, text_lines}
+use Rattle.hv_task_text.specs.Written.{Item, pre, add, del, Entry, Head, name_lines, atom_lines}
+use Rattle.hv_task_text.specs.Written.{start_lines, goal_lines, head_lines, body_lines}
+use Rattle.hv_task_text.specs.Written.{action_lines, text_lines}
 
 -- A beginning of a text, by the kind of the place that comes next. Where names or actions are still
 -- to come, it has the number that the header said. Of an action that isn't whole it has what is

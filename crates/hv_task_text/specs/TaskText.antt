@@ -9,7 +9,8 @@ use Rattle.hv_task_text.specs.declared.fault.TaskLimit.TheVariants as W
 use Rattle.hv_task_text.specs.declared.fault.TaskFault.{TaskFault}
 use Rattle.hv_task_text.specs.declared.fault.TaskFault.TheVariants as F
 use Rattle.hv_task_text.specs.Written.{Entry, Head, task_of}
-use Rattle.hv_task_text.specs.Beginning.{Beginning, at_end, IsLegal, lines_before, expected_after, names_before}
+use Rattle.hv_task_text.specs.Beginning.{Beginning, at_end, IsLegal, lines_before, expected_after}
+use Rattle.hv_task_text.specs.Beginning.{names_before}
 use Rattle.hv_task_text.specs.Form.{IsForm, PassesTaskLimit}
 
 -- the pieces are a text that stands for this task; so none of its lines is long

@@ -1,5 +1,6 @@
 -- The parts of a task text as they are written, and the task that a whole text stands for.
-use Rattle.std.specs.Prelude.{ℕ, ◌+◌, ◌==◌, List, [], ◌∷◌, ◌++◌, Option, Some, None, map, filter, length, decimal, codes}
+use Rattle.std.specs.Prelude.{ℕ, ◌+◌, ◌==◌, List, [], ◌∷◌, ◌++◌, Option, Some, None, map, filter}
+use Rattle.std.specs.Prelude.{length, decimal, codes}
 use Rattle.std.specs.List.{filter_map, flat_map, list_any, range_with_len}
 use Rattle.hv_task.specs.declared.action.Action.{Action}
 use Rattle.hv_task.specs.Strips.{Strips}

@@ -1,10 +1,13 @@
 //! What has been read of a task text so far, and what each further line adds.
 
-ghost use Rattle.std.specs.Prelude.{◌≡◌, ℕ, ◌+◌, ◌<◌, ◌≤◌, [], ◌∷◌, ◌++◌, length, MatchResult, IfOk, OnOk};
+ghost use Rattle.std.specs.Prelude.{◌≡◌, ℕ, ◌+◌, ◌<◌, ◌≤◌, [], ◌∷◌, ◌++◌, length, MatchResult};
+ghost use Rattle.std.specs.Prelude.{IfOk, OnOk};
 ghost use Rattle.hv_task_text.specs.declared.fault.TaskKind.{TaskKind};
 ghost use Rattle.hv_task_text.specs.declared.fault.TaskKind.TheVariants as K;
 ghost use Rattle.hv_task_text.specs.declared.reader.FeedError.TheVariants as E;
-ghost use Rattle.hv_task_text.specs.Working.Reading.{closed, no_action, turn, IsReading, ClosesAction, TakesWord, Takes, Feeds, FeedsEnd, Ends, fault_at, nothing_read};
+ghost use Rattle.hv_task_text.specs.Working.Reading.{closed, no_action, turn, IsReading};
+ghost use Rattle.hv_task_text.specs.Working.Reading.{ClosesAction, TakesWord, Takes, Feeds};
+ghost use Rattle.hv_task_text.specs.Working.Reading.{FeedsEnd, Ends, fault_at, nothing_read};
 
 use crate::atom_set::AtomSet;
 use crate::fault::{TaskFault, TaskKind, TaskLimit};

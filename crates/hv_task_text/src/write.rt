@@ -4,7 +4,8 @@ ghost use Rattle.std.specs.Prelude.{◌≡◌, ◌≤◌, ◌++◌, codes, lengt
 ghost use Rattle.std.specs.List.{flat_map, All};
 ghost use Rattle.std.specs.List.Sorted.{IsStrictlyIncreasing};
 ghost use Rattle.hv_bytes.specs.Standard.{most_file_bytes, standard};
-ghost use Rattle.hv_task_text.specs.Canonical.{bytes_of_lines, canonical_of, entry_of, head_of, with_lf, HasWritableNames};
+ghost use Rattle.hv_task_text.specs.Canonical.{bytes_of_lines, canonical_of, entry_of, head_of};
+ghost use Rattle.hv_task_text.specs.Canonical.{with_lf, HasWritableNames};
 ghost use Rattle.hv_task_text.specs.Working.Canonical.{IsStored};
 ghost use Rattle.hv_task_text.specs.TaskText.{TaskText};
 ghost use Rattle.hv_task_text.specs.Written.{entry_lines, head_lines, name_lines};

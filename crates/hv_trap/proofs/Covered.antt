@@ -1,4 +1,5 @@
--- States that satisfy a conjunction of the greatest trap are dead: no action leads out of them, and none is a goal state.
+-- States that satisfy a conjunction of the greatest trap are dead: no action leads out of them, and
+-- none is a goal state.
 use Rattle.std.proofs.Common.{inl}
 use Rattle.std.proofs.lemmas.Bool.{and_parts}
 use Rattle.hv_task.specs.Deadness.{AreDead}
@@ -17,4 +18,5 @@ satisfied_dead task =
     (λ s is_state none. absurd none)
     (λ s is_state ((c, (trap, is, there), true_in), goal).
     absurd (denied_out task.goal s goal c
-    (and_parts (is_short (atoms task) c) (denies_one task.goal c) (is.candidates c there)).1 true_in))
+    (and_parts (is_short (atoms task) c) (denies_one task.goal c) (is.candidates c there)).1
+    true_in))

@@ -1,5 +1,6 @@
 -- What the proof costs, and how long its lines are.
-use Rattle.std.proofs.Common.{◌≡◌, ℕ, ◌<◌, ◌≤◌, false, List, [], length, refl, subst, sym, inl, inr, arith}
+use Rattle.std.proofs.Common.{◌≡◌, ℕ, ◌<◌, ◌≤◌, false, List, [], length, refl, subst, sym, inl, inr}
+use Rattle.std.proofs.Common.{arith}
 use Rattle.std.specs.List.{All}
 use Rattle.hv_task.specs.Strips.{Strips, atoms, start_state}
 use Rattle.hv_sets.specs.Truth.{in_clauses}
@@ -27,9 +28,11 @@ module _ (task : Strips) (clauses : List (List Literal)) (formula : IsTrapFormul
   good = good_trap_proof task clauses formula breaks
 
   -- the seventeen lines are good with each budget that the clauses don't pass
-  within_budget : (budget : ℕ) → length clauses ≤ budget → 0 < budget → AreGood (with_budget task budget) (trap_proof clauses)
+  within_budget : (budget : ℕ) → length clauses ≤ budget → 0 < budget
+      → AreGood (with_budget task budget) (trap_proof clauses)
   within_budget budget enough some =
-      all_other (draft_setting task) budget (trap_proof clauses) (good_of task (trap_proof clauses) good) (
+      all_other (draft_setting task) budget (trap_proof clauses)
+      (good_of task (trap_proof clauses) good) (
         inl (λ basic. basic),
         (
           inl (λ basic. basic),
@@ -40,10 +43,12 @@ module _ (task : Strips) (clauses : List (List Literal)) (formula : IsTrapFormul
               (
                 inl (λ basic. basic),
                 (
-                  inr (line7 task (onto prelude []) (good_prelude task) 3 1 clauses refl refl (omega arith) (omega arith) prelude_has formula
+                  inr (line7 task (onto prelude []) (good_prelude task) 3 1 clauses refl refl
+                      (omega arith) (omega arith) prelude_has formula
                       budget enough),
                   (
-                    inr (line6 task (onto prelude []) (good_prelude task) 3 1 clauses refl refl (omega arith) (omega arith) prelude_has
+                    inr (line6 task (onto prelude []) (good_prelude task) 3 1 clauses refl refl
+                        (omega arith) (omega arith) prelude_has
                         formula budget enough),
                     (inl (λ basic. basic), tt),
                   ),
@@ -70,7 +75,8 @@ module _ (task : Strips) (clauses : List (List Literal)) (formula : IsTrapFormul
             formula.few,
           )
 
-pub trap_modest : (task : Strips) (lines : List Line) → atoms task ≤ 64 → IsSatisfied task (start_state task) → IsTrapProof task lines
+pub trap_modest : (task : Strips) (lines : List Line) → atoms task ≤ 64
+    → IsSatisfied task (start_state task) → IsTrapProof task lines
     → IsModest task 6112 lines
 trap_modest task lines few satisfied (c, trap, is) =
     let formula : IsTrapFormula task c = trap_formula task c few trap in

@@ -1,4 +1,5 @@
--- The lines of a proof are determined by the task; they conclude, and are good where the initial state satisfies a conjunction of the
+-- The lines of a proof are determined by the task; they conclude, and are good where the initial
+-- state satisfies a conjunction of the
 -- greatest trap.
 use Rattle.std.proofs.Common.{◌≡◌, ◌≤◌, ◌∙◌, Bool, true, false, List, length, sym, ap, subst}
 use Rattle.std.proofs.lemmas.Bool.{both_ways}
@@ -16,31 +17,39 @@ use Rattle.hv_trap.proofs.Enclosing.{enclose_below}
 use Rattle.hv_trap.proofs.Formulas.{trap_formula}
 use Rattle.hv_trap.proofs.Trapped.{trap_encloses, trap_once, trap_satisfied}
 
-pub trap_proof_once : (task : Strips) (x y : List Line) → IsTrapProof task x → IsTrapProof task y → x ≡ y
-trap_proof_once task x y (c, trap, is) (d, also, at) = is ∙ (ap trap_proof (trap_once task c d trap also) ∙ sym at)
+pub trap_proof_once : (task : Strips) (x y : List Line) → IsTrapProof task x → IsTrapProof task y
+    → x ≡ y
+trap_proof_once task x y (c, trap, is) (d, also, at) = is
+    ∙ (ap trap_proof (trap_once task c d trap also) ∙ sym at)
 
-pub trap_proof_size : (task : Strips) (lines : List Line) → IsTrapProof task lines → length lines ≡ 17
+pub trap_proof_size : (task : Strips) (lines : List Line) → IsTrapProof task lines
+    → length lines ≡ 17
 trap_proof_size task lines (c, trap, is) = ap length is
 
-pub trap_proof_good : (task : Strips) (lines : List Line) → atoms task ≤ 64 → IsSatisfied task (start_state task)
+pub trap_proof_good : (task : Strips) (lines : List Line) → atoms task ≤ 64
+    → IsSatisfied task (start_state task)
     → IsTrapProof task lines → IsGoodTable task lines
 trap_proof_good task lines few satisfied (c, trap, is) =
     subst (IsGoodTable task) (sym is)
-    (good_trap_proof task c (trap_formula task c few trap) ((trap_satisfied task c trap (start_state task)).1 satisfied))
+    (good_trap_proof task c (trap_formula task c few trap)
+    ((trap_satisfied task c trap (start_state task)).1 satisfied))
 
 pub trap_proof_ends : (task : Strips) (lines : List Line) → IsTrapProof task lines → Concludes lines
 trap_proof_ends task lines (c, trap, is) = subst Concludes (sym is) (trap_concludes task c)
 
 -- what the test of the initial state tells
-module _ (task : Strips) (clauses : List (List Literal)) (trap : AreTrapClauses task clauses) (start : List Bool) (is_start : start ≡ start_state task) where
+module _ (task : Strips) (clauses : List (List Literal)) (trap : AreTrapClauses task clauses)
+    (start : List Bool) (is_start : start ≡ start_state task) where
   pub start_below : length start ≡ atoms task → AreClauses (length start) clauses
-  start_below size = subst (λ n. AreClauses n clauses) (sym size) (enclose_below task trap.0 clauses (trap_encloses task clauses trap))
+  start_below size = subst (λ n. AreClauses n clauses) (sym size)
+      (enclose_below task trap.0 clauses (trap_encloses task clauses trap))
 
   module _ (b : Bool) (tells : b ≡ in_clauses clauses start) where
     pub start_out : b ≡ true → IsSatisfied task (start_state task) → ⊥
     start_out is satisfied =
         both_ways (in_clauses clauses start)
-        (ap (in_clauses clauses) is_start ∙ (trap_satisfied task clauses trap (start_state task)).1 satisfied)
+        (ap (in_clauses clauses) is_start ∙ (trap_satisfied task clauses trap (start_state task)).1
+        satisfied)
         (sym tells ∙ is)
 
     pub start_breaks : b ≡ false → in_clauses clauses (start_state task) ≡ false

@@ -1,5 +1,6 @@
 -- What is true of the clauses of the greatest trap.
-use Rattle.std.proofs.Common.{◌≡◌, ℕ, ◌∙◌, ◌↔◌, ◌&&◌, ◌||◌, Bool, true, false, not, cond, List, [], ◌∷◌, refl, sym, ap, inl, inr}
+use Rattle.std.proofs.Common.{◌≡◌, ℕ, ◌∙◌, ◌↔◌, ◌&&◌, ◌||◌, Bool, true, false, not, cond, List, []}
+use Rattle.std.proofs.Common.{◌∷◌, refl, sym, ap, inl, inr}
 use Rattle.std.proofs.lemmas.List.Elements.{All-contains}
 use Rattle.std.proofs.lemmas.Bool.{and_parts, both_ways, cases_Bool, not-true}
 use Rattle.hv_task.specs.State.{has_all, has_atom, names_atom, successor}
@@ -13,24 +14,31 @@ use Rattle.hv_trap.specs.Trap.{AreTrapClauses, IsSatisfied, Stays}
 use Rattle.hv_trap.specs.Working.Trap.{Enclose}
 use Rattle.hv_trap.proofs.Enclosing.{none_true, one_true}
 
-pub trap_once : (task : Strips) (x y : List (List Literal)) → AreTrapClauses task x → AreTrapClauses task y → x ≡ y
+pub trap_once : (task : Strips) (x y : List (List Literal)) → AreTrapClauses task x
+    → AreTrapClauses task y → x ≡ y
 trap_once task x y (r, tells, is) (s, also, at) =
-    let same : r ≡ s = λ i c. same_truth (r c) (s c) (λ h. (also c).1 ((tells c).0 h)) (λ h. (tells c).1 ((also c).0 h)) i in
+    let same : r ≡ s = λ i c. same_truth (r c) (s c) (λ h. (also c).1 ((tells c).0 h))
+    (λ h. (tells c).1 ((also c).0 h)) i in
     is ∙ (ap (λ t. denials t (atoms task)) same ∙ sym at)
 
 -- a conjunction that denies a goal atom is false in each goal state
-pub denied_out : (goal : List ℕ) (state : List Bool) → has_all goal state ≡ true → (c : List Literal) → denies_one goal c ≡ true
+pub denied_out : (goal : List ℕ) (state : List Bool) → has_all goal state ≡ true
+    → (c : List Literal) → denies_one goal c ≡ true
     → in_cube c state ≡ true → ⊥
 denied_out goal state all [] denied true_in = absurd (cc (denied))
 denied_out goal state all (l ∷ c) denied true_in =
-    one l.positive (names_atom goal l.atom) refl denied (and_parts (in_literal l state) (in_cube c state) true_in).0
-    (λ rest. denied_out goal state all c rest (and_parts (in_literal l state) (in_cube c state) true_in).1)
+    one l.positive (names_atom goal l.atom) refl denied
+    (and_parts (in_literal l state) (in_cube c state) true_in).0
+    (λ rest. denied_out goal state all c rest
+    (and_parts (in_literal l state) (in_cube c state) true_in).1)
   where
     one : (b x : Bool) → names_atom goal l.atom ≡ x → ((not b && x) || denies_one goal c) ≡ true
-        → cond b (has_atom state l.atom) (not (has_atom state l.atom)) ≡ true → (denies_one goal c ≡ true → ⊥) → ⊥
+        → cond b (has_atom state l.atom) (not (has_atom state l.atom)) ≡ true
+        → (denies_one goal c ≡ true → ⊥) → ⊥
     one false true named some out rest =
         both_ways (has_atom state l.atom) (not-true (has_atom state l.atom) out)
-        (All-contains (λ p. has_atom state p ≡ true) goal l.atom ((has_all-Decides goal state).0 all) ((names_atom-Decides goal l.atom).0 named))
+        (All-contains (λ p. has_atom state p ≡ true) goal l.atom
+        ((has_all-Decides goal state).0 all) ((names_atom-Decides goal l.atom).0 named))
     one false false named some out rest = rest some
     one true x named some out rest = rest some
 
@@ -42,12 +50,16 @@ module _ (task : Strips) (clauses : List (List Literal)) (trap : AreTrapClauses 
     listed = trap.2;
   }
 
-  pub trap_satisfied : (state : List Bool) → (in_clauses clauses state ≡ false) ↔ IsSatisfied task state
+  pub trap_satisfied : (state : List Bool)
+      → (in_clauses clauses state ≡ false) ↔ IsSatisfied task state
   trap_satisfied state = (
-    λ fails. let w = one_true task trap.0 clauses trap_encloses state fails in (w.0, (trap.1 w.0).0 w.1, w.2),
+    λ fails. let w = one_true task trap.0 clauses trap_encloses state fails in
+        (w.0, (trap.1 w.0).0 w.1, w.2),
     λ (c, there, true_in).
         elim (cases_Bool (in_clauses clauses state)) [
-          | inl all ↦ absurd (both_ways (in_cube c state) (none_true task trap.0 clauses trap_encloses state all c ((trap.1 c).1 there)) true_in)
+          | inl all ↦ absurd (both_ways (in_cube c state)
+              (none_true task trap.0 clauses trap_encloses state all c ((trap.1 c).1 there))
+              true_in)
           | inr fails ↦ fails
         ],
   )
@@ -61,16 +73,19 @@ module _ (task : Strips) (clauses : List (List Literal)) (trap : AreTrapClauses 
             let inside = (trap.1 w.0).0 w.1 in
             let next = inside.1.stays w.0 inside.2 state is_state w.2 number a named applies in
             absurd (both_ways (in_cube next.0 (successor a state))
-            (none_true task trap.0 clauses trap_encloses (successor a state) after next.0 ((trap.1 next.0).1 (inside.0, inside.1, next.1)))
+            (none_true task trap.0 clauses trap_encloses (successor a state) after next.0
+            ((trap.1 next.0).1 (inside.0, inside.1, next.1)))
             next.2)
       ]
 
-  pub trap_goalless : (state : List Bool) → is_goal task state ≡ true → in_clauses clauses state ≡ true
+  pub trap_goalless : (state : List Bool) → is_goal task state ≡ true
+      → in_clauses clauses state ≡ true
   trap_goalless state goal =
       elim (cases_Bool (in_clauses clauses state)) [
         | inl all ↦ all
         | inr fails ↦
             let w = one_true task trap.0 clauses trap_encloses state fails in
             absurd (denied_out task.goal state goal w.0
-            (and_parts (is_short (atoms task) w.0) (denies_one task.goal w.0) (trap_encloses.candidates w.0 w.1)).1 w.2)
+            (and_parts (is_short (atoms task) w.0) (denies_one task.goal w.0)
+            (trap_encloses.candidates w.0 w.1)).1 w.2)
       ]

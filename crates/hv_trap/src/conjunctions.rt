@@ -5,7 +5,8 @@ ghost use Rattle.std.specs.List.{flat_map, range_with_len};
 ghost use Rattle.hv_task.specs.State.{names_atom};
 ghost use Rattle.hv_task.specs.Strips.{atoms};
 ghost use Rattle.hv_sets.specs.Cubes.{opposite};
-ghost use Rattle.hv_trap.specs.Conjunctions.{denial_in, denials, denials_of, denies, denies_one, affirms, over_greater, over_one, over_two};
+ghost use Rattle.hv_trap.specs.Conjunctions.{denial_in, denials, denials_of, denies, denies_one};
+ghost use Rattle.hv_trap.specs.Conjunctions.{affirms, over_greater, over_one, over_two};
 
 use hv_sets::{Clauses, Literal};
 use hv_task::{AtomList, Task};

@@ -1,7 +1,8 @@
 //! Notes of the greatest trap: a block says that the states are dead which satisfy one of its
 //! conjunctions.
 
-ghost use Rattle.std.specs.Prelude.{◌≡◌, ◌≤◌, ◌+◌, ◌↔◌, ◌++◌, [], ◌∷◌, ℕ, List, IsTrue, IfOk, OnOk, OnErr, Some, IfSome, is_some};
+ghost use Rattle.std.specs.Prelude.{◌≡◌, ◌≤◌, ◌+◌, ◌↔◌, ◌++◌, [], ◌∷◌, ℕ, List, IsTrue, IfOk, OnOk};
+ghost use Rattle.std.specs.Prelude.{OnErr, Some, IfSome, is_some};
 ghost use Rattle.std.specs.Option.{SomeIff};
 ghost use Rattle.hv_task.specs.Strips.{IsState, atoms};
 ghost use Rattle.hv_sets.specs.declared.literal.Literal.{Literal};

@@ -1,6 +1,7 @@
 //! The proof by the greatest trap.
 
-ghost use Rattle.std.specs.Prelude.{◌≡◌, ◌<◌, ◌≤◌, ◌↔◌, ◌+◌, ◌^◌, IsTrue, IfOk, IfErr, IfSome, false, is_some, length};
+ghost use Rattle.std.specs.Prelude.{◌≡◌, ◌<◌, ◌≤◌, ◌↔◌, ◌+◌, ◌^◌, IsTrue, IfOk, IfErr, IfSome};
+ghost use Rattle.std.specs.Prelude.{false, is_some, length};
 ghost use Rattle.hv_task.specs.Strips.{atoms, start_state};
 ghost use Rattle.hv_sets.specs.Truth.{in_clauses};
 ghost use Rattle.hv_lines.specs.Drafts.{IsGoodTable};

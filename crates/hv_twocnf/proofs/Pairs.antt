@@ -1,5 +1,6 @@
 -- Clauses of at most two different literals.
-use Rattle.std.proofs.Common.{◌≡◌, ◌⊎◌, ◌∙◌, ◌&&◌, ◌==◌, Bool, true, false, not, List, get_or, inl, inr, sym, ap}
+use Rattle.std.proofs.Common.{◌≡◌, ◌⊎◌, ◌∙◌, ◌&&◌, ◌==◌, Bool, true, false, not, List, get_or, inl}
+use Rattle.std.proofs.Common.{inr, sym, ap}
 use Rattle.std.proofs.Math.Bool.{beq, not-not}
 use Rattle.std.proofs.lemmas.Bool.{and_from, and_parts}
 use Rattle.std.proofs.lemmas.Bool.Decides.{Decides-eqb}
@@ -26,20 +27,23 @@ same_if l k e =
 pub differ_if : (l k : Literal) → true ≡ not (is_same_literal l k) → l ≡ k → ⊥
 differ_if l k e same =
     let yes : is_same_literal l k ≡ true =
-    and_from (l.atom == k.atom) (beq l.positive k.positive) ((Decides-eqb l.atom k.atom).1 (ap (λ m. m.atom) same))
+    and_from (l.atom == k.atom) (beq l.positive k.positive)
+    ((Decides-eqb l.atom k.atom).1 (ap (λ m. m.atom) same))
     ((booleans_Decides l.positive k.positive).1 (ap (λ m. m.positive) same)) in
     let clash : true ≡ false = e ∙ ap not yes in
     absurd cc
 
 -- a clause whose literals are all one is a clause of two literals
-pub two_of_one : (clause : List Literal) (first : Literal) → All (λ (l : Literal). l ≡ first) clause → IsTwoClause clause
+pub two_of_one : (clause : List Literal) (first : Literal) → All (λ (l : Literal). l ≡ first) clause
+    → IsTwoClause clause
 two_of_one clause first all l k m in_l in_k in_m =
     let a = All-contains (λ (l : Literal). l ≡ first) clause l all in_l in
     let b = All-contains (λ (l : Literal). l ≡ first) clause k all in_k in
     inl cc
 
 -- of three literals that are each one of two, two are the same
-same_two : (first second l k m : Literal) → IsEither first second l → IsEither first second k → IsEither first second m
+same_two : (first second l k m : Literal) → IsEither first second l → IsEither first second k
+    → IsEither first second m
     → (l ≡ k) ⊎ ((k ≡ m) ⊎ (l ≡ m))
 same_two first second l k m (inl a) (inl b) c = inl cc
 same_two first second l k m (inr a) (inr b) c = inl cc
@@ -49,14 +53,17 @@ same_two first second l k m (inr a) (inl b) (inl c) = inr (inl cc)
 same_two first second l k m (inr a) (inl b) (inr c) = inr (inr cc)
 
 -- a clause with two different literals is a clause of two literals where it has no others
-pub two_of_pair : (clause : List Literal) (first second : Literal) → Contains clause first → Contains clause second
+pub two_of_pair : (clause : List Literal) (first second : Literal) → Contains clause first
+    → Contains clause second
     → (second ≡ first → ⊥) → All (IsEither first second) clause ↔ IsTwoClause clause
 two_of_pair clause first second in_first in_second differ = (
   λ all l k m in_l in_k in_m.
       same_two first second l k m (All-contains (IsEither first second) clause l all in_l)
-      (All-contains (IsEither first second) clause k all in_k) (All-contains (IsEither first second) clause m all in_m),
+      (All-contains (IsEither first second) clause k all in_k)
+      (All-contains (IsEither first second) clause m all in_m),
   λ two k d within.
-      elim (two first second (get_or clause k d) in_first in_second (Contains-get_or clause k d within)) [
+      elim (two first second (get_or clause k d) in_first in_second
+      (Contains-get_or clause k d within)) [
         | inl same ↦ absurd (differ (sym same))
         | inr rest ↦ elim rest [ inl e ↦ inr (sym e) | inr e ↦ inl (sym e) ]
       ],

@@ -2,7 +2,8 @@
 use Rattle.std.specs.Prelude.{◌≡◌, ◌↔◌, ◌⊎◌, ℕ, Bool, true, false, not, List, Option, None, Some}
 use Rattle.std.specs.List.{All, Contains}
 use Rattle.hv_lines.specs.Literals.{IsLiteral}
-use Rattle.hv_lines.specs.Shapes.{IsAndLeaf, IsAsked, IsLiteralOf, IsStep, IsWithinFamily, IsOfFamily, asks_step_after}
+use Rattle.hv_lines.specs.Shapes.{IsAndLeaf, IsAsked, IsLiteralOf, IsStep, IsWithinFamily}
+use Rattle.hv_lines.specs.Shapes.{IsOfFamily, asks_step_after}
 use Rattle.hv_lines.specs.declared.family.FormulaFamily.{FormulaFamily}
 use Rattle.hv_lines.specs.declared.family.FormulaFamily.TheVariants as F
 use Rattle.hv_lines.specs.declared.line.Line.{Line}

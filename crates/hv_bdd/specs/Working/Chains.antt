@@ -1,5 +1,6 @@
 -- Nodes found by their numbers: chains of the places of nodes that fall into one slot.
-use Rattle.std.specs.Prelude.{◌≡◌, ◌<◌, ◌≤◌, ◌+◌, ◌-◌, ◌*◌, ◌/◌, ◌%◌, ◌^◌, ℕ, List, length, slice_index, slice_index_or}
+use Rattle.std.specs.Prelude.{◌≡◌, ◌<◌, ◌≤◌, ◌+◌, ◌-◌, ◌*◌, ◌/◌, ◌%◌, ◌^◌, ℕ, List, length}
+use Rattle.std.specs.Prelude.{slice_index, slice_index_or}
 use Rattle.hv_bdd.specs.declared.chains.Chains.{Chains}
 use Rattle.hv_bdd.specs.declared.node.Node.{Node}
 

@@ -1,5 +1,6 @@
 -- What the nodes of the operands say of a state.
-use Rattle.std.specs.Prelude.{◌≡◌, ◌<◌, ◌+◌, ◌-◌, ◌&&◌, ◌||◌, ℕ, zero, suc, Bool, true, List, [], ◌∷◌, Option, cond, length, nat_eq, nat_lt, not, ⊤}
+use Rattle.std.specs.Prelude.{◌≡◌, ◌<◌, ◌+◌, ◌-◌, ◌&&◌, ◌||◌, ℕ, zero, suc, Bool, true, List, []}
+use Rattle.std.specs.Prelude.{◌∷◌, Option, cond, length, nat_eq, nat_lt, not, ⊤}
 use Rattle.std.proofs.Math.Bool.{beq}
 use Rattle.hv_task.specs.State.{has_atom}
 use Rattle.hv_sets.specs.declared.finding.Finding.{Finding}

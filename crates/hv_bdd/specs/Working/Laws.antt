@@ -1,9 +1,12 @@
 -- The laws of paths of a reduced ordered list: as many as the children have together, and their
 -- cubes are the set or its complement.
-use Rattle.std.proofs.Common.{◌≡◌, ℕ, zero, suc, ◌<◌, ◌≤◌, ◌+◌, ◌-◌, ◌∙◌, ◌&&◌, ◌||◌, Bool, true, false, not, List, [], ◌∷◌, ◌++◌, Some, cond, eqb, ltb, length, map, refl, sym, ap, ap₂, arith, inl, inr, subst}
+use Rattle.std.proofs.Common.{◌≡◌, ℕ, zero, suc, ◌<◌, ◌≤◌, ◌+◌, ◌-◌, ◌∙◌, ◌&&◌, ◌||◌, Bool, true}
+use Rattle.std.proofs.Common.{false, not, List, [], ◌∷◌, ◌++◌, Some, cond, eqb, ltb, length, map}
+use Rattle.std.proofs.Common.{refl, sym, ap, ap₂, arith, inl, inr, subst}
 use Rattle.std.proofs.lemmas.Bool.{cases_lt, cond-false, cond-true, eq-eqb, le-ltb, lt-ltb}
 use Rattle.std.proofs.lemmas.List.{length-append, length-map}
-use Rattle.std.proofs.lemmas.List.Elements.{All-append, All-cons, All-head, All-map, All-nil, All-tail, All-weaker}
+use Rattle.std.proofs.lemmas.List.Elements.{All-append, All-cons, All-head, All-map, All-nil}
+use Rattle.std.proofs.lemmas.List.Elements.{All-tail, All-weaker}
 use Rattle.std.proofs.lemmas.List.Folds.{list_any-append}
 use Rattle.std.proofs.Math.Bool.{beq}
 use Rattle.std.specs.List.{All, list_any}
@@ -15,7 +18,8 @@ use Rattle.hv_sets.specs.declared.cursor.Cursor.{Cursor}
 use Rattle.hv_sets.specs.declared.literal.Literal.{Literal}
 use Rattle.hv_bdd.specs.Nodes.{NodeList, in_node, node_count}
 use Rattle.hv_bdd.specs.Order.{place}
-use Rattle.hv_bdd.specs.Paths.{StandsForWalk, at_end, left_at, left_of, path_cubes, paths, paths_in, with_bit}
+use Rattle.hv_bdd.specs.Paths.{StandsForWalk, at_end, left_at, left_of, path_cubes, paths, paths_in}
+use Rattle.hv_bdd.specs.Paths.{with_bit}
 use Rattle.hv_bdd.specs.Reduced.{IsReduced, child, node_at, top}
 use Rattle.hv_bdd.specs.Working.Cubed.{RisesPast, in_cube_of}
 use Rattle.hv_bdd.specs.Working.Walking.{in_end, in_inner, top_inner}

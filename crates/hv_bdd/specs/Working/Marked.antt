@@ -1,5 +1,6 @@
 -- Bits that are read off lists.
-use Rattle.std.specs.Prelude.{◌≡◌, ◌<◌, ℕ, Bool, true, false, List, Option, None, Some, MatchOption, cond, length, map, slice_index_or}
+use Rattle.std.specs.Prelude.{◌≡◌, ◌<◌, ℕ, Bool, true, false, List, Option, None, Some, MatchOption}
+use Rattle.std.specs.Prelude.{cond, length, map, slice_index_or}
 use Rattle.std.specs.List.{range_with_len}
 use Rattle.hv_task.specs.State.{names_atom}
 use Rattle.hv_sets.specs.declared.literal.Literal.{Literal}

@@ -1,5 +1,6 @@
 -- What the reader of node files does with one line, and at the end.
-use Rattle.std.specs.Prelude.{◌≡◌, ◌≤◌, ◌+◌, ◌++◌, ◌⊎◌, ℕ, List, [], ◌∷◌, Option, None, Some, Result, Ok, Err, length, map}
+use Rattle.std.specs.Prelude.{◌≡◌, ◌≤◌, ◌+◌, ◌++◌, ◌⊎◌, ℕ, List, [], ◌∷◌, Option, None, Some}
+use Rattle.std.specs.Prelude.{Result, Ok, Err, length, map}
 use Rattle.std.specs.List.{All}
 use Rattle.hv_bytes.specs.declared.cutting.LineFault.{LineFault}
 use Rattle.hv_bytes.specs.declared.cutting.LineFault.TheVariants as L
@@ -13,7 +14,8 @@ use Rattle.hv_bdd.specs.declared.reader.Reader.{Reader}
 use Rattle.hv_bdd.specs.Working.Building.{as_node}
 use Rattle.hv_bdd.specs.Working.Chains.{IsChained}
 use Rattle.hv_bdd.specs.Nodes.{NodeList}
-use Rattle.hv_bdd.specs.NodeText.{AreLegal, Beginning, EndsEarly, FailsLine, IsLegal, IsTriple, PassesLimit, at_header, at_node, lines_before, node_line}
+use Rattle.hv_bdd.specs.NodeText.{AreLegal, Beginning, EndsEarly, FailsLine, IsLegal, IsTriple}
+use Rattle.hv_bdd.specs.NodeText.{PassesLimit, at_header, at_node, lines_before, node_line}
 
 -- the beginning that the reader has read
 abbrev pub begun : Option ℕ → List Node → Beginning

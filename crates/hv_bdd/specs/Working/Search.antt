@@ -1,5 +1,6 @@
 -- The search through live tuples.
-use Rattle.std.specs.Prelude.{◌≡◌, ◌<◌, ◌≤◌, ◌++◌, ◌⊎◌, ℕ, Bool, false, List, [], ◌∷◌, Option, None, Some, length, map, slice_index_or, ⊤}
+use Rattle.std.specs.Prelude.{◌≡◌, ◌<◌, ◌≤◌, ◌++◌, ◌⊎◌, ℕ, Bool, false, List, [], ◌∷◌, Option, None}
+use Rattle.std.specs.Prelude.{Some, length, map, slice_index_or, ⊤}
 use Rattle.std.specs.List.{All, Contains}
 use Rattle.indexmap.specs.IndexSet.{IndexSet}
 use Rattle.smallvec.specs.SmallVec.{SmallVec}
@@ -16,7 +17,8 @@ use Rattle.hv_bdd.specs.declared.search.Link.{Link}
 use Rattle.hv_bdd.specs.declared.search.Search.{Search}
 use Rattle.hv_bdd.specs.Nodes.{NodeList, node_count}
 use Rattle.hv_bdd.specs.Reduced.{IsReduced}
-use Rattle.hv_bdd.specs.Live.{TupleSetting, changed_by, moves, needed_by, no_marks, operands_of, roots}
+use Rattle.hv_bdd.specs.Live.{TupleSetting, changed_by, moves, needed_by, no_marks, operands_of}
+use Rattle.hv_bdd.specs.Live.{roots}
 use Rattle.hv_bdd.specs.Working.Graphs.{limit}
 use Rattle.hv_bdd.specs.Working.Sets.{mark_literals}
 use Rattle.hv_bdd.specs.Tuples.{IsReached, Moves, if_live, least, next}

@@ -1,5 +1,6 @@
 -- A node as a set of states, asked within a cube.
-use Rattle.std.specs.Prelude.{◌≡◌, ℕ, Bool, true, false, List, [], ◌∷◌, Option, Some, not, slice_set}
+use Rattle.std.specs.Prelude.{◌≡◌, ℕ, Bool, true, false, List, [], ◌∷◌, Option, Some, not}
+use Rattle.std.specs.Prelude.{slice_set}
 use Rattle.hv_sets.specs.Truth.{in_cube}
 use Rattle.hv_sets.specs.Walks.{IsAmong, IsStateOf}
 use Rattle.hv_sets.specs.declared.literal.Literal.{Literal}

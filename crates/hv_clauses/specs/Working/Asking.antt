@@ -1,5 +1,6 @@
 -- What is known after each of some literals was assumed.
-use Rattle.std.specs.Prelude.{◌≡◌, ◌<◌, ◌≤◌, ℕ, Bool, true, false, List, [], Some, length, take, slice_index_or}
+use Rattle.std.specs.Prelude.{◌≡◌, ◌<◌, ◌≤◌, ℕ, Bool, true, false, List, [], Some, length, take}
+use Rattle.std.specs.Prelude.{slice_index_or}
 use Rattle.hv_sets.specs.declared.literal.Literal.{Literal}
 use Rattle.hv_sets.specs.Truth.{in_clauses, in_cube, in_literal}
 use Rattle.hv_clauses.specs.Clausal.{Formula}

@@ -1,5 +1,6 @@
 -- The search through listed states for a counterexample to a query.
-use Rattle.std.specs.Prelude.{◌≡◌, ◌<◌, ◌≤◌, ◌&&◌, ℕ, Bool, true, false, not, List, length, if◌then◌else◌, IfSome}
+use Rattle.std.specs.Prelude.{◌≡◌, ◌<◌, ◌≤◌, ◌&&◌, ℕ, Bool, true, false, not, List, length}
+use Rattle.std.specs.Prelude.{if◌then◌else◌, IfSome}
 use Rattle.std.specs.List.{All, Contains, list_all}
 use Rattle.hv_task.specs.State.{state_of}
 use Rattle.hv_task.specs.Strips.{IsState, Strips, atoms}

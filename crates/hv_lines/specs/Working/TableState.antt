@@ -1,6 +1,8 @@
 -- Working definitions beside those of `TableState`: for private contracts and proofs.
-use Rattle.std.specs.Prelude.{◌≡◌, ◌<◌, ◌-◌, ℕ, List, Some, Vec, length, slice_get, slice_index, vec_len, vec_capacity}
-use Rattle.hv_lines.specs.Numbering.{acts_count, acts_at, expr_count, expr_at, known_count, statement_at, word_at, premises_at, IsTable}
+use Rattle.std.specs.Prelude.{◌≡◌, ◌<◌, ◌-◌, ℕ, List, Some, Vec, length, slice_get, slice_index}
+use Rattle.std.specs.Prelude.{vec_len, vec_capacity}
+use Rattle.hv_lines.specs.Numbering.{acts_count, acts_at, expr_count, expr_at, known_count}
+use Rattle.hv_lines.specs.Numbering.{statement_at, word_at, premises_at, IsTable}
 use Rattle.hv_lines.specs.declared.line.Acts.{Acts}
 use Rattle.hv_lines.specs.declared.line.Expr.{Expr}
 use Rattle.hv_lines.specs.declared.line.Line.{Line}

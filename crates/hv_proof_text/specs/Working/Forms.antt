@@ -16,7 +16,8 @@ use Rattle.hv_proof_text.specs.declared.token.Letter.{Letter}
 use Rattle.hv_proof_text.specs.declared.token.Letter.TheVariants as L
 use Rattle.hv_proof_text.specs.declared.token.Token.{Token}
 use Rattle.hv_proof_text.specs.declared.token.Token.TheVariants as T
-use Rattle.hv_proof_text.specs.Working.Tokens.{AreRisingNumbers, AreClauseTokens, AreStateTokens, constant_letter, letter, number}
+use Rattle.hv_proof_text.specs.Working.Tokens.{AreRisingNumbers, AreClauseTokens, AreStateTokens}
+use Rattle.hv_proof_text.specs.Working.Tokens.{constant_letter, letter, number}
 
 -- behind `a ID` and this letter
 abbrev pub ActsForm : Letter → List Token → Acts → Type 0

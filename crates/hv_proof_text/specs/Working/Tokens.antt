@@ -1,5 +1,6 @@
 -- The tokens of a line: each of its fields stands for one.
-use Rattle.std.specs.Prelude.{◌≡◌, ◌<◌, ◌+◌, ◌^◌, ℕ, List, [], ◌∷◌, ◌++◌, cond, length, map, codes, decimal}
+use Rattle.std.specs.Prelude.{◌≡◌, ◌<◌, ◌+◌, ◌^◌, ℕ, List, [], ◌∷◌, ◌++◌, cond, length, map, codes}
+use Rattle.std.specs.Prelude.{decimal}
 use Rattle.std.specs.List.{All, flat_map}
 use Rattle.hv_sets.specs.declared.literal.Literal.{Literal}
 use Rattle.hv_lines.specs.Spelling.{IsSpelled, IsRising, FitsLiteral, word_field}

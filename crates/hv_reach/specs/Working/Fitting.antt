@@ -8,7 +8,8 @@ use Rattle.hv_lines.specs.declared.line.Expr.TheVariants as E
 use Rattle.hv_lines.specs.declared.line.Line.{Line}
 use Rattle.hv_lines.specs.declared.note.Note.{Note}
 use Rattle.hv_lines.proofs.Extended.{expr_extended, literal_below, noted_extended, states_extended}
-use Rattle.hv_reach.specs.Pruners.{AreHornNotes, AreDescribed, FitPairs, FitRelaxed, HoldsAtomsOf, HoldsPairsOf, PairNotes, PairsCover, RelaxedNotes, Describes}
+use Rattle.hv_reach.specs.Pruners.{AreHornNotes, AreDescribed, FitPairs, FitRelaxed, HoldsAtomsOf}
+use Rattle.hv_reach.specs.Pruners.{HoldsPairsOf, PairNotes, PairsCover, RelaxedNotes, Describes}
 use Rattle.hv_reach.specs.Written.{RelaxedExcludesFrom}
 
 pub notes_fit : (task : Strips) (covered : StateSet) (old new : List Line) (notes : List Note)

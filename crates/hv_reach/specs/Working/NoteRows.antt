@@ -1,7 +1,9 @@
 -- What was reached for each note: a row of atoms, kept by note and by atom. Rows stand in blocks of
 -- 512, and in a block there is for each atom a column, whose flag at a place says whether the row
 -- at this place of the block has the atom.
-use Rattle.std.specs.Prelude.{◌≡◌, ◌<◌, ◌≤◌, ◌+◌, ◌-◌, ◌*◌, ◌↔◌, min, ℕ, Bool, true, List, [], length, Option, Some, MatchOption, slice_get, slice_index_or, vec_capacity, vec_len}
+use Rattle.std.specs.Prelude.{◌≡◌, ◌<◌, ◌≤◌, ◌+◌, ◌-◌, ◌*◌, ◌↔◌, min, ℕ, Bool, true, List, []}
+use Rattle.std.specs.Prelude.{length, Option, Some, MatchOption, slice_get, slice_index_or}
+use Rattle.std.specs.Prelude.{vec_capacity, vec_len}
 use Rattle.std.specs.List.{All}
 use Rattle.std.specs.Global.{Vec}
 use Rattle.hv_task.specs.State.{has_atom}

@@ -1,5 +1,6 @@
 -- Working definitions beside those of `Pruners`: for private contracts and proofs.
-use Rattle.std.specs.Prelude.{◌≡◌, ◌<◌, ◌↔◌, [], IsTrue, ℕ, Bool, true, List, Option, is_some, IfSome, IfNone, length, slice_index_or}
+use Rattle.std.specs.Prelude.{◌≡◌, ◌<◌, ◌↔◌, [], IsTrue, ℕ, Bool, true, List, Option, is_some}
+use Rattle.std.specs.Prelude.{IfSome, IfNone, length, slice_index_or}
 use Rattle.hv_task.specs.Strips.{Strips, IsState}
 use Rattle.hv_sets.specs.Truth.{in_clauses}
 use Rattle.hv_sets.specs.declared.literal.Literal.{Literal}

@@ -1,5 +1,6 @@
 -- What the reader of logs does with one line, and at the end.
-use Rattle.std.specs.Prelude.{◌≡◌, ◌≤◌, ◌++◌, ℕ, Bool, true, false, List, [], ◌∷◌, Option, None, Some, Result, Ok, Err, decimal, map}
+use Rattle.std.specs.Prelude.{◌≡◌, ◌≤◌, ◌++◌, ℕ, Bool, true, false, List, [], ◌∷◌, Option, None}
+use Rattle.std.specs.Prelude.{Some, Result, Ok, Err, decimal, map}
 use Rattle.std.specs.List.Sorted.{IsStrictlyIncreasing}
 use Rattle.hv_bytes.specs.Fields.{cut_fields}
 use Rattle.hv_bytes.specs.declared.cutting.LineFault.{LineFault}
@@ -7,7 +8,8 @@ use Rattle.hv_bytes.specs.declared.cutting.LineFault.TheVariants as L
 use Rattle.hv_task.specs.State.{AreBelow}
 use Rattle.hv_replay.specs.Logs.{IsLog, SearchLog}
 use Rattle.hv_replay.specs.Working.Logs.{counts_of}
-use Rattle.hv_replay.specs.LogText.{Beginning, FailsLine, PassesCount, PassesLimit, at_end, at_entry, lines_before}
+use Rattle.hv_replay.specs.LogText.{Beginning, FailsLine, PassesCount, PassesLimit, at_end}
+use Rattle.hv_replay.specs.LogText.{at_entry, lines_before}
 use Rattle.hv_replay.specs.declared.fault.LogFault.{LogFault}
 use Rattle.hv_replay.specs.declared.fault.LogFault.TheVariants as F
 use Rattle.hv_replay.specs.declared.fault.LogLimit.TheVariants as W

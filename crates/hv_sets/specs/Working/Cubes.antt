@@ -1,5 +1,5 @@
 -- Working definitions beside those of `Cubes`: for private contracts and proofs.
-use Rattle.std.specs.Prelude.{◌<◌, ◌≤◌, ℕ, List, length, not, slice_index}
+use Rattle.std.specs.Prelude.{◌<◌, ◌≤◌, ℕ, List, length, slice_index}
 
 -- the atoms before this place are less than the atom, and the others are not
 abbrev pub IsFirstUpto : List ℕ → ℕ → ℕ → Type 0

@@ -1,5 +1,6 @@
 -- Lists of lists that are kept as one: all items in a row, and where each piece ends.
-use Rattle.std.specs.Prelude.{◌≤◌, ◌≡◌, ℕ, zero, suc, List, [], ◌∷◌, length, slice_index, slice_range}
+use Rattle.std.specs.Prelude.{◌≤◌, ◌≡◌, ℕ, zero, suc, List, [], ◌∷◌, length, slice_index}
+use Rattle.std.specs.Prelude.{slice_range}
 
 -- the pieces of the items from this place on, by where each ends
 abbrev pub pieces : {A : Type 0} → List A → ℕ → List ℕ → List (List A)

@@ -1,5 +1,6 @@
 -- What the reader of lines does with one line, by the kind of the place that it expects.
-use Rattle.std.specs.Prelude.{◌≡◌, ◌≢◌, ℕ, ◌+◌, ◌<◌, ◌≤◌, ◌⊎◌, List, [], ◌∷◌, ◌++◌, length, nat_lt, codes, Result, Ok, Err, if◌then◌else◌}
+use Rattle.std.specs.Prelude.{◌≡◌, ◌≢◌, ℕ, ◌+◌, ◌<◌, ◌≤◌, ◌⊎◌, List, [], ◌∷◌, ◌++◌, length, nat_lt}
+use Rattle.std.specs.Prelude.{codes, Result, Ok, Err, if◌then◌else◌}
 use Rattle.hv_bytes.specs.Decimals.{IsDecimal}
 use Rattle.hv_task.specs.AtomList.{Inserts}
 use Rattle.hv_task.specs.State.{AreBelow}

@@ -6,5 +6,6 @@ use Rattle.hv_basic.proofs.families.are_within.Goals as goal
 
 pub loop-asking-preserved : goal.loop-asking-preserved
 loop-asking-preserved c =
-    more (λ (a : Asking). IsWithinFamily c.args.table.now.lines c.args.family a.set) c.args.askings.now c.loop-asking.asking-index
+    more (λ (a : Asking). IsWithinFamily c.args.table.now.lines c.args.family a.set)
+    c.args.askings.now c.loop-asking.asking-index
     (omega arith) c.loop-asking.invariant _ (c.if-not-is_within.ensures.0 refl)

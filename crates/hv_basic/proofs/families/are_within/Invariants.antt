@@ -5,4 +5,5 @@ use Rattle.hv_basic.proofs.families.are_within.Given as goal
 
 abbrev pub invariant-loop-asking : goal.invariant-loop-asking
 invariant-loop-asking l =
-    (k : ℕ) (d : Asking) → k < l.asking-index → IsWithinFamily l.table.lines l.family (get_or l.askings k d).set
+    (k : ℕ) (d : Asking) → k < l.asking-index
+    → IsWithinFamily l.table.lines l.family (get_or l.askings k d).set

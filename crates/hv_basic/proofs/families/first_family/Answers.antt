@@ -4,9 +4,11 @@ use Rattle.hv_basic.proofs.families.first_family.Goals as goal
 
 pub loop-asking-preserved : goal.loop-asking-preserved
 loop-asking-preserved c =
-    no_family_more c.args.table.now.lines c.args.askings.now c.loop-asking.asking-index (omega arith) c.loop-asking.invariant _
+    no_family_more c.args.table.now.lines c.args.askings.now c.loop-asking.asking-index
+    (omega arith) c.loop-asking.invariant _
     c.expr.result.now c.expr.ensures.says c.in-None.ensures
 
 pub returns : goal.returns
 returns c =
-    no_family_all c.args.table.now.lines c.args.askings.now c.loop-asking.asking-index (omega arith) c.loop-asking.invariant
+    no_family_all c.args.table.now.lines c.args.askings.now c.loop-asking.asking-index (omega arith)
+    c.loop-asking.invariant

@@ -6,4 +6,5 @@ use Rattle.hv_basic.proofs.families.first_family.Given as goal
 
 abbrev pub invariant-loop-asking : goal.invariant-loop-asking
 invariant-loop-asking l =
-    (k : ℕ) (d : Asking) → k < l.asking-index → (family : FormulaFamily) → IsOfFamily l.table.lines family (get_or l.askings k d).set → ⊥
+    (k : ℕ) (d : Asking) → k < l.asking-index → (family : FormulaFamily)
+    → IsOfFamily l.table.lines family (get_or l.askings k d).set → ⊥

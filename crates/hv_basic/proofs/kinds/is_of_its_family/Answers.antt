@@ -8,4 +8,5 @@ returns-in-Horn c =
 
 pub returns-in-Two : goal.returns-in-Two
 returns-in-Two c =
-    subst (λ expr. IsTrue c.are_of-in-Two.result ↔ IsOfItsFamily expr) (sym c.in-Two.is) c.are_of-in-Two.ensures
+    subst (λ expr. IsTrue c.are_of-in-Two.result ↔ IsOfItsFamily expr) (sym c.in-Two.is)
+    c.are_of-in-Two.ensures

@@ -7,9 +7,11 @@ use Rattle.hv_basic.proofs.lefts.family_beside.Goals as goal
 
 pub returns-then-are_within : goal.returns-then-are_within
 returns-then-are_within c =
-    subst (λ kept. IsFamilyBeside c.args.table.now.lines c.args.askings.now kept c.in-Some.family) (sym c.in-Some.is) (
+    subst (λ kept. IsFamilyBeside c.args.table.now.lines c.args.askings.now kept c.in-Some.family)
+    (sym c.in-Some.is) (
       refl,
       λ asking has.
-          All-contains (λ (a : Asking). IsWithinFamily c.args.table.now.lines c.in-Some.family a.set) c.args.askings.now asking
+          All-contains (λ (a : Asking). IsWithinFamily c.args.table.now.lines c.in-Some.family
+          a.set) c.args.askings.now asking
           (c.if-are_within.ensures.0 refl) has,
     )

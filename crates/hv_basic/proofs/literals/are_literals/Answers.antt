@@ -9,5 +9,6 @@ returns-in-None c = (λ is. c.in-None.ensures, λ all. refl)
 pub returns-in-Some : goal.returns-in-Some
 returns-in-Some c = (
   λ is. let both : false ≡ true = is in absurd (cc (both)),
-  λ all. absurd (c.in-Some.ensures.1 (All-contains (IsLiteral c.args.table.now.lines) c.args.leaves.now c.in-Some.field-0 all c.in-Some.ensures.0)),
+  λ all. absurd (c.in-Some.ensures.1 (All-contains (IsLiteral c.args.table.now.lines)
+      c.args.leaves.now c.in-Some.field-0 all c.in-Some.ensures.0)),
 )

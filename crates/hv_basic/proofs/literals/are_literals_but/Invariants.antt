@@ -4,4 +4,5 @@ use Rattle.hv_basic.proofs.literals.are_literals_but.Given as goal
 
 abbrev pub invariant-loop-leaf : goal.invariant-loop-leaf
 invariant-loop-leaf l =
-    (k d : ℕ) → k < l.leaf-index → IsLiteral l.table.lines (get_or l.leaves k d) ⊎ (get_or l.leaves k d ≡ l.step)
+    (k d : ℕ) → k < l.leaf-index → IsLiteral l.table.lines (get_or l.leaves k d)
+    ⊎ (get_or l.leaves k d ≡ l.step)

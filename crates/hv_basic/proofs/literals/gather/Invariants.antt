@@ -4,4 +4,5 @@ use Rattle.hv_basic.proofs.literals.gather.Given as goal
 
 abbrev pub invariant-loop-leaf : goal.invariant-loop-leaf
 invariant-loop-leaf l =
-    AreGathered l.table.lines (take l.leaf-index l.leaves) l.on_left l.after l.fn.into.items l.into.items
+    AreGathered l.table.lines (take l.leaf-index l.leaves) l.on_left l.after l.fn.into.items
+    l.into.items

@@ -6,7 +6,8 @@ use Rattle.hv_basic.proofs.order.in_order.Goals as goal
 
 pub returns-clause-rises : goal.returns-clause-rises
 returns-clause-rises c =
-    subst AskingsRise (sym c.in_ok-list.ensures.list) (ordered_rises c.in_ok-keys.keys.keys c.in_ok-list.ensures.ordered)
+    subst AskingsRise (sym c.in_ok-list.ensures.list)
+    (ordered_rises c.in_ok-keys.keys.keys c.in_ok-list.ensures.ordered)
 
 pub returns-clause-chosen : goal.returns-clause-chosen
 returns-clause-chosen c =

@@ -6,5 +6,6 @@ use Rattle.hv_basic.proofs.rights.add_all.Given as goal
 abbrev pub invariant-loop-count : goal.invariant-loop-count
 invariant-loop-count l = record {
   plain : ArePlain l.table.lines l.after l.family l.asked.items l.operands;
-  added : AreAddedTo l.after (drop (length l.leaves - l.count) l.leaves) l.fn.asked.items l.asked.items;
+  added : AreAddedTo l.after (drop (length l.leaves - l.count) l.leaves) l.fn.asked.items
+      l.asked.items;
 }

@@ -3,4 +3,5 @@ use Rattle.hv_basic.proofs.rights.extend.Goals as goal
 
 pub grow-requires-clause-made : goal.grow-requires-clause-made
 grow-requires-clause-made c =
-    made_of c.args.table.now.lines c.args.kept.now c.args.root c.in-Some.part c.requires.kept c.in-Some.ensures
+    made_of c.args.table.now.lines c.args.kept.now c.args.root c.in-Some.part c.requires.kept
+    c.in-Some.ensures

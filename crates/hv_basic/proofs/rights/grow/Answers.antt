@@ -8,8 +8,10 @@ returns-clause-kept c = record {
   below = c.requires.root;
   plain = c.in_ok-add_all.ensures.plain c.if-not-branch.false;
   leaves =
-      kept_for c.args.table.now.lines c.args.root c.args.part c.args.kept.now.after c.in_ok-leaves.leaves.items c.args.kept.now.question.negative.items
+      kept_for c.args.table.now.lines c.args.root c.args.part c.args.kept.now.after
+      c.in_ok-leaves.leaves.items c.args.kept.now.question.negative.items
       c.add_all.new.asked.items c.requires.made c.in_ok-leaves.ensures.leaves
-      (subst (λ ls. AreAddedTo c.args.kept.now.after ls c.args.kept.now.question.negative.items c.add_all.new.asked.items) c.deref.ensures.value
+      (subst (λ ls. AreAddedTo c.args.kept.now.after ls c.args.kept.now.question.negative.items
+      c.add_all.new.asked.items) c.deref.ensures.value
       (c.in_ok-add_all.ensures.added c.if-not-branch.false));
 }

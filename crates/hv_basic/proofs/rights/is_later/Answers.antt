@@ -5,4 +5,5 @@ use Rattle.hv_basic.proofs.rights.is_later.Goals as goal
 
 pub returns-else-is_empty : goal.returns-else-is_empty
 returns-else-is_empty c = λ less a has.
-    after_last c.args.asked.now c.args.leaf c.requires (omega (arith, has.1)) (ltb-true _ _ less) a has
+    after_last c.args.asked.now c.args.leaf c.requires (omega (arith, has.1)) (ltb-true _ _ less) a
+    has

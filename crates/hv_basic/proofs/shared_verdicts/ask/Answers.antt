@@ -9,14 +9,19 @@ use Rattle.hv_basic.proofs.shared_verdicts.ask.Goals as goal
 pub returns-clause-asked : goal.returns-clause-asked
 returns-clause-asked c = λ _. record {
   is =
-      question_by c.args.table.now.lines c.args.word c.args.left c.args.right c.args.sides.askings.items c.args.kept.now.after c.args.kept.now.family
-      c.args.kept.now.question.negative.items c.args.kept.now.query.negative c.requires.right.plain c.requires.right.leaves c.requires.after
+      question_by c.args.table.now.lines c.args.word c.args.left c.args.right
+      c.args.sides.askings.items c.args.kept.now.after c.args.kept.now.family
+      c.args.kept.now.question.negative.items c.args.kept.now.query.negative c.requires.right.plain
+      c.requires.right.leaves c.requires.after
       c.requires.askings
-      (subst (λ xs. (a : Asking) → Contains xs a → a.positive ≡ true) c.deref.ensures.value (c.if-not-are_positive.ensures refl))
+      (subst (λ xs. (a : Asking) → Contains xs a → a.positive ≡ true) c.deref.ensures.value
+      (c.if-not-are_positive.ensures refl))
       c.args.sides.acts c.in-Some.family c.in_ok-positive.positive.items c.requires.side
-      (subst (λ xs. IsFamilyBeside c.args.table.now.lines xs c.args.kept.now.family c.in-Some.family) c.deref-2.ensures.value c.in-Some.ensures)
+      (subst (λ xs. IsFamilyBeside c.args.table.now.lines xs c.args.kept.now.family
+      c.in-Some.family) c.deref-2.ensures.value c.in-Some.ensures)
       c.in_ok-positive.ensures.rises
-      (subst (λ xs. AreChosen xs true c.in_ok-positive.positive.items) c.deref-3.ensures.value c.in_ok-positive.ensures.chosen)
+      (subst (λ xs. AreChosen xs true c.in_ok-positive.positive.items) c.deref-3.ensures.value
+      c.in_ok-positive.ensures.chosen)
       (search rules);
   negative = c.requires.right.plain.named;
 }

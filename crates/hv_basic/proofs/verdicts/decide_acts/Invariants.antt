@@ -3,4 +3,5 @@ use Rattle.hv_lines.specs.Verdicts.{IsOutside}
 use Rattle.hv_basic.proofs.verdicts.decide_acts.Given as goal
 
 abbrev pub invariant-loop-action : goal.invariant-loop-action
-invariant-loop-action l = (lower : ℕ) → lower < l.action → IsOutside l.task l.table.lines l.first l.second lower → ⊥
+invariant-loop-action l = (lower : ℕ) → lower < l.action
+    → IsOutside l.task l.table.lines l.first l.second lower → ⊥

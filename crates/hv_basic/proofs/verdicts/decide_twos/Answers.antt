@@ -15,6 +15,9 @@ walk-requires-clause-task c =
 
 pub returns-clause-answer : goal.returns-clause-answer
 returns-clause-answer c =
-    formulas_decided (atoms c.args.task.now) (twos_of c.args.table.now.lines) c.args.task.now c.args.budget (atoms c.args.task.now)
-    (map (with_action c.args.query.now) c.args.actions.now) c.in_ok-verdict.verdict c.store.inside.twos
-    (ap (λ (s : StoreState). s.twos) c.store.view_is ∙ c.requires.store.twos) c.in_ok-verdict.ensures.answer
+    formulas_decided (atoms c.args.task.now) (twos_of c.args.table.now.lines) c.args.task.now
+    c.args.budget (atoms c.args.task.now)
+    (map (with_action c.args.query.now) c.args.actions.now) c.in_ok-verdict.verdict
+    c.store.inside.twos
+    (ap (λ (s : StoreState). s.twos) c.store.view_is ∙ c.requires.store.twos)
+    c.in_ok-verdict.ensures.answer

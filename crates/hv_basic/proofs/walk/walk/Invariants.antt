@@ -12,6 +12,8 @@ invariant-loop-action g l = record {
   lengths : KeepsLengths l.fn.scratch l.scratch;
   positive : l.query.positive ≡ l.fn.query.positive;
   negative : l.query.negative ≡ l.fn.query.negative;
-  settled : (place : ℕ) (action : Option ℕ) → place < l.action-index → slice_get l.actions place ≡ Some action
-      → DecidesNothing (λ q. g.F.Family.passes l.sets l.task q l.budget) (is_clash l.task (g.F.Family.has l.sets)) (atoms l.task) (with_action l.fn.query action);
+  settled : (place : ℕ) (action : Option ℕ) → place < l.action-index
+      → slice_get l.actions place ≡ Some action
+      → DecidesNothing (λ q. g.F.Family.passes l.sets l.task q l.budget)
+      (is_clash l.task (g.F.Family.has l.sets)) (atoms l.task) (with_action l.fn.query action);
 }

@@ -6,7 +6,8 @@ use Rattle.hv_bytes.specs.declared.cutting.Limits.{Limits}
 use Rattle.hv_bytes.proofs.WholeText.{known}
 use Rattle.hv_bdd.specs.Nodes.{NodeList}
 use Rattle.hv_bdd.specs.NodeText.{IsReadFrom}
-use Rattle.hv_bdd.proofs.Turned.{end_answer, feed_fault, follows_first, follows_more, line_fault_answer}
+use Rattle.hv_bdd.proofs.Turned.{end_answer, feed_fault, follows_first, follows_more}
+use Rattle.hv_bdd.proofs.Turned.{line_fault_answer}
 use Rattle.hv_bdd.proofs.read.read_nodes.Goals as goal
 
 pub reading-init : goal.reading-init

@@ -1,4 +1,5 @@
-use Rattle.std.proofs.Common.{◌≡◌, ◌<◌, ◌+◌, ◌∙◌, ◌++◌, None, Some, List, ap, arith, drop, get_or, length, subst, sym}
+use Rattle.std.proofs.Common.{◌≡◌, ◌<◌, ◌+◌, ◌∙◌, ◌++◌, None, Some, List, ap, arith, drop, get_or}
+use Rattle.std.proofs.Common.{length, subst, sym}
 use Rattle.std.specs.Prelude.{IfSome}
 use Rattle.std.proofs.lemmas.List.{drop_more, length_push}
 use Rattle.hv_bdd.specs.declared.fault.NodesFault.TheVariants as F
@@ -24,7 +25,8 @@ returns-in-Some-clause-adds c =
     let size = c.loop-triple.invariant.size in
     let upto = c.requires.upto in
     let less : length list.nodes < count = omega arith in
-    let same : c.add.new.list ≡ list = subst (λ o. IfSome o (λ _. c.add.new.list ≡ list)) c.in-Some.is
+    let same : c.add.new.list ≡ list = subst
+    (λ o. IfSome o (λ _. c.add.new.list ≡ list)) c.in-Some.is
     c.in_ok-kind.ensures.refused in
     let bad : fault_of list (as_node t) ≡ Some c.in-Some.kind = sym c.in_ok-kind.ensures.fault
     ∙ c.in-Some.is in
@@ -39,7 +41,8 @@ returns-in-Some-clause-adds c =
     (sym (drop_more triples k d within))
     ∙ c.loop-triple.invariant.lines)
     bad
-    (ap (λ (ns : List Node). length ns + 2) (c.listed.ensures ∙ ap (λ (l : NodeList). l.nodes) same)))
+    (ap (λ (ns : List Node). length ns + 2)
+    (c.listed.ensures ∙ ap (λ (l : NodeList). l.nodes) same)))
 
 pub loop-triple-preserved : goal.loop-triple-preserved
 loop-triple-preserved c =
@@ -55,7 +58,8 @@ loop-triple-preserved c =
     let less : length list.nodes < count = omega arith in
     let added : c.add.new.list ≡ with_node list (as_node t) =
     c.in_ok-kind.ensures.added c.in_default.is in
-    let good : fault_of list (as_node t) ≡ None = sym c.in_ok-kind.ensures.fault ∙ c.in_default.is in
+    let good : fault_of list (as_node t) ≡ None = sym c.in_ok-kind.ensures.fault
+    ∙ c.in_default.is in
     let more = ap (λ (l : NodeList). length l.nodes) added in
     let longer = length_push list.nodes (as_node t) in
     record {

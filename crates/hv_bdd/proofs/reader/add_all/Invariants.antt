@@ -10,6 +10,7 @@ invariant-loop-triple l = record {
   atoms : l.list.atoms ≡ l.fn.list.atoms;
   seen : IsChained l.list.nodes l.seen;
   size : length l.list.nodes ≡ length l.fn.list.nodes + l.triple-index;
-  lines : lines_before (at_node l.count l.list.nodes) ++ node_lines_of (drop l.triple-index l.triples)
+  lines : lines_before (at_node l.count l.list.nodes)
+      ++ node_lines_of (drop l.triple-index l.triples)
       ≡ lines_before (at_node l.count l.fn.list.nodes) ++ node_lines_of l.triples;
 }

@@ -7,15 +7,26 @@ use Rattle.hv_bytes.proofs.spelling.digits_number.Goals as goal
 
 pub returns-then-not-is_ascii_digit-clause-none : goal.returns-then-not-is_ascii_digit-clause-none
 returns-then-not-is_ascii_digit-clause-none c =
-    λ all. let digit = digit_at c.args.digits.now c.loop-digit.digit-index all c.loop-digit-test.true in grind arith
+    λ all. let digit = digit_at c.args.digits.now c.loop-digit.digit-index all
+    c.loop-digit-test.true in grind arith
 
 pub overflow_mul-number : goal.overflow_mul-number
 overflow_mul-number c =
-    omega (arith, c.loop-digit.invariant.1, digits_room c.args.digits.now c.loop-digit.digit-index c.loop-digit-test.true c.requires c.loop-digit.invariant.0)
+    omega (
+      arith,
+      c.loop-digit.invariant.1,
+      digits_room c.args.digits.now c.loop-digit.digit-index
+          c.loop-digit-test.true c.requires c.loop-digit.invariant.0,
+    )
 
 pub overflow_add-number : goal.overflow_add-number
 overflow_add-number c =
-    omega (arith, c.loop-digit.invariant.1, digits_room c.args.digits.now c.loop-digit.digit-index c.loop-digit-test.true c.requires c.loop-digit.invariant.0)
+    omega (
+      arith,
+      c.loop-digit.invariant.1,
+      digits_room c.args.digits.now c.loop-digit.digit-index
+          c.loop-digit-test.true c.requires c.loop-digit.invariant.0,
+    )
 
 pub loop-digit-preserved : goal.loop-digit-preserved
 loop-digit-preserved c =
@@ -23,6 +34,7 @@ loop-digit-preserved c =
     let i = c.loop-digit.digit-index in
     let more = digits_value_more 10 ds i c.loop-digit-test.true in
     let spelled = digit_value_digit (get_or ds i 0) c.if-not-is_ascii_digit.ensures.cases in (
-      digits_more 10 ds i c.loop-digit-test.true c.loop-digit.invariant.0 c.if-not-is_ascii_digit.ensures.bound,
+      digits_more 10 ds i c.loop-digit-test.true c.loop-digit.invariant.0
+          c.if-not-is_ascii_digit.ensures.bound,
       omega (arith, more, spelled, c.loop-digit.invariant.1),
     )

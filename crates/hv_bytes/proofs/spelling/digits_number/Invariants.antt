@@ -4,4 +4,5 @@ use Rattle.hv_bytes.proofs.spelling.digits_number.Given as goal
 
 abbrev pub invariant-loop-digit : goal.invariant-loop-digit
 invariant-loop-digit l =
-    AllDigits 10 (take l.digit-index l.digits) × (l.number ≡ digits_value 10 (take l.digit-index l.digits))
+    AllDigits 10 (take l.digit-index l.digits)
+    × (l.number ≡ digits_value 10 (take l.digit-index l.digits))

@@ -3,10 +3,12 @@ use Rattle.hv_bytes.proofs.spelling.read_decimal.Goals as goal
 
 pub returns-then-has_decimal_shape-clause-some : goal.returns-then-has_decimal_shape-clause-some
 returns-then-has_decimal_shape-clause-some c =
-    decimal_read c.args.bytes.now _ (c.has_decimal_shape.ensures.0 c.if-has_decimal_shape.true) c.digits_number.ensures.some
+    decimal_read c.args.bytes.now _ (c.has_decimal_shape.ensures.0 c.if-has_decimal_shape.true)
+    c.digits_number.ensures.some
 
 pub returns-then-has_decimal_shape-clause-none : goal.returns-then-has_decimal_shape-clause-none
-returns-then-has_decimal_shape-clause-none c = decimal_unread c.args.bytes.now _ c.digits_number.ensures.none
+returns-then-has_decimal_shape-clause-none c = decimal_unread c.args.bytes.now _
+    c.digits_number.ensures.none
 
 pub returns-else-has_decimal_shape-clause-none : goal.returns-else-has_decimal_shape-clause-none
 returns-else-has_decimal_shape-clause-none c =

@@ -8,7 +8,8 @@ returns c =
     let files = c.args.entries.now in
     let name = c.args.name.now in
     let place = c.unwrap_or.result in
-    let at : place ≡ unwrap_or (position (λ file. bytes_eq file.name name) files) (length files) = cc in
+    let at : place ≡ unwrap_or (position (λ file. bytes_eq file.name name) files) (length files) =
+    cc in
     record {
       within = place-le files name place at;
       held = place_holds files name place at;

@@ -4,4 +4,5 @@ use Rattle.hv_lines.specs.declared.line.Statement.TheVariants as T
 use Rattle.hv_checker.proofs.checker.concludes.Given as goal
 
 abbrev pub invariant-loop-premise : goal.invariant-loop-premise
-invariant-loop-premise l = (premise : ℕ) → premise < l.premise → Says l.table.lines premise T.Unsolvable → ⊥
+invariant-loop-premise l = (premise : ℕ) → premise < l.premise
+    → Says l.table.lines premise T.Unsolvable → ⊥

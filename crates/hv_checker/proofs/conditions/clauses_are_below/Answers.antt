@@ -7,6 +7,11 @@ pub returns : goal.returns
 returns c = (
   λ _ k d within.
       subst (SpeakBelow c.args.count) (get_or_default c.args.clauses.now k [] d within)
-      (c.loop-place.invariant k (omega (arith, within, c.loop-place-test.false, c.len-place-end.ensures))),
+      (c.loop-place.invariant k (omega (
+        arith,
+        within,
+        c.loop-place-test.false,
+        c.len-place-end.ensures,
+      ))),
   λ _. refl,
 )

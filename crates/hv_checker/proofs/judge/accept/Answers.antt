@@ -6,4 +6,5 @@ pub keep-requires-clause-good : goal.keep-requires-clause-good
 keep-requires-clause-good c = (rw c.in-Good.is at c.in_ok-hear.ensures.heard).1
 
 pub hear-requires-clause-nodes : goal.hear-requires-clause-nodes
-hear-requires-clause-nodes c = good_nodes (setting_on c.args.bench.now) c.args.table.now.lines c.requires.good
+hear-requires-clause-nodes c = good_nodes (setting_on c.args.bench.now) c.args.table.now.lines
+    c.requires.good

@@ -10,7 +10,8 @@ returns-then-not-is_numbered-clause-fault c =
     let lines = c.args.table.now.lines in
     let line = c.args.line.now in
     for_number (setting_on c.args.bench.now) lines line c.requires.spelled
-    (untold c.is_numbered.result (IsNumbered lines line) c.is_numbered.ensures c.if-not-is_numbered.true)
+    (untold c.is_numbered.result (IsNumbered lines line) c.is_numbered.ensures
+    c.if-not-is_numbered.true)
 
 pub returns-then-not-is_known-clause-fault : goal.returns-then-not-is_known-clause-fault
 returns-then-not-is_known-clause-fault c =
@@ -18,7 +19,8 @@ returns-then-not-is_known-clause-fault c =
     let line = c.args.line.now in
     for_reference (setting_on c.args.bench.now) lines line c.requires.spelled
     (c.is_numbered.ensures.0 c.if-not-is_numbered.false)
-    (untold c.is_known.result (IsKnown c.args.bench.now.task.now c.args.bench.now.diagrams.now lines line) c.is_known.ensures
+    (untold c.is_known.result (IsKnown c.args.bench.now.task.now c.args.bench.now.diagrams.now lines
+    line) c.is_known.ensures
     c.if-not-is_known.true)
 
 pub returns-then-not-family_fits-clause-fault : goal.returns-then-not-family_fits-clause-fault

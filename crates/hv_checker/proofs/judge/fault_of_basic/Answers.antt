@@ -5,5 +5,7 @@ use Rattle.hv_checker.proofs.judge.fault_of_basic.Goals as goal
 
 pub returns-in-Ok-clause-fault : goal.returns-in-Ok-clause-fault
 returns-in-Ok-clause-fault c =
-    subst (IsBasicFault (setting_on c.args.bench.now) c.args.table.now.lines c.args.statement.now c.args.word) (sym c.reason_by.ensures)
-    (by_verdict (setting_on c.args.bench.now) c.args.table.now.lines c.args.statement.now c.args.word c.in-Ok.verdict c.in-Ok.ensures.answer)
+    subst (IsBasicFault (setting_on c.args.bench.now) c.args.table.now.lines c.args.statement.now
+    c.args.word) (sym c.reason_by.ensures)
+    (by_verdict (setting_on c.args.bench.now) c.args.table.now.lines c.args.statement.now
+    c.args.word c.in-Ok.verdict c.in-Ok.ensures.answer)

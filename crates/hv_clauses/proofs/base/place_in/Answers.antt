@@ -6,6 +6,8 @@ use Rattle.hv_clauses.proofs.base.place_in.Goals as goal
 
 pub returns : goal.returns
 returns c =
-    let parted = IsPartitionedBy-ltb (λ (l : Literal). l.atom) _ c.args.atom (never_falls c.args.base.now c.requires) in
+    let parted = IsPartitionedBy-ltb (λ (l : Literal). l.atom) _ c.args.atom
+    (never_falls c.args.base.now c.requires) in
     first_from_point c.args.base.now c.args.atom _ c.partition_point.ensures.bound
-    (IsPartitionPoint-from_clause (λ (l : Literal). ltb l.atom c.args.atom) _ _ c.partition_point.ensures.partitioned parted (λ a r q k. search rules))
+    (IsPartitionPoint-from_clause (λ (l : Literal). ltb l.atom c.args.atom) _ _
+    c.partition_point.ensures.partitioned parted (λ a r q k. search rules))

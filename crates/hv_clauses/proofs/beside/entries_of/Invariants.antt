@@ -8,6 +8,7 @@ abbrev pub invariant-loop-occurrence : goal.invariant-loop-occurrence
 invariant-loop-occurrence l = record {
   size : length l.entries.items ≡ l.occurrence-index;
   each : (k : ℕ) → k < l.occurrence-index → (o : Occurrence)
-      → IsBeside (clause_at l.clauses (get_or l.listed k o).place) (record { atom = (get_or l.listed k o).atom; positive = l.sign })
+      → IsBeside (clause_at l.clauses (get_or l.listed k o).place)
+      (record { atom = (get_or l.listed k o).atom; positive = l.sign })
       (get_or l.entries.items k 0);
 }

@@ -10,13 +10,15 @@ at_place less e = omega (arith, less, e)
 
 pub step-requires : goal.step-requires
 step-requires c =
-    clause_below c.args.effect.now c.args.clauses.now c.loop-place.place c.get.result.now (at_place c.loop-place-test.true c.len-place-end.ensures) c.get.ensures
+    clause_below c.args.effect.now c.args.clauses.now c.loop-place.place c.get.result.now
+    (at_place c.loop-place-test.true c.len-place-end.ensures) c.get.ensures
     _ _ c.requires (ap length c.loop-place.invariant.followed.base)
 
 pub returns-then-not-step-clause-followed : goal.returns-then-not-step-clause-followed
 returns-then-not-step-clause-followed c =
     clause_followed c.args.effect.now c.args.clauses.now c.loop-place.place c.get.result.now
-    (at_place c.loop-place-test.true c.len-place-end.ensures) c.get.ensures _ _ _ _ c.loop-place.invariant.followed c.if-not-step.ensures.followed
+    (at_place c.loop-place-test.true c.len-place-end.ensures) c.get.ensures _ _ _ _
+    c.loop-place.invariant.followed c.if-not-step.ensures.followed
 
 pub loop-place-preserved : goal.loop-place-preserved
 loop-place-preserved c =
@@ -28,10 +30,13 @@ loop-place-preserved c =
     let step = c.if-not-step.ensures.followed in
     record {
       followed = clause_followed e clauses c.loop-place.place c.get.result.now
-          (at_place c.loop-place-test.true c.len-place-end.ensures) c.get.ensures _ _ _ _ c.loop-place.invariant.followed step;
+          (at_place c.loop-place-test.true c.len-place-end.ensures) c.get.ensures _ _ _ _
+          c.loop-place.invariant.followed step;
       kept = below_more (λ place. IsKept e (clause_at clauses place) new from) c.loop-place.place
-          (λ place less. kept_on e (clause_at clauses place) old new from step.base step.more (longer _ _ _ _ c.loop-place.invariant.followed)
+          (λ place less. kept_on e (clause_at clauses place) old new from step.base step.more
+          (longer _ _ _ _ c.loop-place.invariant.followed)
           (c.loop-place.invariant.kept place less))
           (clause_kept e clauses c.loop-place.place c.get.result.now
-          (at_place c.loop-place-test.true c.len-place-end.ensures) c.get.ensures new from (c.if-not-step.ensures.settled refl));
+          (at_place c.loop-place-test.true c.len-place-end.ensures) c.get.ensures new from
+          (c.if-not-step.ensures.settled refl));
     }

@@ -7,6 +7,8 @@ use Rattle.hv_clauses.proofs.chase.start.Given as goal
 
 abbrev pub invariant-loop-place : goal.invariant-loop-place
 invariant-loop-place l = record {
-  followed : IsFollowed (λ state. in_clauses l.clauses (over l.effect state) ≡ true) l.fn.marks l.marks true;
-  kept : (place : ℕ) → place < l.place → IsKept l.effect (clause_at l.clauses place) l.marks (length l.fn.marks.trail);
+  followed : IsFollowed (λ state. in_clauses l.clauses (over l.effect state) ≡ true) l.fn.marks
+      l.marks true;
+  kept : (place : ℕ) → place < l.place → IsKept l.effect (clause_at l.clauses place) l.marks
+      (length l.fn.marks.trail);
 }

@@ -14,8 +14,10 @@ returns-in-Broken-clause-followed c =
     let e = c.args.effect.now in
     let m = c.args.marks.now in
     let clause = c.args.clause.now in
-    let found = subst (λ (s : Scan). Scans s e (marks_of m) clause) c.in-Broken.is c.look-found.ensures in
-    subst (λ (k : Knowledge). IsFollowed (λ s. in_clause clause (over e s) ≡ true) m k false) (sym c.remember.ensures)
+    let found = subst (λ (s : Scan). Scans s e (marks_of m) clause) c.in-Broken.is
+    c.look-found.ensures in
+    subst (λ (k : Knowledge). IsFollowed (λ s. in_clause clause (over e s) ≡ true) m k false)
+    (sym c.remember.ensures)
     (broken_followed e m clause c.requires found)
 
 pub returns-in-Unit-clause-followed : goal.returns-in-Unit-clause-followed
@@ -23,8 +25,10 @@ returns-in-Unit-clause-followed c =
     let e = c.args.effect.now in
     let m = c.args.marks.now in
     let clause = c.args.clause.now in
-    let found = subst (λ (s : Scan). Scans s e (marks_of m) clause) c.in-Unit.is c.look-found.ensures in
-    let more = λ (k : Knowledge). let n : Knowledge = record { base = k.base; trail = k.trail ++ c.in-Unit.literal ∷ [] } in n in
+    let found = subst (λ (s : Scan). Scans s e (marks_of m) clause) c.in-Unit.is
+    c.look-found.ensures in
+    let more = λ (k : Knowledge). let n : Knowledge = record
+    { base = k.base; trail = k.trail ++ c.in-Unit.literal ∷ [] } in n in
     subst (λ (k : Knowledge). IsFollowed (λ s. in_clause clause (over e s) ≡ true) m k true)
     (sym (c.write.ensures ∙ ap more c.remember.ensures))
     (step_followed e m c.in-Unit.literal clause c.requires found.0 found.1 found.2)
@@ -34,7 +38,10 @@ returns-in-Unit-clause-settled c = λ is.
     let e = c.args.effect.now in
     let m = c.args.marks.now in
     let clause = c.args.clause.now in
-    let found = subst (λ (s : Scan). Scans s e (marks_of m) clause) c.in-Unit.is c.look-found.ensures in
-    let more = λ (k : Knowledge). let n : Knowledge = record { base = k.base; trail = k.trail ++ c.in-Unit.literal ∷ [] } in n in
-    subst (λ (k : Knowledge). IsSettled e (marks_of k) clause) (sym (c.write.ensures ∙ ap more c.remember.ensures))
+    let found = subst (λ (s : Scan). Scans s e (marks_of m) clause) c.in-Unit.is
+    c.look-found.ensures in
+    let more = λ (k : Knowledge). let n : Knowledge = record
+    { base = k.base; trail = k.trail ++ c.in-Unit.literal ∷ [] } in n in
+    subst (λ (k : Knowledge). IsSettled e (marks_of k) clause)
+    (sym (c.write.ensures ∙ ap more c.remember.ensures))
     (step_settled e m c.in-Unit.literal clause c.requires found.0 found.1)

@@ -16,7 +16,8 @@ returns-then-ne-clause-kept c = λ is.
     let m = c.args.marks.now in
     let literal = c.get-literal.result in
     kept_true c.args.effect.now c.args.clauses.now m c.args.from literal c.requires.from
-    (get_or_from_slice_get m.trail c.args.from literal literal c.get-literal.ensures.here) c.get-literal.ensures.below c.requires.kept
+    (get_or_from_slice_get m.trail c.args.from literal literal c.get-literal.ensures.here)
+    c.get-literal.ensures.below c.requires.kept
     (λ out.
     let value = c.value.ensures ∙ out in
     never (sym c.if-ne.true ∙ (c.ne.ensures ∙ ap (λ v. not (option_eq beq v (Some false))) value)))
@@ -24,8 +25,10 @@ returns-then-ne-clause-kept c = λ is.
 pub visit_all-requires-clause-inside : goal.visit_all-requires-clause-inside
 visit_all-requires-clause-inside c =
     let sign = not c.get-literal.result.positive in λ k d less.
-    All-contains (λ (o : Occurrence). o.place < length c.args.clauses.now) (signed c.args.occurs.now sign) _ (c.requires.index sign).inside
-    (c.standing-standing.ensures.only (get_or c.standing-standing.result.listed.now k d) (Contains-get_or c.standing-standing.result.listed.now k d less))
+    All-contains (λ (o : Occurrence). o.place < length c.args.clauses.now)
+    (signed c.args.occurs.now sign) _ (c.requires.index sign).inside
+    (c.standing-standing.ensures.only (get_or c.standing-standing.result.listed.now k d)
+    (Contains-get_or c.standing-standing.result.listed.now k d less))
 
 pub visit_all-requires-clause-beside : goal.visit_all-requires-clause-beside
 visit_all-requires-clause-beside c =
@@ -47,6 +50,9 @@ returns-clause-kept c = λ is.
     let literal = c.get-literal.result in
     let sign = not literal.positive in
     kept_next e clauses (signed c.args.occurs.now sign) listed new from literal (omega arith)
-    (read_on old.trail new.trail followed.more.0 from literal less followed.more.1 c.get-literal.ensures.here)
-    (kept_grown e clauses old new from grown (omega arith) c.requires.kept) (c.requires.index sign).all c.standing-standing.ensures.all
-    (λ o has. kept_sooner e (clause_at clauses o.place) new (from + 1) (length old.trail) (omega arith) more (c.visit_all.ensures.kept is o has))
+    (read_on old.trail new.trail followed.more.0 from literal less followed.more.1
+    c.get-literal.ensures.here)
+    (kept_grown e clauses old new from grown (omega arith) c.requires.kept)
+    (c.requires.index sign).all c.standing-standing.ensures.all
+    (λ o has. kept_sooner e (clause_at clauses o.place) new (from + 1) (length old.trail)
+    (omega arith) more (c.visit_all.ensures.kept is o has))

@@ -1,4 +1,5 @@
-use Rattle.std.proofs.Common.{◌≡◌, ◌<◌, true, false, length, get_or, refl, sym, ap, arith, below_more, subst}
+use Rattle.std.proofs.Common.{◌≡◌, ◌<◌, true, false, length, get_or, refl, sym, ap, arith}
+use Rattle.std.proofs.Common.{below_more, subst}
 use Rattle.hv_sets.specs.Truth.{in_clauses}
 use Rattle.hv_clauses.specs.declared.occurrences.Occurrence.{Occurrence}
 use Rattle.hv_clauses.specs.Working.Chase.{IsKept}
@@ -12,16 +13,20 @@ use Rattle.hv_clauses.proofs.chase.visit_all.Goals as goal
 
 pub visit_one-requires-clause-clauses : goal.visit_one-requires-clause-clauses
 visit_one-requires-clause-clauses c =
-    subst (λ n. AreClauses n c.args.clauses.now) (sym (ap length c.loop-index.invariant.followed.base)) c.requires.clauses
+    subst (λ n. AreClauses n c.args.clauses.now)
+    (sym (ap length c.loop-index.invariant.followed.base)) c.requires.clauses
 
 pub visit_one-requires-clause-out : goal.visit_one-requires-clause-out
 visit_one-requires-clause-out c =
-    value_extends c.args.effect.now (marks_of c.args.marks.now) (marks_of c.loop-index.marks) c.args.own false c.loop-index.invariant.followed.grows c.requires.out
+    value_extends c.args.effect.now (marks_of c.args.marks.now) (marks_of c.loop-index.marks)
+    c.args.own false c.loop-index.invariant.followed.grows c.requires.out
 
 pub returns-then-not-visit_one-clause-followed : goal.returns-then-not-visit_one-clause-followed
 returns-then-not-visit_one-clause-followed c =
-    followed_then (λ s. in_clauses c.args.clauses.now (over c.args.effect.now s) ≡ true) (λ s. in_clauses c.args.clauses.now (over c.args.effect.now s) ≡ true)
-    _ _ _ _ (λ state size holds. holds) c.loop-index.invariant.followed c.if-not-visit_one.ensures.followed
+    followed_then (λ s. in_clauses c.args.clauses.now (over c.args.effect.now s) ≡ true)
+    (λ s. in_clauses c.args.clauses.now (over c.args.effect.now s) ≡ true)
+    _ _ _ _ (λ state size holds. holds) c.loop-index.invariant.followed
+    c.if-not-visit_one.ensures.followed
 
 pub loop-index-preserved : goal.loop-index-preserved
 loop-index-preserved c =
@@ -34,10 +39,13 @@ loop-index-preserved c =
     let from = length c.args.marks.now.trail in
     let step = c.if-not-visit_one.ensures.followed in
     record {
-      followed = followed_then (λ s. in_clauses clauses (over e s) ≡ true) (λ s. in_clauses clauses (over e s) ≡ true)
+      followed = followed_then (λ s. in_clauses clauses (over e s) ≡ true)
+          (λ s. in_clauses clauses (over e s) ≡ true)
           _ _ _ _ (λ state size holds. holds) c.loop-index.invariant.followed step;
-      seen = below_more (λ k. (o : Occurrence) → IsKept e (clause_at clauses (get_or listed k o).place) new from) index
-          (λ k less o. kept_on e (clause_at clauses (get_or listed k o).place) old new from step.base step.more (longer _ _ _ _ c.loop-index.invariant.followed)
+      seen = below_more (λ k. (o : Occurrence)
+          → IsKept e (clause_at clauses (get_or listed k o).place) new from) index
+          (λ k less o. kept_on e (clause_at clauses (get_or listed k o).place) old new from
+          step.base step.more (longer _ _ _ _ c.loop-index.invariant.followed)
           (c.loop-index.invariant.seen k less o))
           (λ o apart. c.if-not-visit_one.ensures.settled refl o);
     }
@@ -46,5 +54,6 @@ pub returns-clause-kept : goal.returns-clause-kept
 returns-clause-kept c = λ is o has.
     let end = c.loop-index-test.false in
     let at : has.0 < length c.args.standing.now.listed.now = has.1 in
-    subst (λ (x : Occurrence). IsKept c.args.effect.now (clause_at c.args.clauses.now x.place) c.loop-index.marks (length c.args.marks.now.trail)) has.2
+    subst (λ (x : Occurrence). IsKept c.args.effect.now (clause_at c.args.clauses.now x.place)
+    c.loop-index.marks (length c.args.marks.now.trail)) has.2
     (c.loop-index.invariant.seen has.0 (omega arith) o)

@@ -8,7 +8,9 @@ use Rattle.hv_clauses.proofs.chase.visit_all.Given as goal
 
 abbrev pub invariant-loop-index : goal.invariant-loop-index
 invariant-loop-index l = record {
-  followed : IsFollowed (λ state. in_clauses l.clauses (over l.effect state) ≡ true) l.fn.marks l.marks true;
+  followed : IsFollowed (λ state. in_clauses l.clauses (over l.effect state) ≡ true) l.fn.marks
+      l.marks true;
   seen : (k : ℕ) → k < l.index → (o : Occurrence)
-      → IsKept l.effect (clause_at l.clauses (get_or l.standing.listed.now k o).place) l.marks (length l.fn.marks.trail);
+      → IsKept l.effect (clause_at l.clauses (get_or l.standing.listed.now k o).place) l.marks
+      (length l.fn.marks.trail);
 }

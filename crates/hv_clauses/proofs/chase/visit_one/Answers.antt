@@ -22,17 +22,21 @@ force-requires c =
     let clauses = c.args.clauses.now in
     let listed = c.args.standing.now.listed.now in
     let index = c.args.index in
-    let pair = listed_pair clauses listed c.args.standing.now.entries.now c.args.own index c.requires.index c.requires.beside c.requires.here
+    let pair = listed_pair clauses listed c.args.standing.now.entries.now c.args.own index
+    c.requires.index c.requires.beside c.requires.here
     c.in-Some.other c.in-Some.ensures.0 c.in-Some.ensures.1 first in
-    All-contains (λ (l : Literal). l.atom < length c.args.marks.now.base) (clause_at clauses (get_or listed index first).place) c.in-Some.other
-    (c.requires.clauses (get_or listed index first).place [] (c.requires.inside index first c.requires.index)) pair.has_second
+    All-contains (λ (l : Literal). l.atom < length c.args.marks.now.base)
+    (clause_at clauses (get_or listed index first).place) c.in-Some.other
+    (c.requires.clauses (get_or listed index first).place []
+    (c.requires.inside index first c.requires.index)) pair.has_second
 
 pub step-requires : goal.step-requires
 step-requires c =
     let clauses = c.args.clauses.now in
     let place = (get_or c.args.standing.now.listed.now c.args.index first).place in
     let within = c.requires.inside c.args.index first c.requires.index in
-    subst (λ ls. SpeakBelow (length c.args.marks.now.base) ls) (get_or_from_slice_get clauses place c.get.result.now [] c.get.ensures)
+    subst (λ ls. SpeakBelow (length c.args.marks.now.base) ls)
+    (get_or_from_slice_get clauses place c.get.result.now [] c.get.ensures)
     (c.requires.clauses place [] within)
 
 pub returns-in-Some-clause-followed : goal.returns-in-Some-clause-followed
@@ -43,20 +47,25 @@ returns-in-Some-clause-followed c =
     let index = c.args.index in
     let place = (get_or listed index first).place in
     let within = c.requires.inside index first c.requires.index in
-    let pair = listed_pair clauses listed c.args.standing.now.entries.now c.args.own index c.requires.index c.requires.beside c.requires.here
+    let pair = listed_pair clauses listed c.args.standing.now.entries.now c.args.own index
+    c.requires.index c.requires.beside c.requires.here
     c.in-Some.other c.in-Some.ensures.0 c.in-Some.ensures.1 first in
     one_followed e clauses place c.args.marks.now c.force.new.marks c.force.result within
-    (pair_followed e c.args.marks.now c.force.new.marks c.args.own c.in-Some.other (clause_at clauses place) c.force.result
-    (c.requires.clauses place [] within) pair c.requires.out c.force.ensures.forced c.force.ensures.grown)
+    (pair_followed e c.args.marks.now c.force.new.marks c.args.own c.in-Some.other
+    (clause_at clauses place) c.force.result
+    (c.requires.clauses place [] within) pair c.requires.out c.force.ensures.forced
+    c.force.ensures.grown)
 
 pub returns-in-Some-clause-settled : goal.returns-in-Some-clause-settled
 returns-in-Some-clause-settled c = λ is o.
     let clauses = c.args.clauses.now in
     let listed = c.args.standing.now.listed.now in
     let index = c.args.index in
-    let pair = listed_pair clauses listed c.args.standing.now.entries.now c.args.own index c.requires.index c.requires.beside c.requires.here
+    let pair = listed_pair clauses listed c.args.standing.now.entries.now c.args.own index
+    c.requires.index c.requires.beside c.requires.here
     c.in-Some.other c.in-Some.ensures.0 c.in-Some.ensures.1 o in
-    pair_settled c.args.effect.now (marks_of c.force.new.marks) c.args.own c.in-Some.other (clause_at clauses (get_or listed index o).place) pair
+    pair_settled c.args.effect.now (marks_of c.force.new.marks) c.args.own c.in-Some.other
+    (clause_at clauses (get_or listed index o).place) pair
     (c.force.ensures.forced.done is)
 
 pub returns-in-None-clause-followed : goal.returns-in-None-clause-followed
@@ -66,8 +75,10 @@ returns-in-None-clause-followed c =
     let place = (get_or c.args.standing.now.listed.now c.args.index first).place in
     let within = c.requires.inside c.args.index first c.requires.index in
     one_followed e clauses place c.args.marks.now c.step.new.marks c.step.result within
-    (subst (λ ls. IsFollowed (λ s. in_clause ls (over e s) ≡ true) c.args.marks.now c.step.new.marks c.step.result)
-    (sym (get_or_from_slice_get clauses place c.get.result.now [] c.get.ensures)) c.step.ensures.followed)
+    (subst (λ ls. IsFollowed (λ s. in_clause ls (over e s) ≡ true) c.args.marks.now c.step.new.marks
+    c.step.result)
+    (sym (get_or_from_slice_get clauses place c.get.result.now [] c.get.ensures))
+    c.step.ensures.followed)
 
 pub returns-in-None-clause-settled : goal.returns-in-None-clause-settled
 returns-in-None-clause-settled c = λ is o.
@@ -75,7 +86,9 @@ returns-in-None-clause-settled c = λ is o.
     let listed = c.args.standing.now.listed.now in
     let index = c.args.index in
     let place = (get_or listed index first).place in
-    subst (λ (x : Occurrence). IsSettled c.args.effect.now (marks_of c.step.new.marks) (clause_at clauses x.place))
+    subst (λ (x : Occurrence). IsSettled c.args.effect.now (marks_of c.step.new.marks)
+    (clause_at clauses x.place))
     (get_or_default listed index first o c.requires.index)
     (subst (λ ls. IsSettled c.args.effect.now (marks_of c.step.new.marks) ls)
-    (sym (get_or_from_slice_get clauses place c.get.result.now [] c.get.ensures)) (c.step.ensures.settled is))
+    (sym (get_or_from_slice_get clauses place c.get.result.now [] c.get.ensures))
+    (c.step.ensures.settled is))

@@ -1,4 +1,5 @@
-use Rattle.std.proofs.Common.{◌≡◌, ◌<◌, ◌+◌, ◌*◌, ◌∙◌, ℕ, List, Option, None, ap₂, arith, get_or, length, refl, subst, sym, take}
+use Rattle.std.proofs.Common.{◌≡◌, ◌<◌, ◌+◌, ◌*◌, ◌∙◌, ℕ, List, Option, None, ap₂, arith, get_or}
+use Rattle.std.proofs.Common.{length, refl, subst, sym, take}
 use Rattle.std.specs.List.{All}
 use Rattle.std.specs.Option.{MatchOption}
 use Rattle.hv_task.specs.Strips.{Strips}
@@ -10,38 +11,48 @@ use Rattle.hv_clauses.specs.Store.{formula_at}
 use Rattle.hv_clauses.proofs.choices.cost_within.Goals as goal
 
 -- without a result the budget is passed
-none_over : (result : Option ℕ) (Over : Type 0) (P : ℕ → Type 0) → result ≡ None → Over → MatchOption result Over P
+none_over : (result : Option ℕ) (Over : Type 0) (P : ℕ → Type 0) → result ≡ None → Over
+    → MatchOption result Over P
 none_over result Over P e over = subst (λ r. MatchOption r Over P) (sym e) over
 
 -- one factor more
-product_more : (task : Strips) (sizes : ℕ → ℕ) (operands : List Operand) (place : ℕ) (d : Operand) (old count new : ℕ)
+product_more : (task : Strips) (sizes : ℕ → ℕ) (operands : List Operand) (place : ℕ) (d : Operand)
+    (old count new : ℕ)
     → place < length operands
-    → old ≡ choices_of task sizes (take place operands) → count ≡ clauses_of task sizes (get_or operands place d).which
+    → old ≡ choices_of task sizes (take place operands)
+    → count ≡ clauses_of task sizes (get_or operands place d).which
     → new ≡ old * count → new ≡ choices_of task sizes (take (place + 1) operands)
 product_more task sizes operands place d old count new within first here product =
-    product ∙ (ap₂ (λ a b. a * b) first here ∙ sym (choices_more task sizes operands place d within))
+    product ∙ (ap₂ (λ a b. a * b) first here
+    ∙ sym (choices_more task sizes operands place d within))
 
 -- a product that is too large for the budget
-product_over : (task : Strips) (sizes : ℕ → ℕ) (operands : List Operand) (place : ℕ) (d : Operand) (old count budget : ℕ)
+product_over : (task : Strips) (sizes : ℕ → ℕ) (operands : List Operand) (place : ℕ) (d : Operand)
+    (old count budget : ℕ)
     → place < length operands
     → All (λ o. 0 < clauses_of task sizes o.which) operands
-    → old ≡ choices_of task sizes (take place operands) → count ≡ clauses_of task sizes (get_or operands place d).which
+    → old ≡ choices_of task sizes (take place operands)
+    → count ≡ clauses_of task sizes (get_or operands place d).which
     → budget < old * count → budget < choices_of task sizes operands
 product_over task sizes operands place d old count budget within some first here over =
-    let same = product_more task sizes operands place d old count (old * count) within first here refl in
+    let same = product_more task sizes operands place d old count (old * count) within first here
+    refl in
     let upto = choices_upto task sizes operands (place + 1) some in
     omega (arith, same, upto, over)
 
 pub returns-in_err-cost : goal.returns-in_err-cost
 returns-in_err-cost g c =
     none_over c.from_residual.result _ _ c.from_residual.ensures (
-    product_over c.args.task.now (sizes_of (formula_at c.args.store.now)) c.args.negative.now c.loop-operand.operand-index _
-    c.loop-operand.cost c.count_of.result c.args.budget c.loop-operand-test.true (c.if-has_empty.ensures.some refl)
+    product_over c.args.task.now (sizes_of (formula_at c.args.store.now)) c.args.negative.now
+    c.loop-operand.operand-index _
+    c.loop-operand.cost c.count_of.result c.args.budget c.loop-operand-test.true
+    (c.if-has_empty.ensures.some refl)
     c.loop-operand.invariant c.count_of.ensures c.in_err-cost.ensures
     )
 
 pub loop-operand-preserved : goal.loop-operand-preserved
 loop-operand-preserved g c =
-    product_more c.args.task.now (sizes_of (formula_at c.args.store.now)) c.args.negative.now c.loop-operand.operand-index _
+    product_more c.args.task.now (sizes_of (formula_at c.args.store.now)) c.args.negative.now
+    c.loop-operand.operand-index _
     c.loop-operand.cost c.count_of.result c.in_ok-cost.cost c.loop-operand-test.true
     c.loop-operand.invariant c.count_of.ensures c.in_ok-cost.ensures.0

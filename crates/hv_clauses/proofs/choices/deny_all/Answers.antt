@@ -8,7 +8,8 @@ pub returns-then-not-deny_which-clause-denied : goal.returns-then-not-deny_which
 returns-then-not-deny_which-clause-denied g c =
     let formulas = formula_at c.args.store.now in
     let place = c.loop-operand.operand-index in
-    deny_broken c.args.task.now formulas c.args.effect.now c.args.negative.now place _ c.args.number c.loop-operand-test.true _ _ _
+    deny_broken c.args.task.now formulas c.args.effect.now c.args.negative.now place _ c.args.number
+    c.loop-operand-test.true _ _ _
     c.late-seen.result (c.loop-operand.rest % c.count_of-count.result) c.late-seen.ensures
     (digit_is c.args.task.now formulas c.args.negative.now place _ c.args.number _ _
     c.loop-operand.invariant.rest c.count_of-count.ensures)
@@ -21,8 +22,10 @@ loop-operand-preserved g c =
     record {
       rest = rest_is c.args.task.now formulas c.args.negative.now place _ c.args.number _ _
           c.loop-operand.invariant.rest c.count_of-count.ensures c.loop-operand-test.true;
-      denied = deny_more c.args.task.now formulas c.args.effect.now c.args.negative.now place _ c.args.number c.loop-operand-test.true
-          _ _ _ _ c.late-seen.result (c.loop-operand.rest % c.count_of-count.result) c.late-seen.ensures
+      denied = deny_more c.args.task.now formulas c.args.effect.now c.args.negative.now place _
+          c.args.number c.loop-operand-test.true
+          _ _ _ _ c.late-seen.result (c.loop-operand.rest % c.count_of-count.result)
+          c.late-seen.ensures
           (digit_is c.args.task.now formulas c.args.negative.now place _ c.args.number _ _
           c.loop-operand.invariant.rest c.count_of-count.ensures)
           c.loop-operand.invariant.denied c.if-not-deny_which.ensures.denied;
@@ -30,4 +33,5 @@ loop-operand-preserved g c =
     }
 
 pub returns-then-not-deny_which-clause-grown : goal.returns-then-not-deny_which-clause-grown
-returns-then-not-deny_which-clause-grown g c = grows_then _ _ _ c.loop-operand.invariant.grown c.if-not-deny_which.ensures.grown
+returns-then-not-deny_which-clause-grown g c = grows_then _ _ _ c.loop-operand.invariant.grown
+    c.if-not-deny_which.ensures.grown

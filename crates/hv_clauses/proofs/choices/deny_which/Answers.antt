@@ -16,40 +16,50 @@ use Rattle.hv_clauses.specs.Store.{formula_at}
 use Rattle.hv_clauses.proofs.choices.deny_which.Goals as goal
 
 -- a place among the clauses of the initial state is an atom of the task
-place_below : (task : Strips) (sizes : ℕ → ℕ) (which : Which) (place : ℕ) → place < clauses_of task sizes which → which ≡ W.Start
+place_below : (task : Strips) (sizes : ℕ → ℕ) (which : Which) (place : ℕ)
+    → place < clauses_of task sizes which → which ≡ W.Start
     → place < atoms task
 place_below task sizes which place less is = subst (λ w. place < clauses_of task sizes w) is less
 
 pub overflow_cast-place : goal.overflow_cast-place
 overflow_cast-place g c =
     let sizes = sizes_of (formula_at c.args.store.now) in
-    let less = place_below c.args.task.now sizes c.args.which c.args.place c.requires.place c.in-Start.is in
+    let less = place_below c.args.task.now sizes c.args.which c.args.place c.requires.place
+    c.in-Start.is in
     omega (arith, less, c.atoms-atoms.ensures.task.few_atoms)
 
 pub returns-in-Start-clause-denied : goal.returns-in-Start-clause-denied
 returns-in-Start-clause-denied g c =
     let formulas = formula_at c.args.store.now in
-    let less = place_below c.args.task.now (sizes_of formulas) c.args.which c.args.place c.requires.place c.in-Start.is in
+    let less = place_below c.args.task.now (sizes_of formulas) c.args.which c.args.place
+    c.requires.place c.in-Start.is in
     denied_same c.args.effect.now _ _ _ c.from_ref.result.now _ (
-    made_start (atoms c.args.task.now) c.args.task.now.start c.args.place c.start_literal-literal.result c.from_ref.result.now
+    made_start (atoms c.args.task.now) c.args.task.now.start c.args.place
+    c.start_literal-literal.result c.from_ref.result.now
     c.from_ref.ensures.value c.start_literal-literal.ensures less
     ∙ ap (λ w. clause_at (clauses_in c.args.task.now formulas w) c.args.place) (sym c.in-Start.is)
     ) c.deny.ensures.denied
 
 -- the literal of the goal atom at a place
-goal_literal_is : (items : List ℕ) (place atom : ℕ) (literal : Literal) → slice_get items place ≡ Some atom
-    → literal ≡ record { atom = atom; positive = true } → literal ≡ record { atom = get_or items place 0; positive = true }
+goal_literal_is : (items : List ℕ) (place atom : ℕ) (literal : Literal)
+    → slice_get items place ≡ Some atom
+    → literal ≡ record { atom = atom; positive = true }
+    → literal ≡ record { atom = get_or items place 0; positive = true }
 goal_literal_is items place atom literal named e =
-    e ∙ ap {B = Literal} (λ a. record { atom = a; positive = true }) (sym (get_or_from_slice_get items place atom 0 named))
+    e ∙ ap {B = Literal} (λ a. record { atom = a; positive = true })
+    (sym (get_or_from_slice_get items place atom 0 named))
 
-goal_atom_below : (bound : ℕ) (items : List ℕ) (place atom : ℕ) → AreBelow bound items → slice_get items place ≡ Some atom
+goal_atom_below : (bound : ℕ) (items : List ℕ) (place atom : ℕ) → AreBelow bound items
+    → slice_get items place ≡ Some atom
     → atom < bound
 goal_atom_below bound items place atom below named =
-    subst (λ a. a < bound) (get_or_from_slice_get items place atom 0 named) (below place 0 (slice_get_within items place atom named))
+    subst (λ a. a < bound) (get_or_from_slice_get items place atom 0 named)
+    (below place 0 (slice_get_within items place atom named))
 
 pub deny-requires-in-Goal : goal.deny-requires-in-Goal
 deny-requires-in-Goal g c =
-    let below = goal_atom_below (atoms c.args.task.now) c.goal.result.now c.args.place c.get.result c.goal.ensures.below c.get.ensures in
+    let below = goal_atom_below (atoms c.args.task.now) c.goal.result.now c.args.place c.get.result
+    c.goal.ensures.below c.get.ensures in
     let atom = ap (λ (l : Literal). l.atom) c.goal_literal-literal.ensures in
     one_below _ _ _ c.from_ref-in-Goal.ensures.value (omega (arith, below, atom, c.requires.size))
 
@@ -59,7 +69,8 @@ returns-in-Goal-clause-denied g c =
     denied_same c.args.effect.now _ _ _ c.from_ref-in-Goal.result.now _ (
     made_goal c.args.task.now.goal c.goal.result.now c.args.place _ c.from_ref-in-Goal.result.now
     c.from_ref-in-Goal.ensures.value
-    (goal_literal_is c.goal.result.now c.args.place c.get.result _ c.get.ensures c.goal_literal-literal.ensures)
+    (goal_literal_is c.goal.result.now c.args.place c.get.result _ c.get.ensures
+    c.goal_literal-literal.ensures)
     c.goal.ensures.goal (slice_get_within c.goal.result.now c.args.place c.get.result c.get.ensures)
     ∙ ap (λ w. clause_at (clauses_in c.args.task.now formulas w) c.args.place) (sym c.in-Goal.is)
     ) c.deny-in-Goal.ensures.denied

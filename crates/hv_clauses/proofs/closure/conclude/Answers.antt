@@ -1,4 +1,5 @@
-use Rattle.std.proofs.Common.{◌≡◌, ◌∙◌, [], true, Bool, List, ℕ, None, length, refl, sym, ap, arith, subst}
+use Rattle.std.proofs.Common.{◌≡◌, ◌∙◌, [], true, Bool, List, ℕ, None, length, refl, sym, ap, arith}
+use Rattle.std.proofs.Common.{subst}
 use Rattle.hv_sets.specs.declared.literal.Literal.{Literal}
 use Rattle.hv_sets.specs.Truth.{in_clauses}
 use Rattle.hv_clauses.specs.Working.Chase.{AreKept}
@@ -12,36 +13,55 @@ use Rattle.hv_clauses.proofs.Problems.{kept_earlier}
 use Rattle.hv_clauses.proofs.closure.conclude.Goals as goal
 
 -- what was followed up where nothing was known
-module _ (clauses : List (List Literal)) (e : List ℕ) (k : Knowledge) (none : k.trail ≡ []) (unknown : (p : ℕ) → known k.base p ≡ None) (plain : e ≡ []) where
+module _ (clauses : List (List Literal)) (e : List ℕ) (k : Knowledge) (none : k.trail ≡ [])
+    (unknown : (p : ℕ) → known k.base p ≡ None) (plain : e ≡ []) where
   agrees_start : (state : List Bool) → Agrees (marks_of k) state
   agrees_start state =
-      subst (λ ls. let m : Knowledge = record { base = k.base; trail = ls } in Agrees (marks_of m) state) (sym none) (agrees_none k.base unknown state)
+      subst (λ ls. let m : Knowledge = record { base = k.base; trail = ls } in
+      Agrees (marks_of m) state) (sym none) (agrees_none k.base unknown state)
 
-  holds_start : (state : List Bool) → in_clauses clauses state ≡ true → in_clauses clauses (over e state) ≡ true
-  holds_start state holds = ap (λ x. in_clauses clauses (over x state)) plain ∙ (ap (in_clauses clauses) (over-nil state) ∙ holds)
+  holds_start : (state : List Bool) → in_clauses clauses state ≡ true
+      → in_clauses clauses (over e state) ≡ true
+  holds_start state holds = ap (λ x. in_clauses clauses (over x state)) plain
+      ∙ (ap (in_clauses clauses) (over-nil state) ∙ holds)
 
 pub returns-then-not-start-clause-never : goal.returns-then-not-start-clause-never
 returns-then-not-start-clause-never c = λ is state size holds.
     let k = c.args.marks.now in
-    c.if-not-start.ensures.followed.broken refl state size (holds_start c.args.clauses.now c.none-none.result k c.requires.none c.requires.unknown c.none-none.ensures state holds)
-    (agrees_start c.args.clauses.now c.none-none.result k c.requires.none c.requires.unknown c.none-none.ensures state)
+    c.if-not-start.ensures.followed.broken refl state size
+    (holds_start c.args.clauses.now c.none-none.result k c.requires.none c.requires.unknown
+    c.none-none.ensures state holds)
+    (agrees_start c.args.clauses.now c.none-none.result k c.requires.none c.requires.unknown
+    c.none-none.ensures state)
 
 pub close-requires-clause-left : goal.close-requires-clause-left
 close-requires-clause-left c =
     let more = longer _ _ _ _ c.if-not-start.ensures.followed in
-    kept_earlier [] c.args.clauses.now c.start.new.marks 0 (length c.args.marks.now.trail) (omega arith) more
-    (subst (λ e. AreKept e c.args.clauses.now c.start.new.marks (length c.args.marks.now.trail)) c.none-none.ensures (c.if-not-start.ensures.kept refl))
+    kept_earlier [] c.args.clauses.now c.start.new.marks 0 (length c.args.marks.now.trail)
+    (omega arith) more
+    (subst (λ e. AreKept e c.args.clauses.now c.start.new.marks (length c.args.marks.now.trail))
+    c.none-none.ensures (c.if-not-start.ensures.kept refl))
 
 pub returns-clause-follows : goal.returns-clause-follows
 returns-clause-follows c = λ is state size holds.
     let k = c.args.marks.now in
-    c.close.ensures.followed.follows state (size ∙ sym (ap length c.if-not-start.ensures.followed.base)) (ap (in_clauses c.args.clauses.now) (over-nil state) ∙ holds)
-    (c.if-not-start.ensures.followed.follows state size (holds_start c.args.clauses.now c.none-none.result k c.requires.none c.requires.unknown c.none-none.ensures state holds)
-    (agrees_start c.args.clauses.now c.none-none.result k c.requires.none c.requires.unknown c.none-none.ensures state))
+    c.close.ensures.followed.follows state
+    (size ∙ sym (ap length c.if-not-start.ensures.followed.base))
+    (ap (in_clauses c.args.clauses.now) (over-nil state) ∙ holds)
+    (c.if-not-start.ensures.followed.follows state size
+    (holds_start c.args.clauses.now c.none-none.result k c.requires.none c.requires.unknown
+    c.none-none.ensures state holds)
+    (agrees_start c.args.clauses.now c.none-none.result k c.requires.none c.requires.unknown
+    c.none-none.ensures state))
 
 pub returns-clause-never : goal.returns-clause-never
 returns-clause-never c = λ is state size holds.
     let k = c.args.marks.now in
-    c.close.ensures.followed.broken is state (size ∙ sym (ap length c.if-not-start.ensures.followed.base)) (ap (in_clauses c.args.clauses.now) (over-nil state) ∙ holds)
-    (c.if-not-start.ensures.followed.follows state size (holds_start c.args.clauses.now c.none-none.result k c.requires.none c.requires.unknown c.none-none.ensures state holds)
-    (agrees_start c.args.clauses.now c.none-none.result k c.requires.none c.requires.unknown c.none-none.ensures state))
+    c.close.ensures.followed.broken is state
+    (size ∙ sym (ap length c.if-not-start.ensures.followed.base))
+    (ap (in_clauses c.args.clauses.now) (over-nil state) ∙ holds)
+    (c.if-not-start.ensures.followed.follows state size
+    (holds_start c.args.clauses.now c.none-none.result k c.requires.none c.requires.unknown
+    c.none-none.ensures state holds)
+    (agrees_start c.args.clauses.now c.none-none.result k c.requires.none c.requires.unknown
+    c.none-none.ensures state))

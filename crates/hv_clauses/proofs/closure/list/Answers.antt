@@ -15,7 +15,8 @@ loop-atom-preserved c =
       listed = c.in_ok-put.ensures.below;
       same = λ p less.
           elim (cases_lt p c.loop-atom.atom) [
-            | inl before ↦ c.in_ok-put.ensures.others n p (λ e. omega arith) ∙ c.loop-atom.invariant.same p before
+            | inl before ↦ c.in_ok-put.ensures.others n p (λ e. omega arith)
+                ∙ c.loop-atom.invariant.same p before
             | inr last ↦
                 let at : c.loop-atom.atom ≡ p = omega arith in
                 subst (λ q. known (marked n c.put.new.forced.items) q ≡ known (marks_of k) q) at
@@ -29,4 +30,5 @@ returns-clause-same c =
     let end = c.atoms-atom-end.ensures.atoms in
     let few = c.atoms-atom-end.ensures.few in
     let past = c.loop-atom-test.false in
-    said_everywhere k c.loop-atom.forced.items (length k.base) refl (λ p less. c.loop-atom.invariant.same p (omega arith))
+    said_everywhere k c.loop-atom.forced.items (length k.base) refl
+    (λ p less. c.loop-atom.invariant.same p (omega arith))

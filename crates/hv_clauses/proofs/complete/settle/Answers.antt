@@ -10,9 +10,12 @@ use Rattle.hv_clauses.proofs.complete.settle.Goals as goal
 pub returns-clause-tried : goal.returns-clause-tried
 returns-clause-tried g c =
     let k = c.args.marks.now in
-    tried_both (g.C.Constraint.admits c.args.constraint.now) (g.C.Constraint.settled c.args.constraint.now) c.args.atom
+    tried_both (g.C.Constraint.admits c.args.constraint.now)
+    (g.C.Constraint.settled c.args.constraint.now) c.args.atom
     (marks_of k) (marks_of c.assume.new.marks) (marks_of c.assume-2.new.marks) c.assume-2.result
-    (subst (λ n. Completes C.Try (g.C.Constraint.admits c.args.constraint.now) (g.C.Constraint.settled c.args.constraint.now) n) (sym (length-marks k)) c.requires.completes)
+    (subst (λ n. Completes C.Try (g.C.Constraint.admits c.args.constraint.now)
+    (g.C.Constraint.settled c.args.constraint.now) n) (sym (length-marks k))
+    c.requires.completes)
     (c.laws.ensures.ends k (length k.trail) (omega arith) c.requires.left)
     c.if-assume.ensures.assumed c.assume-2.ensures.assumed
 

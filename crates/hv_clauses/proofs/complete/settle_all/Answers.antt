@@ -3,7 +3,8 @@ use Rattle.hv_clauses.proofs.Completing.{tried_more}
 use Rattle.hv_clauses.proofs.complete.settle_all.Goals as goal
 
 pub returns-then-not-settle-clause-grown : goal.returns-then-not-settle-clause-grown
-returns-then-not-settle-clause-grown g c = grows_then _ _ _ c.loop-atom.invariant.grown c.if-not-settle.ensures.grown
+returns-then-not-settle-clause-grown g c = grows_then _ _ _ c.loop-atom.invariant.grown
+    c.if-not-settle.ensures.grown
 
 pub loop-atom-preserved : goal.loop-atom-preserved
 loop-atom-preserved g c = record {

@@ -6,7 +6,8 @@ use Rattle.hv_clauses.proofs.complete.settle_all.Given as goal
 
 abbrev pub invariant-loop-atom : goal.invariant-loop-atom
 invariant-loop-atom g l = record {
-  tried : IsTried (g.C.Constraint.admits l.constraint) (g.C.Constraint.settled l.constraint) (AllKnown l.atom) (marks_of l.initial.marks) (marks_of l.marks) true;
+  tried : IsTried (g.C.Constraint.admits l.constraint) (g.C.Constraint.settled l.constraint)
+      (AllKnown l.atom) (marks_of l.initial.marks) (marks_of l.marks) true;
   grown : Grows l.initial.marks l.marks;
   left : g.C.Constraint.left l.constraint l.marks (length l.marks.trail);
 }

@@ -16,5 +16,6 @@ loop-literal-preserved c =
 
 pub returns-clause-some : goal.returns-clause-some
 returns-clause-some c = λ _.
-    denied_all c.loop-literal.literal-index c.args.clause.now c.loop-literal.cube (omega (arith, c.loop-literal-test.false))
+    denied_all c.loop-literal.literal-index c.args.clause.now c.loop-literal.cube
+    (omega (arith, c.loop-literal-test.false))
     c.loop-literal.invariant

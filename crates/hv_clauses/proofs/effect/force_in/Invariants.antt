@@ -7,6 +7,9 @@ use Rattle.hv_clauses.proofs.effect.force_in.Given as goal
 
 abbrev pub invariant-loop-atom : goal.invariant-loop-atom
 invariant-loop-atom l = record {
-  so_far : IsConcluded (λ state. (k : ℕ) → k < l.atom-index → has_atom state (get_or l.atoms k 0) ≡ true) (λ marks. (k : ℕ) → k < l.atom-index → known marks (get_or l.atoms k 0) ≡ Some true) (marks_of l.fn.marks) (marks_of l.marks) true;
+  so_far : IsConcluded (λ state. (k : ℕ) → k < l.atom-index
+      → has_atom state (get_or l.atoms k 0) ≡ true)
+      (λ marks. (k : ℕ) → k < l.atom-index → known marks (get_or l.atoms k 0) ≡ Some true)
+      (marks_of l.fn.marks) (marks_of l.marks) true;
   grown : Grows l.fn.marks l.marks;
 }

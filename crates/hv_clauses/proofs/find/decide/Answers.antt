@@ -9,19 +9,26 @@ use Rattle.hv_clauses.proofs.find.decide.Goals as goal
 pub is_refuted-requires-clause-named : goal.is_refuted-requires-clause-named
 is_refuted-requires-clause-named g c =
     let p = c.args.problem.now in
-    named_second (length p.store.now) p.query.now.positive p.query.now.negative p.query.now.negative refl c.requires.posed.ready.named
+    named_second (length p.store.now) p.query.now.positive p.query.now.negative p.query.now.negative
+    refl c.requires.posed.ready.named
 
 pub is_refuted-requires-clause-some : goal.is_refuted-requires-clause-some
 is_refuted-requires-clause-some g c =
     let p = c.args.problem.now in
-    some_clauses p.task.now (formula_at p.store.now) p.effect.now p.query.now p.query.now.negative c.args.number refl c.requires.number
+    some_clauses p.task.now (formula_at p.store.now) p.effect.now p.query.now p.query.now.negative
+    c.args.number refl c.requires.number
 
 pub returns-then-is_refuted-clause-met : goal.returns-then-is_refuted-clause-met
 returns-then-is_refuted-clause-met g c = λ state size fits.
     c.if-is_refuted.ensures refl state size
-    (c.requires.based.base.follows state (size ∙ sym (length-marks c.args.marks.now ∙ c.requires.based.wide)) fits.applies fits.inside) fits.inside fits.outside
+    (c.requires.based.base.follows state (size
+    ∙ sym (length-marks c.args.marks.now ∙ c.requires.based.wide)) fits.applies fits.inside)
+    fits.inside fits.outside
 
 pub returns-clause-same : goal.returns-clause-same
 returns-clause-same g c =
-    undone_same c.args.marks.now c.try_choice-met.new.marks c.undo.new.self c.try_choice-met.ensures.grown
-    (c.undo.ensures ∙ ap (λ n. let z : Knowledge = record { base = c.try_choice-met.new.marks.base; trail = take n c.try_choice-met.new.marks.trail } in z) c.len-point.ensures.len)
+    undone_same c.args.marks.now c.try_choice-met.new.marks c.undo.new.self
+    c.try_choice-met.ensures.grown
+    (c.undo.ensures ∙ ap (λ n. let z : Knowledge = record
+    { base = c.try_choice-met.new.marks.base; trail = take n c.try_choice-met.new.marks.trail }
+    in z) c.len-point.ensures.len)

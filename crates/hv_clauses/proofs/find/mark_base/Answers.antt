@@ -10,32 +10,41 @@ use Rattle.hv_clauses.proofs.find.mark_base.Goals as goal
 pub returns-then-not-mark_pre-clause-never : goal.returns-then-not-mark_pre-clause-never
 returns-then-not-mark_pre-clause-never g c = λ _ state size applies inside.
     let k = c.args.marks.now in
-    c.if-not-mark_pre.ensures.marked.broken refl state (size ∙ sym (length-marks k ∙ c.requires.marks)) applies (c.requires.follows state size inside)
+    c.if-not-mark_pre.ensures.marked.broken refl state
+    (size ∙ sym (length-marks k ∙ c.requires.marks)) applies
+    (c.requires.follows state size inside)
 
 pub start_all-requires-clause-named : goal.start_all-requires-clause-named
 start_all-requires-clause-named g c =
     let p = c.args.problem.now in
-    named_first (length p.store.now) p.query.now.positive p.query.now.negative p.query.now.positive refl c.requires.posed.ready.named
+    named_first (length p.store.now) p.query.now.positive p.query.now.negative p.query.now.positive
+    refl c.requires.posed.ready.named
 
 pub start_all-requires-clause-size : goal.start_all-requires-clause-size
-start_all-requires-clause-size g c = ap length c.if-not-mark_pre.ensures.grown.base ∙ c.requires.marks
+start_all-requires-clause-size g c = ap length c.if-not-mark_pre.ensures.grown.base
+    ∙ c.requires.marks
 
 pub start_all-requires-clause-based : goal.start_all-requires-clause-based
 start_all-requires-clause-based g c =
-    subst (λ b. IsBasedOn (formula_at c.args.problem.now.store.now) c.args.problem.now.effect.now c.args.based b) (sym c.if-not-mark_pre.ensures.grown.base) c.requires.based
+    subst (λ b. IsBasedOn (formula_at c.args.problem.now.store.now) c.args.problem.now.effect.now
+    c.args.based b) (sym c.if-not-mark_pre.ensures.grown.base) c.requires.based
 
 pub returns-then-not-start_all-clause-never : goal.returns-then-not-start_all-clause-never
 returns-then-not-start_all-clause-never g c = λ _ state size applies inside.
     let k = c.args.marks.now in
-    c.if-not-start_all.ensures.followed.broken refl state (size ∙ sym (ap length c.if-not-mark_pre.ensures.grown.base ∙ c.requires.marks)) inside
-    (c.if-not-mark_pre.ensures.marked.follows state (size ∙ sym (length-marks k ∙ c.requires.marks)) applies (c.requires.follows state size inside))
+    c.if-not-start_all.ensures.followed.broken refl state
+    (size ∙ sym (ap length c.if-not-mark_pre.ensures.grown.base ∙ c.requires.marks)) inside
+    (c.if-not-mark_pre.ensures.marked.follows state (size ∙ sym (length-marks k ∙ c.requires.marks))
+    applies (c.requires.follows state size inside))
 
 pub close-requires-clause-over : goal.close-requires-clause-over
 close-requires-clause-over g c =
     let p = c.args.problem.now in (
-      ap length c.if-not-start_all.ensures.followed.base ∙ (ap length c.if-not-mark_pre.ensures.grown.base ∙ c.requires.marks),
+      ap length c.if-not-start_all.ensures.followed.base
+          ∙ (ap length c.if-not-mark_pre.ensures.grown.base ∙ c.requires.marks),
       c.requires.posed.over,
-      named_first (length p.store.now) p.query.now.positive p.query.now.negative p.query.now.positive refl c.requires.posed.ready.named,
+      named_first (length p.store.now) p.query.now.positive p.query.now.negative
+          p.query.now.positive refl c.requires.posed.ready.named,
     )
 
 pub close-requires-clause-left : goal.close-requires-clause-left
@@ -57,10 +66,12 @@ returns-clause-based g c = λ is.
             let size = long ∙ (length-marks c.close.new.marks ∙ wide) in
             last.follows state (size ∙ sym wide_all) inside
             (all.follows state (size ∙ sym wide_pre) inside
-            (pre.marked.follows state (size ∙ sym (length-marks k ∙ c.requires.marks)) applies (c.requires.follows state size inside)));
+            (pre.marked.follows state (size ∙ sym (length-marks k ∙ c.requires.marks)) applies
+            (c.requires.follows state size inside)));
         enabled = λ state agrees. pre.marked.done refl state
             (agrees_extends (marks_of c.mark_pre.new.marks) (marks_of c.close.new.marks) state
-            (extends_then (marks_of c.mark_pre.new.marks) (marks_of c.start_all.new.marks) (marks_of c.close.new.marks) all.grows last.grows) agrees);
+            (extends_then (marks_of c.mark_pre.new.marks) (marks_of c.start_all.new.marks)
+            (marks_of c.close.new.marks) all.grows last.grows) agrees);
       };
       left = c.close.ensures.left is;
     }
@@ -72,4 +83,5 @@ returns-clause-never g c = λ is state size applies inside.
     let wide_all = ap length c.if-not-start_all.ensures.followed.base ∙ wide_pre in
     c.close.ensures.followed.broken is state (size ∙ sym wide_all) inside
     (c.if-not-start_all.ensures.followed.follows state (size ∙ sym wide_pre) inside
-    (c.if-not-mark_pre.ensures.marked.follows state (size ∙ sym (length-marks k ∙ c.requires.marks)) applies (c.requires.follows state size inside)))
+    (c.if-not-mark_pre.ensures.marked.follows state (size ∙ sym (length-marks k ∙ c.requires.marks))
+    applies (c.requires.follows state size inside)))

@@ -4,4 +4,5 @@ use Rattle.hv_sets.specs.declared.operand.Which.TheVariants as W
 use Rattle.hv_clauses.proofs.frame.first_filled.Given as goal
 
 abbrev pub invariant-loop-place : goal.invariant-loop-place
-invariant-loop-place l = (k : ℕ) (o : Operand) → l.from ≤ k → k < l.place → slice_get l.operands k ≡ Some o → o.which ≡ W.Empty
+invariant-loop-place l = (k : ℕ) (o : Operand) → l.from ≤ k → k < l.place
+    → slice_get l.operands k ≡ Some o → o.which ≡ W.Empty

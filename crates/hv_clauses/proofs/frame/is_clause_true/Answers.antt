@@ -8,17 +8,24 @@ use Rattle.hv_clauses.proofs.frame.is_clause_true.Goals as goal
 pub returns-then-has_true : goal.returns-then-has_true
 returns-then-has_true g c = λ _ state size agrees inside broken.
     let p = c.args.problem.now in
-    refuted_known p.task.now (formula_at p.store.now) p.effect.now c.args.operand.which c.in-Set.number c.args.place c.in-Set.is
-    _ c.clauses.result.now c.get-clause.result.now c.get-clause.result.now c.set.ensures.clauses c.clauses.ensures.clauses
-    (sym (get_or_from_slice_get c.clauses.result.now c.args.place c.get-clause.result.now c.get-clause.result.now c.get-clause.ensures)) refl
+    refuted_known p.task.now (formula_at p.store.now) p.effect.now c.args.operand.which
+    c.in-Set.number c.args.place c.in-Set.is
+    _ c.clauses.result.now c.get-clause.result.now c.get-clause.result.now c.set.ensures.clauses
+    c.clauses.ensures.clauses
+    (sym (get_or_from_slice_get c.clauses.result.now c.args.place c.get-clause.result.now
+    c.get-clause.result.now c.get-clause.ensures)) refl
     c.requires.place c.args.operand.after c.late-seen.result (marks_of c.args.marks.now) _ _ state
-    c.late-seen.ensures c.clauses.ensures.below (c.set.ensures.atoms _ c.requires.over) size (c.has_true.ensures c.if-has_true.true) agrees broken
+    c.late-seen.ensures c.clauses.ensures.below (c.set.ensures.atoms _ c.requires.over) size
+    (c.has_true.ensures c.if-has_true.true) agrees broken
 
 pub returns-then-names : goal.returns-then-names
 returns-then-names g c = λ e state size agrees inside broken.
     let p = c.args.problem.now in
-    refuted_framed p.task.now (formula_at p.store.now) p.effect.now c.args.operand.which c.in-Set.number c.args.place c.in-Set.is
-    _ c.clauses.result.now c.get-clause.result.now c.get-clause.result.now c.set.ensures.clauses c.clauses.ensures.clauses
-    (sym (get_or_from_slice_get c.clauses.result.now c.args.place c.get-clause.result.now c.get-clause.result.now c.get-clause.ensures)) refl
+    refuted_framed p.task.now (formula_at p.store.now) p.effect.now c.args.operand.which
+    c.in-Set.number c.args.place c.in-Set.is
+    _ c.clauses.result.now c.get-clause.result.now c.get-clause.result.now c.set.ensures.clauses
+    c.clauses.ensures.clauses
+    (sym (get_or_from_slice_get c.clauses.result.now c.args.place c.get-clause.result.now
+    c.get-clause.result.now c.get-clause.ensures)) refl
     c.requires.place c.args.operand.after p.query.now.positive state
     (c.if-names.ensures.0 refl) (c.is_held.ensures e) inside broken

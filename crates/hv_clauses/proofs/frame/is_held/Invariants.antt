@@ -5,5 +5,6 @@ use Rattle.hv_clauses.proofs.frame.is_held.Given as goal
 
 abbrev pub invariant-loop-literal : goal.invariant-loop-literal
 invariant-loop-literal l = record {
-  held : (k : ℕ) (d : Literal) → k < l.literal-index → value_of l.effect [] (get_or l.clause k d) ≡ Some (not l.after) → ⊥;
+  held : (k : ℕ) (d : Literal) → k < l.literal-index
+      → value_of l.effect [] (get_or l.clause k d) ≡ Some (not l.after) → ⊥;
 }

@@ -6,8 +6,10 @@ use Rattle.hv_clauses.proofs.fronts.explore_on.Given as goal
 
 abbrev pub invariant-loop-fixed : goal.invariant-loop-fixed
 invariant-loop-fixed g l = record {
-  block : l.block ≡ block_size l.problem.task.now (formula_at l.problem.store.now) l.problem.query.now (l.count - l.fixed);
-  advanced : IsAdvanced l.problem.task.now (formula_at l.problem.store.now) l.problem.effect.now l.problem.query.now
+  block : l.block ≡ block_size l.problem.task.now (formula_at l.problem.store.now)
+      l.problem.query.now (l.count - l.fixed);
+  advanced : IsAdvanced l.problem.task.now (formula_at l.problem.store.now) l.problem.effect.now
+      l.problem.query.now
       (l.count - l.fixed) l.number l.next l.marks;
   grown : Grows l.fn.marks l.marks;
 }

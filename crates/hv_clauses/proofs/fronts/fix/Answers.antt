@@ -11,35 +11,46 @@ use Rattle.hv_clauses.proofs.fronts.fix.Goals as goal
 pub count_of-requires : goal.count_of-requires
 count_of-requires g c =
     let p = c.args.problem.now in
-    named_here (length p.store.now) p.query.now.positive p.query.now.negative c.args.place c.args.operand c.requires.here c.requires.posed.ready.named
+    named_here (length p.store.now) p.query.now.positive p.query.now.negative c.args.place
+    c.args.operand c.requires.here c.requires.posed.ready.named
 
 pub is_clause_true-requires-clause-place : goal.is_clause_true-requires-clause-place
 is_clause_true-requires-clause-place g c =
     let p = c.args.problem.now in
-    subst (λ n. c.args.rest % n < clauses_of p.task.now (sizes_of (formula_at p.store.now)) c.args.operand.which) (sym c.count_of.ensures)
-    (mod_below c.args.rest (clauses_of p.task.now (sizes_of (formula_at p.store.now)) c.args.operand.which) c.requires.some)
+    subst (λ n. c.args.rest % n < clauses_of p.task.now (sizes_of (formula_at p.store.now))
+    c.args.operand.which) (sym c.count_of.ensures)
+    (mod_below c.args.rest (clauses_of p.task.now (sizes_of (formula_at p.store.now))
+    c.args.operand.which) c.requires.some)
 
 pub returns-then-is_clause_true-clause-never : goal.returns-then-is_clause_true-clause-never
 returns-then-is_clause_true-clause-never g c = λ _.
     let p = c.args.problem.now in
-    never_more p.task.now (formula_at p.store.now) p.effect.now p.query.now c.args.place c.args.rest c.args.operand c.requires.here _ refl
+    never_more p.task.now (formula_at p.store.now) p.effect.now p.query.now c.args.place c.args.rest
+    c.args.operand c.requires.here _ refl
     _ (ap (λ n. c.args.rest % n) c.count_of.ensures) c.args.marks.now c.requires.front
-    (λ state size inside misses agrees. c.if-is_clause_true.ensures refl state size agrees inside misses)
+    (λ state size inside misses agrees. c.if-is_clause_true.ensures refl state size agrees inside
+    misses)
 
 pub returns-then-deny-clause-front : goal.returns-then-deny-clause-front
 returns-then-deny-clause-front g c = λ _.
     let p = c.args.problem.now in
     let deny = c.if-deny.ensures in
-    front_more p.task.now (formula_at p.store.now) p.effect.now p.query.now c.args.place c.args.rest c.args.operand c.requires.here _ refl
-    _ (ap (λ n. c.args.rest % n) c.count_of.ensures) c.args.marks.now c.requires.front c.deny.new.marks deny.grown deny.follows (deny.denied refl) (deny.left refl)
+    front_more p.task.now (formula_at p.store.now) p.effect.now p.query.now c.args.place c.args.rest
+    c.args.operand c.requires.here _ refl
+    _ (ap (λ n. c.args.rest % n) c.count_of.ensures) c.args.marks.now c.requires.front
+    c.deny.new.marks deny.grown deny.follows (deny.denied refl) (deny.left refl)
 
 pub returns-clause-never : goal.returns-clause-never
 returns-clause-never g c = λ _.
     let p = c.args.problem.now in
-    never_more p.task.now (formula_at p.store.now) p.effect.now p.query.now c.args.place c.args.rest c.args.operand c.requires.here _ refl
-    _ (ap (λ n. c.args.rest % n) c.count_of.ensures) c.args.marks.now c.requires.front (c.if-deny.ensures.never refl)
+    never_more p.task.now (formula_at p.store.now) p.effect.now p.query.now c.args.place c.args.rest
+    c.args.operand c.requires.here _ refl
+    _ (ap (λ n. c.args.rest % n) c.count_of.ensures) c.args.marks.now c.requires.front
+    (c.if-deny.ensures.never refl)
 
 pub returns-clause-same : goal.returns-clause-same
 returns-clause-same g c = λ _.
     undone_same c.args.marks.now c.deny.new.marks c.undo.new.self c.if-deny.ensures.grown
-    (c.undo.ensures ∙ ap (λ n. let z : Knowledge = record { base = c.deny.new.marks.base; trail = take n c.deny.new.marks.trail } in z) c.len-point.ensures.len)
+    (c.undo.ensures ∙ ap (λ n. let z : Knowledge = record
+    { base = c.deny.new.marks.base; trail = take n c.deny.new.marks.trail } in z)
+    c.len-point.ensures.len)

@@ -10,13 +10,17 @@ pub loop-place-preserved : goal.loop-place-preserved
 loop-place-preserved c =
     let clauses = c.args.clauses.now in
     let k = c.loop-place.place in
-    let is : get_or clauses k [] ≡ c.get.result.now = get_or_from_slice_get clauses k c.get.result.now [] c.get.ensures in
-    lists_more (λ (j : ℕ). IsImpliedCode (get_or clauses j [])) k c.loop-place.codes.items c.put_clause.new.codes.items c.loop-place.invariant
-    (subst (λ (ls : List Literal). PutsCodes (IsImpliedCode ls) c.loop-place.codes.items c.put_clause.new.codes.items) (sym is) c.in_ok-put_clause.ensures)
+    let is : get_or clauses k [] ≡ c.get.result.now = get_or_from_slice_get clauses k
+    c.get.result.now [] c.get.ensures in
+    lists_more (λ (j : ℕ). IsImpliedCode (get_or clauses j [])) k c.loop-place.codes.items
+    c.put_clause.new.codes.items c.loop-place.invariant
+    (subst (λ (ls : List Literal). PutsCodes (IsImpliedCode ls) c.loop-place.codes.items
+    c.put_clause.new.codes.items) (sym is) c.in_ok-put_clause.ensures)
 
 pub returns : goal.returns
 returns c =
     let end : c.loop-place.place ≡ length c.args.clauses.now =
     omega (arith, c.loop-place-test.false, c.loop-place.auto.place-end, c.len-place-end.ensures) in
-    subst (λ (n : ℕ). ListsCodes (λ (j : ℕ). IsImpliedCode (get_or c.args.clauses.now j [])) n c.loop-place.codes.items) end
+    subst (λ (n : ℕ). ListsCodes (λ (j : ℕ). IsImpliedCode (get_or c.args.clauses.now j [])) n
+    c.loop-place.codes.items) end
     c.loop-place.invariant

@@ -21,7 +21,9 @@ returns-in_ok-put-in-Some-2 c =
     let a = c.in-Some.first in
     let b = c.in-Some.second in
     puts_both (λ (x : ℕ). x ≡ code (literal_number (opposite a)) (literal_number b))
-    (λ (x : ℕ). x ≡ code (literal_number (opposite b)) (literal_number a)) (IsImpliedCode c.args.clause.now)
-    c.args.codes.now.items c.put.new.codes.items c.put-in-Some.new.codes.items c.in_ok-put-in-Some.ensures
+    (λ (x : ℕ). x ≡ code (literal_number (opposite b)) (literal_number a))
+    (IsImpliedCode c.args.clause.now)
+    c.args.codes.now.items c.put.new.codes.items c.put-in-Some.new.codes.items
+    c.in_ok-put-in-Some.ensures
     c.in_ok-put-in-Some-2.ensures
     (pair_codes c.args.clause.now a b c.in-Some.ensures)

@@ -10,8 +10,10 @@ use Rattle.hv_clauses.proofs.literals.deny.Given as goal
 abbrev pub invariant-loop-literal : goal.invariant-loop-literal
 invariant-loop-literal l = record {
   concluded : IsConcluded
-      (λ state. (k : ℕ) (d : Literal) → k < l.literal-index → in_literal (get_or l.clause k d) (over l.effect state) ≡ false)
-      (λ marks. (k : ℕ) (d : Literal) → k < l.literal-index → value_of l.effect marks (get_or l.clause k d) ≡ Some false)
+      (λ state. (k : ℕ) (d : Literal) → k < l.literal-index
+      → in_literal (get_or l.clause k d) (over l.effect state) ≡ false)
+      (λ marks. (k : ℕ) (d : Literal) → k < l.literal-index
+      → value_of l.effect marks (get_or l.clause k d) ≡ Some false)
       (marks_of l.initial.marks) (marks_of l.marks) true;
   grown : Grows l.initial.marks l.marks;
 }

@@ -10,8 +10,10 @@ use Rattle.hv_clauses.proofs.literals.force_all.Given as goal
 abbrev pub invariant-loop-literal : goal.invariant-loop-literal
 invariant-loop-literal l = record {
   concluded : IsConcluded
-      (λ state. (k : ℕ) (d : Literal) → k < l.literal-index → in_literal (get_or l.literals k d) (over l.effect state) ≡ true)
-      (λ marks. (k : ℕ) (d : Literal) → k < l.literal-index → value_of l.effect marks (get_or l.literals k d) ≡ Some true)
+      (λ state. (k : ℕ) (d : Literal) → k < l.literal-index
+      → in_literal (get_or l.literals k d) (over l.effect state) ≡ true)
+      (λ marks. (k : ℕ) (d : Literal) → k < l.literal-index
+      → value_of l.effect marks (get_or l.literals k d) ≡ Some true)
       (marks_of l.initial.marks) (marks_of l.marks) true;
   grown : Grows l.initial.marks l.marks;
 }

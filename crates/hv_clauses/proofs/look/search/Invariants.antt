@@ -8,6 +8,7 @@ use Rattle.hv_clauses.proofs.look.search.Given as goal
 abbrev pub invariant-loop-step : goal.invariant-loop-step
 invariant-loop-step l = record {
   sight : IsSight (T.Left l.seen) l.effect (marks_of l.marks) l.clause;
-  passed : (p : ℕ) (d : Literal) → p < length l.clause → (l.from ≤ p × p < l.from + l.step) ⊎ (p + length l.clause < l.from + l.step)
+  passed : (p : ℕ) (d : Literal) → p < length l.clause
+      → (l.from ≤ p × p < l.from + l.step) ⊎ (p + length l.clause < l.from + l.step)
       → IsSeenIn (T.Left l.seen) l.effect (marks_of l.marks) (get_or l.clause p d);
 }

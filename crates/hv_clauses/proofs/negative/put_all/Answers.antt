@@ -13,12 +13,18 @@ loop-literal-preserved c =
     let none : Literal = record { atom = 0; positive = false } in
     let literal = get_or clause i none in
     let within : i < length clause = c.loop-literal-test.true in
-    puts_both (IsNegativeCode (take i clause) c.args.number) (λ (x : ℕ). (literal.positive ≡ false) × (x ≡ code literal.atom c.args.number))
+    puts_both (IsNegativeCode (take i clause) c.args.number)
+    (λ (x : ℕ). (literal.positive ≡ false) × (x ≡ code literal.atom c.args.number))
     (IsNegativeCode (take (i + 1) clause) c.args.number)
-    c.args.codes.now.items c.loop-literal.codes.items c.put.new.codes.items c.loop-literal.invariant c.in_ok-put.ensures
-    (negative_more clause i c.args.number literal within (get_or_default clause i none literal within))
+    c.args.codes.now.items c.loop-literal.codes.items c.put.new.codes.items c.loop-literal.invariant
+    c.in_ok-put.ensures
+    (negative_more clause i c.args.number literal within
+    (get_or_default clause i none literal within))
 
 pub returns : goal.returns
 returns c =
-    let all : take c.loop-literal.literal-index c.args.clause.now ≡ c.args.clause.now = take_all c.loop-literal.literal-index c.args.clause.now (omega (arith, c.loop-literal-test.false)) in
-    subst (λ (ls : List Literal). PutsCodes (IsNegativeCode ls c.args.number) c.args.codes.now.items c.loop-literal.codes.items) all c.loop-literal.invariant
+    let all : take c.loop-literal.literal-index c.args.clause.now
+    ≡ c.args.clause.now = take_all c.loop-literal.literal-index c.args.clause.now
+    (omega (arith, c.loop-literal-test.false)) in
+    subst (λ (ls : List Literal). PutsCodes (IsNegativeCode ls c.args.number) c.args.codes.now.items
+    c.loop-literal.codes.items) all c.loop-literal.invariant

@@ -7,7 +7,8 @@ use Rattle.hv_clauses.proofs.occurrences.list_of.Given as goal
 
 abbrev pub invariant-loop-place : goal.invariant-loop-place
 invariant-loop-place l = record {
-  all : (place : ℕ) → place < l.place → (literal : Literal) → Contains (clause_at l.clauses place) literal → literal.positive ≡ l.sign
+  all : (place : ℕ) → place < l.place → (literal : Literal)
+      → Contains (clause_at l.clauses place) literal → literal.positive ≡ l.sign
       → Contains l.list.items (record { atom = literal.atom; place = place });
   inside : All (λ (o : Occurrence). o.place < length l.clauses) l.list.items;
 }

@@ -8,7 +8,9 @@ use Rattle.hv_clauses.proofs.problem.start_all.Given as goal
 
 abbrev pub invariant-loop-operand : goal.invariant-loop-operand
 invariant-loop-operand g l = record {
-  followed : IsFollowed (InAll l.problem.task.now (formula_at l.problem.store.now) l.problem.effect.now l.positive) l.fn.marks l.marks true;
+  followed : IsFollowed (InAll l.problem.task.now (formula_at l.problem.store.now)
+      l.problem.effect.now l.positive) l.fn.marks l.marks true;
   seen : (k : ℕ) → k < l.operand-index → (f : Operand)
-      → LeftOne l.problem.task.now (formula_at l.problem.store.now) l.problem.effect.now (get_or l.positive k f) l.marks 0;
+      → LeftOne l.problem.task.now (formula_at l.problem.store.now) l.problem.effect.now
+      (get_or l.positive k f) l.marks 0;
 }

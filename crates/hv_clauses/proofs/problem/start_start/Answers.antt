@@ -26,8 +26,10 @@ returns-then-not-force-clause-followed c =
     let less : c.loop-atom.atom < atoms task = omega (arith, c.atoms-atom-end.ensures.atoms) in
     followed_then _ (λ s. in_literal c.start_literal-literal.result (over e s) ≡ true) _ _ _ _
     (λ s size holds. ap (λ (l : Literal). in_literal l (over e s)) c.start_literal-literal.ensures
-    ∙ start_literal_in (atoms task) task.start e c.loop-atom.atom s less (size ∙ c.requires.size) holds)
-    c.loop-atom.invariant.followed (followed_from _ _ _ _ _ c.if-not-force.ensures.forced c.if-not-force.ensures.grown)
+    ∙ start_literal_in (atoms task) task.start e c.loop-atom.atom s less (size ∙ c.requires.size)
+    holds)
+    c.loop-atom.invariant.followed (followed_from _ _ _ _ _ c.if-not-force.ensures.forced
+    c.if-not-force.ensures.grown)
 
 pub loop-atom-preserved : goal.loop-atom-preserved
 loop-atom-preserved c =
@@ -35,13 +37,20 @@ loop-atom-preserved c =
     let e = c.args.effect.now in
     let less : c.loop-atom.atom < atoms task = omega (arith, c.atoms-atom-end.ensures.atoms) in
     record {
-      followed = followed_then _ (λ s. in_literal c.start_literal-literal.result (over e s) ≡ true) _ _ _ _
-          (λ s size holds. ap (λ (l : Literal). in_literal l (over e s)) c.start_literal-literal.ensures
-          ∙ start_literal_in (atoms task) task.start e c.loop-atom.atom s less (size ∙ c.requires.size) holds)
-          c.loop-atom.invariant.followed (followed_from _ _ _ _ _ c.if-not-force.ensures.forced c.if-not-force.ensures.grown);
-      done = below_more (λ k. value_of e (marks_of c.force.new.marks) (record { atom = k; positive = names_atom task.start k }) ≡ Some true) c.loop-atom.atom
-          (λ k lower. value_extends e (marks_of c.loop-atom.marks) (marks_of c.force.new.marks) _ true c.if-not-force.ensures.grown.grows (c.loop-atom.invariant.done k lower))
-          (subst (λ (l : Literal). value_of e (marks_of c.force.new.marks) l ≡ Some true) c.start_literal-literal.ensures (c.if-not-force.ensures.forced.done refl));
+      followed = followed_then _ (λ s. in_literal c.start_literal-literal.result (over e s) ≡ true)
+          _ _ _ _
+          (λ s size holds. ap (λ (l : Literal). in_literal l (over e s))
+          c.start_literal-literal.ensures
+          ∙ start_literal_in (atoms task) task.start e c.loop-atom.atom s less
+          (size ∙ c.requires.size) holds)
+          c.loop-atom.invariant.followed (followed_from _ _ _ _ _ c.if-not-force.ensures.forced
+          c.if-not-force.ensures.grown);
+      done = below_more (λ k. value_of e (marks_of c.force.new.marks)
+          (record { atom = k; positive = names_atom task.start k }) ≡ Some true) c.loop-atom.atom
+          (λ k lower. value_extends e (marks_of c.loop-atom.marks) (marks_of c.force.new.marks) _
+          true c.if-not-force.ensures.grown.grows (c.loop-atom.invariant.done k lower))
+          (subst (λ (l : Literal). value_of e (marks_of c.force.new.marks) l ≡ Some true)
+          c.start_literal-literal.ensures (c.if-not-force.ensures.forced.done refl));
     }
 
 pub returns-clause-settled : goal.returns-clause-settled
@@ -49,7 +58,8 @@ returns-clause-settled c = λ _.
     let task = c.args.task.now in
     let long = length-clauses_of_state (atoms task) task.start in
     let end = c.loop-atom-test.false in
-    units_settled c.args.effect.now (marks_of c.loop-atom.marks) (clauses_of_state (atoms task) task.start)
+    units_settled c.args.effect.now (marks_of c.loop-atom.marks)
+    (clauses_of_state (atoms task) task.start)
     (λ k. record { atom = k; positive = names_atom task.start k })
     (λ k less. clause_of_state_at (atoms task) task.start k (omega arith))
     (λ k less. c.loop-atom.invariant.done k (omega (arith, c.atoms-atom-end.ensures.atoms)))

@@ -8,9 +8,12 @@ use Rattle.hv_clauses.proofs.rows.end_of.Goals as goal
 pub returns : goal.returns
 returns c =
     let parted = IsPartitionedBy-leb key_of _ c.args.key (keys_upto c.args.codes.now c.requires) in
-    let point = IsPartitionPoint-from_clause (λ (x : ℕ). leb (key_of x) c.args.key) _ _ c.partition_point.ensures.partitioned parted (λ a r q k. search rules) in
+    let point = IsPartitionPoint-from_clause
+    (λ (x : ℕ). leb (key_of x) c.args.key) _ _ c.partition_point.ensures.partitioned parted
+    (λ a r q k. search rules) in
     record {
       within = c.partition_point.ensures.bound;
-      before = λ k less. leb-true _ _ (point.0 k 0 (omega (arith, less, c.partition_point.ensures.bound)) less);
+      before = λ k less. leb-true _ _ (point.0 k 0
+          (omega (arith, less, c.partition_point.ensures.bound)) less);
       after = λ k from within. leb-false _ _ (point.1 k 0 from within);
     }

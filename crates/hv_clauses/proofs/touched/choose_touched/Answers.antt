@@ -11,10 +11,13 @@ try_value-requires-clause-touched g c =
     record {
       framed = c.requires.framed;
       which = c.in-Set.is;
-      below = subst (λ n. AreClauses n (formula_at p.store.now c.in-Set.number)) (c.set-set.ensures.atoms _ c.requires.posed.over)
-          (subst (λ cs. AreClauses c.set-set.result.now.atoms cs) (c.clauses-clauses.ensures.clauses ∙ c.set-set.ensures.clauses)
+      below = subst (λ n. AreClauses n (formula_at p.store.now c.in-Set.number))
+          (c.set-set.ensures.atoms _ c.requires.posed.over)
+          (subst (λ cs. AreClauses c.set-set.result.now.atoms cs)
+          (c.clauses-clauses.ensures.clauses ∙ c.set-set.ensures.clauses)
           c.clauses-clauses.ensures.below);
-      index = subst (λ cs. IsIndexOf cs c.occurs.result.now) c.set-set.ensures.clauses c.occurs.ensures;
+      index = subst (λ cs. IsIndexOf cs c.occurs.result.now) c.set-set.ensures.clauses
+          c.occurs.ensures;
     }
 
 pub try_value-requires-2-clause-touched : goal.try_value-requires-2-clause-touched
@@ -23,10 +26,13 @@ try_value-requires-2-clause-touched g c =
     record {
       framed = c.requires.framed;
       which = c.in-Set.is;
-      below = subst (λ n. AreClauses n (formula_at p.store.now c.in-Set.number)) (c.set-set.ensures.atoms _ c.requires.posed.over)
-          (subst (λ cs. AreClauses c.set-set.result.now.atoms cs) (c.clauses-clauses.ensures.clauses ∙ c.set-set.ensures.clauses)
+      below = subst (λ n. AreClauses n (formula_at p.store.now c.in-Set.number))
+          (c.set-set.ensures.atoms _ c.requires.posed.over)
+          (subst (λ cs. AreClauses c.set-set.result.now.atoms cs)
+          (c.clauses-clauses.ensures.clauses ∙ c.set-set.ensures.clauses)
           c.clauses-clauses.ensures.below);
-      index = subst (λ cs. IsIndexOf cs c.occurs.result.now) c.set-set.ensures.clauses c.occurs.ensures;
+      index = subst (λ cs. IsIndexOf cs c.occurs.result.now) c.set-set.ensures.clauses
+          c.occurs.ensures;
     }
 
 pub returns-clause-met : goal.returns-clause-met
@@ -35,5 +41,7 @@ returns-clause-met g c =
     let formulas = formula_at p.store.now in
     let index : IsIndexOf (formulas c.in-Set.number) c.occurs.result.now =
     subst (λ cs. IsIndexOf cs c.occurs.result.now) c.set-set.ensures.clauses c.occurs.ensures in
-    met_from_touched p.task.now formulas p.effect.now p.query.now c.args.operand c.in-Set.number c.requires.framed c.in-Set.is
-    c.occurs.result.now index c.try_value.new.state c.try_value-2.new.state c.if-try_value.ensures.met c.try_value-2.result c.try_value-2.ensures.met
+    met_from_touched p.task.now formulas p.effect.now p.query.now c.args.operand c.in-Set.number
+    c.requires.framed c.in-Set.is
+    c.occurs.result.now index c.try_value.new.state c.try_value-2.new.state
+    c.if-try_value.ensures.met c.try_value-2.result c.try_value-2.ensures.met

@@ -7,8 +7,10 @@ use Rattle.hv_clauses.proofs.touched.try_listed.Given as goal
 
 abbrev pub invariant-loop-index : goal.invariant-loop-index
 invariant-loop-index g l = record {
-  none : (k : ℕ) → k < l.index → (d : Occurrence) (state : List Bool) → length state ≡ atoms l.problem.task.now
-      → FitsChoice l.problem.task.now (formula_at l.problem.store.now) l.problem.effect.now l.problem.query.now (get_or l.standing.listed.now k d).place state → ⊥;
+  none : (k : ℕ) → k < l.index → (d : Occurrence) (state : List Bool)
+      → length state ≡ atoms l.problem.task.now
+      → FitsChoice l.problem.task.now (formula_at l.problem.store.now) l.problem.effect.now
+      l.problem.query.now (get_or l.standing.listed.now k d).place state → ⊥;
   same : l.marks ≡ l.fn.marks;
   state : length l.state ≡ length l.fn.state;
 }

@@ -9,9 +9,11 @@ use Rattle.hv_clauses.proofs.touched.try_value.Given as goal
 
 abbrev pub invariant-loop-atom : goal.invariant-loop-atom
 invariant-loop-atom g l = record {
-  none : (k : ℕ) → k < l.atom-index → (o : Occurrence) → Contains (signed l.touched.occurs.now l.sign) o → o.atom ≡ get_or l.turned k 0
+  none : (k : ℕ) → k < l.atom-index → (o : Occurrence)
+      → Contains (signed l.touched.occurs.now l.sign) o → o.atom ≡ get_or l.turned k 0
       → (state : List Bool) → length state ≡ atoms l.problem.task.now
-      → FitsChoice l.problem.task.now (formula_at l.problem.store.now) l.problem.effect.now l.problem.query.now o.place state → ⊥;
+      → FitsChoice l.problem.task.now (formula_at l.problem.store.now) l.problem.effect.now
+      l.problem.query.now o.place state → ⊥;
   same : l.marks ≡ l.fn.marks;
   state : length l.state ≡ length l.fn.state;
 }

@@ -10,12 +10,15 @@ use Rattle.hv_clauses.proofs.turned.start.Goals as goal
 
 pub start_value-requires-2-clause-clauses : goal.start_value-requires-2-clause-clauses
 start_value-requires-2-clause-clauses c =
-    subst (λ n. AreClauses n c.args.clauses.now) (sym (ap length c.if-not-start_value.ensures.followed.base)) c.requires.clauses
+    subst (λ n. AreClauses n c.args.clauses.now)
+    (sym (ap length c.if-not-start_value.ensures.followed.base)) c.requires.clauses
 
 pub returns-clause-followed : goal.returns-clause-followed
 returns-clause-followed c =
-    let P : List Bool → Type 0 = λ state. in_clauses c.args.clauses.now (over c.args.effect.now state) ≡ true in
-    followed_then P P _ _ _ _ (λ s size holds. holds) c.if-not-start_value.ensures.followed c.start_value-2.ensures.followed
+    let P : List Bool → Type 0 = λ state. in_clauses c.args.clauses.now
+    (over c.args.effect.now state) ≡ true in
+    followed_then P P _ _ _ _ (λ s size holds. holds) c.if-not-start_value.ensures.followed
+    c.start_value-2.ensures.followed
 
 pub returns-clause-kept : goal.returns-clause-kept
 returns-clause-kept c = λ is.
@@ -24,9 +27,11 @@ returns-clause-kept c = λ is.
     let first = c.if-not-start_value.ensures in
     let second = c.start_value-2.ensures in
     turned_kept e clauses c.start_value-2.new.marks
-    (subst (λ b. AreSettledBut e clauses b) (sym (second.followed.base ∙ first.followed.base)) c.requires.but)
+    (subst (λ b. AreSettledBut e clauses b) (sym (second.followed.base ∙ first.followed.base))
+    c.requires.but)
     (kept_either e clauses c.start_value-2.new.marks
     (λ place l less has made sign.
-    kept_on e (clause_at clauses place) c.start_value.new.marks c.start_value-2.new.marks 0 second.followed.base second.followed.more (omega arith)
+    kept_on e (clause_at clauses place) c.start_value.new.marks c.start_value-2.new.marks 0
+    second.followed.base second.followed.more (omega arith)
     (first.kept refl place l less has made sign))
     (second.kept is))

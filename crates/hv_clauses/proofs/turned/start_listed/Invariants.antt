@@ -8,6 +8,8 @@ use Rattle.hv_clauses.proofs.turned.start_listed.Given as goal
 
 abbrev pub invariant-loop-occurrence : goal.invariant-loop-occurrence
 invariant-loop-occurrence l = record {
-  followed : IsFollowed (λ state. in_clauses l.clauses (over l.effect state) ≡ true) l.fn.marks l.marks true;
-  seen : (k : ℕ) → k < l.occurrence-index → (d : Occurrence) → IsKept l.effect (clause_at l.clauses (get_or l.listed k d).place) l.marks 0;
+  followed : IsFollowed (λ state. in_clauses l.clauses (over l.effect state) ≡ true) l.fn.marks
+      l.marks true;
+  seen : (k : ℕ) → k < l.occurrence-index → (d : Occurrence)
+      → IsKept l.effect (clause_at l.clauses (get_or l.listed k d).place) l.marks 0;
 }

@@ -10,7 +10,9 @@ use Rattle.hv_clauses.proofs.turned.start_value.Given as goal
 
 abbrev pub invariant-loop-atom : goal.invariant-loop-atom
 invariant-loop-atom l = record {
-  followed : IsFollowed (λ state. in_clauses l.clauses (over l.effect state) ≡ true) l.fn.marks l.marks true;
-  seen : (k : ℕ) → k < l.atom-index → (o : Occurrence) → Contains (signed l.occurs (not l.value)) o → o.atom ≡ get_or l.turned k 0
+  followed : IsFollowed (λ state. in_clauses l.clauses (over l.effect state) ≡ true) l.fn.marks
+      l.marks true;
+  seen : (k : ℕ) → k < l.atom-index → (o : Occurrence) → Contains (signed l.occurs (not l.value)) o
+      → o.atom ≡ get_or l.turned k 0
       → IsKept l.effect (clause_at l.clauses o.place) l.marks 0;
 }

@@ -17,14 +17,18 @@ returns-in-Refused-clause-fed g c =
     let after = coming_of c.next.new.self (g.S.Shelf.left c.next.new.shelf) in
     let line = c.line.result.now in
     let file = file_of (g.S.Shelf.held c.args.shelf.now) c.args.name.now in
-    let fed = fed_line file before after line c.feeding.lines.earlier c.next.new.self.earlier c.feeding.lines.number
+    let fed = fed_line file before after line c.feeding.lines.earlier c.next.new.self.earlier
+    c.feeding.lines.number
     c.feeding.checker c.feed.new.self c.feeding.invariant.feeding
     (subst (λ l. TakesLine before after l) (sym c.line.ensures) (c.in-Ok-Line.ensures.line (cc)))
     c.in-Ok-Line.ensures.earlier
-    (subst (λ (limits : Limits). FitsLimits limits.line limits.file c.feeding.lines.earlier (length line)) c.feeding.invariant.limits
-    (subst (λ l. FitsLimits c.feeding.lines.limits.line c.feeding.lines.limits.file c.feeding.lines.earlier (length l)) (sym c.line.ensures) (c.in-Ok-Line.ensures.fits (cc))))
+    (subst (λ (limits : Limits). FitsLimits limits.line limits.file c.feeding.lines.earlier
+    (length line)) c.feeding.invariant.limits
+    (subst (λ l. FitsLimits c.feeding.lines.limits.line c.feeding.lines.limits.file
+    c.feeding.lines.earlier (length l)) (sym c.line.ensures) (c.in-Ok-Line.ensures.fits (cc))))
     c.in_ok-feed-in-Ok-Line.ensures.stands in
-    known (g.S.Shelf.held c.args.shelf.now) c.args.name.now (λ bytes. Stands c.feed.new.self (pieces_of standard bytes))
+    known (g.S.Shelf.held c.args.shelf.now) c.args.name.now
+    (λ bytes. Stands c.feed.new.self (pieces_of standard bytes))
     (fed_refused file after c.next.new.self.earlier c.feed.new.self c.in-Refused.field-0 fed
     (c.in_ok-feed-in-Ok-Line.ensures.stop ∙ ap (stop_after c.feeding.checker.stop) c.in-Refused.is))
 
@@ -34,21 +38,30 @@ feeding-preserved g c =
     let after = coming_of c.next.new.self (g.S.Shelf.left c.next.new.shelf) in
     let line = c.line.result.now in
     let file = file_of (g.S.Shelf.held c.args.shelf.now) c.args.name.now in
-    let fed = fed_line file before after line c.feeding.lines.earlier c.next.new.self.earlier c.feeding.lines.number
+    let fed = fed_line file before after line c.feeding.lines.earlier c.next.new.self.earlier
+    c.feeding.lines.number
     c.feeding.checker c.feed.new.self c.feeding.invariant.feeding
     (subst (λ l. TakesLine before after l) (sym c.line.ensures) (c.in-Ok-Line.ensures.line (cc)))
     c.in-Ok-Line.ensures.earlier
-    (subst (λ (limits : Limits). FitsLimits limits.line limits.file c.feeding.lines.earlier (length line)) c.feeding.invariant.limits
-    (subst (λ l. FitsLimits c.feeding.lines.limits.line c.feeding.lines.limits.file c.feeding.lines.earlier (length l)) (sym c.line.ensures) (c.in-Ok-Line.ensures.fits (cc))))
+    (subst (λ (limits : Limits). FitsLimits limits.line limits.file c.feeding.lines.earlier
+    (length line)) c.feeding.invariant.limits
+    (subst (λ l. FitsLimits c.feeding.lines.limits.line c.feeding.lines.limits.file
+    c.feeding.lines.earlier (length l)) (sym c.line.ensures) (c.in-Ok-Line.ensures.fits (cc))))
     c.in_ok-feed-in-Ok-Line.ensures.stands in
     let limits = c.in-Ok-Line.ensures.limits ∙ c.feeding.invariant.limits in
     record {
       feeding = record {
         going =
             c.in_ok-feed-in-Ok-Line.ensures.stop
-            ∙ (goes_on c.feeding.checker.stop c.in_ok-feed-in-Ok-Line.field-0 c.in_default.not-Refused
+            ∙ (goes_on c.feeding.checker.stop c.in_ok-feed-in-Ok-Line.field-0
+            c.in_default.not-Refused
             ∙ c.feeding.invariant.feeding.going);
-        few = omega (arith, c.in_ok-feed-in-Ok-Line.ensures.few, c.feeding.invariant.feeding.few, c.in-Ok-Line.ensures.number (cc));
+        few = omega (
+          arith,
+          c.in_ok-feed-in-Ok-Line.ensures.few,
+          c.feeding.invariant.feeding.few,
+          c.in-Ok-Line.ensures.number (cc),
+        );
         given = fed.given;
         gave = fed.gave;
         stands = fed.stands;
@@ -56,7 +69,8 @@ feeding-preserved g c =
       setting = c.in_ok-feed-in-Ok-Line.ensures.same ∙ c.feeding.invariant.setting;
       live = (c.in-Ok-Line.ensures.live).1 (search rules);
       limits = limits;
-      few = subst (λ (l : Limits). c.next.new.self.number ≤ l.file) limits c.in-Ok-Line.ensures.within;
+      few = subst (λ (l : Limits). c.next.new.self.number ≤ l.file) limits
+          c.in-Ok-Line.ensures.within;
       held = c.in-Ok-Line.ensures.held ∙ c.feeding.invariant.held;
       allows = c.in-Ok-Line.ensures.allows ∙ c.feeding.invariant.allows;
       later = omega (arith, c.feeding.invariant.later, c.in-Ok-Line.ensures.later);
@@ -66,7 +80,10 @@ pub returns-in-Err-Long-clause-fed : goal.returns-in-Err-Long-clause-fed
 returns-in-Err-Long-clause-fed g c =
     let coming = coming_of c.feeding.lines (g.S.Shelf.left c.feeding.shelf) in
     let file = file_of (g.S.Shelf.held c.args.shelf.now) c.args.name.now in
-    known (g.S.Shelf.held c.args.shelf.now) c.args.name.now (λ bytes. Stands c.feed-in-Err-Long.new.self (pieces_of standard bytes))
-    (fed_long file coming c.feeding.lines.earlier c.feeding.lines.number c.feeding.checker c.feed-in-Err-Long.new.self c.feeding.invariant.feeding
-    (subst (λ (limits : Limits). BeginsLong coming limits.line limits.file c.feeding.lines.earlier) c.feeding.invariant.limits (c.in-Err-Long.ensures.long (cc)))
+    known (g.S.Shelf.held c.args.shelf.now) c.args.name.now
+    (λ bytes. Stands c.feed-in-Err-Long.new.self (pieces_of standard bytes))
+    (fed_long file coming c.feeding.lines.earlier c.feeding.lines.number c.feeding.checker
+    c.feed-in-Err-Long.new.self c.feeding.invariant.feeding
+    (subst (λ (limits : Limits). BeginsLong coming limits.line limits.file c.feeding.lines.earlier)
+    c.feeding.invariant.limits (c.in-Err-Long.ensures.long (cc)))
     c.in_ok-feed-in-Err-Long.ensures.stands)

@@ -7,7 +7,8 @@ use Rattle.hv_command.proofs.feeding.feed_file.Given as goal
 
 abbrev pub invariant-feeding : goal.invariant-feeding
 invariant-feeding g l = record {
-  feeding : IsFeeding (file_of (g.S.Shelf.held l.fn.shelf) l.fn.name) (coming_of l.lines (g.S.Shelf.left l.shelf)) l.lines.earlier l.lines.number l.checker;
+  feeding : IsFeeding (file_of (g.S.Shelf.held l.fn.shelf) l.fn.name)
+      (coming_of l.lines (g.S.Shelf.left l.shelf)) l.lines.earlier l.lines.number l.checker;
   setting : l.checker.setting ≡ l.fn.checker.setting;
   live : l.lines.live ≡ true;
   limits : l.lines.limits ≡ standard;

@@ -4,7 +4,8 @@ use Rattle.hv_command.proofs.job.as_number.Goals as goal
 
 pub returns-then-is_within-clause-number : goal.returns-then-is_within-clause-number
 returns-then-is_within-clause-number c =
-    names_number c.args.least c.args.most c.args.word.now c.args.number c.requires (c.is_within.ensures.0 c.if-is_within.true)
+    names_number c.args.least c.args.most c.args.word.now c.args.number c.requires
+    (c.is_within.ensures.0 c.if-is_within.true)
 
 pub returns-else-is_within-clause-number : goal.returns-else-is_within-clause-number
 returns-else-is_within-clause-number c =

@@ -18,4 +18,9 @@ returns-in_ok-answer-in-Ok-clause-answer g c =
 pub returns-in_ok-answer-in-Err-clause-answer : goal.returns-in_ok-answer-in-Err-clause-answer
 returns-in_ok-answer-in-Err-clause-answer g c =
     let reply = c.in_ok-answer-in-Err.ensures in
-    inr (c.in-Err.hole, c.in-Err.ensures.hole reply.hole, reply.reply.status_is, reply.reply.text_is)
+    inr (
+      c.in-Err.hole,
+      c.in-Err.ensures.hole reply.hole,
+      reply.reply.status_is,
+      reply.reply.text_is,
+    )

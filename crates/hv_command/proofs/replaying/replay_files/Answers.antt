@@ -16,22 +16,31 @@ returns-in_ok-answer-in-Ok-clause-answer g c =
     let answer = c.in_ok-answer-in-Ok.answer in
     task_answer (g.S.Shelf.held c.args.shelf.now) c.args.task.now
     (λ held task. AfterLog task (bytes_of held c.args.log.now) (AnswersLog
-    (λ task state. AnyOf c.args.pruners.now.items (λ b. (goal.Pruner-dyn g (b.vtable, b.value)).covers b.value task state)) task))
+    (λ task state. AnyOf c.args.pruners.now.items
+    (λ b. (goal.Pruner-dyn g (b.vtable, b.value)).covers b.value task state)) task))
     c.in-Ok.task answer.status answer.text
-    (subst (λ name. IfSome (g.S.Shelf.held c.args.shelf.now) (λ (h : Names). TaskText standard (bytes_of h name) c.in-Ok.task)) c.as_str.ensures c.in-Ok.ensures.read)
+    (subst (λ name. IfSome (g.S.Shelf.held c.args.shelf.now)
+    (λ (h : Names). TaskText standard (bytes_of h name) c.in-Ok.task)) c.as_str.ensures
+    c.in-Ok.ensures.read)
     (subst
-    (λ held. IfSome held (λ (h : Names). AfterLog c.in-Ok.task (bytes_of h c.args.log.now) (AnswersLog
-    (λ task state. AnyOf c.args.pruners.now.items (λ b. (goal.Pruner-dyn g (b.vtable, b.value)).covers b.value task state)) c.in-Ok.task)
+    (λ held. IfSome held (λ (h : Names). AfterLog c.in-Ok.task (bytes_of h c.args.log.now)
+    (AnswersLog
+    (λ task state. AnyOf c.args.pruners.now.items
+    (λ b. (goal.Pruner-dyn g (b.vtable, b.value)).covers b.value task state)) c.in-Ok.task)
     answer.status answer.text))
     c.in-Ok.ensures.held c.in_ok-answer-in-Ok.ensures.answer)
 
 pub returns-in_ok-answer-in-Err-clause-answer : goal.returns-in_ok-answer-in-Err-clause-answer
 returns-in_ok-answer-in-Err-clause-answer g c =
     let answer = c.in_ok-answer-in-Err.answer in
-    let said : IsReply answer S.BadInput (task_fault_text c.in-Err.fault) × IsTextFault c.in-Err.fault = c.in_ok-answer-in-Err.ensures in
+    let said : IsReply answer S.BadInput (task_fault_text c.in-Err.fault)
+    × IsTextFault c.in-Err.fault = c.in_ok-answer-in-Err.ensures in
     task_fault (g.S.Shelf.held c.args.shelf.now) c.args.task.now
     (λ held task. AfterLog task (bytes_of held c.args.log.now) (AnswersLog
-    (λ task state. AnyOf c.args.pruners.now.items (λ b. (goal.Pruner-dyn g (b.vtable, b.value)).covers b.value task state)) task))
+    (λ task state. AnyOf c.args.pruners.now.items
+    (λ b. (goal.Pruner-dyn g (b.vtable, b.value)).covers b.value task state)) task))
     c.in-Err.fault answer.status answer.text
-    (subst (λ name. IfSome (g.S.Shelf.held c.args.shelf.now) (λ (h : Names). IsReadFrom standard (bytes_of h name) (Err c.in-Err.fault))) c.as_str.ensures c.in-Err.ensures.read)
+    (subst (λ name. IfSome (g.S.Shelf.held c.args.shelf.now)
+    (λ (h : Names). IsReadFrom standard (bytes_of h name) (Err c.in-Err.fault)))
+    c.as_str.ensures c.in-Err.ensures.read)
     said.1 said.0.status_is said.0.text_is

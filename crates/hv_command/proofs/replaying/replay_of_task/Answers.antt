@@ -15,19 +15,24 @@ pub returns-in_ok-answer-in-Ok-clause-answer : goal.returns-in_ok-answer-in-Ok-c
 returns-in_ok-answer-in-Ok-clause-answer g c =
     let answer = c.in_ok-answer-in-Ok.answer in
     log_answer c.args.task.now (g.S.Shelf.held c.args.shelf.now) c.args.log.now
-    (AnswersLog (λ task state. AnyOf c.args.pruners.now.items (λ b. (goal.Pruner-dyn g (b.vtable, b.value)).covers b.value task state)) c.args.task.now)
+    (AnswersLog (λ task state. AnyOf c.args.pruners.now.items
+    (λ b. (goal.Pruner-dyn g (b.vtable, b.value)).covers b.value task state)) c.args.task.now)
     c.in-Ok.log answer.status answer.text
-    (subst (λ name. IfSome (g.S.Shelf.held c.args.shelf.now) (λ (h : Names). IsReadFrom (atoms c.args.task.now) (bytes_of h name) (Ok c.in-Ok.log)))
+    (subst (λ name. IfSome (g.S.Shelf.held c.args.shelf.now)
+    (λ (h : Names). IsReadFrom (atoms c.args.task.now) (bytes_of h name) (Ok c.in-Ok.log)))
     c.as_str.ensures c.in-Ok.ensures.read)
     c.in_ok-answer-in-Ok.ensures.answer
 
 pub returns-in_ok-answer-in-Err-clause-answer : goal.returns-in_ok-answer-in-Err-clause-answer
 returns-in_ok-answer-in-Err-clause-answer g c =
     let answer = c.in_ok-answer-in-Err.answer in
-    let said : IsReply answer S.BadInput (log_fault_text c.in-Err.fault) × IsLogFault c.in-Err.fault = c.in_ok-answer-in-Err.ensures in
+    let said : IsReply answer S.BadInput (log_fault_text c.in-Err.fault)
+    × IsLogFault c.in-Err.fault = c.in_ok-answer-in-Err.ensures in
     log_fault c.args.task.now (g.S.Shelf.held c.args.shelf.now) c.args.log.now
-    (AnswersLog (λ task state. AnyOf c.args.pruners.now.items (λ b. (goal.Pruner-dyn g (b.vtable, b.value)).covers b.value task state)) c.args.task.now)
+    (AnswersLog (λ task state. AnyOf c.args.pruners.now.items
+    (λ b. (goal.Pruner-dyn g (b.vtable, b.value)).covers b.value task state)) c.args.task.now)
     c.in-Err.fault answer.status answer.text
-    (subst (λ name. IfSome (g.S.Shelf.held c.args.shelf.now) (λ (h : Names). IsReadFrom (atoms c.args.task.now) (bytes_of h name) (Err c.in-Err.fault)))
+    (subst (λ name. IfSome (g.S.Shelf.held c.args.shelf.now)
+    (λ (h : Names). IsReadFrom (atoms c.args.task.now) (bytes_of h name) (Err c.in-Err.fault)))
     c.as_str.ensures c.in-Err.ensures.read)
     said.1 said.0.status_is said.0.text_is

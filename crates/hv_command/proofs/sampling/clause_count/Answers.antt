@@ -8,7 +8,8 @@ expr-requires c = horn_exprs c.args.table.now.lines c.requires
 pub returns : goal.returns
 returns c = λ clauses e.
     c.len.ensures
-    ∙ ap length (same_clauses c.args.table.now.lines c.expr.result.now c.in-Horn.clauses clauses c.in-Horn.is c.expr.ensures.says e)
+    ∙ ap length (same_clauses c.args.table.now.lines c.expr.result.now c.in-Horn.clauses clauses
+    c.in-Horn.is c.expr.ensures.says e)
 
 pub unreachable-requires : goal.unreachable-requires
 unreachable-requires c =

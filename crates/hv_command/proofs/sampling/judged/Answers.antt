@@ -7,5 +7,7 @@ use Rattle.hv_command.proofs.sampling.judged.Goals as goal
 
 pub judged_bytes-requires : goal.judged_bytes-requires
 judged_bytes-requires c =
-    subst (λ t. JudgedBytes (draft_setting c.args.task.now) standard t Unsolvable) (sym (c.as_bytes.ensures ∙ c.in_ok-proof.ensures.text_is))
-    (horn_judged c.args.task.now c.args.draft.now.lines c.requires.horn c.requires.good c.requires.concludes)
+    subst (λ t. JudgedBytes (draft_setting c.args.task.now) standard t Unsolvable)
+    (sym (c.as_bytes.ensures ∙ c.in_ok-proof.ensures.text_is))
+    (horn_judged c.args.task.now c.args.draft.now.lines c.requires.horn c.requires.good
+    c.requires.concludes)

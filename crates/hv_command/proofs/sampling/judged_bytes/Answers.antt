@@ -9,8 +9,10 @@ use Rattle.hv_command.proofs.sampling.judged_bytes.Goals as goal
 pub judged_file-requires : goal.judged_file-requires
 judged_file-requires c =
     subst (λ t. JudgedBytes (draft_setting c.args.task.now) standard t Unsolvable)
-    (sym (held_bytes (held_of c.add.new.self.files) (codes "proof") c.args.proof.now c.in_ok-add.ensures.named))
+    (sym (held_bytes (held_of c.add.new.self.files) (codes "proof") c.args.proof.now
+    c.in_ok-add.ensures.named))
     c.requires
 
 pub unreachable-requires : goal.unreachable-requires
-unreachable-requires c = let bad = c.in-Err-ReadFault.ensures.cause (ap (λ f. Err f) c.in-Err-ReadFault.field-0-is) in absurd (omega (arith, bad))
+unreachable-requires c = let bad = c.in-Err-ReadFault.ensures.cause
+    (ap (λ f. Err f) c.in-Err-ReadFault.field-0-is) in absurd (omega (arith, bad))

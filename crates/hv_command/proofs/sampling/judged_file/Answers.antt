@@ -4,6 +4,9 @@ use Rattle.hv_command.proofs.sampling.judged_file.Goals as goal
 
 pub returns-clause-answer : goal.returns-clause-answer
 returns-clause-answer c =
-    let said = file_unsolvable c.args.task.now c.none-diagrams.result c.atoms.result (held_of c.args.shelf.now.files) c.in_ok-name.name c.in_ok-answer.answer.status c.in_ok-answer.answer.text
-    c.requires c.atoms.ensures.atoms c.none-diagrams.ensures c.in_ok-name.ensures c.in_ok-answer.ensures.answer in
+    let said = file_unsolvable c.args.task.now c.none-diagrams.result c.atoms.result
+    (held_of c.args.shelf.now.files) c.in_ok-name.name c.in_ok-answer.answer.status
+    c.in_ok-answer.answer.text
+    c.requires c.atoms.ensures.atoms c.none-diagrams.ensures c.in_ok-name.ensures
+    c.in_ok-answer.ensures.answer in
     record { status_is = said.0; text_is = said.1 }

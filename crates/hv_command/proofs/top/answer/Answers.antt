@@ -8,6 +8,7 @@ pub returns-in_ok-reply-in-Some-clause-answer : goal.returns-in_ok-reply-in-Some
 returns-in_ok-reply-in-Some-clause-answer g c =
     let reply = c.in_ok-reply-in-Some.reply in
     subst (λ (job : Option Job). AnswersTold
-    (λ task state. AnyOf c.args.pruners.now.items (λ b. (goal.Pruner-dyn g (b.vtable, b.value)).covers b.value task state))
+    (λ task state. AnyOf c.args.pruners.now.items
+    (λ b. (goal.Pruner-dyn g (b.vtable, b.value)).covers b.value task state))
     job (g.S.Shelf.held c.args.shelf.now) reply.status reply.text)
     (sym c.in-Some.is ∙ c.in_ok-read_job.ensures.job) c.in_ok-reply-in-Some.ensures.answer

@@ -7,30 +7,44 @@ use Rattle.hv_command.proofs.top.do_job.Goals as goal
 pub returns-in_ok-reply-in-Check-clause-answer : goal.returns-in_ok-reply-in-Check-clause-answer
 returns-in_ok-reply-in-Check-clause-answer g c =
     let reply = c.in_ok-reply-in-Check.reply in
-    told_job (λ task state. AnyOf c.args.pruners.now.items (λ b. (goal.Pruner-dyn g (b.vtable, b.value)).covers b.value task state))
-    (J.Check c.in-Check.task c.in-Check.proof c.in-Check.nodes c.in-Check.budget) c.args.job.now c.in-Check.task (g.S.Shelf.held c.args.shelf.now) reply.status reply.text c.in-Check.is (inl refl) c.in_ok-reply-in-Check.ensures.answer
+    told_job (λ task state. AnyOf c.args.pruners.now.items
+    (λ b. (goal.Pruner-dyn g (b.vtable, b.value)).covers b.value task state))
+    (J.Check c.in-Check.task c.in-Check.proof c.in-Check.nodes c.in-Check.budget) c.args.job.now
+    c.in-Check.task (g.S.Shelf.held c.args.shelf.now) reply.status reply.text c.in-Check.is
+    (inl refl) c.in_ok-reply-in-Check.ensures.answer
 
 pub returns-in_ok-reply-in-Explain-clause-answer : goal.returns-in_ok-reply-in-Explain-clause-answer
 returns-in_ok-reply-in-Explain-clause-answer g c =
     let reply = c.in_ok-reply-in-Explain.reply in
-    told_job (λ task state. AnyOf c.args.pruners.now.items (λ b. (goal.Pruner-dyn g (b.vtable, b.value)).covers b.value task state))
-    (J.Explain c.in-Explain.task c.in-Explain.proof c.in-Explain.nodes c.in-Explain.budget) c.args.job.now c.in-Explain.task (g.S.Shelf.held c.args.shelf.now) reply.status reply.text c.in-Explain.is (inl refl) c.in_ok-reply-in-Explain.ensures.answer
+    told_job (λ task state. AnyOf c.args.pruners.now.items
+    (λ b. (goal.Pruner-dyn g (b.vtable, b.value)).covers b.value task state))
+    (J.Explain c.in-Explain.task c.in-Explain.proof c.in-Explain.nodes c.in-Explain.budget)
+    c.args.job.now c.in-Explain.task (g.S.Shelf.held c.args.shelf.now) reply.status reply.text
+    c.in-Explain.is (inl refl) c.in_ok-reply-in-Explain.ensures.answer
 
 pub returns-in_ok-reply-in-Produce-clause-answer : goal.returns-in_ok-reply-in-Produce-clause-answer
 returns-in_ok-reply-in-Produce-clause-answer g c =
     let reply = c.in_ok-reply-in-Produce.reply in
-    told_job (λ task state. AnyOf c.args.pruners.now.items (λ b. (goal.Pruner-dyn g (b.vtable, b.value)).covers b.value task state))
-    (J.Produce c.in-Produce.kind c.in-Produce.task) c.args.job.now c.in-Produce.task (g.S.Shelf.held c.args.shelf.now) reply.status reply.text c.in-Produce.is refl c.in_ok-reply-in-Produce.ensures.answer
+    told_job (λ task state. AnyOf c.args.pruners.now.items
+    (λ b. (goal.Pruner-dyn g (b.vtable, b.value)).covers b.value task state))
+    (J.Produce c.in-Produce.kind c.in-Produce.task) c.args.job.now c.in-Produce.task
+    (g.S.Shelf.held c.args.shelf.now) reply.status reply.text c.in-Produce.is refl
+    c.in_ok-reply-in-Produce.ensures.answer
 
 pub returns-in_ok-reply-in-Replay-clause-answer : goal.returns-in_ok-reply-in-Replay-clause-answer
 returns-in_ok-reply-in-Replay-clause-answer g c =
     let reply = c.in_ok-reply-in-Replay.reply in
-    told_job (λ task state. AnyOf c.args.pruners.now.items (λ b. (goal.Pruner-dyn g (b.vtable, b.value)).covers b.value task state))
-    (J.Replay c.in-Replay.task c.in-Replay.log) c.args.job.now c.in-Replay.task (g.S.Shelf.held c.args.shelf.now) reply.status reply.text c.in-Replay.is (inl refl) c.in_ok-reply-in-Replay.ensures.answer
+    told_job (λ task state. AnyOf c.args.pruners.now.items
+    (λ b. (goal.Pruner-dyn g (b.vtable, b.value)).covers b.value task state))
+    (J.Replay c.in-Replay.task c.in-Replay.log) c.args.job.now c.in-Replay.task
+    (g.S.Shelf.held c.args.shelf.now) reply.status reply.text c.in-Replay.is (inl refl)
+    c.in_ok-reply-in-Replay.ensures.answer
 
 pub returns-in_ok-reply-in-Sample-clause-answer : goal.returns-in_ok-reply-in-Sample-clause-answer
 returns-in_ok-reply-in-Sample-clause-answer g c =
     let reply = c.in_ok-reply-in-Sample.reply in
     let said = c.in_ok-reply-in-Sample.ensures in
-    told_sample (λ task state. AnyOf c.args.pruners.now.items (λ b. (goal.Pruner-dyn g (b.vtable, b.value)).covers b.value task state))
-    _ c.args.job.now (g.S.Shelf.held c.args.shelf.now) reply.status reply.text c.in-Sample.is said.status_is said.text_is
+    told_sample (λ task state. AnyOf c.args.pruners.now.items
+    (λ b. (goal.Pruner-dyn g (b.vtable, b.value)).covers b.value task state))
+    _ c.args.job.now (g.S.Shelf.held c.args.shelf.now) reply.status reply.text c.in-Sample.is
+    said.status_is said.text_is

@@ -8,14 +8,19 @@ use Rattle.hv_command.proofs.top.run.Goals as goal
 
 pub returns-in-Ok-send-clause-sound : goal.returns-in-Ok-send-clause-sound
 returns-in-Ok-send-clause-sound g c = λ answered.
-    sound_told (λ task state. AnyOf c.args.pruners.items (λ b. (goal.Pruner-dyn g (b.vtable, b.value)).covers b.value task state))
-    (job_of c.args.words.now) (g.S.Shelf.held c.args.shelf.now) c.in-Ok.reply.status c.in-Ok.reply.text c.in-Ok.ensures.answer
+    sound_told (λ task state. AnyOf c.args.pruners.items
+    (λ b. (goal.Pruner-dyn g (b.vtable, b.value)).covers b.value task state))
+    (job_of c.args.words.now) (g.S.Shelf.held c.args.shelf.now) c.in-Ok.reply.status
+    c.in-Ok.reply.text c.in-Ok.ensures.answer
 
 pub returns-in-Ok-send-clause-answer : goal.returns-in-Ok-send-clause-answer
 returns-in-Ok-send-clause-answer g c = λ answered. (
   c.in-Ok.reply.text,
   c.in-Ok.ensures.answer,
-  accepted_told (λ task state. AnyOf c.args.pruners.items (λ b. (goal.Pruner-dyn g (b.vtable, b.value)).covers b.value task state))
-      (job_of c.args.words.now) (g.S.Shelf.held c.args.shelf.now) c.in-Ok.reply.status c.in-Ok.reply.text c.in-Ok.ensures.answer,
-  subst (λ t. Appends (g.K.Sink.taken c.args.out.now) (g.K.Sink.taken c.send.new.sink) t) c.as_bytes.ensures c.in-Ok-send.ensures.sent,
+  accepted_told (λ task state. AnyOf c.args.pruners.items
+      (λ b. (goal.Pruner-dyn g (b.vtable, b.value)).covers b.value task state))
+      (job_of c.args.words.now) (g.S.Shelf.held c.args.shelf.now) c.in-Ok.reply.status
+      c.in-Ok.reply.text c.in-Ok.ensures.answer,
+  subst (λ t. Appends (g.K.Sink.taken c.args.out.now) (g.K.Sink.taken c.send.new.sink) t)
+      c.as_bytes.ensures c.in-Ok-send.ensures.sent,
 )

@@ -5,6 +5,7 @@ use Rattle.hv_explain.proofs.explained.explain.Goals as goal
 pub returns : goal.returns
 returns c = record {
   needed = λ id. is_line_marked c.as_slice.result.now id;
-  exact = subst (λ (ms : List Bool). MarkNeeded c.args.table.now.lines ms) (sym c.as_slice.ensures.value) c.in_ok-marks.ensures;
+  exact = subst (λ (ms : List Bool). MarkNeeded c.args.table.now.lines ms)
+      (sym c.as_slice.ensures.value) c.in_ok-marks.ensures;
   says = c.in_ok-text.ensures;
 }

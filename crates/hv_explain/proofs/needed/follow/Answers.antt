@@ -9,7 +9,9 @@ returns-then-index c =
     let marks = c.args.marks.now.items in
     let premises = c.premises.result.now in
     subst (λ (ms : List Bool). AreMarkedFrom c.args.id lines ms)
-    (sym (subst (λ ids. c.mark_all.new.marks.items ≡ mark_all marks ids) c.as_slice.ensures c.mark_all.ensures))
-    (followed lines c.args.id marks c.requires.marked premises c.premises.ensures.says c.premises.ensures.before c.requires.below
+    (sym (subst (λ ids. c.mark_all.new.marks.items ≡ mark_all marks ids) c.as_slice.ensures
+    c.mark_all.ensures))
+    (followed lines c.args.id marks c.requires.marked premises c.premises.ensures.says
+    c.premises.ensures.before c.requires.below
     (mark_at_place marks c.args.id c.index.result.now (sym c.index.ensures ∙ c.if-index.true)
     (omega (arith, c.requires.below, c.requires.marked.each))))

@@ -7,4 +7,5 @@ pub returns : goal.returns
 returns c =
     let none : c.loop-id.id ≡ 0 = omega arith in
     all_needed c.args.table.now.lines c.loop-id.marks.items
-    (subst (λ (n : ℕ). AreMarkedFrom n c.args.table.now.lines c.loop-id.marks.items) none c.loop-id.invariant)
+    (subst (λ (n : ℕ). AreMarkedFrom n c.args.table.now.lines c.loop-id.marks.items) none
+    c.loop-id.invariant)

@@ -7,7 +7,8 @@ use Rattle.hv_explicit.proofs.codes.code_of.Given as goal
 abbrev pub invariant-loop-atom : goal.invariant-loop-atom
 invariant-loop-atom g l = record {
   upto : l.from ≤ l.atoms;
-  so_far : (xs : List ℕ) × Lists (g.A.Atoms.has l.held) l.from xs × (l.hasher ≡ with_atoms sip.initial xs);
+  so_far : (xs : List ℕ) × Lists (g.A.Atoms.has l.held) l.from xs
+      × (l.hasher ≡ with_atoms sip.initial xs);
 }
 
 abbrev pub decreases-loop-atom : goal.decreases-loop-atom

@@ -9,5 +9,6 @@ pub loop-atom-preserved : goal.loop-atom-preserved
 loop-atom-preserved c =
     let x = get_or c.args.list.now c.loop-atom.atom-index 0 in
     c.put_in.ensures ∙ ap (λ h. with_atom h x) c.loop-atom.invariant
-    ∙ sym (ap (λ xs. with_atoms sip.initial xs) (take_more c.args.list.now c.loop-atom.atom-index 0 c.loop-atom-test.true)
+    ∙ sym (ap (λ xs. with_atoms sip.initial xs)
+    (take_more c.args.list.now c.loop-atom.atom-index 0 c.loop-atom-test.true)
     ∙ with_push sip.initial (take c.loop-atom.atom-index c.args.list.now) x)

@@ -16,7 +16,9 @@ returns-then-is_at g c = (
 pub returns : goal.returns
 returns g c = (
   λ e. let f : false ≡ true = e in absurd cc,
-  λ found. absurd (c.loop-end.invariant.none found.0 found.1 (let over = c.loop-end-test.false in omega arith)
-      (coded_at c.args.states.now c.args.firsts.now c.args.index.now (g.A.Atoms.has c.args.held.now) c.args.code found.0 c.requires.rise
+  λ found. absurd (c.loop-end.invariant.none found.0 found.1
+      (let over = c.loop-end-test.false in omega arith)
+      (coded_at c.args.states.now c.args.firsts.now c.args.index.now (g.A.Atoms.has c.args.held.now)
+      c.args.code found.0 c.requires.rise
       c.requires.firsts c.requires.index c.requires.code found.1 found.2) found.2),
 )

@@ -7,7 +7,8 @@ use Rattle.hv_explicit.proofs.explicit.look_up.Given as goal
 abbrev pub invariant-loop-end : goal.invariant-loop-end
 invariant-loop-end g l = record {
   upto : l.end ≤ length l.index;
-  none : (e : ℕ) → e < length l.firsts → l.end ≤ e → code_at l.index e ≡ l.code → IsSame (g.A.Atoms.has l.held) (first_at l.states l.firsts e) → ⊥;
+  none : (e : ℕ) → e < length l.firsts → l.end ≤ e → code_at l.index e ≡ l.code
+      → IsSame (g.A.Atoms.has l.held) (first_at l.states l.firsts e) → ⊥;
   there : 0 < l.end → code_at l.index (l.end - 1) ≡ l.code;
 }
 

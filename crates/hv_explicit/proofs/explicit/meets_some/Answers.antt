@@ -5,8 +5,10 @@ use Rattle.hv_explicit.proofs.explicit.meets_some.Goals as goal
 
 pub returns-then-has-clause-meets : goal.returns-then-has-clause-meets
 returns-then-has-clause-meets c =
-    found_meets (length c.args.state.now) c.args.states.now c.args.cube.now c.loop-held.held-index c.held-item.result c.hold.new.self
-    c.loop-held-test.true c.held-item.is (c.hold.ensures.held ∙ ap (λ n. state_of n c.held-item.result) c.loop-held.invariant.size)
+    found_meets (length c.args.state.now) c.args.states.now c.args.cube.now c.loop-held.held-index
+    c.held-item.result c.hold.new.self
+    c.loop-held-test.true c.held-item.is (c.hold.ensures.held
+    ∙ ap (λ n. state_of n c.held-item.result) c.loop-held.invariant.size)
     (sym c.has.ensures ∙ c.if-has.true)
 
 pub returns-clause-meets : goal.returns-clause-meets

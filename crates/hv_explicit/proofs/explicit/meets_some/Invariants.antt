@@ -6,5 +6,6 @@ use Rattle.hv_explicit.proofs.explicit.meets_some.Given as goal
 abbrev pub invariant-loop-held : goal.invariant-loop-held
 invariant-loop-held l = record {
   size : length l.state ≡ length l.fn.state;
-  none : (k : ℕ) (d : List ℕ) → k < l.held-index → in_cube l.cube (state_of (length l.fn.state) (get_or l.states k d)) ≡ false;
+  none : (k : ℕ) (d : List ℕ) → k < l.held-index
+      → in_cube l.cube (state_of (length l.fn.state) (get_or l.states k d)) ≡ false;
 }

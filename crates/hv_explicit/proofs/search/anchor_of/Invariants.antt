@@ -4,4 +4,5 @@ use Rattle.hv_sets.specs.declared.operand.Operand.{Operand}
 use Rattle.hv_explicit.proofs.search.anchor_of.Given as goal
 
 abbrev pub invariant-loop-operand : goal.invariant-loop-operand
-invariant-loop-operand l = (k : ℕ) (d : Operand) → k < l.operand-index → CanAnchor (get_or l.operands k d) → ⊥
+invariant-loop-operand l = (k : ℕ) (d : Operand) → k < l.operand-index
+    → CanAnchor (get_or l.operands k d) → ⊥

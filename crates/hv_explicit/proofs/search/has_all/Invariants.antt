@@ -2,4 +2,5 @@ use Rattle.std.proofs.Common.{◌≡◌, ◌<◌, ℕ, true, get_or}
 use Rattle.hv_explicit.proofs.search.has_all.Given as goal
 
 abbrev pub invariant-loop-atom : goal.invariant-loop-atom
-invariant-loop-atom g l = (k : ℕ) (d : ℕ) → k < l.atom-index → g.A.Atoms.has l.held (get_or l.atoms k d) ≡ true
+invariant-loop-atom g l = (k : ℕ) (d : ℕ) → k < l.atom-index
+    → g.A.Atoms.has l.held (get_or l.atoms k d) ≡ true

@@ -12,5 +12,6 @@ loop-mask-preserved c =
       len = let before = c.loop-mask.invariant.len in omega arith;
       over =
           subst (λ sets. AreOver sets 2) (sym now)
-          (All-push (λ (set : Listing). set.atoms ≡ 2) c.loop-mask.sets c.in_ok-set_from.field-0 c.loop-mask.invariant.over c.in_ok-set_from.ensures);
+          (All-push (λ (set : Listing). set.atoms ≡ 2) c.loop-mask.sets c.in_ok-set_from.field-0
+          c.loop-mask.invariant.over c.in_ok-set_from.ensures);
     }

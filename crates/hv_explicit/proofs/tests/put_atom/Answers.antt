@@ -3,4 +3,5 @@ use Rattle.hv_explicit.proofs.tests.put_atom.Goals as goal
 
 pub returns : goal.returns
 returns c =
-    AreBelow-Inserts 2 c.args.list.now c.args.atom c.insert.new.self c.in_ok-insert.ensures.ok c.requires.list c.requires.atom
+    AreBelow-Inserts 2 c.args.list.now c.args.atom c.insert.new.self c.in_ok-insert.ensures.ok
+    c.requires.list c.requires.atom

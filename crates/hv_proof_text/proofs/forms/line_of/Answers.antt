@@ -12,9 +12,13 @@ returns-in-Some c =
     let head = c.in-Some.head in
     let fields = fields_behind head.rest (λ f. f.now) in
     IfOk-weaker c.line_by.result
-    (λ found. MatchOption found ((line : Line) → StandFor (λ ts. LineForm head.letter head.id head.kind ts line) fields → ⊥) (λ line. StandFor (λ ts. LineForm head.letter head.id head.kind ts line) fields))
-    (λ found. MatchOption found ((line : Line) → Spells line c.args.bytes.now → ⊥) (λ line. Spells line c.args.bytes.now))
-    (λ found. line_behind c.args.bytes.now head.letter head.id head.kind fields found c.in-Some.ensures.0 c.in-Some.ensures.1)
+    (λ found. MatchOption found ((line : Line)
+    → StandFor (λ ts. LineForm head.letter head.id head.kind ts line) fields → ⊥)
+    (λ line. StandFor (λ ts. LineForm head.letter head.id head.kind ts line) fields))
+    (λ found. MatchOption found ((line : Line) → Spells line c.args.bytes.now → ⊥)
+    (λ line. Spells line c.args.bytes.now))
+    (λ found. line_behind c.args.bytes.now head.letter head.id head.kind fields found
+    c.in-Some.ensures.0 c.in-Some.ensures.1)
     c.line_by.ensures
 
 pub returns-in-None : goal.returns-in-None

@@ -3,7 +3,8 @@ use Rattle.hv_proof_text.specs.Working.Gathering.{Gathers, clauses_from, fields_
 use Rattle.hv_proof_text.proofs.lists.clauses_in.Given as goal
 
 abbrev pub invariant-fields : goal.invariant-fields
-invariant-fields l = Gathers (clauses_from [] []) (fields_behind l.fn.fields (λ f. f.now)) (clauses_from l.all l.clause) (fields_behind l.rest (λ f. f.now))
+invariant-fields l = Gathers (clauses_from [] []) (fields_behind l.fn.fields (λ f. f.now))
+    (clauses_from l.all l.clause) (fields_behind l.rest (λ f. f.now))
 
 abbrev pub decreases-fields : goal.decreases-fields
 decreases-fields l = length (fields_behind l.rest (λ f. f.now))

@@ -8,4 +8,5 @@ pub returns : goal.returns
 returns c =
     IfOk-weaker c.insert.result (λ _. Inserts c.args.atoms.now c.args.atom c.insert.new.self)
     (λ _. c.insert.new.self ≡ c.args.atoms.now ++ c.args.atom ∷ [])
-    (λ _ puts. inserted_last c.args.atoms.now c.args.atom c.insert.new.self c.len-length.ensures.rises c.requires puts) c.insert.ensures.ok
+    (λ _ puts. inserted_last c.args.atoms.now c.args.atom c.insert.new.self
+    c.len-length.ensures.rises c.requires puts) c.insert.ensures.ok

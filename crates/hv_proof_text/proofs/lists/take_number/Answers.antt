@@ -9,7 +9,8 @@ pub returns-in-End : goal.returns-in-End
 returns-in-End c = record {
   taken = λ e. absurd (cc);
   stopped = λ _.
-      stops_at (numbers_from c.args.numbers.now c.args.least.now) c.args.field.now c.in-Some.token c.in-Some.ensures.0 c.in-Some.ensures.1
+      stops_at (numbers_from c.args.numbers.now c.args.least.now) c.args.field.now c.in-Some.token
+      c.in-Some.ensures.0 c.in-Some.ensures.1
       (λ tokens.
       rising_stop (state_piece c.args.least.now c.in-Some.token)
       (λ n. numbers_from (c.args.numbers.now ++ n ∷ []) (n + 1) tokens)

@@ -9,13 +9,16 @@ pub returns-in_default-first_number : goal.returns-in_default-first_number
 returns-in_default-first_number c = λ first id kind tokens are.
     c.in_default-first_number.ensures id (letter kind ∷ tokens)
     (tokens_behind (letter first) (number id ∷ letter kind ∷ tokens) (cut_fields c.args.line.now)
-    (fields_behind c.in-Some.behind (λ f. f.now)) (letter_field c.in-Some.letter) are c.in-Some.ensures)
+    (fields_behind c.in-Some.behind (λ f. f.now)) (letter_field c.in-Some.letter) are
+    c.in-Some.ensures)
 
 pub returns-in_default-first_letter : goal.returns-in_default-first_letter
 returns-in_default-first_letter c = λ first id kind tokens are.
     let behind =
     tokens_behind (letter first) (number id ∷ letter kind ∷ tokens) (cut_fields c.args.line.now)
-    (fields_behind c.in-Some.behind (λ f. f.now)) (letter_field c.in-Some.letter) are c.in-Some.ensures in
+    (fields_behind c.in-Some.behind (λ f. f.now)) (letter_field c.in-Some.letter) are
+    c.in-Some.ensures in
     c.in_default-first_letter.ensures kind tokens
     (tokens_behind (number id) (letter kind ∷ tokens) (fields_behind c.in-Some.behind (λ f. f.now))
-    (fields_behind c.in-Some-first_number.behind (λ f. f.now)) (decimal c.in-Some-first_number.id) behind c.in-Some-first_number.ensures.1)
+    (fields_behind c.in-Some-first_number.behind (λ f. f.now)) (decimal c.in-Some-first_number.id)
+    behind c.in-Some-first_number.ensures.1)

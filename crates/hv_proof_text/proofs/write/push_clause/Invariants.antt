@@ -4,4 +4,5 @@ use Rattle.hv_proof_text.specs.Working.Writing.{with_fields}
 use Rattle.hv_proof_text.proofs.write.push_clause.Given as goal
 
 abbrev pub invariant-loop-literal : goal.invariant-loop-literal
-invariant-loop-literal l = l.text ≡ with_fields l.fn.text (map literal_field (take l.literal-index l.clause))
+invariant-loop-literal l = l.text ≡ with_fields l.fn.text
+    (map literal_field (take l.literal-index l.clause))

@@ -5,4 +5,5 @@ use Rattle.hv_proof_text.specs.Working.Writing.{with_fields}
 use Rattle.hv_proof_text.proofs.write.push_clauses.Given as goal
 
 abbrev pub invariant-loop-place : goal.invariant-loop-place
-invariant-loop-place l = l.text ≡ with_fields l.fn.text (flat_map clause_fields (take l.place l.clauses))
+invariant-loop-place l = l.text ≡ with_fields l.fn.text
+    (flat_map clause_fields (take l.place l.clauses))

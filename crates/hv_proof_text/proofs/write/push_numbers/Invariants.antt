@@ -3,4 +3,5 @@ use Rattle.hv_proof_text.specs.Working.Writing.{with_fields}
 use Rattle.hv_proof_text.proofs.write.push_numbers.Given as goal
 
 abbrev pub invariant-loop-number : goal.invariant-loop-number
-invariant-loop-number l = l.text ≡ with_fields l.fn.text (map decimal (take l.number-index l.numbers))
+invariant-loop-number l = l.text ≡ with_fields l.fn.text
+    (map decimal (take l.number-index l.numbers))

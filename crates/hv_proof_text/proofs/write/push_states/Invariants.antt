@@ -5,4 +5,5 @@ use Rattle.hv_proof_text.specs.Working.Writing.{with_fields}
 use Rattle.hv_proof_text.proofs.write.push_states.Given as goal
 
 abbrev pub invariant-loop-state : goal.invariant-loop-state
-invariant-loop-state l = l.text ≡ with_fields l.fn.text (flat_map state_fields (take l.state-index l.items))
+invariant-loop-state l = l.text ≡ with_fields l.fn.text
+    (flat_map state_fields (take l.state-index l.items))

@@ -11,8 +11,12 @@ returns-clause-least c = λ r keeps within.
     let named = c.action-action.ensures.named in
     let size = c.requires.kept.size in
     let from : get_or c.args.passed.now.items c.args.number 0 ≡ c.index-from.result.now =
-    get_or_default c.args.passed.now.items c.args.number 0 c.index-from.result.now (omega arith) ∙ sym c.index-from.ensures in
-    let passed = subst (λ n. IsPassed c.args.held.now a n) from (c.requires.kept.each c.args.number a named) in
-    let whole = whole_in c.args.held.now r a c.as_slice.result.now c.index-from.result.now c.first_missing-place.result passed c.as_slice.ensures.items
+    get_or_default c.args.passed.now.items c.args.number 0 c.index-from.result.now (omega arith)
+    ∙ sym c.index-from.ensures in
+    let passed = subst (λ n. IsPassed c.args.held.now a n) from
+    (c.requires.kept.each c.args.number a named) in
+    let whole = whole_in c.args.held.now r a c.as_slice.result.now c.index-from.result.now
+    c.first_missing-place.result passed c.as_slice.ensures.items
     (omega arith) c.first_missing-place.ensures.front within in
-    c.in_ok-reach_all.ensures.least r (subst (AreIn r) (sym c.as_slice-2.ensures.items) (keeps c.args.number a named whole)) within
+    c.in_ok-reach_all.ensures.least r (subst (AreIn r) (sym c.as_slice-2.ensures.items)
+    (keeps c.args.number a named whole)) within

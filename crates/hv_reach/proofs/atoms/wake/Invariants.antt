@@ -9,6 +9,7 @@ invariant-loop-number l = record {
   step : GrowsQueued l.fn.held l.fn.queue.items l.held l.queue.items;
   state : IsState l.task l.held;
   kept : IsKeptSearch l.task.actions l.held l.queue.items l.passed.items;
-  settled : AreActionsSettledBut l.numbers l.number-index l.task.actions l.held l.queue.items l.passed.items;
+  settled : AreActionsSettledBut l.numbers l.number-index l.task.actions l.held l.queue.items
+      l.passed.items;
   least : (r : ℕ → Bool) → Keeps l.task.actions r → IsWithin l.fn.held r → IsWithin l.held r;
 }

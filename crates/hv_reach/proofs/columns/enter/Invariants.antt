@@ -9,5 +9,6 @@ invariant-loop-atom l = record {
   size : length l.columns.items ≡ length l.fn.columns.items;
   sized : AreColumns 512 l.columns.items;
   here : (p : ℕ) → p < l.atom → has_pair l.columns.items p l.place ≡ has_atom l.row p;
-  others : (p j : ℕ) → (j ≡ l.place → ⊥) → has_pair l.columns.items p j ≡ has_pair l.fn.columns.items p j;
+  others : (p j : ℕ) → (j ≡ l.place → ⊥) → has_pair l.columns.items p j
+      ≡ has_pair l.fn.columns.items p j;
 }

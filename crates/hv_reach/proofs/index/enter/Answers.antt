@@ -12,10 +12,12 @@ loop-place-preserved c =
     record {
       size = c.enter_one.ensures.size ∙ i.size;
       keeps = λ p k h. e.keeps p k (i.keeps p k h);
-      has = entered_more c.loop-place.rows.items c.enter_one.new.rows.items c.args.places.now c.loop-place.place-index x c.args.number (omega arith) refl e.keeps e.has i.has;
+      has = entered_more c.loop-place.rows.items c.enter_one.new.rows.items c.args.places.now
+          c.loop-place.place-index x c.args.number (omega arith) refl e.keeps e.has i.has;
       below = λ bound less h. e.below bound less (i.below bound less h);
     }
 
 pub returns-clause-has : goal.returns-clause-has
 returns-clause-has c =
-    All-from_zero (λ p. IsIn c.loop-place.rows.items p c.args.number) c.args.places.now (λ k less. c.loop-place.invariant.has k (omega arith))
+    All-from_zero (λ p. IsIn c.loop-place.rows.items p c.args.number) c.args.places.now
+    (λ k less. c.loop-place.invariant.has k (omega arith))

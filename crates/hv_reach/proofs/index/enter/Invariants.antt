@@ -7,5 +7,6 @@ invariant-loop-place l = record {
   size : length l.rows.items ≡ length l.fn.rows.items;
   keeps : (p k : ℕ) → IsIn l.fn.rows.items p k → IsIn l.rows.items p k;
   has : (i : ℕ) → i < l.place-index → IsIn l.rows.items (get_or l.places i 0) l.number;
-  below : (bound : ℕ) → l.number < bound → RowsBelow bound l.fn.rows.items → RowsBelow bound l.rows.items;
+  below : (bound : ℕ) → l.number < bound → RowsBelow bound l.fn.rows.items
+      → RowsBelow bound l.rows.items;
 }

@@ -21,11 +21,19 @@ loop-number-preserved c =
     let a = c.action.result.now in
     record {
       size = c.enter_action.ensures.size ∙ i.size;
-      below = e.below (length c.args.task.now.actions) (slice_get_within c.args.task.now.actions c.loop-number.number a c.action.ensures.named) i.below;
-      has = indexed_more c.loop-number.rows.items c.enter_action.new.rows.items c.args.task.now.actions c.loop-number.number a c.action.ensures.named e.keeps
-          (subst (λ xs. All (λ p. IsIn c.enter_action.new.rows.items p c.loop-number.number) xs) c.as_slice.ensures.items e.has) i.has;
-      past = past_more (atoms c.args.task.now) c.loop-number.rows.items c.enter_action.new.rows.items c.args.task.now.actions c.loop-number.number a c.action.ensures.named e.keeps
-          (λ none. subst (λ p. IsIn c.enter_action.new.rows.items p c.loop-number.number) c.atoms-in-loop-number.ensures.atoms (e.past (let s = ap length c.as_slice.ensures.items in omega arith))) i.past;
+      below = e.below (length c.args.task.now.actions)
+          (slice_get_within c.args.task.now.actions c.loop-number.number a c.action.ensures.named)
+          i.below;
+      has = indexed_more c.loop-number.rows.items c.enter_action.new.rows.items
+          c.args.task.now.actions c.loop-number.number a c.action.ensures.named e.keeps
+          (subst (λ xs. All (λ p. IsIn c.enter_action.new.rows.items p c.loop-number.number) xs)
+          c.as_slice.ensures.items e.has) i.has;
+      past = past_more (atoms c.args.task.now) c.loop-number.rows.items
+          c.enter_action.new.rows.items c.args.task.now.actions c.loop-number.number a
+          c.action.ensures.named e.keeps
+          (λ none. subst (λ p. IsIn c.enter_action.new.rows.items p c.loop-number.number)
+          c.atoms-in-loop-number.ensures.atoms
+          (e.past (let s = ap length c.as_slice.ensures.items in omega arith))) i.past;
     }
 
 pub returns : goal.returns
@@ -34,6 +42,8 @@ returns c =
     record {
       size = i.size;
       below = i.below;
-      has = λ k a is. let less = slice_get_within c.args.task.now.actions k a is in i.has k a (omega arith) is;
-      past = λ k a is. let less = slice_get_within c.args.task.now.actions k a is in i.past k a (omega arith) is;
+      has = λ k a is. let less = slice_get_within c.args.task.now.actions k a is in
+          i.has k a (omega arith) is;
+      past = λ k a is. let less = slice_get_within c.args.task.now.actions k a is in
+          i.past k a (omega arith) is;
     }

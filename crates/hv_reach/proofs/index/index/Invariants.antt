@@ -9,6 +9,8 @@ abbrev pub invariant-loop-number : goal.invariant-loop-number
 invariant-loop-number l = record {
   size : length l.rows.items ≡ atoms l.task + 1;
   below : RowsBelow (length l.task.actions) l.rows.items;
-  has : (k : ℕ) (a : Action) → k < l.number → slice_get l.task.actions k ≡ Some a → All (λ p. IsIn l.rows.items p k) a.pre;
-  past : (k : ℕ) (a : Action) → k < l.number → slice_get l.task.actions k ≡ Some a → length a.pre ≡ 0 → IsIn l.rows.items (atoms l.task) k;
+  has : (k : ℕ) (a : Action) → k < l.number → slice_get l.task.actions k ≡ Some a
+      → All (λ p. IsIn l.rows.items p k) a.pre;
+  past : (k : ℕ) (a : Action) → k < l.number → slice_get l.task.actions k ≡ Some a
+      → length a.pre ≡ 0 → IsIn l.rows.items (atoms l.task) k;
 }

@@ -9,8 +9,11 @@ loop-atom-preserved c =
     rw c.set.ensures
     (record {
       size = length-set c.loop-atom.mask x false ∙ i.size;
-      sound = taken_more c.args.list.now c.loop-atom.atom-index c.args.mask.now c.loop-atom.mask i.sound;
-      complete = λ q held free. lowered_stays c.loop-atom.mask x q (unnamed_other c.args.list.now c.loop-atom.atom-index q (omega arith) free) (i.complete q held free);
+      sound = taken_more c.args.list.now c.loop-atom.atom-index c.args.mask.now c.loop-atom.mask
+          i.sound;
+      complete = λ q held free. lowered_stays c.loop-atom.mask x q
+          (unnamed_other c.args.list.now c.loop-atom.atom-index q (omega arith) free)
+          (i.complete q held free);
     })
 
 pub returns-clause-sound : goal.returns-clause-sound

@@ -7,5 +7,6 @@ invariant-loop-atom l = record {
   size : length l.mask ≡ length l.fn.mask;
   sound : (q : ℕ) → has_atom l.mask q ≡ true
       → (has_atom l.fn.mask q ≡ true) × ((k : ℕ) → k < l.atom-index → get_or l.list k 0 ≡ q → ⊥);
-  complete : (q : ℕ) → has_atom l.fn.mask q ≡ true → names_atom l.list q ≡ false → has_atom l.mask q ≡ true;
+  complete : (q : ℕ) → has_atom l.fn.mask q ≡ true → names_atom l.list q ≡ false
+      → has_atom l.mask q ≡ true;
 }

@@ -11,8 +11,10 @@ returns-in-Some c =
     let at = slice_get_at c.args.blocks.now.items b c.index.result.now less c.index.ensures in
     let kept = c.requires.rows.1.each b c.index.result.now at in
     some_in_block c.requires.rows.0 (512 * b) rows c.index.result.now.items kept c.args.list.now
-    (block_below rows c.args.blocks.now.items c.args.list.now c.requires.rows c.requires.below c.requires.any b c.index.result.now at) c.args.from c.saturating_sub.result
-    c.saturating_sub.ensures c.loop-block.invariant.before (Some c.in-Some.place) c.in-Some.place refl c.in-Some.ensures.found c.requires.some
+    (block_below rows c.args.blocks.now.items c.args.list.now c.requires.rows c.requires.below
+    c.requires.any b c.index.result.now at) c.args.from c.saturating_sub.result
+    c.saturating_sub.ensures c.loop-block.invariant.before (Some c.in-Some.place) c.in-Some.place
+    refl c.in-Some.ensures.found c.requires.some
 
 pub loop-block-preserved : goal.loop-block-preserved
 loop-block-preserved c =
@@ -24,7 +26,10 @@ loop-block-preserved c =
     record {
       size = c.first_in.ensures.mask;
       before = λ k le below has.
-          none_in_block c.requires.rows.0 (512 * b) rows c.index.result.now.items kept c.args.list.now
-          (block_below rows c.args.blocks.now.items c.args.list.now c.requires.rows c.requires.below c.requires.any b c.index.result.now at) c.args.from c.saturating_sub.result
-          c.saturating_sub.ensures c.loop-block.invariant.before c.first_in.result (c.in_default.is) c.first_in.ensures.found k le (omega (arith, below)) has;
+          none_in_block c.requires.rows.0 (512 * b) rows c.index.result.now.items kept
+          c.args.list.now
+          (block_below rows c.args.blocks.now.items c.args.list.now c.requires.rows c.requires.below
+          c.requires.any b c.index.result.now at) c.args.from c.saturating_sub.result
+          c.saturating_sub.ensures c.loop-block.invariant.before c.first_in.result (c.in_default.is)
+          c.first_in.ensures.found k le (omega (arith, below)) has;
     }

@@ -12,5 +12,6 @@ returns-clause-kept c =
     let upto = c.requires.upto in
     subst (λ bs. AreRowsIn c.args.atoms bs rows) (sym c.in_ok-push.ensures.items)
     (blocks_more c.args.atoms rows blocks c.in_ok-empty_columns.field-0 c.requires
-    (none_columns c.args.atoms (512 * length blocks) rows c.in_ok-empty_columns.field-0.items e.size e.columns e.none upto)
+    (none_columns c.args.atoms (512 * length blocks) rows c.in_ok-empty_columns.field-0.items e.size
+    e.columns e.none upto)
     (omega arith))

@@ -17,6 +17,9 @@ returns-clause-kept c =
     let where_is : 512 * last + place ≡ length rows = omega arith in
     let within : place < 512 = omega arith in
     let less : last < length blocks = omega arith in
-    subst (AreRowsIn (length c.args.row) (set blocks last c.enter.new.columns)) (sym c.push_reserved.ensures.items)
-    (kept_pushed rows c.args.row blocks last place c.index_mut.result.now c.enter.new.columns c.requires.kept
-    (slice_get_at blocks last c.index_mut.result.now less c.index_mut.ensures.value) count where_is within w.size w.columns w.here w.others)
+    subst (AreRowsIn (length c.args.row) (set blocks last c.enter.new.columns))
+    (sym c.push_reserved.ensures.items)
+    (kept_pushed rows c.args.row blocks last place c.index_mut.result.now c.enter.new.columns
+    c.requires.kept
+    (slice_get_at blocks last c.index_mut.result.now less c.index_mut.ensures.value) count where_is
+    within w.size w.columns w.here w.others)

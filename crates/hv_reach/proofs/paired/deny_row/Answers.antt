@@ -5,5 +5,7 @@ use Rattle.hv_reach.proofs.paired.deny_row.Goals as goal
 
 pub loop-second-preserved : goal.loop-second-preserved
 loop-second-preserved c =
-    pieces_more (pair_clauses (has_pair c.args.pairs.now) c.args.first) c.args.first c.loop-second.second c.args.clauses.now
-    c.loop-second.clauses c.deny_pair.new.clauses c.loop-second.auto.second c.loop-second.invariant c.in_ok-deny_pair.ensures
+    pieces_more (pair_clauses (has_pair c.args.pairs.now) c.args.first) c.args.first
+    c.loop-second.second c.args.clauses.now
+    c.loop-second.clauses c.deny_pair.new.clauses c.loop-second.auto.second c.loop-second.invariant
+    c.in_ok-deny_pair.ensures

@@ -6,4 +6,5 @@ use Rattle.hv_reach.proofs.paired.deny_row.Given as goal
 
 abbrev pub invariant-loop-second : goal.invariant-loop-second
 invariant-loop-second l =
-    l.clauses ≡ l.fn.clauses ++ flat_map (pair_clauses (has_pair l.pairs) l.first) (range_with_len l.first (l.second - l.first))
+    l.clauses ≡ l.fn.clauses ++ flat_map (pair_clauses (has_pair l.pairs) l.first)
+    (range_with_len l.first (l.second - l.first))

@@ -5,5 +5,6 @@ use Rattle.hv_reach.proofs.paired.pairs_formula.Goals as goal
 
 pub loop-first-preserved : goal.loop-first-preserved
 loop-first-preserved c =
-    pieces_next (row_clauses c.args.atoms (has_pair c.args.pairs.now)) c.loop-first.first c.loop-first.clauses c.deny_row.new.clauses
+    pieces_next (row_clauses c.args.atoms (has_pair c.args.pairs.now)) c.loop-first.first
+    c.loop-first.clauses c.deny_row.new.clauses
     c.loop-first.invariant c.in_ok-deny_row.ensures

@@ -5,4 +5,5 @@ use Rattle.hv_reach.specs.Written.{row_clauses}
 use Rattle.hv_reach.proofs.paired.pairs_formula.Given as goal
 
 abbrev pub invariant-loop-first : goal.invariant-loop-first
-invariant-loop-first l = l.clauses ≡ flat_map (row_clauses l.atoms (has_pair l.pairs)) (range_with_len 0 l.first)
+invariant-loop-first l = l.clauses ≡ flat_map (row_clauses l.atoms (has_pair l.pairs))
+    (range_with_len 0 l.first)

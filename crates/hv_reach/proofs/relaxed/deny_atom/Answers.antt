@@ -7,4 +7,5 @@ returns c =
     c.in_ok-push_literals.ensures.ok
     ∙ (ap (λ l. c.args.clauses.now ++ (l ∷ []) ∷ []) c.denied.ensures
     ∙ ap (λ xs. c.args.clauses.now ++ xs)
-    (sym (ap (λ b. if b then [] else (denied c.args.atom ∷ []) ∷ []) (sym c.has.ensures ∙ c.if-has.false))))
+    (sym (ap (λ b. if b then [] else (denied c.args.atom ∷ []) ∷ [])
+    (sym c.has.ensures ∙ c.if-has.false))))

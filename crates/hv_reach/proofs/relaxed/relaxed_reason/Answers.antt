@@ -8,7 +8,8 @@ use Rattle.hv_reach.proofs.relaxed.relaxed_reason.Goals as goal
 pub returns-then-row_has-clause-some : goal.returns-then-row_has-clause-some
 returns-then-row_has-clause-some c =
     let r = has_atom c.in_ok-reached.reached in
-    let all = subst (All (λ p. r p ≡ true)) (c.as_slice.ensures.items ∙ c.goal.ensures.goal) (c.row_has.ensures.0 c.if-row_has.true) in (
+    let all = subst (All (λ p. r p ≡ true)) (c.as_slice.ensures.items ∙ c.goal.ensures.goal)
+    (c.row_has.ensures.0 c.if-row_has.true) in (
       λ is. absurd (cc (is)),
       λ out. absurd (relaxed_reached c.args.task.now c.args.state.now r
           (λ p. (c.in_ok-reached.ensures.reached p, c.in_ok-reached.ensures.all p)) all out),
@@ -17,9 +18,11 @@ returns-then-row_has-clause-some c =
 pub returns-clause-some : goal.returns-clause-some
 returns-clause-some c =
     let r = has_atom c.in_ok-reached.reached in
-    let out = relaxed_excludes c.args.task.now c.args.state.now r (λ p. (c.in_ok-reached.ensures.reached p, c.in_ok-reached.ensures.all p))
+    let out = relaxed_excludes c.args.task.now c.args.state.now r
+    (λ p. (c.in_ok-reached.ensures.reached p, c.in_ok-reached.ensures.all p))
     (λ all. both_ways c.row_has.result c.if-row_has.false
-    (c.row_has.ensures.1 (subst (All (λ p. r p ≡ true)) (sym (c.as_slice.ensures.items ∙ c.goal.ensures.goal)) all))) in
+    (c.row_has.ensures.1 (subst (All (λ p. r p ≡ true))
+    (sym (c.as_slice.ensures.items ∙ c.goal.ensures.goal)) all))) in
     (λ _. out, λ _. refl)
 
 pub returns-clause-reached : goal.returns-clause-reached

@@ -1,4 +1,5 @@
-use Rattle.std.proofs.Common.{◌≡◌, ◌∙◌, ◌↔◌, true, ℕ, Bool, List, Option, Some, ap, is_some, length, refl, sym, subst}
+use Rattle.std.proofs.Common.{◌≡◌, ◌∙◌, ◌↔◌, true, ℕ, Bool, List, Option, Some, ap, is_some, length}
+use Rattle.std.proofs.Common.{refl, sym, subst}
 use Rattle.std.specs.Option.{IfSome}
 use Rattle.hv_task.specs.State.{has_atom}
 use Rattle.hv_task.specs.Strips.{atoms}
@@ -15,61 +16,89 @@ use Rattle.hv_reach.proofs.relaxed_pruner.relaxed_answer.Goals as goal
 
 pub returns-then-is_some-clause-outcome : goal.returns-then-is_some-clause-outcome
 returns-then-is_some-clause-outcome c =
-    outcome_told c.args.task.now (RelaxedExcludesFrom c.args.task.now) (IsRelaxedBlock c.args.task.now c.args.state.now c.args.draft.now.lines)
-    c.args.state.now c.args.notes.now.items c.args.draft.now c.requires.state c.requires.good c.requires.fits
+    outcome_told c.args.task.now (RelaxedExcludesFrom c.args.task.now)
+    (IsRelaxedBlock c.args.task.now c.args.state.now c.args.draft.now.lines)
+    c.args.state.now c.args.notes.now.items c.args.draft.now c.requires.state c.requires.good
+    c.requires.fits
     c.in_ok-noted.noted (sym c.is_some.ensures ∙ c.if-is_some.true) c.in_ok-noted.ensures
 
 pub write_block-requires-clause-dead : goal.write_block-requires-clause-dead
 write_block-requires-clause-dead c =
     let task = c.args.task.now in
     let state = c.args.state.now in
-    let size = subst (λ (f : Option (List Bool)). IfSome f (λ r. length r ≡ atoms task)) c.in-Some.is c.in_ok-row.ensures.size in
-    let each = subst (λ (f : Option (List Bool)). IfSome f (λ r. (p : ℕ) → (has_atom r p ≡ true) ↔ ReachedAtom task state p)) c.in-Some.is
+    let size = subst (λ (f : Option (List Bool)). IfSome f (λ r. length r ≡ atoms task))
+    c.in-Some.is c.in_ok-row.ensures.size in
+    let each = subst (λ (f : Option (List Bool)). IfSome f
+    (λ r. (p : ℕ) → (has_atom r p ≡ true) ↔ ReachedAtom task state p)) c.in-Some.is
     c.in_ok-row.ensures.reached in
-    let out = c.in_ok-row.ensures.some.0 (ap (λ (f : Option (List Bool)). is_some f) c.in-Some.is) in
-    (relaxed_found_reason task c.in-Some.row size state each c.in_ok-clauses-in-Some.clauses c.in_ok-clauses-in-Some.ensures
+    let out = c.in_ok-row.ensures.some.0 (ap (λ (f : Option (List Bool)). is_some f) c.in-Some.is)
+    in
+    (relaxed_found_reason task c.in-Some.row size state each c.in_ok-clauses-in-Some.clauses
+    c.in_ok-clauses-in-Some.ensures
     c.atoms-atoms.ensures.task.few_atoms c.requires.state out).dead
 
 pub returns-in-Some-clause-outcome : goal.returns-in-Some-clause-outcome
 returns-in-Some-clause-outcome c =
     let task = c.args.task.now in
     let state = c.args.state.now in
-    let size = subst (λ (f : Option (List Bool)). IfSome f (λ r. length r ≡ atoms task)) c.in-Some.is c.in_ok-row.ensures.size in
-    let each = subst (λ (f : Option (List Bool)). IfSome f (λ r. (p : ℕ) → (has_atom r p ≡ true) ↔ ReachedAtom task state p)) c.in-Some.is
+    let size = subst (λ (f : Option (List Bool)). IfSome f (λ r. length r ≡ atoms task))
+    c.in-Some.is c.in_ok-row.ensures.size in
+    let each = subst (λ (f : Option (List Bool)). IfSome f
+    (λ r. (p : ℕ) → (has_atom r p ≡ true) ↔ ReachedAtom task state p)) c.in-Some.is
     c.in_ok-row.ensures.reached in
-    let out = c.in_ok-row.ensures.some.0 (ap (λ (f : Option (List Bool)). is_some f) c.in-Some.is) in
+    let out = c.in_ok-row.ensures.some.0 (ap (λ (f : Option (List Bool)). is_some f) c.in-Some.is)
+    in
     let lines = c.args.draft.now.lines in
     let notes = c.args.notes.now.items in
     let clauses = c.in_ok-clauses-in-Some.clauses in
-    let none = none_told task lines notes state c.in_ok-noted.noted (sym c.is_some.ensures ∙ c.if-is_some.false)
+    let none = none_told task lines notes state c.in_ok-noted.noted
+    (sym c.is_some.ensures ∙ c.if-is_some.false)
     c.in_ok-noted.ensures in
     let wrote = c.in_ok-line-in-Some.ensures in
-    subst (λ n. IsOutcome task (RelaxedExcludesFrom task) (IsRelaxedBlock task state lines) state (Some n) notes c.args.draft.now
+    subst (λ n. IsOutcome task (RelaxedExcludesFrom task) (IsRelaxedBlock task state lines) state
+    (Some n) notes c.args.draft.now
     c.write_block.new.notes.items c.write_block.new.draft) (sym wrote.line)
-    (outcome_written task lines clauses (expr_count lines) (known_count lines) (subst (IsGoodTable task) wrote.lines wrote.good)
-    (RelaxedExcludesFrom task) state (relaxed_found_reason task c.in-Some.row size state each c.in_ok-clauses-in-Some.clauses c.in_ok-clauses-in-Some.ensures
-    c.atoms-atoms.ensures.task.few_atoms c.requires.state out) (IsRelaxedBlock task state lines) notes c.requires.state c.requires.fits
-    (clauses, relaxed_found_formula task c.in-Some.row size state each c.in_ok-clauses-in-Some.clauses c.in_ok-clauses-in-Some.ensures, (refl, refl, refl)) none c.args.draft.now c.write_block.new.draft c.write_block.new.notes.items refl
+    (outcome_written task lines clauses (expr_count lines) (known_count lines)
+    (subst (IsGoodTable task) wrote.lines wrote.good)
+    (RelaxedExcludesFrom task) state (relaxed_found_reason task c.in-Some.row size state each
+    c.in_ok-clauses-in-Some.clauses c.in_ok-clauses-in-Some.ensures
+    c.atoms-atoms.ensures.task.few_atoms c.requires.state out) (IsRelaxedBlock task state lines)
+    notes c.requires.state c.requires.fits (
+      clauses,
+      relaxed_found_formula task c.in-Some.row size state each
+          c.in_ok-clauses-in-Some.clauses c.in_ok-clauses-in-Some.ensures,
+      (refl, refl, refl),
+    ) none
+    c.args.draft.now c.write_block.new.draft c.write_block.new.notes.items refl
     wrote.lines wrote.notes)
 
 pub returns-in-Some-clause-described : goal.returns-in-Some-clause-described
 returns-in-Some-clause-described c =
     let task = c.args.task.now in
     let state = c.args.state.now in
-    let size = subst (λ (f : Option (List Bool)). IfSome f (λ r. length r ≡ atoms task)) c.in-Some.is c.in_ok-row.ensures.size in
-    let each = subst (λ (f : Option (List Bool)). IfSome f (λ r. (p : ℕ) → (has_atom r p ≡ true) ↔ ReachedAtom task state p)) c.in-Some.is
+    let size = subst (λ (f : Option (List Bool)). IfSome f (λ r. length r ≡ atoms task))
+    c.in-Some.is c.in_ok-row.ensures.size in
+    let each = subst (λ (f : Option (List Bool)). IfSome f
+    (λ r. (p : ℕ) → (has_atom r p ≡ true) ↔ ReachedAtom task state p)) c.in-Some.is
     c.in_ok-row.ensures.reached in
-    let out = c.in_ok-row.ensures.some.0 (ap (λ (f : Option (List Bool)). is_some f) c.in-Some.is) in
+    let out = c.in_ok-row.ensures.some.0 (ap (λ (f : Option (List Bool)). is_some f) c.in-Some.is)
+    in
     let lines = c.args.draft.now.lines in
     let clauses = c.in_ok-clauses-in-Some.clauses in
     let wrote = c.in_ok-line-in-Some.ensures in
-    written_described task lines clauses (expr_count lines) (known_count lines) (subst (IsGoodTable task) wrote.lines wrote.good)
-    HoldsAtomsOf (RelaxedExcludesFrom task) c.args.notes.now.items c.args.reached.now.rows c.in-Some.row c.requires.fits c.requires.described size
-    (relaxed_found_holds task c.in-Some.row size state each c.in_ok-clauses-in-Some.clauses c.in_ok-clauses-in-Some.ensures)
-    c.write_block.new.draft.lines c.write_block.new.notes.items c.write_block.new.rows.rows wrote.lines wrote.notes wrote.rows
+    written_described task lines clauses (expr_count lines) (known_count lines)
+    (subst (IsGoodTable task) wrote.lines wrote.good)
+    HoldsAtomsOf (RelaxedExcludesFrom task) c.args.notes.now.items c.args.reached.now.rows
+    c.in-Some.row c.requires.fits c.requires.described size
+    (relaxed_found_holds task c.in-Some.row size state each c.in_ok-clauses-in-Some.clauses
+    c.in_ok-clauses-in-Some.ensures)
+    c.write_block.new.draft.lines c.write_block.new.notes.items c.write_block.new.rows.rows
+    wrote.lines wrote.notes wrote.rows
 
 pub write_block-requires-clause-over : goal.write_block-requires-clause-over
 write_block-requires-clause-over c = λ k less.
     let task = c.args.task.now in
-    let size = subst (λ (f : Option (List Bool)). IfSome f (λ r. length r ≡ atoms task)) c.in-Some.is c.in_ok-row.ensures.size in
-    described_over HoldsAtomsOf task c.args.draft.now.lines c.args.notes.now.items c.args.reached.now.rows c.requires.described k less ∙ sym size
+    let size = subst (λ (f : Option (List Bool)). IfSome f (λ r. length r ≡ atoms task))
+    c.in-Some.is c.in_ok-row.ensures.size in
+    described_over HoldsAtomsOf task c.args.draft.now.lines c.args.notes.now.items
+    c.args.reached.now.rows c.requires.described k less ∙ sym size

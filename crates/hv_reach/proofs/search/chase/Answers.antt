@@ -8,7 +8,9 @@ loop-round-preserved c =
     let i = c.loop-round.invariant in
     let e = c.turn-moved.ensures in
     record {
-      turn = turn_both (atoms c.args.task.now) c.args.rows.now.items c.loop-round.rows.items c.turn-moved.new.rows.items c.args.flags.now c.loop-round.flags c.turn-moved.new.flags c.loop-round.moved c.turn-moved.result i.turn e.turn;
+      turn = turn_both (atoms c.args.task.now) c.args.rows.now.items c.loop-round.rows.items
+          c.turn-moved.new.rows.items c.args.flags.now c.loop-round.flags c.turn-moved.new.flags
+          c.loop-round.moved c.turn-moved.result i.turn e.turn;
       ready = e.ready;
       mask = e.mask;
       seen = ap length c.set.ensures ∙ (length-set c.loop-round.seen c.in-Some.atom true ∙ i.seen);

@@ -2,7 +2,8 @@ use Rattle.std.proofs.Common.{◌≡◌, ◌≤◌, ◌+◌, ℕ, Bool, true, fa
 use Rattle.hv_task.specs.State.{has_atom}
 use Rattle.hv_task.specs.Strips.{atoms}
 use Rattle.hv_reach.specs.Reached.{has_pair}
-use Rattle.hv_reach.specs.Working.Table.{HaveTheirPairs, IsEven, IsPairTable, KeepAllPairs, PairsWithin, missing_cells}
+use Rattle.hv_reach.specs.Working.Table.{HaveTheirPairs, IsEven, IsPairTable, KeepAllPairs}
+use Rattle.hv_reach.specs.Working.Table.{PairsWithin, missing_cells}
 use Rattle.hv_reach.proofs.search.close.Given as goal
 
 abbrev pub invariant-loop-moved : goal.invariant-loop-moved
@@ -14,7 +15,8 @@ invariant-loop-moved l = record {
   ready : HaveTheirPairs (atoms l.task) l.task.actions l.rows.items l.flags;
   mask : length l.mask ≡ atoms l.task;
   seen : length l.seen ≡ atoms l.task;
-  least : (r : ℕ → ℕ → Bool) → IsEven r → KeepAllPairs l.task.actions r → PairsWithin l.fn.rows.items r → PairsWithin l.rows.items r;
+  least : (r : ℕ → ℕ → Bool) → IsEven r → KeepAllPairs l.task.actions r
+      → PairsWithin l.fn.rows.items r → PairsWithin l.rows.items r;
 }
 
 abbrev pub decreases-loop-moved : goal.decreases-loop-moved

@@ -4,4 +4,5 @@ use Rattle.hv_reach.specs.Reached.{has_pair}
 use Rattle.hv_reach.proofs.search.next_unseen.Given as goal
 
 abbrev pub invariant-loop-atom : goal.invariant-loop-atom
-invariant-loop-atom l = (k : ℕ) → k < l.atom → has_pair l.rows.items k k ≡ true → has_atom l.seen k ≡ true
+invariant-loop-atom l = (k : ℕ) → k < l.atom → has_pair l.rows.items k k ≡ true
+    → has_atom l.seen k ≡ true

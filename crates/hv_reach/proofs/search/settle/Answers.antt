@@ -9,16 +9,23 @@ loop-round-preserved c =
     let f = c.chase-moved.ensures in
     let e = c.sweep_short-more.ensures in
     record {
-      turn = turn_both (atoms c.args.task.now) c.args.rows.now.items c.chase-moved.new.rows.items c.sweep_short-more.new.rows.items c.args.flags.now
-          c.chase-moved.new.flags c.sweep_short-more.new.flags (c.loop-round.moved || c.chase-moved.result) c.sweep_short-more.result
-          (turn_both (atoms c.args.task.now) c.args.rows.now.items c.loop-round.rows.items c.chase-moved.new.rows.items c.args.flags.now
-          c.loop-round.flags c.chase-moved.new.flags c.loop-round.moved c.chase-moved.result i.turn f.turn) e.turn;
+      turn = turn_both (atoms c.args.task.now) c.args.rows.now.items c.chase-moved.new.rows.items
+          c.sweep_short-more.new.rows.items c.args.flags.now
+          c.chase-moved.new.flags c.sweep_short-more.new.flags
+          (c.loop-round.moved || c.chase-moved.result) c.sweep_short-more.result
+          (turn_both (atoms c.args.task.now) c.args.rows.now.items c.loop-round.rows.items
+          c.chase-moved.new.rows.items c.args.flags.now
+          c.loop-round.flags c.chase-moved.new.flags c.loop-round.moved c.chase-moved.result i.turn
+          f.turn) e.turn;
       ready = e.ready;
       mask = e.mask;
       seen = f.seen;
-      least = λ r even keeps within. e.least r even keeps (f.least r even keeps (i.least r even keeps within));
+      least = λ r even keeps within. e.least r even keeps
+          (f.least r even keeps (i.least r even keeps within));
     }
 
 pub returns-then-not-more-clause-least : goal.returns-then-not-more-clause-least
 returns-then-not-more-clause-least c = λ r even keeps within.
-    c.sweep_short-more.ensures.least r even keeps (c.chase-moved.ensures.least r even keeps (c.loop-round.invariant.least r even keeps within))
+    c.sweep_short-more.ensures.least r even keeps
+    (c.chase-moved.ensures.least r even keeps
+    (c.loop-round.invariant.least r even keeps within))

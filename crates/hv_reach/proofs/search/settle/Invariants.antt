@@ -9,5 +9,6 @@ invariant-loop-round l = record {
   ready : HaveTheirPairs (atoms l.task) l.task.actions l.rows.items l.flags;
   mask : length l.mask ≡ atoms l.task;
   seen : length l.seen ≡ atoms l.task;
-  least : (r : ℕ → ℕ → Bool) → IsEven r → KeepAllPairs l.task.actions r → PairsWithin l.fn.rows.items r → PairsWithin l.rows.items r;
+  least : (r : ℕ → ℕ → Bool) → IsEven r → KeepAllPairs l.task.actions r
+      → PairsWithin l.fn.rows.items r → PairsWithin l.rows.items r;
 }

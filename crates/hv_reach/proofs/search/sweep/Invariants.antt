@@ -10,5 +10,6 @@ invariant-loop-flag l = record {
   quiet : l.moved ≡ false → (x : ℕ) → x < l.flag → has_atom l.flags x ≡ false;
   ready : HaveTheirPairs (atoms l.task) l.task.actions l.rows.items l.flags;
   mask : length l.mask ≡ atoms l.task;
-  least : (r : ℕ → ℕ → Bool) → IsEven r → KeepAllPairs l.task.actions r → PairsWithin l.fn.rows.items r → PairsWithin l.rows.items r;
+  least : (r : ℕ → ℕ → Bool) → IsEven r → KeepAllPairs l.task.actions r
+      → PairsWithin l.fn.rows.items r → PairsWithin l.rows.items r;
 }

@@ -8,5 +8,6 @@ invariant-loop-atom l = record {
   turn : IsTurn (atoms l.task) l.fn.rows.items l.fn.flags l.rows.items l.flags l.moved;
   ready : HaveTheirPairs (atoms l.task) l.task.actions l.rows.items l.flags;
   mask : length l.mask ≡ atoms l.task;
-  least : (r : ℕ → ℕ → Bool) → IsEven r → KeepAllPairs l.task.actions r → PairsWithin l.fn.rows.items r → PairsWithin l.rows.items r;
+  least : (r : ℕ → ℕ → Bool) → IsEven r → KeepAllPairs l.task.actions r
+      → PairsWithin l.fn.rows.items r → PairsWithin l.rows.items r;
 }

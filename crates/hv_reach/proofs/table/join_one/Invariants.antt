@@ -8,7 +8,8 @@ abbrev pub invariant-loop-second : goal.invariant-loop-second
 invariant-loop-second l = record {
   step : IsPairStep l.atoms l.fn.rows.items l.fn.flags l.rows.items l.flags l.moved;
   done : (k : ℕ) → k < l.from → has_atom l.mask k ≡ true → has_pair l.rows.items l.first k ≡ true;
-  least : (r : ℕ → ℕ → Bool) → IsEven r → ((q : ℕ) → has_atom l.mask q ≡ true → r l.first q ≡ true) → PairsWithin l.fn.rows.items r → PairsWithin l.rows.items r;
+  least : (r : ℕ → ℕ → Bool) → IsEven r → ((q : ℕ) → has_atom l.mask q ≡ true → r l.first q ≡ true)
+      → PairsWithin l.fn.rows.items r → PairsWithin l.rows.items r;
 }
 
 abbrev pub decreases-loop-second : goal.decreases-loop-second

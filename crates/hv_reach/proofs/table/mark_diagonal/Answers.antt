@@ -10,10 +10,16 @@ loop-atom-preserved c =
     let e = c.mark-moved.ensures in
     let x = get_or c.args.list.now c.loop-atom.atom-index 0 in
     record {
-      step = pair_step_both c.args.atoms c.args.rows.now.items c.loop-atom.rows.items c.mark-moved.new.rows.items c.args.flags.now c.loop-atom.flags c.mark-moved.new.flags c.loop-atom.moved c.mark-moved.result i.step e.step;
-      done = done_more (λ p. has_pair c.loop-atom.rows.items p p ≡ true) (λ p. has_pair c.mark-moved.new.rows.items p p ≡ true) c.args.list.now c.loop-atom.atom-index x refl (λ p h. e.step.grows p p h) e.set i.done;
-      least = λ r even all within. e.least r even (all c.loop-atom.atom-index 0 (omega arith)) (i.least r even all within);
+      step = pair_step_both c.args.atoms c.args.rows.now.items c.loop-atom.rows.items
+          c.mark-moved.new.rows.items c.args.flags.now c.loop-atom.flags c.mark-moved.new.flags
+          c.loop-atom.moved c.mark-moved.result i.step e.step;
+      done = done_more (λ p. has_pair c.loop-atom.rows.items p p ≡ true)
+          (λ p. has_pair c.mark-moved.new.rows.items p p ≡ true) c.args.list.now
+          c.loop-atom.atom-index x refl (λ p h. e.step.grows p p h) e.set i.done;
+      least = λ r even all within. e.least r even (all c.loop-atom.atom-index 0 (omega arith))
+          (i.least r even all within);
     }
 
 pub returns-clause-set : goal.returns-clause-set
-returns-clause-set c = All-from_zero (λ p. has_pair c.loop-atom.rows.items p p ≡ true) c.args.list.now (λ k less. c.loop-atom.invariant.done k (omega arith))
+returns-clause-set c = All-from_zero (λ p. has_pair c.loop-atom.rows.items p p ≡ true)
+    c.args.list.now (λ k less. c.loop-atom.invariant.done k (omega arith))

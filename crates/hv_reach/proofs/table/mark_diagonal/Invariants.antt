@@ -7,6 +7,8 @@ use Rattle.hv_reach.proofs.table.mark_diagonal.Given as goal
 abbrev pub invariant-loop-atom : goal.invariant-loop-atom
 invariant-loop-atom l = record {
   step : IsPairStep l.atoms l.fn.rows.items l.fn.flags l.rows.items l.flags l.moved;
-  done : (k : ℕ) → k < l.atom-index → has_pair l.rows.items (get_or l.list k 0) (get_or l.list k 0) ≡ true;
-  least : (r : ℕ → ℕ → Bool) → IsEven r → All (λ p. r p p ≡ true) l.list → PairsWithin l.fn.rows.items r → PairsWithin l.rows.items r;
+  done : (k : ℕ) → k < l.atom-index → has_pair l.rows.items (get_or l.list k 0) (get_or l.list k 0)
+      ≡ true;
+  least : (r : ℕ → ℕ → Bool) → IsEven r → All (λ p. r p p ≡ true) l.list
+      → PairsWithin l.fn.rows.items r → PairsWithin l.rows.items r;
 }

@@ -8,5 +8,6 @@ abbrev pub invariant-loop-second : goal.invariant-loop-second
 invariant-loop-second l = record {
   step : IsPairStep l.atoms l.fn.rows.items l.fn.flags l.rows.items l.flags l.moved;
   done : (k : ℕ) → k < l.second-index → has_pair l.rows.items l.first (get_or l.list k 0) ≡ true;
-  least : (r : ℕ → ℕ → Bool) → IsEven r → All (λ q. r l.first q ≡ true) l.list → PairsWithin l.fn.rows.items r → PairsWithin l.rows.items r;
+  least : (r : ℕ → ℕ → Bool) → IsEven r → All (λ q. r l.first q ≡ true) l.list
+      → PairsWithin l.fn.rows.items r → PairsWithin l.rows.items r;
 }

@@ -7,7 +7,9 @@ use Rattle.hv_replay.proofs.boxes.begin_all.Given as goal
 
 abbrev pub invariant-loop-pruner : goal.invariant-loop-pruner
 invariant-loop-pruner g l = record {
-  covers : AlikeOf l.pruners l.initial.pruners (λ b. (goal.Pruner-dyn g (b.vtable, b.value)).covers b.value);
+  covers : AlikeOf l.pruners l.initial.pruners
+      (λ b. (goal.Pruner-dyn g (b.vtable, b.value)).covers b.value);
   fits : EachBefore l.pruners l.pruner-index
-      (λ b. (task : Strips) (lines : List Line) → (goal.Pruner-dyn g (b.vtable, b.value)).fits b.value task lines);
+      (λ b. (task : Strips) (lines : List Line)
+      → (goal.Pruner-dyn g (b.vtable, b.value)).fits b.value task lines);
 }

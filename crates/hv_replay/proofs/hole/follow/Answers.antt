@@ -13,34 +13,48 @@ lists-requires c = λ p past.
 pub returns-then-not-lists : goal.returns-then-not-lists
 returns-then-not-lists c =
     let none : c.lists.result ≡ false = search rules in
-    let start = start_found c.args.task.now c.start.result.now c.listed.result.now c.start.ensures.below c.start.ensures.start
+    let start = start_found c.args.task.now c.start.result.now c.listed.result.now
+    c.start.ensures.below c.start.ensures.start
     (c.listed.ensures.listed.over ∙ c.requires) c.lists.result c.lists.ensures in
-    not_listed c.args.task.now c.args.log.now c.listed.result.now (start_state c.args.task.now) c.listed.ensures.listed (sym start ∙ none)
+    not_listed c.args.task.now c.args.log.now c.listed.result.now (start_state c.args.task.now)
+    c.listed.ensures.listed (sym start ∙ none)
 
 pub returns-in-Some : goal.returns-in-Some
 returns-in-Some c =
     let some : c.lists.result ≡ true = search rules in
-    let start = start_found c.args.task.now c.start.result.now c.listed.result.now c.start.ensures.below c.start.ensures.start
+    let start = start_found c.args.task.now c.start.result.now c.listed.result.now
+    c.start.ensures.below c.start.ensures.start
     (c.listed.ensures.listed.over ∙ c.requires) c.lists.result c.lists.ensures in
-    let listed = to_listed c.args.log.now c.listed.result.now c.listed.ensures.listed (start_state c.args.task.now) (sym start ∙ some) in
+    let listed = to_listed c.args.log.now c.listed.result.now c.listed.ensures.listed
+    (start_state c.args.task.now) (sym start ∙ some) in
     (listed, c.in-Some.place, c.line_of.ensures, c.in-Some.ensures.1)
 
 pub returns-in-Some-first_open : goal.returns-in-Some-first_open
 returns-in-Some-first_open c =
     let some : c.lists.result ≡ true = search rules in
-    let start = start_found c.args.task.now c.start.result.now c.listed.result.now c.start.ensures.below c.start.ensures.start
+    let start = start_found c.args.task.now c.start.result.now c.listed.result.now
+    c.start.ensures.below c.start.ensures.start
     (c.listed.ensures.listed.over ∙ c.requires) c.lists.result c.lists.ensures in
-    let listed = to_listed c.args.log.now c.listed.result.now c.listed.ensures.listed (start_state c.args.task.now) (sym start ∙ some) in
-    let first = c.in-Some-first_open.ensures in
-    (listed, free_all c.args.task.now c.args.log.now c.in_default.ensures, c.in-Some-first_open.found.0, c.line_of-in-Some-first_open.ensures, first.1, first.2)
+    let listed = to_listed c.args.log.now c.listed.result.now c.listed.ensures.listed
+    (start_state c.args.task.now) (sym start ∙ some) in
+    let first = c.in-Some-first_open.ensures in (
+      listed,
+      free_all c.args.task.now c.args.log.now c.in_default.ensures,
+      c.in-Some-first_open.found.0,
+      c.line_of-in-Some-first_open.ensures,
+      first.1,
+      first.2,
+    )
 
 pub returns : goal.returns
 returns c =
     let some : c.lists.result ≡ true = search rules in
-    let start = start_found c.args.task.now c.start.result.now c.listed.result.now c.start.ensures.below c.start.ensures.start
+    let start = start_found c.args.task.now c.start.result.now c.listed.result.now
+    c.start.ensures.below c.start.ensures.start
     (c.listed.ensures.listed.over ∙ c.requires) c.lists.result c.lists.ensures in
     record {
-      initial = to_listed c.args.log.now c.listed.result.now c.listed.ensures.listed (start_state c.args.task.now) (sym start ∙ some);
+      initial = to_listed c.args.log.now c.listed.result.now c.listed.ensures.listed
+          (start_state c.args.task.now) (sym start ∙ some);
       goalless = free_all c.args.task.now c.args.log.now c.in_default.ensures;
       leads = leads_all c.args.task.now c.args.log.now c.in_default-first_open.ensures;
     }

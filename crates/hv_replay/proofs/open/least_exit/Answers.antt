@@ -18,10 +18,12 @@ loop-atom-preserved c =
     record {
       upto = let bound = i.upto in omega arith;
       last = λ action row less. i.last action row (omega arith);
-      each = below_more (λ k. (action : ℕ) → IsIn c.args.rows.now.items (get_or held k 0) action → action < new → P action) c.loop-atom.atom-index
+      each = below_more (λ k. (action : ℕ) → IsIn c.args.rows.now.items (get_or held k 0) action
+          → action < new → P action) c.loop-atom.atom-index
           (λ k lt action row less. i.each k lt action row (omega arith))
           (λ action row less. e.stay action
-          (subst (λ xs. IsIn c.args.rows.now.items (get_or xs c.loop-atom.atom-index 0) action) (sym c.as_slice-atom-items.ensures.items) row) less);
+          (subst (λ xs. IsIn c.args.rows.now.items (get_or xs c.loop-atom.atom-index 0) action)
+          (sym c.as_slice-atom-items.ensures.items) row) less);
       exit = exit_more P (length task.actions) c.loop-atom.least new upto i.exit e.exit;
     }
 
@@ -33,7 +35,8 @@ returns-then-least-count c =
     let all = c.if-least-count.true in
     let count = c.actions-count.ensures.actions in
     λ k less.
-    all_asked c.args.task.now c.args.listed.now c.args.held.now c.requires.held c.args.rows.now.items c.requires.rows c.loop-atom.least
+    all_asked c.args.task.now c.args.listed.now c.args.held.now c.requires.held
+    c.args.rows.now.items c.requires.rows c.loop-atom.least
     i.last (λ j within. i.each j (omega arith)) k (omega arith)
 
 pub returns : goal.returns
@@ -45,6 +48,7 @@ returns c =
     let other = c.if-least-count.false in
     let count = c.actions-count.ensures.actions in (
       i.exit (omega arith),
-      all_asked c.args.task.now c.args.listed.now c.args.held.now c.requires.held c.args.rows.now.items c.requires.rows c.loop-atom.least
+      all_asked c.args.task.now c.args.listed.now c.args.held.now c.requires.held
+          c.args.rows.now.items c.requires.rows c.loop-atom.least
           i.last (λ j within. i.each j (omega arith)),
     )

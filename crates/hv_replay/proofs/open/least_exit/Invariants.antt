@@ -8,8 +8,11 @@ use Rattle.hv_replay.proofs.open.least_exit.Given as goal
 abbrev pub invariant-loop-atom : goal.invariant-loop-atom
 invariant-loop-atom l = record {
   upto : l.least ≤ length l.task.actions;
-  last : (action : ℕ) → IsIn l.rows.items (atoms l.task) action → action < l.least → StaysListed l.task l.listed (state_of (atoms l.task) l.held) action;
-  each : (k : ℕ) → k < l.atom-index → (action : ℕ) → IsIn l.rows.items (get_or l.held k 0) action → action < l.least
+  last : (action : ℕ) → IsIn l.rows.items (atoms l.task) action → action < l.least
       → StaysListed l.task l.listed (state_of (atoms l.task) l.held) action;
-  exit : l.least < length l.task.actions → StaysListed l.task l.listed (state_of (atoms l.task) l.held) l.least → ⊥;
+  each : (k : ℕ) → k < l.atom-index → (action : ℕ) → IsIn l.rows.items (get_or l.held k 0) action
+      → action < l.least
+      → StaysListed l.task l.listed (state_of (atoms l.task) l.held) action;
+  exit : l.least < length l.task.actions → StaysListed l.task l.listed
+      (state_of (atoms l.task) l.held) l.least → ⊥;
 }

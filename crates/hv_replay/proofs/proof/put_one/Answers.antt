@@ -8,6 +8,8 @@ pub returns-clause-covered : goal.returns-clause-covered
 returns-clause-covered g c = λ entry at.
     let no : c.expanded.result ≡ false = search rules in
     covered_at c.put_state.result
-    (λ held. AnyOf c.args.pruners.now (λ b. (goal.Pruner-dyn g (b.vtable, b.value)).covers b.value c.args.task.now (state_of (atoms c.args.task.now) held)))
-    c.held.result.now entry.state (entry.expanded ≡ false) (c.held.ensures.stands entry at) (sym (c.expanded.ensures entry at) ∙ no)
+    (λ held. AnyOf c.args.pruners.now (λ b. (goal.Pruner-dyn g (b.vtable, b.value)).covers b.value
+    c.args.task.now (state_of (atoms c.args.task.now) held)))
+    c.held.result.now entry.state (entry.expanded ≡ false) (c.held.ensures.stands entry at)
+    (sym (c.expanded.ensures entry at) ∙ no)
     c.put_state.ensures.covered

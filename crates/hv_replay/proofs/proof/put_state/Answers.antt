@@ -12,7 +12,8 @@ use Rattle.hv_replay.proofs.proof.put_state.Goals as goal
 pub push_pruned-requires-clause-union : goal.push_pruned-requires-clause-union
 push_pruned-requires-clause-union g c = (
   c.requires.union.0,
-  union_extended c.args.task.now c.args.draft.now.lines c.ask.new.draft.lines c.requires.union.0 c.args.union c.ask.ensures.extends c.requires.union.1,
+  union_extended c.args.task.now c.args.draft.now.lines c.ask.new.draft.lines c.requires.union.0
+      c.args.union c.ask.ensures.extends c.requires.union.1,
 )
 
 pub returns-in-None-clause-covered : goal.returns-in-None-clause-covered
@@ -21,17 +22,21 @@ returns-in-None-clause-covered g c =
     c.hold.ensures.held ∙ ap (λ n. state_of n c.args.held.now) c.requires.state in
     λ any.
     covered_none c.in_ok-ask.field-0
-    (AnyOf c.args.pruners.now (λ b. (goal.Pruner-dyn g (b.vtable, b.value)).covers b.value c.args.task.now c.hold.new.self)) c.in-None.is
+    (AnyOf c.args.pruners.now (λ b. (goal.Pruner-dyn g (b.vtable, b.value)).covers b.value
+    c.args.task.now c.hold.new.self)) c.in-None.is
     c.in_ok-ask.ensures.covered
-    (subst (λ s. AnyOf c.args.pruners.now (λ b. (goal.Pruner-dyn g (b.vtable, b.value)).covers b.value c.args.task.now s)) (sym at) any)
+    (subst (λ s. AnyOf c.args.pruners.now (λ b. (goal.Pruner-dyn g (b.vtable, b.value)).covers
+    b.value c.args.task.now s)) (sym at) any)
 
 pub returns-in_ok-more-in-Some-clause-covered : goal.returns-in_ok-more-in-Some-clause-covered
 returns-in_ok-more-in-Some-clause-covered g c =
     let at : c.hold.new.self ≡ state_of (atoms c.args.task.now) c.args.held.now =
     c.hold.ensures.held ∙ ap (λ n. state_of n c.args.held.now) c.requires.state in
-    subst (λ s. AnyOf c.args.pruners.now (λ b. (goal.Pruner-dyn g (b.vtable, b.value)).covers b.value c.args.task.now s)) at
+    subst (λ s. AnyOf c.args.pruners.now (λ b. (goal.Pruner-dyn g (b.vtable, b.value)).covers
+    b.value c.args.task.now s)) at
     (covered_some c.in_ok-ask.field-0 c.in-Some.by
-    (AnyOf c.args.pruners.now (λ b. (goal.Pruner-dyn g (b.vtable, b.value)).covers b.value c.args.task.now c.hold.new.self)) c.in-Some.is
+    (AnyOf c.args.pruners.now (λ b. (goal.Pruner-dyn g (b.vtable, b.value)).covers b.value
+    c.args.task.now c.hold.new.self)) c.in-Some.is
     c.in_ok-ask.ensures.covered)
 
 pub returns-in_ok-more-in-Some-clause-progress : goal.returns-in_ok-more-in-Some-clause-progress
@@ -41,18 +46,24 @@ returns-in_ok-more-in-Some-clause-progress g c =
     let more = c.in_ok-more-in-Some.more in
     let same : copy ≡ c.args.held.now = c.in_ok-copy-in-Some.ensures in
     let at : c.hold.new.self ≡ state_of (atoms task) copy =
-    c.hold.ensures.held ∙ (ap (λ n. state_of n c.args.held.now) c.requires.state ∙ ap (state_of (atoms task)) (sym same)) in
+    c.hold.ensures.held ∙ (ap (λ n. state_of n c.args.held.now) c.requires.state
+    ∙ ap (state_of (atoms task)) (sym same)) in
     let dead : IsDeadBy task c.ask.new.draft.lines (state_of (atoms task) copy) c.in-Some.by =
     subst (λ s. IsDeadBy task c.ask.new.draft.lines s c.in-Some.by) at
-    (found_some c.in_ok-ask.field-0 c.in-Some.by (λ line. IsDeadBy task c.ask.new.draft.lines c.hold.new.self line) c.in-Some.is
+    (found_some c.in_ok-ask.field-0 c.in-Some.by
+    (λ line. IsDeadBy task c.ask.new.draft.lines c.hold.new.self line) c.in-Some.is
     c.in_ok-ask.ensures.dead) in
     λ states before.
     subst (λ held. IsProgress task (states ++ held ∷ []) c.push_pruned.new.draft.lines more) same
-    (progress_more task c.args.draft.now.lines c.ask.new.draft.lines c.push_pruned.new.draft.lines copy c.in-Some.by c.args.union more
-    c.ask.ensures.extends dead c.in_ok-more-in-Some.ensures.lines c.in_ok-more-in-Some.ensures.number c.push_pruned.ensures.extends
-    c.in_ok-more-in-Some.ensures.union c.in_ok-more-in-Some.ensures.inside c.in_ok-more-in-Some.ensures.keeps states before)
+    (progress_more task c.args.draft.now.lines c.ask.new.draft.lines c.push_pruned.new.draft.lines
+    copy c.in-Some.by c.args.union more
+    c.ask.ensures.extends dead c.in_ok-more-in-Some.ensures.lines
+    c.in_ok-more-in-Some.ensures.number c.push_pruned.ensures.extends
+    c.in_ok-more-in-Some.ensures.union c.in_ok-more-in-Some.ensures.inside
+    c.in_ok-more-in-Some.ensures.keeps states before)
 
 pub returns-in_ok-more-in-Some-clause-fits : goal.returns-in_ok-more-in-Some-clause-fits
 returns-in_ok-more-in-Some-clause-fits g c = λ lines extends.
     c.ask.ensures.fits lines
-    (extends_then c.args.task.now c.ask.new.draft.lines c.push_pruned.new.draft.lines lines c.push_pruned.ensures.extends extends)
+    (extends_then c.args.task.now c.ask.new.draft.lines c.push_pruned.new.draft.lines lines
+    c.push_pruned.ensures.extends extends)

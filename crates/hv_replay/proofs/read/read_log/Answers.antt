@@ -8,7 +8,8 @@ use Rattle.hv_task.specs.Strips.{atoms}
 use Rattle.hv_replay.specs.Logs.{SearchLog}
 use Rattle.hv_replay.specs.Working.Logs.{no_entries}
 use Rattle.hv_replay.specs.LogText.{IsReadFrom}
-use Rattle.hv_replay.proofs.Turned.{end_answer, feed_fault, fits_log, follows_first, follows_more, grown, line_fault_answer, room_left}
+use Rattle.hv_replay.proofs.Turned.{end_answer, feed_fault, fits_log, follows_first, follows_more}
+use Rattle.hv_replay.proofs.Turned.{grown, line_fault_answer, room_left}
 use Rattle.hv_replay.proofs.read.read_log.Goals as goal
 
 pub reading-init : goal.reading-init

@@ -7,6 +7,11 @@ loop-place-preserved c =
     let i = c.loop-place.invariant in
     let e = c.in_ok-push.ensures.items in
     record {
-      size = rw e (let f = i.size in omega (arith, length-append c.loop-place.rows.items (c.new.result ∷ [])));
-      below = λ bound. rw e (rows_push bound c.loop-place.rows.items c.new.result c.new.ensures.items (i.below bound));
+      size = rw e (let f = i.size in omega (
+        arith,
+        length-append c.loop-place.rows.items
+            (c.new.result ∷ []),
+      ));
+      below = λ bound. rw e (rows_push bound c.loop-place.rows.items c.new.result
+          c.new.ensures.items (i.below bound));
     }

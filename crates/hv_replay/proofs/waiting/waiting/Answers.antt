@@ -21,11 +21,14 @@ loop-number-preserved c =
     let new = c.enter.new.rows.items in
     let n = c.loop-number.number in
     let under = subst (λ m. IsUnder m a.pre new n) c.atoms-in-loop-number.ensures.atoms
-    (subst (λ xs. IsUnder c.atoms-in-loop-number.result xs new n) c.as_slice-pre.ensures.items e.under) in
+    (subst (λ xs. IsUnder c.atoms-in-loop-number.result xs new n) c.as_slice-pre.ensures.items
+    e.under) in
     record {
       size = c.enter.ensures.size ∙ i.size;
-      below = e.below (length task.actions) (slice_get_within task.actions n a c.action.ensures.named) i.below;
-      each = under_more (atoms task) c.loop-number.rows.items new task.actions n a c.action.ensures.named e.keeps under i.each;
+      below = e.below (length task.actions)
+          (slice_get_within task.actions n a c.action.ensures.named) i.below;
+      each = under_more (atoms task) c.loop-number.rows.items new task.actions n a
+          c.action.ensures.named e.keeps under i.each;
     }
 
 pub returns : goal.returns
@@ -34,5 +37,6 @@ returns c =
     record {
       size = i.size;
       below = i.below;
-      each = λ k a is. let less = slice_get_within c.args.task.now.actions k a is in i.each k a (omega arith) is;
+      each = λ k a is. let less = slice_get_within c.args.task.now.actions k a is in
+          i.each k a (omega arith) is;
     }

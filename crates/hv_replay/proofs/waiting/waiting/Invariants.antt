@@ -8,5 +8,6 @@ abbrev pub invariant-loop-number : goal.invariant-loop-number
 invariant-loop-number l = record {
   size : length l.rows.items ≡ atoms l.task + 1;
   below : RowsBelow (length l.task.actions) l.rows.items;
-  each : (k : ℕ) (a : Action) → k < l.number → slice_get l.task.actions k ≡ Some a → IsUnder (atoms l.task) a.pre l.rows.items k;
+  each : (k : ℕ) (a : Action) → k < l.number → slice_get l.task.actions k ≡ Some a
+      → IsUnder (atoms l.task) a.pre l.rows.items k;
 }

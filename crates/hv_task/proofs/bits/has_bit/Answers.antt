@@ -4,4 +4,10 @@ use Rattle.std.proofs.lemmas.Nat.Bits.{and_pow}
 use Rattle.hv_task.proofs.bits.has_bit.Goals as goal
 
 pub returns : goal.returns
-returns c = grind (arith, tests, one_shl c.args.k 64 c.requires, and_pow c.args.word c.args.k, pow_pos c.args.k)
+returns c = grind (
+  arith,
+  tests,
+  one_shl c.args.k 64 c.requires,
+  and_pow c.args.word c.args.k,
+  pow_pos c.args.k,
+)

@@ -8,4 +8,5 @@ returns-then-rest-eq0 c = λ i upto less. none_past c.args.word c.args.k i c.if-
 pub returns : goal.returns
 returns c =
     let some = c.if-rest-eq0.false in
-    first_past c.args.word c.args.k (omega arith) (part_fits c.args.word c.args.k c.ranges.word.fits) c.ranges.word.fits
+    first_past c.args.word c.args.k (omega arith)
+    (part_fits c.args.word c.args.k c.ranges.word.fits) c.ranges.word.fits

@@ -1,4 +1,5 @@
-use Rattle.hv_task.proofs.Places.{has_atom-successor, length-successor, has_atom-state_of, length-state_of}
+use Rattle.hv_task.proofs.Places.{has_atom-successor, length-successor, has_atom-state_of}
+use Rattle.hv_task.proofs.Places.{length-state_of}
 use Rattle.hv_task.proofs.laws.laws_of_states.Goals as goal
 
 pub returns-clause-successor : goal.returns-clause-successor

@@ -9,5 +9,6 @@ returns c =
     let is = dedup_is _ _ _ c.dedup.ensures.filtered in
     let moved = c.sort_unstable.ensures.permutation in
     same_members_of c.dedup.new.self.items c.args.atoms.now.items
-    (λ a h. Contains-permutation _ _ a (IsPermutation-sym _ _ moved) (Contains-from_dedup _ _ a (rw is at h)))
+    (λ a h. Contains-permutation _ _ a (IsPermutation-sym _ _ moved)
+    (Contains-from_dedup _ _ a (rw is at h)))
     (λ a h. rw is (Contains-dedup_nat _ a (Contains-permutation _ _ a moved h)))

@@ -6,6 +6,10 @@ use Rattle.hv_task_text.proofs.write.write_actions.Goals as goal
 
 pub loop-number-preserved : goal.loop-number-preserved
 loop-number-preserved c = (
-  written_more (λ action. bytes_of_lines (entry_lines (entry_of action))) c.args.text.now c.loop-number.text c.write_action.new.text c.args.task.now.actions c.loop-number.number c.action.result.now c.action.ensures.named c.loop-number.invariant.0 c.in_ok-write_action.ensures.text,
-  each_more IsStored c.args.task.now.actions c.loop-number.number c.action.result.now c.action.ensures.named c.loop-number.invariant.1 c.in_ok-write_action.ensures.stored,
+  written_more (λ action. bytes_of_lines (entry_lines (entry_of action))) c.args.text.now
+      c.loop-number.text c.write_action.new.text c.args.task.now.actions c.loop-number.number
+      c.action.result.now c.action.ensures.named c.loop-number.invariant.0
+      c.in_ok-write_action.ensures.text,
+  each_more IsStored c.args.task.now.actions c.loop-number.number c.action.result.now
+      c.action.ensures.named c.loop-number.invariant.1 c.in_ok-write_action.ensures.stored,
 )

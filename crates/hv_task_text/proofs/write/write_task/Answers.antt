@@ -11,9 +11,13 @@ use Rattle.hv_task_text.proofs.write.write_task.Goals as goal
 
 pub returns-clause-text : goal.returns-clause-text
 returns-clause-text c =
-    task_written c.args.task.now c.write_head.new.text c.write_number.new.text c.write_actions.new.text c.write_line.new.text
-    (c.in_ok-write_head.ensures.text ∙ ap (λ t. t ++ bytes_of_lines (head_lines (head_of c.args.task.now))) c.new-text.ensures)
-    (c.in_ok-write_number.ensures ∙ ap (λ n. c.write_head.new.text ++ with_lf (codes "begin_actions:" ++ decimal n)) (c.from.ensures ∙ c.actions.ensures.actions))
+    task_written c.args.task.now c.write_head.new.text c.write_number.new.text
+    c.write_actions.new.text c.write_line.new.text
+    (c.in_ok-write_head.ensures.text ∙ ap (λ t. t
+    ++ bytes_of_lines (head_lines (head_of c.args.task.now))) c.new-text.ensures)
+    (c.in_ok-write_number.ensures ∙ ap (λ n. c.write_head.new.text
+    ++ with_lf (codes "begin_actions:" ++ decimal n))
+    (c.from.ensures ∙ c.actions.ensures.actions))
     c.in_ok-write_actions.ensures.text
     c.in_ok-write_line.ensures
 
@@ -22,4 +26,6 @@ returns-clause-readable c =
     λ names short.
     let e = returns-clause-text c in
     subst (λ text. TaskText standard text c.args.task.now) (sym e)
-    (readable c.args.task.now c.actions.ensures.task c.in_ok-write_head.ensures.start c.in_ok-write_head.ensures.goal c.in_ok-write_actions.ensures.stored names (subst (λ text. length text ≤ most_file_bytes) e short))
+    (readable c.args.task.now c.actions.ensures.task c.in_ok-write_head.ensures.start
+    c.in_ok-write_head.ensures.goal c.in_ok-write_actions.ensures.stored names
+    (subst (λ text. length text ≤ most_file_bytes) e short))

@@ -5,4 +5,5 @@ use Rattle.hv_trap.proofs.conjunctions.put_pairs.Given as goal
 
 abbrev pub invariant-loop-first : goal.invariant-loop-first
 invariant-loop-first l =
-    l.clauses ≡ l.fn.clauses ++ denials_of (denies_one l.goal) (flat_map (over_greater l.atoms) (range_with_len 0 l.first))
+    l.clauses ≡ l.fn.clauses ++ denials_of (denies_one l.goal)
+    (flat_map (over_greater l.atoms) (range_with_len 0 l.first))

@@ -6,4 +6,5 @@ use Rattle.hv_trap.proofs.conjunctions.put_row.Given as goal
 abbrev pub invariant-loop-second : goal.invariant-loop-second
 invariant-loop-second l =
     l.clauses
-    ≡ l.fn.clauses ++ denials_of (denies_one l.goal) (flat_map (over_two l.first) (range_with_len (l.first + 1) (l.second - (l.first + 1))))
+    ≡ l.fn.clauses ++ denials_of (denies_one l.goal)
+    (flat_map (over_two l.first) (range_with_len (l.first + 1) (l.second - (l.first + 1))))

@@ -5,4 +5,5 @@ use Rattle.hv_trap.proofs.conjunctions.put_singles.Given as goal
 
 abbrev pub invariant-loop-atom : goal.invariant-loop-atom
 invariant-loop-atom l =
-    l.clauses ≡ l.fn.clauses ++ denials_of (denies_one l.goal) (flat_map over_one (range_with_len 0 l.atom))
+    l.clauses ≡ l.fn.clauses ++ denials_of (denies_one l.goal)
+    (flat_map over_one (range_with_len 0 l.atom))

@@ -9,8 +9,10 @@ use Rattle.hv_trap.proofs.step.are_true_in.Goals as goal
 pub loop-place-preserved : goal.loop-place-preserved
 loop-place-preserved c =
     let s = c.args.state.now in
-    below_more (λ k. in_clause (get_or c.args.clauses.now k []) s ≡ true) c.loop-place.place c.loop-place.invariant
-    (ap (λ x. in_clause x s) (get_or_from_slice_get c.args.clauses.now c.loop-place.place c.get.result.now [] c.get.ensures)
+    below_more (λ k. in_clause (get_or c.args.clauses.now k []) s ≡ true) c.loop-place.place
+    c.loop-place.invariant
+    (ap (λ x. in_clause x s) (get_or_from_slice_get c.args.clauses.now c.loop-place.place
+    c.get.result.now [] c.get.ensures)
     ∙ sym c.if-not-is_true_in.ensures)
 
 pub returns-then-not-is_true_in : goal.returns-then-not-is_true_in
@@ -18,8 +20,10 @@ returns-then-not-is_true_in c =
     let s = c.args.state.now in
     let end = c.len-place-end.ensures in
     let less = c.loop-place-test.true in
-    sym (list_all_at (λ x. in_clause x s) c.args.clauses.now c.loop-place.place [] (omega (arith, end, less))
-    (ap (λ x. in_clause x s) (get_or_from_slice_get c.args.clauses.now c.loop-place.place c.get.result.now [] c.get.ensures)
+    sym (list_all_at (λ x. in_clause x s) c.args.clauses.now c.loop-place.place []
+    (omega (arith, end, less))
+    (ap (λ x. in_clause x s) (get_or_from_slice_get c.args.clauses.now c.loop-place.place
+    c.get.result.now [] c.get.ensures)
     ∙ sym c.if-not-is_true_in.ensures))
 
 pub returns : goal.returns

@@ -4,4 +4,5 @@ use Rattle.hv_twocnf.proofs.two_cnf.is_two.Given as goal
 
 abbrev pub invariant-loop-literal : goal.invariant-loop-literal
 invariant-loop-literal l =
-    (k : ℕ) → k < l.literal-index → slice_index_or l.clause k (record { atom = 0; positive = false }) ≡ l.first
+    (k : ℕ) → k < l.literal-index → slice_index_or l.clause k
+    (record { atom = 0; positive = false }) ≡ l.first

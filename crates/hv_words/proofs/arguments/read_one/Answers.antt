@@ -15,5 +15,6 @@ returns c =
     let name = c.args.name.now in
     let words : List Text = map string_bytes c.args.words.now in
     let taken = one_list name words (sym c.is_one.ensures ∙ c.if-not-is_one.false) in
-    value_in _ _ words c.in_ok-matches.matches (codes "first") c.get_str.result _ c.in_ok-one_command.ensures (one_simple name)
+    value_in _ _ words c.in_ok-matches.matches (codes "first") c.get_str.result _
+    c.in_ok-one_command.ensures (one_simple name)
     c.in_ok-matches.ensures c.get_str.ensures taken.1

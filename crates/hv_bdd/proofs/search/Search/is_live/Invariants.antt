@@ -6,4 +6,5 @@ use Rattle.hv_bdd.proofs.search.Search.is_live.Given as goal
 
 abbrev pub invariant-loop-k : goal.invariant-loop-k
 invariant-loop-k l =
-    is_live (moves (setting l.self)) (drop l.k l.self.asked.now) (drop l.k l.tuple) ≡ is_live (moves (setting l.self)) l.self.asked.now l.tuple
+    is_live (moves (setting l.self)) (drop l.k l.self.asked.now) (drop l.k l.tuple)
+    ≡ is_live (moves (setting l.self)) l.self.asked.now l.tuple

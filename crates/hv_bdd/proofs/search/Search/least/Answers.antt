@@ -6,6 +6,7 @@ use Rattle.hv_bdd.proofs.search.Search.least.Goals as goal
 
 pub loop-k-init : goal.loop-k-init
 loop-k-init c =
-    let upto = least_below (moves (setting c.args.self.now)) c.args.self.now.asked.now c.args.tuple.now in
+    let upto = least_below (moves (setting c.args.self.now)) c.args.self.now.asked.now
+    c.args.tuple.now in
     let is = c.atoms-least.ensures.atoms in
     record { upto = omega arith; rest = omega arith }

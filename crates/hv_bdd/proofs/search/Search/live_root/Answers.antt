@@ -4,4 +4,5 @@ use Rattle.hv_bdd.proofs.search.Search.live_root.Goals as goal
 
 pub is_live-requires-clause-tuple : goal.is_live-requires-clause-tuple
 is_live-requires-clause-tuple c =
-    roots_tuple c.args.self.now c.requires c.as_slice.result.now (c.as_slice.ensures ∙ c.in_ok-root.ensures)
+    roots_tuple c.args.self.now c.requires c.as_slice.result.now
+    (c.as_slice.ensures ∙ c.in_ok-root.ensures)

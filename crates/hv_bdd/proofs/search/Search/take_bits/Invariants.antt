@@ -8,7 +8,8 @@ abbrev pub invariant-loop-at : goal.invariant-loop-at
 invariant-loop-at l = record {
   within : l.at < length l.reached.tuples.keys;
   fits : FitsBits (moves (setting l.self)) l.state;
-  agrees : AgreesWithNodes (in_asked (setting l.self)) (λ o. o.positive) l.state l.self.asked.now (tuple_at (tuples_of l.reached.tuples) l.at);
+  agrees : AgreesWithNodes (in_asked (setting l.self))
+      (λ o. o.positive) l.state l.self.asked.now (tuple_at (tuples_of l.reached.tuples) l.at);
 }
 
 abbrev pub decreases-loop-at : goal.decreases-loop-at

@@ -5,5 +5,10 @@ use Rattle.hv_bytes.proofs.held.Held.skip.Goals as goal
 pub returns : goal.returns
 returns c =
     let h = c.self.inside in
-    let fits : c.args.count ≤ h.end - h.at = omega (arith, length-take (h.end - h.at) (drop h.at h.piece.items), ap length c.self.view_is, c.requires) in
+    let fits : c.args.count ≤ h.end - h.at = omega (
+      arith,
+      length-take (h.end - h.at) (drop h.at h.piece.items),
+      ap length c.self.view_is,
+      c.requires,
+    ) in
     window-skip h.piece.items h.at h.end c.args.count fits ∙ ap (drop c.args.count) c.self.view_is

@@ -8,7 +8,8 @@ pub returns-then-not-is_going-clause-stands : goal.returns-then-not-is_going-cla
 returns-then-not-is_going-clause-stands c = λ pieces stands.
     stands_stopped c.args.self.now c.args.self.now.stop pieces (text_of c.args.piece)
     (λ going.
-    let yes : c.is_going.result ≡ true = c.is_going.ensures.1 (ap (λ (s : CheckerState). s.stop) c.self.view_is ∙ going) in
+    let yes : c.is_going.result ≡ true = c.is_going.ensures.1
+    (ap (λ (s : CheckerState). s.stop) c.self.view_is ∙ going) in
     absurd (cc))
     stands
 
@@ -20,5 +21,6 @@ returns-in-Ok-clause-stands c = λ pieces stands.
     stands_fed c.args.self.now _ pieces (text_of c.args.piece) c.in-Ok.outcome.fed
     (sym (ap (λ (s : CheckerState). s.stop) c.self.view_is)
     ∙ c.is_going.ensures.0 c.if-not-is_going.false)
-    (ap (λ (s : CheckerState). s.setting) c.self.view_is) (ap (λ (s : CheckerState). s.fed + 1) c.self.view_is) c.in-Ok.ensures.stop
+    (ap (λ (s : CheckerState). s.setting) c.self.view_is)
+    (ap (λ (s : CheckerState). s.fed + 1) c.self.view_is) c.in-Ok.ensures.stop
     (rw (← c.self.view_is) c.in-Ok.ensures.accepted) stands

@@ -8,8 +8,10 @@ pub returns-clause-stands : goal.returns-clause-stands
 returns-clause-stands g c =
     let f = c.args.set.now in
     let k = c.in_ok-marks.marks in
-    subst (λ ls. IsAskedAlong f k ls c.new-points.result.items c.args.refuted) (sym c.new-literals.ensures.items)
+    subst (λ ls. IsAskedAlong f k ls c.new-points.result.items c.args.refuted)
+    (sym c.new-literals.ensures.items)
     (subst (λ ps. IsAskedAlong f k [] ps c.args.refuted) (sym c.new-points.ensures.items)
     (asked_first f k c.args.base c.args.refuted
-    (c.in_ok-marks.ensures ∙ ap (λ n. let m : Knowledge = record { base = marked n c.args.base; trail = [] } in m) c.atoms.ensures)
+    (c.in_ok-marks.ensures ∙ ap (λ n. let m : Knowledge = record
+    { base = marked n c.args.base; trail = [] } in m) c.atoms.ensures)
     c.requires.never c.requires.forced))

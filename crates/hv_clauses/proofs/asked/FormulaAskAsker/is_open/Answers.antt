@@ -7,4 +7,5 @@ pub returns-clause-barren : goal.returns-clause-barren
 returns-clause-barren g c = λ shut.
     let q = c.args.self.now in
     asked_none q.set.now q.marks q.literals.items q.points.items
-    (subst (λ b. IsAskedAlong q.set.now q.marks q.literals.items q.points.items b) (was_true q.refuted shut) c.requires)
+    (subst (λ b. IsAskedAlong q.set.now q.marks q.literals.items q.points.items b)
+    (was_true q.refuted shut) c.requires)

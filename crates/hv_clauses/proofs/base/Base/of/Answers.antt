@@ -4,4 +4,5 @@ use Rattle.hv_clauses.proofs.Untouched.{untouched_nil}
 use Rattle.hv_clauses.proofs.base.Base.of.Goals as goal
 
 pub returns : goal.returns
-returns c = ap (λ e. untouched e c.args.literals.now) c.none.ensures ∙ untouched_nil c.args.literals.now
+returns c = ap (λ e. untouched e c.args.literals.now) c.none.ensures
+    ∙ untouched_nil c.args.literals.now

@@ -6,13 +6,15 @@ use Rattle.hv_clauses.proofs.change.Effect.read.Goals as goal
 pub returns-then-is_among : goal.returns-then-is_among
 returns-then-is_among c =
     let s = c.self.inside in
-    sym (added s.atoms s.add.now s.del.now c.self.invariant.2 c.args.atom (c.if-is_among.ensures.0 refl))
+    sym (added s.atoms s.add.now s.del.now c.self.invariant.2 c.args.atom
+    (c.if-is_among.ensures.0 refl))
     ∙ ap (λ m. known m c.args.atom) c.self.view_is
 
 pub returns-then-is_among-2 : goal.returns-then-is_among-2
 returns-then-is_among-2 c =
     let s = c.self.inside in
-    sym (deleted s.atoms s.add.now s.del.now c.self.invariant.3 c.args.atom (λ has. no (c.if-is_among.ensures.1 has)) (c.if-is_among-2.ensures.0 refl))
+    sym (deleted s.atoms s.add.now s.del.now c.self.invariant.3 c.args.atom
+    (λ has. no (c.if-is_among.ensures.1 has)) (c.if-is_among-2.ensures.0 refl))
     ∙ ap (λ m. known m c.args.atom) c.self.view_is
   where
     no : {P : Type 0} → IsTrue false → P
@@ -21,7 +23,8 @@ returns-then-is_among-2 c =
 pub returns : goal.returns
 returns c =
     let s = c.self.inside in
-    sym (left_alone s.atoms s.add.now s.del.now c.args.atom (λ has. no (c.if-is_among.ensures.1 has)) (λ has. no (c.if-is_among-2.ensures.1 has)))
+    sym (left_alone s.atoms s.add.now s.del.now c.args.atom
+    (λ has. no (c.if-is_among.ensures.1 has)) (λ has. no (c.if-is_among-2.ensures.1 has)))
     ∙ ap (λ m. known m c.args.atom) c.self.view_is
   where
     no : {P : Type 0} → IsTrue false → P

@@ -8,4 +8,5 @@ returns-clause-index g c = c.self.invariant.2.index
 pub returns-clause-below : goal.returns-clause-below
 returns-clause-below g c =
     let s = c.self.inside in
-    subst (λ n. AreClauses n s.clauses) (ap (λ (f : Formula). f.atoms) c.self.view_is) c.self.invariant.1.below
+    subst (λ n. AreClauses n s.clauses) (ap (λ (f : Formula). f.atoms) c.self.view_is)
+    c.self.invariant.1.below

@@ -19,8 +19,12 @@ returns g c =
     let s = c.self.inside in
     let rows : AreRows (ImpliesNumber s.clauses) s.lists.codes.items s.lists.numbers.items =
     subst (λ how. AreListsOf how s.clauses s.lists) c.requires.listed c.self.invariant.3 in
-    subst (λ clauses. AreImplied clauses c.args.literal c.numbers_at.result.now) (ap (λ (f : Formula). f.clauses) c.self.view_is)
+    subst (λ clauses. AreImplied clauses c.args.literal c.numbers_at.result.now)
+    (ap (λ (f : Formula). f.clauses) c.self.view_is)
     (implied_is s.clauses c.args.literal c.numbers_at.result.now
-    (subst (λ (key : ℕ). IsRow (ImpliesNumber s.clauses) key c.numbers_at.result.now) c.number_of-key.ensures
-    (row_from (ImpliesNumber s.clauses) s.lists.codes.items s.lists.numbers.items c.deref.result.now c.deref-2.result.now
-    c.number_of-key.result c.numbers_at.result.now rows c.deref.ensures.value c.deref-2.ensures.value c.numbers_at.ensures)))
+    (subst (λ (key : ℕ). IsRow (ImpliesNumber s.clauses) key c.numbers_at.result.now)
+    c.number_of-key.ensures
+    (row_from (ImpliesNumber s.clauses) s.lists.codes.items s.lists.numbers.items c.deref.result.now
+    c.deref-2.result.now
+    c.number_of-key.result c.numbers_at.result.now rows c.deref.ensures.value
+    c.deref-2.ensures.value c.numbers_at.ensures)))

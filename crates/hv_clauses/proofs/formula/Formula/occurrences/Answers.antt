@@ -14,5 +14,7 @@ returns g c =
     subst (λ how. AreListsOf how s.clauses s.lists) c.requires c.self.invariant.3 in
     subst (λ clauses. IsRow (StandsNegatively clauses) c.args.atom c.places_at.result.now)
     (ap (λ (f : Formula). f.clauses) c.self.view_is)
-    (row_from (StandsNegatively s.clauses) s.lists.codes.items s.lists.places.items c.deref.result.now c.deref-2.result.now
-    c.args.atom c.places_at.result.now rows c.deref.ensures.value c.deref-2.ensures.value c.places_at.ensures)
+    (row_from (StandsNegatively s.clauses) s.lists.codes.items s.lists.places.items
+    c.deref.result.now c.deref-2.result.now
+    c.args.atom c.places_at.result.now rows c.deref.ensures.value c.deref-2.ensures.value
+    c.places_at.ensures)

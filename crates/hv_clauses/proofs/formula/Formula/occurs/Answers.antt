@@ -6,4 +6,5 @@ use Rattle.hv_clauses.proofs.formula.Formula.occurs.Goals as goal
 pub returns : goal.returns
 returns g c =
     let s = c.self.inside in
-    subst (λ clauses. IsIndexOf clauses s.closure.occurs) (ap (λ (f : Formula). f.clauses) c.self.view_is) c.self.invariant.2.index
+    subst (λ clauses. IsIndexOf clauses s.closure.occurs)
+    (ap (λ (f : Formula). f.clauses) c.self.view_is) c.self.invariant.2.index

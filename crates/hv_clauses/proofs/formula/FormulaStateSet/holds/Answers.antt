@@ -14,9 +14,11 @@ loop-place-preserved g c =
     let clauses = c.args.self.now.clauses in
     let view = ap (λ (f : Formula). f.clauses) c.self.view_is in
     record {
-      holds = below_more (λ k. in_clause (clause_at clauses k) s ≡ true) c.loop-place.place c.loop-place.invariant.holds
+      holds = below_more (λ k. in_clause (clause_at clauses k) s ≡ true) c.loop-place.place
+          c.loop-place.invariant.holds
           (ap (λ cs. in_clause (clause_at cs c.loop-place.place) s) (sym view)
-          ∙ (ap (λ x. in_clause x s) (get_or_from_slice_get c.self.inside.clauses c.loop-place.place c.get.result.now [] c.get.ensures)
+          ∙ (ap (λ x. in_clause x s) (get_or_from_slice_get c.self.inside.clauses c.loop-place.place
+          c.get.result.now [] c.get.ensures)
           ∙ sym c.if-not-is_true_in.ensures));
     }
 
@@ -28,7 +30,8 @@ returns-then-not-is_true_in g c =
     let view = ap (λ (f : Formula). f.clauses) c.self.view_is in
     sym (ap (λ cs. in_clauses cs s) (sym view)
     ∙ list_all_at (λ x. in_clause x s) c.self.inside.clauses c.loop-place.place [] (omega arith)
-    (ap (λ x. in_clause x s) (get_or_from_slice_get c.self.inside.clauses c.loop-place.place c.get.result.now [] c.get.ensures)
+    (ap (λ x. in_clause x s) (get_or_from_slice_get c.self.inside.clauses c.loop-place.place
+    c.get.result.now [] c.get.ensures)
     ∙ sym c.if-not-is_true_in.ensures))
 
 pub returns : goal.returns
@@ -38,4 +41,5 @@ returns g c =
     let past = c.loop-place-test.false in
     let view = ap (λ (f : Formula). length f.clauses) c.self.view_is in
     sym (list_all_from (λ x. in_clause x s) c.args.self.now.clauses
-    (λ k d less. ap (λ x. in_clause x s) (get_or_default c.args.self.now.clauses k d [] less) ∙ c.loop-place.invariant.holds k (omega arith)))
+    (λ k d less. ap (λ x. in_clause x s) (get_or_default c.args.self.now.clauses k d [] less)
+    ∙ c.loop-place.invariant.holds k (omega arith)))

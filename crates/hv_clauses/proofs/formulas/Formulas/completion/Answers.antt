@@ -4,4 +4,5 @@ use Rattle.hv_clauses.specs.Working.Kinded.{IsKinded}
 use Rattle.hv_clauses.proofs.formulas.Formulas.completion.Goals as goal
 
 pub returns-clause-kinded : goal.returns-clause-kinded
-returns-clause-kinded g c = subst (All (IsKinded g.K.ClauseKind.is_of)) c.self.view_is c.self.invariant
+returns-clause-kinded g c = subst (All (IsKinded g.K.ClauseKind.is_of)) c.self.view_is
+    c.self.invariant

@@ -17,13 +17,15 @@ returns c =
       sorted = c.in_ok-negative.ensures.sorted;
       inside = c.in_ok-negative.ensures.inside;
       all = c.in_ok-negative.ensures.all;
-      beside = subst (λ os. AreBeside false c.args.clauses.now os c.in_ok-beside_negative.beside_negative.items) c.deref.ensures.value
+      beside = subst (λ os. AreBeside false c.args.clauses.now os
+          c.in_ok-beside_negative.beside_negative.items) c.deref.ensures.value
           c.in_ok-beside_negative.ensures;
     })
     (record {
       sorted = c.in_ok-positive.ensures.sorted;
       inside = c.in_ok-positive.ensures.inside;
       all = c.in_ok-positive.ensures.all;
-      beside = subst (λ os. AreBeside true c.args.clauses.now os c.in_ok-beside_positive.beside_positive.items) c.deref-2.ensures.value
+      beside = subst (λ os. AreBeside true c.args.clauses.now os
+          c.in_ok-beside_positive.beside_positive.items) c.deref-2.ensures.value
           c.in_ok-beside_positive.ensures;
     })

@@ -10,4 +10,5 @@ returns-clause-ends g c = λ k from h left.
 pub returns-clause-stays : goal.returns-clause-stays
 returns-clause-stays g c = λ old new from grown h left.
     let p = c.args.self.now in
-    all_stay p.task.now (formula_at p.store.now) p.effect.now p.query.now.positive old new from grown h left
+    all_stay p.task.now (formula_at p.store.now) p.effect.now p.query.now.positive old new from
+    grown h left

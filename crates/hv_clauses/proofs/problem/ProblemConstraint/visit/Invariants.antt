@@ -9,8 +9,11 @@ use Rattle.hv_clauses.proofs.problem.ProblemConstraint.visit.Given as goal
 
 abbrev pub invariant-loop-operand : goal.invariant-loop-operand
 invariant-loop-operand g l = record {
-  followed : IsFollowed (InAll l.self.task.now (formula_at l.self.store.now) l.self.effect.now l.positive) l.fn.marks l.marks true;
-  left : AreAllLeft l.self.task.now (formula_at l.self.store.now) l.self.effect.now l.positive l.marks l.from;
+  followed : IsFollowed (InAll l.self.task.now (formula_at l.self.store.now) l.self.effect.now
+      l.positive) l.fn.marks l.marks true;
+  left : AreAllLeft l.self.task.now (formula_at l.self.store.now) l.self.effect.now l.positive
+      l.marks l.from;
   seen : (k : ℕ) → k < l.operand-index → (f : Operand)
-      → LeftOne l.self.task.now (formula_at l.self.store.now) l.self.effect.now (get_or l.positive k f) l.marks (l.from + 1);
+      → LeftOne l.self.task.now (formula_at l.self.store.now) l.self.effect.now
+      (get_or l.positive k f) l.marks (l.from + 1);
 }

@@ -10,5 +10,7 @@ invariant_of-result c =
     let places = ap length c.lent.ensures.places in
     let queue = ap length c.lent.ensures.queue in (
       c.requires.few,
-      joined_none (marked c.args.atoms c.args.base) (places_in c.lent.result) (queue_in c.lent.result) (omega (arith, c.requires.places)) (omega (arith, c.requires.queue)),
+      joined_none (marked c.args.atoms c.args.base) (places_in c.lent.result)
+          (queue_in c.lent.result) (omega (arith, c.requires.places))
+          (omega (arith, c.requires.queue)),
     )

@@ -25,7 +25,8 @@ returns-clause-here c =
     let h = c.requires in
     sym (ap (λ (k : Knowledge). slice_get k.trail c.args.place) c.self.view_is)
     ∙ (slice_get-get_or (trail_of (queue_in s.room) s.len) c.args.place (literal_of 0) (omega arith)
-    ∙ ap (λ (l : Literal). Some l) (trail_at (queue_in s.room) s.len c.args.place (literal_of 0) joined.within (omega arith)
+    ∙ ap (λ (l : Literal). Some l) (trail_at (queue_in s.room) s.len c.args.place (literal_of 0)
+    joined.within (omega arith)
     ∙ ap literal_of (sym c.entry-entry.ensures)))
 
 pub returns-clause-below : goal.returns-clause-below

@@ -8,7 +8,8 @@ use Rattle.hv_clauses.proofs.trail.Marks.len.Goals as goal
 pub returns-clause-few : goal.returns-clause-few
 returns-clause-few c =
     let s = c.self.inside in
-    let left = unknown_left (marked s.atoms s.base) (places_in s.room) (queue_in s.room) s.len c.self.invariant.1 in
+    let left = unknown_left (marked s.atoms s.base) (places_in s.room) (queue_in s.room) s.len
+    c.self.invariant.1 in
     let atoms = ap (λ (k : Knowledge). length k.base) c.self.view_is in
     let most = count_by-le-length (λ (x : ℕ). x == 0) (marked s.atoms s.base) in
     omega arith

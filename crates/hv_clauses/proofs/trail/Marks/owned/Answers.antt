@@ -10,5 +10,6 @@ invariant_of-result c =
     let places = c.in_ok-room.ensures.places in
     let queue = c.in_ok-room.ensures.queue in (
       c.requires.few,
-      joined_none (marked c.args.atoms c.args.base) (places_in c.in_ok-room.room) (queue_in c.in_ok-room.room) (omega arith) (omega arith),
+      joined_none (marked c.args.atoms c.args.base) (places_in c.in_ok-room.room)
+          (queue_in c.in_ok-room.room) (omega arith) (omega arith),
     )

@@ -14,7 +14,11 @@ returns-then-at-self c =
     let past = c.if-at-self.true in
     let wide = length-marked s.atoms s.base in
     let size = length-written (trail_of (queue_in s.room) s.len) (marked s.atoms s.base) in
-    sym (known_past (marks_of (record { base = (marked s.atoms s.base); trail = trail_of (queue_in s.room) s.len })) c.args.atom (omega arith))
+    sym (known_past (marks_of (record {
+      base = (marked s.atoms s.base);
+      trail = trail_of
+          (queue_in s.room) s.len;
+    })) c.args.atom (omega arith))
     ∙ ap (λ (m : Knowledge). known (marks_of m) c.args.atom) c.self.view_is
 
 pub returns-then-place-self : goal.returns-then-place-self
@@ -22,11 +26,16 @@ returns-then-place-self c =
     let s = c.self.inside in
     let joined = c.self.invariant.1 in
     let wide = length-marked s.atoms s.base in
-    let low : c.args.atom < length (marked s.atoms s.base) = (let less = c.if-at-self.false in omega arith) in
+    let low : c.args.atom < length (marked s.atoms s.base) =
+    (let less = c.if-at-self.false in omega arith) in
     c.read.ensures
-    ∙ (sym (read_none (marked s.atoms s.base) (places_in s.room) (queue_in s.room) s.len c.args.atom joined
-    (no_entry_past (marked s.atoms s.base) (places_in s.room) (queue_in s.room) s.len c.args.atom c.place-place.result joined low
-    (let room = joined.places_room in let less = c.if-at-self.false in c.place-place.ensures ∙ get_or_default (places_in s.room) c.args.atom 0 c.place-place.result (omega arith)) c.if-place-self.true))
+    ∙ (sym (read_none (marked s.atoms s.base) (places_in s.room) (queue_in s.room) s.len c.args.atom
+    joined
+    (no_entry_past (marked s.atoms s.base) (places_in s.room) (queue_in s.room) s.len c.args.atom
+    c.place-place.result joined low
+    (let room = joined.places_room in let less = c.if-at-self.false in
+    c.place-place.ensures ∙ get_or_default (places_in s.room) c.args.atom 0 c.place-place.result
+    (omega arith)) c.if-place-self.true))
     ∙ ap (λ (m : Knowledge). known (marks_of m) c.args.atom) c.self.view_is)
 
 pub returns-then-entry-at : goal.returns-then-entry-at
@@ -34,12 +43,19 @@ returns-then-entry-at c =
     let s = c.self.inside in
     let joined = c.self.invariant.1 in
     let wide = length-marked s.atoms s.base in
-    let low : c.args.atom < length (marked s.atoms s.base) = (let less = c.if-at-self.false in omega arith) in
+    let low : c.args.atom < length (marked s.atoms s.base) =
+    (let less = c.if-at-self.false in omega arith) in
     c.read-then-entry-at.ensures
-    ∙ (sym (read_none (marked s.atoms s.base) (places_in s.room) (queue_in s.room) s.len c.args.atom joined
-    (no_entry_other (marked s.atoms s.base) (places_in s.room) (queue_in s.room) s.len c.args.atom c.place-place.result c.entry-entry.result joined low
-    (let room = joined.places_room in let less = c.if-at-self.false in c.place-place.ensures ∙ get_or_default (places_in s.room) c.args.atom 0 c.place-place.result (omega arith)) c.if-place-self.false
-    (let room = joined.within in let less = c.if-place-self.false in c.entry-entry.ensures ∙ get_or_default (queue_in s.room) c.place-place.result 0 c.entry-entry.result (omega arith)) c.if-entry-at.true))
+    ∙ (sym (read_none (marked s.atoms s.base) (places_in s.room) (queue_in s.room) s.len c.args.atom
+    joined
+    (no_entry_other (marked s.atoms s.base) (places_in s.room) (queue_in s.room) s.len c.args.atom
+    c.place-place.result c.entry-entry.result joined low
+    (let room = joined.places_room in let less = c.if-at-self.false in
+    c.place-place.ensures ∙ get_or_default (places_in s.room) c.args.atom 0 c.place-place.result
+    (omega arith)) c.if-place-self.false
+    (let room = joined.within in let less = c.if-place-self.false in
+    c.entry-entry.ensures ∙ get_or_default (queue_in s.room) c.place-place.result 0
+    c.entry-entry.result (omega arith)) c.if-entry-at.true))
     ∙ ap (λ (m : Knowledge). known (marks_of m) c.args.atom) c.self.view_is)
 
 pub returns : goal.returns
@@ -47,9 +63,13 @@ returns c =
     let s = c.self.inside in
     let joined = c.self.invariant.1 in
     let wide = length-marked s.atoms s.base in
-    let low : c.args.atom < length (marked s.atoms s.base) = (let less = c.if-at-self.false in omega arith) in
-    sym (read_entry (marked s.atoms s.base) (places_in s.room) (queue_in s.room) s.len c.args.atom c.place-place.result c.entry-entry.result joined c.if-place-self.false
-    (let room = joined.within in let less = c.if-place-self.false in c.entry-entry.ensures ∙ get_or_default (queue_in s.room) c.place-place.result 0 c.entry-entry.result (omega arith)) c.if-entry-at.false)
+    let low : c.args.atom < length (marked s.atoms s.base) =
+    (let less = c.if-at-self.false in omega arith) in
+    sym (read_entry (marked s.atoms s.base) (places_in s.room) (queue_in s.room) s.len c.args.atom
+    c.place-place.result c.entry-entry.result joined c.if-place-self.false
+    (let room = joined.within in let less = c.if-place-self.false in
+    c.entry-entry.ensures ∙ get_or_default (queue_in s.room) c.place-place.result 0
+    c.entry-entry.result (omega arith)) c.if-entry-at.false)
     ∙ ap (λ (m : Knowledge). known (marks_of m) c.args.atom) c.self.view_is
 
 pub place-place-requires : goal.place-place-requires

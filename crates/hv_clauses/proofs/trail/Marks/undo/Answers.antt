@@ -12,5 +12,8 @@ returns c =
     let size = length-trail (queue_in s.room) s.len joined.within in
     let is = ap (λ (k : Knowledge). length k.trail) c.self.view_is in
     let h = c.requires in
-    ap (λ (ls : List Literal). let k : Knowledge = record { base = (marked s.atoms s.base); trail = ls } in k) (trail_front (queue_in s.room) s.len c.args.len (omega arith))
-    ∙ ap (λ (k : Knowledge). let m : Knowledge = record { base = k.base; trail = take c.args.len k.trail } in m) c.self.view_is
+    ap (λ (ls : List Literal). let k : Knowledge = record
+    { base = (marked s.atoms s.base); trail = ls } in k)
+    (trail_front (queue_in s.room) s.len c.args.len (omega arith))
+    ∙ ap (λ (k : Knowledge). let m : Knowledge = record
+    { base = k.base; trail = take c.args.len k.trail } in m) c.self.view_is

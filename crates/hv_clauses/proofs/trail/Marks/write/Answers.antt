@@ -1,4 +1,5 @@
-use Rattle.std.proofs.Common.{◌≡◌, ◌+◌, ◌*◌, length, ◌++◌, ◌∷◌, [], ◌∙◌, List, sym, subst, ap, arith}
+use Rattle.std.proofs.Common.{◌≡◌, ◌+◌, ◌*◌, length, ◌++◌, ◌∷◌, [], ◌∙◌, List, sym, subst, ap}
+use Rattle.std.proofs.Common.{arith}
 use Rattle.std.specs.Prelude.{slice_set}
 use mir.Val.{bool_byte}
 use Rattle.hv_sets.specs.declared.literal.Literal.{Literal}
@@ -16,8 +17,10 @@ overflow_cast-self-inside c =
     let atoms = ap (λ (k : Knowledge). length k.base) c.self.view_is in
     let wide = length-marked s.atoms s.base in
     let less = c.requires.atom in
-    let room = room_left (marked s.atoms s.base) (places_in s.room) (queue_in s.room) s.len c.args.literal.atom c.self.invariant.1 (omega arith)
-    (ap (λ (k : Knowledge). known (marks_of k) c.args.literal.atom) c.self.view_is ∙ c.requires.unknown) in
+    let room = room_left (marked s.atoms s.base) (places_in s.room) (queue_in s.room) s.len
+    c.args.literal.atom c.self.invariant.1 (omega arith)
+    (ap (λ (k : Knowledge). known (marks_of k) c.args.literal.atom) c.self.view_is
+    ∙ c.requires.unknown) in
     omega arith
 
 pub set_entry-requires : goal.set_entry-requires
@@ -29,8 +32,10 @@ set_entry-requires c =
     let joined = c.self.invariant.1 in
     let has = joined.queue_room in
     let same = ap length c.set_place.ensures.queue in
-    let room = room_left (marked s.atoms s.base) (places_in s.room) (queue_in s.room) s.len c.args.literal.atom joined (omega arith)
-    (ap (λ (k : Knowledge). known (marks_of k) c.args.literal.atom) c.self.view_is ∙ c.requires.unknown) in
+    let room = room_left (marked s.atoms s.base) (places_in s.room) (queue_in s.room) s.len
+    c.args.literal.atom joined (omega arith)
+    (ap (λ (k : Knowledge). known (marks_of k) c.args.literal.atom) c.self.view_is
+    ∙ c.requires.unknown) in
     omega arith
 
 pub invariant_of-self : goal.invariant_of-self
@@ -41,15 +46,19 @@ invariant_of-self c =
     let atoms = ap (λ (k : Knowledge). length k.base) c.self.view_is in
     let wide = length-marked s.atoms s.base in
     let less = c.requires.atom in
-    let places : places_in c.set_entry.new.self ≡ slice_set (places_in s.room) c.args.literal.atom s.len =
+    let places : places_in c.set_entry.new.self
+    ≡ slice_set (places_in s.room) c.args.literal.atom s.len =
     c.set_entry.ensures.places ∙ c.set_place.ensures.places in
     let queue : queue_in c.set_entry.new.self ≡ slice_set (queue_in s.room) s.len entry =
     c.set_entry.ensures.queue ∙ ap (λ row. slice_set row s.len entry) c.set_place.ensures.queue in (
       c.self.invariant.0,
       subst (λ row. AreJoined base row (queue_in c.set_entry.new.self) (s.len + 1)) (sym places)
-          (subst (λ row. AreJoined base (slice_set (places_in s.room) c.args.literal.atom s.len) row (s.len + 1)) (sym queue)
-          (joined_more base (places_in s.room) (queue_in s.room) s.len c.args.literal.atom entry c.self.invariant.1 (omega arith)
-          (ap (λ (k : Knowledge). known (marks_of k) c.args.literal.atom) c.self.view_is ∙ c.requires.unknown)
+          (subst (λ row. AreJoined base (slice_set (places_in s.room) c.args.literal.atom s.len) row
+          (s.len + 1)) (sym queue)
+          (joined_more base (places_in s.room) (queue_in s.room) s.len c.args.literal.atom entry
+          c.self.invariant.1 (omega arith)
+          (ap (λ (k : Knowledge). known (marks_of k) c.args.literal.atom) c.self.view_is
+          ∙ c.requires.unknown)
           (ap (λ (l : Literal). l.atom) (literal_is c.args.literal)))),
     )
 
@@ -62,14 +71,20 @@ returns c =
     let less = c.requires.atom in
     let joined = c.self.invariant.1 in
     let has = joined.queue_room in
-    let room = room_left (marked s.atoms s.base) (places_in s.room) (queue_in s.room) s.len c.args.literal.atom joined (omega arith)
-    (ap (λ (k : Knowledge). known (marks_of k) c.args.literal.atom) c.self.view_is ∙ c.requires.unknown) in
+    let room = room_left (marked s.atoms s.base) (places_in s.room) (queue_in s.room) s.len
+    c.args.literal.atom joined (omega arith)
+    (ap (λ (k : Knowledge). known (marks_of k) c.args.literal.atom) c.self.view_is
+    ∙ c.requires.unknown) in
     let queue : queue_in c.set_entry.new.self ≡ slice_set (queue_in s.room) s.len entry =
     c.set_entry.ensures.queue ∙ ap (λ row. slice_set row s.len entry) c.set_place.ensures.queue in
-    ap (λ (ls : List Literal). let k : Knowledge = record { base = (marked s.atoms s.base); trail = ls } in k)
+    ap (λ (ls : List Literal). let k : Knowledge = record
+    { base = (marked s.atoms s.base); trail = ls } in k)
     (ap (λ row. trail_of row (s.len + 1)) queue
-    ∙ (trail_pushed (queue_in s.room) s.len entry (omega arith) ∙ ap (λ (l : Literal). trail_of (queue_in s.room) s.len ++ l ∷ []) (literal_is c.args.literal)))
-    ∙ ap (λ (k : Knowledge). let m : Knowledge = record { base = k.base; trail = k.trail ++ c.args.literal ∷ [] } in m) c.self.view_is
+    ∙ (trail_pushed (queue_in s.room) s.len entry (omega arith)
+    ∙ ap (λ (l : Literal). trail_of (queue_in s.room) s.len ++ l ∷ [])
+    (literal_is c.args.literal)))
+    ∙ ap (λ (k : Knowledge). let m : Knowledge = record
+    { base = k.base; trail = k.trail ++ c.args.literal ∷ [] } in m) c.self.view_is
 
 pub overflow_mul-entry : goal.overflow_mul-entry
 overflow_mul-entry c =
@@ -96,6 +111,8 @@ overflow_add-self c =
     let atoms = ap (λ (k : Knowledge). length k.base) c.self.view_is in
     let wide = length-marked s.atoms s.base in
     let less = c.requires.atom in
-    let room = room_left (marked s.atoms s.base) (places_in s.room) (queue_in s.room) s.len c.args.literal.atom c.self.invariant.1 (omega arith)
-    (ap (λ (k : Knowledge). known (marks_of k) c.args.literal.atom) c.self.view_is ∙ c.requires.unknown) in
+    let room = room_left (marked s.atoms s.base) (places_in s.room) (queue_in s.room) s.len
+    c.args.literal.atom c.self.invariant.1 (omega arith)
+    (ap (λ (k : Knowledge). known (marks_of k) c.args.literal.atom) c.self.view_is
+    ∙ c.requires.unknown) in
     omega arith

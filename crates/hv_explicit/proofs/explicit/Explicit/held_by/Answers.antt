@@ -6,6 +6,8 @@ returns-in-Some-rarest c = (
   c.in-Some-rarest.atom,
   c.in-Some-rarest.ensures,
   rw (← c.self.view_is)
-      (holders_found c.self.inside.states c.self.inside.firsts.items _ c.in-Some.holders c.holding.result.now c.in-Some-rarest.atom c.in-Some.is
-      c.self.invariant.firsts c.self.invariant.holders_are c.holding.ensures.only c.holding.ensures.all),
+      (holders_found c.self.inside.states c.self.inside.firsts.items _ c.in-Some.holders
+      c.holding.result.now c.in-Some-rarest.atom c.in-Some.is
+      c.self.invariant.firsts c.self.invariant.holders_are c.holding.ensures.only
+      c.holding.ensures.all),
 )

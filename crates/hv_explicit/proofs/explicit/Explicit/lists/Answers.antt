@@ -10,11 +10,18 @@ use Rattle.hv_explicit.proofs.explicit.Explicit.lists.Goals as goal
 pub returns : goal.returns
 returns g c = λ state size agree.
     let held = g.A.Atoms.has c.args.held.now in
-    let mine : length state ≡ c.self.inside.atoms = size ∙ sym (ap (λ (set : Listing). set.atoms) c.self.view_is) in
-    let below : IsBelow c.self.inside.atoms held = subst (λ (set : Listing). IsBelow set.atoms held) (sym c.self.view_is) c.requires in
-    let found : (c.look_up.result ≡ true) ↔ IsEnteredState held c.self.inside.states c.self.inside.firsts.items =
-    subst (λ firsts. (c.look_up.result ≡ true) ↔ IsEnteredState held c.self.inside.states firsts) c.as_slice.ensures.value c.look_up.ensures in
+    let mine : length state ≡ c.self.inside.atoms = size
+    ∙ sym (ap (λ (set : Listing). set.atoms) c.self.view_is) in
+    let below : IsBelow c.self.inside.atoms held = subst
+    (λ (set : Listing). IsBelow set.atoms held) (sym c.self.view_is) c.requires in
+    let found : (c.look_up.result ≡ true) ↔ IsEnteredState held c.self.inside.states
+    c.self.inside.firsts.items =
+    subst (λ firsts. (c.look_up.result ≡ true) ↔ IsEnteredState held c.self.inside.states firsts)
+    c.as_slice.ensures.value c.look_up.ensures in
     subst (λ (set : Listing). c.look_up.result ≡ in_listing set state) c.self.view_is
-    (same_tests {P = HasListed held c.self.inside.states} c.look_up.result (in_states c.self.inside.atoms c.self.inside.states state)
-    (both_tests found (listed_first held c.self.inside.states c.self.inside.firsts.items c.self.invariant.firsts))
-    (listed_decides c.self.inside.atoms held state mine below agree c.self.inside.states c.self.invariant.below))
+    (same_tests {P = HasListed held c.self.inside.states} c.look_up.result
+    (in_states c.self.inside.atoms c.self.inside.states state)
+    (both_tests found (listed_first held c.self.inside.states c.self.inside.firsts.items
+    c.self.invariant.firsts))
+    (listed_decides c.self.inside.atoms held state mine below agree c.self.inside.states
+    c.self.invariant.below))

@@ -7,13 +7,17 @@ use Rattle.hv_explicit.proofs.explicit.ExplicitInside.inside_next.Goals as goal
 
 pub returns-clause-step : goal.returns-clause-step
 returns-clause-step c =
-    subst (λ (set : Listing). drop c.args.cursor.now.place (full_cubes set) ≡ c.fill.new.cube ∷ drop (c.args.cursor.now.place + 1) (full_cubes set))
+    subst (λ (set : Listing). drop c.args.cursor.now.place (full_cubes set) ≡ c.fill.new.cube
+    ∷ drop (c.args.cursor.now.place + 1) (full_cubes set))
     c.self.view_is
-    (cube_taken c.self.inside.atoms c.self.inside.states c.args.cursor.now.place c.get.result.now c.fill.new.cube
+    (cube_taken c.self.inside.atoms c.self.inside.states c.args.cursor.now.place c.get.result.now
+    c.fill.new.cube
     (let len = c.len.ensures in let less = c.if-cursor-len.false in omega arith)
-    (sym (get_or_from_slice_get c.self.inside.states c.args.cursor.now.place c.get.result.now c.get.result.now c.get.ensures)) c.in_ok-fill.ensures)
+    (sym (get_or_from_slice_get c.self.inside.states c.args.cursor.now.place c.get.result.now
+    c.get.result.now c.get.ensures)) c.in_ok-fill.ensures)
 
 pub returns-clause-cube : goal.returns-clause-cube
 returns-clause-cube c =
     subst (λ (set : Listing). SpeakBelow set.atoms c.fill.new.cube) c.self.view_is
-    (subst (SpeakBelow c.self.inside.atoms) (sym c.in_ok-fill.ensures) (full_below c.self.inside.atoms c.get.result.now))
+    (subst (SpeakBelow c.self.inside.atoms) (sym c.in_ok-fill.ensures)
+    (full_below c.self.inside.atoms c.get.result.now))

@@ -24,5 +24,6 @@ loop-operand-preserved g c = λ b a stands_b stands_a.
 pub returns : goal.returns
 returns g c = λ b a stands_b stands_a.
     let p = in_either c.args.self.now.task.now (in_set c.args.self.now.sets.now) b a in
-    sym (ap (list_all p) (sym (take_all c.loop-operand.operand-index c.args.operands.now c.loop-operand-test.false))
+    sym (ap (list_all p) (sym (take_all c.loop-operand.operand-index c.args.operands.now
+    c.loop-operand-test.false))
     ∙ c.loop-operand.invariant b a stands_b stands_a)

@@ -12,14 +12,16 @@ hold-requires c =
     let place = get_or c.args.places.now c.loop-place.place-index 0 in
     subst (λ (n : ℕ). AreBelow n c.index-states-place.result) (sym c.loop-place.invariant.state)
     (subst (AreBelow (atoms c.args.self.now.task.now)) (sym c.index-states-place.is)
-    (c.requires.states place c.index-states-place.result (c.requires.places.within c.loop-place.place-index c.loop-place-test.true)))
+    (c.requires.states place c.index-states-place.result
+    (c.requires.places.within c.loop-place.place-index c.loop-place-test.true)))
 
 pub returns-then-clashes : goal.returns-then-clashes
 returns-then-clashes c = (
   omega (arith, c.if-states-budget.false),
   c.hold.ensures.atoms ∙ c.loop-place.invariant.state,
   ap (is_clash c.args.self.now.task.now (in_set c.args.self.now.sets.now) c.args.self.now.query.now)
-      (c.hold.ensures.held ∙ ap (λ m. state_of m c.index-states-place.result) c.loop-place.invariant.state)
+      (c.hold.ensures.held ∙ ap (λ m. state_of m c.index-states-place.result)
+      c.loop-place.invariant.state)
       ∙ (sym c.clashes.ensures ∙ c.if-clashes.true),
 )
 

@@ -10,5 +10,6 @@ abbrev pub invariant-loop-place : goal.invariant-loop-place
 invariant-loop-place l = record {
   state : IsState l.self.task.now l.state;
   none : (e : ℕ) → e < l.place-index
-      → is_clash l.self.task.now (in_set l.self.sets.now) l.self.query.now (state_of (atoms l.self.task.now) (first_at l.states l.places e)) ≡ false;
+      → is_clash l.self.task.now (in_set l.self.sets.now) l.self.query.now
+      (state_of (atoms l.self.task.now) (first_at l.states l.places e)) ≡ false;
 }

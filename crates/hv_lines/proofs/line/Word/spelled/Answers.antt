@@ -5,4 +5,5 @@ use Rattle.hv_lines.proofs.WordTable.{all_words, every_word}
 use Rattle.hv_lines.proofs.line.Word.spelled.Goals as goal
 
 pub returns-in-None : goal.returns-in-None
-returns-in-None c = λ word. All-contains (λ w. word_field w ≡ c.args.bytes.now → ⊥) all_words word c.in-None.ensures (every_word word)
+returns-in-None c = λ word. All-contains
+    (λ w. word_field w ≡ c.args.bytes.now → ⊥) all_words word c.in-None.ensures (every_word word)

@@ -6,19 +6,26 @@ use Rattle.hv_reach.proofs.relaxed_pruner.RelaxedPruner.answer.Goals as goal
 
 pub relaxed_answer-requires-clause-fits : goal.relaxed_answer-requires-clause-fits
 relaxed_answer-requires-clause-fits c =
-    (subst (FitRelaxed c.args.task.now c.args.draft.now.lines) (sym c.self.view_is) c.requires.fits).0
+    (subst (FitRelaxed c.args.task.now c.args.draft.now.lines) (sym c.self.view_is)
+    c.requires.fits).0
 
 pub relaxed_answer-requires-clause-described : goal.relaxed_answer-requires-clause-described
 relaxed_answer-requires-clause-described c =
-    (subst (FitRelaxed c.args.task.now c.args.draft.now.lines) (sym c.self.view_is) c.requires.fits).1
+    (subst (FitRelaxed c.args.task.now c.args.draft.now.lines) (sym c.self.view_is)
+    c.requires.fits).1
 
 pub returns-clause-fits : goal.returns-clause-fits
 returns-clause-fits c =
     let e = c.relaxed_answer.ensures in
     let n = c.relaxed_answer.new in
-    let fits = subst (FitRelaxed c.args.task.now c.args.draft.now.lines) (sym c.self.view_is) c.requires.fits in (
-      fits_after c.args.task.now (RelaxedExcludesFrom c.args.task.now) (IsRelaxedBlock c.args.task.now c.args.state.now c.args.draft.now.lines) c.args.state.now
-          c.self.inside.notes.items c.args.draft.now n.notes.items n.draft c.relaxed_answer.result e.outcome e.err_draft e.err_notes fits.0,
-      described_after HoldsAtomsOf c.args.task.now c.args.draft.now n.draft c.self.inside.notes.items n.notes.items c.self.inside.reached.rows
-          n.reached.rows c.relaxed_answer.result e.described e.err_draft e.err_notes e.err_reached fits.1,
+    let fits = subst (FitRelaxed c.args.task.now c.args.draft.now.lines) (sym c.self.view_is)
+    c.requires.fits in (
+      fits_after c.args.task.now (RelaxedExcludesFrom c.args.task.now)
+          (IsRelaxedBlock c.args.task.now c.args.state.now c.args.draft.now.lines) c.args.state.now
+          c.self.inside.notes.items c.args.draft.now n.notes.items n.draft c.relaxed_answer.result
+          e.outcome e.err_draft e.err_notes fits.0,
+      described_after HoldsAtomsOf c.args.task.now c.args.draft.now n.draft
+          c.self.inside.notes.items n.notes.items c.self.inside.reached.rows
+          n.reached.rows c.relaxed_answer.result e.described e.err_draft e.err_notes e.err_reached
+          fits.1,
     )

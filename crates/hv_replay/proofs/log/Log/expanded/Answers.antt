@@ -16,7 +16,8 @@ index-requires c =
 pub returns : goal.returns
 returns c = λ entry at.
     let s = c.self.inside in
-    let here = subst (λ (l : SearchLog). slice_get l.entries c.args.place ≡ Some entry) (sym c.self.view_is) at in
+    let here = subst (λ (l : SearchLog). slice_get l.entries c.args.place ≡ Some entry)
+    (sym c.self.view_is) at in
     c.index.ensures
     ∙ get_or_from_slice_get s.expanded.items c.args.place entry.expanded c.index.result.now
     (entries_at s.expanded.items s.states.states c.args.place entry here).0

@@ -1,4 +1,5 @@
-use Rattle.std.proofs.Common.{◌≡◌, ◌∙◌, List, Option, Some, [], ap, arith, length, slice_get, subst, sym, ℕ}
+use Rattle.std.proofs.Common.{◌≡◌, ◌∙◌, List, Option, Some, [], ap, arith, length, slice_get, subst}
+use Rattle.std.proofs.Common.{sym, ℕ}
 use Rattle.std.proofs.lemmas.Option.{get_or_from_slice_get, slice_get_within}
 use Rattle.hv_replay.specs.Logs.{IsAtomSet, SearchLog}
 use Rattle.hv_replay.proofs.Kept.{atom_sets, entries_at, entries_length}
@@ -17,8 +18,10 @@ item-requires c =
 pub returns-clause-stands : goal.returns-clause-stands
 returns-clause-stands c = λ entry at.
     let s = c.self.inside in
-    let here = subst (λ (l : SearchLog). slice_get l.entries c.args.place ≡ Some entry) (sym c.self.view_is) at in
-    let there = subst (λ xs. slice_get xs c.args.place ≡ Some c.item.result.now) c.states.ensures.states c.item.ensures in
+    let here = subst (λ (l : SearchLog). slice_get l.entries c.args.place ≡ Some entry)
+    (sym c.self.view_is) at in
+    let there = subst (λ xs. slice_get xs c.args.place ≡ Some c.item.result.now)
+    c.states.ensures.states c.item.ensures in
     let same : ◌≡◌ {A = Option (List ℕ)} (Some c.item.result.now) (Some entry.state) =
     sym there ∙ (entries_at s.expanded.items s.states.states c.args.place entry here).1 in
     cc
@@ -27,8 +30,11 @@ pub returns-clause-legal : goal.returns-clause-legal
 returns-clause-legal c =
     let s = c.self.inside in
     let held = c.item.result.now in
-    let there = subst (λ xs. slice_get xs c.args.place ≡ Some held) c.states.ensures.states c.item.ensures in
-    let sets = atom_sets s.states.atoms s.expanded.items s.states.states c.self.invariant.1 c.self.invariant.0 in
+    let there = subst (λ xs. slice_get xs c.args.place ≡ Some held) c.states.ensures.states
+    c.item.ensures in
+    let sets = atom_sets s.states.atoms s.expanded.items s.states.states c.self.invariant.1
+    c.self.invariant.0 in
     subst (λ n. IsAtomSet n held) (ap (λ (l : SearchLog). l.atoms) c.self.view_is)
-    (subst (IsAtomSet s.states.atoms) (get_or_from_slice_get s.states.states c.args.place held [] there)
+    (subst (IsAtomSet s.states.atoms) (get_or_from_slice_get s.states.states c.args.place held []
+    there)
     (sets c.args.place [] (slice_get_within s.states.states c.args.place held there)))

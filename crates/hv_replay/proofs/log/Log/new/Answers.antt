@@ -7,5 +7,6 @@ use Rattle.hv_replay.proofs.log.Log.new.Goals as goal
 pub from_list-requires : goal.from_list-requires
 from_list-requires c =
     let s = c.entries.inside in
-    subst (λ n. AreStates n s.states) (ap (λ (l : SearchLog). l.atoms) c.entries.view_is ∙ c.requires)
+    subst (λ n. AreStates n s.states) (ap (λ (l : SearchLog). l.atoms) c.entries.view_is
+    ∙ c.requires)
     (states_below s.atoms s.expanded.items s.states c.entries.invariant.1 c.entries.invariant.0)

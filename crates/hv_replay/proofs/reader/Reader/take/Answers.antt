@@ -11,7 +11,9 @@ returns-in_ok-push-in-Ok c =
     let more = c.in-Ok.ensures r.log.entries c.args.entry ready.counts refl ready.legal.few in
     let is = c.in_ok-push-in-Ok.ensures.ok in (
       record {
-        legal = subst (λ (l : SearchLog). IsLog l.atoms l.entries) (sym is) (log_more r.log.atoms r.log.entries c.args.entry ready.legal c.requires.entry more.1 c.requires.small);
+        legal = subst (λ (l : SearchLog). IsLog l.atoms l.entries) (sym is)
+            (log_more r.log.atoms r.log.entries c.args.entry ready.legal c.requires.entry more.1
+            c.requires.small);
         counts = more.0 ∙ ap (λ (l : SearchLog). counts_of l.entries) (sym is);
         few_atoms = subst (λ (l : SearchLog). l.atoms ≤ 65535) (sym is) ready.few_atoms;
       },

@@ -7,7 +7,8 @@ use Rattle.hv_task.proofs.atom_list.AtomList.has_all.Goals as goal
 pub returns-then-not-has : goal.returns-then-not-has
 returns-then-not-has c = (
   λ e. let f : false ≡ true = e in absurd cc,
-  λ all. absurd (both_ways c.has.result c.if-not-has.true (c.has.ensures.1 (all c.loop-atom.atom-index 0 c.loop-atom-test.true))),
+  λ all. absurd (both_ways c.has.result c.if-not-has.true
+      (c.has.ensures.1 (all c.loop-atom.atom-index 0 c.loop-atom-test.true))),
 )
 
 pub loop-atom-preserved : goal.loop-atom-preserved
@@ -15,7 +16,8 @@ loop-atom-preserved c = below_more _ _ c.loop-atom.invariant (c.has.ensures.0 c.
 
 pub returns : goal.returns
 returns c = (
-  λ _ k d within. subst (Contains c.args.self.now) (sym (get_or_default c.args.atoms.now k d 0 within))
+  λ _ k d within. subst (Contains c.args.self.now)
+      (sym (get_or_default c.args.atoms.now k d 0 within))
       (c.loop-atom.invariant k (let end = c.loop-atom-test.false in omega arith)),
   λ _. refl,
 )

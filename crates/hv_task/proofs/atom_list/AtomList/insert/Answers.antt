@@ -10,4 +10,5 @@ returns-in_ok-insert-clause-ok c =
 pub returns-in_ok-insert-clause-there : goal.returns-in_ok-insert-clause-there
 returns-in_ok-insert-clause-there c = λ there.
     let place = rw c.as_slice.ensures at c.in-Err.ensures in
-    absurd (absent_from_place c.self.inside.atoms.items c.args.atom c.in-Err.place place (rw c.self.view_is there))
+    absurd (absent_from_place c.self.inside.atoms.items c.args.atom c.in-Err.place place
+    (rw c.self.view_is there))

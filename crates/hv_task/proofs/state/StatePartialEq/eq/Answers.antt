@@ -13,8 +13,11 @@ decides left right = slice_eq-Decides booleans_Decides left right (pointwise beq
 
 pub returns-then-atoms : goal.returns-then-atoms
 returns-then-atoms c =
-    same_from_decides false (pointwise beq c.args.self.now c.args.other.now) ((λ never. cc), (λ same. absurd (c.if-atoms.true (cc)))) (decides c.args.self.now c.args.other.now)
+    same_from_decides false (pointwise beq c.args.self.now c.args.other.now)
+    ((λ never. cc), (λ same. absurd (c.if-atoms.true (cc))))
+    (decides c.args.self.now c.args.other.now)
 
 pub returns : goal.returns
 returns c =
-    same_from_decides c.same.result (pointwise beq c.args.self.now c.args.other.now) c.same.ensures (decides c.args.self.now c.args.other.now)
+    same_from_decides c.same.result (pointwise beq c.args.self.now c.args.other.now) c.same.ensures
+    (decides c.args.self.now c.args.other.now)

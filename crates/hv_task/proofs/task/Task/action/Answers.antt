@@ -6,5 +6,6 @@ pub returns-clause-over : goal.returns-clause-over
 returns-clause-over c =
     let within = rw (← c.self.view_is) at c.requires in
     rw (← c.self.view_is)
-    (IsOver-item (length c.self.inside.names.items) c.self.inside.actions.items c.args.number c.index.result.now
+    (IsOver-item (length c.self.inside.names.items) c.self.inside.actions.items c.args.number
+    c.index.result.now
     c.self.invariant.actions within c.index.ensures)

@@ -5,6 +5,7 @@ use Rattle.hv_task.proofs.task.Task.solves.Given as goal
 
 abbrev pub invariant-loop-number : goal.invariant-loop-number
 invariant-loop-number l = record {
-  rest : run_of l.self (drop l.number-index l.list) l.state ≡ run_of l.self l.list (start_state l.self);
+  rest : run_of l.self (drop l.number-index l.list) l.state
+      ≡ run_of l.self l.list (start_state l.self);
   state : IsState l.self l.state;
 }

@@ -8,5 +8,7 @@ pub returns : goal.returns
 returns c =
     let made = c.made_room-self-inside.new.atoms.items in
     let atom = c.args.atom in
-    subst (λ old. Inserts old atom (members c.push.new.self.items)) (c.made_room-self-inside.ensures ∙ c.self.view_is)
-    (subst (λ items. Inserts (members made) atom (members items)) (sym c.in_ok-push.ensures.items) (members_insert made atom))
+    subst (λ old. Inserts old atom (members c.push.new.self.items))
+    (c.made_room-self-inside.ensures ∙ c.self.view_is)
+    (subst (λ items. Inserts (members made) atom (members items)) (sym c.in_ok-push.ensures.items)
+    (members_insert made atom))
