@@ -1,6 +1,6 @@
 -- What is known of literals that are assumed one after the other and taken back.
-use Rattle.std.proofs.Common.{◌≡◌, ℕ, ◌<◌, ◌≤◌, ◌+◌, ◌∙◌, ◌&&◌, Bool, true, false, not, cond, List}
-use Rattle.std.proofs.Common.{[], ◌∷◌, ◌++◌, length, get_or, take, None, Some, refl, sym, ap, ap₂}
+use Rattle.std.proofs.Common.{◌≡◌, ℕ, ◌<◌, ◌≤◌, ◌∙◌, ◌&&◌, Bool, true, false, not, cond, List}
+use Rattle.std.proofs.Common.{[], ◌∷◌, ◌++◌, length, get_or, take, None, refl, sym, ap, ap₂}
 use Rattle.std.proofs.Common.{arith, inl, inr, subst}
 use Rattle.std.proofs.lemmas.Bool.{and_parts, cases_lt, false_from_ne_true}
 use Rattle.std.proofs.lemmas.List.{length_push, get_or_push, get_or_append_left, length-append}

@@ -1,26 +1,21 @@
 -- Why a clause of two literals need not be looked into once one of them is false.
-use Rattle.std.proofs.Common.{◌≡◌, ℕ, zero, suc, ◌+◌, ◌-◌, ◌<◌, ◌≤◌, ◌∙◌, ◌⊎◌, Bool, true, false}
-use Rattle.std.proofs.Common.{List, [], ◌∷◌, Option, None, Some, length, get_or, take, drop, refl}
-use Rattle.std.proofs.Common.{sym, ap, arith, inl, inr, subst}
-use Rattle.std.proofs.lemmas.List.{get_or-drop, get_or-take, length-drop, length-set}
-use Rattle.std.proofs.lemmas.List.{length-take-le}
+use Rattle.std.proofs.Common.{◌≡◌, ℕ, zero, suc, ◌+◌, ◌<◌, ◌≤◌, ◌∙◌, ◌⊎◌, Bool, true, false}
+use Rattle.std.proofs.Common.{List, [], ◌∷◌, Option, None, Some, length, get_or, refl}
+use Rattle.std.proofs.Common.{sym, arith, inl, inr, subst}
+use Rattle.std.proofs.lemmas.List.{length-set}
 use Rattle.std.proofs.lemmas.List.Elements.{All-contains}
 use Rattle.std.proofs.lemmas.List.Folds.{Any-from_list_any}
-use Rattle.std.specs.List.{All, Contains}
+use Rattle.std.specs.List.{Contains}
 use Rattle.std.specs.Prelude.{slice_set}
 use Rattle.hv_sets.specs.declared.literal.Literal.{Literal}
 use Rattle.hv_sets.specs.Cubes.{SpeakBelow, opposite}
 use Rattle.hv_sets.specs.Truth.{in_clause, in_clauses, in_literal}
-use Rattle.hv_clauses.specs.declared.occurrences.Occurrence.{Occurrence}
-use Rattle.hv_clauses.specs.declared.occurrences.Occurrences.{Occurrences}
 use Rattle.hv_clauses.specs.Working.Chase.{AreKept, IsFollowed, IsKept}
 use Rattle.hv_clauses.specs.Working.Choices.{clause_at}
 use Rattle.hv_clauses.specs.Implied.{IsPair}
 use Rattle.hv_clauses.specs.Marks.{known, over}
 use Rattle.hv_clauses.specs.Working.Marks.{Agrees, mark_for}
-use Rattle.hv_clauses.specs.Working.Occurrences.{AreBeside, AreLeft, AreOccurrences, IsBeside}
-use Rattle.hv_clauses.specs.Working.Occurrences.{IsIndexOf, no_literal}
-use Rattle.hv_clauses.specs.Working.Trail.{Grows, Knowledge, literal_of, marks_of, written}
+use Rattle.hv_clauses.specs.Working.Trail.{Grows, Knowledge, marks_of, written}
 use Rattle.hv_clauses.specs.Units.{IsSettled, value_of}
 use Rattle.hv_clauses.specs.Working.Units.{IsConcluded}
 use Rattle.hv_clauses.proofs.Chasing.{followed_same, kept_beyond, true_at, written_or}
@@ -56,47 +51,6 @@ pair_turned clause a b pair = record {
   has_second = pair.has_first;
   only = λ k d within. elim (pair.only k d within) [ inl e ↦ inr e | inr e ↦ inl e ];
 }
-
--- the part of a sorted list that has the occurrences of one atom has no other
-pub part_here : (xs : List Occurrence) (atom from upto : ℕ) → from ≤ upto → upto ≤ length xs
-    → AreLeft (λ o. atom ≤ o.atom) (λ o. o.atom < atom) xs from
-    → AreLeft (λ o. atom < o.atom) (λ o. o.atom ≤ atom) xs upto
-    → All (λ o. o.atom ≡ atom) (take (upto - from) (drop from xs))
-part_here xs atom from upto order within first second k d less =
-    let size = length-drop from xs in
-    let part = length-take-le (upto - from) (drop from xs) (omega arith) in
-    let is = get_or-take (upto - from) (drop from xs) k d (omega arith) ∙ get_or-drop from xs k d in
-    let low = first.1 (from + k) d (omega arith) (omega arith) in
-    let high = second.0 (from + k) d (omega arith) in
-    ap (λ (o : Occurrence). o.atom) is ∙ (let e : (get_or xs (from + k) d).atom
-    ≡ atom = omega arith in e)
-
--- what stands beside a part of a list is the part of what stands beside it
-pub part_beside : (sign : Bool) (clauses : List (List Literal)) (xs : List Occurrence) (es : List ℕ)
-    (from upto : ℕ) → from ≤ upto → upto ≤ length xs
-    → AreBeside sign clauses xs es → AreBeside sign clauses (take (upto - from) (drop from xs))
-    (take (upto - from) (drop from es))
-part_beside sign clauses xs es from upto order within beside =
-    let all = beside.size in
-    let size = length-drop from xs in
-    let part = length-take-le (upto - from) (drop from xs) (omega arith) in
-    let esize = length-drop from es in
-    let epart = length-take-le (upto - from) (drop from es) (omega arith) in
-    record {
-      size = omega arith;
-      each = λ k o less.
-          let is : get_or (take (upto - from) (drop from xs)) k o ≡ get_or xs (from + k) o =
-          get_or-take (upto - from) (drop from xs) k o (omega arith) ∙ get_or-drop from xs k o in
-          let eis : get_or (take (upto - from) (drop from es)) k 0 ≡ get_or es (from + k) 0 =
-          get_or-take (upto - from) (drop from es) k 0 (omega arith) ∙ get_or-drop from es k 0 in
-          subst (λ (x : Occurrence). IsBeside (clause_at clauses x.place)
-          (record { atom = x.atom; positive = sign })
-          (get_or (take (upto - from) (drop from es)) k 0))
-          (sym is)
-          (subst (λ e. IsBeside (clause_at clauses (get_or xs (from + k) o).place)
-          (record { atom = (get_or xs (from + k) o).atom; positive = sign }) e)
-          (sym eis) (beside.each (from + k) o (omega arith)));
-    }
 
 -- one literal of two is false, so what the clause says is that the other one is true
 pub pair_followed : (e : List ℕ) (old new : Knowledge) (own other : Literal) (clause : List Literal)
@@ -182,31 +136,6 @@ kept_true e clauses m from literal less at below kept out =
         (subst (λ (l : Literal). l.atom < length m.base) (sym at) below)
         (subst (λ (l : Literal). known (marks_of m) l.atom ≡ None) (sym at) none))
 
--- The clause at a place of such lists.
-module _ (clauses : List (List Literal)) (listed : List Occurrence) (entries : List ℕ)
-    (own : Literal) (index : ℕ) (less : index < length listed) where
-  pub listed_inside : All (λ o. o.place < length clauses) listed → (o : Occurrence)
-      → (get_or listed index o).place < length clauses
-  listed_inside inside o = inside index o less
-
-  pub listed_pair : AreBeside own.positive clauses listed entries
-      → All (λ o. o.atom ≡ own.atom) listed → (other : Literal)
-      → other ≡ literal_of (get_or entries index 0) → (get_or entries index 0 ≡ no_literal → ⊥)
-      → (o : Occurrence)
-      → IsPair (clause_at clauses (get_or listed index o).place) own other
-  listed_pair beside here other is some o =
-      let atom = here index o less in
-      let same : ◌≡◌ {A = Literal} (record {
-        atom = (get_or listed index o).atom;
-        positive =
-            own.positive;
-      }) own =
-      ap (λ n. record { atom = n; positive = own.positive }) atom in
-      subst (λ l. IsPair (clause_at clauses (get_or listed index o).place) l other) same
-      (subst (λ l. IsPair (clause_at clauses (get_or listed index o).place)
-      (record { atom = (get_or listed index o).atom; positive = own.positive }) l)
-      (sym is) ((beside.each index o less).pair some))
-
 -- what follows from the clause at a place follows from all
 pub one_followed : (e : List ℕ) (clauses : List (List Literal)) (place : ℕ) (old new : Knowledge)
     (result : Bool) → place < length clauses
@@ -227,11 +156,3 @@ kept_sooner e clause k from later h within kept = kept_earlier e (clause ∷ [])
     by : AreKept e (clause ∷ []) k later
     by zero less = kept
     by (suc place) less = absurd (omega arith)
-
--- both lists make the index
-pub index_from : (clauses : List (List Literal)) (occurs : Occurrences)
-    → AreOccurrences false clauses occurs.negative.items occurs.beside_negative.items
-    → AreOccurrences true clauses occurs.positive.items occurs.beside_positive.items
-    → IsIndexOf clauses occurs
-index_from clauses occurs out inside true = inside
-index_from clauses occurs out inside false = out

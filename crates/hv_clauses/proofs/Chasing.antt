@@ -15,7 +15,8 @@ use Rattle.std.specs.Prelude.{slice_get, slice_set}
 use Rattle.hv_sets.specs.declared.literal.Literal.{Literal}
 use Rattle.hv_sets.specs.Cubes.{SpeakBelow, opposite}
 use Rattle.hv_sets.specs.Truth.{in_clause, in_clauses, in_literal}
-use Rattle.hv_clauses.specs.declared.occurrences.Occurrence.{Occurrence}
+use Rattle.hv_clauses.specs.Rows.{IsRow}
+use Rattle.hv_clauses.specs.Working.Signed.{StandsAs}
 use Rattle.hv_clauses.specs.Working.Chase.{AreKept, IsApart, IsFollowed, IsKept}
 use Rattle.hv_clauses.specs.Working.Choices.{clause_at}
 use Rattle.hv_clauses.specs.Clausal.{AreClauses}
@@ -23,7 +24,6 @@ use Rattle.hv_clauses.specs.Denial.{names_literal}
 use Rattle.hv_clauses.specs.Working.Laws.{names_literal-Decides}
 use Rattle.hv_clauses.specs.Marks.{known, over}
 use Rattle.hv_clauses.specs.Working.Marks.{mark_for}
-use Rattle.hv_clauses.specs.Working.Occurrences.{ListsAll}
 use Rattle.hv_clauses.specs.Working.Trail.{Grows, Knowledge, marks_of, written}
 use Rattle.hv_clauses.specs.Units.{IsSettled, first_of, value_of}
 use Rattle.hv_clauses.specs.Working.Units.{AreFalse, AreSettled}
@@ -197,18 +197,16 @@ kept_beyond e clauses m from literal h at kept seen place less =
 
 -- once each clause with the opposite of the next literal of the trail was looked at, what is left
 -- begins behind it
-pub kept_next : (e : List ℕ) (clauses : List (List Literal)) (occurs listed : List Occurrence)
+pub kept_next : (e : List ℕ) (clauses : List (List Literal)) (places : List ℕ)
     (m : Knowledge) (from : ℕ) (literal : Literal)
     → from < length m.trail → get_or m.trail from literal ≡ literal → AreKept e clauses m from
-    → ListsAll (not literal.positive) clauses occurs
-    → ((o : Occurrence) → Contains occurs o → o.atom ≡ literal.atom → Contains listed o)
-    → ((o : Occurrence) → Contains listed o → IsKept e (clause_at clauses o.place) m (from + 1))
+    → IsRow (StandsAs (not literal.positive) clauses) literal.atom places
+    → ((place : ℕ) → Contains places place → IsKept e (clause_at clauses place) m (from + 1))
     → AreKept e clauses m (from + 1)
-kept_next e clauses occurs listed m from literal h at kept lists all seen =
+kept_next e clauses places m from literal h at kept row seen =
     kept_beyond e clauses m from literal h at kept
-    (λ place less found.
-    let o : Occurrence = record { atom = literal.atom; place = place } in
-    seen o (all o (lists place (opposite literal) less found refl) refl))
+    (λ place less found. seen place
+    ((row.has place).1 (record { among = less; has = found })))
 
 -- when nothing is left on the trail, all clauses are settled
 pub settled_end : (e : List ℕ) (clauses : List (List Literal)) (m : Knowledge) (from : ℕ)

@@ -1,8 +1,7 @@
 -- Why marks written from an action are its effect.
 use Rattle.std.proofs.Common.{◌≡◌, ℕ, zero, suc, ◌+◌, ◌<◌, ◌≤◌, ◌∙◌, ◌&&◌, Bool, true, false, not}
-use Rattle.std.proofs.Common.{cond, inl, inr, subst, List, [], ◌∷◌, length, get_or, set, refl, sym}
-use Rattle.std.proofs.Common.{ap, ap₂, arith, Option, None, Some, slice_get}
-use Rattle.std.proofs.lemmas.Bool.{cases_lt}
+use Rattle.std.proofs.Common.{cond, subst, List, [], ◌∷◌, length, get_or, set, refl, sym}
+use Rattle.std.proofs.Common.{ap, ap₂, arith, below_more, Option, None, Some, slice_get}
 use Rattle.std.proofs.lemmas.List.{get_or_default, length-set}
 use Rattle.std.proofs.lemmas.List.Folds.{list_all_at}
 use Rattle.std.specs.List.{list_all}
@@ -102,13 +101,6 @@ pub list_all_from : {X : Type 0} (p : X → Bool) (xs : List X)
 list_all_from p [] all = refl
 list_all_from p (x ∷ xs) all = ap₂ (λ a b. a && b) (all 0 x (omega arith))
     (list_all_from p xs (λ k d less. all (suc k) d (omega arith)))
-
-below_more : (P : ℕ → Type 0) (i : ℕ) → ((k : ℕ) → k < i → P k) → P i → (k : ℕ) → k < i + 1 → P k
-below_more P i before here k less =
-    elim (cases_lt k i) [
-      | inl lt ↦ before k lt
-      | inr le ↦ let same : i ≡ k = omega arith in subst P same here
-    ]
 
 -- a literal that was forced where there is no effect
 pub forced_plain : (e : List ℕ) (l : Literal) (m k : List ℕ) (r : Bool) → e ≡ []

@@ -3,7 +3,7 @@ use Rattle.std.proofs.Common.{◌≡◌, ℕ, ◌+◌, ◌<◌, ◌≤◌, ◌�
 use Rattle.std.proofs.Common.{◌++◌, Some, None, length, replicate, get_or, sym, ap, arith, inl, inr}
 use Rattle.std.proofs.Common.{subst}
 use Rattle.std.proofs.lemmas.Bool.{cases_lt}
-use Rattle.std.proofs.lemmas.List.{get_or_push, get_or_append_left, length-map, length_push}
+use Rattle.std.proofs.lemmas.List.{length-map}
 use Rattle.std.proofs.lemmas.List.{map-append}
 use Rattle.std.proofs.lemmas.List.Elements.{All-push, All-weaker}
 use Rattle.std.specs.List.Sorted.{IsStrictlyIncreasing}
@@ -18,28 +18,10 @@ use Rattle.hv_clauses.specs.Working.Marks.{Agrees}
 use Rattle.hv_clauses.specs.Working.Trail.{Knowledge, marked, marks_of}
 use Rattle.hv_clauses.specs.Units.{IsSettled, first_of, value_of}
 use Rattle.hv_clauses.specs.Working.Units.{AreSettled}
+use Rattle.hv_task.proofs.Listing.{rises-push}
 use Rattle.hv_clauses.proofs.Marked.{known_past}
 use Rattle.hv_clauses.proofs.Trailed.{known-replicate, known-set_other, known-set_same}
 use Rattle.hv_clauses.proofs.Trailed.{length-marked, length-marks, written-push, written_none}
-
--- a greater number at the end keeps a list rising
-rises_last : (xs : List ℕ) (i : ℕ) → IsStrictlyIncreasing xs
-    → ((k : ℕ) → k < length xs → get_or xs k 0 < i)
-    → IsStrictlyIncreasing (xs ++ i ∷ [])
-rises_last xs i rises below k within =
-    let size = length_push xs i in
-    let here : get_or (xs ++ i ∷ []) k 0 ≡ get_or xs k 0 = get_or_append_left xs (i ∷ []) 0 k
-    (omega arith) in
-    elim (cases_lt (k + 1) (length xs)) [
-      | inl less ↦
-          let next : get_or (xs ++ i ∷ []) (k + 1) 0
-          ≡ get_or xs (k + 1) 0 = get_or_append_left xs (i ∷ []) 0 (k + 1) less in
-          let rise = rises k less in omega arith
-      | inr last ↦
-          let next : get_or (xs ++ i ∷ []) (k + 1) 0
-          ≡ i = get_or_push xs i 0 (k + 1) (omega arith) in
-          let less = below k (omega arith) in omega arith
-    ]
 
 module _ (ls : List Literal) (bound : ℕ) (listed : ListsBelow bound ls) where
   -- nothing is said of the atoms from the bound on
@@ -62,7 +44,7 @@ module _ (ls : List Literal) (bound : ℕ) (listed : ListsBelow bound ls) where
         record {
           rises = subst IsStrictlyIncreasing (sym
               (map-append (λ (x : Literal). x.atom) ls (l ∷ [])))
-              (rises_last (atoms_of ls) l.atom listed.rises
+              (rises-push (atoms_of ls) l.atom listed.rises
               (λ k within. let low = listed.below k l (omega arith) in
               let here = atom_at ls k l (omega arith) in omega arith));
           below = All-push (λ (x : Literal). x.atom < bound + 1) ls l

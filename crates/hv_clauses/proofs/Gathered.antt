@@ -1,16 +1,15 @@
 -- Codes that are put together clause by clause.
-use Rattle.std.proofs.Common.{◌≡◌, ℕ, ◌+◌, ◌<◌, ◌≤◌, ◌∙◌, ◌↔◌, ◌⊎◌, Bool, false, List, [], ◌∷◌}
+use Rattle.std.proofs.Common.{◌≡◌, ℕ, ◌+◌, ◌<◌, ◌≤◌, ◌∙◌, ◌↔◌, ◌⊎◌, Bool, List, [], ◌∷◌}
 use Rattle.std.proofs.Common.{◌++◌, length, get_or, map, take, sym, ap, subst, arith, inl, inr}
 use Rattle.std.proofs.lemmas.Bool.{cases_lt}
 use Rattle.std.proofs.lemmas.List.{take_more}
-use Rattle.std.proofs.lemmas.List.Elements.{Contains-append_left, Contains-push}
+use Rattle.std.proofs.lemmas.List.Elements.{Contains-append_left, Contains-get_or, Contains-push}
 use Rattle.std.proofs.lemmas.List.Elements.{Contains-push_cases}
 use Rattle.std.specs.List.{Contains}
 use Rattle.hv_sets.specs.declared.literal.Literal.{Literal}
 use Rattle.std.specs.List.Sorted.{IsStrictlyIncreasing}
-use Rattle.hv_clauses.specs.Negative.{StandsNegatively}
-use Rattle.hv_clauses.specs.Working.Negative.{IsNegativeCode}
-use Rattle.hv_clauses.specs.Working.Rows.{AreRows, ListsCodes, PutsCodes, code, place_of_code}
+use Rattle.hv_clauses.specs.Working.Signed.{IsSignedCode, StandsAs}
+use Rattle.hv_clauses.specs.Working.Rows.{AreCoded, ListsCodes, PutsCodes, code, place_of_code}
 
 -- the codes of one item more
 pub lists_more : (Of : ℕ → ℕ → Type 0) (k : ℕ) (codes new : List ℕ) → ListsCodes Of k codes
@@ -50,14 +49,15 @@ puts_both First Second Both old middle new first second both c = (
 )
 
 -- the codes of one literal more
-pub negative_more : (clause : List Literal) (i number : ℕ) (literal : Literal) → i < length clause
+pub signed_more : (sign : Bool) (clause : List Literal) (i number : ℕ) (literal : Literal)
+    → i < length clause
     → literal ≡ get_or clause i literal → (c : ℕ)
-    → IsNegativeCode (take (i + 1) clause) number c
-    ↔ (IsNegativeCode (take i clause) number c
-    ⊎ ((literal.positive ≡ false) × (c ≡ code literal.atom number)))
-negative_more clause i number literal within is c = (
-  λ n. elim (Contains-push_cases (take i clause) literal (record { atom = n.0; positive = false })
-      (subst (λ (ls : List Literal). Contains ls (record { atom = n.0; positive = false })) front
+    → IsSignedCode sign (take (i + 1) clause) number c
+    ↔ (IsSignedCode sign (take i clause) number c
+    ⊎ ((literal.positive ≡ sign) × (c ≡ code literal.atom number)))
+signed_more sign clause i number literal within is c = (
+  λ n. elim (Contains-push_cases (take i clause) literal (record { atom = n.0; positive = sign })
+      (subst (λ (ls : List Literal). Contains ls (record { atom = n.0; positive = sign })) front
       n.1)) [
         | inl old ↦ inl (n.0, old, n.2)
         | inr same ↦ inr (
@@ -69,18 +69,18 @@ negative_more clause i number literal within is c = (
   λ parts. elim parts [
     | inl n ↦ (
       n.0,
-      subst (λ (ls : List Literal). Contains ls (record { atom = n.0; positive = false }))
+      subst (λ (ls : List Literal). Contains ls (record { atom = n.0; positive = sign }))
           (sym front)
           (Contains-append_left (take i clause) (literal ∷ [])
-          (record { atom = n.0; positive = false }) n.1),
+          (record { atom = n.0; positive = sign }) n.1),
       n.2,
     )
     | inr n ↦
-        let shape : literal ≡ record { atom = literal.atom; positive = false } = ap
+        let shape : literal ≡ record { atom = literal.atom; positive = sign } = ap
         (λ (b : Bool). record { atom = literal.atom; positive = b }) n.0 in (
           literal.atom,
           subst (λ (ls : List Literal). Contains ls
-              (record { atom = literal.atom; positive = false })) (sym front)
+              (record { atom = literal.atom; positive = sign })) (sym front)
               (subst (Contains (take i clause ++ literal ∷ [])) shape
               (Contains-push (take i clause) literal)),
           n.1,
@@ -93,13 +93,12 @@ negative_more clause i number literal within is c = (
         ∙ ap (λ (l : Literal). take i clause ++ l ∷ []) (sym is)
 
 -- all codes, in order
-pub negative_rows : (clauses : List (List Literal)) (listed sorted numbers : List ℕ)
+pub signed_coded : (sign : Bool) (clauses : List (List Literal)) (listed sorted numbers : List ℕ)
     → length clauses ≤ 4294967296
-    → ListsCodes (λ k. IsNegativeCode (get_or clauses k []) k) (length clauses) listed
-    → IsStrictlyIncreasing sorted
-    → ((c : ℕ) → Contains sorted c ↔ Contains listed c) → numbers ≡ map place_of_code sorted
-    → AreRows (StandsNegatively clauses) sorted numbers
-negative_rows clauses listed sorted numbers few lists rises has are = record {
+    → ListsCodes (λ k. IsSignedCode sign (get_or clauses k []) k) (length clauses) listed
+    → IsStrictlyIncreasing sorted → ((c : ℕ) → Contains sorted c ↔ Contains listed c)
+    → numbers ≡ map place_of_code sorted → AreCoded (StandsAs sign clauses) sorted numbers
+signed_coded sign clauses listed sorted numbers few lists rises has are = record {
   rises = rises;
   has = λ c. (
     λ there.
@@ -116,3 +115,16 @@ negative_rows clauses listed sorted numbers few lists rises has are = record {
   small = λ key number pair. let among = pair.among in omega arith;
   numbers_are = are;
 }
+
+-- the clause of each code is among the clauses
+pub signed_inside : (sign : Bool) (clauses : List (List Literal)) (listed sorted : List ℕ)
+    → length clauses ≤ 4294967296
+    → ListsCodes (λ k. IsSignedCode sign (get_or clauses k []) k) (length clauses) listed
+    → ((c : ℕ) → Contains sorted c ↔ Contains listed c)
+    → (k : ℕ) → k < length sorted → place_of_code (get_or sorted k 0) < length clauses
+signed_inside sign clauses listed sorted few lists has k less =
+    let found = (lists (get_or sorted k 0)).0
+    ((has (get_or sorted k 0)).0 (Contains-get_or sorted k 0 less)) in
+    let is : get_or sorted k 0 ≡ code found.2.0 found.0 = found.2.2 in
+    let within : found.0 < length clauses = found.1 in
+    omega arith

@@ -10,7 +10,7 @@ use Rattle.hv_sets.specs.Cubes.{SpeakBelow, opposite}
 use Rattle.hv_clauses.specs.Implied.{AreImplied, Implies, IsEither, IsPair, literal_number}
 use Rattle.hv_clauses.specs.Working.Implied.{ImpliesNumber, IsImpliedCode}
 use Rattle.hv_clauses.specs.Rows.{IsRow}
-use Rattle.hv_clauses.specs.Working.Rows.{AreRows, ListsCodes, code, place_of_code}
+use Rattle.hv_clauses.specs.Working.Rows.{AreCoded, ListsCodes, code, place_of_code}
 
 opposite_twice : (l : Literal) → opposite (opposite l) ≡ l
 opposite_twice l = let sign = not-not l.positive in λ i. record { atom = l.atom; positive = sign i }
@@ -107,13 +107,13 @@ number_fits l small = by l.positive
     by false = omega arith
 
 -- all codes, in order
-pub implied_rows : (clauses : List (List Literal)) (listed sorted numbers : List ℕ)
+pub implied_coded : (clauses : List (List Literal)) (listed sorted numbers : List ℕ)
     → All (SpeakBelow 2147483648) clauses
     → ListsCodes (λ k. IsImpliedCode (get_or clauses k [])) (length clauses) listed
     → IsStrictlyIncreasing sorted
     → ((c : ℕ) → Contains sorted c ↔ Contains listed c) → numbers ≡ map place_of_code sorted
-    → AreRows (ImpliesNumber clauses) sorted numbers
-implied_rows clauses listed sorted numbers speak lists rises has are = record {
+    → AreCoded (ImpliesNumber clauses) sorted numbers
+implied_coded clauses listed sorted numbers speak lists rises has are = record {
   rises = rises;
   has = λ c. (
     λ there.

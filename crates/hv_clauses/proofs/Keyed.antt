@@ -1,4 +1,4 @@
--- Numbers by key, kept as one rising list of codes.
+-- Rows of numbers by key: why the numbers between two heads are those of a key.
 use Rattle.std.proofs.Common.{◌≡◌, ℕ, ◌+◌, ◌-◌, ◌<◌, ◌≤◌, ◌∙◌, List, inl, inr, length, get_or, refl}
 use Rattle.std.proofs.Common.{sym, ap, subst, arith}
 use Rattle.std.proofs.lemmas.Bool.{cases_lt}
@@ -10,8 +10,9 @@ use Rattle.std.specs.List.Sorted.{IsNonDecreasingBy, IsStrictlyIncreasing}
 use Rattle.std.specs.Prelude.{slice_range}
 use Rattle.hv_task.proofs.Rising.{rises_apart}
 use Rattle.hv_clauses.specs.Rows.{IsRow}
-use Rattle.hv_clauses.specs.Working.Rows.{AreRows, IsPartOf, IsEndBefore, IsEndWith, code, key_of}
-use Rattle.hv_clauses.specs.Working.Rows.{place_of_code}
+use Rattle.hv_clauses.specs.Working.Rows.{AreCoded, AreHeads, IsEndBefore, IsPartOf}
+use Rattle.hv_clauses.specs.Working.Rows.{code, key_of, place_of_code}
+use Rattle.hv_clauses.specs.declared.rows.Head.{Head}
 
 -- the two parts of a code
 pub key_of-code : (key number : ℕ) → number < 4294967296 → key_of (code key number) ≡ key
@@ -46,7 +47,7 @@ keys_upto codes rises i j d upto within = elim (cases_lt i j) [
 
 -- the codes of a key end where or after they start
 pub starts_upto : (codes : List ℕ) (key from upto : ℕ) → IsEndBefore key codes from
-    → IsEndWith key codes upto → from ≤ upto
+    → IsEndBefore (key + 1) codes upto → from ≤ upto
 starts_upto codes key from upto starts ends = elim (cases_lt upto from) [
   | inl less ↦
       let before = starts.before upto less in
@@ -55,9 +56,9 @@ starts_upto codes key from upto starts ends = elim (cases_lt upto from) [
   | inr more ↦ more
 ]
 
-module _ (Pair : ℕ → ℕ → Type 0) (codes numbers : List ℕ) (rows : AreRows Pair codes numbers)
+module _ (Pair : ℕ → ℕ → Type 0) (codes numbers : List ℕ) (rows : AreCoded Pair codes numbers)
     (key from upto : ℕ)
-    (starts : IsEndBefore key codes from) (ends : IsEndWith key codes upto) where
+    (starts : IsEndBefore key codes from) (ends : IsEndBefore (key + 1) codes upto) where
   size : length numbers ≡ length codes
   size = ap length rows.numbers_are ∙ length-map codes place_of_code
 
@@ -68,13 +69,13 @@ module _ (Pair : ℕ → ℕ → Type 0) (codes numbers : List ℕ) (rows : AreR
   row_size = length-between numbers from upto row_ends
 
   -- the key and the number of the code at a place of the row
-  key_at : (k : ℕ) → k < upto - from → key_of (get_or codes (from + k) 0) ≡ key
+  pub key_at : (k : ℕ) → k < upto - from → key_of (get_or codes (from + k) 0) ≡ key
   key_at k less =
       let low = starts.after (from + k) (omega arith) (let w = ends.within in omega arith) in
       let high = ends.before (from + k) (omega arith) in
       omega arith
 
-  number_at : (k : ℕ) (d : ℕ) → k < upto - from
+  pub number_at : (k : ℕ) (d : ℕ) → k < upto - from
       → get_or (slice_range numbers from upto) k d ≡ place_of_code (get_or codes (from + k) 0)
   number_at k d less =
       get_or-between numbers from upto k d (omega arith)
@@ -142,14 +143,57 @@ module _ (Pair : ℕ → ℕ → Type 0) (codes numbers : List ℕ) (rows : AreR
   row_is = record { rises = row_rises; has = λ number. (row_only number, row_all number) }
 
 -- the part that code hands out is the row
-pub row_from : (Pair : ℕ → ℕ → Type 0) (codes numbers key_codes key_numbers : List ℕ) (key : ℕ)
-    (part : List ℕ)
-    → AreRows Pair codes numbers → key_codes ≡ codes → key_numbers ≡ numbers
-    → IsPartOf key key_codes key_numbers part
-    → IsRow Pair key part
-row_from Pair codes numbers key_codes key_numbers key part rows same_codes same_numbers is =
-    let moved : IsPartOf key codes numbers part =
-    subst (λ xs. IsPartOf key codes xs part) same_numbers
-    (subst (λ xs. IsPartOf key xs key_numbers part) same_codes is) in
-    subst (IsRow Pair key) (sym moved.4) (row_is Pair codes numbers rows key moved.0 moved.1 moved.2
-    moved.3)
+pub row_from : (Pair : ℕ → ℕ → Type 0) (codes numbers : List ℕ) (key : ℕ) (part : List ℕ)
+    → AreCoded Pair codes numbers → IsPartOf key codes numbers part → IsRow Pair key part
+row_from Pair codes numbers key part rows is =
+    subst (IsRow Pair key) (sym is.4) (row_is Pair codes numbers rows key is.0 is.1 is.2 is.3)
+
+-- there are as many numbers as codes
+pub coded_size : (Pair : ℕ → ℕ → Type 0) (codes numbers : List ℕ) → AreCoded Pair codes numbers
+    → length codes ≡ length numbers
+coded_size Pair codes numbers rows = sym
+    (ap length rows.numbers_are ∙ length-map codes place_of_code)
+
+-- Heads among which so many are of lesser keys.
+module _ (codes : List ℕ) (heads : List Head) (are : AreHeads codes heads) (key place : ℕ)
+    (before : (k : ℕ) (d : Head) → k < place → (get_or heads k d).key < key)
+    (after : (k : ℕ) (d : Head) → place ≤ k → k < length heads → key ≤ (get_or heads k d).key) where
+  none : Head
+  none = record { key = 0; start = 0 }
+
+  -- the next one begins where the codes of this key and greater ones do
+  pub begins_at : (d : Head) → place < length heads
+      → IsEndBefore key codes (get_or heads place d).start
+  begins_at d less =
+      let own = are.each place d less in
+      record {
+        within = own.within;
+        before = λ k early.
+            let low = own.before k early in
+            let within = own.within in
+            let found = are.all k (omega arith) in
+            let same = found.2 d in
+            elim (cases_lt found.0 place) [
+              | inl first ↦ let lower = before found.0 d first in omega arith
+              | inr later ↦
+                  let upto = are.rises place found.0 d later found.1 in
+                  absurd (omega arith)
+            ];
+        after = λ k late within.
+            let high = own.after k late within in
+            let upto = after place d (omega arith) less in
+            omega arith;
+      }
+
+  -- where there is none, all codes are of lesser keys
+  pub begins_past : length heads ≤ place → IsEndBefore key codes (length codes)
+  begins_past past = record {
+    within = omega arith;
+    before = λ k less.
+        let found = are.all k less in
+        let same = found.2 none in
+        let within : found.0 < length heads = found.1 in
+        let lower = before found.0 none (omega arith) in
+        omega arith;
+    after = λ k late within. absurd (omega arith);
+  }

@@ -17,11 +17,12 @@ pub mod Searching
 pub mod Steps
 pub mod Stored
 pub mod Trailed
-pub mod Occurring
 pub mod Chasing
 pub mod Forced
 pub mod Touching
 pub mod Keyed
+pub mod Heads
+pub mod Standings
 pub mod Gathered
 pub mod Implying
 pub mod Besides

@@ -12,6 +12,7 @@ use Rattle.hv_task.proofs.Places.{has_atom_past, same_state}
 use Rattle.hv_sets.specs.declared.literal.Literal.{Literal}
 use Rattle.hv_sets.specs.Cubes.{opposite}
 use Rattle.hv_sets.specs.Truth.{in_literal}
+use Rattle.hv_clauses.specs.Working.Laws.{not_turned}
 use Rattle.hv_clauses.specs.Marks.{filled, known, mark_of, or_else, over}
 use Rattle.hv_clauses.specs.Working.Marks.{Agrees, KeepsKnown, low}
 use Rattle.hv_clauses.specs.Units.{first_of, known_through, value_of}
@@ -229,17 +230,6 @@ pub AreFalse_extends : (e : List ℕ) (literals : List Literal) (m k : List ℕ)
 AreFalse_extends e literals m k grows all =
     All-weaker (λ l. value_of e m l ≡ Some false) (λ l. value_of e k l ≡ Some false)
     (λ l h. value_extends e m k l false grows h) literals all
-
--- the opposite literal
-not_turned : (sign flag : Bool) → cond (not sign) flag (not flag) ≡ not (cond sign flag (not flag))
-not_turned true true = refl
-not_turned true false = refl
-not_turned false true = refl
-not_turned false false = refl
-
-pub in_literal-opposite : (l : Literal) (s : List Bool)
-    → in_literal (opposite l) s ≡ not (in_literal l s)
-in_literal-opposite l s = not_turned l.positive (has_atom s l.atom)
 
 turned_opposite : (o : Option Bool) (sign b : Bool)
     → option_map (λ value. cond sign value (not value)) o ≡ Some b

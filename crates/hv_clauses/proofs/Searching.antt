@@ -17,16 +17,10 @@ use Rattle.hv_clauses.specs.Working.Effect.{IsEffect}
 use Rattle.hv_clauses.specs.Working.Found.{IsFound, IsMetBelow}
 use Rattle.hv_clauses.specs.Marks.{over}
 use Rattle.hv_clauses.specs.Working.Problem.{FitsChoice}
+use Rattle.std.proofs.lemmas.Bool.{and_from, and_parts}
 use Rattle.hv_clauses.proofs.Choosing.{choose, chosen, some_from_choices}
 use Rattle.hv_clauses.proofs.Effects.{list_all_from}
 use Rattle.hv_clauses.proofs.Marked.{over-nil}
-
-both : (a b : Bool) → (a && b) ≡ true → (a ≡ true) × (b ≡ true)
-both true b e = (refl, e)
-both false b e = absurd (cc)
-
-from_both : (a b : Bool) → a ≡ true → b ≡ true → (a && b) ≡ true
-from_both a b e f = ap₂ (λ x y. x && y) e f
 
 -- a test that is one with another at each element
 all_same : {X : Type 0} (p q : X → Bool) (xs : List X) → ((x : X) → p x ≡ q x)
@@ -68,8 +62,8 @@ module _ (task : Strips) (formulas : ℕ → List (List Literal)) (effect : List
       → FitsChoice task formulas effect query number state
       → is_clash task (tests_of formulas) query state ≡ true
   clash_from_fits number state size less fits =
-      from_both _ _ fits.applies
-      (from_both _ _
+      and_from _ _ fits.applies
+      (and_from _ _
       (list_all_from (λ o. in_operand task (tests_of formulas) (action_of task query.action) state
       o) query.positive
       (λ k d within. in_same state size (get_or query.positive k d) ∙ fits.inside k d within))
@@ -82,8 +76,8 @@ module _ (task : Strips) (formulas : ℕ → List (List Literal)) (effect : List
       → (number : ℕ) × (number < choices_of task (sizes_of formulas) query.negative)
       × FitsChoice task formulas effect query number state
   fits_from_clash state size clash =
-      let first = both _ _ clash in
-      let second = both _ _ first.1 in
+      let first = and_parts _ _ clash in
+      let second = and_parts _ _ first.1 in
       let found = choose task formulas effect query.negative state size
       (sym (out_same state size) ∙ second.1) in (
         found.0,

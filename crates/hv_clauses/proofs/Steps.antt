@@ -12,8 +12,9 @@ use Rattle.hv_clauses.specs.Marks.{known, over}
 use Rattle.hv_clauses.specs.Working.Marks.{Agrees, KeepsKnown}
 use Rattle.hv_clauses.specs.Units.{value_of}
 use Rattle.hv_clauses.specs.Working.Units.{IsConcluded}
+use Rattle.hv_clauses.specs.Working.Laws.{opposite_is}
 use Rattle.hv_clauses.proofs.Marked.{agrees_write, extends_same, extends_write, has_atom-literal}
-use Rattle.hv_clauses.proofs.Marked.{in_literal-opposite, value_false, value_from_opposite}
+use Rattle.hv_clauses.proofs.Marked.{value_false, value_from_opposite}
 use Rattle.hv_clauses.proofs.Marked.{value_marked, value_none, value_open}
 use Rattle.hv_clauses.proofs.Rounds.{conclude_same, never}
 
@@ -77,5 +78,5 @@ deny_one e l m k r one =
     conclude_same (λ s. in_literal (opposite l) (over e s) ≡ true)
     (λ s. in_literal l (over e s) ≡ false)
     (λ n. value_of e n (opposite l) ≡ Some true) (λ n. value_of e n l ≡ Some false) m k r
-    (λ s size holds. in_literal-opposite l (over e s) ∙ ap not holds)
+    (λ s size holds. opposite_is l (over e s) ∙ ap not holds)
     (λ n size h. value_from_opposite e n l true h) one

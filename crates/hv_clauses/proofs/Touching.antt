@@ -16,15 +16,14 @@ use Rattle.hv_sets.specs.Cost.{choices_of, clauses_of}
 use Rattle.hv_sets.specs.Cubes.{SpeakBelow}
 use Rattle.hv_sets.specs.Names.{AsksAbout}
 use Rattle.hv_sets.specs.Truth.{in_clause}
-use Rattle.hv_clauses.specs.declared.occurrences.Occurrence.{Occurrence}
-use Rattle.hv_clauses.specs.declared.occurrences.Occurrences.{Occurrences}
 use Rattle.hv_clauses.specs.Working.Choices.{Breaks, clause_at}
 use Rattle.hv_clauses.specs.Clausal.{sizes_of}
 use Rattle.hv_clauses.specs.Working.Clausal.{clauses_in, late}
 use Rattle.hv_clauses.specs.Working.Found.{IsFramed, IsMetAmong, IsMetBelow}
 use Rattle.hv_clauses.specs.Marks.{known, over}
 use Rattle.hv_clauses.specs.Working.Marks.{Agrees}
-use Rattle.hv_clauses.specs.Working.Occurrences.{IsIndexOf, signed, turning_sign}
+use Rattle.hv_clauses.specs.Working.Occurrences.{turning_sign}
+use Rattle.hv_clauses.specs.Working.Touched.{IsTurnedBy}
 use Rattle.hv_clauses.specs.Working.Problem.{FitsChoice}
 use Rattle.hv_clauses.specs.Units.{value_of}
 use Rattle.hv_clauses.proofs.Framed.{framed_true, known_true}
@@ -200,40 +199,37 @@ module _ (task : Strips) (formulas : ℕ → List (List Literal)) (effect : List
       (over (late effect operand.after) state)) (mod-eq_of_lt within)) ∙ broken)
 
   -- so it is enough to try the clauses of which it turns one
-  pub met_from_touched : (occurs : Occurrences) → IsIndexOf (formulas set) occurs
-      → (middle found : List Bool)
-      → IsMetAmong false (signed occurs (turning_sign operand.after false))
-      (λ p. known effect p ≡ Some false)
+  pub met_from_touched : (middle found : List Bool)
+      → IsMetAmong false
+      (IsTurnedBy effect false (turning_sign operand.after false) (formulas set))
       (choices_of task (sizes_of formulas) query.negative) (atoms task)
       (FitsChoice task formulas effect query) middle
       → (result : Bool)
-      → IsMetAmong result (signed occurs (turning_sign operand.after true))
-      (λ p. known effect p ≡ Some true)
+      → IsMetAmong result
+      (IsTurnedBy effect true (turning_sign operand.after true) (formulas set))
       (choices_of task (sizes_of formulas) query.negative) (atoms task)
       (FitsChoice task formulas effect query) found
       → IsMetBelow result (choices_of task (sizes_of formulas) query.negative) (atoms task)
       (FitsChoice task formulas effect query) found
-  met_from_touched occurs index middle found first true second = second
-  met_from_touched occurs index middle found first false second = λ number less state size fits.
+  met_from_touched middle found first true second = second
+  met_from_touched middle found first false second = λ number less state size fits.
       elim (turned_or effect (not operand.after) (clause_at (formulas set) number)) [
         | inl all ↦ held_none number state less all fits
         | inr some ↦
             let by = turned_by effect operand.after some.0 some.2 in
-            let listed : Contains (signed occurs (turning_sign operand.after by.0))
-            (record { atom = some.0.atom; place = number }) =
-            (index (turning_sign operand.after by.0)).all number some.0 (omega (arith, choices_are))
-            some.1 by.2 in
-            either number state size fits (record { atom = some.0.atom; place = number }) refl by.0
-            by.1 listed
+            either number state size fits by.0 (record {
+              atom = some.0.atom;
+              made = by.1;
+              stands = record {
+                among = omega (arith, choices_are);
+                has = subst (λ (s : Bool). Contains (clause_at (formulas set) number)
+                    (record { atom = some.0.atom; positive = s })) by.2 some.1;
+              };
+            })
       ]
     where
       either : (number : ℕ) (state : List Bool) → length state ≡ atoms task
-          → FitsChoice task formulas effect query number state
-          → (o : Occurrence) → o.place ≡ number → (v : Bool) → known effect o.atom ≡ Some v
-          → Contains (signed occurs (turning_sign operand.after v)) o → ⊥
-      either number state size fits o at true is_known listed =
-          second o listed is_known state size (subst
-          (λ n. FitsChoice task formulas effect query n state) (sym at) fits)
-      either number state size fits o at false is_known listed =
-          first o listed is_known state size (subst
-          (λ n. FitsChoice task formulas effect query n state) (sym at) fits)
+          → FitsChoice task formulas effect query number state → (v : Bool)
+          → IsTurnedBy effect v (turning_sign operand.after v) (formulas set) number → ⊥
+      either number state size fits true turned = second number turned state size fits
+      either number state size fits false turned = first number turned state size fits

@@ -1,5 +1,5 @@
 -- Sets of states given by clauses, and stores of them.
-use Rattle.std.specs.Prelude.{ℕ, Bool, true, List, length}
+use Rattle.std.specs.Prelude.{ℕ, Bool, List, length}
 use Rattle.std.specs.List.{All}
 use Rattle.hv_task.specs.Strips.{atoms}
 use Rattle.hv_sets.specs.declared.literal.Literal.{Literal}

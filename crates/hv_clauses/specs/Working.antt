@@ -17,7 +17,7 @@ pub mod Chase
 pub mod Closure
 pub mod Start
 pub mod Rows
-pub mod Negative
+pub mod Signed
 pub mod Implied
 pub mod Lists
 pub mod Base

@@ -1,42 +1,61 @@
 //! The literals that stand beside others in clauses of two, so that these need not be looked into.
 
-ghost use Rattle.std.specs.Prelude.{◌≡◌, ◌<◌, ◌⊎◌, ◌^◌, ◌∷◌, [], Some, length, IfOk, IfSome};
-ghost use Rattle.std.specs.Prelude.{MatchOption};
+ghost use Rattle.std.specs.Prelude.{◌≡◌, ◌<◌, ◌≤◌, ◌⊎◌, ◌^◌, ◌∷◌, ℕ, [], Some, length, slice_index};
+ghost use Rattle.std.specs.Prelude.{IfOk, IfSome, MatchOption, OnOk};
 ghost use Rattle.std.specs.List.{All};
 ghost use Rattle.hv_sets.specs.declared.literal.Literal.{Literal};
 ghost use Rattle.hv_sets.specs.Cubes.{SpeakBelow};
 ghost use Rattle.hv_clauses.specs.Implied.{IsPair};
-ghost use Rattle.hv_clauses.specs.Working.Occurrences.{AreBeside, IsBeside, no_literal};
+ghost use Rattle.hv_clauses.specs.Working.Occurrences.{AreBeside, IsBeside, PutsEntry};
+ghost use Rattle.hv_clauses.specs.Working.Occurrences.{entry_or_none};
+ghost use Rattle.hv_clauses.specs.Working.Occurrences.{no_literal};
+ghost use Rattle.hv_clauses.specs.Working.Rows.{place_of_code};
 ghost use Rattle.hv_clauses.specs.Working.Trail.{literal_of};
 
-use crate::occurrences::Occurrence;
+use crate::rows;
 use hv_sets::{Clauses, Literal};
 use std::alloc::{AllocError, Global};
 
-// Stands for no literal.
+// StandsAs for no literal.
 const NONE: u32 = u32::MAX;
 
-// The entries for the literals beside those of this sign that are listed.
+// The entries for the literals beside those with these codes, which are of this sign, up to the
+// last one that stands for a literal.
 pub(crate) fn entries_of(
     alloc: Global,
     clauses: &Clauses,
-    listed: &[Occurrence],
+    codes: &[usize],
     sign: bool,
 ) -> Result<Vec<u32>, AllocError>
     requires below { All (SpeakBelow (2 ^ 31)) clauses.now }
-    requires inside { All (λ o. o.place < length clauses.now) listed.now }
-    ensures { IfOk result (λ entries. AreBeside sign clauses.now listed.now entries.items) }
+    requires inside { (k : ℕ) → k < length codes.now
+        → place_of_code (slice_index codes.now k) < length clauses.now }
+    ensures { IfOk result (λ entries. AreBeside sign clauses.now codes.now entries.items) }
 {
-    let mut entries = Vec::with_capacity(alloc, listed.len())?;
-    for occurrence in listed {
+    let mut entries = Vec::new(alloc);
+    for place in 0..codes.len() {
+        let code = codes[place];
         let own = Literal {
-            atom: occurrence.atom,
+            atom: rows::key_in(code),
             positive: sign,
         };
-        let clause = clauses.get(occurrence.place as usize);
-        entries.push(entry_beside(clause, own))?;
+        let clause = clauses.get(rows::number_in(code) as usize);
+        put_entry(&mut entries, place, entry_beside(clause, own))?;
     }
     Ok(entries)
+}
+
+// Puts an entry at a place, if it stands for a literal.
+fn put_entry(entries: &mut Vec<u32>, place: usize, entry: u32) -> Result<(), AllocError>
+    requires { length entries.old.items ≤ place }
+    ensures { OnOk result (PutsEntry entries.old.items place entry entries.new.items) }
+{
+    if entry == NONE {
+        return Ok(());
+    }
+    entries.resize(place, NONE)?;
+    entries.push(entry)?;
+    Ok(())
 }
 
 // The entry for the literal beside this one.
@@ -70,11 +89,15 @@ fn beside(clause: &[Literal], own: Literal) -> Option<Literal>
     None
 }
 
-// The literal that an entry stands for.
-pub(crate) fn literal_at(entry: u32) -> Option<Literal>
-    ensures { MatchOption result (entry ≡ no_literal)
-        (λ literal. (literal ≡ literal_of entry) × (entry ≡ no_literal → ⊥)) }
+// The literal that the entry at a place stands for.
+pub(crate) fn literal_at(entries: &[u32], place: usize) -> Option<Literal>
+    ensures { MatchOption result (entry_or_none entries.now place ≡ no_literal)
+        (λ literal. (literal ≡ literal_of (entry_or_none entries.now place))
+        × (entry_or_none entries.now place ≡ no_literal → ⊥)) }
 {
+    let Some(&entry) = entries.get(place) else {
+        return None;
+    };
     if entry == NONE {
         return None;
     }

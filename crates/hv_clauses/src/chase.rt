@@ -1,15 +1,14 @@
 //! Unit propagation that is driven by the trail, over clauses that are seen through an effect.
 
-ghost use Rattle.std.specs.Prelude.{◌≡◌, ◌<◌, ◌+◌, Some, false, true, length, slice_index_or};
-ghost use Rattle.std.specs.List.{All, Contains};
+ghost use Rattle.std.specs.Prelude.{◌≡◌, ◌<◌, ◌+◌, ℕ, Some, false, true, length, slice_index};
+ghost use Rattle.std.specs.List.{Contains};
 ghost use Rattle.hv_sets.specs.Cubes.{SpeakBelow};
 ghost use Rattle.hv_sets.specs.Truth.{in_clause, in_clauses};
-ghost use Rattle.hv_clauses.specs.declared.occurrences.Occurrence.{Occurrence};
 ghost use Rattle.hv_clauses.specs.Working.Chase.{AreKept, IsFollowed, IsKept};
 ghost use Rattle.hv_clauses.specs.Working.Choices.{clause_at};
 ghost use Rattle.hv_clauses.specs.Clausal.{AreClauses};
 ghost use Rattle.hv_clauses.specs.Marks.{over};
-ghost use Rattle.hv_clauses.specs.Working.Occurrences.{AreBeside, IsIndexOf};
+ghost use Rattle.hv_clauses.specs.Working.Occurrences.{AreStanding, IsIndexOf};
 ghost use Rattle.hv_clauses.specs.Working.Trail.{marks_of};
 ghost use Rattle.hv_clauses.specs.Units.{IsSettled, value_of};
 
@@ -87,30 +86,26 @@ pub(crate) fn visit(
         return true;
     }
     let standing = occurs.standing(own);
-    visit_all(clauses, &standing, own, effect, marks)
+    visit_all(clauses, &standing, effect, marks)
 }
 
 // Looks again at each clause that has a literal that was found false.
 fn visit_all(
     clauses: &Clauses,
     standing: &Standing<'_>,
-    own: Literal,
     effect: &Effect<'_>,
     marks: &mut Marks<'_>,
 ) -> bool
     requires clauses { AreClauses (length marks.old.base) clauses.now }
-    requires inside { All (λ o. o.place < length clauses.now) standing.now.listed.now }
-    requires here { All (λ o. o.atom ≡ own.atom) standing.now.listed.now }
-    requires beside { AreBeside own.positive clauses.now standing.now.listed.now
-        standing.now.entries.now }
-    requires out { value_of effect.now (marks_of marks.old) own ≡ Some false }
+    requires standing { AreStanding clauses.now standing.now }
+    requires out { value_of effect.now (marks_of marks.old) standing.now.literal ≡ Some false }
     ensures followed { IsFollowed (λ state. in_clauses clauses.now (over effect.now state) ≡ true)
         marks.old marks.new result }
-    ensures kept { result ≡ true → (o : Occurrence) → Contains standing.now.listed.now o
-        → IsKept effect.now (clause_at clauses.now o.place) marks.new (length marks.old.trail) }
+    ensures kept { result ≡ true → (place : ℕ) → Contains standing.now.places.now place
+        → IsKept effect.now (clause_at clauses.now place) marks.new (length marks.old.trail) }
 {
-    for index in 0..standing.listed.len() {
-        if !visit_one(clauses, standing, index, own, effect, marks) {
+    for index in 0..standing.places.len() {
+        if !visit_one(clauses, standing, index, effect, marks) {
             return false;
         }
     }
@@ -123,26 +118,22 @@ fn visit_one(
     clauses: &Clauses,
     standing: &Standing<'_>,
     index: usize,
-    own: Literal,
     effect: &Effect<'_>,
     marks: &mut Marks<'_>,
 ) -> bool
     requires clauses { AreClauses (length marks.old.base) clauses.now }
-    requires inside { All (λ o. o.place < length clauses.now) standing.now.listed.now }
-    requires here { All (λ o. o.atom ≡ own.atom) standing.now.listed.now }
-    requires beside { AreBeside own.positive clauses.now standing.now.listed.now
-        standing.now.entries.now }
-    requires index { index < length standing.now.listed.now }
-    requires out { value_of effect.now (marks_of marks.old) own ≡ Some false }
+    requires standing { AreStanding clauses.now standing.now }
+    requires index { index < length standing.now.places.now }
+    requires out { value_of effect.now (marks_of marks.old) standing.now.literal ≡ Some false }
     ensures followed { IsFollowed (λ state. in_clauses clauses.now (over effect.now state) ≡ true)
         marks.old marks.new result }
-    ensures settled { result ≡ true → (o : Occurrence) → IsSettled effect.now (marks_of marks.new)
-        (clause_at clauses.now (slice_index_or standing.now.listed.now index o).place) }
+    ensures settled { result ≡ true → IsSettled effect.now (marks_of marks.new)
+        (clause_at clauses.now (slice_index standing.now.places.now index)) }
 {
-    match beside::literal_at(standing.entries[index]) {
+    match beside::literal_at(standing.entries, index) {
         Some(other) => literals::force(other, effect, marks),
         None => {
-            let place = standing.listed[index].place as usize;
+            let place = standing.places[index];
             step(clauses.get(place), place, effect, marks)
         }
     }

@@ -59,7 +59,8 @@ impl<K: ClauseKind> Model for Formula<K> {
 
 impl<K: ClauseKind> Formula<K> {
     /// The formula of these clauses over the states of the task. More than 4,294,967,296 clauses
-    /// are answered as want of memory.
+    /// are answered as want of memory, and so are more than 4,294,967,295 literals of one sign or
+    /// implications.
     pub fn new(alloc: Global, task: &Task, clauses: &Clauses) -> Result<Formula<K>, K::Fault>
         requires { AreClauses (atoms task.now) clauses.now }
         ensures ok { IfOk result
@@ -72,8 +73,8 @@ impl<K: ClauseKind> Formula<K> {
         }
         let atoms = task.atoms();
         let copy = clauses.copy(alloc)?;
-        let closure = Closure::of(alloc, atoms as usize, clauses)?;
         let lists = Lists::new(alloc, K::listing(), clauses)?;
+        let closure = Closure::of(alloc, atoms as usize, clauses)?;
         Ok(Formula {
             atoms,
             clauses: copy,
@@ -105,7 +106,11 @@ impl<K: ClauseKind> Formula<K> {
         requires { K.listed_by ≡ L.Negative }
         ensures { IsRow (StandsNegatively self.now.clauses) atom result.now }
     {
-        rows::places_at(&self.lists.codes, &self.lists.places, atom)
+        let own = Literal {
+            atom,
+            positive: false,
+        };
+        self.closure.occurs.standing(own).places
     }
 
     /// The numbers of the literals that the literal implies at once: they rise, and each stands
@@ -117,7 +122,7 @@ impl<K: ClauseKind> Formula<K> {
     {
         let lists = &self.lists;
         let key = implied::number_of(literal);
-        rows::numbers_at(&lists.codes, &lists.numbers, key)
+        rows::numbers_at(&lists.heads, &lists.numbers, key)
     }
 
     // How many entries the places take that looks into its clauses remember.

@@ -26,7 +26,7 @@ pub(crate) fn number_of(literal: Literal) -> u32
 }
 
 // The codes of what the clauses of one or two literals imply.
-pub(crate) fn codes_of(alloc: Global, clauses: &Clauses) -> Result<Vec<u64>, AllocError>
+pub(crate) fn codes_of(alloc: Global, clauses: &Clauses) -> Result<Vec<usize>, AllocError>
     requires { All (SpeakBelow (2 ^ 31)) clauses.now }
     ensures { IfOk result (λ codes. ListsCodes
         (λ k. IsImpliedCode (slice_index_or clauses.now k [])) (length clauses.now) codes.items) }
@@ -39,7 +39,7 @@ pub(crate) fn codes_of(alloc: Global, clauses: &Clauses) -> Result<Vec<u64>, All
 }
 
 // Puts the codes of what a clause implies last, if it has one or two literals.
-fn put_clause(codes: &mut Vec<u64>, clause: &[Literal]) -> Result<(), AllocError>
+fn put_clause(codes: &mut Vec<usize>, clause: &[Literal]) -> Result<(), AllocError>
     requires { SpeakBelow (2 ^ 31) clause.now }
     ensures { OnOk result (PutsCodes (IsImpliedCode clause.now) codes.old.items codes.new.items) }
 {
@@ -54,7 +54,7 @@ fn put_clause(codes: &mut Vec<u64>, clause: &[Literal]) -> Result<(), AllocError
 }
 
 // Puts the code of what a clause of these two literals implies where the first one is false last.
-fn put(codes: &mut Vec<u64>, first: Literal, second: Literal) -> Result<(), AllocError>
+fn put(codes: &mut Vec<usize>, first: Literal, second: Literal) -> Result<(), AllocError>
     requires first { first.atom < 2 ^ 31 }
     requires second { second.atom < 2 ^ 31 }
     ensures { OnOk result (PutsCodes

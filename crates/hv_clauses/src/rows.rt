@@ -1,26 +1,52 @@
-//! Numbers by key, kept as one rising list of codes: of a key and a number the code is the key
-//! times 2^32 plus the number.
+//! Rows of numbers, one for each key: all numbers in one list, by rising keys, and where those of
+//! each key begin. On the way there a key and a number have a code: the key times 2^32 plus the
+//! number.
 
-ghost use Rattle.std.specs.Prelude.{◌≡◌, ◌<◌, ◌≤◌, ◌/◌, ◌↔◌, ℕ, length, map, slice_index};
-ghost use Rattle.std.specs.Prelude.{slice_range, IfOk};
+ghost use Rattle.std.specs.Prelude.{◌≡◌, ◌<◌, ◌≤◌, ◌↔◌, ℕ, List, length, map};
+ghost use Rattle.std.specs.Prelude.{IfOk, OnOk, slice_index_or};
 ghost use Rattle.std.specs.List.{Contains};
-ghost use Rattle.std.specs.List.Sorted.{IsStrictlyIncreasing};
-ghost use Rattle.hv_clauses.specs.Working.Rows.{IsEndBefore, IsEndWith, IsPartOf, code, key_of};
-ghost use Rattle.hv_clauses.specs.Working.Rows.{place_of_code};
+ghost use Rattle.std.specs.List.Sorted.{IsNonDecreasingBy, IsStrictlyIncreasing};
+ghost use Rattle.hv_clauses.specs.declared.rows.Head.{Head};
+ghost use Rattle.hv_clauses.specs.Working.Rows.{AreHeads, HasHeads, IsEndBefore, IsPartOf};
+ghost use Rattle.hv_clauses.specs.Working.Rows.{PutsHead};
+ghost use Rattle.hv_clauses.specs.Working.Rows.{code, key_of, place_of_code};
 
 use std::alloc::{AllocError, Global};
 
-const WIDTH: u64 = 1 << 32;
+const WIDTH: usize = 1 << 32;
+
+/// Where the numbers of a key begin.
+#[derive(Clone, Copy, Debug, PartialEq, Eq)]
+pub(crate) struct Head {
+    /// The key.
+    pub key: u32,
+    /// The place of its first number.
+    pub start: u32,
+}
 
 // The code of a key and a number.
-pub(crate) fn code_of(key: u32, number: u32) -> u64
+pub(crate) fn code_of(key: u32, number: u32) -> usize
     ensures { result ≡ code key number }
 {
-    key as u64 * WIDTH + number as u64
+    key as usize * WIDTH + number as usize
+}
+
+// The key of a code.
+pub(crate) fn key_in(code: usize) -> u32
+    ensures { result ≡ key_of code }
+{
+    (code / WIDTH) as u32
+}
+
+// The number of a code.
+pub(crate) fn number_in(code: usize) -> u32
+    ensures { result ≡ place_of_code code }
+{
+    (code % WIDTH) as u32
 }
 
 // Puts the codes in order, each once.
-pub(crate) fn sort(codes: &mut Vec<u64>)
+pub(crate) fn sort(codes: &mut Vec<usize>)
     ensures rises { IsStrictlyIncreasing codes.new.items }
     ensures has { (c : ℕ) → Contains codes.new.items c ↔ Contains codes.old.items c }
 {
@@ -28,58 +54,91 @@ pub(crate) fn sort(codes: &mut Vec<u64>)
     codes.dedup();
 }
 
-// The numbers of the codes, in order.
-pub(crate) fn places_of(alloc: Global, codes: &[u64]) -> Result<Vec<usize>, AllocError>
-    ensures { IfOk result (λ places. places.items ≡ map place_of_code codes.now) }
+// Leaves the number of each code.
+pub(crate) fn strip(codes: &mut Vec<usize>)
+    ensures { codes.new.items ≡ map place_of_code codes.old.items }
 {
-    let mut places = Vec::with_capacity(alloc, codes.len())?;
-    for code in codes {
-        places.push((*code % WIDTH) as usize)?;
+    for index in 0..codes.len() {
+        codes[index] %= WIDTH;
     }
-    Ok(places)
 }
 
 // The numbers of the codes, in order.
-pub(crate) fn numbers_of(alloc: Global, codes: &[u64]) -> Result<Vec<u32>, AllocError>
+pub(crate) fn numbers_of(alloc: Global, codes: &[usize]) -> Result<Vec<u32>, AllocError>
     ensures { IfOk result (λ numbers. numbers.items ≡ map place_of_code codes.now) }
 {
     let mut numbers = Vec::with_capacity(alloc, codes.len())?;
     for code in codes {
-        numbers.push((*code % WIDTH) as u32)?;
+        numbers.push(number_in(*code))?;
     }
     Ok(numbers)
 }
 
-// How many codes have lesser keys.
-pub(crate) fn start_of(codes: &[u64], key: u32) -> usize
+// Where the numbers of each key begin. More than 2^32 codes are taken as want of memory.
+pub(crate) fn heads_of(alloc: Global, codes: &[usize]) -> Result<Vec<Head>, AllocError>
     requires { IsStrictlyIncreasing codes.now }
-    ensures { IsEndBefore key codes.now result }
+    ensures { IfOk result (λ heads. AreHeads codes.now heads.items) }
 {
-    codes.partition_point(|code| *code / WIDTH < key as u64)
+    if codes.len() > u32::MAX as usize {
+        return Err(AllocError);
+    }
+    let mut heads = Vec::new(alloc);
+    for start in 0..codes.len() {
+        let key = key_in(codes[start]);
+        put_head(
+            &mut heads,
+            Head {
+                key,
+                start: start as u32,
+            },
+        )?;
+    }
+    Ok(heads)
 }
 
-// How many codes have this key or a lesser one.
-pub(crate) fn end_of(codes: &[u64], key: u32) -> usize
-    requires { IsStrictlyIncreasing codes.now }
-    ensures { IsEndWith key codes.now result }
+// Puts a head last, unless the last one is of the same key.
+fn put_head(heads: &mut Vec<Head>, head: Head) -> Result<(), AllocError>
+    ensures { OnOk result (PutsHead heads.old.items head heads.new.items) }
 {
-    codes.partition_point(|code| *code / WIDTH <= key as u64)
+    if let Some(last) = heads.last() {
+        if last.key == head.key {
+            return Ok(());
+        }
+    }
+    heads.push(head)?;
+    Ok(())
 }
 
-// The part of the numbers that stands where the codes of the key do.
-pub(crate) fn places_at<'a>(codes: &[u64], places: &'a [usize], key: u32) -> &'a [usize]
-    requires rises { IsStrictlyIncreasing codes.now }
-    requires size { length places.now ≡ length codes.now }
-    ensures { IsPartOf key codes.now places.now result.now }
+// Where the numbers of the keys from this one on begin, among so many numbers.
+pub(crate) fn begin_of(heads: &[Head], len: usize, key: u64) -> usize
+    requires { HasHeads heads.now len }
+    ensures { (codes : List ℕ) → AreHeads codes heads.now → length codes ≡ len
+        → IsEndBefore key codes result }
 {
-    &places[start_of(codes, key)..end_of(codes, key)]
+    match heads.get(count_below(heads, key)) {
+        Some(head) => head.start as usize,
+        None => len,
+    }
 }
 
-// The part of the numbers that stands where the codes of the key do.
-pub(crate) fn numbers_at<'a>(codes: &[u64], numbers: &'a [u32], key: u32) -> &'a [u32]
-    requires rises { IsStrictlyIncreasing codes.now }
-    requires size { length numbers.now ≡ length codes.now }
-    ensures { IsPartOf key codes.now numbers.now result.now }
+// How many heads are of lesser keys.
+fn count_below(heads: &[Head], key: u64) -> usize
+    requires { IsNonDecreasingBy (λ h. h.key) heads.now }
+    ensures within { result ≤ length heads.now }
+    ensures before { (k : ℕ) (d : Head) → k < result → (slice_index_or heads.now k d).key < key }
+    ensures after { (k : ℕ) (d : Head) → result ≤ k → k < length heads.now
+        → key ≤ (slice_index_or heads.now k d).key }
 {
-    &numbers[start_of(codes, key)..end_of(codes, key)]
+    heads.partition_point(|head| (head.key as u64) < key)
+}
+
+// The part of the numbers that are of the key.
+pub(crate) fn numbers_at<'a>(heads: &[Head], numbers: &'a [u32], key: u32) -> &'a [u32]
+    requires { HasHeads heads.now (length numbers.now) }
+    ensures { (codes : List ℕ) → AreHeads codes heads.now → length codes ≡ length numbers.now
+        → IsPartOf key codes numbers.now result.now }
+{
+    let from = begin_of(heads, numbers.len(), key as u64);
+    let upto = begin_of(heads, numbers.len(), key as u64 + 1);
+    &numbers[from..upto]
 }

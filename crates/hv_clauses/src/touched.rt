@@ -1,19 +1,18 @@
 //! The choices that an effect can make false, where the set of the one negative operand is a
 //! positive operand at the other time.
 
-ghost use Rattle.std.specs.Prelude.{◌≡◌, ◌<◌, Some, ⊤, length, slice_index_or, true};
-ghost use Rattle.std.specs.List.{All};
+ghost use Rattle.std.specs.Prelude.{◌≡◌, ◌<◌, Some, length, slice_index, true};
+ghost use Rattle.std.specs.List.{Contains};
 ghost use Rattle.hv_task.specs.Strips.{atoms};
 ghost use Rattle.hv_sets.specs.Cost.{choices_of};
 ghost use Rattle.hv_clauses.specs.Clausal.{sizes_of};
-ghost use Rattle.hv_clauses.specs.declared.occurrences.Occurrence.{Occurrence};
 ghost use Rattle.hv_clauses.specs.Working.Found.{IsBased, IsFramed, IsMet, IsMetAmong, IsMetBelow};
 ghost use Rattle.hv_clauses.specs.Working.Found.{IsPosed};
-ghost use Rattle.hv_clauses.specs.Marks.{known};
-ghost use Rattle.hv_clauses.specs.Working.Occurrences.{AreBeside, no_literal, signed, turning_sign};
+ghost use Rattle.hv_clauses.specs.Working.Occurrences.{AreStanding, entry_or_none, no_literal};
+ghost use Rattle.hv_clauses.specs.Working.Occurrences.{turning_sign};
 ghost use Rattle.hv_clauses.specs.Working.Problem.{FitsChoice};
 ghost use Rattle.hv_clauses.specs.Store.{formula_at};
-ghost use Rattle.hv_clauses.specs.Working.Touched.{IsTouched};
+ghost use Rattle.hv_clauses.specs.Working.Touched.{IsTouched, IsTurnedBy};
 ghost use Rattle.hv_clauses.specs.Working.Trail.{literal_of, marks_of};
 ghost use Rattle.hv_clauses.specs.Units.{value_of};
 
@@ -87,9 +86,9 @@ fn try_value<K: ClauseKind>(
     requires based { IsBased problem.now.task.now (formula_at problem.now.store.now)
         problem.now.effect.now problem.now.query.now marks.old }
     requires state { length state.old ≡ atoms problem.now.task.now }
-    ensures met { IsMetAmong result
-        (signed touched.now.occurs.now (turning_sign touched.now.operand.after value))
-        (λ p. known problem.now.effect.now p ≡ Some value)
+    ensures met { IsMetAmong result (IsTurnedBy problem.now.effect.now value
+        (turning_sign touched.now.operand.after value)
+        (formula_at problem.now.store.now touched.now.number))
         (choices_of problem.now.task.now (sizes_of (formula_at problem.now.store.now))
         problem.now.query.now.negative) (atoms problem.now.task.now)
         (FitsChoice problem.now.task.now (formula_at problem.now.store.now) problem.now.effect.now
@@ -105,7 +104,7 @@ fn try_value<K: ClauseKind>(
             positive: sign,
         };
         let standing = touched.occurs.standing(own);
-        if try_listed(problem, touched, sign, &standing, marks, state) {
+        if try_listed(problem, touched, &standing, marks, state) {
             return true;
         }
     }
@@ -120,20 +119,16 @@ fn turning_sign(after: bool, value: bool) -> bool
     value != after
 }
 
-// Tries each choice of a listed clause.
+// Tries each choice of a clause in which a literal stands.
 fn try_listed<K: ClauseKind>(
     problem: &Problem<'_, K>,
     touched: &Touched<'_>,
-    sign: bool,
     standing: &Standing<'_>,
     marks: &mut Marks<'_>,
     state: &mut State,
 ) -> bool
-    requires inside { All (λ o. o.place < choices_of problem.now.task.now
-        (sizes_of (formula_at problem.now.store.now)) problem.now.query.now.negative)
-        standing.now.listed.now }
-    requires beside { AreBeside sign (formula_at problem.now.store.now touched.now.number)
-        standing.now.listed.now standing.now.entries.now }
+    requires standing { AreStanding (formula_at problem.now.store.now touched.now.number)
+        standing.now }
     requires touched { IsTouched problem.now.task.now (formula_at problem.now.store.now)
         problem.now.query.now touched.now }
     requires posed { IsPosed problem.now.task.now problem.now.store.now problem.now.effect.now
@@ -141,7 +136,7 @@ fn try_listed<K: ClauseKind>(
     requires based { IsBased problem.now.task.now (formula_at problem.now.store.now)
         problem.now.effect.now problem.now.query.now marks.old }
     requires state { length state.old ≡ atoms problem.now.task.now }
-    ensures met { IsMetAmong result standing.now.listed.now (λ _. ⊤)
+    ensures met { IsMetAmong result (Contains standing.now.places.now)
         (choices_of problem.now.task.now (sizes_of (formula_at problem.now.store.now))
         problem.now.query.now.negative) (atoms problem.now.task.now)
         (FitsChoice problem.now.task.now (formula_at problem.now.store.now) problem.now.effect.now
@@ -149,31 +144,27 @@ fn try_listed<K: ClauseKind>(
     ensures same { marks.new ≡ marks.old }
     ensures state { length state.new ≡ length state.old }
 {
-    for index in 0..standing.listed.len() {
-        if try_one(problem, touched, sign, standing, index, marks, state) {
+    for index in 0..standing.places.len() {
+        if try_one(problem, touched, standing, index, marks, state) {
             return true;
         }
     }
     false
 }
 
-// Tries the choice of the clause that is listed at this place. Where the literal beside is known to
-// be true, no state fits it: that shows without a look into the clause.
+// Tries the choice of the clause at this place of the list. Where the literal beside is known to be
+// true, no state fits it: that shows without a look into the clause.
 fn try_one<K: ClauseKind>(
     problem: &Problem<'_, K>,
     touched: &Touched<'_>,
-    sign: bool,
     standing: &Standing<'_>,
     index: usize,
     marks: &mut Marks<'_>,
     state: &mut State,
 ) -> bool
-    requires inside { All (λ o. o.place < choices_of problem.now.task.now
-        (sizes_of (formula_at problem.now.store.now)) problem.now.query.now.negative)
-        standing.now.listed.now }
-    requires beside { AreBeside sign (formula_at problem.now.store.now touched.now.number)
-        standing.now.listed.now standing.now.entries.now }
-    requires index { index < length standing.now.listed.now }
+    requires standing { AreStanding (formula_at problem.now.store.now touched.now.number)
+        standing.now }
+    requires index { index < length standing.now.places.now }
     requires touched { IsTouched problem.now.task.now (formula_at problem.now.store.now)
         problem.now.query.now touched.now }
     requires posed { IsPosed problem.now.task.now problem.now.store.now problem.now.effect.now
@@ -181,25 +172,26 @@ fn try_one<K: ClauseKind>(
     requires based { IsBased problem.now.task.now (formula_at problem.now.store.now)
         problem.now.effect.now problem.now.query.now marks.old }
     requires state { length state.old ≡ atoms problem.now.task.now }
-    ensures met { (o : Occurrence) → IsMet result (atoms problem.now.task.now)
+    ensures met { IsMet result (atoms problem.now.task.now)
         (FitsChoice problem.now.task.now (formula_at problem.now.store.now) problem.now.effect.now
-        problem.now.query.now (slice_index_or standing.now.listed.now index o).place) state.new }
+        problem.now.query.now (slice_index standing.now.places.now index)) state.new }
     ensures same { marks.new ≡ marks.old }
     ensures state { length state.new ≡ length state.old }
 {
     let seen = problem.effect.late(touched.operand.after);
-    if is_true(standing.entries[index], &seen, marks) {
+    if is_true(standing.entries, index, &seen, marks) {
         return false;
     }
-    find::decide(problem, standing.listed[index].place as u64, marks, state)
+    find::decide(problem, standing.places[index] as u64, marks, state)
 }
 
-// Whether an entry stands for a literal that is known to be true.
-fn is_true(entry: u32, effect: &Effect<'_>, marks: &Marks<'_>) -> bool
-    ensures { result ≡ true → (entry ≡ no_literal → ⊥)
-        × (value_of effect.now (marks_of marks.now) (literal_of entry) ≡ Some true) }
+// Whether the entry at a place stands for a literal that is known to be true.
+fn is_true(entries: &[u32], place: usize, effect: &Effect<'_>, marks: &Marks<'_>) -> bool
+    ensures { result ≡ true → (entry_or_none entries.now place ≡ no_literal → ⊥)
+        × (value_of effect.now (marks_of marks.now) (literal_of (entry_or_none entries.now place))
+        ≡ Some true) }
 {
-    match beside::literal_at(entry) {
+    match beside::literal_at(entries, place) {
         None => false,
         Some(literal) => literals::value(effect, marks, literal) == Some(true),
     }

@@ -4,7 +4,6 @@ ghost use Rattle.std.specs.Prelude.{◌≡◌, ◌<◌, ℕ, Some, true, not, le
 ghost use Rattle.std.specs.List.{All, Contains};
 ghost use Rattle.hv_sets.specs.declared.literal.Literal.{Literal};
 ghost use Rattle.hv_sets.specs.Truth.{in_clauses};
-ghost use Rattle.hv_clauses.specs.declared.occurrences.Occurrence.{Occurrence};
 ghost use Rattle.hv_clauses.specs.Working.Base.{AreSettledBut};
 ghost use Rattle.hv_clauses.specs.Working.Chase.{AreKept, IsFollowed, IsKept};
 ghost use Rattle.hv_clauses.specs.Working.Choices.{clause_at};
@@ -14,9 +13,9 @@ ghost use Rattle.hv_clauses.specs.Working.Occurrences.{IsIndexOf};
 
 use crate::change::Effect;
 use crate::chase;
-use crate::occurrences::{Occurrence, Occurrences};
+use crate::occurrences::Occurrences;
 use crate::trail::Marks;
-use hv_sets::Clauses;
+use hv_sets::{Clauses, Literal};
 
 // Looks at each clause of which the effect makes a literal false, where beside what was known
 // before the others tell nothing more.
@@ -57,31 +56,33 @@ fn start_value(
 {
     let turned = effect.turned(value);
     for atom in turned {
-        let listed = occurs.of(*atom, !value);
-        if !start_listed(clauses, listed, effect, marks) {
+        let own = Literal {
+            atom: *atom,
+            positive: !value,
+        };
+        if !start_listed(clauses, occurs.standing(own).places, effect, marks) {
             return false;
         }
     }
     true
 }
 
-// Looks at each listed clause.
+// Looks at each clause at one of these places.
 fn start_listed(
     clauses: &Clauses,
-    listed: &[Occurrence],
+    places: &[usize],
     effect: &Effect<'_>,
     marks: &mut Marks<'_>,
 ) -> bool
     requires clauses { AreClauses (length marks.old.base) clauses.now }
-    requires inside { All (λ o. o.place < length clauses.now) listed.now }
+    requires inside { All (λ place. place < length clauses.now) places.now }
     ensures followed { IsFollowed (λ state. in_clauses clauses.now (over effect.now state) ≡ true)
         marks.old marks.new result }
-    ensures kept { result ≡ true → (o : Occurrence) → Contains listed.now o
-        → IsKept effect.now (clause_at clauses.now o.place) marks.new 0 }
+    ensures kept { result ≡ true → (place : ℕ) → Contains places.now place
+        → IsKept effect.now (clause_at clauses.now place) marks.new 0 }
 {
-    for occurrence in listed {
-        let place = occurrence.place as usize;
-        if !chase::step(clauses.get(place), place, effect, marks) {
+    for place in places {
+        if !chase::step(clauses.get(*place), *place, effect, marks) {
             return false;
         }
     }

@@ -9,4 +9,3 @@ pub mod Block
 pub mod Proofs
 pub mod Modest
 pub mod Writing
-pub mod Trues

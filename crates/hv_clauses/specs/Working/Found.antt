@@ -1,6 +1,5 @@
 -- What a search for a counterexample finds.
 use Rattle.std.specs.Prelude.{◌≡◌, ◌<◌, ℕ, Bool, true, false, not, List, Some, length, slice_get}
-use Rattle.std.specs.List.{Contains}
 use Rattle.hv_task.specs.Strips.{Strips, atoms}
 use Rattle.hv_sets.specs.declared.literal.Literal.{Literal}
 use Rattle.hv_sets.specs.declared.query.Query.{Query}
@@ -8,7 +7,6 @@ use Rattle.hv_sets.specs.declared.operand.Operand.{Operand}
 use Rattle.hv_sets.specs.declared.operand.Which.TheVariants as W
 use Rattle.hv_sets.specs.Names.{AsksAbout}
 use Rattle.hv_sets.specs.Query.{IsReady, action_of, may_apply}
-use Rattle.hv_clauses.specs.declared.occurrences.Occurrence.{Occurrence}
 use Rattle.hv_clauses.specs.Clausal.{Formula}
 use Rattle.hv_clauses.specs.Working.Clausal.{InAll}
 use Rattle.hv_clauses.specs.Working.Effect.{IsEnabled}
@@ -60,13 +58,12 @@ pub record IsBased (task : Strips) (formulas : ℕ → List (List Literal)) (eff
   pub left : AreAllLeft task formulas effect query.positive knowledge (length knowledge.trail)
 
 -- this state meets one of the conditions with a number below the bound; or no state meets one of
--- which a listed occurrence of an atom in question tells
-abbrev pub IsMetAmong : Bool → List Occurrence → (ℕ → Type 0) → ℕ → ℕ → (ℕ → List Bool → Type 0)
-    → List Bool → Type 0
-IsMetAmong true occurs Asked bound atoms Holds found = IsMetBelow true bound atoms Holds found
-IsMetAmong false occurs Asked bound atoms Holds found =
-    (o : Occurrence) → Contains occurs o → Asked o.atom → (state : List Bool) → length state ≡ atoms
-    → Holds o.place state → ⊥
+-- those whose numbers are asked about
+abbrev pub IsMetAmong : Bool → (ℕ → Type 0) → ℕ → ℕ → (ℕ → List Bool → Type 0) → List Bool → Type 0
+IsMetAmong true Asked bound atoms Holds found = IsMetBelow true bound atoms Holds found
+IsMetAmong false Asked bound atoms Holds found =
+    (number : ℕ) → Asked number → (state : List Bool) → length state ≡ atoms
+    → Holds number state → ⊥
 
 -- this operand stands in the list, and each other one is the empty set
 pub record IsAlone (operand : Operand) (operands : List Operand) : Type 0 where

@@ -3,7 +3,6 @@ use Rattle.std.specs.Prelude.{List}
 use Rattle.std.specs.List.{All}
 use Rattle.hv_sets.specs.declared.literal.Literal.{Literal}
 use Rattle.hv_clauses.specs.Clausal.{AreClauses, Formula}
-use Rattle.hv_clauses.specs.Marks.{over}
 
 -- each clause is of the kind and over the atoms of the task
 pub record IsKinded (IsOf : List Literal → Type 0) (formula : Formula) : Type 0 where

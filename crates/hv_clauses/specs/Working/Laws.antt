@@ -184,13 +184,14 @@ pub denied : (clause : List Literal) (l : Literal) → is_tautology clause ≡ f
 denied clause l plain c = below_named clause plain (bound_of clause) l (below_bound clause l c) c
 
 -- the opposite literal is true where the literal is false
-not_turned : (sign flag : Bool) → cond (not sign) flag (not flag) ≡ not (cond sign flag (not flag))
+pub not_turned : (sign flag : Bool) → cond (not sign) flag (not flag)
+    ≡ not (cond sign flag (not flag))
 not_turned true true = refl
 not_turned true false = refl
 not_turned false true = refl
 not_turned false false = refl
 
-opposite_is : (l : Literal) (state : List Bool)
+pub opposite_is : (l : Literal) (state : List Bool)
     → in_literal (opposite l) state ≡ not (in_literal l state)
 opposite_is l state = not_turned l.positive (has_atom state l.atom)
 

@@ -1,21 +1,17 @@
--- Where the literals of clauses stand: for each literal its atom and the place of its clause.
-use Rattle.std.specs.Prelude.{◌≡◌, ◌<◌, ◌≤◌, ◌⊎◌, ℕ, Bool, true, false, not, List, [], ◌∷◌}
-use Rattle.std.specs.Prelude.{length, slice_index, slice_index_or}
-use Rattle.std.specs.List.{All, Contains}
-use Rattle.std.specs.List.Sorted.{IsNonDecreasingBy}
+-- Where the literals of clauses stand.
+use Rattle.std.specs.Prelude.{◌≡◌, ◌<◌, ◌≤◌, ◌+◌, ◌⊎◌, ℕ, Bool, true, false, not, List, [], ◌∷◌}
+use Rattle.std.specs.Prelude.{length}
+use Rattle.std.specs.Prelude.{slice_index, slice_index_or}
 use Rattle.hv_sets.specs.declared.literal.Literal.{Literal}
-use Rattle.hv_clauses.specs.declared.occurrences.Occurrence.{Occurrence}
 use Rattle.hv_clauses.specs.declared.occurrences.Occurrences.{Occurrences}
+use Rattle.hv_clauses.specs.declared.occurrences.Signed.{Signed}
+use Rattle.hv_clauses.specs.declared.occurrences.Standing.{Standing}
 use Rattle.hv_clauses.specs.Working.Choices.{clause_at}
 use Rattle.hv_clauses.specs.Implied.{IsPair}
+use Rattle.hv_clauses.specs.Rows.{IsRow}
+use Rattle.hv_clauses.specs.Working.Rows.{AreCoded, AreHeads, key_of, place_of_code}
+use Rattle.hv_clauses.specs.Working.Signed.{StandsAs}
 use Rattle.hv_clauses.specs.Working.Trail.{literal_of}
-
--- each literal of this sign of each clause is listed
-abbrev pub ListsAll : Bool → List (List Literal) → List Occurrence → Type 0
-ListsAll sign clauses occurs =
-    (place : ℕ) (l : Literal) → place < length clauses → Contains (clause_at clauses place) l
-    → l.positive ≡ sign
-    → Contains occurs (record { atom = l.atom; place = place })
 
 -- the entry that stands for no literal
 abbrev pub no_literal : ℕ
@@ -28,43 +24,47 @@ pub record IsBeside (clause : List Literal) (own : Literal) (entry : ℕ) : Type
   pub two : (other : Literal) → (clause ≡ own ∷ other ∷ []) ⊎ (clause ≡ other ∷ own ∷ [])
       → literal_of entry ≡ other
 
--- the same at each place of the lists
-pub record AreBeside (sign : Bool) (clauses : List (List Literal)) (occurs : List Occurrence)
-    (entries : List ℕ) : Type 0 where
-  pub size : length entries ≡ length occurs
-  pub each : (k : ℕ) (o : Occurrence) → k < length occurs
-      → IsBeside (clause_at clauses (slice_index_or occurs k o).place)
-      (record { atom = (slice_index_or occurs k o).atom; positive = sign }) (slice_index entries k)
+-- the entry at a place; past the end none stands for a literal
+abbrev pub entry_or_none : List ℕ → ℕ → ℕ
+entry_or_none entries k = slice_index_or entries k no_literal
 
--- the lists have the occurrences of the literals of this sign, by rising atoms, and what stands
--- beside them
-pub record AreOccurrences (sign : Bool) (clauses : List (List Literal)) (occurs : List Occurrence)
-    (entries : List ℕ) : Type 0 where
-  pub sorted : IsNonDecreasingBy (λ o. o.atom) occurs
-  pub inside : All (λ o. o.place < length clauses) occurs
-  pub all : ListsAll sign clauses occurs
-  pub beside : AreBeside sign clauses occurs entries
+-- the entries are those for the literals beside the ones with these codes
+abbrev pub AreBeside : Bool → List (List Literal) → List ℕ → List ℕ → Type 0
+AreBeside sign clauses codes entries =
+    (k : ℕ) → k < length codes
+    → IsBeside (clause_at clauses (place_of_code (slice_index codes k)))
+    (record { atom = key_of (slice_index codes k); positive = sign }) (entry_or_none entries k)
 
--- the occurrences of the literals of this sign
-abbrev pub signed : Occurrences → Bool → List Occurrence
-signed occurs true = occurs.positive.items
-signed occurs false = occurs.negative.items
+-- the entry was put at a place, before which the others are as they were
+pub record PutsEntry (old : List ℕ) (place entry : ℕ) (new : List ℕ) : Type 0 where
+  pub here : entry_or_none new place ≡ entry
+  pub before : (k : ℕ) → k < place → entry_or_none new k ≡ entry_or_none old k
+  pub few : length new ≤ place + 1
 
--- the entries for the literals beside them
-abbrev pub beside_signed : Occurrences → Bool → List ℕ
-beside_signed occurs true = occurs.beside_positive.items
-beside_signed occurs false = occurs.beside_negative.items
+-- by rising atoms the places of the clauses with a literal of this sign, and what stands beside
+pub record AreOccurrences (sign : Bool) (clauses : List (List Literal))
+    (listed : Signed) : Type 0 where
+  pub codes : List ℕ
+  pub heads : AreHeads codes listed.heads.items
+  pub coded : AreCoded (StandsAs sign clauses) codes listed.places.items
+  pub beside : AreBeside sign clauses codes listed.beside.items
 
--- these are the occurrences of the literals of these clauses
+-- the lists for the literals of this sign
+abbrev pub signed : Occurrences → Bool → Signed
+signed occurs true = occurs.positive
+signed occurs false = occurs.negative
+
+-- they tell where the literals of these clauses stand
 abbrev pub IsIndexOf : List (List Literal) → Occurrences → Type 0
-IsIndexOf clauses occurs =
-    (sign : Bool) → AreOccurrences sign clauses (signed occurs sign) (beside_signed occurs sign)
+IsIndexOf clauses occurs = (sign : Bool) → AreOccurrences sign clauses (signed occurs sign)
 
--- the first so many are of the one kind, and the others of the other
-abbrev pub AreLeft : (Occurrence → Type 0) → (Occurrence → Type 0) → List Occurrence → ℕ → Type 0
-AreLeft After Before occurs place =
-    ((k : ℕ) (d : Occurrence) → k < place → Before (slice_index_or occurs k d))
-    × ((k : ℕ) (d : Occurrence) → place ≤ k → k < length occurs → After (slice_index_or occurs k d))
+-- the places, rising, of all clauses that have the literal, and what stands beside it there
+pub record AreStanding (clauses : List (List Literal)) (standing : Standing) : Type 0 where
+  pub row : IsRow (StandsAs standing.literal.positive clauses) standing.literal.atom
+      standing.places.now
+  pub beside : (k : ℕ) → k < length standing.places.now
+      → IsBeside (clause_at clauses (slice_index standing.places.now k)) standing.literal
+      (entry_or_none standing.entries.now k)
 
 -- the sign of the literals that are turned against an operand where their atoms are made this
 -- value: those that become false, where the operand is asked about after the action, and those that

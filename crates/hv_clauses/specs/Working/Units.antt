@@ -3,7 +3,6 @@ use Rattle.std.specs.Prelude.{◌≡◌, ℕ, Bool, true, false, List, length}
 use Rattle.std.specs.Prelude.{Some}
 use Rattle.std.specs.List.{All}
 use Rattle.hv_sets.specs.declared.literal.Literal.{Literal}
-use Rattle.hv_clauses.specs.Marks.{known}
 use Rattle.hv_clauses.specs.Working.Marks.{Agrees, KeepsKnown}
 use Rattle.hv_clauses.specs.Units.{value_of, IsSettled}
 

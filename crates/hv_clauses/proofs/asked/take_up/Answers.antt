@@ -1,4 +1,4 @@
-use Rattle.std.proofs.Common.{◌≡◌, ◌∙◌, ◌++◌, ◌∷◌, [], length, sym, arith, subst}
+use Rattle.std.proofs.Common.{◌∙◌, length, sym, arith, subst}
 use Rattle.hv_clauses.specs.Working.Trail.{Grows, Knowledge}
 use Rattle.hv_clauses.proofs.Asking.{taken_open}
 use Rattle.hv_clauses.proofs.Chasing.{grown_more}

@@ -1,14 +1,14 @@
-use Rattle.std.proofs.Common.{◌≡◌, ℕ, ◌<◌, length, get_or}
-use Rattle.hv_clauses.specs.declared.occurrences.Occurrence.{Occurrence}
+use Rattle.std.proofs.Common.{ℕ, ◌<◌, ◌≤◌, length, get_or}
 use Rattle.hv_clauses.specs.Working.Choices.{clause_at}
-use Rattle.hv_clauses.specs.Working.Occurrences.{IsBeside}
+use Rattle.hv_clauses.specs.Working.Occurrences.{IsBeside, entry_or_none}
+use Rattle.hv_clauses.specs.Working.Rows.{key_of, place_of_code}
 use Rattle.hv_clauses.proofs.beside.entries_of.Given as goal
 
-abbrev pub invariant-loop-occurrence : goal.invariant-loop-occurrence
-invariant-loop-occurrence l = record {
-  size : length l.entries.items ≡ l.occurrence-index;
-  each : (k : ℕ) → k < l.occurrence-index → (o : Occurrence)
-      → IsBeside (clause_at l.clauses (get_or l.listed k o).place)
-      (record { atom = (get_or l.listed k o).atom; positive = l.sign })
-      (get_or l.entries.items k 0);
+abbrev pub invariant-loop-place : goal.invariant-loop-place
+invariant-loop-place l = record {
+  few : length l.entries.items ≤ l.place;
+  each : (k : ℕ) → k < l.place
+      → IsBeside (clause_at l.clauses (place_of_code (get_or l.codes k 0)))
+      (record { atom = key_of (get_or l.codes k 0); positive = l.sign })
+      (entry_or_none l.entries.items k);
 }

@@ -1,11 +1,11 @@
-use Rattle.std.proofs.Common.{◌+◌, ◌<◌, ◌∙◌, Some, false, not, length, get_or, ap, arith, sym}
-use Rattle.std.proofs.lemmas.List.Elements.{All-contains, Contains-get_or}
+use Rattle.std.proofs.Common.{◌+◌, ◌∙◌, Some, false, not, length, ap, arith, sym, subst}
 use Rattle.std.proofs.lemmas.Option.{get_or_from_slice_get}
 use Rattle.std.proofs.Math.Bool.{beq}
 use Rattle.std.specs.Option.{option_eq}
-use Rattle.hv_clauses.specs.declared.occurrences.Occurrence.{Occurrence}
+use Rattle.hv_sets.specs.declared.literal.Literal.{Literal}
+use Rattle.hv_clauses.specs.Rows.{IsRow}
+use Rattle.hv_clauses.specs.Working.Signed.{StandsAs}
 use Rattle.hv_clauses.specs.Working.Choices.{clause_at}
-use Rattle.hv_clauses.specs.Working.Occurrences.{signed}
 use Rattle.hv_clauses.proofs.Besides.{kept_sooner, kept_true}
 use Rattle.hv_clauses.proofs.Chasing.{grown_by, kept_grown, kept_next, longer, read_on}
 use Rattle.hv_clauses.proofs.Rounds.{never}
@@ -22,24 +22,18 @@ returns-then-ne-clause-kept c = λ is.
     let value = c.value.ensures ∙ out in
     never (sym c.if-ne.true ∙ (c.ne.ensures ∙ ap (λ v. not (option_eq beq v (Some false))) value)))
 
-pub visit_all-requires-clause-inside : goal.visit_all-requires-clause-inside
-visit_all-requires-clause-inside c =
-    let sign = not c.get-literal.result.positive in λ k d less.
-    All-contains (λ (o : Occurrence). o.place < length c.args.clauses.now)
-    (signed c.args.occurs.now sign) _ (c.requires.index sign).inside
-    (c.standing-standing.ensures.only (get_or c.standing-standing.result.listed.now k d)
-    (Contains-get_or c.standing-standing.result.listed.now k d less))
+pub standing-standing-requires : goal.standing-standing-requires
+standing-standing-requires c = (c.args.clauses.now, c.requires.index)
 
-pub visit_all-requires-clause-beside : goal.visit_all-requires-clause-beside
-visit_all-requires-clause-beside c =
-    let sign = not c.get-literal.result.positive in
-    c.standing-standing.ensures.beside c.args.clauses.now (c.requires.index sign).beside
+pub visit_all-requires-clause-standing : goal.visit_all-requires-clause-standing
+visit_all-requires-clause-standing c =
+    c.standing-standing.ensures.standing c.args.clauses.now c.requires.index
 
 pub returns-clause-kept : goal.returns-clause-kept
 returns-clause-kept c = λ is.
     let e = c.args.effect.now in
     let clauses = c.args.clauses.now in
-    let listed = c.standing-standing.result.listed.now in
+    let places = c.standing-standing.result.places.now in
     let old = c.args.marks.now in
     let new = c.visit_all.new.marks in
     let from = c.args.from in
@@ -48,11 +42,12 @@ returns-clause-kept c = λ is.
     let more = longer _ _ _ _ followed in
     let less = c.requires.from in
     let literal = c.get-literal.result in
-    let sign = not literal.positive in
-    kept_next e clauses (signed c.args.occurs.now sign) listed new from literal (omega arith)
+    kept_next e clauses places new from literal (omega arith)
     (read_on old.trail new.trail followed.more.0 from literal less followed.more.1
     c.get-literal.ensures.here)
     (kept_grown e clauses old new from grown (omega arith) c.requires.kept)
-    (c.requires.index sign).all c.standing-standing.ensures.all
-    (λ o has. kept_sooner e (clause_at clauses o.place) new (from + 1) (length old.trail)
-    (omega arith) more (c.visit_all.ensures.kept is o has))
+    (subst (λ (l : Literal). IsRow (StandsAs l.positive clauses) l.atom places)
+    c.standing-standing.ensures.literal
+    (c.standing-standing.ensures.standing clauses c.requires.index).row)
+    (λ place has. kept_sooner e (clause_at clauses place) new (from + 1) (length old.trail)
+    (omega arith) more (c.visit_all.ensures.kept is place has))

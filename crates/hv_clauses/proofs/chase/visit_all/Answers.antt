@@ -1,7 +1,7 @@
-use Rattle.std.proofs.Common.{◌≡◌, ◌<◌, true, false, length, get_or, refl, sym, ap, arith}
+use Rattle.std.proofs.Common.{◌≡◌, ◌<◌, ◌∙◌, true, false, length, get_or, refl, sym, ap, arith}
 use Rattle.std.proofs.Common.{below_more, subst}
 use Rattle.hv_sets.specs.Truth.{in_clauses}
-use Rattle.hv_clauses.specs.declared.occurrences.Occurrence.{Occurrence}
+use Rattle.std.proofs.lemmas.List.{get_or_default}
 use Rattle.hv_clauses.specs.Working.Chase.{IsKept}
 use Rattle.hv_clauses.specs.Working.Choices.{clause_at}
 use Rattle.hv_clauses.specs.Clausal.{AreClauses}
@@ -19,7 +19,7 @@ visit_one-requires-clause-clauses c =
 pub visit_one-requires-clause-out : goal.visit_one-requires-clause-out
 visit_one-requires-clause-out c =
     value_extends c.args.effect.now (marks_of c.args.marks.now) (marks_of c.loop-index.marks)
-    c.args.own false c.loop-index.invariant.followed.grows c.requires.out
+    c.args.standing.now.literal false c.loop-index.invariant.followed.grows c.requires.out
 
 pub returns-then-not-visit_one-clause-followed : goal.returns-then-not-visit_one-clause-followed
 returns-then-not-visit_one-clause-followed c =
@@ -32,7 +32,7 @@ pub loop-index-preserved : goal.loop-index-preserved
 loop-index-preserved c =
     let e = c.args.effect.now in
     let clauses = c.args.clauses.now in
-    let listed = c.args.standing.now.listed.now in
+    let places = c.args.standing.now.places.now in
     let index = c.loop-index.index in
     let old = c.loop-index.marks in
     let new = c.visit_one.new.marks in
@@ -42,18 +42,18 @@ loop-index-preserved c =
       followed = followed_then (λ s. in_clauses clauses (over e s) ≡ true)
           (λ s. in_clauses clauses (over e s) ≡ true)
           _ _ _ _ (λ state size holds. holds) c.loop-index.invariant.followed step;
-      seen = below_more (λ k. (o : Occurrence)
-          → IsKept e (clause_at clauses (get_or listed k o).place) new from) index
-          (λ k less o. kept_on e (clause_at clauses (get_or listed k o).place) old new from
+      seen = below_more (λ k. IsKept e (clause_at clauses (get_or places k 0)) new from) index
+          (λ k less. kept_on e (clause_at clauses (get_or places k 0)) old new from
           step.base step.more (longer _ _ _ _ c.loop-index.invariant.followed)
-          (c.loop-index.invariant.seen k less o))
-          (λ o apart. c.if-not-visit_one.ensures.settled refl o);
+          (c.loop-index.invariant.seen k less))
+          (λ apart. c.if-not-visit_one.ensures.settled refl);
     }
 
 pub returns-clause-kept : goal.returns-clause-kept
-returns-clause-kept c = λ is o has.
+returns-clause-kept c = λ is place has.
     let end = c.loop-index-test.false in
-    let at : has.0 < length c.args.standing.now.listed.now = has.1 in
-    subst (λ (x : Occurrence). IsKept c.args.effect.now (clause_at c.args.clauses.now x.place)
-    c.loop-index.marks (length c.args.marks.now.trail)) has.2
-    (c.loop-index.invariant.seen has.0 (omega arith) o)
+    let within : has.0 < length c.args.standing.now.places.now = has.1 in
+    subst (λ x. IsKept c.args.effect.now (clause_at c.args.clauses.now x) c.loop-index.marks
+    (length c.args.marks.now.trail))
+    (get_or_default c.args.standing.now.places.now has.0 0 place within ∙ has.2)
+    (c.loop-index.invariant.seen has.0 (omega arith))

@@ -1,6 +1,5 @@
 use Rattle.std.proofs.Common.{◌≡◌, ℕ, ◌<◌, true, length, get_or}
 use Rattle.hv_sets.specs.Truth.{in_clauses}
-use Rattle.hv_clauses.specs.declared.occurrences.Occurrence.{Occurrence}
 use Rattle.hv_clauses.specs.Working.Chase.{IsFollowed, IsKept}
 use Rattle.hv_clauses.specs.Working.Choices.{clause_at}
 use Rattle.hv_clauses.specs.Marks.{over}
@@ -10,7 +9,7 @@ abbrev pub invariant-loop-index : goal.invariant-loop-index
 invariant-loop-index l = record {
   followed : IsFollowed (λ state. in_clauses l.clauses (over l.effect state) ≡ true) l.fn.marks
       l.marks true;
-  seen : (k : ℕ) → k < l.index → (o : Occurrence)
-      → IsKept l.effect (clause_at l.clauses (get_or l.standing.listed.now k o).place) l.marks
+  seen : (k : ℕ) → k < l.index
+      → IsKept l.effect (clause_at l.clauses (get_or l.standing.places.now k 0)) l.marks
       (length l.fn.marks.trail);
 }

@@ -38,10 +38,7 @@ try_value-requires-2-clause-touched g c =
 pub returns-clause-met : goal.returns-clause-met
 returns-clause-met g c =
     let p = c.args.problem.now in
-    let formulas = formula_at p.store.now in
-    let index : IsIndexOf (formulas c.in-Set.number) c.occurs.result.now =
-    subst (λ cs. IsIndexOf cs c.occurs.result.now) c.set-set.ensures.clauses c.occurs.ensures in
-    met_from_touched p.task.now formulas p.effect.now p.query.now c.args.operand c.in-Set.number
-    c.requires.framed c.in-Set.is
-    c.occurs.result.now index c.try_value.new.state c.try_value-2.new.state
+    met_from_touched p.task.now (formula_at p.store.now) p.effect.now p.query.now c.args.operand
+    c.in-Set.number c.requires.framed c.in-Set.is
+    c.try_value.new.state c.try_value-2.new.state
     c.if-try_value.ensures.met c.try_value-2.result c.try_value-2.ensures.met

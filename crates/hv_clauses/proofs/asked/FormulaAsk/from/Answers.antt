@@ -1,4 +1,4 @@
-use Rattle.std.proofs.Common.{◌≡◌, ◌∙◌, [], sym, ap, subst}
+use Rattle.std.proofs.Common.{◌∙◌, [], sym, ap, subst}
 use Rattle.hv_clauses.specs.Working.Asking.{IsAskedAlong}
 use Rattle.hv_clauses.specs.Working.Trail.{Knowledge, marked}
 use Rattle.hv_clauses.proofs.Asking.{asked_first}

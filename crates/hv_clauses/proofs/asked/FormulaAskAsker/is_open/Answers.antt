@@ -1,4 +1,4 @@
-use Rattle.std.proofs.Common.{◌≡◌, ◌∙◌, true, false, not, refl, sym, subst}
+use Rattle.std.proofs.Common.{subst}
 use Rattle.hv_clauses.specs.Working.Asking.{IsAskedAlong}
 use Rattle.hv_clauses.proofs.Asking.{asked_none, was_true}
 use Rattle.hv_clauses.proofs.asked.FormulaAskAsker.is_open.Goals as goal

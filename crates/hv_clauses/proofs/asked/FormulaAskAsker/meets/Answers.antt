@@ -1,4 +1,4 @@
-use Rattle.std.proofs.Common.{◌≡◌, ◌∙◌, refl, sym, ap, subst}
+use Rattle.std.proofs.Common.{◌∙◌, refl, sym, subst}
 use Rattle.hv_clauses.specs.Working.Asking.{IsAskedAlong}
 use Rattle.hv_clauses.specs.Working.Trail.{Knowledge}
 use Rattle.hv_clauses.proofs.Asking.{asked_left, asked_meets, was_false}

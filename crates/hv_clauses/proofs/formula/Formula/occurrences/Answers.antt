@@ -1,20 +1,21 @@
 use Rattle.std.proofs.Common.{ap, subst}
+use Rattle.hv_sets.specs.declared.literal.Literal.{Literal}
 use Rattle.hv_clauses.specs.Clausal.{Formula}
-use Rattle.hv_clauses.specs.Working.Lists.{AreListsOf}
 use Rattle.hv_clauses.specs.Negative.{StandsNegatively}
 use Rattle.hv_clauses.specs.Rows.{IsRow}
-use Rattle.hv_clauses.specs.Working.Rows.{AreRows}
-use Rattle.hv_clauses.proofs.Keyed.{row_from}
+use Rattle.hv_clauses.specs.Working.Signed.{StandsAs}
+use Rattle.hv_clauses.proofs.Standings.{negative_row}
 use Rattle.hv_clauses.proofs.formula.Formula.occurrences.Goals as goal
+
+pub standing-requires : goal.standing-requires
+standing-requires g c = (c.self.inside.clauses, c.self.invariant.2.index)
 
 pub returns : goal.returns
 returns g c =
     let s = c.self.inside in
-    let rows : AreRows (StandsNegatively s.clauses) s.lists.codes.items s.lists.places.items =
-    subst (λ how. AreListsOf how s.clauses s.lists) c.requires c.self.invariant.3 in
-    subst (λ clauses. IsRow (StandsNegatively clauses) c.args.atom c.places_at.result.now)
+    subst (λ clauses. IsRow (StandsNegatively clauses) c.args.atom c.standing.result.places.now)
     (ap (λ (f : Formula). f.clauses) c.self.view_is)
-    (row_from (StandsNegatively s.clauses) s.lists.codes.items s.lists.places.items
-    c.deref.result.now c.deref-2.result.now
-    c.args.atom c.places_at.result.now rows c.deref.ensures.value c.deref-2.ensures.value
-    c.places_at.ensures)
+    (negative_row s.clauses c.args.atom c.standing.result.places.now
+    (subst (λ (l : Literal). IsRow (StandsAs l.positive s.clauses) l.atom
+    c.standing.result.places.now) c.standing.ensures.literal
+    (c.standing.ensures.standing s.clauses c.self.invariant.2.index).row))

@@ -1,10 +1,10 @@
 use Rattle.std.proofs.Common.{◌≡◌, ℕ, List, false, ◌+◌, ◌<◌, get_or, length, take, arith, subst}
 use Rattle.std.proofs.lemmas.List.{get_or_default, take_all}
 use Rattle.hv_sets.specs.declared.literal.Literal.{Literal}
-use Rattle.hv_clauses.specs.Working.Negative.{IsNegativeCode}
+use Rattle.hv_clauses.specs.Working.Signed.{IsSignedCode}
 use Rattle.hv_clauses.specs.Working.Rows.{PutsCodes, code}
-use Rattle.hv_clauses.proofs.Gathered.{negative_more, puts_both}
-use Rattle.hv_clauses.proofs.negative.put_all.Goals as goal
+use Rattle.hv_clauses.proofs.Gathered.{signed_more, puts_both}
+use Rattle.hv_clauses.proofs.signed.put_all.Goals as goal
 
 pub loop-literal-preserved : goal.loop-literal-preserved
 loop-literal-preserved c =
@@ -13,12 +13,12 @@ loop-literal-preserved c =
     let none : Literal = record { atom = 0; positive = false } in
     let literal = get_or clause i none in
     let within : i < length clause = c.loop-literal-test.true in
-    puts_both (IsNegativeCode (take i clause) c.args.number)
-    (λ (x : ℕ). (literal.positive ≡ false) × (x ≡ code literal.atom c.args.number))
-    (IsNegativeCode (take (i + 1) clause) c.args.number)
+    puts_both (IsSignedCode c.args.sign (take i clause) c.args.number)
+    (λ (x : ℕ). (literal.positive ≡ c.args.sign) × (x ≡ code literal.atom c.args.number))
+    (IsSignedCode c.args.sign (take (i + 1) clause) c.args.number)
     c.args.codes.now.items c.loop-literal.codes.items c.put.new.codes.items c.loop-literal.invariant
     c.in_ok-put.ensures
-    (negative_more clause i c.args.number literal within
+    (signed_more c.args.sign clause i c.args.number literal within
     (get_or_default clause i none literal within))
 
 pub returns : goal.returns
@@ -26,5 +26,6 @@ returns c =
     let all : take c.loop-literal.literal-index c.args.clause.now
     ≡ c.args.clause.now = take_all c.loop-literal.literal-index c.args.clause.now
     (omega (arith, c.loop-literal-test.false)) in
-    subst (λ (ls : List Literal). PutsCodes (IsNegativeCode ls c.args.number) c.args.codes.now.items
+    subst (λ (ls : List Literal). PutsCodes (IsSignedCode c.args.sign ls c.args.number)
+    c.args.codes.now.items
     c.loop-literal.codes.items) all c.loop-literal.invariant

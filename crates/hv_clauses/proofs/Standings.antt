@@ -1,0 +1,136 @@
+-- Where a literal stands: the part of the lists that is its own, and what stands beside it there.
+use Rattle.std.proofs.Common.{◌≡◌, ℕ, ◌+◌, ◌-◌, ◌<◌, ◌≤◌, ◌∙◌, Bool, true, false, List, inl, inr}
+use Rattle.std.proofs.Common.{length, get_or, sym, ap, arith, subst}
+use Rattle.std.proofs.lemmas.Bool.{cases_lt}
+use Rattle.std.proofs.lemmas.List.Edits.{get_or-between, length-between}
+use Rattle.std.proofs.lemmas.List.Elements.{Contains-get_or}
+use Rattle.std.proofs.Math.ListN.{get_or-eq_default}
+use Rattle.std.specs.Prelude.{min, slice_range}
+use Rattle.hv_sets.specs.declared.literal.Literal.{Literal}
+use Rattle.hv_clauses.specs.declared.occurrences.Occurrences.{Occurrences}
+use Rattle.hv_clauses.specs.declared.occurrences.Standing.{Standing}
+use Rattle.hv_clauses.specs.Implied.{IsPair}
+use Rattle.hv_clauses.specs.Negative.{StandsNegatively}
+use Rattle.hv_clauses.specs.Rows.{IsRow}
+use Rattle.hv_clauses.specs.Working.Choices.{clause_at}
+use Rattle.hv_clauses.specs.Working.Occurrences.{AreBeside, AreOccurrences, AreStanding, IsBeside}
+use Rattle.hv_clauses.specs.Working.Occurrences.{IsIndexOf, entry_or_none, no_literal}
+use Rattle.hv_clauses.specs.Working.Rows.{AreCoded, IsEndBefore, place_of_code}
+use Rattle.hv_clauses.specs.Working.Signed.{StandsAs}
+use Rattle.hv_clauses.specs.Working.Trail.{literal_of}
+use Rattle.hv_clauses.proofs.Keyed.{key_at, number_at, row_ends, row_is}
+
+-- the lesser of two numbers
+min_left : (a b : ℕ) → a ≤ b → min a b ≡ a
+min_left a b upto = omega arith
+
+min_right : (a b : ℕ) → b ≤ a → min a b ≡ b
+min_right a b upto = omega arith
+
+-- an entry of a part is one of the whole
+pub entry_between : (entries : List ℕ) (from upto k : ℕ) → k < upto - from
+    → entry_or_none (slice_range entries (min from (length entries)) (min upto (length entries))) k
+    ≡ entry_or_none entries (from + k)
+entry_between entries from upto k less = elim (cases_lt (from + k) (length entries)) [
+  | inl inside ↦
+      ap (λ n. entry_or_none (slice_range entries n (min upto (length entries))) k)
+      (min_left from (length entries) (omega arith))
+      ∙ get_or-between entries from (min upto (length entries)) k no_literal
+      (elim (cases_lt upto (length entries)) [
+        | inl early ↦ (let e = min_left upto (length entries) (omega arith) in omega arith)
+        | inr late ↦ (let e = min_right upto (length entries) late in omega arith)
+      ])
+  | inr past ↦
+      get_or-eq_default (slice_range entries (min from (length entries))
+      (min upto (length entries))) no_literal (short past)
+      ∙ sym (get_or-eq_default entries no_literal past)
+]
+  where
+    short : length entries ≤ from + k
+        → length (slice_range entries (min from (length entries)) (min upto (length entries))) ≤ k
+    short past =
+        let size = length-between entries (min from (length entries)) (min upto (length entries))
+        (omega arith) in
+        omega arith
+
+-- The part of the lists of a sign that is of one atom.
+module _ (sign : Bool) (clauses : List (List Literal)) (codes places entries : List ℕ)
+    (coded : AreCoded (StandsAs sign clauses) codes places)
+    (beside : AreBeside sign clauses codes entries) (atom from upto : ℕ)
+    (starts : IsEndBefore atom codes from) (ends : IsEndBefore (atom + 1) codes upto) where
+  pub standing_row : IsRow (StandsAs sign clauses) atom (slice_range places from upto)
+  standing_row = row_is (StandsAs sign clauses) codes places coded atom from upto starts ends
+
+  pub standing_beside : (k : ℕ) → k < length (slice_range places from upto)
+      → IsBeside (clause_at clauses (get_or (slice_range places from upto) k 0))
+      (record { atom = atom; positive = sign })
+      (entry_or_none (slice_range entries (min from (length entries)) (min upto (length entries)))
+      k)
+  standing_beside k within =
+      let size = length-between places from upto
+      (row_ends (StandsAs sign clauses) codes places coded atom from upto starts ends) in
+      let less : k < upto - from = omega arith in
+      let far = ends.within in
+      let own = beside (from + k) (omega arith) in
+      let number = number_at (StandsAs sign clauses) codes places coded atom from upto starts ends k
+      0 less in
+      let key = key_at (StandsAs sign clauses) codes places coded atom from upto starts ends k
+      less in
+      subst (IsBeside (clause_at clauses (get_or (slice_range places from upto) k 0))
+      (record { atom = atom; positive = sign })) (sym (entry_between entries from upto k less))
+      (subst (λ n. IsBeside (clause_at clauses n) (record { atom = atom; positive = sign })
+      (entry_or_none entries (from + k))) (sym number)
+      (subst (λ n. IsBeside (clause_at clauses (place_of_code (get_or codes (from + k) 0)))
+      (record { atom = n; positive = sign }) (entry_or_none entries (from + k))) key own))
+
+  -- and lists that are these parts
+  pub standing_parts : (ps es : List ℕ) → ps ≡ slice_range places from upto
+      → es ≡ slice_range entries (min from (length entries)) (min upto (length entries))
+      → IsRow (StandsAs sign clauses) atom ps
+      × ((k : ℕ) → k < length ps → IsBeside (clause_at clauses (get_or ps k 0))
+      (record { atom = atom; positive = sign }) (entry_or_none es k))
+  standing_parts ps es same_places same_entries = (
+    subst (IsRow (StandsAs sign clauses) atom) (sym same_places) standing_row,
+    subst (λ es. (k : ℕ) → k < length ps → IsBeside (clause_at clauses (get_or ps k 0))
+        (record { atom = atom; positive = sign }) (entry_or_none es k)) (sym same_entries)
+        (subst (λ ps. (k : ℕ) → k < length ps → IsBeside (clause_at clauses (get_or ps k 0))
+        (record { atom = atom; positive = sign })
+        (entry_or_none (slice_range entries (min from (length entries)) (min upto (length entries)))
+        k)) (sym same_places) standing_beside),
+  )
+
+-- both lists make the index
+pub index_from : (clauses : List (List Literal)) (occurs : Occurrences)
+    → AreOccurrences false clauses occurs.negative → AreOccurrences true clauses occurs.positive
+    → IsIndexOf clauses occurs
+index_from clauses occurs out inside true = inside
+index_from clauses occurs out inside false = out
+
+-- the row of a negative literal
+pub negative_row : (clauses : List (List Literal)) (atom : ℕ) (places : List ℕ)
+    → IsRow (StandsAs false clauses) atom places → IsRow (StandsNegatively clauses) atom places
+negative_row clauses atom places row = record {
+  rises = row.rises;
+  has = λ number. (
+    λ there. let stands = (row.has number).0 there in
+        record { among = stands.among; has = stands.has },
+    λ stands. (row.has number).1 (record { among = stands.among; has = stands.has }),
+  );
+}
+
+-- A clause at a place at which a literal stands.
+module _ (clauses : List (List Literal)) (standing : Standing) (are : AreStanding clauses standing)
+    (index : ℕ) (less : index < length standing.places.now) where
+  pub inside_at : get_or standing.places.now index 0 < length clauses
+  inside_at =
+      let stands = (are.row.has (get_or standing.places.now index 0)).0
+      (Contains-get_or standing.places.now index 0 less) in
+      stands.among
+
+  -- it is a pair with what stands beside
+  pub pair_at : (other : Literal) → other ≡ literal_of (entry_or_none standing.entries.now index)
+      → (entry_or_none standing.entries.now index ≡ no_literal → ⊥)
+      → IsPair (clause_at clauses (get_or standing.places.now index 0)) standing.literal other
+  pair_at other is some =
+      subst (IsPair (clause_at clauses (get_or standing.places.now index 0)) standing.literal)
+      (sym is) ((are.beside index less).pair some)
