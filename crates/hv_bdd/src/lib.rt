@@ -28,6 +28,3 @@ pub use laws::one_answer;
 pub use node::Node;
 pub use read::read_nodes;
 pub use set::DiagramSet;
-
-#[cfg(test)]
-mod tests;

@@ -11,8 +11,6 @@ mod schedule;
 pub mod spelling;
 pub mod splitting;
 pub mod sure;
-#[cfg(test)]
-mod tests;
 pub mod transfer;
 
 pub use cutting::{Limits, LineFault, Lines, MOST_FILE_BYTES, MOST_LINE_BYTES, Next};

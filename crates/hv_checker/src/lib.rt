@@ -7,8 +7,6 @@ mod judge;
 pub mod laws;
 pub mod piece;
 pub mod stop;
-#[cfg(test)]
-mod tests;
 
 pub use checker::Checker;
 pub use hv_lines::Reason;

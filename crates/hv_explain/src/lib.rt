@@ -4,8 +4,6 @@
 pub mod explained;
 pub mod laws;
 mod needed;
-#[cfg(test)]
-mod tests;
 
 pub use explained::explain;
 pub use laws::one_explanation;

@@ -5,6 +5,3 @@
 pub mod horn;
 
 pub use horn::{Horn, HornFault, HornKind, Horns};
-
-#[cfg(test)]
-mod tests;

@@ -196,26 +196,3 @@ fn id_of(line: &Line) -> usize
         Line::Acts { id, .. } | Line::Expr { id, .. } | Line::Known { id, .. } => *id,
     }
 }
-
-#[cfg(test)]
-mod tests {
-    use super::*;
-    use std::test::Fail;
-
-    #[test]
-    fn begins_with_five_lines(rt: HostRuntime) -> Result<(), Fail> {
-        let task = Task::new(rt.alloc());
-        let mut draft = Draft::new(rt.alloc(), &task)?;
-        assert_eq!(rt; draft.table().len(), 5);
-        assert_eq!(rt; draft.table().acts_count(), 1);
-        assert_eq!(rt; draft.table().expr_count(), 3);
-        assert_eq!(rt; draft.table().known_count(), 1);
-        assert_eq!(rt; *draft.table().statement(0), Statement::Dead(0));
-        assert_eq!(rt; draft.table().word(0), Word::Ed);
-        draft.reserve(7)?;
-        assert!(rt; draft.spare() >= 7);
-        assert!(rt; draft.reserve(MOST_LINES).is_err());
-        assert!(rt; draft.spare() >= 7);
-        Ok(())
-    }
-}

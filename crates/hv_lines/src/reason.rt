@@ -86,23 +86,3 @@ impl Reason {
         }
     }
 }
-
-#[cfg(test)]
-mod tests {
-    use super::*;
-    use std::test::Fail;
-
-    #[test]
-    fn copies_a_counterexample(rt: HostRuntime) -> Result<(), Fail> {
-        let reason = Reason::False(Clash {
-            action: Some(3),
-            state: Some(State::empty(rt.alloc(), 2)?),
-        });
-        let copy = reason.copy(rt.alloc())?;
-        let same = copy == reason;
-        assert!(rt; same);
-        let short = Reason::Rule.copy(rt.alloc())?;
-        assert!(rt; short == Reason::Rule);
-        Ok(())
-    }
-}

@@ -7,8 +7,6 @@ pub mod laws;
 mod lists;
 pub mod read;
 mod shapes;
-#[cfg(test)]
-mod tests;
 mod token;
 pub mod write;
 

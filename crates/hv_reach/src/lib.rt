@@ -14,16 +14,10 @@ mod notes;
 pub mod pair_pruner;
 pub mod paired;
 pub mod pairs;
-#[cfg(test)]
-mod proof_tests;
-#[cfg(test)]
-mod pruner_tests;
 pub mod relaxed;
 pub mod relaxed_pruner;
 mod search;
 mod table;
-#[cfg(test)]
-mod tests;
 
 pub use atoms::reached_atoms;
 pub use fault::ReachFault;

@@ -14,8 +14,6 @@ pub mod proof;
 mod pruned;
 pub mod read;
 mod reader;
-#[cfg(test)]
-mod tests;
 mod waiting;
 
 pub use fault::{LogFault, LogLimit};

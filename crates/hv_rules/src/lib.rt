@@ -14,8 +14,6 @@ pub mod laws;
 mod look;
 mod row;
 mod step;
-#[cfg(test)]
-mod tests;
 mod unsolvable;
 
 use dead::{fits_ed, fits_pg, fits_pi, fits_rg, fits_ri, fits_sd, fits_ud};

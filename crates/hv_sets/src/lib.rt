@@ -17,8 +17,6 @@ pub mod query;
 pub mod scratch;
 pub mod state_list;
 pub mod state_set;
-#[cfg(test)]
-mod tests;
 
 pub use clause::Clause;
 pub use clauses::Clauses;

@@ -19,6 +19,3 @@ pub use laws::{laws_of_dead_states, laws_of_states};
 pub use name::Name;
 pub use state::State;
 pub use task::Task;
-
-#[cfg(test)]
-mod tests;

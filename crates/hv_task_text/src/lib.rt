@@ -7,8 +7,6 @@ pub mod laws;
 mod numbers;
 pub mod read;
 mod reader;
-#[cfg(test)]
-mod tests;
 pub mod write;
 
 pub use fault::{TaskFault, TaskKind, TaskLimit};

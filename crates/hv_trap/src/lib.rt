@@ -9,14 +9,10 @@ mod mask;
 mod notes;
 pub mod proof;
 pub mod pruner;
-#[cfg(test)]
-mod pruner_tests;
 mod rows;
 mod step;
 mod sweep;
 mod table;
-#[cfg(test)]
-mod tests;
 pub mod trap;
 
 pub use fault::TrapFault;

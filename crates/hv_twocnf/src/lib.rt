@@ -4,6 +4,3 @@
 pub mod two_cnf;
 
 pub use two_cnf::{TwoCnf, TwoCnfFault, TwoCnfs, TwoKind};
-
-#[cfg(test)]
-mod tests;

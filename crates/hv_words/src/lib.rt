@@ -4,8 +4,6 @@
 pub mod arguments;
 pub mod check;
 mod parsing;
-#[cfg(test)]
-mod tests;
 
 pub use arguments::{read_one, read_two};
 pub use check::{CheckWords, read_check};

@@ -1,0 +1,140 @@
+//! Proofs that are written.
+
+use crate::short::{
+    GOAL_AT_THE_START, KEY_TASK, ONE_OF_TWO, THREE_WISHES, is_text, tells, told, written,
+};
+use std::alloc::{AllocError, Global};
+use std::process::Abort;
+use std::test::Fail;
+
+// What `produce` writes of this kind of proof of a task.
+fn produced(alloc: Global, kind: &str, task: &[u8]) -> Result<Vec<u8>, AllocError> {
+    let words = format!(in alloc; "produce {kind} task")?;
+    told(alloc, words.as_str(), task, b"")
+}
+
+// What `check` tells of this proof of a task within the budget.
+fn is_accepted(
+    alloc: Global,
+    task: &[u8],
+    told_proof: &[u8],
+    budget: u32,
+) -> Result<bool, AllocError> {
+    let words = format!(in alloc; "check task proof --budget {budget}")?;
+    let proof = told_proof.strip_prefix(b"0 ").unwrap_or(b"");
+    let told = told(alloc, words.as_str(), task, proof)?;
+    Ok(told.as_slice() == b"0 unsolvable\n".as_slice())
+}
+
+// Whether what was told is a proof that is accepted within the budget, and within no smaller one.
+fn costs(alloc: Global, task: &[u8], told: &[u8], budget: u32) -> Result<bool, AllocError> {
+    let within = is_accepted(alloc, task, told, budget)?;
+    let below = budget > 1 && is_accepted(alloc, task, told, budget.saturating_sub(1))?;
+    Ok(within & !below)
+}
+
+// Whether the proof of this kind is this one, and its dearest query costs so much.
+fn is_proof(
+    alloc: Global,
+    kind: &str,
+    task: &str,
+    proof: &str,
+    budget: u32,
+) -> Result<bool, AllocError> {
+    let task = written(alloc, task)?;
+    let told = produced(alloc, kind, task.as_slice())?;
+    let dear = costs(alloc, task.as_slice(), told.as_slice(), budget)?;
+    Ok(dear & is_text(alloc, told.as_slice(), proof)?)
+}
+
+// A kind, a task, the proof, and what its dearest query costs. A state that lacks one of the three
+// wishes leads to such states alone.
+const PROOFS: [(&str, &str, &str, u32); 3] = [
+    (
+        "relaxed",
+        KEY_TASK,
+        concat!(
+            "0 @e 3 h 1 -3 0/e 4 p 3 0/e 5 u 3 0/e 6 i 3 2/k 1 s 4 5 b2/k 2 s 6 0 b1/",
+            "k 3 d 6 sd 2 0/k 4 d 3 pg 1 0 3/k 5 s 1 3 b1/k 6 d 1 sd 5 4/k 7 u ci 6"
+        ),
+        1,
+    ),
+    (
+        "pairs",
+        ONE_OF_TWO,
+        concat!(
+            "0 @e 3 h 1 -1 -2 0/e 4 p 3 0/e 5 u 3 0/e 6 i 3 2/k 1 s 4 5 b2/k 2 s 6 0 b1/",
+            "k 3 d 6 sd 2 0/k 4 d 3 pg 1 0 3/k 5 s 1 3 b1/k 6 d 1 sd 5 4/k 7 u ci 6"
+        ),
+        1,
+    ),
+    (
+        "trap",
+        THREE_WISHES,
+        concat!(
+            "0 @e 3 t 12 1 0 2 0 3 0 1 2 0 1 -2 0 -1 2 0 1 3 0 1 -3 0 -1 3 0 2 3 0 2 -3 0 -2 3 0/",
+            "e 4 n 3/e 5 r 3 0/e 6 u 3 0/e 7 i 4 2/k 1 s 5 6 b3/k 2 s 7 0 b1/k 3 d 7 sd 2 0/",
+            "k 4 d 4 rg 1 0 3/k 5 s 1 4 b1/k 6 d 1 sd 5 4/k 7 u ci 6"
+        ),
+        12,
+    ),
+];
+
+// A kind and a task of which no such proof is written, and what is told.
+const REFUSED: [(&str, &str, &str); 5] = [
+    ("relaxed", GOAL_AT_THE_START, "1 no proof"),
+    ("relaxed", ONE_OF_TWO, "1 no proof"),
+    ("pairs", THREE_WISHES, "1 no proof"),
+    ("trap", GOAL_AT_THE_START, "1 no proof"),
+    ("pairs", "begin_atoms:70000/", "3 task line 1: limit atoms"),
+];
+
+fn is_refused(alloc: Global, kind: &str, task: &str, answer: &str) -> Result<bool, AllocError> {
+    let words = format!(in alloc; "produce {kind} task")?;
+    tells(alloc, words.as_str(), task, "", answer)
+}
+
+#[test]
+fn writes_proofs_where_the_goal_is_excluded(rt: HostRuntime) -> Result<(), Fail> {
+    for (kind, task, proof, budget) in PROOFS {
+        assert!(rt; is_proof(rt.alloc(), kind, task, proof, budget)?, "{kind}");
+    }
+    for (kind, task, answer) in REFUSED {
+        assert!(rt;
+            is_refused(rt.alloc(), kind, task, answer)?,
+            "{kind}, {task}"
+        );
+    }
+    Ok(())
+}
+
+// A task of so many atoms without actions, whose goal is the first atom. A formula that denies all
+// of them has a clause each.
+fn wide_task(alloc: Global, atoms: u32) -> Result<String, AllocError> {
+    let mut task = format!(in alloc; "begin_atoms:{atoms}/")?;
+    for atom in 0..atoms {
+        write!(task, "x{atom}/")?;
+    }
+    task.push_str("end_atoms/begin_init/end_init/begin_goal/0/end_goal/")?;
+    task.push_str("begin_actions:0/end_actions/")?;
+    Ok(task)
+}
+
+fn is_too_wide(alloc: Global, kind: &str, atoms: u32) -> Result<bool, AllocError> {
+    let task = wide_task(alloc, atoms)?;
+    is_refused(alloc, kind, task.as_str(), "1 too many atoms")
+}
+
+fn wide_proof_costs(alloc: Global, atoms: u32, budget: u32) -> Result<bool, AllocError> {
+    let task = written(alloc, wide_task(alloc, atoms)?.as_str())?;
+    let told = produced(alloc, "relaxed", task.as_slice())?;
+    costs(alloc, task.as_slice(), told.as_slice(), budget)
+}
+
+#[test]
+fn kinds_are_looked_for_among_so_many_atoms(rt: HostRuntime) -> Result<(), Fail> {
+    assert!(rt; is_too_wide(rt.alloc(), "trap", 65)?);
+    assert!(rt; is_too_wide(rt.alloc(), "pairs", 1025)?);
+    assert!(rt; wide_proof_costs(rt.alloc(), 1025, 1025)?);
+    Ok(())
+}

@@ -1,0 +1,206 @@
+//! What the tests of the whole product share: texts of tasks, short forms of proofs, and one call
+//! of `run` in memory. Every expected text is derived from the formats by hand.
+
+ghost use Rattle.std.specs.Prelude.{◌≤◌};
+
+use hv_bytes::{MemoryShelf, MemorySink};
+use hv_command::{Status, Words, run};
+use hv_lines::Pruner;
+use std::alloc::{AllocError, Global};
+use std::process::Abort;
+use std::test::Fail;
+
+/// The key task: a robot goes between two places, and nothing ever gives it the key.
+pub(crate) const KEY_TASK: &str = concat!(
+    "begin_atoms:3/Atom at(r, a)/Atom at(r, b)/Atom have(key)/end_atoms/begin_init/0/end_init/",
+    "begin_goal/2/end_goal/begin_actions:2/begin_action/go a b/cost:1/PRE:0/ADD:1/DEL:0/",
+    "end_action/begin_action/go b a/cost:1/PRE:1/ADD:0/DEL:1/end_action/end_actions/"
+);
+
+/// The same with the goal that the robot stands where it begins.
+pub(crate) const GOAL_AT_THE_START: &str = concat!(
+    "begin_atoms:3/Atom at(r, a)/Atom at(r, b)/Atom have(key)/end_atoms/begin_init/0/end_init/",
+    "begin_goal/0/end_goal/begin_actions:2/begin_action/go a b/cost:1/PRE:0/ADD:1/DEL:0/",
+    "end_action/begin_action/go b a/cost:1/PRE:1/ADD:0/DEL:1/end_action/end_actions/"
+);
+
+/// Two atoms of which each action exchanges one for the other; both are wanted.
+pub(crate) const ONE_OF_TWO: &str = concat!(
+    "begin_atoms:2/p/q/end_atoms/begin_init/0/end_init/begin_goal/0/1/end_goal/begin_actions:2/",
+    "begin_action/to q/cost:1/PRE:0/ADD:1/DEL:0/end_action/begin_action/to p/cost:1/PRE:1/ADD:0/",
+    "DEL:1/end_action/end_actions/"
+);
+
+/// Three wishes, of which each action grants one and takes the next one back.
+pub(crate) const THREE_WISHES: &str = concat!(
+    "begin_atoms:3/g1/g2/g3/end_atoms/begin_init/0/end_init/begin_goal/0/1/2/end_goal/",
+    "begin_actions:3/begin_action/first/cost:1/ADD:0/DEL:1/end_action/begin_action/second/cost:1/",
+    "ADD:1/DEL:2/end_action/begin_action/third/cost:1/ADD:2/DEL:0/end_action/end_actions/"
+);
+
+// The lines that most proofs begin with.
+const FRONT: &str = "a 0 a\ne 0 c e\ne 1 c i\ne 2 c g\nk 0 d 0 ed\n";
+
+// The lines behind set 3 of a proof in which no state of the set leads out of it.
+const REST: &str = concat!(
+    "e 4 p 3 0\ne 5 u 3 0\ne 6 i 3 2\nk 1 s 4 5 b2\nk 2 s 6 0 b1\n",
+    "k 3 d 6 sd 2 0\nk 4 d 3 pg 1 0 3\nk 5 s 1 3 b1\nk 6 d 1 sd 5 4\nk 7 u ci 6\n"
+);
+
+/// The text that a short form stands for: `/` is an LF, `@` the lines that most proofs begin with,
+/// and `%` those behind set 3.
+pub(crate) fn written(alloc: Global, short: &str) -> Result<Vec<u8>, AllocError> {
+    let mut text = Vec::new(alloc);
+    for byte in short.as_bytes() {
+        match *byte {
+            b'/' => text.push(b'\n')?,
+            b'@' => text.extend_from_slice(FRONT.as_bytes())?,
+            b'%' => text.extend_from_slice(REST.as_bytes())?,
+            other => text.push(other)?,
+        }
+    }
+    Ok(text)
+}
+
+// A shelf with these three files.
+fn shelf_of(
+    alloc: Global,
+    step: usize,
+    task: &[u8],
+    proof: &[u8],
+    nodes: &[u8],
+) -> Result<MemoryShelf, AllocError>
+    requires { 1 ≤ step }
+{
+    let mut shelf = MemoryShelf::new(alloc, step);
+    shelf.add("task", task)?;
+    shelf.add("proof", proof)?;
+    shelf.add("nodes", nodes)?;
+    Ok(shelf)
+}
+
+// The words of a text that parts them by single spaces.
+fn words_of(alloc: Global, text: &str) -> Result<Words, AllocError> {
+    let mut words = Words::new(alloc);
+    for word in text.split(' ') {
+        words.push(word)?;
+    }
+    Ok(words)
+}
+
+// Runs the words: the number of the status, a space, and what was printed.
+fn answer(
+    alloc: Global,
+    words: &str,
+    shelf: &mut MemoryShelf,
+    sink: &mut MemorySink,
+    pruners: Vec<Box<dyn Pruner>>,
+) -> Result<Vec<u8>, AllocError> {
+    let words = words_of(alloc, words)?;
+    let status = run(alloc, &words, shelf, sink, pruners);
+    let mut told = Vec::new(alloc);
+    told.push(b'0'.wrapping_add(status.number()))?;
+    told.push(b' ')?;
+    told.extend_from_slice(sink.bytes())?;
+    Ok(told)
+}
+
+/// What these words tell of the three files with these pruners: the number of the status, a space,
+/// and what was printed.
+pub(crate) fn told_by(
+    alloc: Global,
+    words: &str,
+    task: &[u8],
+    proof: &[u8],
+    nodes: &[u8],
+    pruners: Vec<Box<dyn Pruner>>,
+) -> Result<Vec<u8>, AllocError> {
+    let mut shelf = shelf_of(alloc, 4096, task, proof, nodes)?;
+    let mut sink = MemorySink::new(alloc, 10, 65536)?;
+    answer(alloc, words, &mut shelf, &mut sink, pruners)
+}
+
+/// The same without pruners and nodes.
+pub(crate) fn told(
+    alloc: Global,
+    words: &str,
+    task: &[u8],
+    proof: &[u8],
+) -> Result<Vec<u8>, AllocError> {
+    told_by(alloc, words, task, proof, b"", Vec::new(alloc))
+}
+
+// What the words tell of these files where the shelf's call and the sink's write of these numbers
+// fail.
+fn told_on(
+    alloc: Global,
+    words: &str,
+    task: &[u8],
+    proof: &[u8],
+    call: u64,
+    write: u64,
+) -> Result<Vec<u8>, AllocError> {
+    let mut shelf = shelf_of(alloc, 7, task, proof, b"")?;
+    shelf.fail_at(call)?;
+    let mut sink = MemorySink::new(alloc, 10, 65536)?;
+    sink.fail_at(write)?;
+    answer(alloc, words, &mut shelf, &mut sink, Vec::new(alloc))
+}
+
+/// The same for the key task. The shelf reads 7 bytes at once, and the sink takes 10. No call has
+/// the number 0.
+pub(crate) fn told_with_fault(
+    alloc: Global,
+    words: &str,
+    proof: &str,
+    call: u64,
+    write: u64,
+) -> Result<Vec<u8>, AllocError> {
+    let task = written(alloc, KEY_TASK)?;
+    let proof = written(alloc, proof)?;
+    told_on(alloc, words, task.as_slice(), proof.as_slice(), call, write)
+}
+
+/// Whether what was told is the text of this short form and an LF.
+pub(crate) fn is_text(alloc: Global, told: &[u8], short: &str) -> Result<bool, AllocError> {
+    let mut text = written(alloc, short)?;
+    text.push(b'\n')?;
+    Ok(text.as_slice() == told)
+}
+
+/// Whether what was told is one of these answers, which are parted by `|`.
+pub(crate) fn is_one_of(alloc: Global, told: &[u8], answers: &str) -> Result<bool, AllocError> {
+    for answer in answers.split('|') {
+        if is_text(alloc, told, answer)? {
+            return Ok(true);
+        }
+    }
+    Ok(false)
+}
+
+/// Whether the words tell one of these answers, of files in short form.
+pub(crate) fn tells(
+    alloc: Global,
+    words: &str,
+    task: &str,
+    proof: &str,
+    answers: &str,
+) -> Result<bool, AllocError> {
+    let task = written(alloc, task)?;
+    let proof = written(alloc, proof)?;
+    let told = told(alloc, words, task.as_slice(), proof.as_slice())?;
+    is_one_of(alloc, told.as_slice(), answers)
+}
+
+/// Asserts that the words tell of the key task and each proof its answer.
+pub(crate) fn all_told(
+    rt: &impl Abort,
+    alloc: Global,
+    words: &str,
+    rows: &[(&str, &str)],
+) -> Result<(), Fail> {
+    for (proof, answers) in rows {
+        assert!(rt; tells(alloc, words, KEY_TASK, proof, answers)?, "{proof}");
+    }
+    Ok(())
+}

@@ -1,0 +1,761 @@
+//! Basic statements: what each asks, costs and answers. Where several states are counterexamples,
+//! each text that names one is listed.
+
+use crate::short::{
+    KEY_TASK, ONE_OF_TWO, THREE_WISHES, is_one_of, is_text, tells, told, told_by, written,
+};
+use std::alloc::{AllocError, Global};
+use std::process::Abort;
+use std::test::Fail;
+
+// An action that adds the atom that it deletes.
+const ADDS_WHAT_IT_DELETES: &str = concat!(
+    "begin_atoms:2/p/q/end_atoms/begin_init/0/end_init/begin_goal/1/end_goal/begin_actions:1/",
+    "begin_action/stay/cost:1/PRE:0/ADD:0/DEL:0/end_action/end_actions/"
+);
+
+const NO_ATOMS: &str =
+    "begin_atoms:0/end_atoms/begin_init/end_init/begin_goal/end_goal/begin_actions:0/end_actions/";
+
+const ONE_FALSE_ATOM: &str = concat!(
+    "begin_atoms:1/x/end_atoms/begin_init/end_init/begin_goal/end_goal/",
+    "begin_actions:0/end_actions/"
+);
+
+const STANDARD: &str = "check task proof --budget 1000000";
+
+// A budget, a proof for the key task, and the texts of which one is the answer.
+const ROWS: [(&str, &str, &str); 30] = [
+    // the relaxed proof, within any budget
+    ("1", "@e 3 h 1 -3 0/%", "0 unsolvable"),
+    // a proof backwards from the goal
+    (
+        "1000000",
+        concat!(
+            "@e 3 h 1 3 0/e 4 r 3 0/e 5 u 3 0/e 6 n 3/k 1 s 4 5 b3/k 2 s 1 6 b1/k 3 d 3 ri 1 0 2/",
+            "k 4 s 2 3 b1/k 5 d 2 sd 4 3/k 6 u cg 5/"
+        ),
+        "0 unsolvable",
+    ),
+    // a statement for fewer actions
+    (
+        "1000000",
+        "a 0 a/a 1 b 1 0/e 0 c e/e 1 p 0 0/e 2 p 0 1/k 0 s 1 0 b2/k 1 a 1 0 b5/k 2 s 2 0 at 0 1/",
+        "1 no conclusion",
+    ),
+    // action sets
+    (
+        "1000000",
+        "a 0 b 2 0 1/a 1 b 1 1/k 0 a 0 1 b5/",
+        "1 line 3: false action 0",
+    ),
+    (
+        "1000000",
+        "a 0 b 2 0 1/a 1 b 1 1/k 0 a 1 0 b5/",
+        "1 no conclusion",
+    ),
+    // regression
+    (
+        "1000000",
+        "a 0 a/e 0 h 1 2 0/e 1 h 1 -1 0/e 2 r 0 0/e 3 n 1/k 0 s 2 3 b3/",
+        "1 no conclusion",
+    ),
+    (
+        "1000000",
+        "a 0 a/e 0 h 1 2 0/e 1 h 1 -1 0/e 2 r 0 0/e 3 h 1 -1 0/k 0 s 2 3 b3/",
+        concat!(
+            "1 line 6: false action 0 state 0 ;|1 line 6: false action 0 state 0 1 ;|",
+            "1 line 6: false action 0 state 0 2 ;|1 line 6: false action 0 state 0 1 2 ;"
+        ),
+    ),
+    // from progression to regression and back
+    (
+        "1000000",
+        concat!(
+            "a 0 a/e 0 h 1 -3 0/e 1 p 0 0/e 2 n 0/e 3 r 2 0/k 0 s 1 0 b2/k 1 s 3 2 pr 0/",
+            "k 2 s 1 0 rp 1/"
+        ),
+        "1 no conclusion",
+    ),
+    // two literals a clause
+    (
+        "1000000",
+        "e 0 t 2 1 2 0 -1 -2 0/e 1 t 1 -3 0/k 0 s 0 1 b1/",
+        "1 line 3: false state 0 2 ;|1 line 3: false state 1 2 ;",
+    ),
+    ("1000000", "e 0 t 1 1 2 3 0/", "1 line 1: family"),
+    ("1000000", "e 0 t 1 1 2 1 0/", "1 no conclusion"),
+    // Horn clauses
+    ("1000000", "e 0 h 1 1 2 0/", "1 line 1: family"),
+    ("1000000", "e 0 h 1 -4 0/", "1 line 1: unknown"),
+    ("1000000", "e 0 h 1 1 1 -2 0/", "1 no conclusion"),
+    // the cost comes before the counterexample
+    (
+        "1",
+        "e 0 h 0/e 1 h 2 -1 0 -2 0/k 0 s 0 1 b1/",
+        "1 line 3: budget",
+    ),
+    (
+        "2",
+        "e 0 h 0/e 1 h 2 -1 0 -2 0/k 0 s 0 1 b1/",
+        concat!(
+            "1 line 3: false state 0 ;|1 line 3: false state 1 ;|1 line 3: false state 0 1 ;|",
+            "1 line 3: false state 0 2 ;|1 line 3: false state 1 2 ;|1 line 3: false state 0 1 2 ;"
+        ),
+    ),
+    // the listed states of the anchor are the cost, however many other sets are listed
+    (
+        "1",
+        "e 0 x 2 0 ; 1 ;/e 1 x 3 0 ; 1 ; 2 ;/k 0 s 0 1 b1/",
+        "1 line 3: budget",
+    ),
+    (
+        "2",
+        "e 0 x 2 0 ; 1 ;/e 1 x 3 0 ; 1 ; 2 ;/k 0 s 0 1 b1/",
+        "1 no conclusion",
+    ),
+    // without an anchor nothing is asked of listed states, also for no action
+    (
+        "1000000",
+        "e 0 x 1 0 ;/e 1 c g/k 0 s 1 0 b1/",
+        "1 line 3: not offered",
+    ),
+    (
+        "1000000",
+        "a 0 b 0/e 0 x 1 0 ;/e 1 r 0 0/k 0 s 1 0 b3/",
+        "1 line 4: not offered",
+    ),
+    // a step where none is asked for, a second family, and a set that is no literal
+    (
+        "1000000",
+        "a 0 a/e 0 h 0/e 1 p 0 0/k 0 s 1 0 b1/",
+        "1 line 4: shape",
+    ),
+    (
+        "1000000",
+        "e 0 h 0/e 1 t 0/k 0 s 0 1 b1/",
+        "1 line 3: shape",
+    ),
+    (
+        "1000000",
+        "e 0 h 0/e 1 n 0/e 2 n 1/k 0 s 0 2 b1/",
+        "1 line 4: shape",
+    ),
+    // two families: disjointness of a Horn and a 2CNF formula isn't offered, but that they cover
+    // all states is
+    (
+        "1000000",
+        "e 0 h 1 -1 -2 0/e 1 t 1 1 0/e 2 n 1/k 0 s 0 2 b4/",
+        "1 line 4: not offered",
+    ),
+    (
+        "1000000",
+        "e 0 h 1 -1 0/e 1 t 1 1 2 0/e 2 n 0/k 0 s 2 1 b4/",
+        "1 no conclusion",
+    ),
+    // one family, a constant and a double negation aren't of the shape
+    (
+        "1000000",
+        "e 0 h 0/e 1 h 0/k 0 s 0 1 b4/",
+        "1 line 3: shape",
+    ),
+    (
+        "1000000",
+        "e 0 c e/e 1 h 0/k 0 s 0 1 b4/",
+        "1 line 3: shape",
+    ),
+    (
+        "1000000",
+        "e 0 h 0/e 1 t 0/e 2 n 0/e 3 n 2/k 0 s 3 1 b4/",
+        "1 line 5: shape",
+    ),
+    // a diagram node without a node file
+    (
+        "2",
+        "e 0 h 2 -1 0 -2 0/e 1 b 3/k 0 s 0 1 b4/",
+        "1 line 2: unknown",
+    ),
+    // the first false statement is told, though the proof concludes before it
+    (
+        "1000000",
+        "@e 3 h 1 -3 0/%k 8 s 1 0 b1/",
+        "1 line 17: false state 0 ;",
+    ),
+];
+
+// A task, a proof, and the answer within the standard budget.
+const OTHER_TASKS: [(&str, &str, &str); 5] = [
+    // the pair proof
+    (ONE_OF_TWO, "@e 3 h 1 -1 -2 0/%", "0 unsolvable"),
+    // the trap proof, by regression
+    (
+        THREE_WISHES,
+        concat!(
+            "@e 3 t 12 1 0 2 0 3 0 1 2 0 1 -2 0 -1 2 0 1 3 0 1 -3 0 -1 3 0 2 3 0 2 -3 0 -2 3 0/",
+            "e 4 n 3/e 5 r 3 0/e 6 u 3 0/e 7 i 4 2/k 1 s 5 6 b3/k 2 s 7 0 b1/k 3 d 7 sd 2 0/",
+            "k 4 d 4 rg 1 0 3/k 5 s 1 4 b1/k 6 d 1 sd 5 4/k 7 u ci 6/"
+        ),
+        "0 unsolvable",
+    ),
+    // without atoms there is one state
+    (NO_ATOMS, "e 0 c i/e 1 h 0/k 0 s 1 0 b1/", "1 no conclusion"),
+    (
+        ONE_FALSE_ATOM,
+        "e 0 c i/e 1 h 0/k 0 s 1 0 b1/",
+        "1 line 3: false state 0 ;",
+    ),
+    // what an action adds is true after it, also where it deletes it
+    (
+        ADDS_WHAT_IT_DELETES,
+        "a 0 a/e 0 h 1 1 0/e 1 p 0 0/k 0 s 1 0 b2/",
+        "1 no conclusion",
+    ),
+];
+
+// Whether `check` of this proof for the key task tells one of these answers within the budget.
+fn tells_within(
+    alloc: Global,
+    budget: &str,
+    proof: &str,
+    answers: &str,
+) -> Result<bool, AllocError> {
+    let words = format!(in alloc; "check task proof --budget {budget}")?;
+    tells(alloc, words.as_str(), KEY_TASK, proof, answers)
+}
+
+#[test]
+fn judges_basic_statements(rt: HostRuntime) -> Result<(), Fail> {
+    for (budget, proof, answers) in ROWS {
+        assert!(rt;
+            tells_within(rt.alloc(), budget, proof, answers)?,
+            "{proof}"
+        );
+    }
+    for (task, proof, answers) in OTHER_TASKS {
+        assert!(rt;
+            tells(rt.alloc(), STANDARD, task, proof, answers)?,
+            "{proof}"
+        );
+    }
+    Ok(())
+}
+
+// A set under sixty unions of itself with itself: one leaf, though 2^60 ways lead to it.
+fn shared_proof(alloc: Global) -> Result<String, AllocError> {
+    let mut proof = String::from_str(alloc, "e 0 h 1 -1 0\n")?;
+    for part in 0..60 {
+        let set = part + 1;
+        write!(proof, "e {set} u {part} {part}\n")?;
+    }
+    proof.push_str("k 0 s 0 60 b1\n")?;
+    Ok(proof)
+}
+
+// 65,536 formulas without clauses.
+fn put_formulas(proof: &mut String) -> Result<(), AllocError> {
+    for set in 0..65536 {
+        write!(proof, "e {set} h 0\n")?;
+    }
+    Ok(())
+}
+
+// The union of all of them, written as a chain.
+fn put_unions(proof: &mut String) -> Result<(), AllocError> {
+    proof.push_str("e 65536 u 0 1\n")?;
+    for part in 2..65536 {
+        let set = 65535 + part;
+        let before = set - 1;
+        write!(proof, "e {set} u {before} {part}\n")?;
+    }
+    Ok(())
+}
+
+// These lines, and whether the first formula is within the union with this identifier.
+fn wide_proof(alloc: Global, asked: u32) -> Result<String, AllocError> {
+    let mut proof = String::new(alloc);
+    put_formulas(&mut proof)?;
+    put_unions(&mut proof)?;
+    write!(proof, "k 0 s 0 {asked} b1\n")?;
+    Ok(proof)
+}
+
+// Whether `check` of these files tells this answer.
+fn answers(alloc: Global, task: &str, proof: &String, answer: &str) -> Result<bool, AllocError> {
+    let task = written(alloc, task)?;
+    let told = told(alloc, STANDARD, task.as_slice(), proof.as_bytes())?;
+    is_text(alloc, told.as_slice(), answer)
+}
+
+fn shared_answers(alloc: Global, answer: &str) -> Result<bool, AllocError> {
+    let proof = shared_proof(alloc)?;
+    answers(alloc, KEY_TASK, &proof, answer)
+}
+
+fn wide_answers(alloc: Global, asked: u32, answer: &str) -> Result<bool, AllocError> {
+    let proof = wide_proof(alloc, asked)?;
+    answers(alloc, KEY_TASK, &proof, answer)
+}
+
+// The positive operand and 65,536 negative ones are one too many; without the last of them they
+// are just as many as may be.
+#[test]
+fn a_statement_has_operands_up_to_the_limit(rt: HostRuntime) -> Result<(), Fail> {
+    assert!(rt; shared_answers(rt.alloc(), "1 no conclusion")?);
+    assert!(rt; wide_answers(rt.alloc(), 131070, "1 line 131072: shape")?);
+    assert!(rt; wide_answers(rt.alloc(), 131069, "1 no conclusion")?);
+    Ok(())
+}
+
+// A task of 130 atoms without actions; the first holds at the start, and the last is wanted.
+fn long_task(alloc: Global) -> Result<String, AllocError> {
+    let mut task = String::from_str(alloc, "begin_atoms:130/")?;
+    for atom in 0..130 {
+        write!(task, "x{atom}/")?;
+    }
+    task.push_str("end_atoms/begin_init/0/end_init/begin_goal/129/end_goal/")?;
+    task.push_str("begin_actions:0/end_actions/")?;
+    Ok(task)
+}
+
+// Each atom implies the next one, listed from the last to the first, but for one implication that
+// may be left out; and the first atom is true. Asked is whether the last atom is true.
+fn chain_proof(alloc: Global, clauses: u32, left_out: u32) -> Result<String, AllocError> {
+    let mut proof = format!(in alloc; "e 0 h {clauses}")?;
+    for step in 0..129 {
+        let first = 129 - step;
+        let next = first + 1;
+        if first != left_out {
+            write!(proof, " -{first} {next} 0")?;
+        }
+    }
+    proof.push_str(" 1 0\ne 1 h 1 130 0\nk 0 s 0 1 b1\n")?;
+    Ok(proof)
+}
+
+// The counterexample of the atoms from 0 to 63.
+fn front_atoms(alloc: Global) -> Result<String, AllocError> {
+    let mut text = String::from_str(alloc, "1 line 3: false state")?;
+    for atom in 0..64 {
+        write!(text, " {atom}")?;
+    }
+    text.push_str(" ;")?;
+    Ok(text)
+}
+
+fn chain_answers(
+    alloc: Global,
+    clauses: u32,
+    left_out: u32,
+    answer: &str,
+) -> Result<bool, AllocError> {
+    let task = long_task(alloc)?;
+    let proof = chain_proof(alloc, clauses, left_out)?;
+    answers(alloc, task.as_str(), &proof, answer)
+}
+
+#[test]
+fn follows_a_chain_of_clauses(rt: HostRuntime) -> Result<(), Fail> {
+    let clash = front_atoms(rt.alloc())?;
+    assert!(rt; chain_answers(rt.alloc(), 130, 0, "1 no conclusion")?);
+    assert!(rt; chain_answers(rt.alloc(), 129, 64, clash.as_str())?);
+    Ok(())
+}
+
+// A node file of two nodes: node 2 is "not atom 1", and node 3 is "neither atom 0 nor atom 1".
+const TWO_NODES: &str = "nodes 2/1 1 0/0 2 0/";
+
+// A node file, a budget, a proof for the key task, and the texts of which one is the answer.
+const NODES_ROWS: [(&str, &str, &str, &str); 16] = [
+    // a Horn formula within a diagram that has two paths to 0
+    (
+        TWO_NODES,
+        "2",
+        "e 0 h 2 -1 0 -2 0/e 1 b 3/k 0 s 0 1 b4/",
+        "1 no conclusion",
+    ),
+    (
+        TWO_NODES,
+        "1",
+        "e 0 h 2 -1 0 -2 0/e 1 b 3/k 0 s 0 1 b4/",
+        "1 line 3: budget",
+    ),
+    // two live tuples, within the budget and beyond it
+    (
+        TWO_NODES,
+        "2",
+        "e 0 b 2/e 1 b 3/k 0 s 1 0 b1/",
+        "1 no conclusion",
+    ),
+    (
+        TWO_NODES,
+        "1",
+        "e 0 b 2/e 1 b 3/k 0 s 1 0 b1/",
+        "1 line 3: budget",
+    ),
+    // four live tuples, all of them counted before a counterexample is told
+    (
+        TWO_NODES,
+        "4",
+        "e 0 b 2/e 1 b 3/k 0 s 0 1 b1/",
+        "1 line 3: false state 0 ;|1 line 3: false state 0 2 ;",
+    ),
+    (
+        TWO_NODES,
+        "3",
+        "e 0 b 2/e 1 b 3/k 0 s 0 1 b1/",
+        "1 line 3: budget",
+    ),
+    // a node that is asked about after the action
+    (
+        TWO_NODES,
+        "2",
+        "a 0 a/e 0 b 2/e 1 p 0 0/k 0 s 1 0 b2/",
+        "1 line 4: false action 0 state 0 ;|1 line 4: false action 0 state 0 2 ;",
+    ),
+    (
+        TWO_NODES,
+        "1",
+        "a 0 a/e 0 b 2/e 1 p 0 0/k 0 s 1 0 b2/",
+        "1 line 4: budget",
+    ),
+    // a node past the last
+    (TWO_NODES, "1000000", "e 0 b 4/", "1 line 1: unknown"),
+    // a proof by a diagram: nobody has the key
+    ("nodes 1/2 1 0/", "1000000", "@e 3 b 2/%", "0 unsolvable"),
+    // node files with a fault, which is told before the proof is read
+    (
+        "nodes 1/0 1 1/",
+        "1000000",
+        "e 1 c e/",
+        "3 nodes line 2: place same_children",
+    ),
+    (
+        "nodes 1/0 0 2/",
+        "1000000",
+        "",
+        "3 nodes line 2: place child",
+    ),
+    (
+        "nodes 2/0 0 1/0 0 1/",
+        "1000000",
+        "",
+        "3 nodes line 3: place twin",
+    ),
+    (
+        "nodes 2/0 0 1/1 2 1/",
+        "1000000",
+        "",
+        "3 nodes line 3: place order",
+    ),
+    (
+        "nodes 16777217/",
+        "1000000",
+        "",
+        "3 nodes line 1: limit nodes",
+    ),
+    ("", "1000000", "", "3 nodes line 1: place header"),
+];
+
+// What these words tell of the key task.
+fn told_of_key(
+    alloc: Global,
+    words: &str,
+    proof: &[u8],
+    nodes: &[u8],
+) -> Result<Vec<u8>, AllocError> {
+    let task = written(alloc, KEY_TASK)?;
+    told_by(alloc, words, task.as_slice(), proof, nodes, Vec::new(alloc))
+}
+
+// Whether these words tell one of these answers of the key task.
+fn tells_by_nodes(
+    alloc: Global,
+    words: &str,
+    nodes: &str,
+    proof: &str,
+    answers: &str,
+) -> Result<bool, AllocError> {
+    let proof = written(alloc, proof)?;
+    let nodes = written(alloc, nodes)?;
+    let told = told_of_key(alloc, words, proof.as_slice(), nodes.as_slice())?;
+    is_one_of(alloc, told.as_slice(), answers)
+}
+
+// The same within this budget, with the options in either order.
+fn tells_in_both_orders(
+    alloc: Global,
+    budget: &str,
+    nodes: &str,
+    proof: &str,
+    answers: &str,
+) -> Result<bool, AllocError> {
+    let words = format!(in alloc; "check task proof --nodes nodes --budget {budget}")?;
+    let other = format!(in alloc; "check task proof --budget {budget} --nodes nodes")?;
+    let first = tells_by_nodes(alloc, words.as_str(), nodes, proof, answers)?;
+    let second = tells_by_nodes(alloc, other.as_str(), nodes, proof, answers)?;
+    Ok(first && second)
+}
+
+#[test]
+fn judges_by_node_files(rt: HostRuntime) -> Result<(), Fail> {
+    for (nodes, budget, proof, answers) in NODES_ROWS {
+        assert!(rt;
+            tells_in_both_orders(rt.alloc(), budget, nodes, proof, answers)?,
+            "{proof}"
+        );
+    }
+    Ok(())
+}
+
+// Node 2 is "not atom 1", node 3 is "neither atom 0 nor atom 1", and node 4 is "not both of them".
+const THREE_NODES: &str = "nodes 3/1 1 0/0 2 0/0 1 2/";
+
+// The sides of an inclusion, two formulas, and the texts of which one is the answer. The formulas
+// are the sets 0 and 1, and sets 2 and 3 are their negations. Each claim costs 2.
+const TWO_ROWS: [(&str, &str, &str, &str); 50] = [
+    ("0 1", "x 2 0 ; 1 ;", "h 1 -3 0", "1 no conclusion"),
+    (
+        "0 1",
+        "x 2 0 ; 2 ;",
+        "h 1 -3 0",
+        "1 line 5: false state 2 ;",
+    ),
+    ("0 1", "x 2 0 ; 1 ;", "t 1 -3 0", "1 no conclusion"),
+    (
+        "0 1",
+        "x 2 0 ; 2 ;",
+        "t 1 -3 0",
+        "1 line 5: false state 2 ;",
+    ),
+    ("0 1", "x 2 0 ; 2 ;", "b 2", "1 no conclusion"),
+    ("0 1", "x 2 0 ; 1 ;", "b 2", "1 line 5: false state 1 ;"),
+    (
+        "0 1",
+        "h 3 -1 0 -2 0 -3 0",
+        "t 2 -1 -2 0 -2 -3 0",
+        "1 no conclusion",
+    ),
+    (
+        "0 1",
+        "h 1 -1 0",
+        "t 2 -1 -2 0 -2 0",
+        "1 line 5: false state 1 ;|1 line 5: false state 1 2 ;",
+    ),
+    (
+        "0 1",
+        "t 2 -1 0 -2 0",
+        "h 2 -1 -3 0 -2 -3 0",
+        "1 no conclusion",
+    ),
+    (
+        "0 1",
+        "t 1 1 2 0",
+        "h 2 1 -2 0 1 -3 0",
+        "1 line 5: false state 1 ;|1 line 5: false state 1 2 ;",
+    ),
+    ("0 1", "h 2 -1 0 -2 0", "b 3", "1 no conclusion"),
+    (
+        "0 1",
+        "h 1 -1 0",
+        "b 3",
+        "1 line 5: false state 1 ;|1 line 5: false state 1 2 ;",
+    ),
+    ("0 1", "b 3", "h 2 -1 0 -2 0", "1 no conclusion"),
+    (
+        "0 1",
+        "b 2",
+        "h 2 -1 0 -2 0",
+        "1 line 5: false state 0 ;|1 line 5: false state 0 2 ;",
+    ),
+    ("0 1", "t 2 -1 0 -2 0", "b 3", "1 no conclusion"),
+    (
+        "0 1",
+        "t 1 -1 0",
+        "b 3",
+        "1 line 5: false state 1 ;|1 line 5: false state 1 2 ;",
+    ),
+    ("0 1", "b 3", "t 2 -1 0 -2 0", "1 no conclusion"),
+    (
+        "0 1",
+        "b 2",
+        "t 2 -1 0 -2 0",
+        "1 line 5: false state 0 ;|1 line 5: false state 0 2 ;",
+    ),
+    ("0 3", "x 2 0 ; 1 ;", "h 1 3 0", "1 no conclusion"),
+    ("0 3", "h 1 3 0", "x 2 0 ; 1 ;", "1 no conclusion"),
+    ("0 3", "x 2 0 ; 2 ;", "h 1 3 0", "1 line 5: false state 2 ;"),
+    ("0 3", "h 1 3 0", "x 2 0 ; 2 ;", "1 line 5: false state 2 ;"),
+    ("0 3", "b 4", "h 2 1 0 2 0", "1 no conclusion"),
+    ("0 3", "h 2 1 0 2 0", "b 4", "1 no conclusion"),
+    (
+        "0 3",
+        "b 4",
+        "h 1 2 0",
+        "1 line 5: false state 1 ;|1 line 5: false state 1 2 ;",
+    ),
+    (
+        "0 3",
+        "h 1 2 0",
+        "b 4",
+        "1 line 5: false state 1 ;|1 line 5: false state 1 2 ;",
+    ),
+    ("0 3", "x 2 0 ; 1 ;", "t 1 3 0", "1 no conclusion"),
+    ("0 3", "t 1 3 0", "x 2 0 ; 1 ;", "1 no conclusion"),
+    ("0 3", "x 2 0 ; 2 ;", "t 1 3 0", "1 line 5: false state 2 ;"),
+    ("0 3", "t 1 3 0", "x 2 0 ; 2 ;", "1 line 5: false state 2 ;"),
+    ("0 3", "b 4", "t 2 1 0 2 0", "1 no conclusion"),
+    ("0 3", "t 2 1 0 2 0", "b 4", "1 no conclusion"),
+    (
+        "0 3",
+        "b 4",
+        "t 1 2 0",
+        "1 line 5: false state 1 ;|1 line 5: false state 1 2 ;",
+    ),
+    (
+        "0 3",
+        "t 1 2 0",
+        "b 4",
+        "1 line 5: false state 1 ;|1 line 5: false state 1 2 ;",
+    ),
+    ("0 3", "x 2 1 ; 0 1 ;", "b 2", "1 no conclusion"),
+    ("0 3", "b 2", "x 2 1 ; 0 1 ;", "1 no conclusion"),
+    ("0 3", "x 2 1 ; 0 ;", "b 2", "1 line 5: false state 0 ;"),
+    ("0 3", "b 2", "x 2 1 ; 0 ;", "1 line 5: false state 0 ;"),
+    ("2 1", "h 2 -1 0 -2 0", "t 1 1 2 0", "1 no conclusion"),
+    (
+        "2 1",
+        "h 2 -1 0 -2 0",
+        "t 1 1 0",
+        "1 line 5: false state 1 ;|1 line 5: false state 1 2 ;",
+    ),
+    ("2 1", "t 2 -1 0 -2 0", "h 0", "1 no conclusion"),
+    (
+        "2 1",
+        "t 2 -1 0 -2 0",
+        "h 1 1 -2 0",
+        "1 line 5: false state 1 ;|1 line 5: false state 1 2 ;",
+    ),
+    ("2 1", "h 2 1 0 2 0", "b 4", "1 no conclusion"),
+    ("2 1", "b 4", "h 2 1 0 2 0", "1 no conclusion"),
+    (
+        "2 1",
+        "h 2 1 0 2 0",
+        "b 3",
+        concat!(
+            "1 line 5: false state 0 ;|1 line 5: false state 0 2 ;|1 line 5: false state 1 ;|",
+            "1 line 5: false state 1 2 ;"
+        ),
+    ),
+    (
+        "2 1",
+        "b 3",
+        "h 2 1 0 2 0",
+        concat!(
+            "1 line 5: false state 0 ;|1 line 5: false state 0 2 ;|1 line 5: false state 1 ;|",
+            "1 line 5: false state 1 2 ;"
+        ),
+    ),
+    ("2 1", "t 2 1 0 2 0", "b 4", "1 no conclusion"),
+    ("2 1", "b 4", "t 2 1 0 2 0", "1 no conclusion"),
+    (
+        "2 1",
+        "t 2 1 0 2 0",
+        "b 3",
+        concat!(
+            "1 line 5: false state 0 ;|1 line 5: false state 0 2 ;|1 line 5: false state 1 ;|",
+            "1 line 5: false state 1 2 ;"
+        ),
+    ),
+    (
+        "2 1",
+        "b 3",
+        "t 2 1 0 2 0",
+        concat!(
+            "1 line 5: false state 0 ;|1 line 5: false state 0 2 ;|1 line 5: false state 1 ;|",
+            "1 line 5: false state 1 2 ;"
+        ),
+    ),
+];
+
+// Inclusions that aren't offered.
+const NOT_OFFERED: [(&str, &str, &str); 11] = [
+    ("0 1", "h 0", "x 1 0 ;"),
+    ("2 1", "h 0", "x 1 0 ;"),
+    ("2 1", "x 1 0 ;", "h 0"),
+    ("0 1", "t 0", "x 1 0 ;"),
+    ("2 1", "t 0", "x 1 0 ;"),
+    ("2 1", "x 1 0 ;", "t 0"),
+    ("0 1", "b 2", "x 1 0 ;"),
+    ("2 1", "b 2", "x 1 0 ;"),
+    ("2 1", "x 1 0 ;", "b 2"),
+    ("0 3", "h 0", "t 0"),
+    ("0 3", "t 0", "h 0"),
+];
+
+// Whether a statement by `b4`, on line 5, tells one of these answers within this budget.
+fn tells_inclusion(
+    alloc: Global,
+    sides: &str,
+    formulas: (&str, &str),
+    budget: &str,
+    answers: &str,
+) -> Result<bool, AllocError> {
+    let (first, second) = formulas;
+    let proof = format!(in alloc; "e 0 {first}/e 1 {second}/e 2 n 0/e 3 n 1/k 0 s {sides} b4/")?;
+    let words = format!(in alloc; "check task proof --nodes nodes --budget {budget}")?;
+    tells_by_nodes(alloc, words.as_str(), THREE_NODES, proof.as_str(), answers)
+}
+
+// Whether the claim is answered rightly: at its cost, and within a budget below it.
+fn is_right(
+    alloc: Global,
+    sides: &str,
+    formulas: (&str, &str),
+    answers: &str,
+) -> Result<bool, AllocError> {
+    let below = tells_inclusion(alloc, sides, formulas, "1", "1 line 5: budget")?;
+    let right = tells_inclusion(alloc, sides, formulas, "2", answers)?;
+    Ok(below && right)
+}
+
+// The first within the second is the negation of the second within that of the first.
+fn is_right_turned(
+    alloc: Global,
+    sides: &str,
+    formulas: (&str, &str),
+    answers: &str,
+) -> Result<bool, AllocError> {
+    if sides != "0 1" {
+        return Ok(true);
+    }
+    is_right(alloc, "3 2", formulas, answers)
+}
+
+// Both of these.
+fn is_right_both_ways(
+    alloc: Global,
+    sides: &str,
+    formulas: (&str, &str),
+    answers: &str,
+) -> Result<bool, AllocError> {
+    let right = is_right(alloc, sides, formulas, answers)?;
+    let turned = is_right_turned(alloc, sides, formulas, answers)?;
+    Ok(right & turned)
+}
+
+#[test]
+fn judges_inclusions_between_two_families(rt: HostRuntime) -> Result<(), Fail> {
+    for (sides, first, second, answers) in TWO_ROWS {
+        assert!(rt; is_right_both_ways(rt.alloc(), sides, (first, second), answers)?);
+    }
+    Ok(())
+}
+
+#[test]
+fn tells_which_inclusions_are_not_offered(rt: HostRuntime) -> Result<(), Fail> {
+    for (sides, first, second) in NOT_OFFERED {
+        let answers = "1 line 5: not offered";
+        assert!(rt; tells_inclusion(rt.alloc(), sides, (first, second), "2", answers)?);
+    }
+    Ok(())
+}

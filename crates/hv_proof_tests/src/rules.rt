@@ -1,0 +1,295 @@
+//! Of each rule a row that fits, and rows with one letter wrong.
+ghost use Rattle.std.specs.Prelude.{◌↔◌, IsTrue};
+ghost use Rattle.hv_lines.specs.Numbering.{acts_count, expr_count, ActsReferBelow, ExprRefersBelow};
+ghost use Rattle.hv_lines.specs.Numbering.{SpeaksBelow};
+
+use hv_lines::{ActionList, Acts, Constant, Expr, Line, Premises, Statement, Table, Word};
+use hv_rules::{is_rule, rule_fits};
+use std::alloc::{AllocError, Global};
+use std::test::Fail;
+
+type Case = (Word, Statement, &'static [usize]);
+
+/// A row of each rule, after the lines of `example`.
+static FITTING: [Case; 23] = [
+    (Word::Ed, Statement::Dead(0), &[]),
+    (Word::Ud, Statement::Dead(6), &[0, 1]),
+    (Word::Sd, Statement::Dead(5), &[2, 1]),
+    (Word::Pg, Statement::Dead(3), &[3, 1, 4]),
+    (Word::Pi, Statement::Dead(9), &[3, 1, 6]),
+    (Word::Rg, Statement::Dead(9), &[8, 1, 9]),
+    (Word::Ri, Statement::Dead(3), &[8, 1, 7]),
+    (Word::Ci, Statement::Unsolvable, &[10]),
+    (Word::Cg, Statement::Unsolvable, &[11]),
+    (Word::Ur, Statement::Sub(3, 6), &[]),
+    (Word::Ul, Statement::Sub(4, 6), &[]),
+    (Word::Ir, Statement::Sub(24, 3), &[]),
+    (Word::Il, Statement::Sub(24, 4), &[]),
+    (Word::Di, Statement::Sub(20, 23), &[]),
+    (Word::Su, Statement::Sub(6, 5), &[12, 13]),
+    (Word::Si, Statement::Sub(5, 24), &[14, 2]),
+    (Word::St, Statement::Sub(3, 4), &[12, 2]),
+    (Word::At, Statement::Sub(13, 5), &[15, 16]),
+    (Word::Au, Statement::Sub(15, 5), &[18, 19]),
+    (Word::Pt, Statement::Sub(16, 5), &[18, 20]),
+    (Word::Pu, Statement::Sub(17, 5), &[18, 22]),
+    (Word::Pr, Statement::Sub(19, 9), &[23]),
+    (Word::Rp, Statement::Sub(13, 4), &[25]),
+];
+
+/// Rows with one letter wrong: another set, another action set, another claim, or premises
+/// exchanged.
+static UNFITTING: [Case; 53] = [
+    (Word::Ed, Statement::Dead(2), &[]),
+    (Word::Ed, Statement::Dead(4), &[]),
+    (Word::Ud, Statement::Dead(6), &[1, 0]),
+    (Word::Ud, Statement::Dead(7), &[0, 1]),
+    (Word::Sd, Statement::Dead(5), &[1, 2]),
+    (Word::Sd, Statement::Dead(5), &[2, 0]),
+    (Word::Pg, Statement::Dead(3), &[5, 1, 4]),
+    (Word::Pg, Statement::Dead(3), &[3, 4, 1]),
+    (Word::Pg, Statement::Dead(3), &[27, 1, 4]),
+    (Word::Pg, Statement::Dead(3), &[3, 1, 9]),
+    (Word::Pi, Statement::Dead(9), &[5, 1, 6]),
+    (Word::Pi, Statement::Dead(9), &[3, 1, 7]),
+    (Word::Pi, Statement::Dead(3), &[3, 1, 6]),
+    (Word::Rg, Statement::Dead(9), &[26, 1, 9]),
+    (Word::Rg, Statement::Dead(9), &[8, 1, 4]),
+    (Word::Ri, Statement::Dead(3), &[26, 1, 7]),
+    (Word::Ri, Statement::Dead(3), &[8, 1, 6]),
+    (Word::Ri, Statement::Dead(3), &[3, 1, 7]),
+    (Word::Ci, Statement::Unsolvable, &[11]),
+    (Word::Ci, Statement::Unsolvable, &[0]),
+    (Word::Cg, Statement::Unsolvable, &[10]),
+    (Word::Cg, Statement::Unsolvable, &[4]),
+    (Word::Ur, Statement::Sub(4, 6), &[]),
+    (Word::Ur, Statement::Sub(3, 7), &[]),
+    (Word::Ul, Statement::Sub(3, 6), &[]),
+    (Word::Ul, Statement::Sub(4, 7), &[]),
+    (Word::Ir, Statement::Sub(24, 4), &[]),
+    (Word::Ir, Statement::Sub(3, 24), &[]),
+    (Word::Il, Statement::Sub(24, 3), &[]),
+    (Word::Il, Statement::Sub(4, 24), &[]),
+    (Word::Di, Statement::Sub(20, 25), &[]),
+    (Word::Di, Statement::Sub(26, 23), &[]),
+    (Word::Su, Statement::Sub(6, 5), &[13, 12]),
+    (Word::Su, Statement::Sub(7, 5), &[12, 13]),
+    (Word::Si, Statement::Sub(5, 24), &[2, 14]),
+    (Word::Si, Statement::Sub(5, 6), &[14, 2]),
+    (Word::St, Statement::Sub(3, 4), &[2, 12]),
+    (Word::St, Statement::Sub(3, 4), &[12, 13]),
+    (Word::At, Statement::Sub(13, 5), &[15, 17]),
+    (Word::At, Statement::Sub(14, 5), &[15, 16]),
+    (Word::Au, Statement::Sub(15, 5), &[19, 18]),
+    (Word::Au, Statement::Sub(11, 5), &[18, 19]),
+    (Word::Pt, Statement::Sub(16, 5), &[18, 21]),
+    (Word::Pt, Statement::Sub(16, 5), &[19, 20]),
+    (Word::Pu, Statement::Sub(17, 5), &[22, 18]),
+    (Word::Pu, Statement::Sub(17, 5), &[19, 22]),
+    (Word::Pr, Statement::Sub(19, 18), &[23]),
+    (Word::Pr, Statement::Sub(19, 9), &[24]),
+    (Word::Pr, Statement::Sub(19, 9), &[18]),
+    (Word::Rp, Statement::Sub(13, 3), &[25]),
+    (Word::Rp, Statement::Sub(14, 4), &[25]),
+    (Word::Rp, Statement::Sub(13, 4), &[23]),
+    (Word::Ed, Statement::Sub(0, 0), &[]),
+];
+
+/// What the `k` lines of `example` claim, by their identifiers.
+static CLAIMS: [Statement; 28] = [
+    Statement::Dead(3),
+    Statement::Dead(4),
+    Statement::Sub(5, 4),
+    Statement::Sub(11, 6),
+    Statement::Dead(8),
+    Statement::Sub(27, 6),
+    Statement::Sub(1, 3),
+    Statement::Sub(1, 9),
+    Statement::Sub(12, 6),
+    Statement::Dead(10),
+    Statement::Dead(1),
+    Statement::Dead(2),
+    Statement::Sub(3, 5),
+    Statement::Sub(4, 5),
+    Statement::Sub(5, 3),
+    Statement::Sub(15, 5),
+    Statement::ActSub(1, 3),
+    Statement::ActSub(3, 1),
+    Statement::Sub(13, 5),
+    Statement::Sub(14, 5),
+    Statement::Sub(4, 3),
+    Statement::Sub(3, 4),
+    Statement::Sub(16, 5),
+    Statement::Sub(13, 4),
+    Statement::Sub(14, 4),
+    Statement::Sub(19, 9),
+    Statement::Sub(28, 6),
+    Statement::Sub(11, 7),
+];
+
+/// Whether the sets of the statement are in the table.
+fn is_spoken(table: &Table, statement: Statement) -> bool
+    ensures { IsTrue result
+        ↔ SpeaksBelow (acts_count table.now.lines) (expr_count table.now.lines) statement }
+{
+    match statement {
+        Statement::Sub(left, right) => left < table.expr_count() && right < table.expr_count(),
+        Statement::ActSub(left, right) => left < table.acts_count() && right < table.acts_count(),
+        Statement::Dead(set) => set < table.expr_count(),
+        Statement::Unsolvable => true,
+    }
+}
+
+/// Whether the sets that the expression refers to are in the table.
+fn has_operands(table: &Table, expr: &Expr) -> bool
+    ensures { IsTrue result
+        ↔ ExprRefersBelow (acts_count table.now.lines) (expr_count table.now.lines) expr.now }
+{
+    let exprs = table.expr_count();
+    match expr {
+        Expr::Not(set) => *set < exprs,
+        Expr::And(left, right) | Expr::Or(left, right) => *left < exprs && *right < exprs,
+        Expr::After(set, acts) | Expr::Before(set, acts) => {
+            *set < exprs && *acts < table.acts_count()
+        }
+        _ => true,
+    }
+}
+
+/// Puts this set last, where it refers to earlier ones.
+fn add_set(table: &mut Table, expr: Expr) -> Result<(), Fail> {
+    if !has_operands(table, &expr) {
+        return Err("a set without its operands".into());
+    }
+    let id = table.expr_count();
+    table.push(Line::Expr { id, expr })?;
+    Ok(())
+}
+
+/// Puts this claim last, where it speaks of earlier sets.
+fn add_claim(table: &mut Table, statement: Statement) -> Result<(), Fail> {
+    if !is_spoken(table, statement) {
+        return Err("a claim without its sets".into());
+    }
+    let id = table.known_count();
+    table.push(Line::Known {
+        id,
+        statement,
+        word: Word::B1,
+        premises: Premises::none(),
+    })?;
+    Ok(())
+}
+
+/// All actions, two lists of one action, the union of these, and the list of both actions.
+fn action_sets(alloc: Global) -> Result<Table, AllocError> {
+    let mut table = Table::new(alloc);
+    let mut first = ActionList::new(alloc);
+    first.push(0)?;
+    let mut second = ActionList::new(alloc);
+    second.push(1)?;
+    let mut both = ActionList::new(alloc);
+    both.push(0)?;
+    both.push(1)?;
+    table.push(Line::Acts {
+        id: 0,
+        acts: Acts::All,
+    })?;
+    table.push(Line::Acts {
+        id: 1,
+        acts: Acts::List(first),
+    })?;
+    table.push(Line::Acts {
+        id: 2,
+        acts: Acts::List(second),
+    })?;
+    table.push(Line::Acts {
+        id: 3,
+        acts: Acts::Both(1, 2),
+    })?;
+    table.push(Line::Acts {
+        id: 4,
+        acts: Acts::List(both),
+    })?;
+    Ok(table)
+}
+
+/// A table of lines, whether good or not: a rule asks only what they say.
+fn example(alloc: Global) -> Result<Table, Fail> {
+    let mut table = action_sets(alloc)?;
+    let sets = [
+        Expr::Constant(Constant::Empty),
+        Expr::Constant(Constant::Start),
+        Expr::Constant(Constant::Goal),
+        Expr::Node(1),
+        Expr::Node(0),
+        Expr::Node(1),
+        Expr::Or(3, 4),
+        Expr::Or(4, 3),
+        Expr::And(3, 2),
+        Expr::Not(3),
+        Expr::And(9, 2),
+        Expr::After(3, 0),
+        Expr::Before(3, 0),
+        Expr::After(3, 1),
+        Expr::After(3, 2),
+        Expr::After(3, 3),
+        Expr::After(4, 1),
+        Expr::After(6, 1),
+        Expr::Not(4),
+        Expr::Before(18, 1),
+        Expr::And(6, 5),
+        Expr::And(3, 5),
+        Expr::And(4, 5),
+        Expr::Or(21, 22),
+        Expr::And(3, 4),
+        Expr::Or(22, 21),
+        Expr::And(5, 6),
+        Expr::After(3, 4),
+        Expr::Before(3, 4),
+    ];
+    for expr in sets {
+        add_set(&mut table, expr)?;
+    }
+    for statement in &CLAIMS {
+        add_claim(&mut table, *statement)?;
+    }
+    Ok(table)
+}
+
+/// The identifiers as premises.
+fn premises_of(ids: &[usize]) -> Result<Premises, Fail> {
+    match *ids {
+        [] => Ok(Premises::none()),
+        [first] => Ok(Premises::one(first)),
+        [first, second] => Ok(Premises::two(first, second)),
+        [first, second, third] => Ok(Premises::three(first, second, third)),
+        _ => Err("four premises".into()),
+    }
+}
+
+/// Whether the rule fits, after the lines of the table.
+fn fits(table: &Table, row: Case) -> Result<bool, Fail> {
+    let (word, statement, ids) = row;
+    let premises = premises_of(ids)?;
+    let knowns = table.known_count();
+    if !is_rule(word) || !is_spoken(table, statement) {
+        return Err("no row of a rule".into());
+    }
+    if !premises.as_slice().iter().all(|k| *k < knowns) {
+        return Err("a row without its premises".into());
+    }
+    Ok(rule_fits(table, &statement, word, &premises))
+}
+
+#[test]
+fn tells_rows_that_fit(rt: HostRuntime) -> Result<(), Fail> {
+    let table = example(rt.alloc())?;
+    for row in &FITTING {
+        assert!(rt; fits(&table, *row)?, "{row:?}");
+    }
+    for row in &UNFITTING {
+        assert!(rt; !fits(&table, *row)?, "{row:?}");
+    }
+    Ok(())
+}

@@ -1,6 +1,0 @@
-use Rattle.std.proofs.Common.{◌≡◌}
-use Rattle.hv_task.specs.Strips.{atoms}
-use Rattle.hv_reach.proofs.tests.all_of_a_chain.Given as goal
-
-abbrev pub invariant-loop-atom : goal.invariant-loop-atom
-invariant-loop-atom l = atoms l.task ≡ 70

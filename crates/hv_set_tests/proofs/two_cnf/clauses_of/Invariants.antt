@@ -1,0 +1,5 @@
+use Rattle.hv_clauses.specs.Clausal.{AreClauses}
+use Rattle.hv_set_tests.proofs.two_cnf.clauses_of.Given as goal
+
+abbrev pub invariant-loop-row : goal.invariant-loop-row
+invariant-loop-row l = AreClauses 3 l.clauses

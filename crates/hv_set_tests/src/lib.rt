@@ -1,0 +1,11 @@
+//! Tests of each family of sets by itself. It has tests alone.
+#![tactic(auto)]
+
+#[cfg(test)]
+mod diagrams;
+#[cfg(test)]
+mod horn;
+#[cfg(test)]
+mod sets;
+#[cfg(test)]
+mod two_cnf;

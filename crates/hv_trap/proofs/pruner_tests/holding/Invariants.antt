@@ -1,6 +1,0 @@
-use Rattle.std.proofs.Common.{◌≡◌, length}
-use Rattle.hv_task.specs.Strips.{atoms}
-use Rattle.hv_trap.proofs.pruner_tests.holding.Given as goal
-
-abbrev pub invariant-loop-atom : goal.invariant-loop-atom
-invariant-loop-atom l = length l.state ≡ atoms l.task

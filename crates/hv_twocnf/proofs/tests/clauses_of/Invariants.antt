@@ -1,5 +1,0 @@
-use Rattle.hv_clauses.specs.Clausal.{AreClauses}
-use Rattle.hv_twocnf.proofs.tests.clauses_of.Given as goal
-
-abbrev pub invariant-loop-row : goal.invariant-loop-row
-invariant-loop-row l = AreClauses 3 l.clauses
