@@ -1,22 +1,14 @@
 -- In a reduced ordered list different nodes are different sets (Bryant, 1986).
 use Rattle.std.proofs.Common.{◌≡◌, ℕ, zero, suc, ◌<◌, ◌≤◌, ◌+◌, ◌∙◌, ◌↔◌, Bool, true, false, List}
-use Rattle.std.proofs.Common.{IsTrue, eqb, length, replicate, set, refl, sym, ap, arith, inl, inr}
+use Rattle.std.proofs.Common.{IsTrue, eqb, length, replicate, set, sym, ap, arith, inl, inr}
 use Rattle.std.proofs.lemmas.Bool.{cases_lt, cases_order, eq-eqb, eqb-true}
 use Rattle.std.proofs.lemmas.List.{length-replicate, length-set}
+use Rattle.hv_task.proofs.Flags.{bit_from_flag}
 use Rattle.hv_bdd.specs.Nodes.{NodeList, in_node, node_count}
 use Rattle.hv_bdd.specs.Order.{atom_at}
 use Rattle.hv_bdd.specs.Reduced.{AreOneSet, IsReduced, child, node_at, top}
 use Rattle.hv_bdd.specs.Working.Walking.{atom_at_top, child_less, cofactor, free, in_end, top_end}
 use Rattle.hv_bdd.specs.Working.Walking.{top_less}
-
--- the ends are two sets
-ends_apart : (i j : ℕ) → i < 2 → j < 2 → eqb i 1 ≡ eqb j 1 → i ≡ j
-ends_apart zero zero p q e = refl
-ends_apart zero (suc zero) p q e = let f : false ≡ true = e in absurd cc
-ends_apart (suc zero) zero p q e = let f : true ≡ false = e in absurd cc
-ends_apart (suc zero) (suc zero) p q e = refl
-ends_apart (suc (suc i)) j p q e = absurd (omega arith)
-ends_apart i (suc (suc j)) p q e = absurd (omega arith)
 
 module _ (list : NodeList) (reduced : IsReduced list) where
   one_back : (i j : ℕ) → AreOneSet list i j → AreOneSet list j i
@@ -85,7 +77,7 @@ module _ (list : NodeList) (reduced : IsReduced list) where
             elim (cases_lt j 2) [
               | inl end_j ↦
                   let s = replicate list.atoms false in
-                  ends_apart i j end_i end_j
+                  bit_from_flag i j end_i end_j
                   (sym (in_end list reduced s i end_i)
                   ∙ (one s (length-replicate list.atoms false) ∙ in_end list reduced s j end_j))
               | inr inner_j ↦

@@ -2,7 +2,7 @@
 use Rattle.std.proofs.Common.{◌≡◌, ℕ, ◌<◌, ◌≤◌, ◌+◌, ◌∙◌, Bool, true, false, not, List, [], ◌∷◌}
 use Rattle.std.proofs.Common.{◌++◌, Option, None, Some, eqb, length, map, get_or, take}
 use Rattle.std.proofs.Common.{if◌then◌else◌, refl, sym, ap, arith, inl, inr, subst}
-use Rattle.std.proofs.lemmas.Bool.{cases_lt}
+use Rattle.std.proofs.lemmas.Bool.{cases_lt, false_from_ne_true}
 use Rattle.std.proofs.lemmas.Bool.Decides.{Decides-eqb}
 use Rattle.std.proofs.lemmas.List.{get_or-map, get_or-take, get_or_append_left, get_or_at}
 use Rattle.std.proofs.lemmas.List.{get_or_default, length-append, length-map, length-take-le}
@@ -348,9 +348,5 @@ module _ {O : Type 0} (m : Moves O) (os : List O) (root : List ℕ) where
       ((same_Decides q (get_or ts there.0 q)).1 (sym there.2))) in
       let size = passes.1 in omega arith
     where
-      unless : (b : Bool) → (b ≡ true → ⊥) → b ≡ false
-      unless true f = absurd (f refl)
-      unless false f = refl
-
       differ : (a b : List ℕ) → (a ≡ b → ⊥) → same a b ≡ false
-      differ a b f = unless (same a b) (λ e. f ((same_Decides a b).0 e))
+      differ a b f = false_from_ne_true (same a b) (λ e. f ((same_Decides a b).0 e))

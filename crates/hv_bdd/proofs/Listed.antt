@@ -2,7 +2,7 @@
 use Rattle.std.proofs.Common.{◌≡◌, ℕ, zero, suc, ◌<◌, ◌≤◌, ◌+◌, ◌∙◌, Bool, true, false, List, []}
 use Rattle.std.proofs.Common.{◌∷◌, Option, None, Some, cond, get_or, length, set, refl, sym, ap}
 use Rattle.std.proofs.Common.{arith, inl, inr}
-use Rattle.std.proofs.lemmas.Bool.{cases_eq, cases_lt}
+use Rattle.std.proofs.lemmas.Bool.{cases_eq, cases_lt, false_from_ne_true}
 use Rattle.std.proofs.lemmas.List.{get_or-map, get_or-set_other, get_or-set_same, get_or_past}
 use Rattle.std.proofs.lemmas.List.{get_or_default, length-map, length-set, same_lists}
 use Rattle.std.proofs.lemmas.List.FromFn.{get_or-map-range_with_len, length-map-range_with_len}
@@ -14,6 +14,7 @@ use Rattle.std.specs.List.Sorted.{IsStrictlyIncreasing}
 use Rattle.hv_task.specs.State.{AreBelow, has_atom, names_atom, state_of}
 use Rattle.hv_task.proofs.Places.{has_atom-state_of, length-state_of, names_atom-Decides}
 use Rattle.hv_task.proofs.Rising.{rises_apart}
+use Rattle.hv_task.proofs.Listing.{within_state}
 use Rattle.hv_sets.specs.Cubes.{atoms_of}
 use Rattle.hv_sets.specs.Working.Cubes.{IsFirstUpto}
 use Rattle.hv_sets.specs.declared.literal.Literal.{Literal}
@@ -156,13 +157,6 @@ is_named held p b there back =
     same_from_decides {P = Contains held p} b (names_atom held p) (there, back)
     (names_atom-Decides held p)
 
--- sets that agree have the same next atom
-pub next_agrees : (f g : ℕ → Bool) (from : ℕ) (next : Option ℕ) → ((p : ℕ) → f p ≡ g p)
-    → IsNext f from next → IsNext g from next
-next_agrees f g from None same is = λ p upto. sym (same p) ∙ is p upto
-next_agrees f g from (Some a) same is =
-    (is.0, sym (same a) ∙ is.1, λ p upto less. sym (same p) ∙ is.2 p upto less)
-
 -- what is read where no literal has the atom
 pub read_listed : (ls : List Literal) (atoms a : ℕ) (ones zeros : List ℕ)
     → a < length (mark_literals ls (listed_marks atoms ones zeros))
@@ -190,41 +184,27 @@ is_one ones zeros a there =
     ap (λ b. cond b (Some true) (cond (names_atom zeros a) (Some false) None))
     ((names_atom-Decides ones a).1 there)
 
-unless : (b : Bool) → (b ≡ true → ⊥) → b ≡ false
-unless true f = absurd (f refl)
-unless false f = refl
-
 pub is_zero : (ones zeros : List ℕ) (a : ℕ) → (Contains ones a → ⊥) → Contains zeros a
     → listed_mark ones zeros a ≡ Some false
 is_zero ones zeros a other there =
     ap (λ b. cond b (Some true) (cond (names_atom zeros a) (Some false) None))
-    (unless (names_atom ones a) (λ e. other ((names_atom-Decides ones a).0 e)))
+    (false_from_ne_true (names_atom ones a) (λ e. other ((names_atom-Decides ones a).0 e)))
     ∙ ap (λ b. cond b (Some false) None) ((names_atom-Decides zeros a).1 there)
 
 pub is_unmarked : (ones zeros : List ℕ) (a : ℕ) → (Contains ones a → ⊥) → (Contains zeros a → ⊥)
     → listed_mark ones zeros a ≡ None
 is_unmarked ones zeros a other too =
     ap (λ b. cond b (Some true) (cond (names_atom zeros a) (Some false) None))
-    (unless (names_atom ones a) (λ e. other ((names_atom-Decides ones a).0 e)))
+    (false_from_ne_true (names_atom ones a) (λ e. other ((names_atom-Decides ones a).0 e)))
     ∙ ap (λ b. cond b (Some false) None)
-    (unless (names_atom zeros a) (λ e. too ((names_atom-Decides zeros a).0 e)))
+    (false_from_ne_true (names_atom zeros a) (λ e. too ((names_atom-Decides zeros a).0 e)))
 
 pub found_literal : (ls : List Literal) (k : ℕ) (found : Literal) → k < length ls
     → found ≡ get_or ls k found → found ≡ literal_at ls k
 found_literal ls k found less is =
     is ∙ get_or_default ls k found (record { atom = 0; positive = false }) less
 
--- an atom that is held is one of the task
-pub held_within : (s : List Bool) (p : ℕ) → has_atom s p ≡ true → p < length s
-held_within s p has =
-    elim (cases_lt p (length s)) [
-      | inl less ↦ less
-      | inr upto ↦
-          let past = get_or_past s p false upto in
-          let clash : true ≡ false = sym has ∙ past in absurd cc
-    ]
-
 pub next_within : (s : List Bool) (from : ℕ) (next : Option ℕ) → IsNext (has_atom s) from next
     → IfSome next (λ p. p < length s)
 next_within s from None is = tt
-next_within s from (Some p) is = held_within s p is.1
+next_within s from (Some p) is = within_state s p is.1

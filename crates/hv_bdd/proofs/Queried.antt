@@ -1,7 +1,8 @@
 -- Why the search through live tuples answers a query.
 use Rattle.std.proofs.Common.{◌≡◌, ℕ, ◌<◌, ◌∙◌, Bool, true, false, List, Result, Ok, Err, IfOk}
-use Rattle.std.proofs.Common.{get_or, length, map, refl, sym, ap, arith, subst}
+use Rattle.std.proofs.Common.{get_or, length, map, sym, ap, arith, subst}
 use Rattle.std.proofs.lemmas.List.Elements.{All-append, All-map}
+use Rattle.std.proofs.lemmas.Bool.{false_from_ne_true}
 use Rattle.std.specs.List.{All}
 use Rattle.std.specs.declared.alloc.AllocError.{AllocError}
 use Rattle.hv_task.specs.Strips.{IsTask, Strips, atoms}
@@ -82,10 +83,6 @@ module _ (list : NodeList) (task : Strips) (query : Query) (s : Search)
     changed = for.changed k;
   }
 
-  unless : (b : Bool) → (b ≡ true → ⊥) → b ≡ false
-  unless true f = absurd (f refl)
-  unless false f = refl
-
   by_answer : (found : Finding) (budget : ℕ) (state : List Bool)
       → IsLiveAnswer found (tuple_setting_of list task query) (operands_of query) budget state
       → IsAnswer found (LivePass list task query budget) (atoms task)
@@ -96,7 +93,7 @@ module _ (list : NodeList) (task : Strips) (query : Query) (s : Search)
   by_answer F.Empty budget state says = (
     says.0,
     λ x in_x.
-        unless (is_clash task (in_node list) query x) (λ clash.
+        false_from_ne_true (is_clash task (in_node list) query x) (λ clash.
         says.1 x (suits_from list task query size x t (in_x ∙ sym size) clash)),
   )
 

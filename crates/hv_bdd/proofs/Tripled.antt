@@ -1,27 +1,16 @@
 -- The lines of a node file: a line with three decimals has three fields, and these are the
 -- decimals.
-use Rattle.std.proofs.Common.{◌≡◌, ℕ, ◌<◌, ◌^◌, ◌∙◌, ◌++◌, List, [], ◌∷◌, Option, None, Some}
-use Rattle.std.proofs.Common.{MatchOption, eqb, get_or, length, refl, sym, ap, arith, decimal, true}
-use Rattle.std.proofs.Common.{false}
-use Rattle.std.specs.List.{All, join_with_byte}
+use Rattle.std.proofs.Common.{◌≡◌, ℕ, ◌∙◌, ◌++◌, List, [], ◌∷◌, Option, None, Some}
+use Rattle.std.proofs.Common.{MatchOption, eqb, length, refl, sym, ap, arith, decimal, true}
+use Rattle.std.specs.List.{join_with_byte}
 use Rattle.std.specs.Option.{is_some}
-use Rattle.std.proofs.lemmas.Bool.{ne_eqb}
-use Rattle.std.proofs.lemmas.Grind.{get_or_default_zero}
 use Rattle.std.proofs.lemmas.List.Splits.{join_with_byte-slice_split, length-slice_split}
 use Rattle.std.proofs.lemmas.List.Splits.{slice_split_at, slice_split_none}
 use Rattle.hv_bytes.specs.Decimals.{IsDecimal}
 use Rattle.hv_bytes.specs.Fields.{cut_fields}
-use Rattle.hv_bytes.proofs.DecimalTexts.{IsDecimal-same, decimal_digit_at}
+use Rattle.hv_bytes.proofs.DecimalTexts.{IsDecimal-same, no_space}
 use Rattle.hv_bdd.specs.declared.node.Node.{Node}
 use Rattle.hv_bdd.specs.NodeText.{IsTriple}
-
--- no byte of a decimal is a space
-no_space : (n : ℕ) → n < 10 ^ 18 → All (λ b. eqb b 32 ≡ false) (decimal n)
-no_space n short = λ k d less.
-    ne_eqb (get_or (decimal n) k d) 32 (λ e.
-    let at = decimal_digit_at (decimal n) n (record { spelled = refl; short = short }) k less in
-    let first = at.0 in
-    let z = get_or_default_zero (decimal n) k d less in absurd (omega arith))
 
 module _ (line : List ℕ) where
   pub cut_triple : (node : Node) → IsTriple line node

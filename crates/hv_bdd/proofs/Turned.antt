@@ -4,6 +4,7 @@ use Rattle.std.proofs.Common.{Err, IfSome, length, map, refl, sym, ◌∙◌, ap
 use Rattle.std.proofs.Common.{append-nil, append_assoc, inl, inr}
 use Rattle.std.specs.Io.KnownBytes.{IsAtEnd}
 use Rattle.std.proofs.lemmas.List.{length_push, map-append, map_push}
+use Rattle.std.proofs.lemmas.Option.{IfSome_then}
 use Rattle.hv_bytes.specs.Files.{Names, Opens}
 use Rattle.hv_bytes.specs.Working.Files.{file_of}
 use Rattle.hv_bytes.specs.FirstLine.{BeginsLong, FitsLimits, MovesBytes as PassesBytes, TakesLine}
@@ -53,11 +54,6 @@ module _ (atoms count : ℕ) (nodes : List Node) (node : Node) where
   more_lines line is =
       ap (λ ls. header_line count ∷ ls)
       (map_push node_line nodes node ∙ ap (λ l. map node_line nodes ++ l ∷ []) (sym is.spelled))
-
-weaker : (file : Option (List ℕ)) (P Q : List ℕ → Type 0) → ((bytes : List ℕ) → P bytes → Q bytes)
-    → IfSome file P → IfSome file Q
-weaker None P Q f h = tt
-weaker (Some bytes) P Q f h = f bytes h
 
 -- the reader has read the lines that were given
 pub record Follows (limits : Limits) (file : Option (List ℕ)) (reader : Reader) (number earlier : ℕ)
@@ -171,24 +167,22 @@ module _ (limits : Limits) (atoms : ℕ) (file : Option (List ℕ)) (reader : Re
       let before = f.counted in
       let next = line_next limits file coming rest (read_by reader) line earlier (number + 1) f.gave
       first fits (omega arith) in
-      weaker file _ (λ bytes. IsReadFrom limits atoms bytes (Err fault))
+      IfSome_then file next
       (λ bytes h.
       stop_answer limits atoms bytes (read_by reader ++ line ∷ []) h.0 fault
       (h.1.cut
       ∙ sym (ap (λ ps. ps ++ h.0) (map_push (λ (l : List ℕ). Some l) (read_by reader) line)
       ∙ append_assoc (as_pieces (read_by reader)) (Some line ∷ []) h.0))
       (subst (λ n. StopsAt n (read_by reader ++ line ∷ []) fault) over t))
-      next
 
   -- an earlier line has the first fault
   earlier_fault : (fault : NodesFault) → StopsAt reader.list.atoms (read_by reader) fault
       → IfSome file (λ bytes. IsReadFrom limits atoms bytes (Err fault))
   earlier_fault fault stops =
-      weaker file _ (λ bytes. IsReadFrom limits atoms bytes (Err fault))
+      IfSome_then file (gave_cut limits file (read_by reader) coming earlier f.gave)
       (λ bytes h.
       stop_answer limits atoms bytes (read_by reader) h.0 fault h.1
       (subst (λ n. StopsAt n (read_by reader) fault) over stops))
-      (gave_cut limits file (read_by reader) coming earlier f.gave)
 
   -- what comes next, after a beginning
   after_begun : (bytes : List ℕ) (front : Beginning) (rest : List Piece) (count : ℕ)
@@ -227,15 +221,15 @@ module _ (limits : Limits) (atoms : ℕ) (file : Option (List ℕ)) (reader : Re
       → IfSome file (λ bytes. IsReadFrom limits atoms bytes result)
   end_answer (Ok list) end ends =
       let before = f.counted in
-      weaker file _ (λ bytes. IsReadFrom limits atoms bytes (Ok list))
-      (λ bytes next. ended_whole bytes list (number + 1) next ends)
+      IfSome_then file
       (end_next limits file coming (read_by reader) earlier (number + 1) f.gave end (omega arith))
+      (λ bytes next. ended_whole bytes list (number + 1) next ends)
   end_answer (Err fault) end (inl stops) = earlier_fault fault stops
   end_answer (Err fault) end (inr (kind, front, begun_at, e, early)) =
       let before = f.counted in
-      weaker file _ (λ bytes. IsReadFrom limits atoms bytes (Err fault))
-      (λ bytes next. ended_early bytes fault (number + 1) kind front next begun_at e early)
+      IfSome_then file
       (end_next limits file coming (read_by reader) earlier (number + 1) f.gave end (omega arith))
+      (λ bytes next. ended_early bytes fault (number + 1) kind front next begun_at e early)
 
   stopped : (file_known : Option (List ℕ)) (count : ℕ) (fault : LineFault) (front : Beginning)
       → AreBegun reader.list.atoms (read_by reader) front

@@ -1,8 +1,11 @@
 -- The decimals are the short texts of digits without a leading zero.
 use Rattle.std.proofs.Common.{◌≡◌, ℕ, zero, suc, ◌<◌, ◌≤◌, ◌^◌, List, Option, None, Some, IfSome}
 use Rattle.std.proofs.Common.{IfNone, length, length-take, get_or, take, sym, ap, subst, ◌∙◌, arith}
-use Rattle.std.proofs.Common.{decimal}
+use Rattle.std.proofs.Common.{decimal, eqb, false, refl}
+use Rattle.std.specs.List.{All}
 use Rattle.std.specs.Str.Parse.{AllDigits, digits_value}
+use Rattle.std.proofs.lemmas.Bool.{ne_eqb}
+use Rattle.std.proofs.lemmas.Grind.{get_or_default_zero}
 use Rattle.std.proofs.lemmas.Str.Parse.{IsNumeralModel, numerals_by_value, tells_digits, digit_at}
 use Rattle.std.proofs.lemmas.Str.Parse.{digits_value_short}
 use Rattle.std.proofs.lemmas.Fmt.{decimal-digits_value, digits_decimal, first_decimal}
@@ -11,17 +14,19 @@ use Rattle.std.proofs.lemmas.Fmt.{decimal_injective}
 use Rattle.hv_bytes.specs.Decimals.{IsDecimal, IsShortDecimal}
 use Rattle.hv_bytes.specs.Working.Decimals.{HasDecimalShape}
 
-abbrev own : IsNumeralModel (AllDigits 10) (digits_value 10)
-own = numerals_by_value (AllDigits 10) tells_digits
+-- the model of the digits by their value
+abbrev pub digits_model : IsNumeralModel (AllDigits 10) (digits_value 10)
+digits_model = numerals_by_value (AllDigits 10) tells_digits
 
 -- digits of a decimal's shape spell their value
 pub IsDecimal-digits : (bytes : List ℕ) → HasDecimalShape bytes → AllDigits 10 bytes
     → IsDecimal bytes (digits_value 10 bytes)
 IsDecimal-digits bytes shape digits =
-    let small : digits_value 10 bytes < 10 ^ 18 = digits_value_short own bytes 18 digits
+    let small : digits_value 10 bytes < 10 ^ 18 = digits_value_short digits_model bytes 18 digits
     shape.short in
     record {
-      spelled = sym (decimal-digits_value own bytes digits shape.some shape.plain (omega arith));
+      spelled = sym (decimal-digits_value digits_model bytes digits shape.some shape.plain
+          (omega arith));
       short = small;
     }
 
@@ -41,12 +46,20 @@ decimal_shape bytes n h =
 -- each byte of a decimal is a digit
 pub decimal_digits : (bytes : List ℕ) (n : ℕ) → IsDecimal bytes n → AllDigits 10 bytes
 decimal_digits bytes n h = subst (AllDigits 10) (sym h.spelled)
-    (digits_decimal own n (omega (arith, h.short)))
+    (digits_decimal digits_model n (omega (arith, h.short)))
 
 -- the same, byte by byte
 pub decimal_digit_at : (bytes : List ℕ) (n : ℕ) → IsDecimal bytes n → (k : ℕ) → k < length bytes
     → (48 ≤ get_or bytes k 0) × (get_or bytes k 0 ≤ 57)
 decimal_digit_at bytes n h k l = digit_at bytes k (decimal_digits bytes n h) l
+
+-- no byte of a decimal is a space
+pub no_space : (n : ℕ) → n < 10 ^ 18 → All (λ b. eqb b 32 ≡ false) (decimal n)
+no_space n short = λ k d less.
+    ne_eqb (get_or (decimal n) k d) 32 (λ e.
+    let at = decimal_digit_at (decimal n) n (record { spelled = refl; short = short }) k less in
+    let first = at.0 in
+    let z = get_or_default_zero (decimal n) k d less in absurd (omega arith))
 
 -- a decimal spells one number
 pub IsDecimal-same : (bytes : List ℕ) (m n : ℕ) → IsDecimal bytes m → IsDecimal bytes n → m ≡ n
@@ -68,7 +81,7 @@ decimal_unread bytes (Some n) h = tt
 -- fewer than 18 digits leave room for one more
 pub digits_room : (bytes : List ℕ) (i : ℕ) → i < length bytes → length bytes ≤ 18
     → AllDigits 10 (take i bytes) → digits_value 10 (take i bytes) < 10 ^ 17
-digits_room bytes i l short digits = digits_value_short own (take i bytes) 17 digits
+digits_room bytes i l short digits = digits_value_short digits_model (take i bytes) 17 digits
     (omega (arith, length-take i bytes))
 
 pub short_decimal : (bytes : List ℕ) (n : ℕ) → IsDecimal bytes n → n < 10 ^ 9

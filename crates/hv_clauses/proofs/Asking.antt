@@ -2,7 +2,7 @@
 use Rattle.std.proofs.Common.{◌≡◌, ℕ, ◌<◌, ◌≤◌, ◌∙◌, ◌&&◌, Bool, true, false, not, cond, List}
 use Rattle.std.proofs.Common.{[], ◌∷◌, ◌++◌, length, get_or, take, None, refl, sym, ap, ap₂}
 use Rattle.std.proofs.Common.{arith, inl, inr, subst}
-use Rattle.std.proofs.lemmas.Bool.{and_parts, cases_lt, false_from_ne_true}
+use Rattle.std.proofs.lemmas.Bool.{and_parts, cases_lt, false_from_ne_true, not-true, not-false}
 use Rattle.std.proofs.lemmas.List.{length_push, get_or_push, get_or_append_left, length-append}
 use Rattle.std.proofs.lemmas.List.{length-take-le, take-append-le, take_at, take-take, get_or-take}
 use Rattle.hv_task.specs.State.{has_atom}
@@ -62,14 +62,6 @@ literal_from l s h = by l.positive (has_atom s l.atom) h
     by false true e = sym e
     by false false e = refl
 
-pub was_false : (b : Bool) → not b ≡ true → b ≡ false
-was_false true e = sym e
-was_false false e = refl
-
-pub was_true : (b : Bool) → not b ≡ false → b ≡ true
-was_true true e = refl
-was_true false e = sym e
-
 module _ (Met : List Bool → Type 0) (Left : Knowledge → ℕ → Type 0) where
   upto_grown : (k new : Knowledge) (p : ℕ) → Grows k new → p ≤ length k.trail
       → knowledge_upto new p ≡ knowledge_upto k p
@@ -117,7 +109,7 @@ module _ (Met : List Bool → Type 0) (Left : Knowledge → ℕ → Type 0) wher
             (sym back)
             (subst (λ ls. FollowsFrom Met Left k ls)
             (sym (take_at literals (l ∷ []) (length points) (sym c.sizes))) here));
-        here = λ is. (let yes : result ≡ true = was_true result is in record {
+        here = λ is. (let yes : result ≡ true = not-false result is in record {
           left = t.left yes;
           follows = λ s size met inside.
               let both = and_parts (in_cube literals s) (in_literal l s)
@@ -134,7 +126,7 @@ module _ (Met : List Bool → Type 0) (Left : Knowledge → ℕ → Type 0) wher
             let both = and_parts (in_cube literals s) (in_literal l s)
             (sym (in_push literals l s) ∙ inside) in
             let long = size ∙ ap length t.grown.base in
-            t.none (was_false result is) s long met (here.follows s long met both.0) both.1;
+            t.none (not-true result is) s long met (here.follows s long met both.0) both.1;
       }
 
   -- all but the first so many taken back

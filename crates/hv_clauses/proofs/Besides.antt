@@ -45,13 +45,6 @@ pair_two x y = record {
     each (suc zero) d less = inr refl
     each (suc (suc k)) d less = absurd (omega arith)
 
-pub pair_turned : (clause : List Literal) (a b : Literal) → IsPair clause a b → IsPair clause b a
-pair_turned clause a b pair = record {
-  has_first = pair.has_second;
-  has_second = pair.has_first;
-  only = λ k d within. elim (pair.only k d within) [ inl e ↦ inr e | inr e ↦ inl e ];
-}
-
 -- one literal of two is false, so what the clause says is that the other one is true
 pub pair_followed : (e : List ℕ) (old new : Knowledge) (own other : Literal) (clause : List Literal)
     (result : Bool) → SpeakBelow (length old.base) clause

@@ -1,6 +1,6 @@
 -- Settled clauses of one kind: they are true where the open atoms are left out, or where the marks
 -- are put over a state in which they are true.
-use Rattle.std.proofs.Common.{◌≡◌, ℕ, zero, suc, ◌<◌, ◌≤◌, ◌∙◌, Bool, true, false, not, cond, List}
+use Rattle.std.proofs.Common.{◌≡◌, ℕ, zero, suc, ◌<◌, ◌∙◌, Bool, true, false, not, cond, List}
 use Rattle.std.proofs.Common.{[], ◌∷◌, length, get_or, None, Some, refl, sym, ap, subst, arith, inl}
 use Rattle.std.proofs.Common.{inr}
 use Rattle.std.proofs.lemmas.Bool.{and_from, and_parts}
@@ -30,6 +30,7 @@ use Rattle.hv_clauses.specs.Working.Units.{AreSettled}
 use Rattle.hv_clauses.proofs.Marked.{agrees_filled, agrees_low, agrees_over, has_atom-filled}
 use Rattle.hv_clauses.proofs.Marked.{has_atom-over_none, length-filled, length-low, length-over}
 use Rattle.hv_clauses.proofs.Marked.{value_none, value_open, value_true}
+use Rattle.hv_clauses.proofs.OperandClauses.{clauses_in_below}
 
 -- a literal that is true makes its clause true
 pub clause_true : (clause : List Literal) (l : Literal) (state : List Bool) → Contains clause l
@@ -287,18 +288,6 @@ module _ (IsOf : List Literal → Type 0) (short : (clause : List Literal) → I
       (λ k d within. unit_kind (get_or task.goal k d) true)
   constants_kind task formulas count (W.Set number) each named = each number named
 
-unit_below : (n atom : ℕ) (positive : Bool) → atom < n → SpeakBelow n (unit atom positive)
-unit_below n atom positive less =
-    All-cons (λ l. l.atom < n) (record { atom = atom; positive = positive }) [] less
-    (All-nil (λ (l : Literal). l.atom < n))
-
-state_below : (bound n : ℕ) (held : List ℕ) → n ≤ bound → AreClauses bound (clauses_of_state n held)
-state_below bound zero held upto = All-nil (SpeakBelow bound)
-state_below bound (suc n) held upto =
-    All-push (SpeakBelow bound) (clauses_of_state n held) (unit n (names_atom held n))
-    (state_below bound n held (omega arith))
-    (unit_below bound n (names_atom held n) (omega arith))
-
 -- and they speak of the atoms of the task alone
 pub constants_below : (task : Strips) (formulas : ℕ → List (List Literal)) (count : ℕ)
     (which : Which)
@@ -306,15 +295,9 @@ pub constants_below : (task : Strips) (formulas : ℕ → List (List Literal)) (
     → ((number : ℕ) → number < count → AreClauses (atoms task) (formulas number))
     → IsNamed count which
     → AreClauses (atoms task) (clauses_in task formulas which)
-constants_below task formulas count W.Empty goal each named =
-    All-cons (SpeakBelow (atoms task)) [] [] (All-nil (λ (l : Literal). l.atom < atoms task))
-    (All-nil (SpeakBelow (atoms task)))
-constants_below task formulas count W.Start goal each named = state_below (atoms task) (atoms task)
-    task.start (omega arith)
-constants_below task formulas count W.Goal goal each named =
-    All-map (SpeakBelow (atoms task)) (λ atom. unit atom true) task.goal
-    (λ k d within. unit_below (atoms task) (get_or task.goal k d) true (goal k d within))
-constants_below task formulas count (W.Set number) goal each named = each number named
+constants_below task formulas count which goal each named =
+    clauses_in_below task formulas which goal
+    (λ number is. each number (subst (IsNamed count) is named))
 
 module _ (how : Completion) (IsOf : List Literal → Type 0) (law : CompletesClauses how IsOf)
     (short : (clause : List Literal) → IsShort clause → IsOf clause) (task : Strips)

@@ -8,17 +8,19 @@ use Rattle.std.proofs.Math.ListN.{get_or-eq_default}
 use Rattle.std.specs.Prelude.{min, slice_range}
 use Rattle.hv_sets.specs.declared.literal.Literal.{Literal}
 use Rattle.hv_clauses.specs.declared.occurrences.Occurrences.{Occurrences}
+use Rattle.hv_clauses.specs.declared.occurrences.Signed.{Signed}
 use Rattle.hv_clauses.specs.declared.occurrences.Standing.{Standing}
+use Rattle.hv_clauses.specs.declared.rows.Head.{Head}
 use Rattle.hv_clauses.specs.Implied.{IsPair}
 use Rattle.hv_clauses.specs.Negative.{StandsNegatively}
 use Rattle.hv_clauses.specs.Rows.{IsRow}
 use Rattle.hv_clauses.specs.Working.Choices.{clause_at}
 use Rattle.hv_clauses.specs.Working.Occurrences.{AreBeside, AreOccurrences, AreStanding, IsBeside}
 use Rattle.hv_clauses.specs.Working.Occurrences.{IsIndexOf, entry_or_none, no_literal}
-use Rattle.hv_clauses.specs.Working.Rows.{AreCoded, IsEndBefore, place_of_code}
+use Rattle.hv_clauses.specs.Working.Rows.{AreCoded, AreHeads, IsEndBefore, place_of_code}
 use Rattle.hv_clauses.specs.Working.Signed.{StandsAs}
 use Rattle.hv_clauses.specs.Working.Trail.{literal_of}
-use Rattle.hv_clauses.proofs.Keyed.{key_at, number_at, row_ends, row_is}
+use Rattle.hv_clauses.proofs.Keyed.{key_at, number_at, row_ends, row_is, coded_size, starts_upto}
 
 -- the lesser of two numbers
 min_left : (a b : ℕ) → a ≤ b → min a b ≡ a
@@ -52,6 +54,29 @@ entry_between entries from upto k less = elim (cases_lt (from + k) (length entri
         let size = length-between entries (min from (length entries)) (min upto (length entries))
         (omega arith) in
         omega arith
+
+-- The bounds of the part of a literal, as the heads tell them.
+module _ (clauses : List (List Literal)) (literal : Literal) (listed : Signed)
+    (are : AreOccurrences literal.positive clauses listed) (heads tails : List Head)
+    (len from upto : ℕ) (size : len ≡ length listed.places.items)
+    (first : heads ≡ listed.heads.items) (second : tails ≡ listed.heads.items)
+    (starts : (codes : List ℕ) → AreHeads codes heads → length codes ≡ len
+    → IsEndBefore literal.atom codes from)
+    (ends : (codes : List ℕ) → AreHeads codes tails → length codes ≡ len
+    → IsEndBefore (literal.atom + 1) codes upto) where
+  count : length are.codes ≡ len
+  count = coded_size (StandsAs literal.positive clauses) are.codes listed.places.items are.coded
+      ∙ sym size
+
+  pub part_starts : IsEndBefore literal.atom are.codes from
+  part_starts = starts are.codes (subst (AreHeads are.codes) (sym first) are.heads) count
+
+  pub part_ends : IsEndBefore (literal.atom + 1) are.codes upto
+  part_ends = ends are.codes (subst (AreHeads are.codes) (sym second) are.heads) count
+
+  -- they are in order
+  pub part_rises : from ≤ upto
+  part_rises = starts_upto are.codes literal.atom from upto part_starts part_ends
 
 -- The part of the lists of a sign that is of one atom.
 module _ (sign : Bool) (clauses : List (List Literal)) (codes places entries : List ℕ)

@@ -2,21 +2,18 @@
 use Rattle.std.proofs.Common.{◌≡◌, ℕ, ◌<◌, ◌≤◌, ◌^◌, ◌∙◌, ◌&&◌, Bool, true, false, List, Some, None}
 use Rattle.std.proofs.Common.{cond, decimal, nat_le, ap, arith, refl, subst, sym}
 use Rattle.std.specs.Str.{bytes_eq}
-use Rattle.std.specs.Str.Parse.{AllDigits, digits_value}
+use Rattle.std.specs.Str.Parse.{digits_value}
 use Rattle.std.proofs.lemmas.Bool.{le-leb, leb-true}
 use Rattle.std.proofs.lemmas.Fmt.{digits_value-decimal}
 use Rattle.std.proofs.lemmas.Slice.Eq.{bytes_eq-Decides}
-use Rattle.std.proofs.lemmas.Str.Parse.{IsNumeralModel, numerals_by_value, tells_digits}
 use Rattle.hv_bytes.specs.Decimals.{IsDecimal}
+use Rattle.hv_bytes.proofs.DecimalTexts.{digits_model}
 use Rattle.hv_command.specs.Words.{IsBetween, as_number, number_of}
-
-abbrev own : IsNumeralModel (AllDigits 10) (digits_value 10)
-own = numerals_by_value (AllDigits 10) tells_digits
 
 -- the digits of a decimal are worth its number
 value : (word : List ℕ) (number : ℕ) → IsDecimal word number → digits_value 10 word ≡ number
 value word number is = ap (digits_value 10) is.spelled
-    ∙ digits_value-decimal own number (omega (arith, is.short))
+    ∙ digits_value-decimal digits_model number (omega (arith, is.short))
 
 module _ (least most : ℕ) (word : List ℕ) where
   -- a number within the bounds that the word spells is the one that it names

@@ -14,6 +14,7 @@ use Rattle.std.proofs.lemmas.Option.{get_or_from_slice_get, same_Some, slice_get
 use Rattle.std.proofs.lemmas.Option.{slice_get_within}
 use Rattle.std.specs.List.{All, Contains, flat_map, range_with_len}
 use Rattle.std.specs.Option.{is_some}
+use Rattle.std.specs.Cmp.Derive.{one_truth}
 use Rattle.hv_task.specs.declared.action.Action.{Action}
 use Rattle.hv_task.specs.AtomList.{Inserts}
 use Rattle.hv_task.specs.State.{AreBelow, has_atom, names_atom}
@@ -25,7 +26,6 @@ use Rattle.hv_lines.specs.Numbering.{expr_at, expr_count}
 use Rattle.hv_lines.specs.declared.line.Expr.{Expr}
 use Rattle.hv_lines.specs.declared.line.Expr.TheVariants as E
 use Rattle.hv_lines.specs.declared.line.Line.{Line}
-use Rattle.hv_lines.proofs.Bools.{same_truth}
 use Rattle.hv_reach.specs.Reached.{AreIn, ClosedAtoms, ClosedPairs, HasPairsOf, LeavesAlone}
 use Rattle.hv_reach.specs.Reached.{ReachedAtom, ReachedPair}
 use Rattle.hv_reach.specs.Written.{IsPairsProof, IsRelaxedProof, PairsExclude, RelaxedExcludes}
@@ -419,7 +419,7 @@ module _ (rooms : ℕ) (is : IsRooms rooms) where
       → (clauses : List (List Literal)) × (lines ≡ horn_proof clauses) × (length clauses ≡ 1)
   relaxed_counted lines (r, tells, is_proof) =
       let same : r ≡ is_room =
-      λ i p. same_truth (r p) (is_room p) (λ h. (atoms_told p).1 ((tells p).0 h))
+      λ i p. one_truth (r p) (is_room p) (λ h. (atoms_told p).1 ((tells p).0 h))
       (λ h. (tells p).1 ((atoms_told p).0 h)) i in (
         relaxed_formula (atoms (sample_task rooms)) r,
         is_proof,
@@ -432,7 +432,7 @@ module _ (rooms : ℕ) (is : IsRooms rooms) where
       × (length clauses ≡ unreached_pairs rooms)
   pairs_counted lines (r, tells, is_proof) =
       let same : r ≡ is_one =
-      λ i p q. same_truth (r p q) (is_one p q) (λ h. (pairs_told p q).1 ((tells p q).0 h))
+      λ i p q. one_truth (r p q) (is_one p q) (λ h. (pairs_told p q).1 ((tells p q).0 h))
       (λ h. (tells p q).1 ((pairs_told p q).0 h)) i in (
         pairs_formula (atoms (sample_task rooms)) r,
         is_proof,

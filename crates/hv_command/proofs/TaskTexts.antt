@@ -1,5 +1,5 @@
 -- The task of a text keeps what every task keeps.
-use Rattle.std.proofs.Common.{ℕ, List, arith, get_or, length, subst}
+use Rattle.std.proofs.Common.{List, arith, get_or, length, subst}
 use Rattle.std.proofs.lemmas.List.{length-map}
 use Rattle.std.proofs.lemmas.List.Elements.{All-map}
 use Rattle.hv_bytes.specs.Pieces.{Piece}
@@ -8,9 +8,7 @@ use Rattle.hv_task_text.specs.Beginning.{AreActions}
 use Rattle.hv_task_text.specs.TaskText.{AreTextOf}
 use Rattle.hv_task_text.specs.Written.{Entry, Head, written_action, task_of}
 use Rattle.hv_task_text.proofs.Sets.{set_below, set_rises}
-
-action_over : (n : ℕ) (entry : Entry) → IsOver n (written_action n entry)
-action_over n entry = record { pre = set_below n _; add = set_below n _; del = set_below n _ }
+use Rattle.hv_task_text.proofs.Held.{action_over}
 
 legal_task : (head : Head) (actions : List Entry) → AreActions (length actions) head actions
     → IsTask (task_of head actions)

@@ -1,9 +1,9 @@
 -- The lines of a table are told of by one text.
 use Rattle.std.proofs.Common.{◌≡◌, ℕ, ◌∙◌, Bool, List, [], ◌∷◌, ◌++◌, ap, refl, reverse, sym}
+use Rattle.std.specs.Cmp.Derive.{one_truth}
 use Rattle.hv_lines.specs.Spelling.{spelling_of}
 use Rattle.hv_lines.specs.declared.line.Line.{Line}
 use Rattle.hv_lines.specs.declared.line.Line.TheVariants as L
-use Rattle.hv_lines.proofs.Bools.{same_truth}
 use Rattle.hv_explain.specs.Explained.{IsExplanation, explained_line, explained_lines, need_word}
 
 module _ (p q : ℕ → Bool) (same : (id : ℕ) → p id ≡ q id) where
@@ -24,7 +24,7 @@ pub one_explanation : (lines : List Line) (text other : List ℕ) → IsExplanat
 one_explanation lines text other x y =
     x.says
     ∙ one_text x.needed y.needed
-    (λ id. same_truth (x.needed id) (y.needed id) (λ h. (y.exact id).1 ((x.exact id).0 h))
+    (λ id. one_truth (x.needed id) (y.needed id) (λ h. (y.exact id).1 ((x.exact id).0 h))
     (λ h. (x.exact id).1 ((y.exact id).0 h)))
     (reverse lines)
     ∙ sym y.says

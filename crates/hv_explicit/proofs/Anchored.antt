@@ -1,11 +1,12 @@
 -- Why a search through the states of the anchor answers a query.
-use Rattle.std.proofs.Common.{◌≡◌, ℕ, ◌≤◌, ◌∙◌, ◌&&◌, ◌||◌, Bool, true, false, List, [], ◌∷◌, ◌++◌}
+use Rattle.std.proofs.Common.{◌≡◌, ℕ, ◌≤◌, ◌∙◌, ◌||◌, Bool, true, false, List, [], ◌∷◌, ◌++◌}
 use Rattle.std.proofs.Common.{Option, Some, None, length, get_or, slice_get, refl, sym, ap, arith}
 use Rattle.std.proofs.Common.{subst}
 use Rattle.std.proofs.lemmas.List.Elements.{All-contains, Contains-append_left}
 use Rattle.std.proofs.lemmas.List.Elements.{Contains-append_right, Contains-get_or}
 use Rattle.std.proofs.lemmas.List.Folds.{list_all_at, list_any_none}
 use Rattle.std.proofs.lemmas.Option.{get_or_from_slice_get, slice_get_within}
+use Rattle.std.proofs.lemmas.Bool.{and_parts, false_from_ne_true}
 use Rattle.std.specs.List.{All, Contains, list_all}
 use Rattle.hv_task.specs.declared.action.Action.{Action}
 use Rattle.hv_task.specs.State.{state_of}
@@ -24,14 +25,6 @@ use Rattle.hv_sets.specs.Truth.{in_states, is_same}
 use Rattle.hv_explicit.specs.Listing.{AreOver, Listing, count_found, in_found, in_listing, in_set}
 use Rattle.hv_explicit.specs.Listing.{states_listed}
 use Rattle.hv_explicit.specs.Working.Search.{IsFoundListed}
-
-from_not_true : (b : Bool) → (b ≡ true → ⊥) → b ≡ false
-from_not_true true f = absurd (f refl)
-from_not_true false f = refl
-
-both : (a b : Bool) → (a && b) ≡ true → (a ≡ true) × (b ≡ true)
-both true b e = (refl, e)
-both false b e = let f : false ≡ true = e in absurd cc
 
 -- what each of two lists keeps its second part keeps
 pub All-second : {X : Type 0} (P : X → Type 0) (xs ys : List X) → All P (xs ++ ys) → All P ys
@@ -74,9 +67,9 @@ module _ (task : Strips) (sets : List Listing) (query : Query) where
       → is_clash task (in_set sets) query state ≡ true
       → in_which task (in_set sets) o.which state ≡ true
   in_anchor o anchor state clash =
-      let parts = both (may_apply (action_of task query.action) state) _ clash in
-      let sides = both (list_all (λ p. in_operand task (in_set sets) (action_of task query.action)
-      state p) query.positive) _ parts.1 in
+      let parts = and_parts (may_apply (action_of task query.action) state) _ clash in
+      let sides = and_parts (list_all (λ p. in_operand task (in_set sets)
+      (action_of task query.action) state p) query.positive) _ parts.1 in
       let held = passes_at (λ p. in_operand task (in_set sets) (action_of task query.action) state
       p) query.positive o sides.0 anchor.among in
       subst (λ s. in_which task (in_set sets) o.which s ≡ true)
@@ -112,12 +105,13 @@ module _ (task : Strips) (sets : List Listing) (query : Query) where
           (within_budget budget (omega (arith, f.0, count)), f.1, f.2)
       answer_found F.Empty budget states last count listed f = (
         within_budget budget (omega (arith, f.0, count)),
-        λ state size. from_not_true (is_clash task (in_set sets) query state)
+        λ state size. false_from_ne_true (is_clash task (in_set sets) query state)
             (λ clash.
             let among = listed state (in_anchor o anchor state clash) in
             let none : in_states (atoms task) states state ≡ false =
             list_any_none (λ held. is_same (state_of (atoms task) held) state) states
-            (λ k d within. from_not_true (is_same (state_of (atoms task) (get_or states k d)) state)
+            (λ k d within.
+            false_from_ne_true (is_same (state_of (atoms task) (get_or states k d)) state)
             (λ same.
             let is = (beq-Decides (state_of (atoms task) (get_or states k d)) state).0 same in
             let out = ap (is_clash task (in_set sets) query) (sym is) ∙ f.1 k d within in

@@ -1,11 +1,12 @@
 -- Listed states in cubes, and their cubes one by one.
 use Rattle.std.proofs.Common.{◌≡◌, ℕ, zero, suc, ◌+◌, ◌<◌, ◌∙◌, ◌↔◌, Bool, true, false, List, []}
-use Rattle.std.proofs.Common.{◌∷◌, ◌++◌, length, get_or, drop, map, refl, sym, ap, arith, subst}
+use Rattle.std.proofs.Common.{◌∷◌, ◌++◌, length, get_or, drop, map, sym, ap, arith, subst}
 use Rattle.std.proofs.Common.{IsTrue}
 use Rattle.std.proofs.lemmas.Bool.Decides.{same_from_decides}
 use Rattle.std.proofs.lemmas.List.{drop_more, get_or-map, length-map}
 use Rattle.std.proofs.lemmas.List.Elements.{All-append}
 use Rattle.std.proofs.lemmas.List.Folds.{list_any_at, list_any_none}
+use Rattle.std.proofs.lemmas.Bool.{false_from_ne_true}
 use Rattle.std.specs.List.{Contains}
 use Rattle.hv_task.specs.State.{AreBelow, names_atom, state_of}
 use Rattle.hv_task.proofs.Places.{beq-Decides, length-state_of, names_atom-Decides}
@@ -65,15 +66,11 @@ pub none_meets : (n : ℕ) (states : List (List ℕ)) (cube : List Literal) (fou
     → Meets false n (in_states n states) cube found
 none_meets n states cube found none = λ state size inside.
     list_any_none (λ h. is_same (state_of n h) state) states
-    (λ k d within. from_not_true (is_same (state_of n (get_or states k d)) state)
+    (λ k d within. false_from_ne_true (is_same (state_of n (get_or states k d)) state)
     (λ same.
     let is = (beq-Decides (state_of n (get_or states k d)) state).0 same in
     let out : in_cube cube state ≡ false = ap (in_cube cube) (sym is) ∙ none k d within in
     let clash : true ≡ false = sym inside ∙ out in absurd cc))
-  where
-    from_not_true : (b : Bool) → (b ≡ true → ⊥) → b ≡ false
-    from_not_true true f = absurd (f refl)
-    from_not_true false f = refl
 
 -- the cubes that are left before and after one is taken
 pub cube_taken : (n : ℕ) (states : List (List ℕ)) (place : ℕ) (held : List ℕ) (cube : List Literal)

@@ -221,6 +221,3 @@ module _ (n : ℕ) (set : ℕ → Bool) (state : List Bool) (size : length state
 -- two tests of one fact agree
 pub same_tests : {P : Type 0} (a b : Bool) → ((a ≡ true) ↔ P) → ((b ≡ true) ↔ P) → a ≡ b
 same_tests {P} a b one other = same_from_decides {P = P} a b (one.0, one.1) (other.0, other.1)
-
-pub both_tests : {P Q R : Type 0} → P ↔ Q → Q ↔ R → P ↔ R
-both_tests one other = (λ p. other.0 (one.0 p), λ r. one.1 (other.1 r))

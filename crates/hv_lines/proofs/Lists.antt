@@ -1,13 +1,12 @@
--- Lists that are joined of pieces, ranges of numbers, and lists that rise.
+-- Lists that are joined of pieces, and ranges of numbers.
 use Rattle.std.proofs.Common.{◌≡◌, ℕ, zero, suc, ◌+◌, ◌-◌, ◌<◌, ◌≤◌, ◌∙◌, Bool, true, List, [], ◌∷◌}
-use Rattle.std.proofs.Common.{◌++◌, length, get_or, refl, sym, ap, subst, inl, inr, arith, add-one}
+use Rattle.std.proofs.Common.{◌++◌, length, refl, sym, ap, subst, inl, inr, arith}
 use Rattle.std.proofs.Common.{length-append}
 use Rattle.std.proofs.lemmas.Bool.{and_from, and_parts, cases_eq}
 use Rattle.std.proofs.lemmas.List.{flat_map_more}
 use Rattle.std.proofs.lemmas.List.Elements.{All-append, All-cons, All-head, All-nil, All-tail}
 use Rattle.std.proofs.lemmas.List.Folds.{list_all-append}
 use Rattle.std.specs.List.{All, flat_map, list_all, range_with_len}
-use Rattle.std.specs.List.Sorted.{IsStrictlyIncreasing}
 
 module _ {X Y : Type 0} (f : X → List Y) where
   -- what holds of each element of the pieces holds of each element of all
@@ -102,12 +101,3 @@ module _ (P : ℕ → Type 0) where
   -- the same of the numbers below one
   pub All-below : (n : ℕ) → ((x : ℕ) → x < n → P x) → All P (range_with_len 0 n)
   All-below n each = All-range 0 n (λ x from below. each x (omega (arith, below)))
-
--- the rest of a list that rises does
-pub increasing_tail : (n : ℕ) (ns : List ℕ) → IsStrictlyIncreasing (n ∷ ns)
-    → IsStrictlyIncreasing ns
-increasing_tail n ns rises k within =
-    let more : suc k + 1 < length (n ∷ ns) = omega arith in
-    let less = rises (suc k) more in
-    let e : get_or (n ∷ ns) (suc k + 1) 0 ≡ get_or ns (k + 1) 0 = rw (add-one, add-one) in
-    omega arith

@@ -1,10 +1,12 @@
 -- Cubes that are filled literal by literal, and steps without a cube.
 use Rattle.std.proofs.Common.{◌≡◌, ℕ, zero, suc, ◌<◌, ◌+◌, ◌∙◌, ◌⊎◌, ◌&&◌, Bool, true, false, not}
 use Rattle.std.proofs.Common.{◌||◌, Option, None, Some, List, [], ◌∷◌, length, get_or, take, cond}
-use Rattle.std.proofs.Common.{refl, sym, ap, ap₂, arith, inl, inr, subst}
+use Rattle.std.proofs.Common.{refl, sym, ap, arith, inl, inr, subst}
 use Rattle.std.proofs.lemmas.List.Elements.{All-contains, All-contains_itself, Contains-get_or}
 use Rattle.std.proofs.lemmas.List.Folds.{list_all_more}
+use Rattle.std.proofs.lemmas.Bool.{and_from, and_parts, false_from_ne_true}
 use Rattle.std.specs.List.{Contains}
+use Rattle.std.specs.Cmp.Derive.{one_truth}
 use Rattle.hv_task.specs.State.{has_atom}
 use Rattle.hv_sets.specs.declared.literal.Literal.{Literal}
 use Rattle.hv_sets.specs.Cubes.{Adds, SpeakBelow, opposite}
@@ -13,42 +15,30 @@ use Rattle.hv_sets.specs.Walks.{in_cubes, in_steps}
 use Rattle.hv_paths.specs.Along.{cubes_of}
 use Rattle.hv_paths.proofs.Fronts.{cube_front}
 
-and_true : (a b : Bool) → (a && b) ≡ true → (a ≡ true) × (b ≡ true)
-and_true true b h = (refl, h)
-and_true false b h = absurd cc
-
-true_and : (a b : Bool) → a ≡ true → b ≡ true → (a && b) ≡ true
-true_and a b g h = ap₂ (λ x y. x && y) g h
-
-same_truth : (a b : Bool) → (a ≡ true → b ≡ true) → (b ≡ true → a ≡ true) → a ≡ b
-same_truth true b f g = sym (f refl)
-same_truth false true f g = g refl
-same_truth false false f g = refl
-
 cube_has : (cube : List Literal) (s : List Bool) (l : Literal) → in_cube cube s ≡ true
     → Contains cube l → in_literal l s ≡ true
 cube_has [] s l h (k, less, at) = absurd (omega (arith, less))
 cube_has (x ∷ xs) s l h (zero, less, at) =
-    ap (λ y. in_literal y s) (sym at) ∙ (and_true (in_literal x s) (in_cube xs s) h).0
+    ap (λ y. in_literal y s) (sym at) ∙ (and_parts (in_literal x s) (in_cube xs s) h).0
 cube_has (x ∷ xs) s l h (suc k, less, at) =
-    cube_has xs s l (and_true (in_literal x s) (in_cube xs s) h).1 (k, omega (arith, less), at)
+    cube_has xs s l (and_parts (in_literal x s) (in_cube xs s) h).1 (k, omega (arith, less), at)
 
 cube_from : (cube : List Literal) (s : List Bool)
     → ((l : Literal) → Contains cube l → in_literal l s ≡ true) → in_cube cube s ≡ true
 cube_from [] s f = refl
 cube_from (x ∷ xs) s f =
-    true_and (in_literal x s) (in_cube xs s) (f x (0, omega arith, refl))
+    and_from (in_literal x s) (in_cube xs s) (f x (0, omega arith, refl))
     (cube_from xs s (λ l c. f l (suc c.0, omega (arith, c.1), c.2)))
 
 -- a state is in the cube with a literal put in where it is in the cube and the literal is true
 cube_added : (old new : List Literal) (l : Literal) (s : List Bool) → Adds old l new
     → in_cube new s ≡ (in_cube old s && in_literal l s)
 cube_added old new l s a =
-    same_truth (in_cube new s) (in_cube old s && in_literal l s)
-    (λ h. true_and (in_cube old s) (in_literal l s)
+    one_truth (in_cube new s) (in_cube old s && in_literal l s)
+    (λ h. and_from (in_cube old s) (in_literal l s)
     (cube_from old s (λ m c. cube_has new s m h ((a.has m).1 (inl c))))
     (cube_has new s l h ((a.has l).1 (inr refl))))
-    (λ h. let both = and_true (in_cube old s) (in_literal l s) h in
+    (λ h. let both = and_parts (in_cube old s) (in_literal l s) h in
     cube_from new s (λ m c. elim ((a.has m).0 c) [
       | inl there ↦ cube_has old s m both.0 there
       | inr same ↦ ap (λ y. in_literal y s) same ∙ both.1
@@ -80,16 +70,12 @@ clash true false h k = let f : false ≡ true = k in absurd cc
 clash false true h k = let f : false ≡ true = k in absurd cc
 clash false false h k = let f : false ≡ true = h in absurd cc
 
-not_true : (b : Bool) → (b ≡ true → ⊥) → b ≡ false
-not_true true f = absurd (f refl)
-not_true false f = refl
-
 -- literals of which one is the opposite of one before it have no state
 pub cube_none : (cube literals : List Literal) (i : ℕ) (d : Literal) (s : List Bool)
     → i < length literals → Contains cube (opposite (get_or literals i d))
     → in_cube cube s ≡ in_cube (take i literals) s → in_cube literals s ≡ false
 cube_none cube literals i d s less there same =
-    not_true (in_cube literals s) (λ h.
+    false_from_ne_true (in_cube literals s) (λ h.
     let l = get_or literals i d in
     clash l.positive (has_atom s l.atom)
     (cube_has cube s (opposite l) (same ∙ cube_front i literals s h) there)

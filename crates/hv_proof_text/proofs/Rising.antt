@@ -7,11 +7,10 @@ use Rattle.std.proofs.lemmas.List.Elements.{Contains-push_cases}
 use Rattle.std.proofs.lemmas.Bool.{cases_order}
 use Rattle.std.proofs.lemmas.List.{get_or_append_left, get_or_push, length_push}
 use Rattle.hv_task.specs.AtomList.{Inserts}
-use Rattle.hv_task.proofs.Rising.{same_rising}
+use Rattle.hv_task.proofs.Rising.{same_rising, rises-tail}
 use Rattle.std.specs.List.{All, Contains}
 use Rattle.std.specs.List.Sorted.{IsStrictlyIncreasing}
 use Rattle.hv_lines.specs.Spelling.{FitsShortDecimal, IsRising}
-use Rattle.hv_lines.proofs.Lists.{increasing_tail}
 
 -- the first is at least so great, and each further one greater than the one before it
 abbrev pub RisesFrom : ℕ → List ℕ → Type 0
@@ -45,7 +44,7 @@ from_parts least (n ∷ m ∷ ns) first short rises =
       first (omega arith),
       All-head FitsShortDecimal n (m ∷ ns) short,
       from_parts (n + 1) (m ∷ ns) (λ _. omega arith) (All-tail FitsShortDecimal n (m ∷ ns) short)
-          (increasing_tail n (m ∷ ns) rises),
+          (rises-tail n (m ∷ ns) rises),
     )
 
 pub from_rising : (ns : List ℕ) → IsRising ns → RisesFrom 0 ns

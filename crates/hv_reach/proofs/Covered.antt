@@ -1,21 +1,12 @@
 -- States from which the goal is excluded are dead: no action leads out of the states that hold
 -- nothing but what is reached.
-use Rattle.std.proofs.Common.{◌≡◌, ℕ, Bool, true, List, inl}
-use Rattle.std.proofs.lemmas.List.Elements.{All-contains}
-use Rattle.std.specs.List.{Contains}
+use Rattle.std.proofs.Common.{ℕ, Bool, List, inl}
 use Rattle.hv_task.specs.Deadness.{AreDead}
-use Rattle.hv_task.specs.State.{has_atom}
-use Rattle.hv_task.specs.Strips.{Strips, is_goal}
+use Rattle.hv_task.specs.Strips.{Strips}
 use Rattle.hv_task.proofs.Deadness.{progress}
-use Rattle.hv_task.proofs.Places.{has_all-Decides}
 use Rattle.hv_reach.specs.Reached.{ClosedAtoms, ClosedPairs}
 use Rattle.hv_reach.specs.Written.{PairsExcludeFrom, RelaxedExcludesFrom}
-use Rattle.hv_reach.proofs.Denials.{HoldsPairs, HoldsReached, pairs_stay, reached_stay}
-
-holds_goal : (task : Strips) (s : List Bool) (p : ℕ) → is_goal task s ≡ true → Contains task.goal p
-    → has_atom s p ≡ true
-holds_goal task s p is there = All-contains
-    (λ x. has_atom s x ≡ true) task.goal p ((has_all-Decides task.goal s).0 is) there
+use Rattle.hv_reach.proofs.Denials.{HoldsPairs, HoldsReached, pairs_stay, reached_stay, goal_held}
 
 pub relaxed_dead_from : (task : Strips) → AreDead task (RelaxedExcludesFrom task)
 relaxed_dead_from task start is_start out =
@@ -24,7 +15,7 @@ relaxed_dead_from task start is_start out =
     no (inl (λ set closed. reached_stay task start set closed k a at s applies (holds set closed))))
     (λ s is_state none. absurd none)
     (λ s is_state (holds, goal). absurd (out.2
-    (λ set closed. holds set closed out.0 (holds_goal task s out.0 goal out.1))))
+    (λ set closed. holds set closed out.0 (goal_held task s out.0 goal out.1))))
     start is_start (λ set closed. closed.begins)
   where
     -- the state holds no atom but those reached from the first one
@@ -38,8 +29,8 @@ pairs_dead_from task start is_start out =
     no (inl (λ set closed. pairs_stay task start set closed k a at s applies (holds set closed))))
     (λ s is_state none. absurd none)
     (λ s is_state (holds, goal).
-    absurd (out.4 (λ set closed. holds set closed out.0 out.1 (holds_goal task s out.0 goal out.2)
-    (holds_goal task s out.1 goal out.3))))
+    absurd (out.4 (λ set closed. holds set closed out.0 out.1 (goal_held task s out.0 goal out.2)
+    (goal_held task s out.1 goal out.3))))
     start is_start (λ set closed. closed.begins)
   where
     -- the state holds no pair but those reached from the first one

@@ -369,8 +369,9 @@ module _ (task : Strips) (start : List Bool) (r : ℕ → ℕ → Bool) (closed 
             ]
           ]
 
-goal_held : (task : Strips) (s : List Bool) (p : ℕ) → is_goal task s ≡ true → Contains task.goal p
-    → has_atom s p ≡ true
+-- an atom of the goal is held in a goal state
+pub goal_held : (task : Strips) (s : List Bool) (p : ℕ) → is_goal task s ≡ true
+    → Contains task.goal p → has_atom s p ≡ true
 goal_held task s p is there = All-contains
     (λ x. has_atom s x ≡ true) task.goal p ((has_all-Decides task.goal s).0 is) there
 

@@ -1,11 +1,11 @@
 -- The lines of a proof are determined by the task, and they are good and conclude where the goal is
 -- excluded.
 use Rattle.std.proofs.Common.{◌≡◌, ◌≤◌, ◌∙◌, List, length, sym, ap, subst}
+use Rattle.std.specs.Cmp.Derive.{one_truth}
 use Rattle.hv_task.specs.Strips.{Strips, IsTask, atoms}
 use Rattle.hv_lines.specs.Drafts.{IsGoodTable}
 use Rattle.hv_lines.specs.Judged.{Concludes}
 use Rattle.hv_lines.specs.declared.line.Line.{Line}
-use Rattle.hv_lines.proofs.Bools.{same_truth}
 use Rattle.hv_reach.specs.Written.{IsPairsProof, IsRelaxedProof, PairsExclude, RelaxedExcludes}
 use Rattle.hv_reach.specs.Written.{horn_proof, pairs_formula, relaxed_formula}
 use Rattle.hv_reach.proofs.Block.{good_horn_proof, horn_concludes}
@@ -51,7 +51,7 @@ pairs_size task lines (r, each, is) = ap length is
 pub relaxed_once : (task : Strips) (x y : List Line) → IsRelaxedProof task x → IsRelaxedProof task y
     → x ≡ y
 relaxed_once task x y (r, tells, is) (s, also, at) =
-    let same : r ≡ s = λ i p. same_truth (r p) (s p) (λ h. (also p).1 ((tells p).0 h))
+    let same : r ≡ s = λ i p. one_truth (r p) (s p) (λ h. (also p).1 ((tells p).0 h))
     (λ h. (tells p).1 ((also p).0 h)) i in
     is ∙ (ap (λ t. horn_proof (relaxed_formula (atoms task) t)) same ∙ sym at)
 
@@ -59,6 +59,6 @@ pub pairs_once : (task : Strips) (x y : List Line) → IsPairsProof task x → I
     → x ≡ y
 pairs_once task x y (r, tells, is) (s, also, at) =
     let same : r ≡ s =
-    λ i p q. same_truth (r p q) (s p q) (λ h. (also p q).1 ((tells p q).0 h))
+    λ i p q. one_truth (r p q) (s p q) (λ h. (also p q).1 ((tells p q).0 h))
     (λ h. (tells p q).1 ((also p q).0 h)) i in
     is ∙ (ap (λ t. horn_proof (pairs_formula (atoms task) t)) same ∙ sym at)

@@ -1,24 +1,13 @@
 -- Which actions ask for an atom.
-use Rattle.std.proofs.Common.{◌≡◌, ℕ, suc, ◌+◌, ◌<◌, ◌∙◌, List, [], ◌∷◌, ◌++◌, length, get_or, sym}
+use Rattle.std.proofs.Common.{◌≡◌, ℕ, ◌+◌, ◌<◌, ◌∙◌, List, length, get_or, sym}
 use Rattle.std.proofs.Common.{ap, arith, inl, inr, subst, slice_get, Some}
 use Rattle.std.proofs.lemmas.List.{get_or_default}
 use Rattle.std.proofs.lemmas.Bool.{cases_lt}
-use Rattle.std.proofs.lemmas.List.Elements.{All-nil}
 use Rattle.std.specs.List.{All}
 use Rattle.std.specs.Global.{Vec}
 use Rattle.hv_task.specs.declared.action.Action.{Action}
 use Rattle.hv_task.specs.State.{AreBelow}
-use Rattle.hv_reach.specs.Working.Index.{IsIn, IsRange, RowsBelow}
-
--- an empty row more
-pub rows_push : (bound : ℕ) (rows : List (Vec ℕ)) (v : Vec ℕ) → v.items ≡ [] → RowsBelow bound rows
-    → RowsBelow bound (rows ++ v ∷ [])
-rows_push bound [] v e h Prim.Native.Nat.zero row is = let f : v ≡ row = cc in
-    subst (λ xs. AreBelow bound xs) (sym e ∙ ap (λ (r : Vec ℕ). r.items) f)
-    (All-nil (λ n. n < bound))
-rows_push bound [] v e h (suc p) row is = absurd cc
-rows_push bound (r ∷ rows) v e h Prim.Native.Nat.zero row is = h Prim.Native.Nat.zero row is
-rows_push bound (r ∷ rows) v e h (suc p) row is = rows_push bound rows v e (λ q. h (suc q)) p row is
+use Rattle.hv_reach.specs.Working.Index.{IsIn, IsRange}
 
 -- the number is in the rows of the places so far
 pub entered_more : (old new : List (Vec ℕ)) (places : List ℕ) (i x n : ℕ) → i < length places

@@ -6,9 +6,10 @@ use Rattle.std.proofs.lemmas.Bool.{cases_order}
 use Rattle.std.proofs.lemmas.List.{get_or-set_other, get_or-set_same, length-set}
 use Rattle.std.proofs.lemmas.Option.{get_or_from_slice_get, same_Some, slice_get-get_or}
 use Rattle.std.proofs.lemmas.Option.{slice_get_cases, slice_get_within}
+use Rattle.std.proofs.Math.Logic.Iff
 use Rattle.hv_task.specs.Strips.{Strips}
 use Rattle.hv_replay.specs.Boxes.{CoverAlike}
-use Rattle.hv_replay.proofs.Several.{any_at, both}
+use Rattle.hv_replay.proofs.Several.{any_at}
 
 -- the same words, with the lists before what is covered
 abbrev pub AlikeOf : {X : Type 0} → List X → List X → (X → Strips → List Bool → Type 0) → Type 0
@@ -35,7 +36,7 @@ module _ {X : Type 0} (xs : List X) (Covers : X → Strips → List Bool → Typ
     count = first.count ∙ next.count;
     each = λ k x z at also task state.
         elim (slice_get_cases ys k).1 [
-          | inl (y, below, named, got) ↦ both (first.each k x y at named task state)
+          | inl (y, below, named, got) ↦ Iff.trans (first.each k x y at named task state)
               (next.each k y z named also task state)
           | inr (past, none) ↦ absurd (omega (arith, slice_get_within xs k x at, first.count, past))
         ];

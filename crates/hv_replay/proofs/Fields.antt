@@ -5,9 +5,7 @@ use Rattle.std.proofs.Common.{inr, refl, sym, ap, subst, arith, append-nil, appe
 use Rattle.std.specs.Prelude.{decimal}
 use Rattle.std.specs.List.{All, Contains, join_with_byte}
 use Rattle.std.specs.List.Sorted.{IsStrictlyIncreasing}
-use Rattle.std.proofs.lemmas.Bool.{ne_eqb}
 use Rattle.std.proofs.lemmas.Fmt.{decimal_injective}
-use Rattle.std.proofs.lemmas.Grind.{get_or_default_zero}
 use Rattle.std.proofs.lemmas.List.{map_push}
 use Rattle.std.proofs.lemmas.List.Elements.{All-nil, All-cons, All-head, All-tail, All-push}
 use Rattle.std.proofs.lemmas.List.Elements.{All-weaker, Contains-append_left, Contains-push}
@@ -15,12 +13,11 @@ use Rattle.std.proofs.lemmas.List.Elements.{Contains-push_cases}
 use Rattle.std.proofs.lemmas.List.Splits.{join_with_byte-slice_split, slice_split_at}
 use Rattle.std.proofs.lemmas.List.Splits.{slice_split_none}
 use Rattle.hv_bytes.specs.Fields.{cut_fields}
-use Rattle.hv_bytes.proofs.DecimalTexts.{decimal_digit_at}
+use Rattle.hv_bytes.proofs.DecimalTexts.{no_space}
 use Rattle.hv_task.specs.AtomList.{Inserts}
 use Rattle.hv_task.specs.State.{AreBelow}
 use Rattle.hv_task.proofs.Listing.{rises-push}
-use Rattle.hv_task.proofs.Rising.{same_rising}
-use Rattle.hv_lines.proofs.Lists.{increasing_tail}
+use Rattle.hv_task.proofs.Rising.{same_rising, rises-tail}
 use Rattle.hv_replay.specs.Logs.{letter_of}
 use Rattle.hv_replay.specs.LogText.{IsEntryLine}
 use Rattle.hv_replay.specs.Working.Reading.{AreAtoms, fields_in}
@@ -43,7 +40,7 @@ from_parts least bound (n ∷ m ∷ ns) first below rises =
       first (omega arith),
       All-head (λ n. n < bound) n (m ∷ ns) below,
       from_parts (n + 1) bound (m ∷ ns) (λ _. omega arith)
-          (All-tail (λ n. n < bound) n (m ∷ ns) below) (increasing_tail n (m ∷ ns) rises),
+          (All-tail (λ n. n < bound) n (m ∷ ns) below) (rises-tail n (m ∷ ns) rises),
     )
 
 -- a number put into a list of lesser ones stands last
@@ -157,14 +154,6 @@ pub split_is : {A : Type 0} (o : Option A) (now : A → List ℕ) (fields : List
     → fields ≡ first ∷ fields_in o now
 split_is None now fields first h = h
 split_is (Some r) now fields first h = h
-
--- no byte of a decimal is a space
-no_space : (n : ℕ) → n < 10 ^ 18 → All (λ b. eqb b 32 ≡ false) (decimal n)
-no_space n short = λ k d less.
-    ne_eqb (get_or (decimal n) k d) 32 (λ e.
-    let at = decimal_digit_at (decimal n) n (record { spelled = refl; short = short }) k less in
-    let first = at.0 in
-    let z = get_or_default_zero (decimal n) k d less in absurd (omega arith))
 
 cut_joined : (first : List ℕ) (ns : List ℕ) → All (λ b. eqb b 32 ≡ false) first
     → All (λ n. n < 10 ^ 18) ns

@@ -1,22 +1,10 @@
 -- Rows of actions.
-use Rattle.std.proofs.Common.{◌≡◌, ℕ, suc, ◌+◌, ◌<◌, ◌∙◌, List, [], ◌∷◌, ◌++◌, sym, ap, arith, inl}
+use Rattle.std.proofs.Common.{◌≡◌, ℕ, ◌+◌, ◌<◌, List, arith, inl}
 use Rattle.std.proofs.Common.{inr, subst, slice_get, Some}
 use Rattle.std.proofs.lemmas.Bool.{cases_lt}
-use Rattle.std.proofs.lemmas.List.Elements.{All-nil}
 use Rattle.std.specs.Global.{Vec}
 use Rattle.hv_task.specs.declared.action.Action.{Action}
-use Rattle.hv_task.specs.State.{AreBelow}
-use Rattle.hv_replay.specs.Working.Waiting.{IsIn, IsUnder, RowsBelow}
-
--- an empty row more
-pub rows_push : (bound : ℕ) (rows : List (Vec ℕ)) (v : Vec ℕ) → v.items ≡ [] → RowsBelow bound rows
-    → RowsBelow bound (rows ++ v ∷ [])
-rows_push bound [] v e h Prim.Native.Nat.zero row is =
-    let f : v ≡ row = cc in subst (λ xs. AreBelow bound xs) (sym e ∙ ap (λ (r : Vec ℕ). r.items) f)
-    (All-nil (λ n. n < bound))
-rows_push bound [] v e h (suc p) row is = absurd cc
-rows_push bound (r ∷ rows) v e h Prim.Native.Nat.zero row is = h Prim.Native.Nat.zero row is
-rows_push bound (r ∷ rows) v e h (suc p) row is = rows_push bound rows v e (λ q. h (suc q)) p row is
+use Rattle.hv_replay.specs.Working.Waiting.{IsIn, IsUnder}
 
 -- what waits goes on to wait
 under_keeps : (atoms : ℕ) (places : List ℕ) (old new : List (Vec ℕ)) (k : ℕ)

@@ -8,10 +8,6 @@ use Rattle.std.proofs.lemmas.List.{get_or-set_other, get_or-set_same, get_or_def
 use Rattle.std.proofs.lemmas.List.{take-append-le, take_all}
 use Rattle.std.proofs.lemmas.List.Elements.{All-set, AllWithin-more_set}
 
--- an equivalence and a further one
-pub both : {A B C : Type 0} → A ↔ B → B ↔ C → A ↔ C
-both p q = (λ a. q.0 (p.0 a), λ c. p.1 (q.1 c))
-
 pub any_at : {X : Type 0} (xs : List X) (i : ℕ) (d : X) (P : X → Type 0) → i < length xs
     → P (get_or xs i d) → Any P xs
 any_at xs i d P within holds = (

@@ -2,7 +2,7 @@
 use Rattle.std.proofs.Common.{◌≡◌, ℕ, ◌-◌, ◌<◌, ◌≤◌, ◌∙◌, ◌⊎◌, ◌↔◌, Bool, true, false, not, List}
 use Rattle.std.proofs.Common.{[], ◌∷◌, ◌++◌, length, get_or, take, drop, refl, sym, ap, ap₂, arith}
 use Rattle.std.proofs.Common.{ltb, ltb-true, ltb-false, if◌then◌else◌, inl, inr, Ok, Err, subst}
-use Rattle.std.proofs.lemmas.Bool.{cases_lt, cases_order}
+use Rattle.std.proofs.lemmas.Bool.{cases_lt, cases_order, false_from_ne_true}
 use Rattle.std.proofs.lemmas.List.{get_or_default, get_or-map, length-map, map-append}
 use Rattle.std.proofs.lemmas.List.{take-append-drop, take-map, drop-map}
 use Rattle.std.proofs.lemmas.List.Edits.{get_or-insert_at, length-insert}
@@ -190,13 +190,9 @@ module _ (xs : List Literal) (l : Literal) (place : ℕ) where
     opposite_test = (
       λ e. opposite_there (λ same. let t = (booleans_Decides here.positive l.positive).1 same in
           absurd cc),
-      λ there. from_not_true (beq here.positive l.positive)
+      λ there. false_from_ne_true (beq here.positive l.positive)
           (λ t. opposite_not_there ((booleans_Decides here.positive l.positive).0 t) there),
     )
-      where
-        from_not_true : (b : Bool) → (b ≡ true → ⊥) → b ≡ false
-        from_not_true true f = absurd (f refl)
-        from_not_true false f = refl
 
 -- they rise whether the literal was put in or not
 pub rises_either : (done : Bool) (xs : List Literal) (l : Literal) (place : ℕ) (new : List Literal)

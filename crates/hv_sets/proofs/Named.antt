@@ -7,6 +7,7 @@ use Rattle.std.proofs.lemmas.List.Elements.{Contains-append_left, Contains-push}
 use Rattle.std.proofs.lemmas.List.Elements.{Contains-push_cases}
 use Rattle.std.proofs.lemmas.List.Folds.{list_any_at}
 use Rattle.std.proofs.lemmas.Map.Views.{Contains-from_any}
+use Rattle.std.proofs.lemmas.Bool.{and_parts}
 use Rattle.std.specs.Cmp.{booleans_Decides}
 use Rattle.std.specs.List.{Contains, list_any}
 use Rattle.indexmap.specs.IndexSet.{insert_key}
@@ -48,14 +49,10 @@ which_Decides (W.Set i) W.Empty = (λ e. let f : false ≡ true = e in absurd cc
 which_Decides (W.Set i) W.Start = (λ e. let f : false ≡ true = e in absurd cc, λ e. absurd cc)
 which_Decides (W.Set i) W.Goal = (λ e. let f : false ≡ true = e in absurd cc, λ e. absurd cc)
 
-both : (a b : Bool) → (a && b) ≡ true → (a ≡ true) × (b ≡ true)
-both true b e = (refl, e)
-both false b e = let f : false ≡ true = e in absurd cc
-
 pub pair_Decides : (x y : Which × Bool) → Decides (same_pair x y) (x ≡ y)
 pair_Decides x y = (
   λ e.
-      let parts = both (same_which x.0 y.0) ((bool.TheImpl.ghosts).eq x.1 y.1) e in
+      let parts = and_parts (same_which x.0 y.0) ((bool.TheImpl.ghosts).eq x.1 y.1) e in
       ap₂ (λ (w : Which) (b : Bool). (w, b)) ((which_Decides x.0 y.0).0 parts.0)
       ((booleans_Decides x.1 y.1).0 parts.1),
   λ e.

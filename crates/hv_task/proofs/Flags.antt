@@ -83,7 +83,7 @@ flags_none words n zeros =
     ∙ sym (get_or-replicate n p false false less))
 
 -- a bit is told by its test
-bit_from_flag : (a b : ℕ) → a < 2 → b < 2 → eqb a 1 ≡ eqb b 1 → a ≡ b
+pub bit_from_flag : (a b : ℕ) → a < 2 → b < 2 → eqb a 1 ≡ eqb b 1 → a ≡ b
 bit_from_flag a b small_a small_b e =
     elim (cases_eq a 1) [
       | inl one ↦ let f = eqb-true b 1 (sym e ∙ eq-eqb a 1 one) in omega arith

@@ -7,3 +7,4 @@ pub mod Flags
 pub mod Next
 pub mod Outside
 pub mod Listing
+pub mod Lists

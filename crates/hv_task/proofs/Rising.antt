@@ -158,7 +158,8 @@ absent_from_place xs x i place c =
       | inr upto ↦ let above = place.2 at.0 upto at.1 in let e = at.2 in absurd (omega arith)
     ]
 
-rises-tail : (x : ℕ) (xs : List ℕ) → IsStrictlyIncreasing (x ∷ xs) → IsStrictlyIncreasing xs
+-- the rest of a list that rises does
+pub rises-tail : (x : ℕ) (xs : List ℕ) → IsStrictlyIncreasing (x ∷ xs) → IsStrictlyIncreasing xs
 rises-tail x xs rises k within =
     let one_more : suc k + 1 < length (x ∷ xs) = omega arith in
     let less = rises (suc k) one_more in

@@ -4,22 +4,16 @@ use Rattle.std.proofs.Common.{sym, ◌∙◌, ap, subst, append_assoc, append-ni
 use Rattle.std.specs.Prelude.{codes}
 use Rattle.std.specs.Fmt.{decimal}
 use Rattle.std.specs.List.{All, flat_map, slice_get}
-use Rattle.std.proofs.lemmas.List.{take_more, take_all, length-map, map-append}
+use Rattle.std.proofs.lemmas.List.{take_all, length-map, map-append}
 use Rattle.std.proofs.lemmas.List.Concat.{flat_map-append}
 use Rattle.std.proofs.lemmas.List.Elements.{All-push}
 use Rattle.std.proofs.lemmas.List.Folds.{flat_map-map}
-use Rattle.std.proofs.lemmas.Option.{get_or_from_slice_get, slice_get_within}
 use Rattle.hv_task.specs.Strips.{Strips}
 use Rattle.hv_task.specs.declared.action.Action.{Action}
+use Rattle.hv_task.proofs.Lists.{take_next}
 use Rattle.hv_task_text.specs.Canonical.{bytes_of_lines, canonical_of, entry_of, head_of, with_lf}
 use Rattle.hv_task_text.specs.Written.{pre, add, del, Head, item_line, name_lines, head_lines}
 use Rattle.hv_task_text.specs.Written.{entry_lines}
-
-taken : {X : Type 0} (xs : List X) (i : ℕ) (x : X) → slice_get xs i ≡ Some x
-    → take (i + 1) xs ≡ take i xs ++ x ∷ []
-taken xs i x e =
-    take_more xs i x (slice_get_within xs i x e)
-    ∙ ap (λ y. take i xs ++ y ∷ []) (get_or_from_slice_get xs i x x e)
 
 -- one item more of a list whose items are written one after another
 pub written_more : {X : Type 0} (f : X → List ℕ) (start text new : List ℕ) (xs : List X) (i : ℕ)
@@ -27,7 +21,7 @@ pub written_more : {X : Type 0} (f : X → List ℕ) (start text new : List ℕ)
     → new ≡ start ++ flat_map f (take (i + 1) xs)
 written_more f start text new xs i x e t n =
     let m : flat_map f (take (i + 1) xs) ≡ flat_map f (take i xs) ++ f x =
-    ap (flat_map f) (taken xs i x e) ∙ flat_map-append f (take i xs) (x ∷ [])
+    ap (flat_map f) (take_next xs i x e) ∙ flat_map-append f (take i xs) (x ∷ [])
     ∙ ap (λ ls. flat_map f (take i xs) ++ ls) (append-nil (f x)) in
     n ∙ ap (λ s. s ++ f x) t ∙ append_assoc start (flat_map f (take i xs)) (f x)
     ∙ ap (λ ls. start ++ ls) (sym m)
@@ -35,7 +29,7 @@ written_more f start text new xs i x e t n =
 -- a fact of each item so far, and of one more
 pub each_more : {X : Type 0} (P : X → Type 0) (xs : List X) (i : ℕ) (x : X)
     → slice_get xs i ≡ Some x → All P (take i xs) → P x → All P (take (i + 1) xs)
-each_more P xs i x e a p = subst (λ ys. All P ys) (sym (taken xs i x e))
+each_more P xs i x e a p = subst (λ ys. All P ys) (sym (take_next xs i x e))
     (All-push P (take i xs) x a p)
 
 abbrev B : List (List ℕ) → List ℕ

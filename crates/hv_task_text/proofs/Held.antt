@@ -98,7 +98,7 @@ held_names (at_end_actions head actions) = refl
 held_names (at_end head actions) = refl
 
 -- the atoms that an action's sets name are the task's
-action_over : (atoms : ℕ) (entry : Entry) → IsOver atoms (written_action atoms entry)
+pub action_over : (atoms : ℕ) (entry : Entry) → IsOver atoms (written_action atoms entry)
 action_over atoms entry =
     record { pre = set_below atoms _; add = set_below atoms _; del = set_below atoms _ }
 

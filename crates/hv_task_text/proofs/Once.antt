@@ -1,14 +1,13 @@
 -- One reading: a line leads the reader to one state at most, and then it has the form of its place
 -- and passes no limit.
-use Rattle.std.proofs.Common.{◌≡◌, ℕ, ◌<◌, List, ◌∷◌, ◌++◌, inl, inr, length, get_or, refl, sym}
+use Rattle.std.proofs.Common.{◌≡◌, ℕ, ◌<◌, List, ◌∷◌, ◌++◌, inl, inr, length, get_or, sym}
 use Rattle.std.proofs.Common.{◌∙◌, ap, subst, arith}
 use Rattle.std.specs.Prelude.{codes}
 use Rattle.std.specs.Fmt.{decimal}
 use Rattle.std.specs.Char.{digit_value}
-use Rattle.std.specs.Str.Parse.{AllDigits, digits_value}
-use Rattle.std.proofs.lemmas.Str.Parse.{IsNumeralModel}
-use Rattle.std.proofs.lemmas.Fmt.{digits_decimal}
+use Rattle.std.specs.Str.Parse.{AllDigits}
 use Rattle.hv_bytes.specs.Decimals.{IsDecimal}
+use Rattle.hv_bytes.proofs.DecimalTexts.{IsDecimal-same, decimal_digits}
 use Rattle.hv_task.specs.AtomList.{Inserts}
 use Rattle.hv_task_text.specs.declared.fault.TaskKind.{TaskKind}
 use Rattle.hv_task_text.specs.declared.fault.TaskKind.TheVariants as K
@@ -17,17 +16,12 @@ use Rattle.hv_task_text.specs.declared.reader.Reader.{Reader}
 use Rattle.hv_task_text.specs.Form.{IsForm, PassesTaskLimit}
 use Rattle.hv_task_text.specs.Working.Reading.{Takes, Puts}
 use Rattle.hv_task_text.proofs.Sets.{inserted_once}
-use Rattle.hv_task_text.proofs.Spelled.{same_alone, same_behind}
-
-digits : IsNumeralModel (AllDigits 10) (digits_value 10)
-digits = record { to = λ ds p. p; from = λ ds p. p; same = λ ds p. refl }
+use Rattle.hv_task_text.proofs.Spelled.{same_behind}
 
 -- a decimal doesn't begin with an `e`
 not_e : (line rest : List ℕ) (n : ℕ) → IsDecimal line n → line ≡ 101 ∷ rest → ⊥
 not_e line rest n d e =
-    let a : AllDigits 10 (101 ∷ rest) = subst
-    (λ ds. AllDigits 10 ds) (sym d.spelled ∙ e)
-    (digits_decimal digits n (let s = d.short in omega arith)) in
+    let a : AllDigits 10 (101 ∷ rest) = subst (AllDigits 10) e (decimal_digits line n d) in
     let b : digit_value 101 < 10 = a.0 in
     absurd (omega arith)
 
@@ -49,7 +43,7 @@ takes_once K.AtomName r line a b (k, e) (l, f) = cc
 takes_once K.EndAtoms r line a b (k, e) (l, f) = cc
 takes_once K.BeginInit r line a b (k, e) (l, f) = cc
 takes_once K.InitAtom r line a b (inl (m, set, d, l, i, e)) (inl (n, tes, c, k, j, f)) =
-    let s = same_alone line m n d c in
+    let s = IsDecimal-same line m n d c in
     let t = inserted_once r.start m set tes i (subst (λ x. Inserts r.start x tes) (sym s) j) in
     cc
 takes_once K.InitAtom r line a b (inl (m, set, d, l, i, e)) (inr (w, f)) = absurd
@@ -59,7 +53,7 @@ takes_once K.InitAtom r line a b (inr (w, e)) (inl (n, tes, c, k, j, f)) = absur
 takes_once K.InitAtom r line a b (inr (w, e)) (inr (v, f)) = cc
 takes_once K.BeginGoal r line a b (k, e) (l, f) = cc
 takes_once K.GoalAtom r line a b (inl (m, set, d, l, i, e)) (inl (n, tes, c, k, j, f)) =
-    let s = same_alone line m n d c in
+    let s = IsDecimal-same line m n d c in
     let t = inserted_once r.goal m set tes i (subst (λ x. Inserts r.goal x tes) (sym s) j) in
     cc
 takes_once K.GoalAtom r line a b (inl (m, set, d, l, i, e)) (inr (w, f)) = absurd

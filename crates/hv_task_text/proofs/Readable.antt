@@ -7,20 +7,20 @@ use Rattle.std.specs.Char.{digit_value}
 use Rattle.std.specs.Fmt.{decimal}
 use Rattle.std.specs.List.{All, cons_option, filter_map, flat_map, list_all}
 use Rattle.std.specs.List.Sorted.{IsStrictlyIncreasing}
-use Rattle.std.specs.Str.Parse.{AllDigits, digits_value}
+use Rattle.std.specs.Str.Parse.{AllDigits}
 use Rattle.std.proofs.lemmas.Bool.Decides.{Decides-eqb}
 use Rattle.std.proofs.lemmas.Fmt.{digits_decimal, length-decimal-le}
 use Rattle.std.proofs.lemmas.List.{length-map}
 use Rattle.std.proofs.lemmas.List.Elements.{All-append, All-cons, All-map, All-nil, All-head}
 use Rattle.std.proofs.lemmas.List.Elements.{All-tail, All-weaker, filter_map-append}
 use Rattle.std.proofs.lemmas.List.Sums.{sum_by-cons}
-use Rattle.std.proofs.lemmas.Str.Parse.{IsNumeralModel}
 use Rattle.hv_bytes.specs.LineCuts.{IsClean, lines_of}
 use Rattle.hv_bytes.specs.Working.LineCuts.{bytes_in}
 use Rattle.hv_bytes.specs.Pieces.{pieces_after}
 use Rattle.hv_bytes.specs.Standard.{most_file_bytes, most_line_bytes, standard}
 use Rattle.hv_bytes.proofs.WholeText.{IsWithin, pieces_of_short}
 use Rattle.hv_bytes.proofs.LineLaws.{lines_of-ended}
+use Rattle.hv_bytes.proofs.DecimalTexts.{digits_model}
 use Rattle.hv_task.specs.State.{AreBelow}
 use Rattle.hv_task.specs.Strips.{Strips, IsOver, IsTask}
 use Rattle.hv_task.specs.declared.action.Action.{Action}
@@ -34,9 +34,6 @@ use Rattle.hv_task_text.specs.Written.{start_lines, goal_lines, head_lines, entr
 use Rattle.hv_task_text.specs.Written.{pre_of, add_of, del_of, written_action, set_of, task_of}
 use Rattle.hv_task_text.proofs.Sets.{set_same}
 
-digits : IsNumeralModel (AllDigits 10) (digits_value 10)
-digits = record { to = λ ds p. p; from = λ ds p. p; same = λ ds p. refl }
-
 abbrev IsNoLf : ℕ → Type 0
 IsNoLf b = b ≢ 10
 
@@ -47,7 +44,7 @@ clean_digits (b ∷ bytes) d =
     (λ x. digit_value x < 10) e d.0 in absurd (omega arith)) (clean_digits bytes d.1)
 
 clean_decimal : (n : ℕ) → n < 2 ^ 64 → IsClean (decimal n)
-clean_decimal n l = clean_digits (decimal n) (digits_decimal digits n l)
+clean_decimal n l = clean_digits (decimal n) (digits_decimal digits_model n l)
 
 cleaner : (b : ℕ) (bytes : List ℕ) (t : Bool) → b == 10 ≡ t
     → (list_all (λ b. not (b == 10)) bytes ≡ true → IsClean bytes)

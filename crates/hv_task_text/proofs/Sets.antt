@@ -1,9 +1,9 @@
--- Sets of atoms as rising lists: two of them with the same members are one list.
+-- Sets of atoms as rising lists: what they have, and what one more number makes of them.
 use Rattle.std.proofs.Common.{◌≡◌, ℕ, suc, zero, ◌+◌, ◌<◌, ◌≤◌, Bool, true, false, eqb, cond, List}
 use Rattle.std.proofs.Common.{[], ◌∷◌, ◌++◌, ◌⊎◌, inl, inr, length, get_or, sum, refl, sym, ap}
 use Rattle.std.proofs.Common.{subst, arith}
 use Rattle.std.specs.Prelude.{◌||◌, ◌==◌, ◌↔◌}
-use Rattle.std.specs.List.{AllPairs, Contains, filter, list_any, range_with_len}
+use Rattle.std.specs.List.{Contains, filter, list_any, range_with_len}
 use Rattle.std.specs.List.Sorted.{IsStrictlyIncreasing}
 use Rattle.std.proofs.lemmas.Bool.Decides.{Decides-eqb}
 use Rattle.std.proofs.lemmas.List.FromFn.{get_or-range_with_len, length-range_with_len}
@@ -11,9 +11,10 @@ use Rattle.std.proofs.lemmas.List.Elements.{Contains-push_cases, Contains-append
 use Rattle.std.proofs.lemmas.List.Elements.{Contains-push}
 use Rattle.std.proofs.lemmas.List.{get_or_default}
 use Rattle.std.proofs.lemmas.List.Sums.{sum_by-cons}
-use Rattle.std.proofs.lemmas.List.Kept.{AllPairs-from_increasing, IsStrictlyIncreasing-filter}
+use Rattle.std.proofs.lemmas.List.Kept.{IsStrictlyIncreasing-filter}
 use Rattle.hv_task.specs.AtomList.{Inserts}
 use Rattle.hv_task.specs.State.{AreBelow}
+use Rattle.hv_task.proofs.Rising.{same_rising}
 use Rattle.hv_task_text.specs.Written.{set_of}
 use Rattle.hv_task_text.specs.Working.Written.{members}
 
@@ -35,53 +36,6 @@ contains a [] h = absurd h
 contains a (x ∷ xs) (inl e) = (zero, omega arith, e)
 contains a (x ∷ xs) (inr h) = let c = contains a xs h in
     (suc c.0, (let l = c.1 in omega arith), c.2)
-
--- the list rises, by recursion
-abbrev Rises : List ℕ → Type 0
-Rises [] = Unit {0}
-Rises (x ∷ xs) = ((a : ℕ) → Has a xs → x < a) × Rises xs
-
-rises_from_pairs : (xs : List ℕ) → AllPairs (λ x y. x < y) xs → Rises xs
-rises_from_pairs [] p = tt
-rises_from_pairs (x ∷ xs) p = (
-  (λ a h. let c = contains a xs h in let l = c.1 in
-      let b = p zero (suc c.0) a (omega arith) (omega arith) in subst (λ y. x < y) c.2 b),
-  rises_from_pairs xs (λ i j d l m. p (suc i) (suc j) d (omega arith) (omega arith)),
-)
-
-same_members : (xs ys : List ℕ) → Rises xs → Rises ys → ((a : ℕ) → Has a xs → Has a ys)
-    → ((a : ℕ) → Has a ys → Has a xs) → xs ≡ ys
-same_members [] [] r s f g = refl
-same_members [] (y ∷ ys) r s f g = absurd (g y (inl refl))
-same_members (x ∷ xs) [] r s f g = absurd (f x (inl refl))
-same_members (x ∷ xs) (y ∷ ys) r s f g =
-    let least : x ≡ y = elim (f x (inl refl)) [
-      | inl e ↦ sym e
-      | inr h ↦ elim (g y (inl refl))
-          [ inl e ↦ e | inr k ↦ absurd (let a = s.0 x h in let b = r.0 y k in omega arith) ]
-    ] in
-    let tails = same_members xs ys r.1 s.1
-    (λ a h. elim (f a (inr h)) [
-      | inl e ↦ absurd (let b = r.0 a h in omega (arith, e, least))
-      | inr k
-          ↦ k
-    ])
-    (λ a h. elim (g a (inr h)) [
-      | inl e ↦ absurd (let b = s.0 a h in omega (arith, e, least))
-      | inr k
-          ↦ k
-    ]) in
-    cc
-
--- rising lists with the same members are equal
-pub same_set : (xs ys : List ℕ) → IsStrictlyIncreasing xs → IsStrictlyIncreasing ys
-    → ((a : ℕ) → Contains xs a → Contains ys a) → ((a : ℕ) → Contains ys a → Contains xs a)
-    → xs ≡ ys
-same_set xs ys r s f g =
-    same_members xs ys (rises_from_pairs xs (AllPairs-from_increasing xs r))
-    (rises_from_pairs ys (AllPairs-from_increasing ys s))
-    (λ a h. has a ys (f a (contains a xs h)))
-    (λ a h. has a xs (g a (contains a ys h)))
 
 kept : (p : ℕ → Bool) (a x : ℕ) (xs rest : List ℕ) (b : Bool) → p x ≡ b
     → (Has a rest → Has a xs × (p a ≡ true)) → Has a (cond b (x ∷ rest) rest)
@@ -164,7 +118,7 @@ set_has atoms listed a l c =
 pub set_more : (atoms n : ℕ) (listed new : List ℕ) → n < atoms → Inserts (set_of atoms listed) n new
     → set_of atoms (listed ++ n ∷ []) ≡ new
 set_more atoms n listed new l i =
-    same_set _ new (set_rises atoms _) i.rises
+    same_rising _ new (set_rises atoms _) i.rises
     (λ a c. let w = listed_from_set atoms (listed ++ n ∷ []) a c in
     (i.has a).1 (elim (Contains-push_cases listed n a w.1)
     [ inl k ↦ inl (set_has atoms listed a w.0 k) | inr e ↦ inr (sym e) ]))
@@ -179,7 +133,7 @@ set_more atoms n listed new l i =
 pub set_same : (atoms : ℕ) (listed : List ℕ) → IsStrictlyIncreasing listed → AreBelow atoms listed
     → set_of atoms listed ≡ listed
 set_same atoms listed r b =
-    same_set _ listed (set_rises atoms listed) r (λ a c. (listed_from_set atoms listed a c).1)
+    same_rising _ listed (set_rises atoms listed) r (λ a c. (listed_from_set atoms listed a c).1)
     (λ a c. set_has atoms listed a (let e = b c.0 a c.1 in subst (λ x. x < atoms) c.2 e) c)
 
 pub set_below : (atoms : ℕ) (listed : List ℕ) → AreBelow atoms (set_of atoms listed)
@@ -209,7 +163,7 @@ set_inserted atoms n listed l = record {
 pub inserted_once : (old : List ℕ) (n : ℕ) (a b : List ℕ) → Inserts old n a → Inserts old n b
     → a ≡ b
 inserted_once old n a b i j =
-    same_set a b i.rises j.rises (λ x c. (j.has x).1 ((i.has x).0 c))
+    same_rising a b i.rises j.rises (λ x c. (j.has x).1 ((i.has x).0 c))
     (λ x c. (i.has x).1 ((j.has x).0 c))
 
 has_below_sum : (a : ℕ) (xs : List ℕ) → Has a xs → a ≤ sum xs
@@ -233,7 +187,7 @@ members_has listed a = (
 pub same_members_of : (xs ys : List ℕ) → ((a : ℕ) → Contains xs a → Contains ys a)
     → ((a : ℕ) → Contains ys a → Contains xs a) → members xs ≡ members ys
 same_members_of xs ys f g =
-    same_set (members xs) (members ys) (members_rise xs) (members_rise ys)
+    same_rising (members xs) (members ys) (members_rise xs) (members_rise ys)
     (λ a c. (members_has ys a).1 (f a ((members_has xs a).0 c)))
     (λ a c. (members_has xs a).1 (g a ((members_has ys a).0 c)))
 

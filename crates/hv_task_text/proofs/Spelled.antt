@@ -10,9 +10,6 @@ use Rattle.hv_task_text.specs.Form.{IsNumberedLine, HasNumber}
 pub same_decimal : (m n : ℕ) → m < 10 ^ 18 → n < 10 ^ 18 → decimal m ≡ decimal n → m ≡ n
 same_decimal m n a b e = decimal_injective m n (omega arith) (omega arith) e
 
-pub same_alone : (line : List ℕ) (m n : ℕ) → IsDecimal line m → IsDecimal line n → m ≡ n
-same_alone line m n a b = same_decimal m n a.short b.short (sym a.spelled ∙ b.spelled)
-
 pub same_behind : (line word : List ℕ) (m n : ℕ) → IsNumberedLine line word m
     → IsNumberedLine line word n → m ≡ n
 same_behind line word m n a b = same_decimal m n a.short b.short

@@ -3,6 +3,7 @@ use Rattle.std.proofs.Common.{◌≡◌, ℕ, ◌+◌, List, [], ◌∷◌, Opti
 use Rattle.std.proofs.Common.{IfSome, length, refl, sym, ◌∙◌, ap, subst, arith, append-nil}
 use Rattle.std.specs.Io.KnownBytes.{IsAtEnd}
 use Rattle.std.proofs.lemmas.List.{length_push}
+use Rattle.std.proofs.lemmas.Option.{IfSome_then}
 use Rattle.hv_bytes.specs.Files.{Names, Opens}
 use Rattle.hv_bytes.specs.Working.Files.{file_of}
 use Rattle.hv_bytes.specs.FirstLine.{BeginsLong, FitsLimits, MovesBytes as PassesBytes, TakesLine}
@@ -33,11 +34,6 @@ use Rattle.hv_task_text.specs.TaskText.{IsReadFrom}
 use Rattle.hv_task_text.proofs.Held.{held, held_expected, held_names, ready}
 use Rattle.hv_task_text.proofs.Steps.{step}
 use Rattle.hv_task_text.proofs.SoFar.{Follows}
-
-weaker : (file : Option (List ℕ)) (P Q : List ℕ → Type 0) → ((bytes : List ℕ) → P bytes → Q bytes)
-    → IfSome file P → IfSome file Q
-weaker None P Q f h = tt
-weaker (Some bytes) P Q f h = f bytes h
 
 pub follows_first : (files : Option Names) (name : List ℕ) (limits : Limits)
     (left : Option (List ℕ)) (reader : Reader) (lines : LinesState) → Opens files name left
@@ -142,9 +138,8 @@ module _ (limits : Limits) (file : Option (List ℕ)) (reader : Reader) (number 
       let next = line_next limits file coming rest (lines_before b) line earlier count f.gave first
       fits (omega arith) in
       subst (λ r. IfSome file (λ bytes. IsReadFrom limits bytes (Err r))) (sym e)
-      (weaker file _ (λ bytes. IsReadFrom limits bytes (Err (fault_at count error)))
-      (λ bytes h. fault_here bytes line error new count h.0 h.1
-      (subst (λ r. Feeds r.expected (Err error) r line new) f.holds t)) next)
+      (IfSome_then file next (λ bytes h. fault_here bytes line error new count h.0 h.1
+      (subst (λ r. Feeds r.expected (Err error) r line new) f.holds t)))
 
   ended : (bytes : List ℕ) (result : Result Strips TaskFault) (count : ℕ)
       → ComesNext (pieces_of limits bytes) (lines_before b) [] count → Ends result (held b) count
@@ -175,9 +170,9 @@ module _ (limits : Limits) (file : Option (List ℕ)) (reader : Reader) (number 
       → IfSome file (λ bytes. IsReadFrom limits bytes result)
   end_answer count result end ends counted =
       let n = f.counted in
-      weaker file _ (λ bytes. IsReadFrom limits bytes result)
-      (λ bytes next. ended bytes result count next (subst (λ r. Ends result r count) f.holds ends))
+      IfSome_then file
       (end_next limits file coming (lines_before b) earlier count f.gave end (omega arith))
+      (λ bytes next. ended bytes result count next (subst (λ r. Ends result r count) f.holds ends))
 
   faulty : (file_known : Option (List ℕ)) (count : ℕ) (fault : LineFault)
       → (fault ≡ L.Long → IfSome file_known

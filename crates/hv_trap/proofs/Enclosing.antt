@@ -1,10 +1,10 @@
 -- Sets of conjunctions that have the greatest trap: conjunctions from which an action leads out are
 -- not in it, and what no action
 -- leads out of is a trap.
-use Rattle.std.proofs.Common.{◌≡◌, ℕ, zero, suc, ◌+◌, ◌<◌, ◌≤◌, ◌∙◌, ◌&&◌, Bool, true, false, not}
+use Rattle.std.proofs.Common.{◌≡◌, ℕ, ◌+◌, ◌<◌, ◌≤◌, ◌∙◌, ◌&&◌, Bool, true, false, not}
 use Rattle.std.proofs.Common.{List, [], ◌∷◌, ◌++◌, Some, length, get_or, slice_get, sym, ap, subst}
 use Rattle.std.proofs.Common.{inl, inr, arith}
-use Rattle.std.proofs.lemmas.Option.{same_Some, slice_get_cases, slice_get_within}
+use Rattle.std.proofs.lemmas.Option.{slice_get_cases, slice_get_within}
 use Rattle.std.proofs.lemmas.List.Elements.{filter-append}
 use Rattle.std.proofs.lemmas.Bool.{and_from, and_parts, both_ways, cases_Bool}
 use Rattle.std.specs.List.{All, filter, list_all}
@@ -12,6 +12,7 @@ use Rattle.std.specs.Prelude.{take}
 use Rattle.hv_task.specs.declared.action.Action.{Action}
 use Rattle.hv_task.specs.State.{successor}
 use Rattle.hv_task.specs.Strips.{IsOver, Strips, atoms}
+use Rattle.hv_task.proofs.Lists.{take_next}
 use Rattle.hv_sets.specs.Truth.{in_clause, in_clauses, in_cube}
 use Rattle.hv_sets.specs.declared.literal.Literal.{Literal}
 use Rattle.hv_clauses.specs.Clausal.{AreClauses}
@@ -131,16 +132,6 @@ filter_fewer p (x ∷ xs) all =
           ∙ all in omega (arith, filter_fewer p xs rest))
       | inr fails ↦ rw fails (omega (arith, filter_most p xs))
     ]
-
--- what is true in a state, up to a place and up to the next one
-take_next : {X : Type 0} (xs : List X) (k : ℕ) (x : X) → slice_get xs k ≡ Some x
-    → take (k + 1) xs ≡ take k xs ++ x ∷ []
-take_next [] zero x at = absurd (cc (at))
-take_next [] (suc k) x at = absurd (cc (at))
-take_next (y ∷ xs) zero x at = ap (λ z. z ∷ []) (same_Some y x at)
-take_next (y ∷ xs) (suc k) x at =
-    let more : suc k + 1 ≡ suc (k + 1) = omega arith in
-    ap (λ n. take n (y ∷ xs)) more ∙ ap (λ zs. y ∷ zs) (take_next xs k x at)
 
 pub filter_next : {X : Type 0} (p : X → Bool) (xs : List X) (k : ℕ) (x : X) (now new : List X)
     → slice_get xs k ≡ Some x

@@ -3,12 +3,12 @@ use Rattle.std.proofs.Common.{◌≡◌, ℕ, ◌∙◌, ◌↔◌, ◌&&◌, �
 use Rattle.std.proofs.Common.{◌∷◌, refl, sym, ap, inl, inr}
 use Rattle.std.proofs.lemmas.List.Elements.{All-contains}
 use Rattle.std.proofs.lemmas.Bool.{and_parts, both_ways, cases_Bool, not-true}
+use Rattle.std.specs.Cmp.Derive.{one_truth}
 use Rattle.hv_task.specs.State.{has_all, has_atom, names_atom, successor}
 use Rattle.hv_task.specs.Strips.{Strips, atoms, is_goal}
 use Rattle.hv_task.proofs.Places.{has_all-Decides, names_atom-Decides}
 use Rattle.hv_sets.specs.Truth.{in_clauses, in_cube, in_literal}
 use Rattle.hv_sets.specs.declared.literal.Literal.{Literal}
-use Rattle.hv_lines.proofs.Bools.{same_truth}
 use Rattle.hv_trap.specs.Conjunctions.{denials, denies_one, is_short}
 use Rattle.hv_trap.specs.Trap.{AreTrapClauses, IsSatisfied, Stays}
 use Rattle.hv_trap.specs.Working.Trap.{Enclose}
@@ -17,7 +17,7 @@ use Rattle.hv_trap.proofs.Enclosing.{none_true, one_true}
 pub trap_once : (task : Strips) (x y : List (List Literal)) → AreTrapClauses task x
     → AreTrapClauses task y → x ≡ y
 trap_once task x y (r, tells, is) (s, also, at) =
-    let same : r ≡ s = λ i c. same_truth (r c) (s c) (λ h. (also c).1 ((tells c).0 h))
+    let same : r ≡ s = λ i c. one_truth (r c) (s c) (λ h. (also c).1 ((tells c).0 h))
     (λ h. (tells c).1 ((also c).0 h)) i in
     is ∙ (ap (λ t. denials t (atoms task)) same ∙ sym at)
 

@@ -1,6 +1,7 @@
 -- What clap makes of words, one after another.
-use Rattle.std.proofs.Common.{◌≡◌, ◌∙◌, ◌&&◌, ℕ, Bool, true, false, not, eqb, List, [], ◌∷◌, None}
+use Rattle.std.proofs.Common.{◌≡◌, ◌∙◌, ◌&&◌, ℕ, true, false, eqb, List, [], ◌∷◌, None}
 use Rattle.std.proofs.Common.{cond, drop, fold, map, refl, ap, ap₂, subst, sym, true≢false}
+use Rattle.std.proofs.lemmas.Bool.{not-true}
 use Rattle.std.specs.List.{list_all}
 use Rattle.clap.proofs.TakesLemmas.{leaf_takes}
 use Rattle.clap.specs.Simple.{App, Shape, argument_words, built, is_simple, label_of, matches_of}
@@ -11,10 +12,6 @@ use Rattle.clap.specs.Walk.{Held, Rule, Text, Waiting, Walk, after_step, finishe
 use Rattle.clap.specs.Walk.{nothing_held, option, plain_word, positional, walk, walk_from, walked}
 use Rattle.clap.specs.Walk.{word_met}
 use Rattle.hv_words.specs.Forms.{is_argument}
-
-no_dash : (b : Bool) → not b ≡ true → b ≡ false
-no_dash true h = absurd (true≢false (sym h))
-no_dash false h = refl
 
 -- a word that may be an argument is no flag
 module _ (rules : List Rule) where
@@ -28,7 +25,7 @@ module _ (rules : List Rule) where
   met : (waiting : Waiting) (position : ℕ) (word : Text) (held : Held) → is_argument word ≡ true
       → word_met rules [] false waiting position word held ≡ plain_word rules waiting word held
   met waiting position [] held h = absurd (true≢false (sym h))
-  met waiting position (x ∷ xs) held h = met_at waiting position x xs held (no_dash (eqb x 45) h)
+  met waiting position (x ∷ xs) held h = met_at waiting position x xs held (not-true (eqb x 45) h)
 
   -- where the walk stands before a word
   abbrev pub at : Held → Waiting → ℕ → Walk
@@ -73,7 +70,7 @@ module _ (shape : Shape) where
   turn held waiting position [] h passes = absurd (true≢false (sym h))
   turn held waiting position (x ∷ xs) h passes =
       let word : Text = x ∷ xs in
-      ap₂ (λ a b. a && b) (no_flag waiting x xs held (no_dash (eqb x 45) h))
+      ap₂ (λ a b. a && b) (no_flag waiting x xs held (not-true (eqb x 45) h))
       (ap (λ m. step_passes shape position m.0 m.1) (met shape.rules waiting position word held h)
       ∙ passes)
 

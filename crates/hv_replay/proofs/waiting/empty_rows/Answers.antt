@@ -1,5 +1,5 @@
 use Rattle.std.proofs.Common.{length-append, arith, ◌∷◌, []}
-use Rattle.hv_replay.proofs.Rows.{rows_push}
+use Rattle.hv_task.proofs.Lists.{rows_push}
 use Rattle.hv_replay.proofs.waiting.empty_rows.Goals as goal
 
 pub loop-place-preserved : goal.loop-place-preserved

@@ -1,7 +1,8 @@
 use Rattle.std.proofs.Common.{◌∙◌, ◌++◌, ◌∷◌, [], not, sym, ap, subst}
+use Rattle.std.proofs.lemmas.Bool.{not-true}
 use Rattle.hv_clauses.specs.Clausal.{AreClauses}
 use Rattle.hv_clauses.specs.Working.Asking.{IsAskedAlong}
-use Rattle.hv_clauses.proofs.Asking.{asked_left, asked_more, was_false}
+use Rattle.hv_clauses.proofs.Asking.{asked_left, asked_more}
 use Rattle.hv_clauses.proofs.asked.FormulaAskAsker.assume.Goals as goal
 
 pub take_up-requires-clause-over : goal.take_up-requires-clause-over
@@ -17,13 +18,13 @@ take_up-requires-clause-left g c =
     asked_left q.set.now c.alone-alone.result.clauses.now q.marks q.literals.items q.points.items
     c.alone-alone.ensures.clauses
     (subst (λ b. IsAskedAlong q.set.now q.marks q.literals.items q.points.items b)
-    (was_false q.refuted c.requires.open) c.requires.stands)
+    (not-true q.refuted c.requires.open) c.requires.stands)
 
 pub returns-clause-stands : goal.returns-clause-stands
 returns-clause-stands g c =
     let q = c.args.self.now in
     let before = subst (λ b. IsAskedAlong q.set.now q.marks q.literals.items q.points.items b)
-    (was_false q.refuted c.requires.open) c.requires.stands in
+    (not-true q.refuted c.requires.open) c.requires.stands in
     let after = asked_more q.set.now c.alone-alone.result.clauses.now q.marks c.take_up.new.marks
     q.literals.items q.points.items c.args.literal c.take_up.result
     c.alone-alone.ensures.clauses before c.take_up.ensures in

@@ -1,10 +1,11 @@
 use Rattle.std.proofs.Common.{◌≡◌, ◌∙◌, ◌↔◌, true, length, sym, ap, subst}
+use Rattle.std.proofs.Math.Logic.Iff
 use Rattle.hv_sets.specs.Truth.{in_states}
 use Rattle.hv_explicit.specs.Codes.{IsBelow}
 use Rattle.hv_explicit.specs.Working.Codes.{HasListed}
 use Rattle.hv_explicit.specs.Listing.{Listing, in_listing}
 use Rattle.hv_explicit.specs.Working.Listing.{IsEnteredState}
-use Rattle.hv_explicit.proofs.LookUp.{both_tests, listed_decides, listed_first, same_tests}
+use Rattle.hv_explicit.proofs.LookUp.{listed_decides, listed_first, same_tests}
 use Rattle.hv_explicit.proofs.explicit.Explicit.lists.Goals as goal
 
 pub returns : goal.returns
@@ -21,7 +22,7 @@ returns g c = λ state size agree.
     subst (λ (set : Listing). c.look_up.result ≡ in_listing set state) c.self.view_is
     (same_tests {P = HasListed held c.self.inside.states} c.look_up.result
     (in_states c.self.inside.atoms c.self.inside.states state)
-    (both_tests found (listed_first held c.self.inside.states c.self.inside.firsts.items
+    (Iff.trans found (listed_first held c.self.inside.states c.self.inside.firsts.items
     c.self.invariant.firsts))
     (listed_decides c.self.inside.atoms held state mine below agree c.self.inside.states
     c.self.invariant.below))
