@@ -1,8 +1,9 @@
 //! Tests of repeated states, and of queries with many sets.
 
-ghost use Rattle.std.specs.Prelude.{◌≡◌, ◌<◌, ◌++◌, ◌∷◌, [], false, None, IfOk, OnOk, length};
+ghost use Rattle.std.specs.Prelude.{◌≡◌, ◌<◌, ◌++◌, ◌∷◌, [], false, None, IfOk, IfSome, OnOk};
+ghost use Rattle.std.specs.Prelude.{length};
 ghost use Rattle.hv_task.specs.State.{AreBelow};
-ghost use Rattle.hv_task.specs.Strips.{atoms};
+ghost use Rattle.hv_task.specs.Strips.{IsOver, atoms};
 ghost use Rattle.hv_sets.specs.Query.{HasAnchor, IsNamed, IsReady};
 ghost use Rattle.hv_sets.specs.declared.operand.Which.TheVariants as W;
 ghost use Rattle.hv_explicit.specs.Listing.{AreOver, AreStates};
@@ -77,6 +78,19 @@ fn put_state(alloc: Global, states: &mut StateList, mask: u32, code: u32) -> Res
 }
 
 // From atom 0 alone to atom 1: the action takes the one and adds the other.
+fn going(alloc: Global) -> Result<Action, AllocError>
+    ensures { IfOk result (λ action. IsOver 2 action) }
+{
+    Ok(Action {
+        name: Name::new(alloc, b"go")?,
+        cost: 1,
+        pre: atoms_of(alloc, 1)?,
+        add: atoms_of(alloc, 2)?,
+        del: atoms_of(alloc, 1)?,
+    })
+}
+
+// The task of this action, from atom 0 alone to atom 1.
 fn task_of_two(alloc: Global) -> Result<Task, AllocError>
     ensures atoms { IfOk result (λ task. atoms task ≡ 2) }
     ensures actions { IfOk result (λ task. length task.actions ≡ 1) }
@@ -86,14 +100,7 @@ fn task_of_two(alloc: Global) -> Result<Task, AllocError>
     task.add_atom(Name::new(alloc, b"q")?)?;
     task.set_start(atoms_of(alloc, 1)?);
     task.set_goal(atoms_of(alloc, 2)?);
-    let action = Action {
-        name: Name::new(alloc, b"go")?,
-        cost: 1,
-        pre: atoms_of(alloc, 1)?,
-        add: atoms_of(alloc, 2)?,
-        del: atoms_of(alloc, 1)?,
-    };
-    task.add_action(action)?;
+    task.add_action(going(alloc)?)?;
     Ok(task)
 }
 
@@ -162,8 +169,32 @@ fn many_sets_of(alloc: Global, task: &Task, masks: &[u32]) -> Result<Explicits, 
     Ok(sets)
 }
 
-// The counterexample to the query of the first set, and of none of the others and the last: its
-// code, or 4 where there is none and 5 where the query costs more than the budget.
+// The counterexample to the query of these sets: its code, or 4 where there is none and 5 where the
+// query costs more than the budget.
+fn found_in(
+    alloc: Global,
+    task: &Task,
+    sets: &Explicits,
+    query: &Query,
+    budget: u64,
+) -> Result<u32, AllocError>
+    requires atoms { atoms task.now ≡ 2 }
+    requires actions { length task.now.actions ≡ 1 }
+    requires sets { AreOver sets.now 2 }
+    requires ready { IsReady (length sets.now) query.now }
+    requires anchor { HasAnchor query.now }
+    requires action { IfSome query.now.action (λ a. a < 1) }
+{
+    let mut scratch = Scratch::new(alloc)?;
+    let found = sets.find(alloc, task, query, budget, &mut scratch)?;
+    Ok(match found {
+        Finding::Over => 5,
+        Finding::Empty => 4,
+        Finding::Clash => code_of(scratch.state()),
+    })
+}
+
+// The counterexample to the query of the first set, and of none of the others and the last.
 fn found_by(
     alloc: Global,
     masks: [u32; 6],
@@ -179,13 +210,7 @@ fn found_by(
     let sets = many_sets_of(alloc, &task, &masks)?;
     let action = if acts { Some(0) } else { None };
     let query = wide_query_of(alloc, 6, last, action, after)?;
-    let mut scratch = Scratch::new(alloc)?;
-    let found = sets.find(alloc, &task, &query, budget, &mut scratch)?;
-    Ok(match found {
-        Finding::Over => 5,
-        Finding::Empty => 4,
-        Finding::Clash => code_of(scratch.state()),
-    })
+    found_in(alloc, &task, &sets, &query, budget)
 }
 
 fn code_of(state: &State) -> u32
@@ -194,18 +219,43 @@ fn code_of(state: &State) -> u32
     state.has(0) as u32 + 2 * (state.has(1) as u32)
 }
 
+// The states of the codes 1, 2 and 1.
+fn put_one_twice(alloc: Global, states: &mut StateList) -> Result<(), AllocError>
+    requires { AreStates 2 states.old }
+    ensures { OnOk result (AreStates 2 states.new) }
+{
+    put_state(alloc, states, 15, 1)?;
+    put_state(alloc, states, 15, 2)?;
+    put_state(alloc, states, 15, 1)
+}
+
+// The set that lists them.
+fn one_listed_twice(alloc: Global, task: &Task) -> Result<Explicit, AllocError>
+    requires { atoms task.now ≡ 2 }
+    ensures { IfOk result (λ set. set.atoms ≡ 2) }
+{
+    let mut states = StateList::new(alloc);
+    put_one_twice(alloc, &mut states)?;
+    let set = Explicit::new(alloc, task, &states)?;
+    Ok(set)
+}
+
+// Whether the set holds the state of this code.
+fn holds(alloc: Global, set: &Explicit, code: u32) -> Result<bool, AllocError>
+    requires { set.now.atoms ≡ 2 }
+{
+    let state = state_from(alloc, code)?;
+    Ok(set.holds(&state))
+}
+
 #[test]
 fn a_repeated_state_is_listed_and_counted(rt: HostRuntime) -> Result<(), Fail> {
     let task = task_of_two(rt.alloc())?;
-    let mut states = StateList::new(rt.alloc());
-    put_state(rt.alloc(), &mut states, 15, 1)?;
-    put_state(rt.alloc(), &mut states, 15, 2)?;
-    put_state(rt.alloc(), &mut states, 15, 1)?;
-    let set = Explicit::new(rt.alloc(), &task, &states)?;
+    let set = one_listed_twice(rt.alloc(), &task)?;
     assert_eq!(rt; set.firsts().len(), 2);
     assert_eq!(rt; set.inside_count(rt.alloc(), 9)?, 3);
-    assert!(rt; set.holds(&state_from(rt.alloc(), 2)?));
-    assert!(rt; !set.holds(&state_from(rt.alloc(), 3)?));
+    assert!(rt; holds(rt.alloc(), &set, 2)?);
+    assert!(rt; !holds(rt.alloc(), &set, 3)?);
     Ok(())
 }
 

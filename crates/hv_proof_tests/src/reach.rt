@@ -94,22 +94,29 @@ fn atoms_in(alloc: Global, bits: u32) -> Result<Vec<u32>, AllocError> {
     Ok(atoms)
 }
 
+// Puts an action last that asks for these atoms, adds and deletes these.
+fn put_bits(alloc: Global, task: &mut Task, action: &(u32, u32, u32)) -> Result<(), AllocError>
+    ensures { atoms task.new ≡ atoms task.old }
+{
+    let pre = atoms_in(alloc, action.0)?;
+    let more = atoms_in(alloc, action.1)?;
+    let less = atoms_in(alloc, action.2)?;
+    add(
+        alloc,
+        task,
+        pre.as_slice(),
+        more.as_slice(),
+        less.as_slice(),
+    )
+}
+
 // The task with four atoms and these actions that starts with the first atom.
 fn task_in(alloc: Global, actions: &[(u32, u32, u32)]) -> Result<Task, AllocError>
     ensures { IfOk result (λ task. atoms task ≡ 4) }
 {
     let mut task = task_of(alloc, 4, &[0])?;
     for action in actions {
-        let pre = atoms_in(alloc, action.0)?;
-        let more = atoms_in(alloc, action.1)?;
-        let less = atoms_in(alloc, action.2)?;
-        add(
-            alloc,
-            &mut task,
-            pre.as_slice(),
-            more.as_slice(),
-            less.as_slice(),
-        )?;
+        put_bits(alloc, &mut task, action)?;
     }
     Ok(task)
 }
@@ -293,25 +300,38 @@ fn made_task(alloc: Global, seed: u32) -> Result<Task, AllocError>
     Ok(task)
 }
 
+// Whether these are the atoms that the plain program finds.
+fn are_plain_atoms(alloc: Global, task: &Task, start: &State) -> Result<bool, AllocError>
+    requires { IsState task.now start.now }
+{
+    let list = reached_atoms(alloc, task, start)?;
+    let held = plain_atoms(alloc, task, start)?;
+    let mut alike = true;
+    for atom in 0..6 {
+        alike &= list.has(atom) == at(&held, atom);
+    }
+    Ok(alike)
+}
+
+// Whether these are the pairs that the plain program finds.
+fn are_plain_pairs(alloc: Global, task: &Task, start: &State) -> Result<bool, AllocError>
+    requires state { IsState task.now start.now }
+    requires atoms { atoms task.now ≡ 6 }
+{
+    let pairs = reached_pairs(alloc, task, start)?;
+    let table = plain_pairs(alloc, task, start)?;
+    let mut alike = true;
+    for place in 0..36 {
+        alike &= pairs.has(place / 6, place % 6) == at(&table, place);
+    }
+    Ok(alike)
+}
+
 // Whether all that is reached in the task of this number is what the plain program finds.
 fn is_as_plain(alloc: Global, seed: u32) -> Result<bool, AllocError> {
     let task = made_task(alloc, seed)?;
     let start = task.start_state(alloc)?;
-    let list = reached_atoms(alloc, &task, &start)?;
-    let held = plain_atoms(alloc, &task, &start)?;
-    let pairs = reached_pairs(alloc, &task, &start)?;
-    let table = plain_pairs(alloc, &task, &start)?;
-    for first in 0..6 {
-        if list.has(first) != at(&held, first) {
-            return Ok(false);
-        }
-        for second in 0..6 {
-            if pairs.has(first, second) != at(&table, cell(6, first, second)) {
-                return Ok(false);
-            }
-        }
-    }
-    Ok(true)
+    Ok(are_plain_atoms(alloc, &task, &start)? & are_plain_pairs(alloc, &task, &start)?)
 }
 
 #[test]

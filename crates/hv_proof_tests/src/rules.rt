@@ -181,27 +181,28 @@ fn add_claim(table: &mut Table, statement: Statement) -> Result<(), Fail> {
     Ok(())
 }
 
+fn acts_of(alloc: Global, numbers: &[u32]) -> Result<Acts, AllocError> {
+    let mut list = ActionList::new(alloc);
+    for number in numbers {
+        list.push(*number)?;
+    }
+    Ok(Acts::List(list))
+}
+
 /// All actions, two lists of one action, the union of these, and the list of both actions.
 fn action_sets(alloc: Global) -> Result<Table, AllocError> {
     let mut table = Table::new(alloc);
-    let mut first = ActionList::new(alloc);
-    first.push(0)?;
-    let mut second = ActionList::new(alloc);
-    second.push(1)?;
-    let mut both = ActionList::new(alloc);
-    both.push(0)?;
-    both.push(1)?;
     table.push(Line::Acts {
         id: 0,
         acts: Acts::All,
     })?;
     table.push(Line::Acts {
         id: 1,
-        acts: Acts::List(first),
+        acts: acts_of(alloc, &[0])?,
     })?;
     table.push(Line::Acts {
         id: 2,
-        acts: Acts::List(second),
+        acts: acts_of(alloc, &[1])?,
     })?;
     table.push(Line::Acts {
         id: 3,
@@ -209,7 +210,7 @@ fn action_sets(alloc: Global) -> Result<Table, AllocError> {
     })?;
     table.push(Line::Acts {
         id: 4,
-        acts: Acts::List(both),
+        acts: acts_of(alloc, &[0, 1])?,
     })?;
     Ok(table)
 }

@@ -2,7 +2,7 @@
 
 ghost use Rattle.std.specs.Prelude.{◌≡◌, ◌<◌, ◌≤◌, ◌^◌, false, None, IfOk, length};
 ghost use Rattle.hv_task.specs.State.{AreBelow};
-ghost use Rattle.hv_task.specs.Strips.{atoms};
+ghost use Rattle.hv_task.specs.Strips.{IsOver, atoms};
 ghost use Rattle.hv_sets.specs.Query.{IsNamed, IsReady};
 ghost use Rattle.hv_bdd.specs.Nodes.{node_count};
 
@@ -260,6 +260,19 @@ fn one_atom(alloc: Global, atom: u32) -> Result<AtomList, AllocError>
     Ok(list)
 }
 
+// From atom 0 to atom 1.
+fn going(alloc: Global) -> Result<Action, AllocError>
+    ensures { IfOk result (λ action. IsOver 3 action) }
+{
+    Ok(Action {
+        name: Name::new(alloc, b"go")?,
+        cost: 1,
+        pre: one_atom(alloc, 0)?,
+        add: one_atom(alloc, 1)?,
+        del: one_atom(alloc, 0)?,
+    })
+}
+
 // Three atoms; the action leads from atom 0 to atom 1, the initial state has atom 0 alone, and the
 // goal is atom 2.
 fn task_of_three(alloc: Global) -> Result<Task, AllocError>
@@ -272,14 +285,7 @@ fn task_of_three(alloc: Global) -> Result<Task, AllocError>
     task.add_atom(Name::new(alloc, b"r")?)?;
     task.set_start(one_atom(alloc, 0)?);
     task.set_goal(one_atom(alloc, 2)?);
-    let action = Action {
-        name: Name::new(alloc, b"go")?,
-        cost: 1,
-        pre: one_atom(alloc, 0)?,
-        add: one_atom(alloc, 1)?,
-        del: one_atom(alloc, 0)?,
-    };
-    task.add_action(action)?;
+    task.add_action(going(alloc)?)?;
     Ok(task)
 }
 

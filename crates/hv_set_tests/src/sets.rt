@@ -2,46 +2,89 @@
 
 use hv_sets::{Clause, Clauses, Literal, Operand, Operands, StateList, Which};
 use hv_task::AtomList;
+use std::alloc::{AllocError, Global};
 use std::test::Fail;
 
-#[test]
-fn lists_keep_the_order_of_their_items(rt: HostRuntime) -> Result<(), Fail> {
-    let negated = Literal {
-        atom: 0,
-        positive: false,
-    };
-    let mut clause = Clause::new(rt.alloc());
-    clause.push(Literal {
-        atom: 2,
-        positive: true,
-    })?;
-    clause.push(negated)?;
-    assert_eq!(rt; clause.len(), 2);
-    assert_eq!(rt; *clause.get(1), negated);
+const HELD: Literal = Literal {
+    atom: 2,
+    positive: true,
+};
 
-    let mut clauses = Clauses::new(rt.alloc());
-    assert!(rt; clauses.is_empty());
-    clauses.push(clause)?;
-    clauses.push(Clause::new(rt.alloc()))?;
-    clauses.push_literals(&[negated])?;
+const DENIED: Literal = Literal {
+    atom: 0,
+    positive: false,
+};
+
+// The clause of the two literals.
+fn either(alloc: Global) -> Result<Clause, AllocError> {
+    let mut clause = Clause::new(alloc);
+    clause.push(HELD)?;
+    clause.push(DENIED)?;
+    Ok(clause)
+}
+
+#[test]
+fn a_clause_keeps_the_order_of_its_literals(rt: HostRuntime) -> Result<(), Fail> {
+    let clause = either(rt.alloc())?;
+    assert_eq!(rt; clause.len(), 2);
+    assert_eq!(rt; *clause.get(1), DENIED);
+    Ok(())
+}
+
+// The clause of the two literals, the empty one, and that of the second literal.
+fn three_clauses(alloc: Global) -> Result<Clauses, AllocError> {
+    let mut clauses = Clauses::new(alloc);
+    clauses.push(either(alloc)?)?;
+    clauses.push(Clause::new(alloc))?;
+    clauses.push_literals(&[DENIED])?;
+    Ok(clauses)
+}
+
+// The same list, which shares its clauses from now on.
+fn shared_clauses(alloc: Global, clauses: &Clauses) -> Result<Clauses, AllocError> {
+    clauses.copy(alloc)?.share()
+}
+
+#[test]
+fn clauses_keep_their_order(rt: HostRuntime) -> Result<(), Fail> {
+    assert!(rt; Clauses::new(rt.alloc()).is_empty());
+    let clauses = three_clauses(rt.alloc())?;
     assert_eq!(rt; clauses.len(), 3);
     assert_eq!(rt; clauses.get(0).len(), 2);
     assert_eq!(rt; clauses.get(1).len(), 0);
-    assert_eq!(rt; clauses.get(2)[0], negated);
-    let mut copy = clauses.copy(rt.alloc())?.share()?;
-    let shared = copy.copy(rt.alloc())?;
-    copy.push_literals(&[])?;
-    assert_eq!(rt; copy.len(), 4);
+    assert!(rt; clauses.get(2) == [DENIED].as_slice());
+    let shared = shared_clauses(rt.alloc(), &clauses)?;
     assert_eq!(rt; shared.len(), 3);
-    assert_eq!(rt; shared.get(0)[1], negated);
+    assert!(rt; shared.get(0) == [HELD, DENIED].as_slice());
+    Ok(())
+}
 
-    let mut states = StateList::new(rt.alloc());
-    states.push(AtomList::new(rt.alloc()))?;
-    let mut states = states.copy(rt.alloc())?.share()?;
-    let shared = states.copy(rt.alloc())?;
+#[test]
+fn a_copy_of_shared_clauses_stays(rt: HostRuntime) -> Result<(), Fail> {
+    let clauses = three_clauses(rt.alloc())?;
+    let mut longer = shared_clauses(rt.alloc(), &clauses)?;
+    let copy = longer.copy(rt.alloc())?;
+    longer.push_literals(&[])?;
+    assert_eq!(rt; longer.len(), 4);
+    assert_eq!(rt; copy.len(), 3);
+    assert!(rt; copy.get(0) == [HELD, DENIED].as_slice());
+    Ok(())
+}
+
+// A list of one state, which shares it.
+fn one_state(alloc: Global) -> Result<StateList, AllocError> {
+    let mut states = StateList::new(alloc);
+    states.push(AtomList::new(alloc))?;
+    states.share()
+}
+
+#[test]
+fn a_copy_of_shared_states_stays(rt: HostRuntime) -> Result<(), Fail> {
+    let mut states = one_state(rt.alloc())?;
+    let copy = states.copy(rt.alloc())?;
     states.push(AtomList::new(rt.alloc()))?;
     assert_eq!(rt; states.as_slice().len(), 2);
-    assert_eq!(rt; shared.len(), 1);
+    assert_eq!(rt; copy.len(), 1);
     Ok(())
 }
 

@@ -212,14 +212,18 @@ fn shelves_fail_where_told(rt: HostRuntime) -> Result<(), Fail> {
 }
 
 #[test]
-fn writes_bytes_and_numbers(rt: HostRuntime) -> Result<(), Fail> {
+fn writes_bytes(rt: HostRuntime) -> Result<(), Fail> {
     let mut sink = MemorySink::new(rt.alloc(), 10, 100)?;
     sink.fail_at(2)?;
     assert!(rt; send(&mut sink, TEXT.as_bytes()).is_err());
     assert_eq!(rt; sink.bytes(), b"a 0 a\ne 0 ".as_slice());
     assert!(rt; send(&mut sink, b"c e\n").is_ok());
     assert_eq!(rt; sink.bytes(), TEXT.as_bytes());
+    Ok(())
+}
 
+#[test]
+fn writes_numbers(rt: HostRuntime) -> Result<(), Fail> {
     for (number, want) in [(0, "=0"), (70, "=70"), (u64::MAX, "=18446744073709551615")] {
         let mut text = Text::new(rt.alloc());
         text.push_bytes(b"=")?;
@@ -228,7 +232,11 @@ fn writes_bytes_and_numbers(rt: HostRuntime) -> Result<(), Fail> {
         text.truncate(1);
         assert_eq!(rt; text.as_bytes(), b"=".as_slice());
     }
+    Ok(())
+}
 
+#[test]
+fn counts_bytes(rt: HostRuntime) -> Result<(), Fail> {
     let mut sure = SureSink::new();
     send(&mut sure, TEXT.as_bytes())?;
     assert_eq!(rt; sure.count(), 14);

@@ -88,21 +88,30 @@ fn a_word_keeps_64_atoms(rt: HostRuntime) -> Result<(), Fail> {
     Ok(())
 }
 
+// The list of these atoms.
+fn atoms_of(alloc: Global, atoms: &[u32]) -> Result<AtomList, AllocError> {
+    let mut list = AtomList::new(alloc);
+    for atom in atoms {
+        list.insert(*atom)?;
+    }
+    Ok(list)
+}
+
+// An action that adds atom 5 and deletes the atoms 0 and 7.
+fn exchange(alloc: Global) -> Result<Action, AllocError> {
+    Ok(Action {
+        name: Name::new(alloc, b"go")?,
+        cost: 1,
+        pre: AtomList::new(alloc),
+        add: atoms_of(alloc, &[5])?,
+        del: atoms_of(alloc, &[0, 7])?,
+    })
+}
+
 #[test]
 fn the_result_of_an_action_is_read_without_being_built(rt: HostRuntime) -> Result<(), Fail> {
-    let mut held = AtomList::new(rt.alloc());
-    held.insert(0)?;
-    held.insert(2)?;
-    held.insert(7)?;
-    let mut del = list_of(rt.alloc(), 0)?;
-    del.insert(7)?;
-    let action = Action {
-        name: Name::new(rt.alloc(), b"go")?,
-        cost: 1,
-        pre: AtomList::new(rt.alloc()),
-        add: list_of(rt.alloc(), 5)?,
-        del,
-    };
+    let held = atoms_of(rt.alloc(), &[0, 2, 7])?;
+    let action = exchange(rt.alloc())?;
     let after = After {
         held: &held,
         action: &action,
@@ -115,16 +124,34 @@ fn the_result_of_an_action_is_read_without_being_built(rt: HostRuntime) -> Resul
     Ok(())
 }
 
+fn put_places(alloc: Global, task: &mut Task) -> Result<(), AllocError>
+    requires { atoms task.old ≡ 0 }
+    ensures atoms { OnOk result (atoms task.new ≡ 3) }
+    ensures actions { OnOk result (task.new.actions ≡ task.old.actions) }
+{
+    task.add_atom(Name::new(alloc, b"Atom at(r, a)")?)?;
+    task.add_atom(Name::new(alloc, b"Atom at(r, b)")?)?;
+    task.add_atom(Name::new(alloc, b"Atom have(key)")?)?;
+    Ok(())
+}
+
+// A robot goes between two places, and is wanted at the second one.
+fn next_door(alloc: Global) -> Result<Task, AllocError>
+    ensures atoms { IfOk result (λ task. atoms task ≡ 3) }
+    ensures actions { IfOk result (λ task. length task.actions ≡ 2) }
+{
+    let mut task = Task::new(alloc);
+    put_places(alloc, &mut task)?;
+    task.set_start(list_of(alloc, 0)?);
+    task.set_goal(list_of(alloc, 1)?);
+    add_action_of(&mut task, alloc, 0, 1, 0)?;
+    add_action_of(&mut task, alloc, 1, 0, 1)?;
+    Ok(task)
+}
+
 #[test]
 fn plans_of_a_task_with_a_goal_next_door(rt: HostRuntime) -> Result<(), Fail> {
-    let mut task = Task::new(rt.alloc());
-    task.add_atom(Name::new(rt.alloc(), b"Atom at(r, a)")?)?;
-    task.add_atom(Name::new(rt.alloc(), b"Atom at(r, b)")?)?;
-    task.add_atom(Name::new(rt.alloc(), b"Atom have(key)")?)?;
-    task.set_start(list_of(rt.alloc(), 0)?);
-    task.set_goal(list_of(rt.alloc(), 1)?);
-    add_action_of(&mut task, rt.alloc(), 0, 1, 0)?;
-    add_action_of(&mut task, rt.alloc(), 1, 0, 1)?;
+    let task = next_door(rt.alloc())?;
     assert_eq!(rt; task.atom_name(2).as_bytes(), b"Atom have(key)".as_slice());
 
     let rows: [(&[u32], bool); 5] = [
@@ -137,7 +164,12 @@ fn plans_of_a_task_with_a_goal_next_door(rt: HostRuntime) -> Result<(), Fail> {
     for (list, plan) in rows {
         assert_eq!(rt; task.solves(rt.alloc(), list)?, plan);
     }
+    Ok(())
+}
 
+#[test]
+fn the_state_after_an_action(rt: HostRuntime) -> Result<(), Fail> {
+    let task = next_door(rt.alloc())?;
     let start = task.start_state(rt.alloc())?;
     let mut next = State::empty(rt.alloc(), 3)?;
     task.after(0, &start, &mut next);

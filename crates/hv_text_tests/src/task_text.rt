@@ -151,18 +151,20 @@ fn spellings_of_a_task(rt: HostRuntime) -> Result<(), Fail> {
     Ok(())
 }
 
+// Whether the task of the one text is written as the other.
+fn is_written_as(alloc: Global, text: &[u8], want: &[u8]) -> Result<bool, TaskFault> {
+    let task = read(alloc, text, Limits::STANDARD)?;
+    let written = write_task(alloc, &task)?;
+    Ok(written.as_bytes() == want)
+}
+
 #[test]
 fn what_is_read_is_written_canonically(rt: HostRuntime) -> Result<(), Fail> {
     let key = spelled(rt.alloc(), 0, "")?;
-    let task = read(rt.alloc(), &key, Limits::STANDARD)?;
-    let text = write_task(rt.alloc(), &task)?;
-    assert!(rt; text.as_bytes() == key.as_slice());
-
+    assert!(rt; is_written_as(rt.alloc(), &key, &key)?);
     let other = spelled(rt.alloc(), 18, "DEL:0\nADD:2\nPRE:0\nDEL:0")?;
     let want = spelled(rt.alloc(), 17, "ADD:1\nADD:2")?;
-    let task = read(rt.alloc(), &other, Limits::STANDARD)?;
-    let text = write_task(rt.alloc(), &task)?;
-    assert!(rt; text.as_bytes() == want.as_slice());
+    assert!(rt; is_written_as(rt.alloc(), &other, &want)?);
     Ok(())
 }
 
@@ -192,48 +194,60 @@ fn cut_texts(rt: HostRuntime) -> Result<(), Fail> {
     Ok(())
 }
 
-#[test]
-fn lengths(rt: HostRuntime) -> Result<(), Fail> {
-    let mut name = String::new(rt.alloc());
-    for _ in 0..1024 {
+// Whether the key task with this in place of a line is answered so within the limits.
+fn tells(
+    alloc: Global,
+    number: usize,
+    line: &str,
+    limits: Limits,
+    want: &str,
+) -> Result<bool, AllocError>
+    requires line { limits.line ≤ 2 ^ 62 }
+    requires file { limits.file ≤ 2 ^ 62 }
+{
+    let text = spelled(alloc, number, line)?;
+    let told = answer(alloc, &text, limits)?;
+    Ok(told.as_str() == want)
+}
+
+fn name_of(alloc: Global, length: usize) -> Result<String, AllocError> {
+    let mut name = String::new(alloc);
+    for _ in 0..length {
         name.push('x')?;
     }
-    let fits = spelled(rt.alloc(), 2, name.as_str())?;
-    assert_eq!(rt;
-        answer(rt.alloc(), &fits, Limits::STANDARD)?.as_str(),
-        "read"
-    );
-    name.push('x')?;
-    let atom = spelled(rt.alloc(), 2, name.as_str())?;
-    assert_eq!(rt;
-        answer(rt.alloc(), &atom, Limits::STANDARD)?.as_str(),
-        "limit 2 name"
-    );
-    let action = spelled(rt.alloc(), 14, name.as_str())?;
-    assert_eq!(rt;
-        answer(rt.alloc(), &action, Limits::STANDARD)?.as_str(),
-        "limit 14 name"
-    );
+    Ok(name)
+}
 
-    let many = spelled(rt.alloc(), 1, "begin_atoms:70000")?;
-    for (line, file, want) in [
-        (17, 1000, "limit 1 atoms"),
-        (16, 1000, "limit 1 long"),
-        (17, 16, "limit 1 long"),
+#[test]
+fn lengths_of_names(rt: HostRuntime) -> Result<(), Fail> {
+    for (length, number, want) in [
+        (1024, 2, "read"),
+        (1025, 2, "limit 2 name"),
+        (1024, 14, "read"),
+        (1025, 14, "limit 14 name"),
     ] {
-        let told = answer(rt.alloc(), &many, Limits { line, file })?;
-        assert_eq!(rt; told.as_str(), want, "line {line} file {file}");
+        let name = name_of(rt.alloc(), length)?;
+        let told = tells(rt.alloc(), number, name.as_str(), Limits::STANDARD, want)?;
+        assert!(rt; told, "{length} bytes in line {number}");
     }
-    let key = spelled(rt.alloc(), 0, "")?;
-    for (line, file, want) in [
-        (15, 250, "read"),
-        (15, 249, "limit 27 long"),
-        (14, 250, "limit 12 long"),
-        (13, 250, "limit 4 long"),
-        (15, 14, "limit 2 long"),
+    Ok(())
+}
+
+#[test]
+fn lengths_of_lines_and_files(rt: HostRuntime) -> Result<(), Fail> {
+    for (atoms, line, file, want) in [
+        ("begin_atoms:70000", 17, 1000, "limit 1 atoms"),
+        ("begin_atoms:70000", 16, 1000, "limit 1 long"),
+        ("begin_atoms:70000", 17, 16, "limit 1 long"),
+        ("begin_atoms:3", 15, 250, "read"),
+        ("begin_atoms:3", 15, 249, "limit 27 long"),
+        ("begin_atoms:3", 14, 250, "limit 12 long"),
+        ("begin_atoms:3", 13, 250, "limit 4 long"),
+        ("begin_atoms:3", 15, 14, "limit 2 long"),
     ] {
-        let told = answer(rt.alloc(), &key, Limits { line, file })?;
-        assert_eq!(rt; told.as_str(), want, "line {line} file {file}");
+        assert!(rt; line <= 100 && file <= 1000);
+        let told = tells(rt.alloc(), 1, atoms, Limits { line, file }, want)?;
+        assert!(rt; told, "{atoms}: line {line} file {file}");
     }
     Ok(())
 }
