@@ -181,12 +181,12 @@ fn add_claim(table: &mut Table, statement: Statement) -> Result<(), Fail> {
     Ok(())
 }
 
-fn acts_of(alloc: Global, numbers: &[u32]) -> Result<Acts, AllocError> {
+fn list_of(alloc: Global, numbers: &[u32]) -> Result<ActionList, AllocError> {
     let mut list = ActionList::new(alloc);
     for number in numbers {
         list.push(*number)?;
     }
-    Ok(Acts::List(list))
+    Ok(list)
 }
 
 /// All actions, two lists of one action, the union of these, and the list of both actions.
@@ -198,11 +198,11 @@ fn action_sets(alloc: Global) -> Result<Table, AllocError> {
     })?;
     table.push(Line::Acts {
         id: 1,
-        acts: acts_of(alloc, &[0])?,
+        acts: Acts::List(list_of(alloc, &[0])?),
     })?;
     table.push(Line::Acts {
         id: 2,
-        acts: acts_of(alloc, &[1])?,
+        acts: Acts::List(list_of(alloc, &[1])?),
     })?;
     table.push(Line::Acts {
         id: 3,
@@ -210,7 +210,7 @@ fn action_sets(alloc: Global) -> Result<Table, AllocError> {
     })?;
     table.push(Line::Acts {
         id: 4,
-        acts: acts_of(alloc, &[0, 1])?,
+        acts: Acts::List(list_of(alloc, &[0, 1])?),
     })?;
     Ok(table)
 }
