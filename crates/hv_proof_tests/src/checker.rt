@@ -1,13 +1,13 @@
 //! Proofs for a task with a key that is out of reach: a robot goes between two places, and the key
 //! is wanted.
-ghost use Rattle.std.specs.Prelude.{ℕ, ◌<◌, ◌≤◌, ◌≡◌, ◌+◌, length, IfOk, OnOk};
-ghost use Rattle.hv_task.specs.State.{AreBelow};
+ghost use Rattle.std.specs.Prelude.{◌≡◌, ◌<◌, ◌≤◌};
 ghost use Rattle.hv_task.specs.Strips.{atoms};
 
+use crate::tasks::robot;
 use hv_bdd::Diagrams;
 use hv_checker::{Checker, End, Fed, Piece, Reason};
 use hv_lines::Clash;
-use hv_task::{Action, AtomList, Name, Task};
+use hv_task::Task;
 use std::alloc::{AllocError, Global};
 use std::process::Abort;
 use std::test::Fail;
@@ -30,46 +30,6 @@ const PROOF: [&str; 16] = [
     "k 6 d 1 sd 5 4",
     "k 7 u ci 6",
 ];
-
-fn list_of(alloc: Global, atom: u32) -> Result<AtomList, AllocError>
-    ensures { IfOk result (λ list. (bound : ℕ) → atom < bound → AreBelow bound list) }
-{
-    let mut list = AtomList::new(alloc);
-    list.insert(atom)?;
-    Ok(list)
-}
-
-/// Adds an action from one place to another.
-fn add_way(task: &mut Task, alloc: Global, from: u32, to: u32) -> Result<(), AllocError>
-    requires from { from < atoms task.old }
-    requires to { to < atoms task.old }
-    requires room { length task.old.actions < 1000 }
-    ensures atoms { atoms task.new ≡ atoms task.old }
-    ensures actions { OnOk result (length task.new.actions ≡ length task.old.actions + 1) }
-{
-    let action = Action {
-        name: Name::new(alloc, b"go")?,
-        cost: 1,
-        pre: list_of(alloc, from)?,
-        add: list_of(alloc, to)?,
-        del: list_of(alloc, from)?,
-    };
-    let _number = task.add_action(action)?;
-    Ok(())
-}
-
-/// Atoms 0 and 1 are the places, of which the robot is at the first, and atom 2 is the key.
-fn key_task(alloc: Global) -> Result<Task, AllocError> {
-    let mut task = Task::new(alloc);
-    task.add_atom(Name::new(alloc, b"Atom at(r, a)")?)?;
-    task.add_atom(Name::new(alloc, b"Atom at(r, b)")?)?;
-    task.add_atom(Name::new(alloc, b"Atom have(key)")?)?;
-    task.set_start(list_of(alloc, 0)?);
-    task.set_goal(list_of(alloc, 2)?);
-    add_way(&mut task, alloc, 0, 1)?;
-    add_way(&mut task, alloc, 1, 0)?;
-    Ok(task)
-}
 
 fn feed_good(rt: &impl Abort, checker: &mut Checker<'_>, lines: &[&str]) -> Result<(), AllocError> {
     for line in lines {
@@ -95,12 +55,24 @@ fn accept(rt: &impl Abort, checker: &mut Checker<'_>) -> Result<(), AllocError> 
     Ok(())
 }
 
+/// The same, by a fresh checker.
+fn accept_anew(
+    rt: &impl Abort,
+    alloc: Global,
+    task: &Task,
+    diagrams: &Diagrams,
+) -> Result<(), AllocError>
+    requires { diagrams.now.atoms ≡ atoms task.now }
+{
+    let mut checker = Checker::new(alloc, task, diagrams, 2)?;
+    accept(rt, &mut checker)
+}
+
 #[test]
 fn accepts_the_listed_proof(rt: HostRuntime) -> Result<(), Fail> {
-    let task = key_task(rt.alloc())?;
+    let task = robot(rt.alloc())?;
     let diagrams = Diagrams::none(rt.alloc(), task.atoms());
-    let mut checker = Checker::new(rt.alloc(), &task, &diagrams, 2)?;
-    accept(&rt, &mut checker)?;
+    accept_anew(&rt, rt.alloc(), &task, &diagrams)?;
     Ok(())
 }
 
@@ -131,10 +103,11 @@ fn is_refusal(fed: &Fed, reason: &Reason) -> bool {
     }
 }
 
-/// After these good lines a fresh checker refuses the bad one, for this reason, and stops.
+/// The same, by a fresh checker without nodes.
 fn refuse(
     rt: &impl Abort,
     alloc: Global,
+    task: &Task,
     budget: u64,
     front: &[&str],
     bad: Piece<'_>,
@@ -143,52 +116,77 @@ fn refuse(
     requires some { 0 < budget }
     requires small { budget ≤ 16777216 }
 {
-    let task = key_task(alloc)?;
     let diagrams = Diagrams::none(alloc, task.atoms());
-    let mut checker = Checker::new(alloc, &task, &diagrams, budget)?;
+    let mut checker = Checker::new(alloc, task, &diagrams, budget)?;
     stop(rt, &mut checker, front, bad, reason)
+}
+
+/// The proof of which a line is left out.
+const MISSING: [&str; 9] = [
+    "a 0 a",
+    "e 0 c e",
+    "e 1 c i",
+    "e 2 c g",
+    "k 0 d 0 ed",
+    "e 3 x 1 0 ;",
+    "e 4 p 3 0",
+    "e 5 u 3 0",
+    "e 6 i 3 2",
+];
+
+/// After so many lines of the proof this one is refused for this reason.
+fn refuse_after(
+    rt: &impl Abort,
+    alloc: Global,
+    task: &Task,
+    good: usize,
+    bad: &str,
+    reason: &Reason,
+) -> Result<(), AllocError> {
+    assert!(rt; good < PROOF.len());
+    let bad = Piece::Line(bad.as_bytes());
+    refuse(rt, alloc, task, 2, &PROOF[..good], bad, reason)
+}
+
+/// Bad lines of six kinds, each after good ones.
+fn refuse_lines(rt: &impl Abort, alloc: Global, task: &Task) -> Result<(), AllocError> {
+    refuse_after(rt, alloc, task, 0, "e 0 h 1 -3", &Reason::Grammar)?;
+    refuse_after(rt, alloc, task, 0, "e 1 c e", &Reason::Number)?;
+    refuse_after(rt, alloc, task, 2, "k 0 d 0 sd 0 0", &Reason::Unknown)?;
+    refuse_after(rt, alloc, task, 0, "a 0 b 1 2", &Reason::Unknown)?;
+    refuse_after(rt, alloc, task, 3, "k 0 d 1 ed", &Reason::Rule)?;
+    refuse_after(rt, alloc, task, 0, "e 0 b 2", &Reason::Unknown)?;
+    refuse_after(rt, alloc, task, 0, "e 0 h 1 1 2 0", &Reason::Family)
 }
 
 #[test]
 fn tells_the_first_bad_line(rt: HostRuntime) -> Result<(), Fail> {
-    let rows = [
-        (0, "e 0 h 1 -3", Reason::Grammar),
-        (0, "e 1 c e", Reason::Number),
-        (2, "k 0 d 0 sd 0 0", Reason::Unknown),
-        (0, "a 0 b 1 2", Reason::Unknown),
-        (3, "k 0 d 1 ed", Reason::Rule),
-        (0, "e 0 b 2", Reason::Unknown),
-        (0, "e 0 h 1 1 2 0", Reason::Family),
-    ];
-    for (good, bad, reason) in rows {
-        assert!(rt; good < PROOF.len());
-        let bad = Piece::Line(bad.as_bytes());
-        refuse(&rt, rt.alloc(), 2, &PROOF[..good], bad, &reason)?;
-    }
-    refuse(&rt, rt.alloc(), 2, &[], Piece::Long, &Reason::Long)?;
+    let task = robot(rt.alloc())?;
+    refuse_lines(&rt, rt.alloc(), &task)?;
+    refuse(&rt, rt.alloc(), &task, 2, &[], Piece::Long, &Reason::Long)?;
     Ok(())
+}
+
+/// The first action leads out from the initial state.
+fn start_leads_out(alloc: Global, task: &Task) -> Result<Reason, AllocError> {
+    Ok(Reason::False(Clash {
+        action: Some(0),
+        state: Some(task.start_state(alloc)?),
+    }))
+}
+
+/// Where a state is missing the progression is refused with it; by too small a budget it is
+/// refused as well.
+fn refuse_progressions(rt: &impl Abort, alloc: Global, task: &Task) -> Result<(), AllocError> {
+    let bad = Piece::Line(b"k 1 s 4 5 b2");
+    refuse(rt, alloc, task, 1, &PROOF[..9], bad, &Reason::Budget)?;
+    let reason = start_leads_out(alloc, task)?;
+    refuse(rt, alloc, task, 2, &MISSING, bad, &reason)
 }
 
 #[test]
 fn tells_what_is_not_good(rt: HostRuntime) -> Result<(), Fail> {
-    let missing = [
-        "a 0 a",
-        "e 0 c e",
-        "e 1 c i",
-        "e 2 c g",
-        "k 0 d 0 ed",
-        "e 3 x 1 0 ;",
-        "e 4 p 3 0",
-        "e 5 u 3 0",
-        "e 6 i 3 2",
-    ];
-    let bad = Piece::Line(b"k 1 s 4 5 b2");
-    let task = key_task(rt.alloc())?;
-    let clash = Clash {
-        action: Some(0),
-        state: Some(task.start_state(rt.alloc())?),
-    };
-    refuse(&rt, rt.alloc(), 2, &missing, bad, &Reason::False(clash))?;
-    refuse(&rt, rt.alloc(), 1, &PROOF[..9], bad, &Reason::Budget)?;
+    let task = robot(rt.alloc())?;
+    refuse_progressions(&rt, rt.alloc(), &task)?;
     Ok(())
 }

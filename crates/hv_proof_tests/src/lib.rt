@@ -19,6 +19,10 @@ mod replay;
 #[cfg(test)]
 mod rules;
 #[cfg(test)]
+mod tables;
+#[cfg(test)]
+mod tasks;
+#[cfg(test)]
 mod trap;
 #[cfg(test)]
 mod trap_pruner;

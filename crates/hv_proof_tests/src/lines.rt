@@ -1,84 +1,67 @@
 //! Tests of the table of lines, of drafts, and of reasons.
 
-use hv_lines::{
-    ActionList, Acts, Clash, Constant, Draft, Expr, Line, Premises, Reason, Statement, Table, Word,
-};
+use crate::tables::{add_all_actions, add_claim, add_set, says};
+use hv_lines::{ActionList, Clash, Constant, Draft, Expr, Line, Reason, Statement, Table, Word};
 use hv_sets::Clauses;
 use hv_task::{State, Task};
+use std::alloc::{AllocError, Global};
 use std::test::Fail;
 
 // More lines than this no table has room for.
 const MOST_LINES: usize = 1 << 59;
 
+// Two sets with all actions between them, and a claim.
+fn four_lines(alloc: Global) -> Result<Table, Fail> {
+    let mut table = Table::new(alloc);
+    table.reserve(2)?;
+    add_set(&mut table, Expr::Constant(Constant::Goal))?;
+    add_all_actions(&mut table)?;
+    add_set(&mut table, Expr::After(0, 0))?;
+    add_claim(&mut table, Statement::Sub(1, 0), Word::B2, &[])?;
+    Ok(table)
+}
+
+// Whether these lines are found.
+fn are_found(table: &Table) -> bool {
+    table.len() == 4
+        && table.expr_count() == 2
+        && matches!(table.line(1), Line::Acts { .. })
+        && matches!(table.expr(1), Expr::After(0, 0))
+        && says(table, 0, Statement::Sub(1, 0), Word::B2, &[])
+}
+
 #[test]
 fn finds_lines(rt: HostRuntime) -> Result<(), Fail> {
-    let mut table = Table::new(rt.alloc());
-    table.reserve(2)?;
-    table.push(Line::Expr {
-        id: 0,
-        expr: Expr::Constant(Constant::Goal),
-    })?;
-    table.push(Line::Acts {
-        id: 0,
-        acts: Acts::All,
-    })?;
-    table.push(Line::Expr {
-        id: 1,
-        expr: Expr::After(0, 0),
-    })?;
-    table.push(Line::Known {
-        id: 0,
-        statement: Statement::Sub(1, 0),
-        word: Word::B2,
-        premises: Premises::none(),
-    })?;
-    assert_eq!(rt; table.len(), 4);
-    let Line::Acts { .. } = table.line(1) else {
-        panic!(&rt; "line 1");
-    };
-    let Expr::After(0, 0) = table.expr(1) else {
-        panic!(&rt; "e 1");
-    };
-    assert_eq!(rt; *table.statement(0), Statement::Sub(1, 0));
-    assert_eq!(rt; table.word(0), Word::B2);
-    assert_eq!(rt; table.premises(0).len(), 0);
+    let table = four_lines(rt.alloc())?;
+    assert!(rt; are_found(&table));
     Ok(())
+}
+
+// A constant, a formula, and sets of these.
+fn six_sets(alloc: Global) -> Result<Table, Fail> {
+    let mut table = Table::new(alloc);
+    add_set(&mut table, Expr::Constant(Constant::Start))?;
+    add_set(&mut table, Expr::Horn(Clauses::new(alloc)))?;
+    add_set(&mut table, Expr::Not(0))?;
+    add_set(&mut table, Expr::Not(2))?;
+    add_set(&mut table, Expr::Or(0, 1))?;
+    add_set(&mut table, Expr::Not(4))?;
+    Ok(table)
+}
+
+// Whether so many sets are literals, where these are, and the others aren't.
+fn are_literals(table: &Table, literals: &[bool]) -> bool {
+    let mut alike = table.expr_count() == literals.len();
+    for (id, is_literal) in literals.iter().enumerate() {
+        alike &= id < table.expr_count() && table.is_literal(id) == *is_literal;
+    }
+    alike
 }
 
 #[test]
 fn tells_literals(rt: HostRuntime) -> Result<(), Fail> {
-    let mut table = Table::new(rt.alloc());
-    let constant = Expr::Constant(Constant::Start);
-    let formula = Expr::Horn(Clauses::new(rt.alloc()));
-    table.push(Line::Expr {
-        id: 0,
-        expr: constant,
-    })?;
-    table.push(Line::Expr {
-        id: 1,
-        expr: formula,
-    })?;
-    table.push(Line::Expr {
-        id: 2,
-        expr: Expr::Not(0),
-    })?;
-    table.push(Line::Expr {
-        id: 3,
-        expr: Expr::Not(2),
-    })?;
-    table.push(Line::Expr {
-        id: 4,
-        expr: Expr::Or(0, 1),
-    })?;
-    table.push(Line::Expr {
-        id: 5,
-        expr: Expr::Not(4),
-    })?;
-    let literals = [true, true, true, false, false, false];
-    for (id, want) in literals.into_iter().enumerate() {
-        assert!(rt; id < table.expr_count());
-        assert_eq!(rt; table.is_literal(id), want, "e {id}");
-    }
+    let table = six_sets(rt.alloc())?;
+    assert!(rt; are_literals(&table, &[true, true, true, false, false, false]));
     Ok(())
 }
 
@@ -90,21 +73,39 @@ fn lists_actions(rt: HostRuntime) -> Result<(), Fail> {
     Ok(())
 }
 
+// Whether these are the first five lines of a draft.
+fn is_begun(table: &Table) -> bool {
+    table.len() == 5
+        && table.acts_count() == 1
+        && table.expr_count() == 3
+        && table.known_count() == 1
+        && says(table, 0, Statement::Dead(0), Word::Ed, &[])
+}
+
+// Whether room for seven lines is got, and kept where more is refused.
+fn has_room(draft: &mut Draft) -> Result<bool, AllocError> {
+    draft.reserve(7)?;
+    let roomy = draft.spare() >= 7;
+    let refused = draft.reserve(MOST_LINES).is_err();
+    Ok(roomy & refused & (draft.spare() >= 7))
+}
+
+// Whether a draft of the task begins with five lines, and gets room for more.
+fn is_drafted(alloc: Global, task: &Task) -> Result<bool, AllocError> {
+    let mut draft = Draft::new(alloc, task)?;
+    Ok(is_begun(draft.table()) & has_room(&mut draft)?)
+}
+
 #[test]
 fn begins_with_five_lines(rt: HostRuntime) -> Result<(), Fail> {
     let task = Task::new(rt.alloc());
-    let mut draft = Draft::new(rt.alloc(), &task)?;
-    assert_eq!(rt; draft.table().len(), 5);
-    assert_eq!(rt; draft.table().acts_count(), 1);
-    assert_eq!(rt; draft.table().expr_count(), 3);
-    assert_eq!(rt; draft.table().known_count(), 1);
-    assert_eq!(rt; *draft.table().statement(0), Statement::Dead(0));
-    assert_eq!(rt; draft.table().word(0), Word::Ed);
-    draft.reserve(7)?;
-    assert!(rt; draft.spare() >= 7);
-    assert!(rt; draft.reserve(MOST_LINES).is_err());
-    assert!(rt; draft.spare() >= 7);
+    assert!(rt; is_drafted(rt.alloc(), &task)?);
     Ok(())
+}
+
+// Whether a copy of the reason is the same.
+fn is_copied(alloc: Global, reason: &Reason) -> Result<bool, AllocError> {
+    Ok(reason.copy(alloc)? == *reason)
 }
 
 #[test]
@@ -113,10 +114,7 @@ fn copies_a_counterexample(rt: HostRuntime) -> Result<(), Fail> {
         action: Some(3),
         state: Some(State::empty(rt.alloc(), 2)?),
     });
-    let copy = reason.copy(rt.alloc())?;
-    let same = copy == reason;
-    assert!(rt; same);
-    let short = Reason::Rule.copy(rt.alloc())?;
-    assert!(rt; short == Reason::Rule);
+    assert!(rt; is_copied(rt.alloc(), &reason)?);
+    assert!(rt; is_copied(rt.alloc(), &Reason::Rule)?);
     Ok(())
 }

@@ -1,173 +1,109 @@
 //! Tests of what is reached.
 
-ghost use Rattle.std.specs.Prelude.{◌≡◌, ◌≤◌, ℕ, IfOk, OnOk, length};
-ghost use Rattle.hv_task.specs.State.{AreBelow};
+ghost use Rattle.std.specs.Prelude.{◌≡◌, ◌≤◌, IfOk};
 ghost use Rattle.hv_task.specs.Strips.{IsState, atoms};
 
+use crate::tasks::{Change, THREE, WAYS, add, task_of, task_with};
 use hv_reach::{reached_atoms, reached_pairs};
-use hv_task::{Action, AtomList, Name, State, Task};
+use hv_task::{Action, State, Task};
 use std::alloc::{AllocError, Global};
 use std::test::Fail;
 
-// Puts the atom in where it is below the bound.
-fn put(list: &mut AtomList, bound: u32, atom: u32) -> Result<(), AllocError>
-    requires { AreBelow bound list.old }
-    ensures { OnOk result (AreBelow bound list.new) }
-{
-    if atom >= bound {
-        return Ok(());
-    }
-    list.insert(atom)?;
-    Ok(())
-}
-
-pub(crate) fn list_of(alloc: Global, bound: u32, atoms: &[u32]) -> Result<AtomList, AllocError>
-    ensures { IfOk result (λ list. AreBelow bound list) }
-{
-    let mut list = AtomList::new(alloc);
-    for atom in atoms {
-        put(&mut list, bound, *atom)?;
-    }
-    Ok(list)
-}
-
-// A task of so many atoms without actions.
-pub(crate) fn task_of(alloc: Global, count: u32, start: &[u32]) -> Result<Task, AllocError>
-    requires { count ≤ 2000 }
-    ensures { IfOk result (λ task. atoms task ≡ count) }
-{
-    let mut task = Task::new(alloc);
-    for number in 0..count {
-        let _ = number;
-        task.add_atom(Name::new(alloc, b"p")?)?;
-    }
-    let list = list_of(alloc, task.atoms(), start)?;
-    task.set_start(list);
-    Ok(task)
-}
-
-pub(crate) fn add(
-    alloc: Global,
-    task: &mut Task,
-    pre: &[u32],
-    add: &[u32],
-    del: &[u32],
-) -> Result<(), AllocError>
-    ensures { atoms task.new ≡ atoms task.old }
-{
-    if task.actions() >= 1000 {
-        return Ok(());
-    }
-    let action = Action {
-        name: Name::new(alloc, b"go")?,
-        cost: 1,
-        pre: list_of(alloc, task.atoms(), pre)?,
-        add: list_of(alloc, task.atoms(), add)?,
-        del: list_of(alloc, task.atoms(), del)?,
-    };
-    task.add_action(action)?;
-    Ok(())
-}
-
-/// Actions over four atoms, as bits: what each asks for, adds and deletes. A robot between two
-/// places.
-const ROBOT: [(u32, u32, u32); 2] = [(0b0001, 0b0010, 0b0001), (0b0010, 0b0001, 0b0010)];
-
-/// Three that each take the next away.
-const THREE: [(u32, u32, u32); 3] = [
-    (0, 0b0001, 0b0010),
-    (0, 0b0010, 0b0100),
-    (0, 0b0100, 0b0001),
-];
-
 /// An atom that is added and deleted stays.
-const STAYS: [(u32, u32, u32); 2] = [(0b0001, 0b0011, 0b0001), (0, 0b0100, 0b0010)];
+const STAYS: &[Change] = &[(&[0], &[0, 1], &[0]), (&[], &[2], &[1])];
 
-// The atoms below 4 whose bits are 1.
-fn atoms_in(alloc: Global, bits: u32) -> Result<Vec<u32>, AllocError> {
-    let mut atoms = Vec::new(alloc);
+// The atoms that are reached, as bits.
+fn atoms_reached(alloc: Global, task: &Task, state: &State) -> Result<u32, AllocError>
+    requires { IsState task.now state.now }
+{
+    let list = reached_atoms(alloc, task, state)?;
+    let mut bits = 0;
     for atom in 0..4u32 {
-        if (bits >> atom) & 1 == 1 {
-            atoms.push(atom)?;
-        }
+        bits |= u32::from(list.has(atom)) << atom;
     }
-    Ok(atoms)
+    Ok(bits)
 }
 
-// Puts an action last that asks for these atoms, adds and deletes these.
-fn put_bits(alloc: Global, task: &mut Task, action: &(u32, u32, u32)) -> Result<(), AllocError>
-    ensures { atoms task.new ≡ atoms task.old }
+// The pairs that are reached, as a digit for each atom, that of the last one first.
+fn pairs_reached(alloc: Global, task: &Task, state: &State) -> Result<u32, AllocError>
+    requires state { IsState task.now state.now }
+    requires atoms { atoms task.now ≡ 4 }
 {
-    let pre = atoms_in(alloc, action.0)?;
-    let more = atoms_in(alloc, action.1)?;
-    let less = atoms_in(alloc, action.2)?;
-    add(
-        alloc,
-        task,
-        pre.as_slice(),
-        more.as_slice(),
-        less.as_slice(),
-    )
-}
-
-// The task with four atoms and these actions that starts with the first atom.
-fn task_in(alloc: Global, actions: &[(u32, u32, u32)]) -> Result<Task, AllocError>
-    ensures { IfOk result (λ task. atoms task ≡ 4) }
-{
-    let mut task = task_of(alloc, 4, &[0])?;
-    for action in actions {
-        put_bits(alloc, &mut task, action)?;
-    }
-    Ok(task)
-}
-
-// What is reached in it: the atoms as bits, and the pairs as a digit for each atom, that of the
-// last one first.
-fn reached_in(alloc: Global, actions: &[(u32, u32, u32)]) -> Result<(u32, u32), AllocError> {
-    let task = task_in(alloc, actions)?;
-    let state = task.start_state(alloc)?;
-    let list = reached_atoms(alloc, &task, &state)?;
-    let pairs = reached_pairs(alloc, &task, &state)?;
-    let mut atoms = 0;
+    let pairs = reached_pairs(alloc, task, state)?;
     let mut digits = 0;
-    for first in 0..4u32 {
-        atoms |= u32::from(list.has(first)) << first;
-        for second in 0..4u32 {
-            digits |= u32::from(pairs.has(first, second)) << (4 * first + second);
-        }
+    for place in 0..16u32 {
+        digits |= u32::from(pairs.has(place / 4, place % 4)) << place;
     }
-    Ok((atoms, digits))
+    Ok(digits)
 }
 
-// Whether all is reached in a chain of 70 atoms whose actions stand in the order that is worst.
-fn all_of_a_chain(alloc: Global) -> Result<bool, AllocError> {
-    let mut task = task_of(alloc, 70, &[69])?;
+// Whether these of four atoms are reached, as bits, and these pairs, as digits.
+fn are_reached(alloc: Global, task: &Task, bits: u32, digits: u32) -> Result<bool, AllocError>
+    requires { atoms task.now ≡ 4 }
+{
+    let state = task.start_state(alloc)?;
+    let alike = atoms_reached(alloc, task, &state)? == bits;
+    Ok(alike & (pairs_reached(alloc, task, &state)? == digits))
+}
+
+// Whether these are reached from the first of four atoms by these actions.
+fn reaches(alloc: Global, changes: &[Change], bits: u32, digits: u32) -> Result<bool, AllocError> {
+    let task = task_with(alloc, 4, &[0], &[], changes)?;
+    are_reached(alloc, &task, bits, digits)
+}
+
+// A chain of 70 atoms whose actions stand in the order that is worst.
+fn chain(alloc: Global) -> Result<Task, AllocError>
+    ensures { IfOk result (λ task. atoms task ≡ 70) }
+{
+    let mut task = task_of(alloc, 70, &[69], &[])?;
     for atom in 0..69u32 {
         add(alloc, &mut task, &[atom + 1], &[atom], &[])?;
     }
-    let state = task.start_state(alloc)?;
-    let list = reached_atoms(alloc, &task, &state)?;
-    let pairs = reached_pairs(alloc, &task, &state)?;
+    Ok(task)
+}
+
+// Whether all 70 atoms are reached.
+fn are_all_atoms(alloc: Global, task: &Task, state: &State) -> Result<bool, AllocError>
+    requires { IsState task.now state.now }
+{
+    let list = reached_atoms(alloc, task, state)?;
+    Ok((0..70).all(|atom| list.has(atom)))
+}
+
+// Whether the pairs with the first and with the last of 70 atoms are reached.
+fn are_all_pairs(alloc: Global, task: &Task, state: &State) -> Result<bool, AllocError>
+    requires state { IsState task.now state.now }
+    requires atoms { atoms task.now ≡ 70 }
+{
+    let pairs = reached_pairs(alloc, task, state)?;
+    let mut all = true;
     for atom in 0..70 {
-        if !list.has(atom) || !pairs.has(0, atom) || !pairs.has(atom, 69) {
-            return Ok(false);
-        }
+        all &= pairs.has(0, atom) & pairs.has(atom, 69);
     }
-    Ok(true)
+    Ok(all)
 }
 
-// Whether what is reached with these actions is right: a robot gets no key, and an atom that isn't
-// reached is in no pair.
-fn small_tasks_are_right(alloc: Global) -> Result<bool, AllocError> {
-    let robot = reached_in(alloc, &ROBOT)?;
-    let three = reached_in(alloc, &THREE)?;
-    let stays = reached_in(alloc, &STAYS)?;
-    Ok(robot == (0b0011, 0x0021) && three == (0b0111, 0x0777) && stays == (0b0111, 0x0777))
+// Whether all is reached in a task of 70 atoms.
+fn is_all_reached(alloc: Global, task: &Task) -> Result<bool, AllocError>
+    requires { atoms task.now ≡ 70 }
+{
+    let state = task.start_state(alloc)?;
+    Ok(are_all_atoms(alloc, task, &state)? & are_all_pairs(alloc, task, &state)?)
 }
 
+// Whether all is reached in the chain.
+fn all_of_a_chain(alloc: Global) -> Result<bool, AllocError> {
+    let task = chain(alloc)?;
+    is_all_reached(alloc, &task)
+}
+
+// A robot gets no key, and an atom that isn't reached is in no pair.
 #[test]
 fn small_tasks_and_a_chain(rt: HostRuntime) -> Result<(), Fail> {
-    assert!(rt; small_tasks_are_right(rt.alloc())?);
+    assert!(rt; reaches(rt.alloc(), WAYS, 0b0011, 0x0021)?);
+    assert!(rt; reaches(rt.alloc(), THREE, 0b0111, 0x0777)?);
+    assert!(rt; reaches(rt.alloc(), STAYS, 0b0111, 0x0777)?);
     assert!(rt; all_of_a_chain(rt.alloc())?);
     Ok(())
 }
@@ -288,7 +224,7 @@ fn made_task(alloc: Global, seed: u32) -> Result<Task, AllocError>
     ensures { IfOk result (λ task. atoms task ≡ 6) }
 {
     let mut s = next(seed);
-    let mut task = task_of(alloc, 6, &[(s >> 8) % 8, (s >> 16) % 8])?;
+    let mut task = task_of(alloc, 6, &[(s >> 8) % 8, (s >> 16) % 8], &[])?;
     for number in 0..7 {
         let _ = number;
         s = next(s);
@@ -327,11 +263,18 @@ fn are_plain_pairs(alloc: Global, task: &Task, start: &State) -> Result<bool, Al
     Ok(alike)
 }
 
-// Whether all that is reached in the task of this number is what the plain program finds.
+// Whether all that is reached in a task of six atoms is what the plain program finds.
+fn are_plain(alloc: Global, task: &Task) -> Result<bool, AllocError>
+    requires { atoms task.now ≡ 6 }
+{
+    let start = task.start_state(alloc)?;
+    Ok(are_plain_atoms(alloc, task, &start)? & are_plain_pairs(alloc, task, &start)?)
+}
+
+// The same of the task of this number.
 fn is_as_plain(alloc: Global, seed: u32) -> Result<bool, AllocError> {
     let task = made_task(alloc, seed)?;
-    let start = task.start_state(alloc)?;
-    Ok(are_plain_atoms(alloc, &task, &start)? & are_plain_pairs(alloc, &task, &start)?)
+    are_plain(alloc, &task)
 }
 
 #[test]

@@ -1,48 +1,13 @@
 //! Tests of the proofs by what is reached.
 
-ghost use Rattle.std.specs.Prelude.{◌≡◌};
-ghost use Rattle.hv_task.specs.Strips.{atoms};
-
-use crate::reach::{add, list_of, task_of};
+use crate::tables::says;
+use crate::tasks::{WAYS, either, robot, task_of, task_with};
 use hv_lines::{Constant, Draft, Expr, Line, Statement, Table, Word};
 use hv_reach::{ReachFault, prove_pairs, prove_relaxed};
 use hv_sets::{Clauses, Literal};
 use hv_task::Task;
 use std::alloc::{AllocError, Global};
 use std::test::Fail;
-
-fn set_goal(alloc: Global, task: &mut Task, goal: &[u32]) -> Result<(), AllocError>
-    ensures { atoms task.new ≡ atoms task.old }
-{
-    let list = list_of(alloc, task.atoms(), goal)?;
-    task.set_goal(list);
-    Ok(())
-}
-
-// A robot that goes between two places, and a key that it can't get.
-pub(crate) fn robot(alloc: Global) -> Result<Task, AllocError> {
-    let mut task = task_of(alloc, 3, &[0])?;
-    set_goal(alloc, &mut task, &[2])?;
-    add(alloc, &mut task, &[0], &[1], &[0])?;
-    add(alloc, &mut task, &[1], &[0], &[1])?;
-    Ok(task)
-}
-
-// Two atoms, of which each comes in place of the other; the goal is to have both.
-pub(crate) fn either(alloc: Global) -> Result<Task, AllocError> {
-    let mut task = task_of(alloc, 2, &[0])?;
-    set_goal(alloc, &mut task, &[0, 1])?;
-    add(alloc, &mut task, &[0], &[1], &[0])?;
-    add(alloc, &mut task, &[1], &[0], &[1])?;
-    Ok(task)
-}
-
-fn says(table: &Table, id: usize, statement: Statement, word: Word, premises: &[usize]) -> bool {
-    id < table.known_count()
-        && *table.statement(id) == statement
-        && table.word(id) == word
-        && table.premises(id).as_slice() == premises
-}
 
 fn begins(table: &Table) -> bool {
     if table.len() != 16 || table.acts_count() != 1 || table.expr_count() != 7 {
@@ -113,12 +78,16 @@ fn none_is_proved(alloc: Global, task: &Task) -> Result<bool, ReachFault> {
     Ok(prove_relaxed(alloc, task)?.is_none() && prove_pairs(alloc, task)?.is_none())
 }
 
-// Whether the key that isn't reached has its proof, and none where the goal holds at the start.
+// Whether the key that isn't reached has its proof.
 fn key_is_proved(alloc: Global) -> Result<bool, ReachFault> {
-    let mut task = robot(alloc)?;
-    let proved = proves(prove_relaxed(alloc, &task)?, &[not(2)]);
-    set_goal(alloc, &mut task, &[0])?;
-    Ok(proved & none_is_proved(alloc, &task)?)
+    let task = robot(alloc)?;
+    Ok(proves(prove_relaxed(alloc, &task)?, &[not(2)]))
+}
+
+// Whether a goal that holds at the start has none.
+fn start_is_not_proved(alloc: Global) -> Result<bool, ReachFault> {
+    let task = task_with(alloc, 3, &[0], &[0], WAYS)?;
+    none_is_proved(alloc, &task)
 }
 
 // Whether two atoms that are never together have a proof by pairs alone.
@@ -130,13 +99,14 @@ fn either_is_proved(alloc: Global) -> Result<bool, ReachFault> {
 
 // Whether pairs of 1,025 atoms are refused.
 fn many_are_refused(alloc: Global) -> Result<bool, AllocError> {
-    let task = task_of(alloc, 1025, &[0])?;
+    let task = task_of(alloc, 1025, &[0], &[])?;
     Ok(matches!(prove_pairs(alloc, &task), Err(ReachFault::TooManyAtoms)))
 }
 
 #[test]
 fn proofs_by_atoms_and_by_pairs(rt: HostRuntime) -> Result<(), Fail> {
     assert!(rt; key_is_proved(rt.alloc())?);
+    assert!(rt; start_is_not_proved(rt.alloc())?);
     assert!(rt; either_is_proved(rt.alloc())?);
     assert!(rt; many_are_refused(rt.alloc())?);
     Ok(())

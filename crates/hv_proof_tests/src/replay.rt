@@ -1,13 +1,13 @@
 //! Tests of logs, of their first holes, and of the proofs of closed ones.
 
-ghost use Rattle.std.specs.Prelude.{◌≡◌, ◌<◌, ◌≤◌, [], IfOk, OnOk, length};
-ghost use Rattle.hv_task.specs.State.{AreBelow};
-ghost use Rattle.hv_task.specs.Strips.{IsOver, atoms};
+ghost use Rattle.std.specs.Prelude.{◌≡◌, IfOk};
+ghost use Rattle.hv_task.specs.Strips.{atoms};
 
+use crate::tasks::{Change, robot, task_with};
 use hv_bytes::{MemoryShelf, SureShelf};
 use hv_lines::{Draft, Pruner};
 use hv_replay::{Log, LogFault, ReplayFault, read_log, replay};
-use hv_task::{Action, AtomList, Name, State, Task};
+use hv_task::{State, Task};
 use std::alloc::{AllocError, Global};
 use std::test::Fail;
 
@@ -67,13 +67,13 @@ const HOLES: &[(&str, &str)] = &[
 
 /// Actions of a task with four atoms. None adds the goal, the last atom. Action 3 has no
 /// precondition, and action 5 deletes and adds the same atom.
-const ACTIONS: [(u32, u32, u32); 6] = [
-    (0b0101, 0b0010, 0b0001),
-    (0b0010, 0b0100, 0b0010),
-    (0b0001, 0b0100, 0b0001),
-    (0, 0b0001, 0),
-    (0b0011, 0, 0b0011),
-    (0b0100, 0b0100, 0b0100),
+const ACTIONS: &[Change] = &[
+    (&[0, 2], &[1], &[0]),
+    (&[1], &[2], &[1]),
+    (&[0], &[2], &[0]),
+    (&[], &[0], &[]),
+    (&[0, 1], &[], &[0, 1]),
+    (&[2], &[2], &[2]),
 ];
 
 /// Logs of this task, and their first holes. In the state of 0 and 1 the actions 1 to 4
@@ -126,108 +126,6 @@ impl Pruner for Nothing {
     }
 
     ghost fits_extensions = { λ _ _ _ _ _ _. tt };
-}
-
-fn task_of_three(alloc: Global) -> Result<Task, AllocError>
-    ensures { IfOk result (λ task. atoms task ≡ 3) }
-{
-    let mut task = Task::new(alloc);
-    task.add_atom(Name::new(alloc, b"at(r, a)")?)?;
-    task.add_atom(Name::new(alloc, b"at(r, b)")?)?;
-    task.add_atom(Name::new(alloc, b"have(key)")?)?;
-    task.set_start(alone(alloc, 0)?);
-    task.set_goal(alone(alloc, 2)?);
-    task.add_action(step(alloc, 0, 1)?)?;
-    task.add_action(step(alloc, 1, 0)?)?;
-    Ok(task)
-}
-
-fn alone(alloc: Global, atom: u32) -> Result<AtomList, AllocError>
-    requires { atom < 3 }
-    ensures { IfOk result (λ list. AreBelow 3 list) }
-{
-    let mut list = AtomList::new(alloc);
-    list.insert(atom)?;
-    Ok(list)
-}
-
-// From the one atom to the other.
-fn step(alloc: Global, from: u32, to: u32) -> Result<Action, AllocError>
-    requires from { from < 3 }
-    requires to { to < 3 }
-    ensures { IfOk result (λ action. IsOver 3 action) }
-{
-    Ok(Action {
-        name: Name::new(alloc, b"go")?,
-        cost: 1,
-        pre: alone(alloc, from)?,
-        add: alone(alloc, to)?,
-        del: alone(alloc, from)?,
-    })
-}
-
-fn put_bit(list: &mut AtomList, bits: u32, atom: u32) -> Result<(), AllocError>
-    requires atom { atom < 4 }
-    requires list { AreBelow 4 list.old }
-    ensures { OnOk result (AreBelow 4 list.new) }
-{
-    if (bits >> atom) & 1 == 0 {
-        return Ok(());
-    }
-    list.insert(atom)?;
-    Ok(())
-}
-
-// The atoms below 4 whose bits are 1.
-fn atoms_of(alloc: Global, bits: u32) -> Result<AtomList, AllocError>
-    ensures { IfOk result (λ list. AreBelow 4 list) }
-{
-    let mut list = AtomList::new(alloc);
-    put_bit(&mut list, bits, 0)?;
-    put_bit(&mut list, bits, 1)?;
-    put_bit(&mut list, bits, 2)?;
-    put_bit(&mut list, bits, 3)?;
-    Ok(list)
-}
-
-// An action that asks for these atoms, adds and deletes these.
-fn acting(alloc: Global, pre: u32, add: u32, del: u32) -> Result<Action, AllocError>
-    ensures { IfOk result (λ action. IsOver 4 action) }
-{
-    Ok(Action {
-        name: Name::new(alloc, b"act")?,
-        cost: 1,
-        pre: atoms_of(alloc, pre)?,
-        add: atoms_of(alloc, add)?,
-        del: atoms_of(alloc, del)?,
-    })
-}
-
-// A task of four atoms, of which the first two are true at the start and the last is the goal.
-fn bare_task(alloc: Global) -> Result<Task, AllocError>
-    ensures atoms { IfOk result (λ task. atoms task ≡ 4) }
-    ensures actions { IfOk result (λ task. length task.actions ≡ 0) }
-{
-    let mut task = Task::new(alloc);
-    task.add_atom(Name::new(alloc, b"p")?)?;
-    task.add_atom(Name::new(alloc, b"q")?)?;
-    task.add_atom(Name::new(alloc, b"r")?)?;
-    task.add_atom(Name::new(alloc, b"g")?)?;
-    task.set_start(atoms_of(alloc, 0b0011)?);
-    task.set_goal(atoms_of(alloc, 0b1000)?);
-    Ok(task)
-}
-
-// The same task with these actions: what each asks for, adds and deletes.
-fn task_of_four(alloc: Global, actions: &[(u32, u32, u32)]) -> Result<Task, AllocError>
-    requires { length actions.now ≤ 100 }
-    ensures { IfOk result (λ task. atoms task ≡ 4) }
-{
-    let mut task = bare_task(alloc)?;
-    for action in actions {
-        task.add_action(acting(alloc, action.0, action.1, action.2)?)?;
-    }
-    Ok(task)
 }
 
 fn read(alloc: Global, task: &Task, text: &[u8]) -> Result<Log, LogFault>
@@ -296,101 +194,139 @@ fn told(alloc: Global, fault: ReplayFault) -> Result<String, AllocError> {
     }
 }
 
+// Whether this is answered to the text.
+fn is_answered(alloc: Global, task: &Task, text: &[u8], want: &str) -> Result<bool, AllocError> {
+    Ok(answer(alloc, task, text)?.as_str() == want)
+}
+
+// Whether this is the first hole of the log.
+fn is_hole(alloc: Global, task: &Task, text: &str, want: &str) -> Result<bool, AllocError> {
+    Ok(hole(alloc, task, text.as_bytes())?.as_str() == want)
+}
+
+// Whether this becomes of the log.
+fn is_replayed(alloc: Global, task: &Task, text: &str, want: &str) -> Result<bool, AllocError> {
+    Ok(replayed(alloc, task, text.as_bytes())?.as_str() == want)
+}
+
 #[test]
 fn logs_and_their_first_faults(rt: HostRuntime) -> Result<(), Fail> {
-    let task = task_of_three(rt.alloc())?;
+    let task = robot(rt.alloc())?;
     for (text, want) in TEXTS {
-        let told = answer(rt.alloc(), &task, text.as_bytes())?;
-        assert_eq!(rt; told.as_str(), *want, "{text:?}");
+        assert!(rt;
+            is_answered(rt.alloc(), &task, text.as_bytes(), want)?,
+            "{text:?}"
+        );
     }
     Ok(())
 }
 
 #[test]
 fn logs_and_their_first_holes(rt: HostRuntime) -> Result<(), Fail> {
-    let task = task_of_three(rt.alloc())?;
+    let task = robot(rt.alloc())?;
     for (text, want) in HOLES {
-        let told = hole(rt.alloc(), &task, text.as_bytes())?;
-        assert_eq!(rt; told.as_str(), *want, "{text:?}");
+        assert!(rt; is_hole(rt.alloc(), &task, text, want)?, "{text:?}");
     }
     Ok(())
 }
 
 #[test]
 fn least_actions_that_lead_out(rt: HostRuntime) -> Result<(), Fail> {
-    let task = task_of_four(rt.alloc(), &ACTIONS)?;
+    let task = task_with(rt.alloc(), 4, &[0, 1], &[3], ACTIONS)?;
     for (text, want) in EXITS {
-        let told = hole(rt.alloc(), &task, text.as_bytes())?;
-        assert_eq!(rt; told.as_str(), *want, "{text:?}");
+        assert!(rt; is_hole(rt.alloc(), &task, text, want)?, "{text:?}");
     }
     Ok(())
 }
 
 #[test]
 fn logs_and_their_proofs(rt: HostRuntime) -> Result<(), Fail> {
-    let task = task_of_three(rt.alloc())?;
+    let task = robot(rt.alloc())?;
     for (text, want) in REPLAYS {
-        let told = replayed(rt.alloc(), &task, text.as_bytes())?;
-        assert_eq!(rt; told.as_str(), *want, "{text:?}");
+        assert!(rt; is_replayed(rt.alloc(), &task, text, want)?, "{text:?}");
     }
     Ok(())
 }
 
-// The line, 2 to this power times.
-fn doubled(alloc: Global, line: &[u8], power: u32) -> Result<Vec<u8>, AllocError> {
+// The text twice.
+fn twice(alloc: Global, text: &[u8]) -> Result<Vec<u8>, AllocError> {
+    let mut whole = Vec::from_slice(alloc, text)?;
+    whole.extend_from_slice(text)?;
+    Ok(whole)
+}
+
+// The line, 2 to this power times, and then the last line.
+fn doubled(alloc: Global, line: &[u8], power: u32, last: &[u8]) -> Result<Vec<u8>, AllocError> {
     let mut text = Vec::from_slice(alloc, line)?;
     for _turn in 0..power {
-        let half = Vec::from_slice(alloc, text.as_slice())?;
-        text.extend_from_slice(half.as_slice())?;
+        text = twice(alloc, text.as_slice())?;
     }
+    text.extend_from_slice(last)?;
     Ok(text)
+}
+
+/// A line, the power of two that says how often it stands, a last line, and the answer.
+type Long = (&'static [u8], u32, &'static [u8], &'static str);
+
+const LONG: &[Long] = &[
+    (b"p\n", 15, b"end", "read"),
+    (b"p\n", 16, b"end", "limit 65001 pruned"),
+    (b"p 0\n", 16, b"p", "limit 65001 pruned"),
+    (b"z", 23, b"\n", "place 1"),
+    (b"z", 23, b"z\n", "limit 1 bytes"),
+];
+
+// Whether the long text gets its answer.
+fn is_limited(alloc: Global, task: &Task, row: &Long) -> Result<bool, AllocError> {
+    let text = doubled(alloc, row.0, row.1, row.2)?;
+    is_answered(alloc, task, text.as_slice(), row.3)
 }
 
 #[test]
 fn limits_of_a_log(rt: HostRuntime) -> Result<(), Fail> {
-    let task = task_of_three(rt.alloc())?;
-    let rows: [(&[u8], u32, &[u8], &str); 5] = [
-        (b"p\n", 15, b"end", "read"),
-        (b"p\n", 16, b"end", "limit 65001 pruned"),
-        (b"p 0\n", 16, b"p", "limit 65001 pruned"),
-        (b"z", 23, b"\n", "place 1"),
-        (b"z", 23, b"z\n", "limit 1 bytes"),
-    ];
-    for (line, power, last, want) in rows {
-        let mut text = doubled(rt.alloc(), line, power)?;
-        text.extend_from_slice(last)?;
-        let told = answer(rt.alloc(), &task, text.as_slice())?;
-        assert_eq!(rt; told.as_str(), want, "{line:?} doubled {power} times");
+    let task = robot(rt.alloc())?;
+    for row in LONG {
+        assert!(rt; is_limited(rt.alloc(), &task, row)?, "{row:?}");
     }
     Ok(())
+}
+
+// Whether the entries of the log are an expanded state that holds atom 2, and then the pruned
+// empty one.
+fn has_two_entries(log: &Log) -> bool {
+    log.len() == 2
+        && log.expanded(0)
+        && !log.expanded(1)
+        && log.state(0).has(2)
+        && log.state(1).len() == 0
 }
 
 #[test]
 fn entries_of_a_log(rt: HostRuntime) -> Result<(), Fail> {
-    let task = task_of_three(rt.alloc())?;
-    match read(rt.alloc(), &task, b"x 0 2\np\nend\n") {
-        Ok(log) => {
-            assert!(rt; log.len() == 2);
-            assert!(rt; log.expanded(0) && !log.expanded(1));
-            assert!(rt; log.state(0).has(2) && log.state(1).len() == 0);
-        }
-        Err(_fault) => assert!(rt; false, "no log"),
-    }
+    let task = robot(rt.alloc())?;
+    let Ok(log) = read(rt.alloc(), &task, b"x 0 2\np\nend\n") else {
+        panic!(&rt; "no log");
+    };
+    assert!(rt; has_two_entries(&log));
     Ok(())
+}
+
+// Whether a log can't be read where this call of the shelf fails.
+fn fails_at(alloc: Global, task: &Task, call: u64) -> Result<bool, AllocError> {
+    let mut shelf = MemoryShelf::new(alloc, 4);
+    shelf.add(NAME, b"x 0\nx 1\nend\n")?;
+    shelf.fail_at(call)?;
+    Ok(matches!(
+        read_log(alloc, &mut shelf, NAME, task),
+        Err(LogFault::ReadFault)
+    ))
 }
 
 #[test]
 fn failing_reads(rt: HostRuntime) -> Result<(), Fail> {
-    let task = task_of_three(rt.alloc())?;
+    let task = robot(rt.alloc())?;
     for call in 1..7 {
-        let mut shelf = MemoryShelf::new(rt.alloc(), 4);
-        shelf.add(NAME, b"x 0\nx 1\nend\n")?;
-        shelf.fail_at(call)?;
-        let failed = matches!(
-            read_log(rt.alloc(), &mut shelf, NAME, &task),
-            Err(LogFault::ReadFault)
-        );
-        assert_eq!(rt; failed, call < 6, "{call}");
+        assert_eq!(rt; fails_at(rt.alloc(), &task, call)?, call < 6, "{call}");
     }
     Ok(())
 }

@@ -1,9 +1,7 @@
 //! Of each rule a row that fits, and rows with one letter wrong.
-ghost use Rattle.std.specs.Prelude.{◌↔◌, IsTrue};
-ghost use Rattle.hv_lines.specs.Numbering.{acts_count, expr_count, ActsReferBelow, ExprRefersBelow};
-ghost use Rattle.hv_lines.specs.Numbering.{SpeaksBelow};
 
-use hv_lines::{ActionList, Acts, Constant, Expr, Line, Premises, Statement, Table, Word};
+use crate::tables::{add_all_actions, add_claim, add_set, is_spoken, premises_of};
+use hv_lines::{ActionList, Acts, Constant, Expr, Line, Statement, Table, Word};
 use hv_rules::{is_rule, rule_fits};
 use std::alloc::{AllocError, Global};
 use std::test::Fail;
@@ -127,60 +125,6 @@ static CLAIMS: [Statement; 28] = [
     Statement::Sub(11, 7),
 ];
 
-/// Whether the sets of the statement are in the table.
-fn is_spoken(table: &Table, statement: Statement) -> bool
-    ensures { IsTrue result
-        ↔ SpeaksBelow (acts_count table.now.lines) (expr_count table.now.lines) statement }
-{
-    match statement {
-        Statement::Sub(left, right) => left < table.expr_count() && right < table.expr_count(),
-        Statement::ActSub(left, right) => left < table.acts_count() && right < table.acts_count(),
-        Statement::Dead(set) => set < table.expr_count(),
-        Statement::Unsolvable => true,
-    }
-}
-
-/// Whether the sets that the expression refers to are in the table.
-fn has_operands(table: &Table, expr: &Expr) -> bool
-    ensures { IsTrue result
-        ↔ ExprRefersBelow (acts_count table.now.lines) (expr_count table.now.lines) expr.now }
-{
-    let exprs = table.expr_count();
-    match expr {
-        Expr::Not(set) => *set < exprs,
-        Expr::And(left, right) | Expr::Or(left, right) => *left < exprs && *right < exprs,
-        Expr::After(set, acts) | Expr::Before(set, acts) => {
-            *set < exprs && *acts < table.acts_count()
-        }
-        _ => true,
-    }
-}
-
-/// Puts this set last, where it refers to earlier ones.
-fn add_set(table: &mut Table, expr: Expr) -> Result<(), Fail> {
-    if !has_operands(table, &expr) {
-        return Err("a set without its operands".into());
-    }
-    let id = table.expr_count();
-    table.push(Line::Expr { id, expr })?;
-    Ok(())
-}
-
-/// Puts this claim last, where it speaks of earlier sets.
-fn add_claim(table: &mut Table, statement: Statement) -> Result<(), Fail> {
-    if !is_spoken(table, statement) {
-        return Err("a claim without its sets".into());
-    }
-    let id = table.known_count();
-    table.push(Line::Known {
-        id,
-        statement,
-        word: Word::B1,
-        premises: Premises::none(),
-    })?;
-    Ok(())
-}
-
 fn list_of(alloc: Global, numbers: &[u32]) -> Result<ActionList, AllocError> {
     let mut list = ActionList::new(alloc);
     for number in numbers {
@@ -189,84 +133,87 @@ fn list_of(alloc: Global, numbers: &[u32]) -> Result<ActionList, AllocError> {
     Ok(list)
 }
 
-/// All actions, two lists of one action, the union of these, and the list of both actions.
-fn action_sets(alloc: Global) -> Result<Table, AllocError> {
-    let mut table = Table::new(alloc);
+/// Puts the actions of these numbers last.
+fn add_list(alloc: Global, table: &mut Table, numbers: &[u32]) -> Result<(), Fail> {
+    let list = list_of(alloc, numbers)?;
+    let id = table.acts_count();
     table.push(Line::Acts {
-        id: 0,
-        acts: Acts::All,
+        id,
+        acts: Acts::List(list),
     })?;
+    Ok(())
+}
+
+/// Puts the union of the first two lists of actions last, where these are there.
+fn add_union(table: &mut Table) -> Result<(), Fail> {
+    let id = table.acts_count();
+    if id < 3 {
+        return Err("a union without its lists".into());
+    }
     table.push(Line::Acts {
-        id: 1,
-        acts: Acts::List(list_of(alloc, &[0])?),
-    })?;
-    table.push(Line::Acts {
-        id: 2,
-        acts: Acts::List(list_of(alloc, &[1])?),
-    })?;
-    table.push(Line::Acts {
-        id: 3,
+        id,
         acts: Acts::Both(1, 2),
     })?;
-    table.push(Line::Acts {
-        id: 4,
-        acts: Acts::List(list_of(alloc, &[0, 1])?),
-    })?;
-    Ok(table)
+    Ok(())
+}
+
+/// All actions, two lists of one action, the union of these, and the list of both actions.
+fn add_actions(alloc: Global, table: &mut Table) -> Result<(), Fail> {
+    add_all_actions(table)?;
+    add_list(alloc, table, &[0])?;
+    add_list(alloc, table, &[1])?;
+    add_union(table)?;
+    add_list(alloc, table, &[0, 1])?;
+    Ok(())
+}
+
+/// The sets 0 to 12.
+fn add_first_sets(table: &mut Table) -> Result<(), Fail> {
+    add_set(table, Expr::Constant(Constant::Empty))?;
+    add_set(table, Expr::Constant(Constant::Start))?;
+    add_set(table, Expr::Constant(Constant::Goal))?;
+    add_set(table, Expr::Node(1))?;
+    add_set(table, Expr::Node(0))?;
+    add_set(table, Expr::Node(1))?;
+    add_set(table, Expr::Or(3, 4))?;
+    add_set(table, Expr::Or(4, 3))?;
+    add_set(table, Expr::And(3, 2))?;
+    add_set(table, Expr::Not(3))?;
+    add_set(table, Expr::And(9, 2))?;
+    add_set(table, Expr::After(3, 0))?;
+    add_set(table, Expr::Before(3, 0))
+}
+
+/// The sets 13 to 28.
+fn add_last_sets(table: &mut Table) -> Result<(), Fail> {
+    add_set(table, Expr::After(3, 1))?;
+    add_set(table, Expr::After(3, 2))?;
+    add_set(table, Expr::After(3, 3))?;
+    add_set(table, Expr::After(4, 1))?;
+    add_set(table, Expr::After(6, 1))?;
+    add_set(table, Expr::Not(4))?;
+    add_set(table, Expr::Before(18, 1))?;
+    add_set(table, Expr::And(6, 5))?;
+    add_set(table, Expr::And(3, 5))?;
+    add_set(table, Expr::And(4, 5))?;
+    add_set(table, Expr::Or(21, 22))?;
+    add_set(table, Expr::And(3, 4))?;
+    add_set(table, Expr::Or(22, 21))?;
+    add_set(table, Expr::And(5, 6))?;
+    add_set(table, Expr::After(3, 4))?;
+    add_set(table, Expr::Before(3, 4))
 }
 
 /// A table of lines, whether good or not: a rule asks only what they say.
 fn example(alloc: Global) -> Result<Table, Fail> {
-    let mut table = action_sets(alloc)?;
-    let sets = [
-        Expr::Constant(Constant::Empty),
-        Expr::Constant(Constant::Start),
-        Expr::Constant(Constant::Goal),
-        Expr::Node(1),
-        Expr::Node(0),
-        Expr::Node(1),
-        Expr::Or(3, 4),
-        Expr::Or(4, 3),
-        Expr::And(3, 2),
-        Expr::Not(3),
-        Expr::And(9, 2),
-        Expr::After(3, 0),
-        Expr::Before(3, 0),
-        Expr::After(3, 1),
-        Expr::After(3, 2),
-        Expr::After(3, 3),
-        Expr::After(4, 1),
-        Expr::After(6, 1),
-        Expr::Not(4),
-        Expr::Before(18, 1),
-        Expr::And(6, 5),
-        Expr::And(3, 5),
-        Expr::And(4, 5),
-        Expr::Or(21, 22),
-        Expr::And(3, 4),
-        Expr::Or(22, 21),
-        Expr::And(5, 6),
-        Expr::After(3, 4),
-        Expr::Before(3, 4),
-    ];
-    for expr in sets {
-        add_set(&mut table, expr)?;
-    }
+    let mut table = Table::new(alloc);
+    add_actions(alloc, &mut table)?;
+    add_first_sets(&mut table)?;
+    add_last_sets(&mut table)?;
     for statement in &CLAIMS {
-        add_claim(&mut table, *statement)?;
+        add_claim(&mut table, *statement, Word::B1, &[])?;
     }
     Ok(table)
-}
-
-/// The identifiers as premises.
-fn premises_of(ids: &[usize]) -> Result<Premises, Fail> {
-    match *ids {
-        [] => Ok(Premises::none()),
-        [first] => Ok(Premises::one(first)),
-        [first, second] => Ok(Premises::two(first, second)),
-        [first, second, third] => Ok(Premises::three(first, second, third)),
-        _ => Err("four premises".into()),
-    }
 }
 
 /// Whether the rule fits, after the lines of the table.

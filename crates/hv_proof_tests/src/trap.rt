@@ -1,71 +1,13 @@
 //! Tests of the greatest trap, and of the proof by it.
 
-ghost use Rattle.std.specs.Prelude.{◌≤◌, IfOk, OnOk};
-ghost use Rattle.hv_task.specs.State.{AreBelow};
-
+use crate::tables::says;
+use crate::tasks::{Change, THREE, WAYS, add, either, task_of, task_with};
 use hv_lines::{Draft, Expr, Line, Statement, Table, Word};
 use hv_sets::Clauses;
-use hv_task::{Action, AtomList, Name, Task};
+use hv_task::Task;
 use hv_trap::{TrapFault, greatest_trap, prove_trap};
 use std::alloc::{AllocError, Global};
 use std::test::Fail;
-
-// Puts the atom in where it is below the bound.
-fn put(list: &mut AtomList, bound: u32, atom: u32) -> Result<(), AllocError>
-    requires { AreBelow bound list.old }
-    ensures { OnOk result (AreBelow bound list.new) }
-{
-    if atom >= bound {
-        return Ok(());
-    }
-    list.insert(atom)?;
-    Ok(())
-}
-
-fn list_of(alloc: Global, bound: u32, atoms: &[u32]) -> Result<AtomList, AllocError>
-    ensures { IfOk result (λ list. AreBelow bound list) }
-{
-    let mut list = AtomList::new(alloc);
-    for atom in atoms {
-        put(&mut list, bound, *atom)?;
-    }
-    Ok(list)
-}
-
-// A task of so many atoms without actions.
-pub(crate) fn task_of(alloc: Global, count: u32, goal: &[u32]) -> Result<Task, AllocError>
-    requires { count ≤ 2000 }
-{
-    let mut task = Task::new(alloc);
-    for number in 0..count {
-        let _ = number;
-        task.add_atom(Name::new(alloc, b"p")?)?;
-    }
-    let list = list_of(alloc, task.atoms(), goal)?;
-    task.set_goal(list);
-    Ok(task)
-}
-
-pub(crate) fn add(
-    alloc: Global,
-    task: &mut Task,
-    pre: &[u32],
-    add: &[u32],
-    del: &[u32],
-) -> Result<(), AllocError> {
-    if task.actions() >= 1000 {
-        return Ok(());
-    }
-    let action = Action {
-        name: Name::new(alloc, b"go")?,
-        cost: 1,
-        pre: list_of(alloc, task.atoms(), pre)?,
-        add: list_of(alloc, task.atoms(), add)?,
-        del: list_of(alloc, task.atoms(), del)?,
-    };
-    task.add_action(action)?;
-    Ok(())
-}
 
 // The clauses as numbers: 1 stands for atom 0, -1 for its negation, and so on; 0 ends a clause.
 fn numbers_in(alloc: Global, clauses: &Clauses) -> Result<Vec<i64>, AllocError> {
@@ -80,19 +22,16 @@ fn numbers_in(alloc: Global, clauses: &Clauses) -> Result<Vec<i64>, AllocError> 
     Ok(numbers)
 }
 
-// Those of the greatest trap.
-fn numbers_of(alloc: Global, task: &Task) -> Result<Vec<i64>, AllocError> {
-    let Ok(clauses) = greatest_trap(alloc, task) else {
-        return Ok(Vec::new(alloc));
-    };
-    numbers_in(alloc, &clauses)
+// Whether the clauses of the greatest trap are these.
+fn is_greatest(alloc: Global, task: &Task, numbers: &[i64]) -> Result<bool, TrapFault> {
+    let clauses = greatest_trap(alloc, task)?;
+    let found = numbers_in(alloc, &clauses)?;
+    Ok(found.as_slice() == numbers)
 }
 
-fn says(table: &Table, id: usize, statement: Statement, word: Word, premises: &[usize]) -> bool {
-    id < table.known_count()
-        && *table.statement(id) == statement
-        && table.word(id) == word
-        && table.premises(id).as_slice() == premises
+// How many clauses the greatest trap has.
+fn clauses_of_greatest(alloc: Global, task: &Task) -> Result<usize, TrapFault> {
+    Ok(greatest_trap(alloc, task)?.len())
 }
 
 // Whether the lines are those of a proof by a trap.
@@ -117,95 +56,112 @@ fn is_proof(table: &Table) -> bool {
     found.iter().all(|yes| *yes)
 }
 
-// The clauses of the formula of the proof.
-fn numbers_by(alloc: Global, draft: &Draft) -> Result<Vec<i64>, AllocError> {
-    let table = draft.table();
+// Whether the formula of the proof has these clauses.
+fn is_by(alloc: Global, table: &Table, numbers: &[i64]) -> Result<bool, AllocError> {
     if table.expr_count() < 4 {
-        return Ok(Vec::new(alloc));
+        return Ok(false);
     }
     match table.expr(3) {
-        Expr::Two(clauses) => numbers_in(alloc, clauses),
-        _ => Ok(Vec::new(alloc)),
+        Expr::Two(clauses) => Ok(numbers_in(alloc, clauses)?.as_slice() == numbers),
+        _ => Ok(false),
+    }
+}
+
+// Whether this is a proof by a formula of these clauses.
+fn proves(alloc: Global, draft: &Draft, numbers: &[i64]) -> Result<bool, AllocError> {
+    Ok(is_proof(draft.table()) & is_by(alloc, draft.table(), numbers)?)
+}
+
+// Whether the task has a proof by a formula of these clauses.
+fn is_proved(alloc: Global, task: &Task, numbers: &[i64]) -> Result<bool, TrapFault> {
+    match prove_trap(alloc, task)? {
+        Some(draft) => Ok(proves(alloc, &draft, numbers)?),
+        None => Ok(false),
     }
 }
 
 // The expected clauses were found by trying all sets of conjunctions on all states.
 
+// Those of three actions that each take away what the next one adds.
+const BY_THREE: &[i64] = &[
+    1, 0, 2, 0, 3, 0, 1, 2, 0, 1, -2, 0, -1, 2, 0, 1, 3, 0, 1, -3, 0, -1, 3, 0, 2, 3, 0, 2, -3, 0,
+    -2, 3, 0,
+];
+
+// Those of two places of which each is left for the other.
+const BY_EITHER: &[i64] = &[1, 0, 2, 0, 1, 2, 0, 1, -2, 0, -1, 2, 0];
+
+// A key for who is at two places.
+const KEY: &[Change] = &[(&[0], &[1], &[0]), (&[1], &[0], &[1]), (&[0, 1], &[2], &[])];
+
+const BY_KEY: &[i64] = &[1, 3, 0, 2, 3, 0];
+
+// An atom that is added and deleted is held.
+const HELD: &[Change] = &[(&[0], &[0, 1], &[0]), (&[1], &[2], &[0])];
+
+const BY_HELD: &[i64] = &[
+    1, 0, 3, 0, 1, 2, 0, 1, -2, 0, 1, 3, 0, 1, -3, 0, -1, 3, 0, 2, 3, 0, -2, 3, 0,
+];
+
 #[test]
 fn three_that_each_take_the_next_away(rt: HostRuntime) -> Result<(), Fail> {
-    let mut task = task_of(rt.alloc(), 3, &[0, 1, 2])?;
-    add(rt.alloc(), &mut task, &[], &[0], &[1])?;
-    add(rt.alloc(), &mut task, &[], &[1], &[2])?;
-    add(rt.alloc(), &mut task, &[], &[2], &[0])?;
-    let Ok(Some(draft)) = prove_trap(rt.alloc(), &task) else {
-        panic!(&rt; "no proof");
-    };
-    assert!(rt; is_proof(draft.table()));
-    assert_eq!(rt;
-        numbers_by(rt.alloc(), &draft)?.as_slice(),
-        [
-            1, 0, 2, 0, 3, 0, 1, 2, 0, 1, -2, 0, -1, 2, 0, 1, 3, 0, 1, -3, 0, -1, 3, 0, 2, 3, 0, 2,
-            -3, 0, -2, 3, 0
-        ]
-        .as_slice()
-    );
+    let task = task_with(rt.alloc(), 3, &[], &[0, 1, 2], THREE)?;
+    assert!(rt; is_proved(rt.alloc(), &task, BY_THREE)?);
     Ok(())
 }
 
 #[test]
 fn two_places_of_which_each_is_left_for_the_other(rt: HostRuntime) -> Result<(), Fail> {
-    let mut task = task_of(rt.alloc(), 2, &[0, 1])?;
-    add(rt.alloc(), &mut task, &[0], &[1], &[0])?;
-    add(rt.alloc(), &mut task, &[1], &[0], &[1])?;
-    assert_eq!(rt;
-        numbers_of(rt.alloc(), &task)?.as_slice(),
-        [1, 0, 2, 0, 1, 2, 0, 1, -2, 0, -1, 2, 0].as_slice()
-    );
+    let task = either(rt.alloc())?;
+    assert!(rt; is_greatest(rt.alloc(), &task, BY_EITHER)?);
     Ok(())
 }
 
 #[test]
 fn a_key_for_who_is_at_two_places(rt: HostRuntime) -> Result<(), Fail> {
-    let mut task = task_of(rt.alloc(), 3, &[2])?;
-    add(rt.alloc(), &mut task, &[0], &[1], &[0])?;
-    add(rt.alloc(), &mut task, &[1], &[0], &[1])?;
-    add(rt.alloc(), &mut task, &[0, 1], &[2], &[])?;
-    assert_eq!(rt;
-        numbers_of(rt.alloc(), &task)?.as_slice(),
-        [1, 3, 0, 2, 3, 0].as_slice()
-    );
+    let task = task_with(rt.alloc(), 3, &[], &[2], KEY)?;
+    assert!(rt; is_greatest(rt.alloc(), &task, BY_KEY)?);
     Ok(())
 }
 
 #[test]
 fn an_atom_added_and_deleted_is_held(rt: HostRuntime) -> Result<(), Fail> {
-    let mut task = task_of(rt.alloc(), 3, &[0, 2])?;
-    add(rt.alloc(), &mut task, &[0], &[0, 1], &[0])?;
-    add(rt.alloc(), &mut task, &[1], &[2], &[0])?;
-    assert_eq!(rt;
-        numbers_of(rt.alloc(), &task)?.as_slice(),
-        [
-            1, 0, 3, 0, 1, 2, 0, 1, -2, 0, 1, 3, 0, 1, -3, 0, -1, 3, 0, 2, 3, 0, -2, 3, 0
-        ]
-        .as_slice()
-    );
+    let task = task_with(rt.alloc(), 3, &[], &[0, 2], HELD)?;
+    assert!(rt; is_greatest(rt.alloc(), &task, BY_HELD)?);
     Ok(())
+}
+
+// Twenty atoms that are the goal, of which each can be added.
+fn twenty(alloc: Global) -> Result<Task, AllocError> {
+    let goal = [
+        0, 1, 2, 3, 4, 5, 6, 7, 8, 9, 10, 11, 12, 13, 14, 15, 16, 17, 18, 19,
+    ];
+    let mut task = task_of(alloc, 20, &[], &goal)?;
+    for atom in goal {
+        add(alloc, &mut task, &[], &[atom], &[])?;
+    }
+    Ok(task)
+}
+
+// A chain of 64 atoms in which each is got from the one before, and the last is the goal.
+fn chain(alloc: Global) -> Result<Task, AllocError> {
+    let mut task = task_of(alloc, 64, &[], &[63])?;
+    for atom in 0..63u32 {
+        add(alloc, &mut task, &[atom], &[atom + 1], &[])?;
+    }
+    Ok(task)
+}
+
+// Whether the trap has no clause, and gives no proof of the task.
+fn has_no_trap(alloc: Global, task: &Task) -> Result<bool, TrapFault> {
+    let none = prove_trap(alloc, task)?.is_none();
+    Ok(none & (clauses_of_greatest(alloc, task)? == 0))
 }
 
 #[test]
 fn none_where_each_atom_can_be_added(rt: HostRuntime) -> Result<(), Fail> {
-    let goal: Vec<u32> = Vec::from_array(
-        rt.alloc(),
-        [
-            0, 1, 2, 3, 4, 5, 6, 7, 8, 9, 10, 11, 12, 13, 14, 15, 16, 17, 18, 19,
-        ],
-    )?;
-    let mut task = task_of(rt.alloc(), 20, goal.as_slice())?;
-    for atom in 0..20u32 {
-        add(rt.alloc(), &mut task, &[], &[atom], &[])?;
-    }
-    assert!(rt; prove_trap(rt.alloc(), &task)?.is_none());
-    assert!(rt; greatest_trap(rt.alloc(), &task)?.is_empty());
+    let task = twenty(rt.alloc())?;
+    assert!(rt; has_no_trap(rt.alloc(), &task)?);
     Ok(())
 }
 
@@ -213,24 +169,21 @@ fn none_where_each_atom_can_be_added(rt: HostRuntime) -> Result<(), Fail> {
 fn none_in_a_chain_in_which_each_atom_is_got_from_the_one_before(
     rt: HostRuntime,
 ) -> Result<(), Fail> {
-    let mut task = task_of(rt.alloc(), 64, &[63])?;
-    for atom in 0..63u32 {
-        add(rt.alloc(), &mut task, &[atom], &[atom + 1], &[])?;
-    }
-    assert!(rt; greatest_trap(rt.alloc(), &task)?.is_empty());
+    let task = chain(rt.alloc())?;
+    assert_eq!(rt; clauses_of_greatest(rt.alloc(), &task)?, 0);
     Ok(())
 }
 
 #[test]
 fn all_conjunctions_where_there_is_no_action(rt: HostRuntime) -> Result<(), Fail> {
-    let task = task_of(rt.alloc(), 64, &[0])?;
-    assert_eq!(rt; greatest_trap(rt.alloc(), &task)?.len(), 127);
+    let task = task_of(rt.alloc(), 64, &[], &[0])?;
+    assert_eq!(rt; clauses_of_greatest(rt.alloc(), &task)?, 127);
     Ok(())
 }
 
 #[test]
 fn more_than_64_atoms_are_too_many(rt: HostRuntime) -> Result<(), Fail> {
-    let task = task_of(rt.alloc(), 65, &[0])?;
+    let task = task_of(rt.alloc(), 65, &[], &[0])?;
     assert!(rt; matches!(prove_trap(rt.alloc(), &task), Err(TrapFault::TooManyAtoms)));
     Ok(())
 }

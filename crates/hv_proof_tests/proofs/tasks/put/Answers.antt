@@ -1,6 +1,6 @@
 use Rattle.std.proofs.Common.{arith}
 use Rattle.hv_task.proofs.Rising.{AreBelow-Inserts}
-use Rattle.hv_proof_tests.proofs.reach.put.Goals as goal
+use Rattle.hv_proof_tests.proofs.tasks.put.Goals as goal
 
 pub returns : goal.returns
 returns c =

@@ -1,6 +1,0 @@
-use Rattle.std.proofs.Common.{◌≡◌}
-use Rattle.hv_task.specs.Strips.{atoms}
-use Rattle.hv_proof_tests.proofs.trap.task_of.Given as goal
-
-abbrev pub invariant-loop-number : goal.invariant-loop-number
-invariant-loop-number l = atoms l.task ≡ l.number
