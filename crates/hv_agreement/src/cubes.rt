@@ -2,6 +2,7 @@
 //! states says.
 
 ghost use Rattle.std.specs.Prelude.{◌≡◌, ◌<◌, IfOk, OnOk};
+ghost use Rattle.hv_task.specs.Strips.{atoms};
 ghost use Rattle.hv_sets.specs.Cubes.{SpeakBelow};
 ghost use Rattle.hv_sets.specs.Walks.{StepSpeaksBelow};
 
@@ -12,6 +13,7 @@ use crate::three::{
 use hv_clauses::{ClauseKind, Formula};
 use hv_horn::HornKind;
 use hv_sets::{Covering, Cube, Cursor, Inside, Literal, Outside, Scratch, StateSet, Step};
+use hv_task::Task;
 use hv_twocnf::TwoKind;
 use std::alloc::{AllocError, Global};
 use std::test::Fail;
@@ -22,10 +24,17 @@ fn cube_from(alloc: Global, number: u32) -> Result<Cube, AllocError>
     ensures { IfOk result (SpeakBelow 3) }
 {
     let mut cube = Cube::new(alloc);
-    put_digit(&mut cube, number % 3, 0)?;
-    put_digit(&mut cube, number / 3 % 3, 1)?;
-    put_digit(&mut cube, number / 9, 2)?;
+    put_digits(&mut cube, number)?;
     Ok(cube)
+}
+
+fn put_digits(cube: &mut Cube, number: u32) -> Result<(), AllocError>
+    requires { SpeakBelow 3 cube.old }
+    ensures { OnOk result (SpeakBelow 3 cube.new) }
+{
+    put_digit(cube, number % 3, 0)?;
+    put_digit(cube, number / 3 % 3, 1)?;
+    put_digit(cube, number / 9, 2)
 }
 
 fn put_digit(cube: &mut Cube, digit: u32, atom: u32) -> Result<(), AllocError>
@@ -257,11 +266,11 @@ fn walks_outside<S: Outside>(
 }
 
 fn counts_outside<S: Outside>(alloc: Global, set: &S, len: u64) -> Result<bool, AllocError> {
-    let mut right = true;
-    for cap in [0, 1, 9, 16777216] {
-        right &= set.outside_count(alloc, cap)? == len.min(cap + 1);
-    }
-    Ok(right)
+    let none = set.outside_count(alloc, 0)? == len.min(1);
+    let one = set.outside_count(alloc, 1)? == len.min(2);
+    let some = set.outside_count(alloc, 9)? == len.min(10);
+    let all = set.outside_count(alloc, 16777216)? == len.min(16777217);
+    Ok(none & one & some & all)
 }
 
 fn outside_is_right<S: Outside>(alloc: Global, set: &S, clauses: &[u32]) -> Result<bool, AllocError>
@@ -307,11 +316,11 @@ fn walks_inside<S: Inside>(
 }
 
 fn counts_inside<S: Inside>(alloc: Global, set: &S, len: u64) -> Result<bool, AllocError> {
-    let mut right = true;
-    for cap in [0, 1, 9, 16777216] {
-        right &= set.inside_count(alloc, cap)? == len.min(cap + 1);
-    }
-    Ok(right)
+    let none = set.inside_count(alloc, 0)? == len.min(1);
+    let one = set.inside_count(alloc, 1)? == len.min(2);
+    let some = set.inside_count(alloc, 9)? == len.min(10);
+    let all = set.inside_count(alloc, 16777216)? == len.min(16777217);
+    Ok(none & one & some & all)
 }
 
 fn inside_is_right<S: Inside>(alloc: Global, set: &S, codes: &[u32]) -> Result<bool, AllocError>
@@ -338,10 +347,21 @@ fn formula_is_right<K: ClauseKind>(
     Ok(cubes & holds & walks & counts)
 }
 
+// The same for the set of these clauses.
+fn set_is_right<K: ClauseKind>(
+    alloc: Global,
+    task: &Task,
+    clauses: &[u32],
+) -> Result<bool, K::Fault>
+    requires { atoms task.now ≡ 3 }
+{
+    let set = formula_of::<K>(alloc, task, clauses)?;
+    Ok(formula_is_right(alloc, &set, clauses)?)
+}
+
 fn clauses_are_right<K: ClauseKind>(alloc: Global, clauses: &[u32]) -> Result<bool, K::Fault> {
     let task = task_of(alloc, 0)?;
-    let set = formula_of::<K>(alloc, &task, clauses)?;
-    Ok(formula_is_right(alloc, &set, clauses)?)
+    set_is_right::<K>(alloc, &task, clauses)
 }
 
 fn is_met_rightly<S: StateSet>(
@@ -414,19 +434,31 @@ fn states_are_right<S: Inside>(alloc: Global, set: &S, codes: &[u32]) -> Result<
     Ok(cubes & holds & walks & counts)
 }
 
-fn listing_is_right(alloc: Global, codes: &[u32]) -> Result<bool, AllocError> {
-    let task = task_of(alloc, 0)?;
-    let set = explicit_of(alloc, &task, codes)?;
+fn list_is_right(alloc: Global, task: &Task, codes: &[u32]) -> Result<bool, AllocError>
+    requires { atoms task.now ≡ 3 }
+{
+    let set = explicit_of(alloc, task, codes)?;
     states_are_right(alloc, &set, codes)
 }
 
+fn listing_is_right(alloc: Global, codes: &[u32]) -> Result<bool, AllocError> {
+    let task = task_of(alloc, 0)?;
+    list_is_right(alloc, &task, codes)
+}
+
 fn horn_code_is_right(alloc: Global, code: u32) -> Result<bool, Fail> {
+    if !is_horn_code(code) {
+        return Ok(true);
+    }
     let alone = clauses_are_right::<HornKind>(alloc, &[code])?;
     let beside = clauses_are_right::<HornKind>(alloc, &[code, 18, 3])?;
     Ok(alone & beside)
 }
 
 fn two_code_is_right(alloc: Global, code: u32) -> Result<bool, Fail> {
+    if !is_two_code(code) {
+        return Ok(true);
+    }
     let alone = clauses_are_right::<TwoKind>(alloc, &[code])?;
     let beside = clauses_are_right::<TwoKind>(alloc, &[code, 18, 3])?;
     Ok(alone & beside)
@@ -436,9 +468,7 @@ fn two_code_is_right(alloc: Global, code: u32) -> Result<bool, Fail> {
 fn cubes_of_horn_formulas_are_answered_as_all_states_say(rt: HostRuntime) -> Result<(), Fail> {
     assert!(rt; clauses_are_right::<HornKind>(rt.alloc(), &[])?);
     for code in 0..128 {
-        if is_horn_code(code) {
-            assert!(rt; horn_code_is_right(rt.alloc(), code)?, "at {code}");
-        }
+        assert!(rt; horn_code_is_right(rt.alloc(), code)?, "at {code}");
     }
     Ok(())
 }
@@ -448,18 +478,17 @@ fn cubes_of_two_cnf_formulas_are_answered_as_all_states_say(rt: HostRuntime) -> 
     assert!(rt; clauses_are_right::<TwoKind>(rt.alloc(), &[])?);
     assert!(rt; clauses_are_right::<TwoKind>(rt.alloc(), &[5, 9, 6, 10])?);
     for code in 0..128 {
-        if is_two_code(code) {
-            assert!(rt; two_code_is_right(rt.alloc(), code)?, "at {code}");
-        }
+        assert!(rt; two_code_is_right(rt.alloc(), code)?, "at {code}");
     }
     Ok(())
 }
 
 #[test]
 fn cubes_of_listed_states_are_answered_as_all_states_say(rt: HostRuntime) -> Result<(), Fail> {
-    let lists: [&[u32]; 5] = [&[], &[0], &[6, 5], &[7, 2, 7, 4], &[7, 6, 5, 4, 3, 2, 1, 0]];
-    for codes in lists {
-        assert!(rt; listing_is_right(rt.alloc(), codes)?);
-    }
+    assert!(rt; listing_is_right(rt.alloc(), &[])?);
+    assert!(rt; listing_is_right(rt.alloc(), &[0])?);
+    assert!(rt; listing_is_right(rt.alloc(), &[6, 5])?);
+    assert!(rt; listing_is_right(rt.alloc(), &[7, 2, 7, 4])?);
+    assert!(rt; listing_is_right(rt.alloc(), &[7, 6, 5, 4, 3, 2, 1, 0])?);
     Ok(())
 }

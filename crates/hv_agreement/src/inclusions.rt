@@ -26,11 +26,32 @@ struct Wanted {
     cost: u64,
 }
 
+// A side of an inclusion: its states, and how many clauses or states it lists.
+#[derive(Clone, Copy)]
+struct Side {
+    states: u32,
+    size: u64,
+}
+
+fn side_of_clauses(clauses: &[u32]) -> Side {
+    Side {
+        states: states_of_clauses(clauses),
+        size: clauses.len() as u64,
+    }
+}
+
+fn side_of_list(codes: &[u32]) -> Side {
+    Side {
+        states: states_of_list(codes),
+        size: codes.len() as u64,
+    }
+}
+
 // The cost is the number of clauses or states of the one side.
-fn wanted_of(clashes: u32, codes: &[u32]) -> Wanted {
+fn wanted_of(clashes: u32, side: Side) -> Wanted {
     Wanted {
         clashes,
-        cost: codes.len() as u64,
+        cost: side.size,
     }
 }
 
@@ -159,21 +180,21 @@ fn together_rightly<'a, L: OutsideWalked<'a>, R: OutsideAsked<'a>>(
 }
 
 // Whether the inclusion of the first in the second, and that of all states in both, are answered
-// rightly. These are the states and the clauses of each.
+// rightly.
 fn pair_is_right<L: ClauseKind, R: ClauseKind>(
     alloc: Global,
     first: &Formula<L>,
     second: &Formula<R>,
-    left: &[u32],
-    right: &[u32],
+    left: Side,
+    right: Side,
     scratch: &mut Scratch,
 ) -> Result<bool, AllocError>
     requires first { first.now.atoms ≡ 3 }
     requires second { second.now.atoms ≡ 3 }
 {
-    let outside = ALL & !states_of_clauses(right);
-    let within = wanted_of(states_of_clauses(left) & outside, right);
-    let together = wanted_of(outside & !states_of_clauses(left), left);
+    let outside = ALL & !right.states;
+    let within = wanted_of(left.states & outside, right);
+    let together = wanted_of(outside & !left.states, left);
     let one = within_rightly(alloc, first, second, within, scratch)?;
     let other = together_rightly(alloc, first, second, together, scratch)?;
     Ok(one & other)
@@ -184,16 +205,30 @@ fn both_are_right<L: ClauseKind, R: ClauseKind>(
     alloc: Global,
     first: &Formula<L>,
     second: &Formula<R>,
-    left: &[u32],
-    right: &[u32],
+    left: Side,
+    right: Side,
+    scratch: &mut Scratch,
+) -> Result<bool, AllocError>
+    requires first { first.now.atoms ≡ 3 }
+    requires second { second.now.atoms ≡ 3 }
+{
+    let one = pair_is_right(alloc, first, second, left, right, scratch)?;
+    let other = pair_is_right(alloc, second, first, right, left, scratch)?;
+    Ok(one & other)
+}
+
+fn formulas_are_right<L: ClauseKind, R: ClauseKind>(
+    alloc: Global,
+    first: &Formula<L>,
+    second: &Formula<R>,
+    left: Side,
+    right: Side,
 ) -> Result<bool, AllocError>
     requires first { first.now.atoms ≡ 3 }
     requires second { second.now.atoms ≡ 3 }
 {
     let mut scratch = Scratch::new(alloc)?;
-    let one = pair_is_right(alloc, first, second, left, right, &mut scratch)?;
-    let other = pair_is_right(alloc, second, first, right, left, &mut scratch)?;
-    Ok(one & other)
+    both_are_right(alloc, first, second, left, right, &mut scratch)
 }
 
 // The same where the second is a set of these clauses of two literals.
@@ -201,21 +236,27 @@ fn two_are_right(
     alloc: Global,
     task: &Task,
     first: &Formula<HornKind>,
-    horn: &[u32],
+    left: Side,
     two: &[u32],
 ) -> Result<bool, Fail>
     requires task { atoms task.now ≡ 3 }
     requires first { first.now.atoms ≡ 3 }
 {
     let second = formula_of::<TwoKind>(alloc, task, two)?;
-    Ok(both_are_right(alloc, first, &second, horn, two)?)
+    Ok(formulas_are_right(alloc, first, &second, left, side_of_clauses(two))?)
 }
 
 // A set of Horn clauses and one of clauses of two literals.
+fn sets_are_right(alloc: Global, task: &Task, horn: &[u32], two: &[u32]) -> Result<bool, Fail>
+    requires { atoms task.now ≡ 3 }
+{
+    let first = formula_of::<HornKind>(alloc, task, horn)?;
+    two_are_right(alloc, task, &first, side_of_clauses(horn), two)
+}
+
 fn clauses_are_right(alloc: Global, horn: &[u32], two: &[u32]) -> Result<bool, Fail> {
     let task = task_of(alloc, 0)?;
-    let first = formula_of::<HornKind>(alloc, &task, horn)?;
-    two_are_right(alloc, &task, &first, horn, two)
+    sets_are_right(alloc, &task, horn, two)
 }
 
 // A set of listed states on the left, and one of clauses of any kind.
@@ -223,20 +264,32 @@ fn states_are_right<K: ClauseKind>(
     alloc: Global,
     listing: &Explicit,
     formula: &Formula<K>,
-    codes: &[u32],
-    clauses: &[u32],
+    left: Side,
+    right: Side,
+    scratch: &mut Scratch,
 ) -> Result<bool, AllocError>
     requires listing { listing.now.atoms ≡ 3 }
     requires formula { formula.now.atoms ≡ 3 }
 {
-    let listed = states_of_list(codes);
-    let kept = states_of_clauses(clauses);
-    let within = wanted_of(listed & !kept, codes);
-    let apart = wanted_of(listed & kept, codes);
-    let mut scratch = Scratch::new(alloc)?;
-    let one = within_states_rightly(alloc, listing, formula, within, &mut scratch)?;
-    let other = apart_rightly(alloc, listing, formula, apart, &mut scratch)?;
+    let within = wanted_of(left.states & !right.states, left);
+    let apart = wanted_of(left.states & right.states, left);
+    let one = within_states_rightly(alloc, listing, formula, within, scratch)?;
+    let other = apart_rightly(alloc, listing, formula, apart, scratch)?;
     Ok(one & other)
+}
+
+fn answers_are_right<K: ClauseKind>(
+    alloc: Global,
+    listing: &Explicit,
+    formula: &Formula<K>,
+    left: Side,
+    right: Side,
+) -> Result<bool, AllocError>
+    requires listing { listing.now.atoms ≡ 3 }
+    requires formula { formula.now.atoms ≡ 3 }
+{
+    let mut scratch = Scratch::new(alloc)?;
+    states_are_right(alloc, listing, formula, left, right, &mut scratch)
 }
 
 // The same for a set of these clauses.
@@ -244,24 +297,15 @@ fn formula_is_right<K: ClauseKind>(
     alloc: Global,
     task: &Task,
     listing: &Explicit,
-    codes: &[u32],
+    left: Side,
     clauses: &[u32],
 ) -> Result<bool, K::Fault>
     requires task { atoms task.now ≡ 3 }
     requires listing { listing.now.atoms ≡ 3 }
 {
     let formula = formula_of::<K>(alloc, task, clauses)?;
-    Ok(states_are_right(alloc, listing, &formula, codes, clauses)?)
-}
-
-fn listing_is_right<K: ClauseKind>(
-    alloc: Global,
-    codes: &[u32],
-    clauses: &[u32],
-) -> Result<bool, K::Fault> {
-    let task = task_of(alloc, 0)?;
-    let listing = explicit_of(alloc, &task, codes)?;
-    formula_is_right::<K>(alloc, &task, &listing, codes, clauses)
+    let right = side_of_clauses(clauses);
+    Ok(answers_are_right(alloc, listing, &formula, left, right)?)
 }
 
 fn codes_are_right(alloc: Global, horn: u32, two: u32) -> Result<bool, Fail> {
@@ -282,28 +326,61 @@ fn row_is_right(alloc: Global, horn: u32) -> Result<bool, Fail> {
     Ok(right)
 }
 
-fn empty_is_right(alloc: Global, codes: &[u32]) -> Result<bool, Fail> {
-    let horn = listing_is_right::<HornKind>(alloc, codes, &[])?;
-    let two = listing_is_right::<TwoKind>(alloc, codes, &[])?;
+fn empty_is_right(alloc: Global, task: &Task, listing: &Explicit, left: Side) -> Result<bool, Fail>
+    requires task { atoms task.now ≡ 3 }
+    requires listing { listing.now.atoms ≡ 3 }
+{
+    let horn = formula_is_right::<HornKind>(alloc, task, listing, left, &[])?;
+    let two = formula_is_right::<TwoKind>(alloc, task, listing, left, &[])?;
     Ok(horn & two)
 }
 
-fn code_is_right(alloc: Global, codes: &[u32], code: u32) -> Result<bool, Fail> {
+fn code_is_right(
+    alloc: Global,
+    task: &Task,
+    listing: &Explicit,
+    left: Side,
+    code: u32,
+) -> Result<bool, Fail>
+    requires task { atoms task.now ≡ 3 }
+    requires listing { listing.now.atoms ≡ 3 }
+{
     if !is_horn_code(code) | !is_two_code(code) {
         return Ok(true);
     }
-    let horn = listing_is_right::<HornKind>(alloc, codes, &[3, code])?;
-    let two = listing_is_right::<TwoKind>(alloc, codes, &[code, 3])?;
+    let horn = formula_is_right::<HornKind>(alloc, task, listing, left, &[3, code])?;
+    let two = formula_is_right::<TwoKind>(alloc, task, listing, left, &[code, 3])?;
     Ok(horn & two)
 }
 
 // Whether a set of listed states and a set of each clause of both kinds are.
-fn list_is_right(alloc: Global, codes: &[u32]) -> Result<bool, Fail> {
-    let mut right = empty_is_right(alloc, codes)?;
+fn listing_is_right(
+    alloc: Global,
+    task: &Task,
+    listing: &Explicit,
+    left: Side,
+) -> Result<bool, Fail>
+    requires task { atoms task.now ≡ 3 }
+    requires listing { listing.now.atoms ≡ 3 }
+{
+    let mut right = empty_is_right(alloc, task, listing, left)?;
     for code in 0..64 {
-        right &= code_is_right(alloc, codes, code)?;
+        right &= code_is_right(alloc, task, listing, left, code)?;
     }
     Ok(right)
+}
+
+// The same for the set of these listed states.
+fn listed_are_right(alloc: Global, task: &Task, codes: &[u32]) -> Result<bool, Fail>
+    requires { atoms task.now ≡ 3 }
+{
+    let listing = explicit_of(alloc, task, codes)?;
+    listing_is_right(alloc, task, &listing, side_of_list(codes))
+}
+
+fn list_is_right(alloc: Global, codes: &[u32]) -> Result<bool, Fail> {
+    let task = task_of(alloc, 0)?;
+    listed_are_right(alloc, &task, codes)
 }
 
 // The sets go from the empty one to that of all states; a clause that is true in all states has no
@@ -319,9 +396,10 @@ fn clauses_of_two_kinds_include_each_other_as_all_states_say(rt: HostRuntime) ->
 
 #[test]
 fn listed_states_are_included_and_apart_as_all_states_say(rt: HostRuntime) -> Result<(), Fail> {
-    let lists: [&[u32]; 5] = [&[], &[7], &[7, 2], &[7, 2, 7], &[7, 2, 7, 4]];
-    for codes in lists {
-        assert!(rt; list_is_right(rt.alloc(), codes)?);
-    }
+    assert!(rt; list_is_right(rt.alloc(), &[])?);
+    assert!(rt; list_is_right(rt.alloc(), &[7])?);
+    assert!(rt; list_is_right(rt.alloc(), &[7, 2])?);
+    assert!(rt; list_is_right(rt.alloc(), &[7, 2, 7])?);
+    assert!(rt; list_is_right(rt.alloc(), &[7, 2, 7, 4])?);
     Ok(())
 }

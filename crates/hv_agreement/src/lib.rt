@@ -8,6 +8,8 @@ mod inclusions;
 #[cfg(test)]
 mod nodes;
 #[cfg(test)]
+mod operands;
+#[cfg(test)]
 mod queries;
 #[cfg(test)]
 mod tests;

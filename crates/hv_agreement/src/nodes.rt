@@ -27,11 +27,16 @@ const PAIRED: &[u8] = b"nodes 6\n1 1 0\n0 2 0\n0 0 2\n2 0 1\n1 0 5\n0 5 1\n";
 
 const PAIRED_SETS: [u32; 8] = [0, 255, 51, 17, 34, 240, 192, 250];
 
+fn shelf_of(alloc: Global, text: &[u8]) -> Result<SureShelf, AllocError> {
+    let mut shelf = SureShelf::new(alloc);
+    shelf.add(NAME, text)?;
+    Ok(shelf)
+}
+
 fn list_of(alloc: Global, text: &[u8]) -> Result<Diagrams, NodesFault>
     ensures { IfOk result (λ list. list.atoms ≡ 3) }
 {
-    let mut shelf = SureShelf::new(alloc);
-    shelf.add(NAME, text)?;
+    let mut shelf = shelf_of(alloc, text)?;
     read_nodes(alloc, &mut shelf, NAME, 3, Limits::STANDARD)
 }
 
@@ -106,28 +111,42 @@ fn node_is_right(
     Ok(holds & met & covered)
 }
 
-fn queries_are_right(alloc: Global, text: &[u8], sets: &[u32; 8]) -> Result<bool, NodesFault> {
-    let list = list_of(alloc, text)?;
+// Whether the queries of the nodes are answered rightly, where the list has eight.
+fn pairs_are_right(alloc: Global, list: &Diagrams, sets: &[u32; 8]) -> Result<bool, AllocError>
+    requires { list.now.atoms ≡ 3 }
+{
     if list.count() != 8 {
         return Ok(false);
     }
     let mut right = true;
     for first in 0..4 {
-        right &= pair_is_right(alloc, &list, first, sets)?;
+        right &= pair_is_right(alloc, list, first, sets)?;
+    }
+    Ok(right)
+}
+
+fn queries_are_right(alloc: Global, text: &[u8], sets: &[u32; 8]) -> Result<bool, NodesFault> {
+    let list = list_of(alloc, text)?;
+    Ok(pairs_are_right(alloc, &list, sets)?)
+}
+
+// The same of their cubes and states.
+fn nodes_are_right(alloc: Global, list: &Diagrams, sets: &[u32; 8]) -> Result<bool, AllocError>
+    requires { list.now.atoms ≡ 3 }
+{
+    if list.count() != 8 {
+        return Ok(false);
+    }
+    let mut right = true;
+    for number in 0..8 {
+        right &= node_is_right(alloc, list, number, sets)?;
     }
     Ok(right)
 }
 
 fn sets_are_right(alloc: Global, text: &[u8], sets: &[u32; 8]) -> Result<bool, NodesFault> {
     let list = list_of(alloc, text)?;
-    if list.count() != 8 {
-        return Ok(false);
-    }
-    let mut right = true;
-    for number in 0..8 {
-        right &= node_is_right(alloc, &list, number, sets)?;
-    }
-    Ok(right)
+    Ok(nodes_are_right(alloc, &list, sets)?)
 }
 
 #[test]

@@ -12,6 +12,7 @@ ghost use Rattle.hv_clauses.specs.Store.{AreOver, formula_at};
 ghost use Rattle.hv_explicit.specs.Listing as listing;
 ghost use Rattle.hv_agreement.specs.declared.queries.Measure.TheVariants as M;
 
+use crate::operands::{one_operand, operand, two_operands};
 use crate::three::{
     ALL, GOAL_STATES, START_STATES, explicit_of, fits, formula_of, holding, is_horn_code,
     is_two_code, leading_to, states_of_clauses, states_of_list, task_of,
@@ -20,7 +21,7 @@ use crate::tuples::live_tuples;
 use hv_clauses::{ClauseKind, Formulas};
 use hv_explicit::Explicits;
 use hv_horn::HornKind;
-use hv_sets::{Family, Finding, Operand, Operands, Query, Scratch, Which};
+use hv_sets::{Family, Finding, Operands, Query, Scratch, Which};
 use hv_task::Task;
 use hv_twocnf::TwoKind;
 use std::alloc::{AllocError, Global};
@@ -162,17 +163,18 @@ fn is_askable(measure: Measure, case: Case) -> bool
     case.joined.is_some() || !case.positive_after
 }
 
-fn operand(which: Which, id: usize, after: bool) -> Operand
-    ensures { result ≡ record { which = which; id = id; after = after } }
+// The number of the action, if there is one.
+fn action_of(acts: bool) -> Option<u32>
+    ensures zero { IfSome result (λ action. action ≡ 0) }
+    ensures none { result ≡ None → acts ≡ false }
 {
-    Operand { which, id, after }
+    if acts { Some(0) } else { None }
 }
 
-// A query of one positive operand.
+// A query of one positive operand and one negative one.
 fn plain_query(alloc: Global, case: Case) -> Result<Query, AllocError>
     requires positive { IsNamed case.count case.positive }
     requires negative { IsNamed case.count case.negative }
-    requires other { IfSome case.other (IsNamed case.count) }
     requires positive_after { case.acts ≡ false → case.positive_after ≡ false }
     requires negative_after { case.acts ≡ false → case.negative_after ≡ false }
     ensures ready { IfOk result (IsReady case.count) }
@@ -181,24 +183,39 @@ fn plain_query(alloc: Global, case: Case) -> Result<Query, AllocError>
     ensures action { IfOk result (λ query. IfSome query.action (λ action. action ≡ 0)) }
     ensures one { IfOk result (λ query. query.positive
         ≡ record { which = case.positive; id = 0; after = case.positive_after } ∷ []) }
-    ensures alone { case.other ≡ None → IfOk result (λ query. query.negative
+    ensures alone { IfOk result (λ query. query.negative
         ≡ record { which = case.negative; id = 1; after = case.negative_after } ∷ []) }
 {
     let mut query = Query {
         positive: Operands::new(alloc),
         negative: Operands::new(alloc),
-        action: if case.acts { Some(0) } else { None },
+        action: action_of(case.acts),
     };
-    query
-        .positive
-        .push(operand(case.positive, 0, case.positive_after))?;
-    query
-        .negative
-        .push(operand(case.negative, 1, case.negative_after))?;
-    if let Some(which) = case.other {
-        query.negative.push(operand(which, 2, false))?;
-    }
+    let first = operand(case.positive, 0, case.positive_after);
+    query.positive.push(first)?;
+    let second = operand(case.negative, 1, case.negative_after);
+    query.negative.push(second)?;
     Ok(query)
+}
+
+// A query of one positive operand and two negative ones.
+fn wider_query(alloc: Global, case: Case, other: Which) -> Result<Query, AllocError>
+    requires positive { IsNamed case.count case.positive }
+    requires negative { IsNamed case.count case.negative }
+    requires other { IsNamed case.count other }
+    requires positive_after { case.acts ≡ false → case.positive_after ≡ false }
+    requires negative_after { case.acts ≡ false → case.negative_after ≡ false }
+    ensures ready { IfOk result (IsReady case.count) }
+    ensures anchor { (case.positive ≡ W.Goal → ⊥) → case.positive_after ≡ false
+        → IfOk result HasAnchor }
+    ensures action { IfOk result (λ query. IfSome query.action (λ action. action ≡ 0)) }
+{
+    let last = operand(other, 2, false);
+    Ok(Query {
+        positive: one_operand(alloc, case.positive, 0, case.positive_after)?,
+        negative: two_operands(alloc, case.negative, 1, case.negative_after, last)?,
+        action: action_of(case.acts),
+    })
 }
 
 // A query of two positive operands.
@@ -212,19 +229,30 @@ fn joined_query(alloc: Global, case: Case, joined: Which) -> Result<Query, Alloc
     ensures anchor { (case.positive ≡ W.Goal → ⊥) → IfOk result HasAnchor }
     ensures action { IfOk result (λ query. IfSome query.action (λ action. action ≡ 0)) }
 {
-    let mut query = Query {
-        positive: Operands::new(alloc),
-        negative: Operands::new(alloc),
-        action: if case.acts { Some(0) } else { None },
-    };
-    query.positive.push(operand(case.positive, 0, false))?;
-    query
-        .positive
-        .push(operand(joined, 1, case.positive_after))?;
-    query
-        .negative
-        .push(operand(case.negative, 2, case.negative_after))?;
-    Ok(query)
+    let second = operand(joined, 1, case.positive_after);
+    Ok(Query {
+        positive: two_operands(alloc, case.positive, 0, false, second)?,
+        negative: one_operand(alloc, case.negative, 2, case.negative_after)?,
+        action: action_of(case.acts),
+    })
+}
+
+// A query of one positive operand.
+fn single_query(alloc: Global, case: Case) -> Result<Query, AllocError>
+    requires positive { IsNamed case.count case.positive }
+    requires negative { IsNamed case.count case.negative }
+    requires other { IfSome case.other (IsNamed case.count) }
+    requires positive_after { case.acts ≡ false → case.positive_after ≡ false }
+    requires negative_after { case.acts ≡ false → case.negative_after ≡ false }
+    ensures ready { IfOk result (IsReady case.count) }
+    ensures anchor { (case.positive ≡ W.Goal → ⊥) → case.positive_after ≡ false
+        → IfOk result HasAnchor }
+    ensures action { IfOk result (λ query. IfSome query.action (λ action. action ≡ 0)) }
+{
+    match case.other {
+        None => plain_query(alloc, case),
+        Some(other) => wider_query(alloc, case, other),
+    }
 }
 
 fn query_of(alloc: Global, case: Case) -> Result<Query, AllocError>
@@ -240,7 +268,7 @@ fn query_of(alloc: Global, case: Case) -> Result<Query, AllocError>
     ensures action { IfOk result (λ query. IfSome query.action (λ action. action ≡ 0)) }
 {
     match case.joined {
-        None => plain_query(alloc, case),
+        None => single_query(alloc, case),
         Some(joined) => joined_query(alloc, case, joined),
     }
 }
@@ -386,6 +414,28 @@ fn query_is_right<F: Family>(
     Ok(right)
 }
 
+// The same for the query of this case.
+fn answer_is_right<F: Family>(
+    alloc: Global,
+    task: &Task,
+    sets: &F,
+    query: &Query,
+    case: Case,
+    wanted: Wanted,
+    scratch: &mut Scratch,
+) -> Result<bool, AllocError>
+    requires ready { IsReady (F.count sets.now) query.now }
+    requires anchor { F.wants_anchor sets.now → HasAnchor query.now }
+    requires task { F.is_over sets.now (atoms task.now) }
+    requires action { IfSome query.now.action (λ action. action < length task.now.actions) }
+{
+    let answer = Answer {
+        clashes: clashes_of(case, wanted),
+        cost: cost_of(alloc, case, query, wanted)?,
+    };
+    query_is_right(alloc, task, sets, query, answer, scratch)
+}
+
 // The same for the case of this number, where it can be asked about.
 fn case_is_right<F: Family>(
     alloc: Global,
@@ -407,11 +457,7 @@ fn case_is_right<F: Family>(
         return Ok(true);
     }
     let query = query_of(alloc, case)?;
-    let answer = Answer {
-        clashes: clashes_of(case, wanted),
-        cost: cost_of(alloc, case, &query, wanted)?,
-    };
-    query_is_right(alloc, task, sets, &query, answer, scratch)
+    answer_is_right(alloc, task, sets, &query, case, wanted, scratch)
 }
 
 // Whether each query is answered rightly.
@@ -485,7 +531,6 @@ fn ask_in<K: ClauseKind>(
     requires over { AreOver sets.now (atoms task.now) }
     requires positive { IsNamed case.count case.positive }
     requires negative { IsNamed case.count case.negative }
-    requires other { case.other ≡ None }
     requires positive_after { case.acts ≡ false → case.positive_after ≡ false }
     requires negative_after { case.acts ≡ false → case.negative_after ≡ false }
 {
@@ -566,6 +611,38 @@ fn budgets_are_right_in<K: ClauseKind>(
     Ok(right)
 }
 
+fn add_formula<K: ClauseKind>(
+    alloc: Global,
+    task: &Task,
+    sets: &mut Formulas<K>,
+    clauses: &[u32],
+) -> Result<(), K::Fault>
+    requires task { atoms task.now ≡ 3 }
+    requires over { AreOver sets.old 3 }
+    ensures len { OnOk result (length sets.new ≡ length sets.old + 1) }
+    ensures over { OnOk result (AreOver sets.new 3) }
+{
+    let set = formula_of::<K>(alloc, task, clauses)?;
+    sets.add(set)?;
+    Ok(())
+}
+
+fn add_formulas<K: ClauseKind>(
+    alloc: Global,
+    task: &Task,
+    sets: &mut Formulas<K>,
+    first: &[u32],
+    second: &[u32],
+) -> Result<(), K::Fault>
+    requires task { atoms task.now ≡ 3 }
+    requires none { sets.old ≡ [] }
+    ensures len { OnOk result (length sets.new ≡ 2) }
+    ensures over { OnOk result (AreOver sets.new 3) }
+{
+    add_formula::<K>(alloc, task, sets, first)?;
+    add_formula::<K>(alloc, task, sets, second)
+}
+
 fn store_of<K: ClauseKind>(
     alloc: Global,
     task: &Task,
@@ -577,8 +654,7 @@ fn store_of<K: ClauseKind>(
     ensures over { IfOk result (λ sets. AreOver sets 3) }
 {
     let mut sets = Formulas::<K>::new(alloc);
-    sets.add(formula_of::<K>(alloc, task, first)?)?;
-    sets.add(formula_of::<K>(alloc, task, second)?)?;
+    add_formulas::<K>(alloc, task, &mut sets, first, second)?;
     Ok(sets)
 }
 
@@ -625,6 +701,20 @@ fn sets_are_right<K: ClauseKind>(
 }
 
 // The same for the sets of these clauses, where the action asks for these atoms.
+fn store_is_right<K: ClauseKind>(
+    alloc: Global,
+    task: &Task,
+    pre: u32,
+    first: &[u32],
+    second: &[u32],
+) -> Result<bool, K::Fault>
+    requires atoms { atoms task.now ≡ 3 }
+    requires actions { length task.now.actions ≡ 1 }
+{
+    let sets = store_of::<K>(alloc, task, first, second)?;
+    Ok(sets_are_right(alloc, task, &sets, clauses_wanted(pre, first, second))?)
+}
+
 fn clauses_are_right<K: ClauseKind>(
     alloc: Global,
     pre: u32,
@@ -632,20 +722,63 @@ fn clauses_are_right<K: ClauseKind>(
     second: &[u32],
 ) -> Result<bool, K::Fault> {
     let task = task_of(alloc, pre)?;
-    let sets = store_of::<K>(alloc, &task, first, second)?;
-    Ok(sets_are_right(alloc, &task, &sets, clauses_wanted(pre, first, second))?)
+    store_is_right::<K>(alloc, &task, pre, first, second)
 }
 
 // The same of those of one positive and one negative operand alone.
+fn plain_is_right<K: ClauseKind>(
+    alloc: Global,
+    task: &Task,
+    first: &[u32],
+    second: &[u32],
+) -> Result<bool, K::Fault>
+    requires atoms { atoms task.now ≡ 3 }
+    requires actions { length task.now.actions ≡ 1 }
+{
+    let sets = store_of::<K>(alloc, task, first, second)?;
+    let wanted = clauses_wanted(1, first, second);
+    Ok(all_are_right_in(alloc, task, &sets, wanted, Budget::Exact)?)
+}
+
 fn pair_is_right<K: ClauseKind>(
     alloc: Global,
     first: &[u32],
     second: &[u32],
 ) -> Result<bool, K::Fault> {
     let task = task_of(alloc, 1)?;
-    let sets = store_of::<K>(alloc, &task, first, second)?;
-    let wanted = clauses_wanted(1, first, second);
-    Ok(all_are_right_in(alloc, &task, &sets, wanted, Budget::Exact)?)
+    plain_is_right::<K>(alloc, &task, first, second)
+}
+
+fn add_listing(
+    alloc: Global,
+    task: &Task,
+    sets: &mut Explicits,
+    states: &[u32],
+) -> Result<(), AllocError>
+    requires task { atoms task.now ≡ 3 }
+    requires over { listing.AreOver sets.old 3 }
+    ensures len { OnOk result (length sets.new ≡ length sets.old + 1) }
+    ensures over { OnOk result (listing.AreOver sets.new 3) }
+{
+    let set = explicit_of(alloc, task, states)?;
+    sets.add(set)?;
+    Ok(())
+}
+
+fn add_listings(
+    alloc: Global,
+    task: &Task,
+    sets: &mut Explicits,
+    first: &[u32],
+    second: &[u32],
+) -> Result<(), AllocError>
+    requires task { atoms task.now ≡ 3 }
+    requires none { sets.old ≡ [] }
+    ensures len { OnOk result (length sets.new ≡ 2) }
+    ensures over { OnOk result (listing.AreOver sets.new 3) }
+{
+    add_listing(alloc, task, sets, first)?;
+    add_listing(alloc, task, sets, second)
 }
 
 fn listings_of(
@@ -659,8 +792,7 @@ fn listings_of(
     ensures over { IfOk result (λ sets. listing.AreOver sets 3) }
 {
     let mut sets = Explicits::new(alloc);
-    sets.add(explicit_of(alloc, task, first)?)?;
-    sets.add(explicit_of(alloc, task, second)?)?;
+    add_listings(alloc, task, &mut sets, first, second)?;
     Ok(sets)
 }
 
@@ -688,6 +820,20 @@ fn states_wanted(pre: u32, first: &[u32], second: &[u32]) -> Wanted
 }
 
 // The same for the sets of these states.
+fn states_are_right(
+    alloc: Global,
+    task: &Task,
+    pre: u32,
+    first: &[u32],
+    second: &[u32],
+) -> Result<bool, AllocError>
+    requires atoms { atoms task.now ≡ 3 }
+    requires actions { length task.now.actions ≡ 1 }
+{
+    let sets = listings_of(alloc, task, first, second)?;
+    all_are_right(alloc, task, &sets, states_wanted(pre, first, second))
+}
+
 fn listings_are_right(
     alloc: Global,
     pre: u32,
@@ -695,8 +841,7 @@ fn listings_are_right(
     second: &[u32],
 ) -> Result<bool, AllocError> {
     let task = task_of(alloc, pre)?;
-    let sets = listings_of(alloc, &task, first, second)?;
-    all_are_right(alloc, &task, &sets, states_wanted(pre, first, second))
+    states_are_right(alloc, &task, pre, first, second)
 }
 
 // A clause to stand beside another: the empty one, one that is true in all states, implications,
@@ -760,34 +905,31 @@ fn all_pairs_of_horn_clauses_answer_as_all_states_say(rt: HostRuntime) -> Result
 // The first formula has no state, which no clause of one literal shows.
 #[test]
 fn two_cnf_formulas_answer_as_all_states_say(rt: HostRuntime) -> Result<(), Fail> {
-    let rows: [(u32, &[u32], &[u32]); 3] = [
-        (0, &[5, 9, 6, 10], &[5]),
-        (1, &[9, 24, 6], &[5, 9, 6, 10]),
-        (1, &[], &[5, 34]),
-    ];
-    for (pre, first, second) in rows {
-        assert!(rt; clauses_are_right::<TwoKind>(rt.alloc(), pre, first, second)?);
-    }
+    assert!(rt; clauses_are_right::<TwoKind>(rt.alloc(), 0, &[5, 9, 6, 10], &[5])?);
+    assert!(rt; clauses_are_right::<TwoKind>(rt.alloc(), 1, &[9, 24, 6], &[5, 9, 6, 10])?);
+    assert!(rt; clauses_are_right::<TwoKind>(rt.alloc(), 1, &[], &[5, 34])?);
     for code in 0..128 {
         assert!(rt; two_code_is_right(rt.alloc(), code)?, "at {code}");
     }
     Ok(())
 }
 
+const ALL_CODES: [u32; 8] = [0, 1, 2, 3, 4, 5, 6, 7];
+
+// Without a precondition, and with one.
+fn both_are_right(alloc: Global, first: &[u32], second: &[u32]) -> Result<bool, AllocError> {
+    let without = listings_are_right(alloc, 0, first, second)?;
+    let with_one = listings_are_right(alloc, 1, first, second)?;
+    Ok(without & with_one)
+}
+
 #[test]
 fn listed_states_answer_as_all_states_say(rt: HostRuntime) -> Result<(), Fail> {
-    let all = [0, 1, 2, 3, 4, 5, 6, 7];
-    let rows: [(&[u32], &[u32]); 6] = [
-        (&[], &all),
-        (&[5], &[6]),
-        (&[7, 5, 3, 1], &[2, 3, 6, 7]),
-        (&[1, 4, 5, 7], &[5, 4, 2, 1, 5]),
-        (&all, &[0, 7]),
-        (&[2, 3], &[2, 3]),
-    ];
-    for (first, second) in rows {
-        assert!(rt; listings_are_right(rt.alloc(), 0, first, second)?);
-        assert!(rt; listings_are_right(rt.alloc(), 1, first, second)?);
-    }
+    assert!(rt; both_are_right(rt.alloc(), &[], &ALL_CODES)?);
+    assert!(rt; both_are_right(rt.alloc(), &[5], &[6])?);
+    assert!(rt; both_are_right(rt.alloc(), &[7, 5, 3, 1], &[2, 3, 6, 7])?);
+    assert!(rt; both_are_right(rt.alloc(), &[1, 4, 5, 7], &[5, 4, 2, 1, 5])?);
+    assert!(rt; both_are_right(rt.alloc(), &ALL_CODES, &[0, 7])?);
+    assert!(rt; both_are_right(rt.alloc(), &[2, 3], &[2, 3])?);
     Ok(())
 }

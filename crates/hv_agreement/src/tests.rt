@@ -10,15 +10,23 @@ ghost use Rattle.hv_sets.specs.declared.operand.Which.TheVariants as W;
 ghost use Rattle.hv_clauses.specs.Clausal.{AreClauses, sizes_of};
 ghost use Rattle.hv_clauses.specs.Store.{AreOver, formula_at};
 
+use crate::operands::one_operand;
 use hv_clauses::{ClauseKind, Formula, Formulas};
 use hv_horn::{Horn, HornFault, HornKind};
-use hv_sets::{
-    Clause, Clauses, Family, Finding, Literal, Operand, Operands, Query, Scratch, Which,
-};
+use hv_sets::{Clause, Clauses, Family, Finding, Literal, Query, Scratch, Which};
 use hv_task::{Name, State, Task};
 use hv_twocnf::{TwoCnf, TwoCnfFault, TwoKind};
 use std::alloc::{AllocError, Global};
 use std::test::Fail;
+
+fn add_atom(alloc: Global, task: &mut Task) -> Result<(), AllocError>
+    requires { atoms task.old < 200 }
+    ensures { OnOk result (atoms task.new ≡ atoms task.old + 1) }
+{
+    let name = Name::new(alloc, b"p")?;
+    task.add_atom(name)?;
+    Ok(())
+}
 
 // A task of so many atoms, without actions.
 fn task_of(alloc: Global, count: u32) -> Result<Task, AllocError>
@@ -27,7 +35,7 @@ fn task_of(alloc: Global, count: u32) -> Result<Task, AllocError>
 {
     let mut task = Task::new(alloc);
     for _number in 0..count {
-        task.add_atom(Name::new(alloc, b"p")?)?;
+        add_atom(alloc, &mut task)?;
     }
     Ok(task)
 }
@@ -52,19 +60,78 @@ fn clause_of(alloc: Global, numbers: &[u32]) -> Result<Clause, AllocError>
     Ok(clause)
 }
 
+fn put_clause(alloc: Global, clauses: &mut Clauses, numbers: &[u32]) -> Result<(), AllocError>
+    requires { AreClauses 4 clauses.old }
+    ensures { OnOk result (AreClauses 4 clauses.new) }
+{
+    let clause = clause_of(alloc, numbers)?;
+    clauses.push(clause)
+}
+
 fn clauses_of(alloc: Global, rows: &[&[u32]]) -> Result<Clauses, AllocError>
     ensures { IfOk result (AreClauses 4) }
 {
     let mut clauses = Clauses::new(alloc);
     for row in rows {
-        clauses.push(clause_of(alloc, row)?)?;
+        put_clause(alloc, &mut clauses, row)?;
     }
     Ok(clauses)
 }
 
+// The formula of these clauses over four atoms.
+fn formula_of<K: ClauseKind>(
+    alloc: Global,
+    task: &Task,
+    rows: &[&[u32]],
+) -> Result<Formula<K>, K::Fault>
+    requires { atoms task.now ≡ 4 }
+    ensures { IfOk result (λ set. set.atoms ≡ 4) }
+{
+    let clauses = clauses_of(alloc, rows)?;
+    Formula::<K>::new(alloc, task, &clauses)
+}
+
+// The same over the states of a task of its own.
+fn set_of<K: ClauseKind>(alloc: Global, rows: &[&[u32]]) -> Result<Formula<K>, K::Fault>
+    ensures { IfOk result (λ set. set.atoms ≡ 4) }
+{
+    let task = task_of(alloc, 4)?;
+    formula_of::<K>(alloc, &task, rows)
+}
+
+const HORN_ROWS: [&[u32]; 5] = [&[0, 3, 3], &[1, 1], &[], &[0, 1], &[3, 5, 0]];
+
+// The numbers of the clauses that deny each atom: none is denied twice in one clause, nor is one
+// listed that stands there positively alone.
+const DENIED: [&[usize]; 4] = [&[1, 3], &[0, 4], &[4], &[]];
+
 fn denies(set: &Horn, atom: u32, wanted: &[usize]) -> bool {
     set.occurrences(atom) == wanted
 }
+
+fn denies_all(set: &Horn) -> bool {
+    let mut right = true;
+    for atom in 0..4 {
+        right &= denies(set, atom, DENIED[atom as usize]);
+    }
+    right
+}
+
+fn denials_are_listed(alloc: Global) -> Result<bool, HornFault> {
+    let set = set_of::<HornKind>(alloc, &HORN_ROWS)?;
+    Ok(denies_all(&set))
+}
+
+#[test]
+fn the_clauses_that_deny_an_atom_are_listed(rt: HostRuntime) -> Result<(), Fail> {
+    assert!(rt; denials_are_listed(rt.alloc())?);
+    Ok(())
+}
+
+const TWO_ROWS: [&[u32]; 6] = [&[0, 2], &[1], &[4, 4], &[0, 1], &[3, 4], &[]];
+
+// The literals that each literal implies.
+const IMPLIED: [&[u32]; 8] = [&[0, 1], &[1, 2], &[4], &[0], &[], &[3, 4], &[], &[]];
 
 fn implies(set: &TwoCnf, number: u32, wanted: &[u32]) -> bool
     requires { set.now.atoms ≡ 4 }
@@ -72,75 +139,45 @@ fn implies(set: &TwoCnf, number: u32, wanted: &[u32]) -> bool
     set.implied(literal_at(number)) == wanted
 }
 
-fn horn_of(alloc: Global, rows: &[&[u32]]) -> Result<Horn, HornFault>
-    ensures { IfOk result (λ set. set.atoms ≡ 4) }
+fn implies_all(set: &TwoCnf) -> bool
+    requires { set.now.atoms ≡ 4 }
 {
-    let task = task_of(alloc, 4)?;
-    let set = Horn::new(alloc, &task, &clauses_of(alloc, rows)?)?;
-    Ok(set)
-}
-
-fn two_of(alloc: Global, rows: &[&[u32]]) -> Result<TwoCnf, TwoCnfFault>
-    ensures { IfOk result (λ set. set.atoms ≡ 4) }
-{
-    let task = task_of(alloc, 4)?;
-    let set = TwoCnf::new(alloc, &task, &clauses_of(alloc, rows)?)?;
-    Ok(set)
-}
-
-// No atom is denied twice in one clause, nor is one listed that stands there positively alone.
-#[test]
-fn the_clauses_that_deny_an_atom_are_listed(rt: HostRuntime) -> Result<(), Fail> {
-    let set = horn_of(rt.alloc(), &[&[0, 3, 3], &[1, 1], &[], &[0, 1], &[3, 5, 0]])?;
-    let wanted: [&[usize]; 4] = [&[1, 3], &[0, 4], &[4], &[]];
     let mut right = true;
-    for atom in 0..4 {
-        right &= denies(&set, atom, wanted[atom as usize]);
+    for number in 0..8 {
+        right &= implies(set, number, IMPLIED[number as usize]);
     }
-    assert!(rt; right);
-    Ok(())
+    right
+}
+
+fn implications_are_listed(alloc: Global) -> Result<bool, TwoCnfFault> {
+    let set = set_of::<TwoKind>(alloc, &TWO_ROWS)?;
+    Ok(implies_all(&set))
 }
 
 #[test]
 fn what_a_literal_implies_is_listed(rt: HostRuntime) -> Result<(), Fail> {
-    let set = two_of(rt.alloc(), &[&[0, 2], &[1], &[4, 4], &[0, 1], &[3, 4], &[]])?;
-    let wanted: [&[u32]; 8] = [&[0, 1], &[1, 2], &[4], &[0], &[], &[3, 4], &[], &[]];
-    let mut right = true;
-    for number in 0..8 {
-        right &= implies(&set, number, wanted[number as usize]);
-    }
-    assert!(rt; right);
+    assert!(rt; implications_are_listed(rt.alloc())?);
     Ok(())
 }
 
 const ATOMS: u32 = 130;
 
-fn unit(alloc: Global, atom: u32) -> Result<Clause, AllocError>
-    requires { atom < 130 }
-    ensures { IfOk result (SpeakBelow 130) }
+fn literal(atom: u32, positive: bool) -> Literal
+    ensures { result.atom ≡ atom }
 {
-    let mut clause = Clause::new(alloc);
-    clause.push(Literal {
-        atom,
-        positive: true,
-    })?;
-    Ok(clause)
+    Literal { atom, positive }
 }
 
-// That the next atom follows from this one.
-fn link(alloc: Global, atom: u32) -> Result<Clause, AllocError>
-    requires { atom < 129 }
-    ensures { IfOk result (SpeakBelow 130) }
+fn put_unit(clauses: &mut Clauses, atom: u32) -> Result<(), AllocError>
+    requires atom { atom < 130 }
+    requires clauses { AreClauses 130 clauses.old }
+    ensures { OnOk result (AreClauses 130 clauses.new) }
 {
-    let mut clause = unit(alloc, atom + 1)?;
-    clause.push(Literal {
-        atom,
-        positive: false,
-    })?;
-    Ok(clause)
+    clauses.push_literals(&[literal(atom, true)])
 }
 
-fn put_link(alloc: Global, clauses: &mut Clauses, atom: u32, missing: u32) -> Result<(), AllocError>
+// That the next atom follows from this one, where it isn't the missing link.
+fn put_link(clauses: &mut Clauses, atom: u32, missing: u32) -> Result<(), AllocError>
     requires atom { atom < 129 }
     requires clauses { AreClauses 130 clauses.old }
     ensures { OnOk result (AreClauses 130 clauses.new) }
@@ -148,44 +185,92 @@ fn put_link(alloc: Global, clauses: &mut Clauses, atom: u32, missing: u32) -> Re
     if atom == missing {
         return Ok(());
     }
-    clauses.push(link(alloc, atom)?)?;
+    clauses.push_literals(&[literal(atom + 1, true), literal(atom, false)])
+}
+
+// The links, without that from the missing atom: the last one comes first.
+fn put_links(clauses: &mut Clauses, missing: u32) -> Result<(), AllocError>
+    requires { AreClauses 130 clauses.old }
+    ensures { OnOk result (AreClauses 130 clauses.new) }
+{
+    for turn in 0..129 {
+        put_link(clauses, 128 - turn, missing)?;
+    }
     Ok(())
 }
 
-// A chain from atom 0 to the last one, without the link from this atom: the last link comes first,
-// and that atom 0 is in comes last.
-fn chain_of(alloc: Global, missing: u32) -> Result<Clauses, AllocError>
-    ensures { IfOk result (AreClauses 130) }
+// A chain from atom 0 to the last one, without the link from this atom: that atom 0 is in comes
+// last.
+fn put_chain(clauses: &mut Clauses, missing: u32) -> Result<(), AllocError>
+    requires { AreClauses 130 clauses.old }
+    ensures { OnOk result (AreClauses 130 clauses.new) }
 {
-    let mut clauses = Clauses::new(alloc);
-    for turn in 0..129 {
-        put_link(alloc, &mut clauses, 128 - turn, missing)?;
-    }
-    clauses.push(unit(alloc, 0)?)?;
-    Ok(clauses)
+    put_links(clauses, missing)?;
+    put_unit(clauses, 0)
 }
 
-fn end_of(alloc: Global) -> Result<Clauses, AllocError>
-    ensures { IfOk result (AreClauses 130) }
-{
-    let mut clauses = Clauses::new(alloc);
-    clauses.push(unit(alloc, 129)?)?;
-    Ok(clauses)
-}
-
-fn store_of<K: ClauseKind>(
+fn add_formula<K: ClauseKind>(
     alloc: Global,
     task: &Task,
-    missing: u32,
-) -> Result<Formulas<K>, K::Fault>
-    requires { atoms task.now ≡ 130 }
-    ensures len { IfOk result (λ sets. length sets ≡ 2) }
-    ensures over { IfOk result (λ sets. AreOver sets 130) }
+    sets: &mut Formulas<K>,
+    clauses: &Clauses,
+) -> Result<(), K::Fault>
+    requires task { atoms task.now ≡ 130 }
+    requires clauses { AreClauses 130 clauses.now }
+    requires over { AreOver sets.old 130 }
+    ensures len { OnOk result (length sets.new ≡ length sets.old + 1) }
+    ensures over { OnOk result (AreOver sets.new 130) }
 {
-    let mut sets = Formulas::<K>::new(alloc);
-    sets.add(Formula::<K>::new(alloc, task, &chain_of(alloc, missing)?)?)?;
-    sets.add(Formula::<K>::new(alloc, task, &end_of(alloc)?)?)?;
-    Ok(sets)
+    let set = Formula::<K>::new(alloc, task, clauses)?;
+    sets.add(set)?;
+    Ok(())
+}
+
+fn add_chain<K: ClauseKind>(
+    alloc: Global,
+    task: &Task,
+    sets: &mut Formulas<K>,
+    missing: u32,
+) -> Result<(), K::Fault>
+    requires task { atoms task.now ≡ 130 }
+    requires over { AreOver sets.old 130 }
+    ensures len { OnOk result (length sets.new ≡ length sets.old + 1) }
+    ensures over { OnOk result (AreOver sets.new 130) }
+{
+    let mut clauses = Clauses::new(alloc);
+    put_chain(&mut clauses, missing)?;
+    add_formula(alloc, task, sets, &clauses)
+}
+
+// That the last atom is in.
+fn add_end<K: ClauseKind>(
+    alloc: Global,
+    task: &Task,
+    sets: &mut Formulas<K>,
+) -> Result<(), K::Fault>
+    requires task { atoms task.now ≡ 130 }
+    requires over { AreOver sets.old 130 }
+    ensures len { OnOk result (length sets.new ≡ length sets.old + 1) }
+    ensures over { OnOk result (AreOver sets.new 130) }
+{
+    let mut clauses = Clauses::new(alloc);
+    put_unit(&mut clauses, 129)?;
+    add_formula(alloc, task, sets, &clauses)
+}
+
+fn add_both<K: ClauseKind>(
+    alloc: Global,
+    task: &Task,
+    sets: &mut Formulas<K>,
+    missing: u32,
+) -> Result<(), K::Fault>
+    requires task { atoms task.now ≡ 130 }
+    requires none { sets.old ≡ [] }
+    ensures len { OnOk result (length sets.new ≡ 2) }
+    ensures over { OnOk result (AreOver sets.new 130) }
+{
+    add_chain(alloc, task, sets, missing)?;
+    add_end(alloc, task, sets)
 }
 
 // Whether some state is in the first set and not in the second.
@@ -197,24 +282,11 @@ fn query_of(alloc: Global) -> Result<Query, AllocError>
     ensures alone { IfOk result (λ query. query.negative
         ≡ record { which = W.Set 1; id = 1; after = false } ∷ []) }
 {
-    let mut query = Query {
-        positive: Operands::new(alloc),
-        negative: Operands::new(alloc),
+    Ok(Query {
+        positive: one_operand(alloc, Which::Set(0), 0, false)?,
+        negative: one_operand(alloc, Which::Set(1), 1, false)?,
         action: None,
-    };
-    query.positive.push(operand(0))?;
-    query.negative.push(operand(1))?;
-    Ok(query)
-}
-
-fn operand(number: usize) -> Operand
-    ensures { result ≡ record { which = W.Set number; id = number; after = false } }
-{
-    Operand {
-        which: Which::Set(number),
-        id: number,
-        after: false,
-    }
+    })
 }
 
 // How many clauses a set has.
@@ -302,6 +374,26 @@ fn both_are_right<K: ClauseKind>(
     sets: &Formulas<K>,
     alloc: Global,
     task: &Task,
+    query: &Query,
+    missing: u32,
+) -> Result<bool, AllocError>
+    requires atoms { atoms task.now ≡ 130 }
+    requires len { length sets.now ≡ 2 }
+    requires over { AreOver sets.now 130 }
+    requires ready { IsReady 2 query.now }
+    requires action { query.now.action ≡ None }
+    requires one { query.now.positive ≡ record { which = W.Set 0; id = 0; after = false } ∷ [] }
+    requires alone { query.now.negative ≡ record { which = W.Set 1; id = 1; after = false } ∷ [] }
+{
+    let alone = ask(sets, alloc, task, query, missing)?;
+    let with_room = ask_in(sets, alloc, task, query, missing)?;
+    Ok(alone & with_room)
+}
+
+fn query_is_right<K: ClauseKind>(
+    sets: &Formulas<K>,
+    alloc: Global,
+    task: &Task,
     missing: u32,
 ) -> Result<bool, AllocError>
     requires atoms { atoms task.now ≡ 130 }
@@ -309,15 +401,20 @@ fn both_are_right<K: ClauseKind>(
     requires over { AreOver sets.now 130 }
 {
     let query = query_of(alloc)?;
-    let alone = ask(sets, alloc, task, &query, missing)?;
-    let with_room = ask_in(sets, alloc, task, &query, missing)?;
-    Ok(alone & with_room)
+    both_are_right(sets, alloc, task, &query, missing)
+}
+
+fn store_is_right<K: ClauseKind>(alloc: Global, task: &Task, missing: u32) -> Result<bool, K::Fault>
+    requires { atoms task.now ≡ 130 }
+{
+    let mut sets = Formulas::<K>::new(alloc);
+    add_both(alloc, task, &mut sets, missing)?;
+    Ok(query_is_right(&sets, alloc, task, missing)?)
 }
 
 fn is_answered<K: ClauseKind>(alloc: Global, missing: u32) -> Result<bool, K::Fault> {
     let task = task_of(alloc, ATOMS)?;
-    let sets = store_of::<K>(alloc, &task, missing)?;
-    Ok(both_are_right(&sets, alloc, &task, missing)?)
+    store_is_right::<K>(alloc, &task, missing)
 }
 
 // The end of a chain follows from its start, but where a link is missing.

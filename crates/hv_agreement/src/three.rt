@@ -6,9 +6,10 @@
 
 ghost use Rattle.std.specs.Prelude.{◌≡◌, ◌<◌, ◌+◌, [], IfOk, OnOk, length};
 ghost use Rattle.hv_task.specs.State.{AreBelow};
-ghost use Rattle.hv_task.specs.Strips.{atoms};
+ghost use Rattle.hv_task.specs.Strips.{IsOver, atoms};
 ghost use Rattle.hv_sets.specs.Cubes.{SpeakBelow};
 ghost use Rattle.hv_clauses.specs.Clausal.{AreClauses};
+ghost use Rattle.hv_explicit.specs.Listing.{AreStates};
 
 use hv_clauses::{ClauseKind, Formula};
 use hv_explicit::Explicit;
@@ -68,12 +69,21 @@ fn atoms_of(alloc: Global, code: u32) -> Result<AtomList, AllocError>
     Ok(list)
 }
 
-pub(crate) fn state_from(alloc: Global, code: u32) -> Result<State, AllocError>
+// The state that holds these atoms.
+fn state_holding(alloc: Global, held: &AtomList) -> Result<State, AllocError>
+    requires { AreBelow 3 held.now }
     ensures { IfOk result (λ state. length state ≡ 3) }
 {
     let mut state = State::empty(alloc, 3)?;
-    state.hold(&atoms_of(alloc, code)?);
+    state.hold(held);
     Ok(state)
+}
+
+pub(crate) fn state_from(alloc: Global, code: u32) -> Result<State, AllocError>
+    ensures { IfOk result (λ state. length state ≡ 3) }
+{
+    let held = atoms_of(alloc, code)?;
+    state_holding(alloc, &held)
 }
 
 // Whether it is one of the states of the mask.
@@ -133,33 +143,40 @@ fn set_ends(alloc: Global, task: &mut Task) -> Result<(), AllocError>
     Ok(())
 }
 
-// An action that asks for these atoms, and does nothing.
+// The action asks for these atoms; it deletes and adds atom 1, and deletes atom 0.
 fn action_of(alloc: Global, pre: u32) -> Result<Action, AllocError>
-    ensures pre { IfOk result (λ action. AreBelow 3 action.pre) }
-    ensures add { IfOk result (λ action. AreBelow 3 action.add) }
-    ensures del { IfOk result (λ action. AreBelow 3 action.del) }
+    ensures { IfOk result (λ action. IsOver 3 action) }
 {
     Ok(Action {
         name: Name::new(alloc, b"go")?,
         cost: 1,
         pre: atoms_of(alloc, pre)?,
-        add: AtomList::new(alloc),
-        del: AtomList::new(alloc),
+        add: atoms_of(alloc, ADD)?,
+        del: atoms_of(alloc, DEL)?,
     })
 }
 
-// The action asks for these atoms; it deletes and adds atom 1, and deletes atom 0.
 fn add_go(alloc: Global, task: &mut Task, pre: u32) -> Result<(), AllocError>
     requires atoms { atoms task.old ≡ 3 }
     requires none { task.old.actions ≡ [] }
     ensures atoms { OnOk result (atoms task.new ≡ 3) }
     ensures actions { OnOk result (length task.new.actions ≡ 1) }
 {
-    let mut action = action_of(alloc, pre)?;
-    put_all(&mut action.add, ADD)?;
-    put_all(&mut action.del, DEL)?;
+    let action = action_of(alloc, pre)?;
     task.add_action(action)?;
     Ok(())
+}
+
+// The three atoms, the start and the goal, and the action.
+fn fill_task(alloc: Global, task: &mut Task, pre: u32) -> Result<(), AllocError>
+    requires atoms { atoms task.old ≡ 0 }
+    requires none { task.old.actions ≡ [] }
+    ensures atoms { OnOk result (atoms task.new ≡ 3) }
+    ensures actions { OnOk result (length task.new.actions ≡ 1) }
+{
+    add_atoms(alloc, task)?;
+    set_ends(alloc, task)?;
+    add_go(alloc, task, pre)
 }
 
 pub(crate) fn task_of(alloc: Global, pre: u32) -> Result<Task, AllocError>
@@ -167,9 +184,7 @@ pub(crate) fn task_of(alloc: Global, pre: u32) -> Result<Task, AllocError>
     ensures actions { IfOk result (λ task. length task.actions ≡ 1) }
 {
     let mut task = Task::new(alloc);
-    add_atoms(alloc, &mut task)?;
-    set_ends(alloc, &mut task)?;
-    add_go(alloc, &mut task, pre)?;
+    fill_task(alloc, &mut task, pre)?;
     Ok(task)
 }
 
@@ -239,12 +254,20 @@ fn clause_from(alloc: Global, code: u32) -> Result<Clause, AllocError>
     Ok(clause)
 }
 
+fn put_clause(alloc: Global, clauses: &mut Clauses, code: u32) -> Result<(), AllocError>
+    requires { AreClauses 3 clauses.old }
+    ensures { OnOk result (AreClauses 3 clauses.new) }
+{
+    let clause = clause_from(alloc, code)?;
+    clauses.push(clause)
+}
+
 fn clauses_from(alloc: Global, codes: &[u32]) -> Result<Clauses, AllocError>
     ensures { IfOk result (AreClauses 3) }
 {
     let mut clauses = Clauses::new(alloc);
     for code in codes {
-        clauses.push(clause_from(alloc, *code)?)?;
+        put_clause(alloc, &mut clauses, *code)?;
     }
     Ok(clauses)
 }
@@ -258,8 +281,26 @@ pub(crate) fn formula_of<K: ClauseKind>(
     requires { atoms task.now ≡ 3 }
     ensures { IfOk result (λ set. set.atoms ≡ 3) }
 {
-    let set = Formula::<K>::new(alloc, task, &clauses_from(alloc, codes)?)?;
-    Ok(set)
+    let clauses = clauses_from(alloc, codes)?;
+    Formula::<K>::new(alloc, task, &clauses)
+}
+
+fn put_state(alloc: Global, states: &mut StateList, code: u32) -> Result<(), AllocError>
+    requires { AreStates 3 states.old }
+    ensures { OnOk result (AreStates 3 states.new) }
+{
+    let held = atoms_of(alloc, code)?;
+    states.push(held)
+}
+
+fn states_from(alloc: Global, codes: &[u32]) -> Result<StateList, AllocError>
+    ensures { IfOk result (AreStates 3) }
+{
+    let mut states = StateList::new(alloc);
+    for code in codes {
+        put_state(alloc, &mut states, *code)?;
+    }
+    Ok(states)
 }
 
 // The set of these states, each as often as it is listed.
@@ -267,12 +308,8 @@ pub(crate) fn explicit_of(alloc: Global, task: &Task, codes: &[u32]) -> Result<E
     requires { atoms task.now ≡ 3 }
     ensures { IfOk result (λ set. set.atoms ≡ 3) }
 {
-    let mut states = StateList::new(alloc);
-    for code in codes {
-        states.push(atoms_of(alloc, *code)?)?;
-    }
-    let set = Explicit::new(alloc, task, &states)?;
-    Ok(set)
+    let states = states_from(alloc, codes)?;
+    Explicit::new(alloc, task, &states)
 }
 
 // Whether the literal at this place of the clause is true in the state.

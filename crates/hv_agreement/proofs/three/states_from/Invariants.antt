@@ -1,5 +1,5 @@
 use Rattle.hv_explicit.specs.Listing.{AreStates}
-use Rattle.hv_agreement.proofs.three.explicit_of.Given as goal
+use Rattle.hv_agreement.proofs.three.states_from.Given as goal
 
 abbrev pub invariant-loop-code : goal.invariant-loop-code
 invariant-loop-code l = AreStates 3 l.states

@@ -1,5 +1,5 @@
 use Rattle.hv_clauses.specs.Clausal.{AreClauses}
-use Rattle.hv_agreement.proofs.tests.chain_of.Given as goal
+use Rattle.hv_agreement.proofs.tests.put_links.Given as goal
 
 abbrev pub invariant-loop-turn : goal.invariant-loop-turn
 invariant-loop-turn l = AreClauses 130 l.clauses
