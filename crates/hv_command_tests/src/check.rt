@@ -1,8 +1,11 @@
 //! The worked examples of the formats, and faults of the devices.
 
-use crate::short::{GOAL_AT_THE_START, KEY_TASK, all_told, tells, told, told_with_fault, written};
+use crate::short::{
+    GOAL_AT_THE_START, KEY_TASK, all_told, is_done, tells, told, told_with_fault, written,
+};
 use hv_command::Status;
 use std::alloc::{AllocError, Global};
+use std::ops::Range;
 use std::process::Abort;
 use std::test::Fail;
 
@@ -12,7 +15,7 @@ const CHECK: &str = "check task proof";
 const TWO_STATES: &str = "@e 3 x 2 0 ; 1 ;/%";
 
 // Proofs for the key task.
-const PROOFS: [(&str, &str); 20] = [
+static PROOFS: [(&str, &str); 20] = [
     ("@e 3 x 2 0 ; 1 ;/%", "0 unsolvable"),
     ("@", "1 no conclusion"),
     (
@@ -54,7 +57,7 @@ const PROOFS: [(&str, &str); 20] = [
 ];
 
 // For each derivation rule a line that it fits, and lines with one letter wrong.
-const RULES: [(&str, &str); 65] = [
+static RULES: [(&str, &str); 65] = [
     ("@", "1 no conclusion"),
     ("@k 1 d 1 ed/", "1 line 6: rule"),
     ("@k 1 d 2 ed/", "1 line 6: rule"),
@@ -270,7 +273,7 @@ const RULES: [(&str, &str); 65] = [
 ];
 
 // Task texts, read with the explicit proof.
-const TASKS: [(&str, &str); 6] = [
+static TASKS: [(&str, &str); 6] = [
     (
         concat!(
             "begin_atoms:3/Atom at(r, a)/Atom at(r, b)/Atom have(key)/end_atoms/begin_init/3/",
@@ -319,7 +322,7 @@ const TASKS: [(&str, &str); 6] = [
 
 // Proofs over 130 atoms and 71 actions with a false statement that has one counterexample. Of lists
 // of actions it is the least action.
-const CLASHES: &[(&str, &str)] = &[
+static CLASHES: [(&str, &str); 5] = [
     (
         "e 0 c e/e 1 x 1 63 64 129 ;/k 0 s 1 0 b1/",
         "1 line 3: false state 63 64 129 ;",
@@ -336,51 +339,56 @@ const CLASHES: &[(&str, &str)] = &[
     ),
 ];
 
+// A proof for a task whose goal holds at the start, and the answer to it.
+static WITHOUT_GOAL: [(&str, &str); 1] = [(
+    "a 0 a/e 0 c e/e 1 c i/k 0 d 0 ed/k 1 d 1 sd 0 0/k 2 u ci 1/",
+    "1 line 5: rule",
+)];
+
+// No proof, and the answer to it.
+static WITHOUT_PROOF: [(&str, &str); 1] = [("", "1 no conclusion")];
+
 // A task without goal and actions.
 const NOTHING_ASKED: &str = concat!(
     "begin_atoms:1/x/end_atoms/begin_init/end_init/begin_goal/end_goal/",
     "begin_actions:0/end_actions/"
 );
 
-#[test]
-fn judges_proofs_of_the_key_task(rt: HostRuntime) -> Result<(), Fail> {
-    all_told(&rt, rt.alloc(), CHECK, &PROOFS)?;
-    all_told(&rt, rt.alloc(), CHECK, &RULES)
+// Asserts that the proofs are answered.
+fn all_proofs(rt: &impl Abort, alloc: Global) -> Result<(), Fail> {
+    all_told(rt, alloc, CHECK, KEY_TASK, &PROOFS)
+}
+
+// Asserts that the lines of each rule are.
+fn all_rules(rt: &impl Abort, alloc: Global) -> Result<(), Fail> {
+    all_told(rt, alloc, CHECK, KEY_TASK, &RULES)
 }
 
 #[test]
-fn judges_other_tasks(rt: HostRuntime) -> Result<(), Fail> {
-    for (task, answer) in TASKS {
-        assert!(rt;
-            tells(rt.alloc(), CHECK, task, TWO_STATES, answer)?,
-            "{task}"
-        );
-    }
-    for (task, proof, answer) in [
-        (
-            GOAL_AT_THE_START,
-            "a 0 a/e 0 c e/e 1 c i/k 0 d 0 ed/k 1 d 1 sd 0 0/k 2 u ci 1/",
-            "1 line 5: rule",
-        ),
-        (NOTHING_ASKED, "", "1 no conclusion"),
-    ] {
-        assert!(rt; tells(rt.alloc(), CHECK, task, proof, answer)?, "{task}");
+fn judges_proofs_of_the_key_task(rt: HostRuntime) -> Result<(), Fail> {
+    all_proofs(&rt, rt.alloc())?;
+    all_rules(&rt, rt.alloc())
+}
+
+// Asserts that `check` of the explicit proof tells of each task its answer.
+fn all_read(rt: &impl Abort, alloc: Global, rows: &[(&str, &str)]) -> Result<(), Fail> {
+    for (task, answer) in rows {
+        assert!(rt; tells(alloc, CHECK, task, TWO_STATES, answer)?, "{task}");
     }
     Ok(())
 }
 
-// Whether `check` says yes of these files.
-fn is_done(alloc: Global, task: &[u8], proof: &[u8]) -> Result<bool, AllocError> {
-    Ok(told(alloc, CHECK, task, proof)?.as_slice() == b"0 unsolvable\n".as_slice())
+#[test]
+fn judges_other_tasks(rt: HostRuntime) -> Result<(), Fail> {
+    all_read(&rt, rt.alloc(), &TASKS)?;
+    all_told(&rt, rt.alloc(), CHECK, GOAL_AT_THE_START, &WITHOUT_GOAL)?;
+    all_told(&rt, rt.alloc(), CHECK, NOTHING_ASKED, &WITHOUT_PROOF)
 }
 
 // Whether `check` tells a fault of the task.
 fn is_bad(alloc: Global, task: &[u8], proof: &[u8]) -> Result<bool, AllocError> {
-    Ok(
-        told(alloc, CHECK, task, proof)?
-            .as_slice()
-            .starts_with(b"3 task line "),
-    )
+    let told = told(alloc, CHECK, task, proof)?;
+    Ok(told.as_slice().starts_with(b"3 task line "))
 }
 
 // Whether only the whole proof, and the whole without its last LF, shows that the task is
@@ -388,140 +396,180 @@ fn is_bad(alloc: Global, task: &[u8], proof: &[u8]) -> Result<bool, AllocError> 
 fn needs_the_proof(alloc: Global, task: &[u8], proof: &[u8]) -> Result<bool, AllocError> {
     let mut right = true;
     for end in 0..proof.len() + 1 {
-        right &= is_done(alloc, task, &proof[..end])? == (end + 1 >= proof.len());
+        right &= is_done(alloc, CHECK, task, &proof[..end])? == (end + 1 >= proof.len());
     }
     Ok(right)
+}
+
+// Whether this part of the task is read, or not.
+fn is_part_read(alloc: Global, task: &[u8], proof: &[u8], read: bool) -> Result<bool, AllocError> {
+    let done = is_done(alloc, CHECK, task, proof)?;
+    let bad = is_bad(alloc, task, proof)?;
+    Ok((done == read) & (bad != read))
 }
 
 // Whether only the whole task, and the whole without its last LF, is read.
 fn needs_the_task(alloc: Global, task: &[u8], proof: &[u8]) -> Result<bool, AllocError> {
     let mut right = true;
     for end in 0..task.len() + 1 {
-        let read = end + 1 >= task.len();
-        right &= is_done(alloc, &task[..end], proof)? == read;
-        right &= is_bad(alloc, &task[..end], proof)? != read;
+        right &= is_part_read(alloc, &task[..end], proof, end + 1 >= task.len())?;
     }
     Ok(right)
 }
 
+// The first of these for the key task and its explicit proof.
+fn key_task_needs_the_proof(alloc: Global) -> Result<bool, AllocError> {
+    let task = written(alloc, KEY_TASK)?;
+    let proof = written(alloc, TWO_STATES)?;
+    needs_the_proof(alloc, task.as_slice(), proof.as_slice())
+}
+
+// The second of these for the same files.
+fn its_proof_needs_the_task(alloc: Global) -> Result<bool, AllocError> {
+    let task = written(alloc, KEY_TASK)?;
+    let proof = written(alloc, TWO_STATES)?;
+    needs_the_task(alloc, task.as_slice(), proof.as_slice())
+}
+
 #[test]
 fn needs_the_whole_files(rt: HostRuntime) -> Result<(), Fail> {
-    let task = written(rt.alloc(), KEY_TASK)?;
-    let proof = written(rt.alloc(), TWO_STATES)?;
-    assert!(rt; needs_the_proof(rt.alloc(), task.as_slice(), proof.as_slice())?);
-    assert!(rt; needs_the_task(rt.alloc(), task.as_slice(), proof.as_slice())?);
+    assert!(rt; key_task_needs_the_proof(rt.alloc())?);
+    assert!(rt; its_proof_needs_the_task(rt.alloc())?);
     Ok(())
 }
 
-// Whether `check` tells exactly this where the shelf's call and the sink's write of these numbers
-// fail.
-fn tells_fault(
+// Whether these words tell exactly this where the shelf's call and the sink's write of these
+// numbers fail.
+fn tells_by(
     alloc: Global,
+    words: &str,
     proof: &str,
     call: u64,
     write: u64,
     text: &[u8],
 ) -> Result<bool, AllocError> {
-    let told = told_with_fault(alloc, CHECK, proof, call, write)?;
+    let told = told_with_fault(alloc, words, proof, call, write)?;
     Ok(told.as_slice() == text)
+}
+
+// The same of `check` of this proof, where a call fails.
+fn tells_failing_call(
+    alloc: Global,
+    proof: &str,
+    call: u64,
+    text: &[u8],
+) -> Result<bool, AllocError> {
+    tells_by(alloc, CHECK, proof, call, 0, text)
+}
+
+// The same of the explicit proof, where a write fails.
+fn tells_failing_write(alloc: Global, write: u64, text: &[u8]) -> Result<bool, AllocError> {
+    tells_by(alloc, CHECK, TWO_STATES, 0, write, text)
+}
+
+// Asserts that each of these calls is told where it fails.
+fn all_calls_told(rt: &impl Abort, alloc: Global, calls: Range<u64>) -> Result<(), Fail> {
+    for call in calls {
+        assert!(rt;
+            tells_failing_call(alloc, TWO_STATES, call, b"4 ")?,
+            "call {call}"
+        );
+    }
+    Ok(())
 }
 
 // The task has 251 bytes and the proof 184: with reads of 7 bytes these are two opens, 36 and 27
 // reads that give bytes, and two that give none.
 #[test]
 fn tells_each_failing_read(rt: HostRuntime) -> Result<(), Fail> {
-    for call in 1..2 + 36 + 27 + 2 + 1 {
-        assert!(rt;
-            tells_fault(rt.alloc(), TWO_STATES, call, 0, b"4 ")?,
-            "call {call}"
-        );
-    }
-    assert!(rt; tells_fault(rt.alloc(), TWO_STATES, 68, 0, b"0 unsolvable\n")?);
+    all_calls_told(&rt, rt.alloc(), 1..2 + 36 + 27 + 2 + 1)?;
+    assert!(rt; tells_failing_call(rt.alloc(), TWO_STATES, 68, b"0 unsolvable\n")?);
     Ok(())
 }
 
 #[test]
 fn tells_each_failing_write(rt: HostRuntime) -> Result<(), Fail> {
-    assert!(rt; tells_fault(rt.alloc(), TWO_STATES, 0, 1, b"5 ")?);
-    assert!(rt; tells_fault(rt.alloc(), TWO_STATES, 0, 2, b"5 unsolvable")?);
-    assert!(rt; tells_fault(rt.alloc(), TWO_STATES, 0, 3, b"0 unsolvable\n")?);
-    let cut = told_with_fault(rt.alloc(), "produce relaxed task", "", 0, 2)?;
-    assert!(rt; cut.as_slice() == b"5 a 0 a\ne 0 ".as_slice());
+    assert!(rt; tells_failing_write(rt.alloc(), 1, b"5 ")?);
+    assert!(rt; tells_failing_write(rt.alloc(), 2, b"5 unsolvable")?);
+    assert!(rt; tells_failing_write(rt.alloc(), 3, b"0 unsolvable\n")?);
+    let words = "produce relaxed task";
+    assert!(rt; tells_by(rt.alloc(), words, "", 0, 2, b"5 a 0 a\ne 0 ")?);
     Ok(())
 }
 
-// A proof whose first line is refused; the rest are comments.
-fn early_proof(alloc: Global) -> Result<String, AllocError> {
-    let mut proof = String::from_str(alloc, "e 1 c e/")?;
-    for _line in 0..1000 {
-        proof.push_str("# x/")?;
+// Puts so many copies of this text last.
+fn put_copies(text: &mut String, copies: u32, copy: &str) -> Result<(), AllocError> {
+    for _copy in 0..copies {
+        text.push_str(copy)?;
     }
-    Ok(proof)
+    Ok(())
+}
+
+// Whether `check` tells exactly this where the call of this number fails, of a proof whose first
+// line is refused; the rest are comments.
+fn early_tells(alloc: Global, call: u64, text: &[u8]) -> Result<bool, AllocError> {
+    let mut proof = String::from_str(alloc, "e 1 c e/")?;
+    put_copies(&mut proof, 1000, "# x/")?;
+    tells_failing_call(alloc, proof.as_str(), call, text)
 }
 
 // The task takes an open, 36 reads that give bytes and one that gives none; the proof is opened
 // and read twice, which brings the eight bytes of its first line, and no further.
 #[test]
 fn reads_no_further_than_the_refused_line(rt: HostRuntime) -> Result<(), Fail> {
-    let proof = early_proof(rt.alloc())?;
-    assert!(rt; tells_fault(rt.alloc(), proof.as_str(), 1 + 36 + 1 + 3, 0, b"4 ")?);
-    assert!(rt;
-        tells_fault(
-            rt.alloc(),
-            proof.as_str(),
-            1 + 36 + 1 + 4,
-            0,
-            b"1 line 1: number\n"
-        )?
-    );
+    assert!(rt; early_tells(rt.alloc(), 1 + 36 + 1 + 3, b"4 ")?);
+    assert!(rt; early_tells(rt.alloc(), 1 + 36 + 1 + 4, b"1 line 1: number\n")?);
     Ok(())
+}
+
+// Whether `check` alone tells how the program is called.
+fn tells_usage(alloc: Global) -> Result<bool, AllocError> {
+    let told = told(alloc, "check", b"", b"")?;
+    Ok(told.as_slice() == b"2 usage: helve COMMAND ARGUMENTS\n".as_slice())
 }
 
 #[test]
 fn tells_words_that_are_no_job(rt: HostRuntime) -> Result<(), Fail> {
-    let told = told(rt.alloc(), "check", b"", b"")?;
-    assert!(rt; told.as_slice() == b"2 usage: helve COMMAND ARGUMENTS\n".as_slice());
+    assert!(rt; tells_usage(rt.alloc())?);
     Ok(())
 }
 
+static STATUSES: [Status; 7] = [
+    Status::Done,
+    Status::Refused,
+    Status::Usage,
+    Status::BadInput,
+    Status::ReadFault,
+    Status::WriteFault,
+    Status::Memory,
+];
+
 #[test]
 fn numbers_the_statuses(rt: HostRuntime) {
-    let statuses = [
-        Status::Done,
-        Status::Refused,
-        Status::Usage,
-        Status::BadInput,
-        Status::ReadFault,
-        Status::WriteFault,
-        Status::Memory,
-    ];
-    for (number, status) in statuses.iter().enumerate() {
+    for (number, status) in STATUSES.iter().enumerate() {
         assert_eq!(rt; status.number() as usize, number);
     }
 }
 
-// A task of 130 atoms and 71 actions, of which number 70 alone changes a state: it adds atom 0.
-fn wide_task(alloc: Global) -> Result<String, AllocError> {
-    let mut task = String::from_str(alloc, "begin_atoms:130/")?;
-    for _atom in 0..130 {
-        task.push_str("x/")?;
-    }
+// Puts a task of 130 atoms and 71 actions last, of which number 70 alone changes a state: it adds
+// atom 0.
+fn put_wide_task(task: &mut String) -> Result<(), AllocError> {
+    task.push_str("begin_atoms:130/")?;
+    put_copies(task, 130, "x/")?;
     task.push_str("end_atoms/begin_init/end_init/begin_goal/1/end_goal/begin_actions:71/")?;
-    for _action in 0..70 {
-        task.push_str("begin_action/none/cost:1/end_action/")?;
-    }
-    task.push_str("begin_action/one/cost:1/ADD:0/end_action/end_actions/")?;
+    put_copies(task, 70, "begin_action/none/cost:1/end_action/")?;
+    task.push_str("begin_action/one/cost:1/ADD:0/end_action/end_actions/")
+}
+
+// This task.
+fn wide_task(alloc: Global) -> Result<String, AllocError> {
+    let mut task = String::new(alloc);
+    put_wide_task(&mut task)?;
     Ok(task)
 }
 
 #[test]
 fn tells_counterexamples(rt: HostRuntime) -> Result<(), Fail> {
     let task = wide_task(rt.alloc())?;
-    for (proof, answer) in CLASHES {
-        assert!(rt;
-            tells(rt.alloc(), CHECK, task.as_str(), proof, answer)?,
-            "{proof}"
-        );
-    }
-    Ok(())
+    all_told(&rt, rt.alloc(), CHECK, task.as_str(), &CLASHES)
 }

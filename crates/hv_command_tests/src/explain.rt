@@ -9,7 +9,7 @@ use std::test::Fail;
 const NODES: &[u8] = b"nodes 1\n2 1 0\n";
 
 // Proofs for the key task, and the answers to them.
-const ROWS: [(&str, &str); 9] = [
+static ROWS: [(&str, &str); 9] = [
     // a line behind the conclusion
     (
         "@e 3 x 2 0 ; 1 ;/%k 8 s 1 1 b1/",
@@ -69,7 +69,7 @@ const NODE_ANSWER: &str = concat!(
 );
 
 // Words, and the answer to a proof by a diagram.
-const OPTIONS: [(&str, &str); 6] = [
+static OPTIONS: [(&str, &str); 6] = [
     ("explain task proof --nodes nodes", NODE_ANSWER),
     (
         "explain task proof --budget 16777216 --nodes nodes",
@@ -97,7 +97,7 @@ fn told(alloc: Global, words: &str) -> Result<Vec<u8>, AllocError> {
         task.as_slice(),
         proof.as_slice(),
         NODES,
-        Vec::new(alloc),
+        false,
     )
 }
 
@@ -108,15 +108,26 @@ fn tells(alloc: Global, words: &str, answer: &str) -> Result<bool, AllocError> {
 
 #[test]
 fn tells_needed_and_spare_lines(rt: HostRuntime) -> Result<(), Fail> {
-    all_told(&rt, rt.alloc(), "explain task proof", &ROWS)
+    all_told(&rt, rt.alloc(), "explain task proof", KEY_TASK, &ROWS)
+}
+
+// Asserts that each of these words tell of the proof by a diagram their answer.
+fn all_options(rt: &impl Abort, alloc: Global, rows: &[(&str, &str)]) -> Result<(), Fail> {
+    for (words, answer) in rows {
+        assert!(rt; tells(alloc, words, answer)?, "{words}");
+    }
+    Ok(())
+}
+
+// Whether a missing proof is told.
+fn tells_missing(alloc: Global) -> Result<bool, AllocError> {
+    let told = told(alloc, "explain task missing")?;
+    Ok(told.as_slice() == b"4 ".as_slice())
 }
 
 #[test]
 fn takes_the_options_of_a_check(rt: HostRuntime) -> Result<(), Fail> {
-    for (words, answer) in OPTIONS {
-        assert!(rt; tells(rt.alloc(), words, answer)?, "{words}");
-    }
-    let missing = told(rt.alloc(), "explain task missing")?;
-    assert!(rt; missing.as_slice() == b"4 ".as_slice());
+    all_options(&rt, rt.alloc(), &OPTIONS)?;
+    assert!(rt; tells_missing(rt.alloc())?);
     Ok(())
 }

@@ -8,6 +8,8 @@ mod explain;
 #[cfg(test)]
 mod produce;
 #[cfg(test)]
+mod pruners;
+#[cfg(test)]
 mod replay;
 #[cfg(test)]
 mod sample;

@@ -1,7 +1,8 @@
 //! Proofs that are written.
 
 use crate::short::{
-    GOAL_AT_THE_START, KEY_TASK, ONE_OF_TWO, THREE_WISHES, is_text, tells, told, written,
+    GOAL_AT_THE_START, KEY_TASK, ONE_OF_TWO, THREE_WISHES, is_done, is_text, put_names, tells,
+    told, written,
 };
 use std::alloc::{AllocError, Global};
 use std::process::Abort;
@@ -13,7 +14,7 @@ fn produced(alloc: Global, kind: &str, task: &[u8]) -> Result<Vec<u8>, AllocErro
     told(alloc, words.as_str(), task, b"")
 }
 
-// What `check` tells of this proof of a task within the budget.
+// Whether `check` accepts this proof of a task within the budget.
 fn is_accepted(
     alloc: Global,
     task: &[u8],
@@ -22,8 +23,7 @@ fn is_accepted(
 ) -> Result<bool, AllocError> {
     let words = format!(in alloc; "check task proof --budget {budget}")?;
     let proof = told_proof.strip_prefix(b"0 ").unwrap_or(b"");
-    let told = told(alloc, words.as_str(), task, proof)?;
-    Ok(told.as_slice() == b"0 unsolvable\n".as_slice())
+    is_done(alloc, words.as_str(), task, proof)
 }
 
 // Whether what was told is a proof that is accepted within the budget, and within no smaller one.
@@ -31,6 +31,31 @@ fn costs(alloc: Global, task: &[u8], told: &[u8], budget: u32) -> Result<bool, A
     let within = is_accepted(alloc, task, told, budget)?;
     let below = budget > 1 && is_accepted(alloc, task, told, budget.saturating_sub(1))?;
     Ok(within & !below)
+}
+
+// Whether the proof of this kind costs so much.
+fn produced_costs(alloc: Global, kind: &str, task: &[u8], budget: u32) -> Result<bool, AllocError> {
+    let told = produced(alloc, kind, task)?;
+    costs(alloc, task, told.as_slice(), budget)
+}
+
+// Whether the proof of this kind is this one.
+fn is_produced(alloc: Global, kind: &str, task: &[u8], proof: &str) -> Result<bool, AllocError> {
+    let told = produced(alloc, kind, task)?;
+    is_text(alloc, told.as_slice(), proof)
+}
+
+// Both of these.
+fn is_dear_proof(
+    alloc: Global,
+    kind: &str,
+    task: &[u8],
+    proof: &str,
+    budget: u32,
+) -> Result<bool, AllocError> {
+    let dear = produced_costs(alloc, kind, task, budget)?;
+    let same = is_produced(alloc, kind, task, proof)?;
+    Ok(dear & same)
 }
 
 // Whether the proof of this kind is this one, and its dearest query costs so much.
@@ -42,14 +67,12 @@ fn is_proof(
     budget: u32,
 ) -> Result<bool, AllocError> {
     let task = written(alloc, task)?;
-    let told = produced(alloc, kind, task.as_slice())?;
-    let dear = costs(alloc, task.as_slice(), told.as_slice(), budget)?;
-    Ok(dear & is_text(alloc, told.as_slice(), proof)?)
+    is_dear_proof(alloc, kind, task.as_slice(), proof, budget)
 }
 
 // A kind, a task, the proof, and what its dearest query costs. A state that lacks one of the three
 // wishes leads to such states alone.
-const PROOFS: [(&str, &str, &str, u32); 3] = [
+static PROOFS: [(&str, &str, &str, u32); 3] = [
     (
         "relaxed",
         KEY_TASK,
@@ -81,7 +104,7 @@ const PROOFS: [(&str, &str, &str, u32); 3] = [
 ];
 
 // A kind and a task of which no such proof is written, and what is told.
-const REFUSED: [(&str, &str, &str); 5] = [
+static REFUSED: [(&str, &str, &str); 5] = [
     ("relaxed", GOAL_AT_THE_START, "1 no proof"),
     ("relaxed", ONE_OF_TWO, "1 no proof"),
     ("pairs", THREE_WISHES, "1 no proof"),
@@ -94,29 +117,44 @@ fn is_refused(alloc: Global, kind: &str, task: &str, answer: &str) -> Result<boo
     tells(alloc, words.as_str(), task, "", answer)
 }
 
-#[test]
-fn writes_proofs_where_the_goal_is_excluded(rt: HostRuntime) -> Result<(), Fail> {
-    for (kind, task, proof, budget) in PROOFS {
-        assert!(rt; is_proof(rt.alloc(), kind, task, proof, budget)?, "{kind}");
-    }
-    for (kind, task, answer) in REFUSED {
-        assert!(rt;
-            is_refused(rt.alloc(), kind, task, answer)?,
-            "{kind}, {task}"
-        );
+// Asserts that each of these proofs is written.
+fn all_written(
+    rt: &impl Abort,
+    alloc: Global,
+    rows: &[(&str, &str, &str, u32)],
+) -> Result<(), Fail> {
+    for (kind, task, proof, budget) in rows {
+        assert!(rt; is_proof(alloc, kind, task, proof, *budget)?, "{kind}");
     }
     Ok(())
 }
 
-// A task of so many atoms without actions, whose goal is the first atom. A formula that denies all
-// of them has a clause each.
-fn wide_task(alloc: Global, atoms: u32) -> Result<String, AllocError> {
-    let mut task = format!(in alloc; "begin_atoms:{atoms}/")?;
-    for atom in 0..atoms {
-        write!(task, "x{atom}/")?;
+// Asserts that none of these is.
+fn all_refused(rt: &impl Abort, alloc: Global, rows: &[(&str, &str, &str)]) -> Result<(), Fail> {
+    for (kind, task, answer) in rows {
+        assert!(rt; is_refused(alloc, kind, task, answer)?, "{kind}, {task}");
     }
+    Ok(())
+}
+
+#[test]
+fn writes_proofs_where_the_goal_is_excluded(rt: HostRuntime) -> Result<(), Fail> {
+    all_written(&rt, rt.alloc(), &PROOFS)?;
+    all_refused(&rt, rt.alloc(), &REFUSED)
+}
+
+// Puts a task of so many atoms without actions last, whose goal is the first atom.
+fn put_wide_task(task: &mut String, atoms: u32) -> Result<(), AllocError> {
+    write!(task, "begin_atoms:{atoms}/")?;
+    put_names(task, atoms)?;
     task.push_str("end_atoms/begin_init/end_init/begin_goal/0/end_goal/")?;
-    task.push_str("begin_actions:0/end_actions/")?;
+    task.push_str("begin_actions:0/end_actions/")
+}
+
+// This task. A formula that denies all of its atoms has a clause each.
+fn wide_task(alloc: Global, atoms: u32) -> Result<String, AllocError> {
+    let mut task = String::new(alloc);
+    put_wide_task(&mut task, atoms)?;
     Ok(task)
 }
 
@@ -125,10 +163,15 @@ fn is_too_wide(alloc: Global, kind: &str, atoms: u32) -> Result<bool, AllocError
     is_refused(alloc, kind, task.as_str(), "1 too many atoms")
 }
 
+// Whether the relaxed proof of a task in short form costs so much.
+fn relaxed_costs(alloc: Global, task: &str, budget: u32) -> Result<bool, AllocError> {
+    let task = written(alloc, task)?;
+    produced_costs(alloc, "relaxed", task.as_slice(), budget)
+}
+
 fn wide_proof_costs(alloc: Global, atoms: u32, budget: u32) -> Result<bool, AllocError> {
-    let task = written(alloc, wide_task(alloc, atoms)?.as_str())?;
-    let told = produced(alloc, "relaxed", task.as_slice())?;
-    costs(alloc, task.as_slice(), told.as_slice(), budget)
+    let task = wide_task(alloc, atoms)?;
+    relaxed_costs(alloc, task.as_str(), budget)
 }
 
 #[test]

@@ -1,13 +1,16 @@
 //! Logs that are replayed.
 
-use crate::short::{KEY_TASK, is_text, tells, told, told_by, written};
+ghost use Rattle.std.specs.Prelude.{◌≡◌};
+ghost use Rattle.hv_task.specs.Strips.{atoms};
+
+use crate::pruners::three_pruners;
+use crate::short::{KEY_TASK, is_done, is_text, tells, told_by, written};
 use hv_bytes::{Limits, SureShelf, Text};
 use hv_lines::Pruner;
 use hv_proof_text::write_proof;
-use hv_reach::{PairPruner, RelaxedPruner};
-use hv_replay::{read_log, replay};
+use hv_replay::{Log, read_log, replay};
+use hv_task::Task;
 use hv_task_text::read_task;
-use hv_trap::TrapPruner;
 use std::alloc::{AllocError, Global};
 use std::process::Abort;
 use std::test::Fail;
@@ -22,26 +25,17 @@ const SIX_ATOMS: &str = concat!(
     "ADD:4/DEL:5/end_action/end_actions/"
 );
 
-fn pruners_of(alloc: Global) -> Result<Vec<Box<dyn Pruner>>, AllocError> {
-    let mut pruners: Vec<Box<dyn Pruner>> = Vec::new(alloc);
-    pruners.push(Box::new(alloc, RelaxedPruner::new(alloc))?)?;
-    pruners.push(Box::new(alloc, PairPruner::new(alloc))?)?;
-    pruners.push(Box::new(alloc, TrapPruner::new(alloc))?)?;
-    Ok(pruners)
-}
-
 // What a replay of this log tells with the three pruners.
 fn replayed(alloc: Global, task: &str, log: &str) -> Result<Vec<u8>, AllocError> {
     let task = written(alloc, task)?;
     let log = written(alloc, log)?;
-    let pruners = pruners_of(alloc)?;
     told_by(
         alloc,
         "replay task proof",
         task.as_slice(),
         log.as_slice(),
         b"",
-        pruners,
+        true,
     )
 }
 
@@ -55,12 +49,11 @@ fn is_proof(alloc: Global, task: &str, told: &[u8]) -> Result<bool, AllocError> 
 
 fn is_accepted(alloc: Global, task: &str, proof: &[u8]) -> Result<bool, AllocError> {
     let task = written(alloc, task)?;
-    let told = told(alloc, "check task proof", task.as_slice(), proof)?;
-    Ok(told.as_slice() == b"0 unsolvable\n".as_slice())
+    is_done(alloc, "check task proof", task.as_slice(), proof)
 }
 
 // Logs of the key task, and the proofs that they become with the pruners.
-const PROOFS: [(&str, &str); 2] = [
+static PROOFS: [(&str, &str); 2] = [
     // both places
     (
         "x 0/x 1/end/",
@@ -83,7 +76,7 @@ const PROOFS: [(&str, &str); 2] = [
 ];
 
 // Logs that become none.
-const ROWS: [(&str, &str); 7] = [
+static ROWS: [(&str, &str); 7] = [
     ("x 0/end/", "1 log line 1: open action 0"),
     ("x 1/x 0 2/end/", "1 log: no initial state"),
     // the goal comes before what is open
@@ -97,9 +90,9 @@ const ROWS: [(&str, &str); 7] = [
 
 const UNJUSTIFIED: &str = "1 log line 2: unjustified";
 
-// Whether a replay of this log of the key task tells exactly this.
-fn tells_replayed(alloc: Global, log: &str, answer: &str) -> Result<bool, AllocError> {
-    let told = replayed(alloc, KEY_TASK, log)?;
+// Whether a replay of this log of the task tells exactly this.
+fn tells_replayed(alloc: Global, task: &str, log: &str, answer: &str) -> Result<bool, AllocError> {
+    let told = replayed(alloc, task, log)?;
     is_text(alloc, told.as_slice(), answer)
 }
 
@@ -109,24 +102,30 @@ fn is_proved(alloc: Global, task: &str, log: &str) -> Result<bool, AllocError> {
     is_proof(alloc, task, told.as_slice())
 }
 
+// Asserts that a replay tells of the key task and each log its answer.
+fn all_replayed(rt: &impl Abort, alloc: Global, rows: &[(&str, &str)]) -> Result<(), Fail> {
+    for (log, answer) in rows {
+        assert!(rt; tells_replayed(alloc, KEY_TASK, log, answer)?, "{log}");
+    }
+    Ok(())
+}
+
+// Asserts that what it tells is accepted.
+fn all_proved(rt: &impl Abort, alloc: Global, rows: &[(&str, &str)]) -> Result<(), Fail> {
+    for (log, _proof) in rows {
+        assert!(rt; is_proved(alloc, KEY_TASK, log)?, "{log}");
+    }
+    Ok(())
+}
+
 // Without pruners nothing is justified.
 #[test]
 fn replays_closed_logs_alone(rt: HostRuntime) -> Result<(), Fail> {
-    for (log, proof) in PROOFS {
-        assert!(rt; tells_replayed(rt.alloc(), log, proof)?, "{log}");
-        assert!(rt; is_proved(rt.alloc(), KEY_TASK, log)?, "{log}");
-    }
-    for (log, answer) in ROWS {
-        assert!(rt; tells_replayed(rt.alloc(), log, answer)?, "{log}");
-    }
-    let alone = tells(
-        rt.alloc(),
-        "replay task proof",
-        KEY_TASK,
-        "x 0/p 1/end/",
-        UNJUSTIFIED,
-    )?;
-    assert!(rt; alone);
+    all_replayed(&rt, rt.alloc(), &PROOFS)?;
+    all_proved(&rt, rt.alloc(), &PROOFS)?;
+    all_replayed(&rt, rt.alloc(), &ROWS)?;
+    let (words, log) = ("replay task proof", "x 0/p 1/end/");
+    assert!(rt; tells(rt.alloc(), words, KEY_TASK, log, UNJUSTIFIED)?);
     Ok(())
 }
 
@@ -142,37 +141,73 @@ fn counted(proof: &[u8]) -> (usize, usize, usize) {
     (count(text, " "), count(text, " t 51 "), count(text, " t "))
 }
 
+// Whether the replay of this log has so many lines.
+fn has_lines(
+    alloc: Global,
+    task: &str,
+    log: &str,
+    lines: (usize, usize, usize),
+) -> Result<bool, AllocError> {
+    let told = replayed(alloc, task, log)?;
+    Ok(counted(told.as_slice()) == lines)
+}
+
+const COVERED: &str = "p 0 4/p 0 3 4/p 0 3 4 5/p 1 3 4 5/end/";
+
+const UNCOVERED: &str = "p 0 4/p 0 3 4/p 0 3 4 5/p 1 3 4 5/p 0 1 2 3 4 5/end/";
+
 // Without the lamp nothing brings it; one is never in both rooms; and some wish is always missing.
 // The last two states are covered by one trap.
 #[test]
 fn asks_three_pruners_in_order(rt: HostRuntime) -> Result<(), Fail> {
-    let log = "p 0 4/p 0 3 4/p 0 3 4 5/p 1 3 4 5/end/";
-    let told = replayed(rt.alloc(), SIX_ATOMS, log)?;
-    assert!(rt; counted(told.as_slice()) == (62, 1, 1));
-    assert!(rt; is_proof(rt.alloc(), SIX_ATOMS, told.as_slice())?);
-    let log = "p 0 4/p 0 3 4/p 0 3 4 5/p 1 3 4 5/p 0 1 2 3 4 5/end/";
-    let none = replayed(rt.alloc(), SIX_ATOMS, log)?;
-    assert!(rt; none.as_slice() == b"1 log line 5: unjustified\n".as_slice());
+    assert!(rt; has_lines(rt.alloc(), SIX_ATOMS, COVERED, (62, 1, 1))?);
+    assert!(rt; is_proved(rt.alloc(), SIX_ATOMS, COVERED)?);
+    let answer = "1 log line 5: unjustified";
+    assert!(rt; tells_replayed(rt.alloc(), SIX_ATOMS, UNCOVERED, answer)?);
     Ok(())
 }
 
 // Appends the proof that the log becomes with these pruners; nothing where it becomes none.
+fn put_draft(
+    alloc: Global,
+    task: &Task,
+    log: &Log,
+    pruners: &mut Vec<Box<dyn Pruner>>,
+    text: &mut Text,
+) -> Result<(), AllocError>
+    requires { log.now.atoms ≡ atoms task.now }
+{
+    match replay(alloc, task, log, pruners) {
+        Ok(draft) => write_proof(alloc, draft.table(), text),
+        Err(_) => Ok(()),
+    }
+}
+
+// The same for the log of the shelf; nothing where it is none.
+fn put_replay(
+    alloc: Global,
+    shelf: &mut SureShelf,
+    task: &Task,
+    pruners: &mut Vec<Box<dyn Pruner>>,
+    text: &mut Text,
+) -> Result<(), AllocError> {
+    match read_log(alloc, shelf, "log", task) {
+        Ok(log) => put_draft(alloc, task, &log, pruners, text),
+        Err(_) => Ok(()),
+    }
+}
+
+// The same for the task of the shelf; nothing where it is none.
 fn put_proof(
     alloc: Global,
     shelf: &mut SureShelf,
     pruners: &mut Vec<Box<dyn Pruner>>,
     text: &mut Text,
 ) -> Result<(), AllocError> {
-    let Ok(task) = read_task(alloc, shelf, "task", Limits::STANDARD) else {
-        return Ok(());
-    };
-    let Ok(log) = read_log(alloc, shelf, "log", &task) else {
-        return Ok(());
-    };
-    let Ok(draft) = replay(alloc, &task, &log, pruners) else {
-        return Ok(());
-    };
-    write_proof(alloc, draft.table(), text)
+    match read_task(alloc, shelf, "task", Limits::STANDARD) {
+        Ok(task) => put_replay(alloc, shelf, &task, pruners, text),
+        Err(_) => Ok(()),
+    }
 }
 
 // Adds the file that the short form stands for.
@@ -194,16 +229,27 @@ fn shelf_of(alloc: Global, log: &str) -> Result<SureShelf, AllocError> {
     Ok(shelf)
 }
 
-// The proof that a log of the key task becomes with these pruners.
-fn proof_of(
+// Puts the proof that a log of the key task becomes with these pruners.
+fn put_proof_of(
     alloc: Global,
     log: &str,
     pruners: &mut Vec<Box<dyn Pruner>>,
-) -> Result<Text, AllocError> {
+    text: &mut Text,
+) -> Result<(), AllocError> {
     let mut shelf = shelf_of(alloc, log)?;
+    put_proof(alloc, &mut shelf, pruners, text)
+}
+
+// Whether these pruners write of the log this proof.
+fn writes(
+    alloc: Global,
+    log: &str,
+    pruners: &mut Vec<Box<dyn Pruner>>,
+    told: &[u8],
+) -> Result<bool, AllocError> {
     let mut text = Text::new(alloc);
-    put_proof(alloc, &mut shelf, pruners, &mut text)?;
-    Ok(text)
+    put_proof_of(alloc, log, pruners, &mut text)?;
+    Ok(told.strip_prefix(b"0 ") == Some(text.as_bytes()))
 }
 
 // Whether these pruners write of the log what new ones do.
@@ -213,15 +259,25 @@ fn is_the_same(
     pruners: &mut Vec<Box<dyn Pruner>>,
 ) -> Result<bool, AllocError> {
     let told = replayed(alloc, KEY_TASK, log)?;
-    let proof = proof_of(alloc, log, pruners)?;
-    Ok(told.as_slice().strip_prefix(b"0 ") == Some(proof.as_bytes()))
+    writes(alloc, log, pruners, told.as_slice())
+}
+
+// The same for two logs, one after the other.
+fn are_the_same(alloc: Global, pruners: &mut Vec<Box<dyn Pruner>>) -> Result<bool, AllocError> {
+    let first = is_the_same(alloc, "x 0/p 1/end/", pruners)?;
+    let second = is_the_same(alloc, "p 0/end/", pruners)?;
+    Ok(first & second)
+}
+
+// The same for the three pruners.
+fn are_the_same_by_three(alloc: Global) -> Result<bool, AllocError> {
+    let mut pruners = three_pruners(alloc)?;
+    are_the_same(alloc, &mut pruners)
 }
 
 // Pruners that are used again write what new ones do.
 #[test]
 fn replays_a_second_log_with_the_same_pruners(rt: HostRuntime) -> Result<(), Fail> {
-    let mut pruners = pruners_of(rt.alloc())?;
-    assert!(rt; is_the_same(rt.alloc(), "x 0/p 1/end/", &mut pruners)?);
-    assert!(rt; is_the_same(rt.alloc(), "p 0/end/", &mut pruners)?);
+    assert!(rt; are_the_same_by_three(rt.alloc())?);
     Ok(())
 }

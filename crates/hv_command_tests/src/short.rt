@@ -3,9 +3,9 @@
 
 ghost use Rattle.std.specs.Prelude.{◌≤◌};
 
+use crate::pruners::pruners_of;
 use hv_bytes::{MemoryShelf, MemorySink};
 use hv_command::{Status, Words, run};
-use hv_lines::Pruner;
 use std::alloc::{AllocError, Global};
 use std::process::Abort;
 use std::test::Fail;
@@ -47,19 +47,51 @@ const REST: &str = concat!(
     "k 3 d 6 sd 2 0\nk 4 d 3 pg 1 0 3\nk 5 s 1 3 b1\nk 6 d 1 sd 5 4\nk 7 u ci 6\n"
 );
 
+// Puts what a letter of a short form stands for last.
+fn put_letter(text: &mut Vec<u8>, letter: u8) -> Result<(), AllocError> {
+    match letter {
+        b'/' => text.push(b'\n')?,
+        b'@' => text.extend_from_slice(FRONT.as_bytes())?,
+        b'%' => text.extend_from_slice(REST.as_bytes())?,
+        other => text.push(other)?,
+    }
+    Ok(())
+}
+
+// Puts what a short form stands for last.
+fn put_letters(text: &mut Vec<u8>, short: &str) -> Result<(), AllocError> {
+    for letter in short.as_bytes() {
+        put_letter(text, *letter)?;
+    }
+    Ok(())
+}
+
 /// The text that a short form stands for: `/` is an LF, `@` the lines that most proofs begin with,
 /// and `%` those behind set 3.
 pub(crate) fn written(alloc: Global, short: &str) -> Result<Vec<u8>, AllocError> {
     let mut text = Vec::new(alloc);
-    for byte in short.as_bytes() {
-        match *byte {
-            b'/' => text.push(b'\n')?,
-            b'@' => text.extend_from_slice(FRONT.as_bytes())?,
-            b'%' => text.extend_from_slice(REST.as_bytes())?,
-            other => text.push(other)?,
-        }
-    }
+    put_letters(&mut text, short)?;
     Ok(text)
+}
+
+/// Puts the names of so many atoms last.
+pub(crate) fn put_names(task: &mut String, atoms: u32) -> Result<(), AllocError> {
+    for atom in 0..atoms {
+        write!(task, "x{atom}/")?;
+    }
+    Ok(())
+}
+
+// Adds these three files.
+fn add_files(
+    shelf: &mut MemoryShelf,
+    task: &[u8],
+    proof: &[u8],
+    nodes: &[u8],
+) -> Result<(), AllocError> {
+    shelf.add("task", task)?;
+    shelf.add("proof", proof)?;
+    shelf.add("nodes", nodes)
 }
 
 // A shelf with these three files.
@@ -73,19 +105,79 @@ fn shelf_of(
     requires { 1 ≤ step }
 {
     let mut shelf = MemoryShelf::new(alloc, step);
-    shelf.add("task", task)?;
-    shelf.add("proof", proof)?;
-    shelf.add("nodes", nodes)?;
+    add_files(&mut shelf, task, proof, nodes)?;
     Ok(shelf)
 }
 
-// The words of a text that parts them by single spaces.
-fn words_of(alloc: Global, text: &str) -> Result<Words, AllocError> {
-    let mut words = Words::new(alloc);
+// A shelf with a task and a proof, of which 7 bytes are read at once and the call of this number
+// fails.
+fn faulty_shelf(
+    alloc: Global,
+    task: &[u8],
+    proof: &[u8],
+    call: u64,
+) -> Result<MemoryShelf, AllocError> {
+    let mut shelf = shelf_of(alloc, 7, task, proof, b"")?;
+    shelf.fail_at(call)?;
+    Ok(shelf)
+}
+
+// A sink whose write of this number fails.
+fn faulty_sink(alloc: Global, write: u64) -> Result<MemorySink, AllocError> {
+    let mut sink = MemorySink::new(alloc, 10, 65536)?;
+    sink.fail_at(write)?;
+    Ok(sink)
+}
+
+/// Puts the words of the text last, which are parted by single spaces; no text is no word.
+pub(crate) fn put_words(words: &mut Words, text: &str) -> Result<(), AllocError> {
+    if text.is_empty() {
+        return Ok(());
+    }
     for word in text.split(' ') {
         words.push(word)?;
     }
-    Ok(words)
+    Ok(())
+}
+
+// Runs these words.
+fn run_words(
+    alloc: Global,
+    words: &Words,
+    shelf: &mut MemoryShelf,
+    sink: &mut MemorySink,
+    pruned: bool,
+) -> Result<Status, AllocError> {
+    let pruners = pruners_of(alloc, pruned)?;
+    Ok(run(alloc, words, shelf, sink, pruners))
+}
+
+// Runs the words of a text.
+fn run_text(
+    alloc: Global,
+    text: &str,
+    shelf: &mut MemoryShelf,
+    sink: &mut MemorySink,
+    pruned: bool,
+) -> Result<Status, AllocError> {
+    let mut words = Words::new(alloc);
+    put_words(&mut words, text)?;
+    run_words(alloc, &words, shelf, sink, pruned)
+}
+
+// Puts the number of the status, a space, and what was printed last.
+fn put_told(told: &mut Vec<u8>, status: Status, printed: &[u8]) -> Result<(), AllocError> {
+    told.push(b'0'.wrapping_add(status.number()))?;
+    told.push(b' ')?;
+    told.extend_from_slice(printed)?;
+    Ok(())
+}
+
+// The number of the status, a space, and what was printed.
+fn told_text(alloc: Global, status: Status, printed: &[u8]) -> Result<Vec<u8>, AllocError> {
+    let mut told = Vec::new(alloc);
+    put_told(&mut told, status, printed)?;
+    Ok(told)
 }
 
 // Runs the words: the number of the status, a space, and what was printed.
@@ -94,30 +186,35 @@ fn answer(
     words: &str,
     shelf: &mut MemoryShelf,
     sink: &mut MemorySink,
-    pruners: Vec<Box<dyn Pruner>>,
+    pruned: bool,
 ) -> Result<Vec<u8>, AllocError> {
-    let words = words_of(alloc, words)?;
-    let status = run(alloc, &words, shelf, sink, pruners);
-    let mut told = Vec::new(alloc);
-    told.push(b'0'.wrapping_add(status.number()))?;
-    told.push(b' ')?;
-    told.extend_from_slice(sink.bytes())?;
-    Ok(told)
+    let status = run_text(alloc, words, shelf, sink, pruned)?;
+    told_text(alloc, status, sink.bytes())
 }
 
-/// What these words tell of the three files with these pruners: the number of the status, a space,
-/// and what was printed.
+// What the words tell of the files of this shelf.
+fn told_of_shelf(
+    alloc: Global,
+    words: &str,
+    shelf: &mut MemoryShelf,
+    pruned: bool,
+) -> Result<Vec<u8>, AllocError> {
+    let mut sink = MemorySink::new(alloc, 10, 65536)?;
+    answer(alloc, words, shelf, &mut sink, pruned)
+}
+
+/// What these words tell of the three files, with the three pruners or with none: the number of the
+/// status, a space, and what was printed.
 pub(crate) fn told_by(
     alloc: Global,
     words: &str,
     task: &[u8],
     proof: &[u8],
     nodes: &[u8],
-    pruners: Vec<Box<dyn Pruner>>,
+    pruned: bool,
 ) -> Result<Vec<u8>, AllocError> {
     let mut shelf = shelf_of(alloc, 4096, task, proof, nodes)?;
-    let mut sink = MemorySink::new(alloc, 10, 65536)?;
-    answer(alloc, words, &mut shelf, &mut sink, pruners)
+    told_of_shelf(alloc, words, &mut shelf, pruned)
 }
 
 /// The same without pruners and nodes.
@@ -127,7 +224,18 @@ pub(crate) fn told(
     task: &[u8],
     proof: &[u8],
 ) -> Result<Vec<u8>, AllocError> {
-    told_by(alloc, words, task, proof, b"", Vec::new(alloc))
+    told_by(alloc, words, task, proof, b"", false)
+}
+
+// What the words tell of the files of this shelf where the sink's write of this number fails.
+fn told_to_faulty(
+    alloc: Global,
+    words: &str,
+    shelf: &mut MemoryShelf,
+    write: u64,
+) -> Result<Vec<u8>, AllocError> {
+    let mut sink = faulty_sink(alloc, write)?;
+    answer(alloc, words, shelf, &mut sink, false)
 }
 
 // What the words tell of these files where the shelf's call and the sink's write of these numbers
@@ -140,11 +248,8 @@ fn told_on(
     call: u64,
     write: u64,
 ) -> Result<Vec<u8>, AllocError> {
-    let mut shelf = shelf_of(alloc, 7, task, proof, b"")?;
-    shelf.fail_at(call)?;
-    let mut sink = MemorySink::new(alloc, 10, 65536)?;
-    sink.fail_at(write)?;
-    answer(alloc, words, &mut shelf, &mut sink, Vec::new(alloc))
+    let mut shelf = faulty_shelf(alloc, task, proof, call)?;
+    told_to_faulty(alloc, words, &mut shelf, write)
 }
 
 /// The same for the key task. The shelf reads 7 bytes at once, and the sink takes 10. No call has
@@ -178,6 +283,18 @@ pub(crate) fn is_one_of(alloc: Global, told: &[u8], answers: &str) -> Result<boo
     Ok(false)
 }
 
+// Whether the words tell one of these answers, of these files.
+fn tells_of(
+    alloc: Global,
+    words: &str,
+    task: &[u8],
+    proof: &[u8],
+    answers: &str,
+) -> Result<bool, AllocError> {
+    let told = told(alloc, words, task, proof)?;
+    is_one_of(alloc, told.as_slice(), answers)
+}
+
 /// Whether the words tell one of these answers, of files in short form.
 pub(crate) fn tells(
     alloc: Global,
@@ -188,19 +305,30 @@ pub(crate) fn tells(
 ) -> Result<bool, AllocError> {
     let task = written(alloc, task)?;
     let proof = written(alloc, proof)?;
-    let told = told(alloc, words, task.as_slice(), proof.as_slice())?;
-    is_one_of(alloc, told.as_slice(), answers)
+    tells_of(alloc, words, task.as_slice(), proof.as_slice(), answers)
 }
 
-/// Asserts that the words tell of the key task and each proof its answer.
+/// Whether these words, of a check, are answered by yes.
+pub(crate) fn is_done(
+    alloc: Global,
+    words: &str,
+    task: &[u8],
+    proof: &[u8],
+) -> Result<bool, AllocError> {
+    let told = told(alloc, words, task, proof)?;
+    Ok(told.as_slice() == b"0 unsolvable\n".as_slice())
+}
+
+/// Asserts that the words tell of this task and each proof its answer.
 pub(crate) fn all_told(
     rt: &impl Abort,
     alloc: Global,
     words: &str,
+    task: &str,
     rows: &[(&str, &str)],
 ) -> Result<(), Fail> {
     for (proof, answers) in rows {
-        assert!(rt; tells(alloc, words, KEY_TASK, proof, answers)?, "{proof}");
+        assert!(rt; tells(alloc, words, task, proof, answers)?, "{proof}");
     }
     Ok(())
 }

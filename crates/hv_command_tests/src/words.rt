@@ -1,20 +1,10 @@
 //! The words of the program, and the jobs that they name.
 
+use crate::short::put_words;
 use hv_command::{FileName, Job, Kind, Words, read_job};
 use std::alloc::{AllocError, Global};
 use std::process::Abort;
 use std::test::Fail;
-
-// The words of the text, parted by single spaces; no text is no word.
-fn words_of(alloc: Global, text: &str) -> Result<Words, AllocError> {
-    let mut words = Words::new(alloc);
-    if !text.is_empty() {
-        for word in text.split(' ') {
-            words.push(word)?;
-        }
-    }
-    Ok(words)
-}
 
 fn name_or_none(name: &Option<FileName>) -> &str {
     match name {
@@ -44,6 +34,23 @@ fn with_options(
     format!(in alloc; "{command} {task} {proof} {nodes} {budget}")
 }
 
+// The kind and the task.
+fn with_kind(alloc: Global, kind: Kind, task: &FileName) -> Result<String, AllocError> {
+    let (kind, task) = (kind_word(kind), task.as_str());
+    format!(in alloc; "{kind} {task}")
+}
+
+// The command and the two files.
+fn with_log(alloc: Global, task: &FileName, log: &FileName) -> Result<String, AllocError> {
+    let (task, log) = (task.as_str(), log.as_str());
+    format!(in alloc; "replay {task} {log}")
+}
+
+// The command and the number.
+fn with_rooms(alloc: Global, rooms: u32) -> Result<String, AllocError> {
+    format!(in alloc; "sample {rooms}")
+}
+
 // The job as text: the command, and then what the job has, field by field.
 fn told_of(alloc: Global, job: &Job) -> Result<String, AllocError> {
     match job {
@@ -59,31 +66,40 @@ fn told_of(alloc: Global, job: &Job) -> Result<String, AllocError> {
             nodes,
             budget,
         } => with_options(alloc, "explain", (task, proof), nodes, *budget),
-        Job::Produce { kind, task } => {
-            let word = kind_word(*kind);
-            format!(in alloc; "{word} {}", task.as_str())
-        }
-        Job::Replay { task, log } => {
-            format!(in alloc; "replay {} {}", task.as_str(), log.as_str())
-        }
-        Job::Sample { rooms } => format!(in alloc; "sample {rooms}"),
+        Job::Produce { kind, task } => with_kind(alloc, *kind, task),
+        Job::Replay { task, log } => with_log(alloc, task, log),
+        Job::Sample { rooms } => with_rooms(alloc, *rooms),
     }
 }
 
-// The job that the words name, as text, or `no job`.
-fn told(alloc: Global, text: &str) -> Result<String, AllocError> {
-    match read_job(alloc, &words_of(alloc, text)?)? {
-        Some(job) => told_of(alloc, &job),
-        None => String::from_str(alloc, "no job"),
+// Whether the job is this one, as text.
+fn is_job(alloc: Global, job: &Job, text: &str) -> Result<bool, AllocError> {
+    let told = told_of(alloc, job)?;
+    Ok(told.as_str() == text)
+}
+
+// The same, where no job is `no job`.
+fn is_job_or_none(alloc: Global, job: &Option<Job>, text: &str) -> Result<bool, AllocError> {
+    match job {
+        Some(job) => is_job(alloc, job, text),
+        None => Ok(text == "no job"),
     }
 }
 
-// Whether the words name this job.
+// Whether these words name this job.
+fn name_job(alloc: Global, words: &Words, text: &str) -> Result<bool, AllocError> {
+    let job = read_job(alloc, words)?;
+    is_job_or_none(alloc, &job, text)
+}
+
+// Whether the words of the text name this job.
 fn names(alloc: Global, text: &str, job: &str) -> Result<bool, AllocError> {
-    Ok(told(alloc, text)?.as_str() == job)
+    let mut words = Words::new(alloc);
+    put_words(&mut words, text)?;
+    name_job(alloc, &words, job)
 }
 
-const JOBS: [(&str, &str); 15] = [
+static JOBS: [(&str, &str); 15] = [
     ("check t p", "check t p none 1000000"),
     ("check t p --budget 1", "check t p none 1"),
     ("check t p --budget 16777216", "check t p none 16777216"),
@@ -102,7 +118,7 @@ const JOBS: [(&str, &str); 15] = [
 ];
 
 // Words that are no job.
-const NO_JOBS: [&str; 67] = [
+static NO_JOBS: [&str; 67] = [
     "",
     " ",
     " t p",
@@ -172,13 +188,24 @@ const NO_JOBS: [&str; 67] = [
     "sample 3 3",
 ];
 
-#[test]
-fn reads_words_that_are_a_job(rt: HostRuntime) -> Result<(), Fail> {
-    for (text, job) in JOBS {
-        assert!(rt; names(rt.alloc(), text, job)?, "{text}");
-    }
-    for text in NO_JOBS {
-        assert!(rt; names(rt.alloc(), text, "no job")?, "{text}");
+// Asserts that each text names its job.
+fn all_jobs(rt: &impl Abort, alloc: Global, rows: &[(&str, &str)]) -> Result<(), Fail> {
+    for (text, job) in rows {
+        assert!(rt; names(alloc, text, job)?, "{text}");
     }
     Ok(())
+}
+
+// Asserts that no text names one.
+fn all_no_jobs(rt: &impl Abort, alloc: Global, texts: &[&str]) -> Result<(), Fail> {
+    for text in texts {
+        assert!(rt; names(alloc, text, "no job")?, "{text}");
+    }
+    Ok(())
+}
+
+#[test]
+fn reads_words_that_are_a_job(rt: HostRuntime) -> Result<(), Fail> {
+    all_jobs(&rt, rt.alloc(), &JOBS)?;
+    all_no_jobs(&rt, rt.alloc(), &NO_JOBS)
 }
