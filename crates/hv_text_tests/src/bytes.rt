@@ -10,10 +10,11 @@ use hv_bytes::{
 use std::alloc::{AllocError, Global};
 use std::test::Fail;
 
+/// A file of two lines.
 const TEXT: &str = "a 0 a\ne 0 c e\n";
 
 /// A shelf that holds one file, `file`.
-fn shelf_of(alloc: Global, text: &str, step: usize) -> Result<MemoryShelf, Fail>
+fn shelf_of(alloc: Global, text: &str, step: usize) -> Result<MemoryShelf, AllocError>
     requires { 1 ≤ step }
 {
     let mut shelf = MemoryShelf::new(alloc, step);
@@ -53,46 +54,86 @@ fn all_lines<S: Shelf>(
     }
 }
 
-/// The lines of the text by reads of `step` bytes, each ended by `|`; `!` where one is long.
-fn lines_read(alloc: Global, text: &str, step: usize, limits: Limits) -> Result<Vec<u8>, Fail>
+/// Puts the line and `|` last.
+fn push_ended(joined: &mut Vec<u8>, line: &[u8]) -> Result<(), AllocError> {
+    joined.extend_from_slice(line)?;
+    joined.push(b'|')?;
+    Ok(())
+}
+
+/// Whether these are the lines, each ended by `|`.
+fn are(alloc: Global, lines: &[Vec<u8>], want: &str) -> Result<bool, AllocError> {
+    let mut joined = Vec::new(alloc);
+    for line in lines {
+        push_ended(&mut joined, line.as_slice())?;
+    }
+    Ok(joined.as_slice() == want.as_bytes())
+}
+
+/// Whether the open file has these lines, each ended by `|`; `!` stands for a long line.
+fn has_lines(
+    alloc: Global,
+    shelf: &mut MemoryShelf,
+    limits: Limits,
+    want: &str,
+) -> Result<bool, LineFault>
+    requires line { limits.line ≤ 2 ^ 62 }
+    requires file { limits.file ≤ 2 ^ 62 }
+{
+    match all_lines(alloc, shelf, limits) {
+        Ok(lines) => Ok(are(alloc, lines.as_slice(), want)?),
+        Err(LineFault::Long) => Ok(want == "!"),
+        Err(fault) => Err(fault),
+    }
+}
+
+/// Whether the text has these lines by reads of `step` bytes.
+fn is_cut_by(
+    alloc: Global,
+    text: &str,
+    step: usize,
+    limits: Limits,
+    want: &str,
+) -> Result<bool, LineFault>
     requires step { 1 ≤ step }
     requires line { limits.line ≤ 2 ^ 62 }
     requires file { limits.file ≤ 2 ^ 62 }
 {
     let mut shelf = shelf_of(alloc, text, step)?;
     shelf.open("file")?;
-    let mut joined = Vec::new(alloc);
-    match all_lines(alloc, &mut shelf, limits) {
-        Ok(lines) => {
-            for line in &lines {
-                joined.extend_from_slice(line.as_slice())?;
-                joined.push(b'|')?;
-            }
-        }
-        Err(LineFault::Long) => joined.push(b'!')?,
-        Err(fault) => return Err(fault.into()),
-    }
-    Ok(joined)
+    has_lines(alloc, &mut shelf, limits, want)
 }
+
+/// Whether the text has these lines by reads of one byte, of seven, and of more than it has.
+fn is_cut(alloc: Global, text: &str, limits: Limits, want: &str) -> Result<bool, LineFault>
+    requires line { limits.line ≤ 2 ^ 62 }
+    requires file { limits.file ≤ 2 ^ 62 }
+{
+    let mut right = is_cut_by(alloc, text, 1, limits, want)?;
+    right &= is_cut_by(alloc, text, 7, limits, want)?;
+    right &= is_cut_by(alloc, text, 4096, limits, want)?;
+    Ok(right)
+}
+
+/// Texts, and their lines.
+static CUTS: [(&str, &str); 8] = [
+    ("", ""),
+    ("a", "a|"),
+    ("a\n", "a|"),
+    ("\n", "|"),
+    ("\n\n", "||"),
+    ("a\n\nb", "a||b|"),
+    ("ab\r\nc", "ab\r|c|"),
+    ("\nmore than seven bytes\n\n", "|more than seven bytes||"),
+];
 
 #[test]
 fn cuts_lines(rt: HostRuntime) -> Result<(), Fail> {
-    let cases = [
-        ("", ""),
-        ("a", "a|"),
-        ("a\n", "a|"),
-        ("\n", "|"),
-        ("\n\n", "||"),
-        ("a\n\nb", "a||b|"),
-        ("ab\r\nc", "ab\r|c|"),
-        ("\nmore than seven bytes\n\n", "|more than seven bytes||"),
-    ];
-    for (text, want) in cases {
-        for step in [1, 7, 4096] {
-            assert!(rt; 1 <= step);
-            let got = lines_read(rt.alloc(), text, step, Limits::STANDARD)?;
-            assert_eq!(rt; got.as_slice(), want.as_bytes(), "{text:?} by {step}");
-        }
+    for (text, want) in &CUTS {
+        assert!(rt;
+            is_cut(rt.alloc(), text, Limits::STANDARD, want)?,
+            "{text:?}"
+        );
     }
     Ok(())
 }
@@ -126,143 +167,222 @@ impl Shelf for Terminal {
     }
 }
 
+/// Whether there is a next call, and it gives this.
+fn gives(lines: &mut Lines, terminal: &mut Terminal, want: Next) -> bool {
+    lines.live() && lines.next(terminal) == Ok(want)
+}
+
+/// Whether the terminal gives one line and no further one.
+fn gives_one_line(alloc: Global, terminal: &mut Terminal) -> Result<bool, AllocError> {
+    let mut lines = Lines::new(alloc, Limits::STANDARD)?;
+    let mut right = gives(&mut lines, terminal, Next::Line);
+    right &= gives(&mut lines, terminal, Next::End);
+    right &= gives(&mut lines, terminal, Next::End);
+    Ok(right)
+}
+
 #[test]
 fn ends_once(rt: HostRuntime) -> Result<(), Fail> {
     let mut terminal = Terminal { reads: 0 };
-    let mut lines = Lines::new(rt.alloc(), Limits::STANDARD)?;
-    for want in [Next::Line, Next::End, Next::End] {
-        assert!(rt; lines.live());
-        assert_eq!(rt; lines.next(&mut terminal)?, want);
-    }
+    assert!(rt; gives_one_line(rt.alloc(), &mut terminal)?);
     assert_eq!(rt; terminal.reads, 2);
     Ok(())
+}
+
+/// Whether the shelf's file gives a first line.
+fn gives_first(alloc: Global, shelf: &mut MemoryShelf) -> Result<bool, LineFault> {
+    shelf.open("file")?;
+    let mut lines = Lines::new(alloc, Limits::STANDARD)?;
+    Ok(lines.next(shelf).is_ok())
+}
+
+/// Whether a file gives its first line where the shelf's call of this number fails.
+fn reads_first(alloc: Global, call: u64) -> Result<bool, LineFault> {
+    let mut shelf = shelf_of(alloc, "e 1 c e\n# x\n# x\n# x\n", 7)?;
+    shelf.fail_at(call)?;
+    gives_first(alloc, &mut shelf)
 }
 
 #[test]
 fn reads_no_further_than_a_line(rt: HostRuntime) -> Result<(), Fail> {
     // the open and two reads of seven bytes bring the eight bytes of the first line
-    for call in [3, 4] {
-        let mut shelf = shelf_of(rt.alloc(), "e 1 c e\n# x\n# x\n# x\n", 7)?;
-        shelf.fail_at(call)?;
-        shelf.open("file")?;
-        let mut lines = Lines::new(rt.alloc(), Limits::STANDARD)?;
-        let first = lines.next(&mut shelf);
-        assert_eq!(rt; first.is_ok(), call == 4, "at call {call}");
-    }
+    assert!(rt; !reads_first(rt.alloc(), 3)?);
+    assert!(rt; reads_first(rt.alloc(), 4)?);
     Ok(())
+}
+
+/// Lines, their first fields, and what follows them.
+static FIELDS: [(&str, &str, Option<&str>); 6] = [
+    ("", "", None),
+    ("17", "17", None),
+    ("17 0 1", "17", Some("0 1")),
+    (" 17", "", Some("17")),
+    ("17 ", "17", Some("")),
+    ("1  0", "1", Some(" 0")),
+];
+
+/// Whether the line is parted so.
+fn is_parted(line: &str, first: &str, rest: Option<&str>) -> bool {
+    let got = split_field(line.as_bytes());
+    got.0 == first.as_bytes() && got.1 == rest.map(|rest| rest.as_bytes())
 }
 
 #[test]
 fn parts_fields(rt: HostRuntime) {
-    let cases = [
-        ("", "", None),
-        ("17", "17", None),
-        ("17 0 1", "17", Some("0 1")),
-        (" 17", "", Some("17")),
-        ("17 ", "17", Some("")),
-        ("1  0", "1", Some(" 0")),
-    ];
-    for (line, first, rest) in cases {
-        let got = split_field(line.as_bytes());
-        assert_eq!(rt; got.0, first.as_bytes(), "{line:?}");
-        assert_eq!(rt; got.1, rest.map(|rest| rest.as_bytes()), "{line:?}");
+    for (line, first, rest) in &FIELDS {
+        assert!(rt; is_parted(line, first, *rest), "{line:?}");
     }
+}
+
+/// Texts, the limits of a line and of a file, and the lines.
+static LONG_LINES: [(&str, u8, u8, &str); 6] = [
+    ("e 0 h 1 -3 0\n", 10, 100, "!"),
+    ("e 0 h 1 -3 0\n", 12, 100, "e 0 h 1 -3 0|"),
+    ("ab\ncd\n", 9, 5, "ab|cd|"),
+    ("ab\ncd\n", 9, 4, "!"),
+    ("ab\n\n", 9, 4, "ab||"),
+    ("ab\n\n", 9, 3, "!"),
+];
+
+/// Whether the text has these lines within the limits.
+fn is_cut_within(
+    alloc: Global,
+    text: &str,
+    line: u8,
+    file: u8,
+    want: &str,
+) -> Result<bool, LineFault> {
+    let limits = Limits {
+        line: line as u64,
+        file: file as u64,
+    };
+    is_cut(alloc, text, limits, want)
 }
 
 #[test]
 fn refuses_long_lines(rt: HostRuntime) -> Result<(), Fail> {
     // the last byte of an empty line is its LF, and that of another line stands before its LF
-    let cases = [
-        ("e 0 h 1 -3 0\n", 10, 100, "!"),
-        ("e 0 h 1 -3 0\n", 12, 100, "e 0 h 1 -3 0|"),
-        ("ab\ncd\n", 9, 5, "ab|cd|"),
-        ("ab\ncd\n", 9, 4, "!"),
-        ("ab\n\n", 9, 4, "ab||"),
-        ("ab\n\n", 9, 3, "!"),
-    ];
-    for (text, line, file, want) in cases {
-        for step in [1, 7, 4096] {
-            assert!(rt; 1 <= step && line <= 100 && file <= 100);
-            let got = lines_read(rt.alloc(), text, step, Limits { line, file })?;
-            assert_eq!(rt; got.as_slice(), want.as_bytes(), "{text:?} by {step}");
-        }
+    for (text, line, file, want) in &LONG_LINES {
+        assert!(rt;
+            is_cut_within(rt.alloc(), text, *line, *file, want)?,
+            "{text:?}"
+        );
     }
     Ok(())
+}
+
+/// Whether the shelf's file is read to its end.
+fn is_read(alloc: Global, shelf: &mut MemoryShelf) -> bool {
+    shelf.open("file").is_ok() && all_lines(alloc, shelf, Limits::STANDARD).is_ok()
+}
+
+/// Whether a shelf whose call of this number fails reads its file so, and has no other file.
+fn reads_so(alloc: Global, call: u64, read: bool) -> Result<bool, AllocError> {
+    let mut shelf = shelf_of(alloc, TEXT, 7)?;
+    shelf.fail_at(call)?;
+    let right = is_read(alloc, &mut shelf) == read;
+    Ok(right & shelf.open("other").is_err())
+}
+
+/// How many lines the file of this name has.
+fn count_of(alloc: Global, shelf: &mut SureShelf, name: &str) -> Result<usize, LineFault> {
+    shelf.open(name)?;
+    let lines = all_lines(alloc, shelf, Limits::STANDARD)?;
+    Ok(lines.len())
+}
+
+/// Whether a sure shelf has its file, and nothing under another name.
+fn is_sure(alloc: Global) -> Result<bool, LineFault> {
+    let mut shelf = SureShelf::new(alloc);
+    shelf.add("file", TEXT.as_bytes())?;
+    let held = count_of(alloc, &mut shelf, "file")?;
+    let other = count_of(alloc, &mut shelf, "other")?;
+    Ok((held, other) == (2, 0))
 }
 
 #[test]
 fn shelves_fail_where_told(rt: HostRuntime) -> Result<(), Fail> {
     // the open, two reads of seven bytes, and the read of no bytes
     for call in 1..6 {
-        let mut shelf = shelf_of(rt.alloc(), TEXT, 7)?;
-        shelf.fail_at(call)?;
-        let is_read = shelf.open("file").is_ok()
-            && all_lines(rt.alloc(), &mut shelf, Limits::STANDARD).is_ok();
-        assert_eq!(rt; is_read, 4 < call, "at call {call}");
-        assert!(rt; shelf.open("other").is_err());
+        assert!(rt; reads_so(rt.alloc(), call, 4 < call)?, "at call {call}");
     }
-    let mut sure = SureShelf::new(rt.alloc());
-    sure.add("file", TEXT.as_bytes())?;
-    for (name, count) in [("file", 2), ("other", 0)] {
-        sure.open(name)?;
-        let lines = all_lines(rt.alloc(), &mut sure, Limits::STANDARD)?;
-        assert_eq!(rt; lines.len(), count);
-    }
+    assert!(rt; is_sure(rt.alloc())?);
     Ok(())
+}
+
+/// Whether the bytes are sent so, and the sink has taken these then.
+fn sends(sink: &mut MemorySink, bytes: &str, sent: bool, taken: &str) -> bool {
+    let right = send(sink, bytes.as_bytes()).is_ok() == sent;
+    right & (sink.bytes() == taken.as_bytes())
+}
+
+/// Whether a sink whose second call fails keeps what it took before, and takes the rest later.
+fn takes_the_rest(alloc: Global) -> Result<bool, AllocError> {
+    let mut sink = MemorySink::new(alloc, 10, 100)?;
+    sink.fail_at(2)?;
+    let right = sends(&mut sink, TEXT, false, "a 0 a\ne 0 ");
+    Ok(right & sends(&mut sink, "c e\n", true, TEXT))
 }
 
 #[test]
 fn writes_bytes(rt: HostRuntime) -> Result<(), Fail> {
-    let mut sink = MemorySink::new(rt.alloc(), 10, 100)?;
-    sink.fail_at(2)?;
-    assert!(rt; send(&mut sink, TEXT.as_bytes()).is_err());
-    assert_eq!(rt; sink.bytes(), b"a 0 a\ne 0 ".as_slice());
-    assert!(rt; send(&mut sink, b"c e\n").is_ok());
-    assert_eq!(rt; sink.bytes(), TEXT.as_bytes());
+    assert!(rt; takes_the_rest(rt.alloc())?);
     Ok(())
+}
+
+/// Whether the text `=` and the number is this one, and is cut to `=` again.
+fn is_written(alloc: Global, number: u64, want: &str) -> Result<bool, AllocError> {
+    let mut text = Text::new(alloc);
+    text.push_bytes(b"=")?;
+    text.push_number(number)?;
+    let right = text.as_bytes() == want.as_bytes();
+    text.truncate(1);
+    Ok(right & (text.as_bytes() == b"=".as_slice()))
 }
 
 #[test]
 fn writes_numbers(rt: HostRuntime) -> Result<(), Fail> {
-    for (number, want) in [(0, "=0"), (70, "=70"), (u64::MAX, "=18446744073709551615")] {
-        let mut text = Text::new(rt.alloc());
-        text.push_bytes(b"=")?;
-        text.push_number(number)?;
-        assert_eq!(rt; text.as_bytes(), want.as_bytes());
-        text.truncate(1);
-        assert_eq!(rt; text.as_bytes(), b"=".as_slice());
-    }
+    assert!(rt; is_written(rt.alloc(), 0, "=0")?);
+    assert!(rt; is_written(rt.alloc(), 70, "=70")?);
+    assert!(rt; is_written(rt.alloc(), u64::MAX, "=18446744073709551615")?);
     Ok(())
+}
+
+/// How many bytes of the text a sink counts.
+fn counted() -> Result<u64, Failed> {
+    let mut sink = SureSink::new();
+    send(&mut sink, TEXT.as_bytes())?;
+    Ok(sink.count())
 }
 
 #[test]
 fn counts_bytes(rt: HostRuntime) -> Result<(), Fail> {
-    let mut sure = SureSink::new();
-    send(&mut sure, TEXT.as_bytes())?;
-    assert_eq!(rt; sure.count(), 14);
+    assert_eq!(rt; counted()?, 14);
     Ok(())
 }
 
+/// Texts, and the numbers that they spell.
+static DECIMALS: [(&str, Option<u64>); 13] = [
+    ("0", Some(0)),
+    ("7", Some(7)),
+    ("65535", Some(65535)),
+    ("999999999999999999", Some(999_999_999_999_999_999)),
+    ("1000000000000000000", None),
+    ("", None),
+    ("00", None),
+    ("07", None),
+    ("+7", None),
+    ("-7", None),
+    ("7 ", None),
+    ("7\r", None),
+    ("0x7", None),
+];
+
 #[test]
 fn reads_decimals(rt: HostRuntime) {
-    let cases = [
-        ("0", Some(0)),
-        ("7", Some(7)),
-        ("65535", Some(65535)),
-        ("999999999999999999", Some(999_999_999_999_999_999)),
-        ("1000000000000000000", None),
-        ("", None),
-        ("00", None),
-        ("07", None),
-        ("+7", None),
-        ("-7", None),
-        ("7 ", None),
-        ("7\r", None),
-        ("0x7", None),
-    ];
-    for (text, want) in cases {
-        assert_eq!(rt; read_decimal(text.as_bytes()), want, "{text:?}");
+    for (text, want) in &DECIMALS {
+        assert!(rt; read_decimal(text.as_bytes()) == *want, "{text:?}");
     }
-    assert_eq!(rt; read_short_decimal(b"999999999"), Some(999_999_999));
-    assert_eq!(rt; read_short_decimal(b"1000000000"), None);
+    assert!(rt; read_short_decimal(b"999999999") == Some(999_999_999));
+    assert!(rt; read_short_decimal(b"1000000000") == None);
 }

@@ -1,8 +1,12 @@
 //! Tests of lines: each form read and written, and what is no line.
 
+ghost use Rattle.std.specs.Prelude.{◌<◌, OnOk};
+ghost use Rattle.hv_lines.specs.Numbering.{expr_count};
+
 use hv_bytes::Text;
 use hv_lines::{Acts, Constant, Draft, Expr, Line, Premises, Statement, Table, Word};
 use hv_proof_text::{LineError, LineReader, read_line, write_line, write_proof};
+use hv_sets::{Clauses, Literal};
 use hv_task::Task;
 use std::alloc::{AllocError, Global};
 use std::test::Fail;
@@ -112,97 +116,199 @@ static NO_LINES: [&str; 51] = [
     " #",
 ];
 
-/// The bytes of the line that the text spells, and of nothing where it spells none.
-fn rewritten(alloc: Global, reader: &mut LineReader, text: &str) -> Result<Text, AllocError> {
-    match reader.read(alloc, text.as_bytes()) {
-        Ok(Some(line)) => write_line(alloc, &line),
-        _ => Ok(Text::new(alloc)),
+/// Whether the line is written as this text.
+fn is_written(alloc: Global, line: &Line, want: &str) -> Result<bool, AllocError> {
+    let text = write_line(alloc, line)?;
+    Ok(text.as_bytes() == want.as_bytes())
+}
+
+/// Whether what was read is a line that is written as this text.
+fn is_line(
+    alloc: Global,
+    read: &Result<Option<Line>, LineError>,
+    want: &str,
+) -> Result<bool, AllocError> {
+    match read {
+        Ok(Some(line)) => is_written(alloc, line, want),
+        _ => Ok(false),
     }
+}
+
+/// Whether the text is read as a line that is written as this text.
+fn is_rewritten(alloc: Global, reader: &mut LineReader, text: &str) -> Result<bool, AllocError> {
+    let read = reader.read(alloc, text.as_bytes());
+    is_line(alloc, &read, text)
 }
 
 #[test]
 fn reads_and_writes_each_form(rt: HostRuntime) -> Result<(), Fail> {
     let mut reader = LineReader::new(rt.alloc());
-    for text in LINES {
-        assert_eq!(rt;
-            rewritten(rt.alloc(), &mut reader, text)?.as_bytes(),
-            text.as_bytes(),
-            "{text}"
-        );
+    for text in &LINES {
+        let rewritten = is_rewritten(rt.alloc(), &mut reader, text);
+        assert!(rt; rewritten == Ok(true), "{text}");
     }
     Ok(())
+}
+
+/// Whether the text is refused as no line.
+fn is_refused(alloc: Global, text: &str) -> bool {
+    read_line(alloc, text.as_bytes()).err() == Some(LineError::Grammar)
 }
 
 #[test]
 fn refuses_what_is_no_line(rt: HostRuntime) {
-    for text in NO_LINES {
-        let error = read_line(rt.alloc(), text.as_bytes()).err();
-        assert_eq!(rt; error, Some(LineError::Grammar), "{text}");
+    for text in &NO_LINES {
+        assert!(rt; is_refused(rt.alloc(), text), "{text}");
     }
+}
+
+/// Whether what was read is no line, and no fault.
+fn is_nothing(read: &Result<Option<Line>, LineError>) -> bool {
+    matches!(read, Ok(None))
+}
+
+/// Whether the text is skipped.
+fn is_skipped(alloc: Global, text: &str) -> bool {
+    let read = read_line(alloc, text.as_bytes());
+    is_nothing(&read)
 }
 
 #[test]
 fn skips_empty_lines_and_comments(rt: HostRuntime) {
-    for text in ["", "#", "# a 0 a", "#a 0 a"] {
-        let read = read_line(rt.alloc(), text.as_bytes());
-        assert!(rt; matches!(read, Ok(None)), "{text}");
+    assert!(rt; is_skipped(rt.alloc(), ""));
+    assert!(rt; is_skipped(rt.alloc(), "#"));
+    assert!(rt; is_skipped(rt.alloc(), "# a 0 a"));
+    assert!(rt; is_skipped(rt.alloc(), "#a 0 a"));
+}
+
+/// Whether the literals are the negation of atom 2, and atom 0.
+fn are_read(literals: &[Literal]) -> bool {
+    match literals {
+        [first, second] => {
+            (first.atom, first.positive) == (2, false)
+                && (second.atom, second.positive) == (0, true)
+        }
+        _ => false,
     }
 }
 
-#[test]
-fn numbers_atoms_from_one(rt: HostRuntime) -> Result<(), Fail> {
-    let read = read_line(rt.alloc(), b"e 7 h 2 -3 1 0 0")?;
-    let line = read.ok_or("skipped")?;
-    if let Line::Expr {
-        id,
-        expr: Expr::Horn(clauses),
-    } = &line
-    {
-        assert_eq!(rt; (*id, clauses.len()), (7, 2));
-        assert_eq!(rt; clauses.get(1).len(), 0);
-        if let [first, second] = clauses.get(0) {
-            assert_eq!(rt; (first.atom, first.positive), (2, false));
-            assert_eq!(rt; (second.atom, second.positive), (0, true));
-            return Ok(());
-        }
+/// Whether the clauses are the one of these literals, and the empty one.
+fn has_clauses(clauses: &Clauses) -> bool {
+    clauses.len() == 2 && clauses.get(1).len() == 0 && are_read(clauses.get(0))
+}
+
+/// Whether what was read is line 7, and has these clauses.
+fn is_seventh(read: &Result<Option<Line>, LineError>) -> bool {
+    match read {
+        Ok(
+            Some(
+                Line::Expr {
+                    id,
+                    expr: Expr::Horn(clauses),
+                },
+            ),
+        ) => *id == 7 && has_clauses(clauses),
+        _ => false,
     }
-    Err(Fail::from(LineError::Grammar))
+}
+
+/// Whether a text of such a line is read so.
+fn is_seventh_read(alloc: Global) -> bool {
+    let read = read_line(alloc, b"e 7 h 2 -3 1 0 0");
+    is_seventh(&read)
+}
+
+#[test]
+fn numbers_atoms_from_one(rt: HostRuntime) {
+    assert!(rt; is_seventh_read(rt.alloc()));
+}
+
+/// Puts all actions last.
+fn put_acts(table: &mut Table) -> Result<(), AllocError> {
+    let id = table.acts_count();
+    table.push(Line::Acts {
+        id,
+        acts: Acts::All,
+    })
+}
+
+/// Puts the empty set last.
+fn put_empty(table: &mut Table) -> Result<(), AllocError>
+    ensures { OnOk result (0 < expr_count table.new.lines) }
+{
+    let id = table.expr_count();
+    table.push(Line::Expr {
+        id,
+        expr: Expr::Constant(Constant::Empty),
+    })
+}
+
+/// Puts last that the first set is dead.
+fn put_dead(table: &mut Table) -> Result<(), AllocError>
+    requires { 0 < expr_count table.old.lines }
+{
+    let id = table.known_count();
+    table.push(Line::Known {
+        id,
+        statement: Statement::Dead(0),
+        word: Word::Ed,
+        premises: Premises::none(),
+    })
+}
+
+/// Puts the three lines last.
+fn put_lines(table: &mut Table) -> Result<(), AllocError> {
+    put_acts(table)?;
+    put_empty(table)?;
+    put_dead(table)
+}
+
+/// Whether the lines are written as this text behind the beginning.
+fn are_written(
+    alloc: Global,
+    table: &Table,
+    beginning: &[u8],
+    want: &[u8],
+) -> Result<bool, AllocError> {
+    let mut out = Text::new(alloc);
+    out.push_bytes(beginning)?;
+    write_proof(alloc, table, &mut out)?;
+    Ok(out.as_bytes() == want)
+}
+
+/// Whether the three lines are written behind a comment.
+fn lines_are_written(alloc: Global) -> Result<bool, AllocError> {
+    let mut table = Table::new(alloc);
+    put_lines(&mut table)?;
+    are_written(
+        alloc,
+        &table,
+        b"# proof\n",
+        b"# proof\na 0 a\ne 0 c e\nk 0 d 0 ed\n",
+    )
 }
 
 #[test]
 fn writes_lines_in_order(rt: HostRuntime) -> Result<(), Fail> {
-    let mut table = Table::new(rt.alloc());
-    table.push(Line::Acts {
-        id: 0,
-        acts: Acts::All,
-    })?;
-    table.push(Line::Expr {
-        id: 0,
-        expr: Expr::Constant(Constant::Empty),
-    })?;
-    table.push(Line::Known {
-        id: 0,
-        statement: Statement::Dead(0),
-        word: Word::Ed,
-        premises: Premises::none(),
-    })?;
-    let mut out = Text::new(rt.alloc());
-    out.push_bytes(b"# proof\n")?;
-    write_proof(rt.alloc(), &table, &mut out)?;
-    assert_eq!(rt;
-        out.as_bytes(),
-        b"# proof\na 0 a\ne 0 c e\nk 0 d 0 ed\n".as_slice()
-    );
+    assert!(rt; lines_are_written(rt.alloc())?);
     Ok(())
+}
+
+/// Whether a draft of this task is written as its first lines.
+fn draft_is_written(alloc: Global, task: &Task) -> Result<bool, AllocError> {
+    let draft = Draft::new(alloc, task)?;
+    let want = b"a 0 a\ne 0 c e\ne 1 c i\ne 2 c g\nk 0 d 0 ed\n";
+    are_written(alloc, draft.table(), b"", want)
+}
+
+/// The same of an empty task.
+fn empty_draft_is_written(alloc: Global) -> Result<bool, AllocError> {
+    let task = Task::new(alloc);
+    draft_is_written(alloc, &task)
 }
 
 #[test]
 fn writes_the_lines_that_begin_a_draft(rt: HostRuntime) -> Result<(), Fail> {
-    let task = Task::new(rt.alloc());
-    let draft = Draft::new(rt.alloc(), &task)?;
-    let mut out = Text::new(rt.alloc());
-    write_proof(rt.alloc(), draft.table(), &mut out)?;
-    let want = "a 0 a\ne 0 c e\ne 1 c i\ne 2 c g\nk 0 d 0 ed\n";
-    assert_eq!(rt; out.as_bytes(), want.as_bytes());
+    assert!(rt; empty_draft_is_written(rt.alloc())?);
     Ok(())
 }

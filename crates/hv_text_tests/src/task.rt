@@ -2,12 +2,13 @@
 
 ghost use Rattle.std.specs.Prelude.{ℕ, ◌<◌, ◌≡◌, ◌+◌, length, IfOk, OnOk};
 ghost use Rattle.hv_task.specs.State.{AreBelow};
-ghost use Rattle.hv_task.specs.Strips.{atoms};
+ghost use Rattle.hv_task.specs.Strips.{IsOver, atoms};
 
 use hv_task::{Action, After, AtomList, Atoms, Hint, Name, State, Task};
 use std::alloc::{AllocError, Global};
 use std::test::Fail;
 
+// The list of this atom.
 fn list_of(alloc: Global, atom: u32) -> Result<AtomList, AllocError>
     ensures { IfOk result (λ list. (bound : ℕ) → atom < bound → AreBelow bound list) }
 {
@@ -16,6 +17,45 @@ fn list_of(alloc: Global, atom: u32) -> Result<AtomList, AllocError>
     Ok(list)
 }
 
+// An action without atoms.
+fn empty_action(alloc: Global) -> Result<Action, AllocError> {
+    Ok(Action {
+        name: Name::new(alloc, b"go")?,
+        cost: 1,
+        pre: AtomList::new(alloc),
+        add: AtomList::new(alloc),
+        del: AtomList::new(alloc),
+    })
+}
+
+// Gives the action its lists, of one atom each.
+fn set_lists(
+    alloc: Global,
+    action: &mut Action,
+    pre: u32,
+    add: u32,
+    del: u32,
+) -> Result<(), AllocError>
+    ensures { OnOk result ((bound : ℕ) → pre < bound → add < bound → del < bound
+        → IsOver bound action.new) }
+{
+    action.pre = list_of(alloc, pre)?;
+    action.add = list_of(alloc, add)?;
+    action.del = list_of(alloc, del)?;
+    Ok(())
+}
+
+// From the one atom to another, with the third deleted.
+fn going(alloc: Global, pre: u32, add: u32, del: u32) -> Result<Action, AllocError>
+    ensures { IfOk result (λ action. (bound : ℕ) → pre < bound → add < bound → del < bound
+        → IsOver bound action) }
+{
+    let mut action = empty_action(alloc)?;
+    set_lists(alloc, &mut action, pre, add, del)?;
+    Ok(action)
+}
+
+// Puts such an action last.
 fn add_action_of(
     task: &mut Task,
     alloc: Global,
@@ -30,61 +70,8 @@ fn add_action_of(
     ensures atoms { atoms task.new ≡ atoms task.old }
     ensures actions { OnOk result (length task.new.actions ≡ length task.old.actions + 1) }
 {
-    let action = Action {
-        name: Name::new(alloc, b"go")?,
-        cost: 1,
-        pre: list_of(alloc, pre)?,
-        add: list_of(alloc, add)?,
-        del: list_of(alloc, del)?,
-    };
+    let action = going(alloc, pre, add, del)?;
     let _number = task.add_action(action)?;
-    Ok(())
-}
-
-#[test]
-fn a_list_rises_without_repeats(rt: HostRuntime) -> Result<(), Fail> {
-    let mut list = AtomList::new(rt.alloc());
-    for atom in [2, 5, 2, 9, 0, 5, 7] {
-        list.insert(atom)?;
-    }
-    assert_eq!(rt; list.len(), 5);
-    for (place, atom) in [0, 2, 5, 7, 9].iter().enumerate() {
-        assert!(rt; place < list.len());
-        assert_eq!(rt; list.get(place), *atom);
-    }
-    assert!(rt; list.has(9));
-    assert!(rt; !list.has(3));
-    Ok(())
-}
-
-#[test]
-fn states_compare_by_their_atoms(rt: HostRuntime) -> Result<(), Fail> {
-    let mut first = State::empty(rt.alloc(), 3)?;
-    let mut second = State::empty(rt.alloc(), 3)?;
-    first.set(1, true);
-    assert!(rt; first.has(1) && !first.has(2));
-    assert!(rt; !first.same(&second));
-    second.copy_from(&first);
-    assert!(rt; first.same(&second));
-    Ok(())
-}
-
-#[test]
-fn a_word_keeps_64_atoms(rt: HostRuntime) -> Result<(), Fail> {
-    let mut state = State::empty(rt.alloc(), 130)?;
-    state.set(0, true);
-    state.set(63, true);
-    state.set(64, true);
-    state.set(129, true);
-    assert_eq!(rt; state.words(), [0x8000_0000_0000_0001, 1, 2].as_slice());
-    let mut hint = Hint::default();
-    assert_eq!(rt; state.next(1, &mut hint), Some(63));
-    assert_eq!(rt; state.next(65, &mut hint), Some(129));
-
-    state.resize(64)?;
-    state.resize(130)?;
-    assert_eq!(rt; state.words(), [0x8000_0000_0000_0001, 0, 0].as_slice());
-    assert_eq!(rt; state.next(64, &mut hint), None);
     Ok(())
 }
 
@@ -97,100 +84,259 @@ fn atoms_of(alloc: Global, atoms: &[u32]) -> Result<AtomList, AllocError> {
     Ok(list)
 }
 
-// An action that adds atom 5 and deletes the atoms 0 and 7.
+// Whether these are the list's atoms, in this order.
+fn lists(list: &AtomList, atoms: &[u32]) -> bool {
+    let mut right = list.len() == atoms.len();
+    for (place, atom) in atoms.iter().enumerate() {
+        right &= place < list.len() && list.get(place) == *atom;
+    }
+    right
+}
+
+// Whether a list of seven atoms, of which one comes twice, rises and has just these.
+fn rises(alloc: Global) -> Result<bool, AllocError> {
+    let list = atoms_of(alloc, &[2, 5, 2, 9, 0, 5, 7])?;
+    Ok(lists(&list, &[0, 2, 5, 7, 9]) & list.has(9) & !list.has(3))
+}
+
+#[test]
+fn a_list_rises_without_repeats(rt: HostRuntime) -> Result<(), Fail> {
+    assert!(rt; rises(rt.alloc())?);
+    Ok(())
+}
+
+// Whether a state with an atom put in is told apart from another one until it is copied.
+fn are_compared(alloc: Global) -> Result<bool, AllocError> {
+    let mut first = State::empty(alloc, 3)?;
+    let mut second = State::empty(alloc, 3)?;
+    first.set(1, true);
+    let apart = first.has(1) & !first.has(2) & !first.same(&second);
+    second.copy_from(&first);
+    Ok(apart & first.same(&second))
+}
+
+#[test]
+fn states_compare_by_their_atoms(rt: HostRuntime) -> Result<(), Fail> {
+    assert!(rt; are_compared(rt.alloc())?);
+    Ok(())
+}
+
+// Whether the empty state keeps the atoms at both ends of its words.
+fn keeps(state: &mut State, hint: &mut Hint) -> bool
+    requires { length state.old ≡ 130 }
+    ensures { length state.new ≡ 130 }
+{
+    state.set(0, true);
+    state.set(63, true);
+    state.set(64, true);
+    state.set(129, true);
+    (state.words() == [0x8000_0000_0000_0001, 1, 2].as_slice())
+        & (state.next(1, hint) == Some(63))
+        & (state.next(65, hint) == Some(129))
+}
+
+// Whether the state then loses the atoms that it has no room for.
+fn loses(state: &mut State, hint: &mut Hint) -> Result<bool, AllocError> {
+    state.resize(64)?;
+    state.resize(130)?;
+    let right = state.words() == [0x8000_0000_0000_0001, 0, 0].as_slice();
+    Ok(right & state.next(64, hint).is_none())
+}
+
+// The same of a new state.
+fn keeps_and_loses(alloc: Global) -> Result<bool, AllocError> {
+    let mut state = State::empty(alloc, 130)?;
+    let mut hint = Hint::default();
+    let right = keeps(&mut state, &mut hint);
+    Ok(right & loses(&mut state, &mut hint)?)
+}
+
+#[test]
+fn a_word_keeps_64_atoms(rt: HostRuntime) -> Result<(), Fail> {
+    assert!(rt; keeps_and_loses(rt.alloc())?);
+    Ok(())
+}
+
+// Puts atom 5 to those that the action adds, and the atoms 0 and 7 to those that it deletes.
+fn put_exchange(action: &mut Action) -> Result<(), AllocError> {
+    action.add.insert(5)?;
+    action.del.insert(0)?;
+    action.del.insert(7)
+}
+
+// The action that adds and deletes these.
 fn exchange(alloc: Global) -> Result<Action, AllocError> {
-    Ok(Action {
-        name: Name::new(alloc, b"go")?,
-        cost: 1,
-        pre: AtomList::new(alloc),
-        add: atoms_of(alloc, &[5])?,
-        del: atoms_of(alloc, &[0, 7])?,
-    })
+    let mut action = empty_action(alloc)?;
+    put_exchange(&mut action)?;
+    Ok(action)
+}
+
+// Whether the atoms after the action are found from the atoms 0, 2 and 7 before it.
+fn is_read(alloc: Global, action: &Action) -> Result<bool, AllocError> {
+    let held = atoms_of(alloc, &[0, 2, 7])?;
+    let after = After {
+        held: &held,
+        action,
+    };
+    let mut hint = Hint::default();
+    let mut right = after.next(0, &mut hint) == Some(2);
+    right &= after.next(3, &mut hint) == Some(5);
+    right &= after.next(6, &mut hint).is_none();
+    Ok(right & held.has_all(&[7, 0]) & !held.has_all(&[0, 5]))
+}
+
+// The same of that action.
+fn exchange_is_read(alloc: Global) -> Result<bool, AllocError> {
+    let action = exchange(alloc)?;
+    is_read(alloc, &action)
 }
 
 #[test]
 fn the_result_of_an_action_is_read_without_being_built(rt: HostRuntime) -> Result<(), Fail> {
-    let held = atoms_of(rt.alloc(), &[0, 2, 7])?;
-    let action = exchange(rt.alloc())?;
-    let after = After {
-        held: &held,
-        action: &action,
-    };
-    let mut hint = Hint::default();
-    assert_eq!(rt; after.next(0, &mut hint), Some(2));
-    assert_eq!(rt; after.next(3, &mut hint), Some(5));
-    assert_eq!(rt; after.next(6, &mut hint), None);
-    assert!(rt; held.has_all(&[7, 0]) && !held.has_all(&[0, 5]));
+    assert!(rt; exchange_is_read(rt.alloc())?);
     Ok(())
 }
 
-fn put_places(alloc: Global, task: &mut Task) -> Result<(), AllocError>
-    requires { atoms task.old ≡ 0 }
-    ensures atoms { OnOk result (atoms task.new ≡ 3) }
+// Puts an atom of this name last.
+fn put_atom(alloc: Global, task: &mut Task, name: &[u8]) -> Result<(), AllocError>
+    requires { atoms task.old < 10 }
+    ensures atoms { OnOk result (atoms task.new ≡ atoms task.old + 1) }
     ensures actions { OnOk result (task.new.actions ≡ task.old.actions) }
 {
-    task.add_atom(Name::new(alloc, b"Atom at(r, a)")?)?;
-    task.add_atom(Name::new(alloc, b"Atom at(r, b)")?)?;
-    task.add_atom(Name::new(alloc, b"Atom have(key)")?)?;
+    let name = Name::new(alloc, name)?;
+    let _number = task.add_atom(name)?;
+    Ok(())
+}
+
+// Sets the initial state and the goal, an atom each.
+fn set_ends(alloc: Global, task: &mut Task, start: u32, goal: u32) -> Result<(), AllocError>
+    requires start { start < atoms task.old }
+    requires goal { goal < atoms task.old }
+    ensures atoms { atoms task.new ≡ atoms task.old }
+    ensures actions { task.new.actions ≡ task.old.actions }
+{
+    task.set_start(list_of(alloc, start)?);
+    task.set_goal(list_of(alloc, goal)?);
     Ok(())
 }
 
 // A robot goes between two places, and is wanted at the second one.
+fn put_next_door(alloc: Global, task: &mut Task) -> Result<(), AllocError>
+    requires atoms { atoms task.old ≡ 0 }
+    requires actions { length task.old.actions ≡ 0 }
+    ensures atoms { OnOk result (atoms task.new ≡ 3) }
+    ensures actions { OnOk result (length task.new.actions ≡ 2) }
+{
+    put_atom(alloc, task, b"Atom at(r, a)")?;
+    put_atom(alloc, task, b"Atom at(r, b)")?;
+    put_atom(alloc, task, b"Atom have(key)")?;
+    set_ends(alloc, task, 0, 1)?;
+    add_action_of(task, alloc, 0, 1, 0)?;
+    add_action_of(task, alloc, 1, 0, 1)
+}
+
+// The same as a task.
 fn next_door(alloc: Global) -> Result<Task, AllocError>
     ensures atoms { IfOk result (λ task. atoms task ≡ 3) }
     ensures actions { IfOk result (λ task. length task.actions ≡ 2) }
 {
     let mut task = Task::new(alloc);
-    put_places(alloc, &mut task)?;
-    task.set_start(list_of(alloc, 0)?);
-    task.set_goal(list_of(alloc, 1)?);
-    add_action_of(&mut task, alloc, 0, 1, 0)?;
-    add_action_of(&mut task, alloc, 1, 0, 1)?;
+    put_next_door(alloc, &mut task)?;
     Ok(task)
+}
+
+// Whether the last atom has its name.
+fn is_named(task: &Task) -> bool
+    requires { atoms task.now ≡ 3 }
+{
+    task.atom_name(2).as_bytes() == b"Atom have(key)".as_slice()
+}
+
+// Lists of actions, and whether they are plans.
+static PLANS: [(&[u32], bool); 5] = [
+    (&[0], true),
+    (&[], false),
+    (&[1], false),
+    (&[0, 1], false),
+    (&[5], false),
+];
+
+// Whether the task has just these plans.
+fn has_plans(alloc: Global, task: &Task) -> Result<bool, AllocError> {
+    let mut right = true;
+    for (list, plan) in &PLANS {
+        right &= task.solves(alloc, list)? == *plan;
+    }
+    Ok(right)
+}
+
+// Whether the task has its names and its plans.
+fn next_door_has_plans(alloc: Global) -> Result<bool, AllocError> {
+    let task = next_door(alloc)?;
+    let named = is_named(&task);
+    Ok(named & has_plans(alloc, &task)?)
 }
 
 #[test]
 fn plans_of_a_task_with_a_goal_next_door(rt: HostRuntime) -> Result<(), Fail> {
-    let task = next_door(rt.alloc())?;
-    assert_eq!(rt; task.atom_name(2).as_bytes(), b"Atom have(key)".as_slice());
-
-    let rows: [(&[u32], bool); 5] = [
-        (&[0], true),
-        (&[], false),
-        (&[1], false),
-        (&[0, 1], false),
-        (&[5], false),
-    ];
-    for (list, plan) in rows {
-        assert_eq!(rt; task.solves(rt.alloc(), list)?, plan);
-    }
+    assert!(rt; next_door_has_plans(rt.alloc())?);
     Ok(())
+}
+
+// Whether the first action leads from the initial state to the goal.
+fn leads(alloc: Global, task: &Task) -> Result<bool, AllocError>
+    requires atoms { atoms task.now ≡ 3 }
+    requires actions { length task.now.actions ≡ 2 }
+{
+    let start = task.start_state(alloc)?;
+    let mut next = State::empty(alloc, 3)?;
+    task.after(0, &start, &mut next);
+    Ok(!next.has(0) & next.has(1) & task.goal_in(&next) & !task.applicable(0, &next))
+}
+
+// The same in the task with the goal next door.
+fn leads_next_door(alloc: Global) -> Result<bool, AllocError> {
+    let task = next_door(alloc)?;
+    leads(alloc, &task)
 }
 
 #[test]
 fn the_state_after_an_action(rt: HostRuntime) -> Result<(), Fail> {
-    let task = next_door(rt.alloc())?;
-    let start = task.start_state(rt.alloc())?;
-    let mut next = State::empty(rt.alloc(), 3)?;
-    task.after(0, &start, &mut next);
-    assert!(rt; !next.has(0) && next.has(1));
-    assert!(rt; task.goal_in(&next) && !task.applicable(0, &next));
+    assert!(rt; leads_next_door(rt.alloc())?);
     Ok(())
+}
+
+// Whether no action is a plan of the empty task.
+fn needs_no_action(alloc: Global) -> Result<bool, AllocError> {
+    let task = Task::new(alloc);
+    task.solves(alloc, &[])
 }
 
 #[test]
 fn an_empty_goal_needs_no_action(rt: HostRuntime) -> Result<(), Fail> {
-    assert!(rt; Task::new(rt.alloc()).solves(rt.alloc(), &[])?);
+    assert!(rt; needs_no_action(rt.alloc())?);
     Ok(())
+}
+
+// One atom, which is true and wanted, and which the action needs, adds and deletes.
+fn put_one_atom(alloc: Global, task: &mut Task) -> Result<(), AllocError>
+    requires atoms { atoms task.old ≡ 0 }
+    requires actions { length task.old.actions ≡ 0 }
+{
+    put_atom(alloc, task, b"p")?;
+    set_ends(alloc, task, 0, 0)?;
+    add_action_of(task, alloc, 0, 0, 0)
+}
+
+// Whether the action can be used twice there.
+fn is_used_twice(alloc: Global) -> Result<bool, AllocError> {
+    let mut task = Task::new(alloc);
+    put_one_atom(alloc, &mut task)?;
+    task.solves(alloc, &[0, 0])
 }
 
 #[test]
 fn an_atom_added_and_deleted_is_true_afterwards(rt: HostRuntime) -> Result<(), Fail> {
-    let mut task = Task::new(rt.alloc());
-    task.add_atom(Name::new(rt.alloc(), b"p")?)?;
-    task.set_start(list_of(rt.alloc(), 0)?);
-    task.set_goal(list_of(rt.alloc(), 0)?);
-    add_action_of(&mut task, rt.alloc(), 0, 0, 0)?;
-    assert!(rt; task.solves(rt.alloc(), &[0, 0])?);
+    assert!(rt; is_used_twice(rt.alloc())?);
     Ok(())
 }

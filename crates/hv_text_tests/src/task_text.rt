@@ -1,6 +1,6 @@
 //! Tests of task texts: spellings, cut texts, limits, failing reads, the canonical text.
 
-ghost use Rattle.std.specs.Prelude.{◌≤◌, ◌^◌};
+ghost use Rattle.std.specs.Prelude.{◌<◌, ◌≤◌, ◌^◌, length};
 
 use hv_bytes::{Limits, MemoryShelf, SureShelf};
 use hv_task::Task;
@@ -11,7 +11,7 @@ use std::test::Fail;
 const NAME: &str = "task";
 
 /// A task with two rooms and a key, line by line.
-const KEY_TASK: &[&str] = &[
+static KEY_TASK: [&str; 27] = [
     "begin_atoms:3",
     "Atom at(r, a)",
     "Atom at(r, b)",
@@ -42,7 +42,7 @@ const KEY_TASK: &[&str] = &[
 ];
 
 /// A line of the key task, what stands in its place, and the answer.
-const SPELLINGS: &[(usize, &str, &str)] = &[
+static SPELLINGS: [(usize, &str, &str); 62] = [
     (1, "begin_atoms:3", "read"),
     (1, "begin_atoms:03", "place 1 begin_atoms"),
     (1, "begin_atoms:", "place 1 begin_atoms"),
@@ -107,17 +107,23 @@ const SPELLINGS: &[(usize, &str, &str)] = &[
     (27, "end_actions\nend_actions", "place 28 end"),
 ];
 
+// Puts the line and an LF last.
+fn push_line(text: &mut Vec<u8>, line: &str) -> Result<(), AllocError> {
+    text.extend_from_slice(line.as_bytes())?;
+    text.push(b'\n')?;
+    Ok(())
+}
+
 // The key task's text with this in place of the line of this number.
 fn spelled(alloc: Global, number: usize, line: &str) -> Result<Vec<u8>, AllocError> {
     let mut text = Vec::new(alloc);
     for (place, whole) in KEY_TASK.iter().enumerate() {
-        let here = if place + 1 == number { line } else { *whole };
-        text.extend_from_slice(here.as_bytes())?;
-        text.push(b'\n')?;
+        push_line(&mut text, if place + 1 == number { line } else { *whole })?;
     }
     Ok(text)
 }
 
+// The task that the text is read as.
 fn read(alloc: Global, text: &[u8], limits: Limits) -> Result<Task, TaskFault>
     requires line { limits.line ≤ 2 ^ 62 }
     requires file { limits.file ≤ 2 ^ 62 }
@@ -127,71 +133,31 @@ fn read(alloc: Global, text: &[u8], limits: Limits) -> Result<Task, TaskFault>
     read_task(alloc, &mut shelf, NAME, limits)
 }
 
-// The answer, in the words of the program.
-fn answer(alloc: Global, text: &[u8], limits: Limits) -> Result<String, AllocError>
+// The fault, in the words of the program.
+fn told(alloc: Global, fault: TaskFault) -> Result<String, AllocError> {
+    match fault {
+        TaskFault::Place(line, kind) => format!(in alloc; "place {line} {}", kind.word()),
+        TaskFault::Limit(line, limit) => format!(in alloc; "limit {line} {}", limit.word()),
+        TaskFault::ReadFault => format!(in alloc; "read fault"),
+        TaskFault::Memory => Err(AllocError),
+    }
+}
+
+// Whether the fault is told so.
+fn is_told(alloc: Global, fault: TaskFault, want: &str) -> Result<bool, AllocError> {
+    let told = told(alloc, fault)?;
+    Ok(told.as_str() == want)
+}
+
+// Whether the text is answered so, in the words of the program.
+fn is_answered(alloc: Global, text: &[u8], limits: Limits, want: &str) -> Result<bool, AllocError>
     requires line { limits.line ≤ 2 ^ 62 }
     requires file { limits.file ≤ 2 ^ 62 }
 {
-    match read(alloc, text, limits) {
-        Ok(_task) => format!(in alloc; "read"),
-        Err(TaskFault::Place(line, kind)) => format!(in alloc; "place {line} {}", kind.word()),
-        Err(TaskFault::Limit(line, limit)) => format!(in alloc; "limit {line} {}", limit.word()),
-        Err(TaskFault::ReadFault) => format!(in alloc; "read fault"),
-        Err(TaskFault::Memory) => Err(AllocError),
+    match read(alloc, text, limits).err() {
+        None => Ok(want == "read"),
+        Some(fault) => is_told(alloc, fault, want),
     }
-}
-
-#[test]
-fn spellings_of_a_task(rt: HostRuntime) -> Result<(), Fail> {
-    for (number, line, want) in SPELLINGS {
-        let text = spelled(rt.alloc(), *number, line)?;
-        let told = answer(rt.alloc(), &text, Limits::STANDARD)?;
-        assert_eq!(rt; told.as_str(), *want, "line {number} as {line}");
-    }
-    Ok(())
-}
-
-// Whether the task of the one text is written as the other.
-fn is_written_as(alloc: Global, text: &[u8], want: &[u8]) -> Result<bool, TaskFault> {
-    let task = read(alloc, text, Limits::STANDARD)?;
-    let written = write_task(alloc, &task)?;
-    Ok(written.as_bytes() == want)
-}
-
-#[test]
-fn what_is_read_is_written_canonically(rt: HostRuntime) -> Result<(), Fail> {
-    let key = spelled(rt.alloc(), 0, "")?;
-    assert!(rt; is_written_as(rt.alloc(), &key, &key)?);
-    let other = spelled(rt.alloc(), 18, "DEL:0\nADD:2\nPRE:0\nDEL:0")?;
-    let want = spelled(rt.alloc(), 17, "ADD:1\nADD:2")?;
-    assert!(rt; is_written_as(rt.alloc(), &other, &want)?);
-    Ok(())
-}
-
-#[test]
-fn cut_texts(rt: HostRuntime) -> Result<(), Fail> {
-    let key = spelled(rt.alloc(), 0, "")?;
-    for end in 0..key.len() {
-        let told = answer(rt.alloc(), &key[..end], Limits::STANDARD)?;
-        assert_eq!(rt;
-            told.as_str() == "read",
-            end + 1 == key.len(),
-            "cut at {end}"
-        );
-    }
-    let rows: [(usize, &str); 5] = [
-        (0, "place 1 begin_atoms"),
-        (13, "place 2 atom_name"),
-        (14, "place 2 atom_name"),
-        (140, "place 14 action_name"),
-        (147, "place 15 cost"),
-    ];
-    for (end, want) in rows {
-        assert!(rt; end <= key.len());
-        let told = answer(rt.alloc(), &key[..end], Limits::STANDARD)?;
-        assert_eq!(rt; told.as_str(), want, "cut at {end}");
-    }
-    Ok(())
 }
 
 // Whether the key task with this in place of a line is answered so within the limits.
@@ -206,10 +172,97 @@ fn tells(
     requires file { limits.file ≤ 2 ^ 62 }
 {
     let text = spelled(alloc, number, line)?;
-    let told = answer(alloc, &text, limits)?;
-    Ok(told.as_str() == want)
+    is_answered(alloc, text.as_slice(), limits, want)
 }
 
+#[test]
+fn spellings_of_a_task(rt: HostRuntime) -> Result<(), Fail> {
+    for (number, line, want) in &SPELLINGS {
+        let told = tells(rt.alloc(), *number, line, Limits::STANDARD, want)?;
+        assert!(rt; told, "line {number} as {line}");
+    }
+    Ok(())
+}
+
+// Whether the task of the one text is written as the other.
+fn is_written_as(alloc: Global, text: &[u8], want: &[u8]) -> Result<bool, TaskFault> {
+    let task = read(alloc, text, Limits::STANDARD)?;
+    let written = write_task(alloc, &task)?;
+    Ok(written.as_bytes() == want)
+}
+
+// Whether the key task with this in place of the one line is written as with that in place of the
+// other.
+fn is_rewritten(
+    alloc: Global,
+    one: (usize, &str),
+    other: (usize, &str),
+) -> Result<bool, TaskFault> {
+    let text = spelled(alloc, one.0, one.1)?;
+    let want = spelled(alloc, other.0, other.1)?;
+    is_written_as(alloc, text.as_slice(), want.as_slice())
+}
+
+#[test]
+fn what_is_read_is_written_canonically(rt: HostRuntime) -> Result<(), Fail> {
+    assert!(rt; is_rewritten(rt.alloc(), (0, ""), (0, ""))?);
+    let lines = (18, "DEL:0\nADD:2\nPRE:0\nDEL:0");
+    assert!(rt; is_rewritten(rt.alloc(), lines, (17, "ADD:1\nADD:2"))?);
+    Ok(())
+}
+
+// Whether the text is read where it is cut before its last LF, and at no other place.
+fn is_read_whole(alloc: Global, text: &[u8], end: usize) -> Result<bool, AllocError>
+    requires { end < length text.now }
+{
+    let read = is_answered(alloc, &text[..end], Limits::STANDARD, "read")?;
+    Ok(read == (end + 1 == text.len()))
+}
+
+// The first place where the cut text is answered otherwise.
+fn first_other(alloc: Global, text: &[u8]) -> Result<Option<usize>, AllocError> {
+    for end in 0..text.len() {
+        if !is_read_whole(alloc, text, end)? {
+            return Ok(Some(end));
+        }
+    }
+    Ok(None)
+}
+
+// The same of the key task.
+fn first_other_cut(alloc: Global) -> Result<Option<usize>, AllocError> {
+    let key = spelled(alloc, 0, "")?;
+    first_other(alloc, key.as_slice())
+}
+
+// Places, and how the text is answered that is cut there.
+static CUTS: [(usize, &str); 5] = [
+    (0, "place 1 begin_atoms"),
+    (13, "place 2 atom_name"),
+    (14, "place 2 atom_name"),
+    (140, "place 14 action_name"),
+    (147, "place 15 cost"),
+];
+
+// Whether the key task is answered so where it is cut at this place.
+fn cut_tells(alloc: Global, end: usize, want: &str) -> Result<bool, AllocError> {
+    let key = spelled(alloc, 0, "")?;
+    match key.as_slice().get(..end) {
+        Some(text) => is_answered(alloc, text, Limits::STANDARD, want),
+        None => Ok(false),
+    }
+}
+
+#[test]
+fn cut_texts(rt: HostRuntime) -> Result<(), Fail> {
+    assert_eq!(rt; first_other_cut(rt.alloc())?, None);
+    for (end, want) in &CUTS {
+        assert!(rt; cut_tells(rt.alloc(), *end, want)?, "cut at {end}");
+    }
+    Ok(())
+}
+
+// A name of so many bytes.
 fn name_of(alloc: Global, length: usize) -> Result<String, AllocError> {
     let mut name = String::new(alloc);
     for _ in 0..length {
@@ -218,55 +271,87 @@ fn name_of(alloc: Global, length: usize) -> Result<String, AllocError> {
     Ok(name)
 }
 
+// Whether the key task is answered so where the line is a name of so many bytes.
+fn tells_name(alloc: Global, number: usize, length: usize, want: &str) -> Result<bool, AllocError> {
+    let name = name_of(alloc, length)?;
+    tells(alloc, number, name.as_str(), Limits::STANDARD, want)
+}
+
 #[test]
 fn lengths_of_names(rt: HostRuntime) -> Result<(), Fail> {
-    for (length, number, want) in [
-        (1024, 2, "read"),
-        (1025, 2, "limit 2 name"),
-        (1024, 14, "read"),
-        (1025, 14, "limit 14 name"),
-    ] {
-        let name = name_of(rt.alloc(), length)?;
-        let told = tells(rt.alloc(), number, name.as_str(), Limits::STANDARD, want)?;
-        assert!(rt; told, "{length} bytes in line {number}");
-    }
+    assert!(rt; tells_name(rt.alloc(), 2, 1024, "read")?);
+    assert!(rt; tells_name(rt.alloc(), 2, 1025, "limit 2 name")?);
+    assert!(rt; tells_name(rt.alloc(), 14, 1024, "read")?);
+    assert!(rt; tells_name(rt.alloc(), 14, 1025, "limit 14 name")?);
     Ok(())
+}
+
+// First lines, the limits of a line and of a file, and the answer.
+static LENGTHS: [(&str, u8, u16, &str); 8] = [
+    ("begin_atoms:70000", 17, 1000, "limit 1 atoms"),
+    ("begin_atoms:70000", 16, 1000, "limit 1 long"),
+    ("begin_atoms:70000", 17, 16, "limit 1 long"),
+    ("begin_atoms:3", 15, 250, "read"),
+    ("begin_atoms:3", 15, 249, "limit 27 long"),
+    ("begin_atoms:3", 14, 250, "limit 12 long"),
+    ("begin_atoms:3", 13, 250, "limit 4 long"),
+    ("begin_atoms:3", 15, 14, "limit 2 long"),
+];
+
+// Whether the key task with this first line is answered so within the limits.
+fn tells_within(
+    alloc: Global,
+    first: &str,
+    line: u8,
+    file: u16,
+    want: &str,
+) -> Result<bool, AllocError> {
+    let limits = Limits {
+        line: line as u64,
+        file: file as u64,
+    };
+    tells(alloc, 1, first, limits, want)
 }
 
 #[test]
 fn lengths_of_lines_and_files(rt: HostRuntime) -> Result<(), Fail> {
-    for (atoms, line, file, want) in [
-        ("begin_atoms:70000", 17, 1000, "limit 1 atoms"),
-        ("begin_atoms:70000", 16, 1000, "limit 1 long"),
-        ("begin_atoms:70000", 17, 16, "limit 1 long"),
-        ("begin_atoms:3", 15, 250, "read"),
-        ("begin_atoms:3", 15, 249, "limit 27 long"),
-        ("begin_atoms:3", 14, 250, "limit 12 long"),
-        ("begin_atoms:3", 13, 250, "limit 4 long"),
-        ("begin_atoms:3", 15, 14, "limit 2 long"),
-    ] {
-        assert!(rt; line <= 100 && file <= 1000);
-        let told = tells(rt.alloc(), 1, atoms, Limits { line, file }, want)?;
-        assert!(rt; told, "{atoms}: line {line} file {file}");
+    for (first, line, file, want) in &LENGTHS {
+        let told = tells_within(rt.alloc(), first, *line, *file, want)?;
+        assert!(rt; told, "{first}: line {line} file {file}");
     }
     Ok(())
 }
 
+// A shelf with the text whose call of this number fails.
+fn failing_shelf(alloc: Global, text: &[u8], call: u64) -> Result<MemoryShelf, AllocError> {
+    let mut shelf = MemoryShelf::new(alloc, 100);
+    shelf.add(NAME, text)?;
+    shelf.fail_at(call)?;
+    Ok(shelf)
+}
+
+// Whether the shelf fails before the task is read.
+fn fails(alloc: Global, shelf: &mut MemoryShelf) -> Result<bool, TaskFault> {
+    match read_task(alloc, shelf, NAME, Limits::STANDARD).err() {
+        None => Ok(false),
+        Some(TaskFault::ReadFault) => Ok(true),
+        Some(fault) => Err(fault),
+    }
+}
+
+// Whether the key task isn't read where the shelf's call of this number fails.
+fn fails_at(alloc: Global, call: u64) -> Result<bool, TaskFault> {
+    let key = spelled(alloc, 0, "")?;
+    let mut shelf = failing_shelf(alloc, key.as_slice(), call)?;
+    fails(alloc, &mut shelf)
+}
+
 #[test]
 fn failing_reads(rt: HostRuntime) -> Result<(), Fail> {
-    let key = spelled(rt.alloc(), 0, "")?;
-    for (call, fails) in [(1, true), (2, true), (4, true), (5, true), (6, false)] {
-        let mut shelf = MemoryShelf::new(rt.alloc(), 100);
-        shelf.add(NAME, &key)?;
-        shelf.fail_at(call)?;
-        let failed = match read_task(rt.alloc(), &mut shelf, NAME, Limits::STANDARD) {
-            Err(TaskFault::ReadFault) => true,
-            outcome => {
-                let _task = outcome?;
-                false
-            }
-        };
-        assert_eq!(rt; failed, fails, "call {call}");
-    }
+    assert!(rt; fails_at(rt.alloc(), 1)?);
+    assert!(rt; fails_at(rt.alloc(), 2)?);
+    assert!(rt; fails_at(rt.alloc(), 4)?);
+    assert!(rt; fails_at(rt.alloc(), 5)?);
+    assert!(rt; !fails_at(rt.alloc(), 6)?);
     Ok(())
 }
