@@ -1,14 +1,16 @@
 //! Tests of node files, of sets by nodes, and of queries over them.
 
-ghost use Rattle.std.specs.Prelude.{◌≡◌, ◌<◌, ◌≤◌, ◌^◌, false, None, IfOk, length};
+ghost use Rattle.std.specs.Prelude.{[], ◌∷◌, ◌≡◌, ◌<◌, ◌≤◌, ◌^◌, false, None, IfOk, IfSome, OnOk};
+ghost use Rattle.std.specs.Prelude.{length};
 ghost use Rattle.hv_task.specs.State.{AreBelow};
 ghost use Rattle.hv_task.specs.Strips.{IsOver, atoms};
 ghost use Rattle.hv_sets.specs.Query.{IsNamed, IsReady};
 ghost use Rattle.hv_bdd.specs.Nodes.{node_count};
 
+use crate::three_atoms::task_of_three;
 use hv_bdd::{Diagrams, NodesFault, read_nodes};
 use hv_bytes::{Limits, MemoryShelf, SureShelf};
-use hv_paths::{InsideAsked, InsideWalked, OutsideAsked, OutsideWalked, meet_along};
+use hv_paths::{Asker, InsideAsked, InsideWalked, OutsideAsked, OutsideWalked, Walker, meet_along};
 use hv_sets::{
     Cube, Cursor, Family, Finding, Inside, Operand, Operands, Outside, Query, Scratch, Step, Which,
 };
@@ -19,7 +21,7 @@ use std::test::Fail;
 const NAME: &str = "nodes";
 
 /// Node files over two atoms, and what is answered.
-const FILES: &[(&str, &str)] = &[
+static FILES: [(&str, &str); 50] = [
     ("nodes 0", "read"),
     ("nodes 0\n", "read"),
     ("nodes 2\n1 1 0\n0 2 0\n", "read"),
@@ -72,6 +74,7 @@ const FILES: &[(&str, &str)] = &[
     ("nodes 1\n0 0 1\n0 0 1", "place 3 end"),
 ];
 
+// The nodes that the text over so many atoms is read as.
 fn read(alloc: Global, text: &[u8], atoms: u32, limits: Limits) -> Result<Diagrams, NodesFault>
     requires line { limits.line ≤ 2 ^ 62 }
     requires file { limits.file ≤ 2 ^ 62 }
@@ -82,118 +85,198 @@ fn read(alloc: Global, text: &[u8], atoms: u32, limits: Limits) -> Result<Diagra
     read_nodes(alloc, &mut shelf, NAME, atoms, limits)
 }
 
-// The answer to a file over two atoms, in the words of the program.
-fn answer(alloc: Global, text: &[u8], limits: Limits) -> Result<String, AllocError>
+// The fault, in the words of the program.
+fn told(alloc: Global, fault: NodesFault) -> Result<String, AllocError> {
+    match fault {
+        NodesFault::Place(line, kind) => format!(in alloc; "place {line} {}", kind.word()),
+        NodesFault::Limit(line, limit) => format!(in alloc; "limit {line} {}", limit.word()),
+        NodesFault::ReadFault => format!(in alloc; "read fault"),
+        NodesFault::Memory => Err(AllocError),
+    }
+}
+
+// Whether the fault is told so.
+fn is_told(alloc: Global, fault: NodesFault, want: &str) -> Result<bool, AllocError> {
+    let told = told(alloc, fault)?;
+    Ok(told.as_str() == want)
+}
+
+// Whether the file over so many atoms is answered so, in the words of the program.
+fn is_answered(
+    alloc: Global,
+    text: &[u8],
+    atoms: u32,
+    limits: Limits,
+    want: &str,
+) -> Result<bool, AllocError>
     requires line { limits.line ≤ 2 ^ 62 }
     requires file { limits.file ≤ 2 ^ 62 }
 {
-    told(alloc, read(alloc, text, 2, limits))
-}
-
-fn told(alloc: Global, outcome: Result<Diagrams, NodesFault>) -> Result<String, AllocError> {
-    match outcome {
-        Ok(_list) => format!(in alloc; "read"),
-        Err(NodesFault::Place(line, kind)) => format!(in alloc; "place {line} {}", kind.word()),
-        Err(NodesFault::Limit(line, limit)) => format!(in alloc; "limit {line} {}", limit.word()),
-        Err(NodesFault::ReadFault) => format!(in alloc; "read fault"),
-        Err(NodesFault::Memory) => Err(AllocError),
+    match read(alloc, text, atoms, limits).err() {
+        None => Ok(want == "read"),
+        Some(fault) => is_told(alloc, fault, want),
     }
 }
 
 #[test]
 fn node_files_and_their_first_faults(rt: HostRuntime) -> Result<(), Fail> {
-    for (text, want) in FILES {
-        let told = answer(rt.alloc(), text.as_bytes(), Limits::STANDARD)?;
-        assert_eq!(rt; told.as_str(), *want, "{text:?}");
+    for (text, want) in &FILES {
+        let told = is_answered(rt.alloc(), text.as_bytes(), 2, Limits::STANDARD, want)?;
+        assert!(rt; told, "{text:?}");
     }
     Ok(())
+}
+
+/// A file of two nodes.
+const TWO_NODES: &[u8] = b"nodes 2\n1 1 0\n0 2 0\n";
+
+// How a beginning of the file of so many bytes is answered.
+fn wanted_of(end: usize) -> &'static str {
+    if end <= 6 {
+        "place 1 header"
+    } else if end <= 12 {
+        "place 2 node"
+    } else if end <= 18 {
+        "place 3 node"
+    } else {
+        "read"
+    }
+}
+
+// Whether this beginning of the file is answered so.
+fn beginning_tells(alloc: Global, end: usize) -> Result<bool, AllocError> {
+    match TWO_NODES.get(..end) {
+        Some(text) => is_answered(alloc, text, 2, Limits::STANDARD, wanted_of(end)),
+        None => Ok(false),
+    }
 }
 
 #[test]
 fn each_beginning_of_a_file_is_refused_where_it_ends(rt: HostRuntime) -> Result<(), Fail> {
-    let text = b"nodes 2\n1 1 0\n0 2 0\n";
-    // Up to how many bytes this is answered.
-    let rows: [(usize, &str); 4] = [
-        (6, "place 1 header"),
-        (12, "place 2 node"),
-        (18, "place 3 node"),
-        (20, "read"),
-    ];
-    let mut from = 0;
-    for (last, want) in rows {
-        for end in from..last + 1 {
-            assert!(rt; end <= text.len());
-            let told = answer(rt.alloc(), &text[..end], Limits::STANDARD)?;
-            assert_eq!(rt; told.as_str(), want, "cut at {end}");
-        }
-        from = last + 1;
+    assert_eq!(rt; TWO_NODES.len(), 20);
+    for end in 0..21 {
+        assert!(rt; beginning_tells(rt.alloc(), end)?, "cut at {end}");
     }
     Ok(())
 }
 
-// A file of a hundred nodes, each above the one before. The line of the first number is once more
-// that of the node before it, and the line of the second is none of a node.
+// Puts a node last: its atom, and its child beside 0.
+fn push_node(text: &mut String, atom: u32, child: u32) -> Result<(), AllocError> {
+    write!(text, "{atom} {child} 0\n")?;
+    Ok(())
+}
+
+// Puts a line of a file of a hundred nodes last, each above the one before. The line of the first
+// number is once more that of the node before it, and the line of the second is none of a node.
+fn push_line(text: &mut String, line: u32, twin: u32, broken: u32) -> Result<(), AllocError>
+    requires first { 2 ≤ line }
+    requires last { line < 102 }
+{
+    if line == broken {
+        text.push_str("none\n")?;
+        return Ok(());
+    }
+    let node = if line == twin { line - 1 } else { line };
+    push_node(text, 101 - node, node - 1)
+}
+
+// The file of these lines.
 fn tall_file(alloc: Global, twin: u32, broken: u32) -> Result<String, AllocError> {
-    let mut text = format!(in alloc; "nodes 100\n")?;
+    let mut text = String::from_str(alloc, "nodes 100\n")?;
     for line in 2..102_u32 {
-        if line == broken {
-            text.push_str("none\n")?;
-        } else if line == twin {
-            write!(text, "{} {} 0\n", 102 - line, line - 2)?;
-        } else {
-            write!(text, "{} {} 0\n", 101 - line, line - 1)?;
-        }
+        push_line(&mut text, line, twin, broken)?;
     }
     Ok(text)
 }
 
+// Whether such a file is answered so.
+fn tall_file_tells(alloc: Global, twin: u32, broken: u32, want: &str) -> Result<bool, AllocError> {
+    let text = tall_file(alloc, twin, broken)?;
+    is_answered(alloc, text.as_bytes(), 100, Limits::STANDARD, want)
+}
+
+/// The lines of a twin and of what is no node, and the answer.
+static TALL_FILES: [(u32, u32, &str); 8] = [
+    (0, 0, "read"),
+    (3, 0, "place 3 twin"),
+    (67, 0, "place 67 twin"),
+    (101, 0, "place 101 twin"),
+    (3, 80, "place 3 twin"),
+    (66, 67, "place 66 twin"),
+    (67, 66, "place 66 node"),
+    (80, 3, "place 3 node"),
+];
+
 #[test]
 fn nodes_are_tested_in_the_order_of_their_lines(rt: HostRuntime) -> Result<(), Fail> {
-    for (twin, broken, want) in [
-        (0, 0, "read"),
-        (3, 0, "place 3 twin"),
-        (67, 0, "place 67 twin"),
-        (101, 0, "place 101 twin"),
-        (3, 80, "place 3 twin"),
-        (66, 67, "place 66 twin"),
-        (67, 66, "place 66 node"),
-        (80, 3, "place 3 node"),
-    ] {
-        let text = tall_file(rt.alloc(), twin, broken)?;
-        let list = read(rt.alloc(), text.as_bytes(), 100, Limits::STANDARD);
-        let said = told(rt.alloc(), list)?;
-        assert_eq!(rt; said.as_str(), want, "twin {twin}, broken {broken}");
+    for (twin, broken, want) in &TALL_FILES {
+        let told = tall_file_tells(rt.alloc(), *twin, *broken, want)?;
+        assert!(rt; told, "twin {twin}, broken {broken}");
     }
     Ok(())
 }
 
+/// A file of one node.
+const ONE_NODE: &[u8] = b"nodes 1\n0 0 1\n";
+
+/// The limits of a line and of a file, and the answer.
+static LENGTHS: [(u8, u8, &str); 5] = [
+    (7, 13, "read"),
+    (6, 13, "limit 1 long"),
+    (7, 12, "limit 2 long"),
+    (7, 6, "limit 1 long"),
+    (4, 99, "limit 1 long"),
+];
+
+// Whether the file of one node is answered so within the limits.
+fn tells_within(alloc: Global, line: u8, file: u8, want: &str) -> Result<bool, AllocError> {
+    let limits = Limits {
+        line: line as u64,
+        file: file as u64,
+    };
+    is_answered(alloc, ONE_NODE, 2, limits, want)
+}
+
 #[test]
-fn long_lines_and_failing_reads(rt: HostRuntime) -> Result<(), Fail> {
-    let text = b"nodes 1\n0 0 1\n";
-    for (line, file, want) in [
-        (7, 13, "read"),
-        (6, 13, "limit 1 long"),
-        (7, 12, "limit 2 long"),
-        (7, 6, "limit 1 long"),
-        (4, 99, "limit 1 long"),
-    ] {
-        let told = answer(rt.alloc(), text, Limits { line, file })?;
-        assert_eq!(rt; told.as_str(), want, "line {line} file {file}");
+fn lines_and_files_within_limits(rt: HostRuntime) -> Result<(), Fail> {
+    for (line, file, want) in &LENGTHS {
+        let told = tells_within(rt.alloc(), *line, *file, want)?;
+        assert!(rt; told, "line {line} file {file}");
     }
+    Ok(())
+}
+
+// A shelf with the file of one node whose call of this number fails.
+fn failing_shelf(alloc: Global, call: u64) -> Result<MemoryShelf, AllocError> {
+    let mut shelf = MemoryShelf::new(alloc, 7);
+    shelf.add(NAME, ONE_NODE)?;
+    shelf.fail_at(call)?;
+    Ok(shelf)
+}
+
+// Whether the shelf fails before the nodes are read.
+fn fails(alloc: Global, shelf: &mut MemoryShelf) -> Result<bool, NodesFault> {
+    match read_nodes(alloc, shelf, NAME, 2, Limits::STANDARD).err() {
+        None => Ok(false),
+        Some(NodesFault::ReadFault) => Ok(true),
+        Some(fault) => Err(fault),
+    }
+}
+
+// Whether the file isn't read where the shelf's call of this number fails.
+fn fails_at(alloc: Global, call: u64) -> Result<bool, NodesFault> {
+    let mut shelf = failing_shelf(alloc, call)?;
+    fails(alloc, &mut shelf)
+}
+
+#[test]
+fn failing_reads(rt: HostRuntime) -> Result<(), Fail> {
     // The open, two reads of seven bytes, and the read of no bytes.
-    for (call, fails) in [(1, true), (2, true), (3, true), (4, true), (5, false)] {
-        let mut shelf = MemoryShelf::new(rt.alloc(), 7);
-        shelf.add(NAME, text)?;
-        shelf.fail_at(call)?;
-        let failed = match read_nodes(rt.alloc(), &mut shelf, NAME, 2, Limits::STANDARD) {
-            Err(NodesFault::ReadFault) => true,
-            outcome => {
-                let _list = outcome?;
-                false
-            }
-        };
-        assert_eq!(rt; failed, fails, "call {call}");
-    }
+    assert!(rt; fails_at(rt.alloc(), 1)?);
+    assert!(rt; fails_at(rt.alloc(), 2)?);
+    assert!(rt; fails_at(rt.alloc(), 3)?);
+    assert!(rt; fails_at(rt.alloc(), 4)?);
+    assert!(rt; !fails_at(rt.alloc(), 5)?);
     Ok(())
 }
 
@@ -251,6 +334,7 @@ fn number_of(state: &State) -> usize
     number
 }
 
+// The list of this atom.
 fn one_atom(alloc: Global, atom: u32) -> Result<AtomList, AllocError>
     requires { atom < 3 }
     ensures { IfOk result (λ list. AreBelow 3 list) }
@@ -260,33 +344,72 @@ fn one_atom(alloc: Global, atom: u32) -> Result<AtomList, AllocError>
     Ok(list)
 }
 
-// From atom 0 to atom 1.
+// Gives the action its lists: from atom 0 to atom 1.
+fn set_lists(alloc: Global, action: &mut Action) -> Result<(), AllocError>
+    ensures { OnOk result (IsOver 3 action.new) }
+{
+    action.pre = one_atom(alloc, 0)?;
+    action.add = one_atom(alloc, 1)?;
+    action.del = one_atom(alloc, 0)?;
+    Ok(())
+}
+
+// The action with these lists.
 fn going(alloc: Global) -> Result<Action, AllocError>
     ensures { IfOk result (λ action. IsOver 3 action) }
 {
-    Ok(Action {
+    let mut action = Action {
         name: Name::new(alloc, b"go")?,
         cost: 1,
-        pre: one_atom(alloc, 0)?,
-        add: one_atom(alloc, 1)?,
-        del: one_atom(alloc, 0)?,
-    })
+        pre: AtomList::new(alloc),
+        add: AtomList::new(alloc),
+        del: AtomList::new(alloc),
+    };
+    set_lists(alloc, &mut action)?;
+    Ok(action)
 }
 
-// Three atoms; the action leads from atom 0 to atom 1, the initial state has atom 0 alone, and the
-// goal is atom 2.
-fn task_of_three(alloc: Global) -> Result<Task, AllocError>
+// Sets the initial state, which has atom 0 alone, and the goal, which is atom 2.
+fn set_ends(alloc: Global, task: &mut Task) -> Result<(), AllocError>
+    requires { atoms task.old ≡ 3 }
+    ensures atoms { atoms task.new ≡ atoms task.old }
+    ensures actions { task.new.actions ≡ task.old.actions }
+{
+    task.set_start(one_atom(alloc, 0)?);
+    task.set_goal(one_atom(alloc, 2)?);
+    Ok(())
+}
+
+// Sets the ends of three atoms, and puts the action that leads from atom 0 to atom 1.
+fn put_going(alloc: Global, task: &mut Task) -> Result<(), AllocError>
+    requires atoms { atoms task.old ≡ 3 }
+    requires actions { length task.old.actions ≡ 0 }
+    ensures atoms { OnOk result (atoms task.new ≡ 3) }
+    ensures actions { OnOk result (length task.new.actions ≡ 1) }
+{
+    set_ends(alloc, task)?;
+    let action = going(alloc)?;
+    let _number = task.add_action(action)?;
+    Ok(())
+}
+
+// Three atoms with these ends and this action.
+fn task_of_going(alloc: Global) -> Result<Task, AllocError>
     ensures atoms { IfOk result (λ task. atoms task ≡ 3) }
     ensures actions { IfOk result (λ task. length task.actions ≡ 1) }
 {
-    let mut task = Task::new(alloc);
-    task.add_atom(Name::new(alloc, b"p")?)?;
-    task.add_atom(Name::new(alloc, b"q")?)?;
-    task.add_atom(Name::new(alloc, b"r")?)?;
-    task.set_start(one_atom(alloc, 0)?);
-    task.set_goal(one_atom(alloc, 2)?);
-    task.add_action(going(alloc)?)?;
+    let mut task = task_of_three(alloc)?;
+    put_going(alloc, &mut task)?;
     Ok(task)
+}
+
+// The list of this operand.
+fn operands_of(alloc: Global, operand: Operand) -> Result<Operands, AllocError>
+    ensures { IfOk result (λ operands. operands ≡ operand ∷ []) }
+{
+    let mut operands = Operands::new(alloc);
+    operands.push(operand)?;
+    Ok(operands)
 }
 
 // The query for a state in the one set and not in the other, each asked about the state before the
@@ -305,17 +428,34 @@ fn query_of(
     ensures ready { IfOk result (IsReady 8) }
     ensures action { IfOk result (λ query. query.action ≡ action) }
 {
-    let mut query = Query {
-        positive: Operands::new(alloc),
-        negative: Operands::new(alloc),
+    let positive = operands_of(alloc, positive)?;
+    let negative = operands_of(alloc, negative)?;
+    Ok(Query {
+        positive,
+        negative,
         action,
-    };
-    query.positive.push(positive)?;
-    query.negative.push(negative)?;
-    Ok(query)
+    })
 }
 
-// The answer to the query, where the negative set is asked about after the action or before it.
+// The answer to the query.
+fn answer(
+    alloc: Global,
+    task: &Task,
+    list: &Diagrams,
+    query: &Query,
+    budget: u64,
+) -> Result<Finding, AllocError>
+    requires atoms { list.now.atoms ≡ atoms task.now }
+    requires nodes { node_count list.now ≡ 8 }
+    requires ready { IsReady 8 query.now }
+    requires action { IfSome query.now.action (λ a. a < length task.now.actions) }
+{
+    let mut scratch = Scratch::new(alloc)?;
+    list.find(alloc, task, query, budget, &mut scratch)
+}
+
+// The answer to a query to a list of eight nodes, where the negative set is asked about after the
+// action or before it.
 fn ask(
     alloc: Global,
     task: &Task,
@@ -324,13 +464,15 @@ fn ask(
     negative: Which,
     after: bool,
     budget: u64,
-) -> Result<Finding, AllocError>
+) -> Result<Option<Finding>, AllocError>
     requires atoms { list.now.atoms ≡ atoms task.now }
-    requires nodes { node_count list.now ≡ 8 }
     requires actions { length task.now.actions ≡ 1 }
     requires positive { IsNamed 8 positive }
     requires negative { IsNamed 8 negative }
 {
+    if list.count() != 8 {
+        return Ok(None);
+    }
     let action = if after { Some(0) } else { None };
     let first = Operand {
         which: positive,
@@ -343,44 +485,87 @@ fn ask(
         after,
     };
     let query = query_of(alloc, first, second, action)?;
-    let mut scratch = Scratch::new(alloc)?;
-    list.find(alloc, task, &query, budget, &mut scratch)
+    let found = answer(alloc, task, list, &query, budget)?;
+    Ok(Some(found))
+}
+
+/// Node 2 has the states without atom 1, and node 3 those of them without atom 0. The others only
+/// fill the list.
+const TWO_SETS: &[u8] = b"nodes 6\n1 1 0\n0 2 0\n0 0 1\n0 1 0\n1 0 1\n2 0 1\n";
+
+// Whether the query to these nodes is answered so for the task.
+fn finds_in(
+    alloc: Global,
+    task: &Task,
+    positive: Which,
+    negative: Which,
+    after: bool,
+    budget: u64,
+    want: Finding,
+) -> Result<bool, NodesFault>
+    requires atoms { atoms task.now ≡ 3 }
+    requires actions { length task.now.actions ≡ 1 }
+    requires positive { IsNamed 8 positive }
+    requires negative { IsNamed 8 negative }
+{
+    let list = read(alloc, TWO_SETS, 3, Limits::STANDARD)?;
+    let found = ask(alloc, task, &list, positive, negative, after, budget)?;
+    Ok(found == Some(want))
+}
+
+// The same for the task of three atoms.
+fn finds(
+    alloc: Global,
+    positive: Which,
+    negative: Which,
+    after: bool,
+    budget: u64,
+    want: Finding,
+) -> Result<bool, NodesFault>
+    requires positive { IsNamed 8 positive }
+    requires negative { IsNamed 8 negative }
+{
+    let task = task_of_going(alloc)?;
+    finds_in(alloc, &task, positive, negative, after, budget, want)
 }
 
 #[test]
 fn live_tuples_are_counted_before_a_state_is_answered(rt: HostRuntime) -> Result<(), Fail> {
-    let task = task_of_three(rt.alloc())?;
-    // Node 2 has the states without atom 1, and node 3 those of them without atom 0. The others
-    // only fill the list.
-    let text = b"nodes 6\n1 1 0\n0 2 0\n0 0 1\n0 1 0\n1 0 1\n2 0 1\n";
-    let list = read(rt.alloc(), text, 3, Limits::STANDARD)?;
-    assert_eq!(rt; list.count(), 8);
     let two = Which::Set(2);
     let three = Which::Set(3);
-    for (positive, negative, after, budget, want) in [
-        (three, two, false, 2, Finding::Empty),
-        (three, two, false, 1, Finding::Over),
-        (two, three, false, 4, Finding::Clash),
-        (two, three, false, 3, Finding::Over),
-        (two, two, true, 2, Finding::Clash),
-        (two, two, true, 1, Finding::Over),
-        (Which::Empty, two, false, 0, Finding::Empty),
-    ] {
-        let found = ask(rt.alloc(), &task, &list, positive, negative, after, budget)?;
-        assert_eq!(rt; found, want, "{positive:?} {negative:?} {budget}");
-    }
+    assert!(rt; finds(rt.alloc(), three, two, false, 2, Finding::Empty)?);
+    assert!(rt; finds(rt.alloc(), three, two, false, 1, Finding::Over)?);
+    assert!(rt; finds(rt.alloc(), two, three, false, 4, Finding::Clash)?);
+    assert!(rt; finds(rt.alloc(), two, three, false, 3, Finding::Over)?);
+    assert!(rt; finds(rt.alloc(), two, two, true, 2, Finding::Clash)?);
+    assert!(rt; finds(rt.alloc(), two, two, true, 1, Finding::Over)?);
+    assert!(rt; finds(rt.alloc(), Which::Empty, two, false, 0, Finding::Empty)?);
     Ok(())
+}
+
+// Whether there are eight nodes, and just those of one number are one set.
+fn are_told_apart(list: &Diagrams) -> bool {
+    if list.count() != 8 {
+        return false;
+    }
+    let mut right = true;
+    for node in 0..8_u32 {
+        for other in 0..8_u32 {
+            right &= list.same(node, other) == (node == other);
+        }
+    }
+    right
+}
+
+// The same of the six nodes.
+fn six_are_told_apart(alloc: Global) -> Result<bool, NodesFault> {
+    let list = read(alloc, SIX, 3, Limits::STANDARD)?;
+    Ok(are_told_apart(&list))
 }
 
 #[test]
 fn nodes_are_told_apart(rt: HostRuntime) -> Result<(), Fail> {
-    let list = read(rt.alloc(), SIX, 3, Limits::STANDARD)?;
-    assert_eq!(rt; list.count(), 8);
-    for node in 0..8_u32 {
-        for other in 0..8_u32 {
-            assert_eq!(rt; list.same(node, other), node == other);
-        }
-    }
+    assert!(rt; six_are_told_apart(rt.alloc())?);
     Ok(())
 }
 
@@ -396,6 +581,7 @@ const PATHS: [(u64, u64); 8] = [
     (3, 2),
 ];
 
+// One where it is so, and 0 elsewhere.
 fn one_if(yes: bool) -> u64 {
     if yes { 1 } else { 0 }
 }
@@ -433,25 +619,89 @@ fn inside_walk<S: Inside>(alloc: Global, set: &S, state: &State) -> Result<(u64,
     Ok((having, 20))
 }
 
+// Whether the paths of the node are counted up to this bound, and one more where there are more.
+fn are_counted(alloc: Global, list: &Diagrams, node: usize, cap: u64) -> Result<bool, AllocError>
+    requires nodes { node_count list.now ≡ 8 }
+    requires node { node < 8 }
+    requires cap { cap ≤ 100 }
+{
+    let set = list.set(node as u32);
+    let (outside, inside) = PATHS[node];
+    let mut right = set.outside_count(alloc, cap)? == outside.min(cap + 1);
+    right &= set.inside_count(alloc, cap)? == inside.min(cap + 1);
+    Ok(right)
+}
+
+// The same for some bounds.
+fn are_all_counted(alloc: Global, list: &Diagrams, node: usize) -> Result<bool, AllocError>
+    requires nodes { node_count list.now ≡ 8 }
+    requires node { node < 8 }
+{
+    let mut right = are_counted(alloc, list, node, 0)?;
+    right &= are_counted(alloc, list, node, 1)?;
+    right &= are_counted(alloc, list, node, 3)?;
+    right &= are_counted(alloc, list, node, 100)?;
+    Ok(right)
+}
+
+// Whether just the one of the node's two walks passes the state, in one cube.
+fn part_state(
+    alloc: Global,
+    list: &Diagrams,
+    node: usize,
+    number: usize,
+) -> Result<bool, AllocError>
+    requires atoms { list.now.atoms ≡ 3 }
+    requires nodes { node_count list.now ≡ 8 }
+    requires node { node < 8 }
+    requires number { number < 8 }
+{
+    let set = list.set(node as u32);
+    let (outside, inside) = PATHS[node];
+    let held = is_in(node, number);
+    let state = state_of(alloc, number)?;
+    let mut right = inside_walk(alloc, &set, &state)? == (one_if(held), inside);
+    right &= outside_walk(alloc, &set, &state)? == (one_if(!held), outside);
+    Ok(right)
+}
+
+// The same of all states.
+fn part_all(alloc: Global, list: &Diagrams, node: usize) -> Result<bool, AllocError>
+    requires atoms { list.now.atoms ≡ 3 }
+    requires nodes { node_count list.now ≡ 8 }
+    requires node { node < 8 }
+{
+    let mut right = true;
+    for number in 0..8 {
+        right &= part_state(alloc, list, node, number)?;
+    }
+    Ok(right)
+}
+
+// Whether the paths of the node among eight are counted and walked so.
+fn is_walked(alloc: Global, list: &Diagrams, node: usize) -> Result<bool, AllocError>
+    requires atoms { list.now.atoms ≡ 3 }
+    requires node { node < 8 }
+{
+    if list.count() != 8 {
+        return Ok(false);
+    }
+    let right = are_all_counted(alloc, list, node)?;
+    Ok(right & part_all(alloc, list, node)?)
+}
+
+// The same of a node of the file of six.
+fn is_walked_in_file(alloc: Global, node: usize) -> Result<bool, NodesFault>
+    requires { node < 8 }
+{
+    let list = read(alloc, SIX, 3, Limits::STANDARD)?;
+    Ok(is_walked(alloc, &list, node)?)
+}
+
 #[test]
 fn walks_part_the_states(rt: HostRuntime) -> Result<(), Fail> {
-    let list = read(rt.alloc(), SIX, 3, Limits::STANDARD)?;
-    assert_eq!(rt; list.count(), 8);
     for node in 0..8 {
-        let set = list.set(node as u32);
-        let (outside, inside) = PATHS[node];
-        for cap in [0, 1, 3, 100] {
-            assert_eq!(rt; set.outside_count(rt.alloc(), cap)?, outside.min(cap + 1));
-            assert_eq!(rt; set.inside_count(rt.alloc(), cap)?, inside.min(cap + 1));
-        }
-        for number in 0..8 {
-            let state = state_of(rt.alloc(), number)?;
-            let held = is_in(node, number);
-            let within = inside_walk(rt.alloc(), &set, &state)?;
-            assert_eq!(rt; within, (one_if(held), inside));
-            let without = outside_walk(rt.alloc(), &set, &state)?;
-            assert_eq!(rt; without, (one_if(!held), outside));
-        }
+        assert!(rt; is_walked_in_file(rt.alloc(), node)?, "node {node}");
     }
     Ok(())
 }
@@ -469,8 +719,33 @@ fn is_some_of_both(left: usize, right: usize, inside: bool) -> bool
     false
 }
 
-// Whether a walk over the one node meets the other exactly where they have a state in common, and
-// shows one.
+// Whether the walk over the one node meets the other, which is asked, exactly where some state is
+// in both, and shows such a state; or the same of their complements.
+fn is_met<W: Walker, A: Asker>(
+    alloc: Global,
+    walk: &mut W,
+    asked: &mut A,
+    left: usize,
+    right: usize,
+    inside: bool,
+) -> Result<bool, AllocError>
+    requires walked_atoms { W.atoms walk.old ≡ 3 }
+    requires asked_atoms { A.atoms asked.old ≡ 3 }
+    requires first { A.assumed asked.old ≡ [] }
+    requires walk { W.stands walk.old }
+    requires asked { A.stands asked.old }
+    requires left { left < 8 }
+    requires right { right < 8 }
+{
+    let mut scratch = Scratch::new(alloc)?;
+    if meet_along(alloc, walk, asked, &mut scratch)? {
+        let number = number_of(scratch.state());
+        return Ok(is_in(left, number) == inside && is_in(right, number) == inside);
+    }
+    Ok(!is_some_of_both(left, right, inside))
+}
+
+// The same of a walk over the node itself.
 fn is_met_along(
     alloc: Global,
     list: &Diagrams,
@@ -486,15 +761,10 @@ fn is_met_along(
     let other = list.set(right as u32);
     let mut walk = walked.walk_inside(alloc)?;
     let mut asked = other.ask_inside(alloc)?;
-    let mut scratch = Scratch::new(alloc)?;
-    if meet_along(alloc, &mut walk, &mut asked, &mut scratch)? {
-        let number = number_of(scratch.state());
-        return Ok(is_in(left, number) && is_in(right, number));
-    }
-    Ok(!is_some_of_both(left, right, true))
+    is_met(alloc, &mut walk, &mut asked, left, right, true)
 }
 
-// The same of their complements.
+// The same of a walk over the complement.
 fn is_met_outside(
     alloc: Global,
     list: &Diagrams,
@@ -510,32 +780,49 @@ fn is_met_outside(
     let other = list.set(right as u32);
     let mut walk = walked.walk_outside(alloc)?;
     let mut asked = other.ask_outside(alloc)?;
-    let mut scratch = Scratch::new(alloc)?;
-    if meet_along(alloc, &mut walk, &mut asked, &mut scratch)? {
-        let number = number_of(scratch.state());
-        return Ok(!is_in(left, number) && !is_in(right, number));
+    is_met(alloc, &mut walk, &mut asked, left, right, false)
+}
+
+// Whether both are right of the node among eight and each other one.
+fn are_met(alloc: Global, list: &Diagrams, left: usize) -> Result<bool, AllocError>
+    requires atoms { list.now.atoms ≡ 3 }
+    requires left { left < 8 }
+{
+    if list.count() != 8 {
+        return Ok(false);
     }
-    Ok(!is_some_of_both(left, right, false))
+    let mut right = true;
+    for other in 0..8 {
+        right &= is_met_along(alloc, list, left, other)?;
+        right &= is_met_outside(alloc, list, left, other)?;
+    }
+    Ok(right)
+}
+
+// The same of a node of the file of six.
+fn are_met_in_file(alloc: Global, left: usize) -> Result<bool, NodesFault>
+    requires { left < 8 }
+{
+    let list = read(alloc, SIX, 3, Limits::STANDARD)?;
+    Ok(are_met(alloc, &list, left)?)
 }
 
 #[test]
 fn paths_are_walked_as_all_states_say(rt: HostRuntime) -> Result<(), Fail> {
-    let list = read(rt.alloc(), SIX, 3, Limits::STANDARD)?;
-    assert_eq!(rt; list.count(), 8);
-    for left in 0..8 {
-        for right in 0..8 {
-            let inside = is_met_along(rt.alloc(), &list, left, right)?;
-            assert!(rt; inside, "{left} and {right}");
-            let outside = is_met_outside(rt.alloc(), &list, left, right)?;
-            assert!(rt; outside, "outside {left} and {right}");
-        }
+    for node in 0..8 {
+        assert!(rt; are_met_in_file(rt.alloc(), node)?, "node {node}");
     }
     Ok(())
 }
 
+// How many nodes there are without a file.
+fn count_without_file(alloc: Global) -> usize {
+    let list = Diagrams::none(alloc, 3);
+    list.count()
+}
+
 #[test]
 fn has_two_nodes_without_a_file(rt: HostRuntime) -> Result<(), Fail> {
-    let diagrams = Diagrams::none(rt.alloc(), 3);
-    assert_eq!(rt; diagrams.count(), 2);
+    assert_eq!(rt; count_without_file(rt.alloc()), 2);
     Ok(())
 }

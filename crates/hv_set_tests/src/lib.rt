@@ -8,4 +8,6 @@ mod horn;
 #[cfg(test)]
 mod sets;
 #[cfg(test)]
+mod three_atoms;
+#[cfg(test)]
 mod two_cnf;

@@ -23,20 +23,29 @@ fn either(alloc: Global) -> Result<Clause, AllocError> {
     Ok(clause)
 }
 
+// Whether such a clause has the two literals in their order.
+fn keeps_order(alloc: Global) -> Result<bool, AllocError> {
+    let clause = either(alloc)?;
+    Ok(clause.len() == 2 && *clause.get(1) == DENIED)
+}
+
 #[test]
 fn a_clause_keeps_the_order_of_its_literals(rt: HostRuntime) -> Result<(), Fail> {
-    let clause = either(rt.alloc())?;
-    assert_eq!(rt; clause.len(), 2);
-    assert_eq!(rt; *clause.get(1), DENIED);
+    assert!(rt; keeps_order(rt.alloc())?);
     Ok(())
 }
 
-// The clause of the two literals, the empty one, and that of the second literal.
-fn three_clauses(alloc: Global) -> Result<Clauses, AllocError> {
-    let mut clauses = Clauses::new(alloc);
+// Puts the clause of the two literals, the empty one, and that of the second literal.
+fn put_three(alloc: Global, clauses: &mut Clauses) -> Result<(), AllocError> {
     clauses.push(either(alloc)?)?;
     clauses.push(Clause::new(alloc))?;
-    clauses.push_literals(&[DENIED])?;
+    clauses.push_literals(&[DENIED])
+}
+
+// The list of these.
+fn three_clauses(alloc: Global) -> Result<Clauses, AllocError> {
+    let mut clauses = Clauses::new(alloc);
+    put_three(alloc, &mut clauses)?;
     Ok(clauses)
 }
 
@@ -45,29 +54,61 @@ fn shared_clauses(alloc: Global, clauses: &Clauses) -> Result<Clauses, AllocErro
     clauses.copy(alloc)?.share()
 }
 
+// Whether there are so many clauses, and the first is that of the two literals.
+fn begin_so(clauses: &Clauses, count: usize) -> bool {
+    clauses.len() == count && count != 0 && clauses.get(0) == [HELD, DENIED].as_slice()
+}
+
+// Whether the list has the three clauses.
+fn are_three(clauses: &Clauses) -> bool {
+    clauses.len() == 3
+        && clauses.get(0).len() == 2
+        && clauses.get(1).len() == 0
+        && clauses.get(2) == [DENIED].as_slice()
+}
+
+// Whether an empty list is told.
+fn tells_empty(alloc: Global) -> bool {
+    let clauses = Clauses::new(alloc);
+    clauses.is_empty()
+}
+
+// Whether a list keeps the order of the three clauses, shared or not.
+fn keep_order(alloc: Global) -> Result<bool, AllocError> {
+    let clauses = three_clauses(alloc)?;
+    let shared = shared_clauses(alloc, &clauses)?;
+    Ok(are_three(&clauses) & begin_so(&shared, 3))
+}
+
 #[test]
 fn clauses_keep_their_order(rt: HostRuntime) -> Result<(), Fail> {
-    assert!(rt; Clauses::new(rt.alloc()).is_empty());
-    let clauses = three_clauses(rt.alloc())?;
-    assert_eq!(rt; clauses.len(), 3);
-    assert_eq!(rt; clauses.get(0).len(), 2);
-    assert_eq!(rt; clauses.get(1).len(), 0);
-    assert!(rt; clauses.get(2) == [DENIED].as_slice());
-    let shared = shared_clauses(rt.alloc(), &clauses)?;
-    assert_eq!(rt; shared.len(), 3);
-    assert!(rt; shared.get(0) == [HELD, DENIED].as_slice());
+    assert!(rt; tells_empty(rt.alloc()));
+    assert!(rt; keep_order(rt.alloc())?);
     Ok(())
+}
+
+// The three clauses, shared.
+fn three_shared(alloc: Global) -> Result<Clauses, AllocError> {
+    let clauses = three_clauses(alloc)?;
+    shared_clauses(alloc, &clauses)
+}
+
+// Whether a copy of the three clauses stays where the list gets a further one.
+fn copy_stays(alloc: Global, longer: &mut Clauses) -> Result<bool, AllocError> {
+    let copy = longer.copy(alloc)?;
+    longer.push_literals(&[])?;
+    Ok(longer.len() == 4 && begin_so(&copy, 3))
+}
+
+// The same of a list that is shared.
+fn shared_copy_stays(alloc: Global) -> Result<bool, AllocError> {
+    let mut clauses = three_shared(alloc)?;
+    copy_stays(alloc, &mut clauses)
 }
 
 #[test]
 fn a_copy_of_shared_clauses_stays(rt: HostRuntime) -> Result<(), Fail> {
-    let clauses = three_clauses(rt.alloc())?;
-    let mut longer = shared_clauses(rt.alloc(), &clauses)?;
-    let copy = longer.copy(rt.alloc())?;
-    longer.push_literals(&[])?;
-    assert_eq!(rt; longer.len(), 4);
-    assert_eq!(rt; copy.len(), 3);
-    assert!(rt; copy.get(0) == [HELD, DENIED].as_slice());
+    assert!(rt; shared_copy_stays(rt.alloc())?);
     Ok(())
 }
 
@@ -78,40 +119,67 @@ fn one_state(alloc: Global) -> Result<StateList, AllocError> {
     states.share()
 }
 
+// Whether a copy of the one state stays where the list gets a further one.
+fn state_copy_stays(alloc: Global, states: &mut StateList) -> Result<bool, AllocError> {
+    let copy = states.copy(alloc)?;
+    states.push(AtomList::new(alloc))?;
+    Ok(states.as_slice().len() == 2 && copy.len() == 1)
+}
+
+// The same of a list that is shared.
+fn shared_state_copy_stays(alloc: Global) -> Result<bool, AllocError> {
+    let mut states = one_state(alloc)?;
+    state_copy_stays(alloc, &mut states)
+}
+
 #[test]
 fn a_copy_of_shared_states_stays(rt: HostRuntime) -> Result<(), Fail> {
-    let mut states = one_state(rt.alloc())?;
-    let copy = states.copy(rt.alloc())?;
-    states.push(AtomList::new(rt.alloc()))?;
-    assert_eq!(rt; states.as_slice().len(), 2);
-    assert_eq!(rt; copy.len(), 1);
+    assert!(rt; shared_state_copy_stays(rt.alloc())?);
     Ok(())
+}
+
+// Puts set 7 after the action, and the goal before it: the operand of this number.
+fn put_operand(operands: &mut Operands, id: usize) -> Result<(), AllocError> {
+    let after = id < 3;
+    let which = if after { Which::Set(7) } else { Which::Goal };
+    operands.push(Operand { which, id, after })
+}
+
+// Puts set 7 three times, and the goal.
+fn put_operands(operands: &mut Operands) -> Result<(), AllocError> {
+    for id in 0..4 {
+        put_operand(operands, id)?;
+    }
+    Ok(())
+}
+
+// Whether these are the four operands.
+fn are_four(operands: &Operands) -> bool {
+    operands.len() == 4
+        && operands.get(0).which == Which::Set(7)
+        && operands.get(3).which == Which::Goal
+}
+
+// Whether just these are named.
+fn are_named(operands: &Operands) -> bool {
+    operands.names(Which::Set(7), true)
+        & !operands.names(Which::Set(7), false)
+        & !operands.names(Which::Set(6), true)
+        & operands.names(Which::Goal, false)
+        & !operands.names(Which::Goal, true)
+        & !operands.names(Which::Start, false)
+}
+
+// Whether operands name their sets once they are there.
+fn name_their_sets(alloc: Global) -> Result<bool, AllocError> {
+    let mut operands = Operands::new(alloc);
+    let none = !operands.names(Which::Goal, false);
+    put_operands(&mut operands)?;
+    Ok(none & are_four(&operands) & are_named(&operands))
 }
 
 #[test]
 fn operands_name_their_sets_before_or_after_the_action(rt: HostRuntime) -> Result<(), Fail> {
-    let mut operands = Operands::new(rt.alloc());
-    assert!(rt; !operands.names(Which::Goal, false));
-    for id in 0..3 {
-        operands.push(Operand {
-            which: Which::Set(7),
-            id,
-            after: true,
-        })?;
-    }
-    operands.push(Operand {
-        which: Which::Goal,
-        id: 3,
-        after: false,
-    })?;
-    assert_eq!(rt; operands.len(), 4);
-    assert_eq!(rt; operands.get(0).which, Which::Set(7));
-    assert_eq!(rt; operands.get(3).which, Which::Goal);
-    assert!(rt; operands.names(Which::Set(7), true));
-    assert!(rt; !operands.names(Which::Set(7), false));
-    assert!(rt; !operands.names(Which::Set(6), true));
-    assert!(rt; operands.names(Which::Goal, false));
-    assert!(rt; !operands.names(Which::Goal, true));
-    assert!(rt; !operands.names(Which::Start, false));
+    assert!(rt; name_their_sets(rt.alloc())?);
     Ok(())
 }

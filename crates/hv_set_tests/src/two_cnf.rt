@@ -5,8 +5,9 @@ ghost use Rattle.hv_task.specs.Strips.{atoms};
 ghost use Rattle.hv_sets.specs.Cubes.{SpeakBelow};
 ghost use Rattle.hv_clauses.specs.Clausal.{AreClauses};
 
+use crate::three_atoms::task_of_three;
 use hv_sets::{Clause, Clauses, Literal};
-use hv_task::{Name, Task};
+use hv_task::Task;
 use hv_twocnf::{TwoCnf, TwoCnfFault};
 use std::alloc::{AllocError, Global};
 use std::test::Fail;
@@ -28,45 +29,62 @@ fn put_literal(clause: &mut Clause, number: i32) -> Result<(), AllocError>
     Ok(())
 }
 
+// Puts the three literals of the row.
+fn put_row(clause: &mut Clause, row: &[i32; 3]) -> Result<(), AllocError>
+    requires { SpeakBelow 3 clause.old }
+    ensures { OnOk result (SpeakBelow 3 clause.new) }
+{
+    put_literal(clause, row[0])?;
+    put_literal(clause, row[1])?;
+    put_literal(clause, row[2])
+}
+
+// The clause of the row.
 fn clause_of(alloc: Global, row: &[i32; 3]) -> Result<Clause, AllocError>
     ensures { IfOk result (SpeakBelow 3) }
 {
     let mut clause = Clause::new(alloc);
-    put_literal(&mut clause, row[0])?;
-    put_literal(&mut clause, row[1])?;
-    put_literal(&mut clause, row[2])?;
+    put_row(&mut clause, row)?;
     Ok(clause)
 }
 
+// Puts the clause of the row last.
+fn put_clause(alloc: Global, clauses: &mut Clauses, row: &[i32; 3]) -> Result<(), AllocError>
+    requires { AreClauses 3 clauses.old }
+    ensures { OnOk result (AreClauses 3 clauses.new) }
+{
+    let clause = clause_of(alloc, row)?;
+    clauses.push(clause)
+}
+
+// The clauses of the rows.
 fn clauses_of(alloc: Global, rows: &[[i32; 3]]) -> Result<Clauses, AllocError>
     ensures { IfOk result (AreClauses 3) }
 {
     let mut clauses = Clauses::new(alloc);
     for row in rows {
-        clauses.push(clause_of(alloc, row)?)?;
+        put_clause(alloc, &mut clauses, row)?;
     }
     Ok(clauses)
 }
 
-fn task_of_three(alloc: Global) -> Result<Task, AllocError>
-    ensures { IfOk result (λ task. atoms task ≡ 3) }
+// The place of the first of these clauses that is refused.
+fn first_refused(alloc: Global, task: &Task, clauses: &Clauses) -> Result<Option<usize>, AllocError>
+    requires task { atoms task.now ≡ 3 }
+    requires clauses { AreClauses 3 clauses.now }
 {
-    let mut task = Task::new(alloc);
-    task.add_atom(Name::new(alloc, b"p")?)?;
-    task.add_atom(Name::new(alloc, b"q")?)?;
-    task.add_atom(Name::new(alloc, b"r")?)?;
-    Ok(task)
+    match TwoCnf::new(alloc, task, clauses).err() {
+        None => Ok(None),
+        Some(TwoCnfFault::NotTwo(place)) => Ok(Some(place)),
+        Some(TwoCnfFault::Memory) => Err(AllocError),
+    }
 }
 
-// The place of the first clause that is refused.
+// The same of the clauses of these rows.
 fn refused(alloc: Global, rows: &[[i32; 3]]) -> Result<Option<usize>, AllocError> {
     let task = task_of_three(alloc)?;
     let clauses = clauses_of(alloc, rows)?;
-    match TwoCnf::new(alloc, &task, &clauses) {
-        Ok(_) => Ok(None),
-        Err(TwoCnfFault::NotTwo(place)) => Ok(Some(place)),
-        Err(TwoCnfFault::Memory) => Err(AllocError),
-    }
+    first_refused(alloc, &task, &clauses)
 }
 
 #[test]
