@@ -5,7 +5,7 @@ use hv_reach::{PairPruner, RelaxedPruner};
 use hv_trap::TrapPruner;
 use std::alloc::{AllocError, Global};
 
-// Puts a pruner last that asks what is reached though nothing is deleted.
+// Puts a pruner last that asks what is reached as if nothing were deleted.
 fn put_relaxed(alloc: Global, pruners: &mut Vec<Box<dyn Pruner>>) -> Result<(), AllocError> {
     pruners.push(Box::new(alloc, RelaxedPruner::new(alloc))?)?;
     Ok(())

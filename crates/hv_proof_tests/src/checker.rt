@@ -121,7 +121,7 @@ fn refuse(
     stop(rt, &mut checker, front, bad, reason)
 }
 
-/// The proof of which a line is left out.
+/// The first lines of the proof, but for a state that set 3 lacks: that of the second place.
 const MISSING: [&str; 9] = [
     "a 0 a",
     "e 0 c e",
@@ -148,7 +148,7 @@ fn refuse_after(
     refuse(rt, alloc, task, 2, &PROOF[..good], bad, reason)
 }
 
-/// Bad lines of six kinds, each after good ones.
+/// Bad lines, each after so many good ones of the proof.
 fn refuse_lines(rt: &impl Abort, alloc: Global, task: &Task) -> Result<(), AllocError> {
     refuse_after(rt, alloc, task, 0, "e 0 h 1 -3", &Reason::Grammar)?;
     refuse_after(rt, alloc, task, 0, "e 1 c e", &Reason::Number)?;
@@ -175,8 +175,8 @@ fn start_leads_out(alloc: Global, task: &Task) -> Result<Reason, AllocError> {
     }))
 }
 
-/// Where a state is missing the progression is refused with it; by too small a budget it is
-/// refused as well.
+/// Where a state is missing the progression is refused with the action and the state that lead
+/// there; by too small a budget it is refused as well.
 fn refuse_progressions(rt: &impl Abort, alloc: Global, task: &Task) -> Result<(), AllocError> {
     let bad = Piece::Line(b"k 1 s 4 5 b2");
     refuse(rt, alloc, task, 1, &PROOF[..9], bad, &Reason::Budget)?;

@@ -49,7 +49,7 @@ fn six_sets(alloc: Global) -> Result<Table, Fail> {
     Ok(table)
 }
 
-// Whether so many sets are literals, where these are, and the others aren't.
+// Whether there is a set for each flag, and it is a literal exactly where the flag says so.
 fn are_literals(table: &Table, literals: &[bool]) -> bool {
     let mut alike = table.expr_count() == literals.len();
     for (id, is_literal) in literals.iter().enumerate() {

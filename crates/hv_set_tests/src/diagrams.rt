@@ -166,8 +166,8 @@ fn push_node(text: &mut String, atom: u32, child: u32) -> Result<(), AllocError>
     Ok(())
 }
 
-// Puts a line of a file of a hundred nodes last, each above the one before. The line of the first
-// number is once more that of the node before it, and the line of the second is none of a node.
+// Puts this line of a file of a hundred nodes last, each above the one before. The line `twin` is
+// once more that of the node before it, and the line `broken` is none of a node.
 fn push_line(text: &mut String, line: u32, twin: u32, broken: u32) -> Result<(), AllocError>
     requires first { 2 ≤ line }
     requires last { line < 102 }
@@ -455,7 +455,7 @@ fn answer(
 }
 
 // The answer to a query to a list of eight nodes, where the negative set is asked about after the
-// action or before it.
+// action or before it. There is none where the list has another number of nodes.
 fn ask(
     alloc: Global,
     task: &Task,
@@ -513,7 +513,7 @@ fn finds_in(
     Ok(found == Some(want))
 }
 
-// The same for the task of three atoms.
+// The same for a task of three atoms with its action.
 fn finds(
     alloc: Global,
     positive: Which,
@@ -783,7 +783,7 @@ fn is_met_outside(
     is_met(alloc, &mut walk, &mut asked, left, right, false)
 }
 
-// Whether both are right of the node among eight and each other one.
+// Whether both are right of the node among eight and each of them.
 fn are_met(alloc: Global, list: &Diagrams, left: usize) -> Result<bool, AllocError>
     requires atoms { list.now.atoms ≡ 3 }
     requires left { left < 8 }

@@ -127,7 +127,7 @@ fn put_sets(alloc: Global, task: &Task, sets: &mut Horns) -> Result<bool, HornFa
     Ok((first, second) == (0, 1))
 }
 
-// Whether the state is in the set of this number.
+// Whether the state is in the set of this number; none where there is no such set over its atoms.
 fn is_in(sets: &Horns, number: usize, state: &State) -> Option<bool> {
     if sets.len() <= number {
         return None;

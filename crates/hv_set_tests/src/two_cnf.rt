@@ -1,4 +1,4 @@
-//! Tests of which clauses have at most two literals, and of a store's numbers.
+//! Tests of which clauses have at most two literals.
 
 ghost use Rattle.std.specs.Prelude.{◌≡◌, IfOk, OnOk};
 ghost use Rattle.hv_task.specs.Strips.{atoms};

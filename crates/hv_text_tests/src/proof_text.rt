@@ -263,7 +263,7 @@ fn put_lines(table: &mut Table) -> Result<(), AllocError> {
     put_dead(table)
 }
 
-/// Whether the lines are written as this text behind the beginning.
+/// Whether the beginning, with the lines written behind it, is this text.
 fn are_written(
     alloc: Global,
     table: &Table,

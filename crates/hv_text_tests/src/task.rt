@@ -121,7 +121,8 @@ fn states_compare_by_their_atoms(rt: HostRuntime) -> Result<(), Fail> {
     Ok(())
 }
 
-// Whether the empty state keeps the atoms at both ends of its words.
+// Whether the empty state keeps its first and its last atom, and those on both sides of where its
+// second word begins.
 fn keeps(state: &mut State, hint: &mut Hint) -> bool
     requires { length state.old ≡ 130 }
     ensures { length state.new ≡ 130 }
