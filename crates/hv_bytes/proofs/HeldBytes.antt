@@ -1,15 +1,15 @@
 -- Held bytes, a line, and what is left on a shelf.
 use Rattle.std.proofs.Common.{◌≡◌, ◌≢◌, ℕ, ◌+◌, ◌-◌, ◌≤◌, List, [], ◌∷◌, ◌++◌, Option, None, Some}
 use Rattle.std.proofs.Common.{length, take, drop, refl, sym, ap, ◌∙◌, arith, inl, inr, ⊎_elim}
-use Rattle.std.proofs.Common.{append_assoc, append-nil, length-append, length-take, length-drop}
-use Rattle.std.proofs.Common.{take-append-drop}
+use Rattle.std.proofs.Common.{subst, Bool, false, IsTrue, append_assoc, append-nil, length-append}
+use Rattle.std.proofs.Common.{length-take, length-drop, take-append-drop}
 use Rattle.std.proofs.lemmas.List.{drop-drop, drop-take}
-use Rattle.std.proofs.lemmas.List.Elements.{All-append}
-use Rattle.std.specs.Io.KnownBytes.{Consumes, Keeps, IsAtEnd, prepend_known}
+use Rattle.std.proofs.lemmas.List.Elements.{All-append, All-nil}
+use Rattle.std.specs.Io.KnownBytes.{Consumes, Keeps, prepend_known}
 use Rattle.hv_bytes.specs.FirstLine.{BeginsLong, IsFirstLine, IsLong, TakesLine}
 use Rattle.hv_bytes.specs.LineCuts.{IsClean}
 use Rattle.hv_bytes.specs.Working.LineCuts.{IsFirstLf}
-use Rattle.hv_bytes.specs.Working.LineParts.{EndsLine, IsLongPart, LengthensLine}
+use Rattle.hv_bytes.specs.Working.LineParts.{EndsLine, IsLongPart}
 use Rattle.hv_bytes.proofs.LineLaws.{IsFirstLine-append, first_line_of, length_some}
 
 -- the bytes from one place of a buffer to another, without the first of them
@@ -21,6 +21,11 @@ window-skip piece at end count fits =
     let split : end - at ≡ count + rest = omega arith in
     sym (ap (λ n. drop count (take n (drop at piece))) split ∙ drop-take count rest (drop at piece)
     ∙ ap (take rest) (drop-drop count at piece))
+
+-- a test says that some bytes are held
+pub some_held : (held : List ℕ) (empty : Bool) → empty ≡ false → (held ≡ [] → IsTrue empty)
+    → held ≢ []
+some_held held empty is test none = let yes = test none in cc
 
 abbrev IsNoLf : ℕ → Type 0
 IsNoLf b = b ≢ 10
@@ -65,16 +70,6 @@ module _ (line held : List ℕ) where
   takes_ended (Some xs) (Some ys) held_now line_now p clean ends =
       rw (p, ends.2, ends.3) (IsFirstLine-grown ys ends.0 clean ends.1)
 
-  -- all the held bytes joined the line, and the shelf was asked for more
-  pub consumes_lengthened : (old left now : Option (List ℕ)) (held_now line_now : List ℕ)
-      → Consumes old (prepend_known held left) line → LengthensLine held held_now line line_now
-      → Keeps (prepend_known held_now left) now → Consumes old now line_now
-  consumes_lengthened None left now held_now line_now p grown kept = tt
-  consumes_lengthened (Some xs) None now held_now line_now p grown kept = absurd p
-  consumes_lengthened (Some xs) (Some ys) None held_now line_now p grown kept = absurd kept
-  consumes_lengthened (Some xs) (Some ys) (Some zs) held_now line_now p grown kept =
-      rw (p, grown.2, kept, grown.1) (sym (append_assoc line held ys))
-
   -- a part of the held bytes makes the line long
   pub long_part : (old left : Option (List ℕ)) (line_limit file_limit earlier : ℕ)
       → Consumes old (prepend_known held left) line → IsClean line → held ≢ []
@@ -106,35 +101,42 @@ module _ (line held : List ℕ) where
       rw cut (begins_long front more line_limit file_limit earlier filled
       (All-append IsNoLf line (take count held) clean long.2) (rw whole long.3))
 
-  -- a line that grew by held bytes isn't empty
-  pub lengthened_some : (held_now line_now : List ℕ) → held ≢ []
-      → LengthensLine held held_now line line_now → line_now ≢ []
-  lengthened_some held_now line_now some grown e = absurd
-      (omega (
-        arith,
-        ap length e,
-        ap length grown.2,
-        length-append line held,
-        length_some held
-            some,
-      ))
+-- no byte was held, and the shelf was asked for more
+pub consumes_read : (old left now : Option (List ℕ)) (held line : List ℕ) → held ≡ []
+    → Consumes old (prepend_known held left) line → Keeps left now → Consumes old now line
+consumes_read None left now held line none p kept = tt
+consumes_read (Some xs) None now held line none p kept = absurd p
+consumes_read (Some xs) (Some ys) None held line none p kept = absurd kept
+consumes_read (Some xs) (Some ys) (Some zs) held line none p kept =
+    p ∙ ap (λ h. line ++ (h ++ ys)) none ∙ ap (λ l. line ++ l) (sym kept)
 
-  pub lengthened_clean : (held_now line_now : List ℕ) → IsClean line
-      → LengthensLine held held_now line line_now → IsClean line_now
-  lengthened_clean held_now line_now clean grown = rw grown.2
-      (All-append IsNoLf line held clean grown.0)
+-- a line that lies whole among the held bytes
+pub takes_lent : (held : List ℕ) (left : Option (List ℕ)) (held_now line : List ℕ)
+    → EndsLine held held_now [] line
+    → TakesLine (prepend_known held left) (prepend_known held_now left) line
+takes_lent held None held_now line ends = tt
+takes_lent held (Some ys) held_now line ends = rw (ends.2, ends.3)
+    (IsFirstLine-grown [] held ys ends.0 (All-nil IsNoLf) ends.1)
 
--- a last line, which lacks its LF
-pub takes_last : (old now : Option (List ℕ)) (line : List ℕ) → Consumes old now line → IsClean line
-    → line ≢ [] → IsAtEnd now → TakesLine old now line
-takes_last None now line p clean some end = tt
-takes_last (Some xs) None line p clean some end = absurd p
-takes_last (Some xs) (Some ys) line p clean some end =
-    let whole : xs ≡ line = p ∙ ap (λ l. line ++ l) end ∙ append-nil line in
-    record { some = λ e. some (sym whole ∙ e); clean = clean; cut = inr (whole, end) }
+-- one that is long
+pub long_lent : (held : List ℕ) (left : Option (List ℕ)) (at line_limit file_limit earlier : ℕ)
+    → IsFirstLf held at → IsLong line_limit file_limit earlier at
+    → BeginsLong (prepend_known held left) line_limit file_limit earlier
+long_lent held None at line_limit file_limit earlier lf long = tt
+long_lent held (Some ys) at line_limit file_limit earlier lf long =
+    let whole : length (take at held) ≡ at = omega (arith, length-take at held, lf.within) in (
+      take at held,
+      drop (at + 1) held ++ ys,
+      IsFirstLine-grown [] held ys at (All-nil IsNoLf) lf,
+      subst (IsLong line_limit file_limit earlier) (sym whole) long,
+    )
 
--- no byte is held, and none is left
-pub at_end : (held : List ℕ) (left : Option (List ℕ)) → held ≡ [] → IsAtEnd left
-    → IsAtEnd (prepend_known held left)
-at_end held None none end = tt
-at_end held (Some ys) none end = rw (none, end) refl
+-- the held bytes have no LF, and are already too many
+pub long_front : (held : List ℕ) (left : Option (List ℕ)) (line_limit file_limit earlier : ℕ)
+    → held ≢ [] → IsClean held → IsLong line_limit file_limit earlier (length held)
+    → BeginsLong (prepend_known held left) line_limit file_limit earlier
+long_front held None line_limit file_limit earlier some clean long = tt
+long_front held (Some ys) line_limit file_limit earlier some clean long =
+    let filled : held ++ ys ≢ [] = λ e. absurd
+    (omega (arith, ap length e, length-append held ys, length_some held some)) in
+    begins_long held ys line_limit file_limit earlier filled clean long

@@ -1,3 +1,4 @@
+pub mod DecimalFronts
 pub mod DecimalTexts
 pub mod FilePlaces
 pub mod HeldBytes

@@ -2,6 +2,7 @@
 pub mod Decimals
 pub mod Fields
 pub mod Files
+pub mod Fronts
 pub mod LineCuts
 pub mod LineParts
 pub mod Pieces

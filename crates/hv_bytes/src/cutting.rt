@@ -1,17 +1,14 @@
 //! Limits of lines and files, and the lines of an input, cut one by one.
 
-ghost use Rattle.std.specs.Prelude.{◌≡◌, ◌≢◌, ◌+◌, ◌<◌, ◌≤◌, ◌^◌, ◌↔◌, [], ◌++◌, length, take};
-ghost use Rattle.std.specs.Prelude.{drop, true, false, Ok, Err, IsTrue, IsOk, IfOk, IfSome, IfNone};
-ghost use Rattle.std.specs.Prelude.{OnOk, OnErr, IsErrOf, unwrap_or};
-ghost use Rattle.std.specs.Io.KnownBytes.{IsAtEnd, prepend_known};
+ghost use Rattle.std.specs.Prelude.{◌≡◌, ◌+◌, ◌≤◌, ◌^◌, ◌↔◌, length, true, false, Ok, IsTrue};
+ghost use Rattle.std.specs.Prelude.{IsOk, IfOk, OnOk, OnErr, IsErrOf};
+ghost use Rattle.std.specs.Io.KnownBytes.{IsAtEnd};
 ghost use Rattle.hv_bytes.specs.Devices.{Rose};
 ghost use Rattle.hv_bytes.specs.FirstLine.{BeginsLong, FitsLimits, IsLong, MovesBytes, TakesLine};
-ghost use Rattle.hv_bytes.specs.Working.LineParts.{EndsLine, IsLongPart, LengthensLine};
 ghost use Rattle.hv_bytes.specs.States.{coming_of, no_lines, size_of};
 
-use crate::held::Held;
+use crate::buffer::LineBuffer;
 use crate::outside::{Failed, Shelf};
-use crate::splitting::find_lf;
 use std::alloc::{AllocError, Global};
 use std::marker::Model;
 use thiserror::Error;
@@ -95,157 +92,10 @@ impl From<Failed> for LineFault {
     }
 }
 
-/// Appends the first `count` held bytes to the line, where it then is within the limits.
-fn append_part(
-    held: &mut Held,
-    line: &mut Vec<u8>,
-    count: usize,
-    earlier: u64,
-    limits: Limits,
-) -> Result<(), LineFault>
-    requires within { count ≤ length held.old }
-    requires limit { limits.line ≤ 2 ^ 62 }
-    requires short { length line.old.items ≤ limits.line }
-    ensures line { OnOk result (line.new.items ≡ line.old.items ++ take count held.old) }
-    ensures held { OnOk result (held.new ≡ drop count held.old) }
-    ensures fits { OnOk result (FitsLimits
-        limits.line limits.file earlier (length line.old.items + count)) }
-    ensures long { IsErrOf result LineFault.Long →
-        IsLong limits.line limits.file earlier (length line.old.items + count) }
-    ensures sure { result ≢ Err LineFault.Failed }
-{
-    let part = &held.as_slice()[..count];
-    let length = line.len() as u64 + part.len() as u64;
-    if !limits.fits(earlier, length) {
-        return Err(LineFault::Long);
-    }
-    line.extend_from_slice(part)?;
-    held.skip(count);
-    Ok(())
-}
-
-/// Moves the held bytes before the first LF, and that LF, or all of them where none is held, to the
-/// line, and says whether there was an LF.
-fn take_part(
-    held: &mut Held,
-    line: &mut Vec<u8>,
-    earlier: u64,
-    limits: Limits,
-) -> Result<bool, LineFault>
-    requires limit { limits.line ≤ 2 ^ 62 }
-    requires short { length line.old.items ≤ limits.line }
-    ensures ended { result ≡ Ok true →
-        EndsLine held.old held.new line.old.items line.new.items }
-    ensures open { result ≡ Ok false →
-        LengthensLine held.old held.new line.old.items line.new.items }
-    ensures fits { OnOk result (FitsLimits
-        limits.line limits.file earlier (length line.new.items)) }
-    ensures long { IsErrOf result LineFault.Long →
-        IsLongPart held.old limits.line limits.file earlier (length line.old.items) }
-    ensures sure { result ≢ Err LineFault.Failed }
-{
-    match find_lf(held.as_slice()) {
-        Some(at) => {
-            append_part(held, line, at, earlier, limits)?;
-            held.skip(1);
-            Ok(true)
-        }
-        None => {
-            let count = held.as_slice().len();
-            append_part(held, line, count, earlier, limits)?;
-            Ok(false)
-        }
-    }
-}
-
-/// Reads the line that the held bytes begin, and says how many bytes it has with its LF.
-fn read_begun<S: Shelf>(
-    shelf: &mut S,
-    held: &mut Held,
-    line: &mut Vec<u8>,
-    earlier: u64,
-    limits: Limits,
-) -> Result<u64, LineFault>
-    requires some { held.old ≢ [] }
-    requires limit { limits.line ≤ 2 ^ 62 }
-    ensures line { OnOk result (TakesLine
-        (prepend_known held.old (S.left shelf.old))
-        (prepend_known held.new (S.left shelf.new)) line.new.items) }
-    ensures passes { IfOk result (λ n. MovesBytes
-        (prepend_known held.old (S.left shelf.old))
-        (prepend_known held.new (S.left shelf.new)) 0 n) }
-    ensures count { IfOk result (λ n.
-        (0 < n) × (length line.new.items ≤ n) × (n ≤ length line.new.items + 1)) }
-    ensures last { IfOk result (λ n. n ≡ length line.new.items →
-        (held.new ≡ []) × IsAtEnd (prepend_known held.new (S.left shelf.new))) }
-    ensures fits { OnOk result (FitsLimits
-        limits.line limits.file earlier (length line.new.items)) }
-    ensures long { IsErrOf result LineFault.Long →
-        BeginsLong (prepend_known held.old (S.left shelf.old)) limits.line limits.file earlier }
-    ensures held { S.held shelf.new ≡ S.held shelf.old }
-    ensures allows { S.allows shelf.new ≡ S.allows shelf.old }
-    ensures later { S.faults shelf.old ≤ S.faults shelf.new }
-    ensures cause { IsErrOf result LineFault.Failed →
-        Rose (S.faults shelf.old) (S.faults shelf.new) }
-{
-    line.clear();
-    'parts: loop {
-        if take_part(held, line, earlier, limits)? {
-            return Ok(line.len() as u64 + 1);
-        }
-        held.refill(shelf)?;
-        if held.is_empty() {
-            return Ok(line.len() as u64);
-        }
-    }
-}
-
-/// Reads the next line, and says how many bytes it has with its LF: none at the end of the input.
-fn read_line<S: Shelf>(
-    shelf: &mut S,
-    held: &mut Held,
-    line: &mut Vec<u8>,
-    earlier: u64,
-    limits: Limits,
-) -> Result<Option<u64>, LineFault>
-    requires { limits.line ≤ 2 ^ 62 }
-    ensures line { IfOk result (λ count. IfSome count (λ _. TakesLine
-        (prepend_known held.old (S.left shelf.old))
-        (prepend_known held.new (S.left shelf.new)) line.new.items)) }
-    ensures passes { IfOk result (λ count. MovesBytes
-        (prepend_known held.old (S.left shelf.old))
-        (prepend_known held.new (S.left shelf.new)) 0 (unwrap_or count 0)) }
-    ensures count { IfOk result (λ count. IfSome count (λ n.
-        (0 < n) × (length line.new.items ≤ n) × (n ≤ length line.new.items + 1))) }
-    ensures last { IfOk result (λ count. IfSome count (λ n. n ≡ length line.new.items →
-        (held.new ≡ []) × IsAtEnd (prepend_known held.new (S.left shelf.new)))) }
-    ensures fits { IfOk result (λ count. IfSome count (λ _.
-        FitsLimits limits.line limits.file earlier (length line.new.items))) }
-    ensures end { IfOk result (λ count. IfNone count (
-        (held.old ≡ []) × (held.new ≡ []) × (line.new.items ≡ line.old.items)
-        × IsAtEnd (prepend_known held.old (S.left shelf.old))
-        × IsAtEnd (prepend_known held.new (S.left shelf.new)))) }
-    ensures long { IsErrOf result LineFault.Long →
-        BeginsLong (prepend_known held.old (S.left shelf.old)) limits.line limits.file earlier }
-    ensures held { S.held shelf.new ≡ S.held shelf.old }
-    ensures allows { S.allows shelf.new ≡ S.allows shelf.old }
-    ensures later { S.faults shelf.old ≤ S.faults shelf.new }
-    ensures cause { IsErrOf result LineFault.Failed →
-        Rose (S.faults shelf.old) (S.faults shelf.new) }
-{
-    held.refill(shelf)?;
-    if held.is_empty() {
-        return Ok(None);
-    }
-    let count = read_begun(shelf, held, line, earlier, limits)?;
-    Ok(Some(count))
-}
-
 /// A text on a shelf, cut into lines at LF.
 #[derive(Drop)]
 pub struct Lines {
-    held: Held,
-    line: Vec<u8>,
+    buffer: LineBuffer,
     earlier: u64,
     number: u64,
     ended: bool,
@@ -260,16 +110,16 @@ impl Model for Lines {
     ghost Value = { LinesState };
 
     ghost view = { λ l. record {
-      held = l.held;
+      held = l.buffer.held;
       earlier = l.earlier;
       number = l.number;
-      line = l.line.items;
+      line = l.buffer.line;
       ended = l.ended;
       live = l.live;
       limits = l.limits;
     } };
 
-    ghost invariant = { λ l. IsCounted l.limits l.earlier l.number l.held l.ended };
+    ghost invariant = { λ l. IsCounted l.limits l.earlier l.number l.buffer.held l.ended };
 }
 
 impl Lines {
@@ -279,10 +129,9 @@ impl Lines {
         requires file { limits.file ≤ 2 ^ 62 }
         ensures { IfOk result (λ lines. lines ≡ no_lines limits) }
     {
-        let held = Held::new(alloc)?;
+        let buffer = LineBuffer::new(alloc)?;
         Ok(Lines {
-            held,
-            line: Vec::new(alloc),
+            buffer,
             earlier: 0,
             number: 0,
             ended: false,
@@ -302,7 +151,7 @@ impl Lines {
     pub fn line(&self) -> &[u8]
         ensures { result.now ≡ self.now.line }
     {
-        self.line.as_slice()
+        self.buffer.line()
     }
 
     /// The number of the line given last, from 1.
@@ -358,18 +207,25 @@ impl Lines {
         ensures later { S.faults shelf.old ≤ S.faults shelf.new }
         ensures cause { IsErrOf result LineFault.Failed →
             Rose (S.faults shelf.old) (S.faults shelf.new) }
+
+        // the input ends where nothing is left on the shelf
+        ensures at_end { OnOk result (self.old.ended ≡ false → self.new.ended ≡ true →
+            IsAtEnd (S.left shelf.new)) }
+
+        // after a fault it is as it was, and may not be asked any more
+        ensures fault { OnErr result (self.new ≡ record self.old { live = false }) }
     {
         if self.ended {
             return Ok(Next::End);
         }
         self.live = false;
-        let count = read_line(
-            shelf,
-            &mut self.held,
-            &mut self.line,
-            self.earlier,
-            self.limits,
-        )?;
+        if self.buffer.lend_line(self.earlier, self.limits)? {
+            self.live = true;
+            self.earlier += self.buffer.line().len() as u64 + 1;
+            self.number += 1;
+            return Ok(Next::Line);
+        }
+        let count = self.buffer.read_line(shelf, self.earlier, self.limits)?;
         self.live = true;
         match count {
             None => {
@@ -377,7 +233,7 @@ impl Lines {
                 Ok(Next::End)
             }
             Some(count) => {
-                self.ended = count == self.line.len() as u64;
+                self.ended = count == self.buffer.line().len() as u64;
                 self.earlier += count;
                 self.number += 1;
                 Ok(Next::Line)

@@ -2,8 +2,10 @@
 //! numbers in texts.
 #![tactic(auto)]
 
+mod block;
+mod buffer;
 pub mod cutting;
-mod held;
+pub mod front;
 pub mod memory_shelf;
 pub mod memory_sink;
 pub mod outside;
@@ -14,6 +16,7 @@ pub mod sure;
 pub mod transfer;
 
 pub use cutting::{Limits, LineFault, Lines, MOST_FILE_BYTES, MOST_LINE_BYTES, Next};
+pub use front::decimal_front;
 pub use memory_shelf::MemoryShelf;
 pub use memory_sink::MemorySink;
 pub use outside::{Failed, Shelf, Sink};

@@ -76,7 +76,7 @@ impl Text {
 }
 
 /// The most digits of a decimal.
-const MAX_DIGITS: usize = 18;
+pub(crate) const MAX_DIGITS: usize = 18;
 
 /// The number that the digits spell, leading zeros included, where each byte is a digit.
 fn digits_number(digits: &[u8]) -> Option<u64>
@@ -95,7 +95,7 @@ fn digits_number(digits: &[u8]) -> Option<u64>
 }
 
 /// Whether the bytes are as many as a decimal may have, and no zero stands before others.
-fn has_decimal_shape(bytes: &[u8]) -> bool
+pub(crate) fn has_decimal_shape(bytes: &[u8]) -> bool
     ensures { IsTrue result ↔ HasDecimalShape bytes.now }
 {
     match bytes {

@@ -1,6 +1,6 @@
 -- What the loop that reads a task text does in one turn, and what it answers.
 use Rattle.std.proofs.Common.{◌≡◌, ℕ, ◌+◌, List, [], ◌∷◌, Option, None, Some, Result, Ok, Err}
-use Rattle.std.proofs.Common.{IfSome, length, refl, sym, ◌∙◌, ap, subst, arith, append-nil}
+use Rattle.std.proofs.Common.{IfSome, IsErrOf, length, refl, sym, ◌∙◌, ap, subst, arith, append-nil}
 use Rattle.std.specs.Io.KnownBytes.{IsAtEnd}
 use Rattle.std.proofs.lemmas.List.{length_push}
 use Rattle.std.proofs.lemmas.Option.{IfSome_then}
@@ -193,3 +193,18 @@ module _ (limits : Limits) (file : Option (List ℕ)) (reader : Reader) (number 
       subst (λ r. IfSome file (λ bytes. IsReadFrom limits bytes (Err r))) (sym e)
       (faulty file count fault (λ is. long_next limits file coming (lines_before b) earlier count
       f.gave (long is) (omega arith)))
+
+-- a line that isn't taken is no fault of the shelf
+pub feed_reads : {T : Type 0} (number : ℕ) (error : FeedError) (fault : TaskFault)
+    → fault ≡ fault_at number error → IsErrOf {T = T} (Err fault) F.ReadFault → ⊥
+feed_reads number (E.Place kind) fault is e = cc
+feed_reads number (E.Limit limit) fault is e = cc
+feed_reads number E.Memory fault is e = cc
+
+-- and one that can't be had is only where the shelf failed
+pub line_reads : {T : Type 0} (number : ℕ) (error : LineFault) (fault : TaskFault)
+    → fault ≡ line_fault_at number error → IsErrOf {T = T} (Err fault) F.ReadFault
+    → error ≡ L.Failed
+line_reads number L.Long fault is e = absurd cc
+line_reads number L.Failed fault is e = refl
+line_reads number L.Memory fault is e = absurd cc

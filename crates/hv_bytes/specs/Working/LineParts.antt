@@ -1,6 +1,6 @@
 -- One step of cutting a line out of held bytes: the line grows by a part of them.
-use Rattle.std.specs.Prelude.{◌≡◌, ℕ, ◌+◌, ◌≤◌, List, [], ◌++◌, length, take, drop}
-use Rattle.hv_bytes.specs.FirstLine.{IsLong}
+use Rattle.std.specs.Prelude.{◌≡◌, ◌≢◌, ℕ, ◌+◌, ◌≤◌, List, [], ◌++◌, length, take, drop}
+use Rattle.hv_bytes.specs.FirstLine.{FitsLimits, IsLong}
 use Rattle.hv_bytes.specs.LineCuts.{IsClean}
 use Rattle.hv_bytes.specs.Working.LineCuts.{IsFirstLf}
 
@@ -20,3 +20,12 @@ abbrev pub IsLongPart : List ℕ → ℕ → ℕ → ℕ → ℕ → Type 0
 IsLongPart held line_limit file_limit earlier so_far =
     (count : ℕ) × (count ≤ length held) × IsClean (take count held)
     × IsLong line_limit file_limit earlier (so_far + count)
+
+-- a line that has these bytes so far is within the limits; an empty one may yet turn out to be none
+abbrev pub FitsSoFar : ℕ → ℕ → ℕ → List ℕ → Type 0
+FitsSoFar line_limit file_limit earlier line =
+    line ≢ [] → FitsLimits line_limit file_limit earlier (length line)
+
+-- the bytes begin with this front
+abbrev pub BeginsWith : List ℕ → List ℕ → Type 0
+BeginsWith front bytes = take (length front) bytes ≡ front

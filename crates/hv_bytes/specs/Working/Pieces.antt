@@ -1,5 +1,5 @@
 -- Working definitions beside those of `Pieces`: for private contracts and proofs.
-use Rattle.std.specs.Prelude.{◌≡◌, ℕ, ◌+◌, List, ◌++◌, Option, None, Some}
+use Rattle.std.specs.Prelude.{◌≡◌, ℕ, List, ◌++◌, Option, None, Some}
 use Rattle.hv_bytes.specs.LineCuts.{lines_of}
 use Rattle.hv_bytes.specs.declared.cutting.Limits.{Limits}
 use Rattle.hv_bytes.specs.Pieces.{pieces_after, pieces_of, as_pieces}

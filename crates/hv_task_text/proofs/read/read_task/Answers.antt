@@ -5,8 +5,8 @@ use Rattle.hv_bytes.specs.States.{coming_of}
 use Rattle.hv_bytes.specs.declared.cutting.Limits.{Limits}
 use Rattle.hv_bytes.proofs.WholeText.{known}
 use Rattle.hv_task_text.specs.TaskText.{IsReadFrom}
-use Rattle.hv_task_text.proofs.Turns.{end_answer, feed_fault, follows_first, follows_more}
-use Rattle.hv_task_text.proofs.Turns.{line_fault_answer, ready_reader}
+use Rattle.hv_task_text.proofs.Turns.{end_answer, feed_fault, feed_reads, follows_first}
+use Rattle.hv_task_text.proofs.Turns.{follows_more, line_fault_answer, line_reads, ready_reader}
 use Rattle.hv_task_text.proofs.read.read_task.Goals as goal
 
 pub reading-init : goal.reading-init
@@ -104,3 +104,14 @@ returns-in-Err-clause-read g c =
     c.reading.lines.earlier) c.reading.invariant.2 (c.in-Err.ensures.long (ap (λ f. Err f) e)))
     (ap (λ n. n + 1) (c.number-in-Err.ensures ∙ c.in-Err.ensures.same_number))
     c.line_fault.ensures)
+
+pub returns-in-Err-feed-clause-cause : goal.returns-in-Err-feed-clause-cause
+returns-in-Err-feed-clause-cause g c =
+    λ is. absurd (feed_reads c.number.result c.in-Err-feed.error c.at.result c.at.ensures is)
+
+pub returns-in-Err-clause-cause : goal.returns-in-Err-clause-cause
+returns-in-Err-clause-cause g c =
+    λ is.
+    let failed = line_reads (c.number-in-Err.result + 1) c.in-Err.fault c.line_fault.result
+    c.line_fault.ensures is in
+    omega (arith, c.in-Err.ensures.cause (ap (λ f. Err f) failed), c.reading.invariant.5)
