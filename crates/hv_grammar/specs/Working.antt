@@ -1,0 +1,2 @@
+-- Definitions that no public contract rests on.
+pub mod Reads
