@@ -11,8 +11,8 @@ ghost use Rattle.hv_lines.specs.Good.{IsKnown, NamesWithin};
 use hv_basic::is_of_its_family;
 use hv_bdd::Diagrams;
 use hv_lines::{Acts, Expr, Line, Statement, Table, Word};
-use hv_sets::{Clauses, Literal};
-use hv_task::{AtomList, Task};
+use hv_sets::{Clauses, Literal, StateList};
+use hv_task::Task;
 
 /// Whether the line's identifier is the number of earlier lines of its letter.
 pub(crate) fn is_numbered(table: &Table, line: &Line) -> bool
@@ -128,7 +128,7 @@ fn expr_is_within(task: &Task, diagrams: &Diagrams, expr: &Expr) -> bool
 {
     match expr {
         Expr::Horn(clauses) | Expr::Two(clauses) => clauses_are_below(task.atoms(), clauses),
-        Expr::States(states) => states_are_below(task.atoms(), states.as_slice()),
+        Expr::States(states) => states_are_below(task.atoms(), states),
         Expr::Node(node) => (*node as usize) < diagrams.count(),
         _ => true,
     }
@@ -151,10 +151,13 @@ fn clause_is_below(count: u32, clause: &[Literal]) -> bool
     clause.iter().all(|literal| literal.atom < count)
 }
 
-fn states_are_below(count: u32, states: &[AtomList]) -> bool
+fn states_are_below(count: u32, states: &StateList) -> bool
     ensures { IsTrue result ↔ All (AreBelow count) states.now }
 {
-    states
-        .iter()
-        .all(|state| are_below(count, state.as_slice()))
+    for place in 0..states.len() {
+        if !are_below(count, states.get(place)) {
+            return false;
+        }
+    }
+    true
 }

@@ -195,7 +195,7 @@ fn counted_clauses(alloc: Global, fields: Option<&[u8]>) -> Result<Option<Clause
     let Some((count, behind)) = first_number(fields) else {
         return Ok(None);
     };
-    let Some(clauses) = lists::clauses_in(alloc, behind)? else {
+    let Some(clauses) = lists::clauses_in(alloc, behind, count)? else {
         return Ok(None);
     };
     if clauses.len() as u64 == count {
@@ -217,7 +217,7 @@ fn counted_states(alloc: Global, fields: Option<&[u8]>) -> Result<Option<StateLi
     let Some((count, behind)) = first_number(fields) else {
         return Ok(None);
     };
-    let Some(states) = lists::states_in(alloc, behind)? else {
+    let Some(states) = lists::states_in(alloc, behind, count)? else {
         return Ok(None);
     };
     if states.len() as u64 == count {

@@ -16,10 +16,8 @@ use crate::shapes::NOT_SHORT;
 use crate::token::{Token, token_of};
 use hv_bytes::split_field;
 use hv_lines::ActionList;
-use hv_sets::{Clause, Clauses, Literal, StateList};
-use hv_task::AtomList;
+use hv_sets::{Clauses, ClausesBuilder, Literal, StateList, StateListBuilder};
 use std::alloc::{AllocError, Global};
-use std::mem;
 
 /// A token of a state, or of another list that rises.
 enum StatePiece {
@@ -118,10 +116,11 @@ fn take_number(numbers: &mut ActionList, least: &mut u32, field: &[u8]) -> Resul
     }
 }
 
-/// Clauses, each with its end.
+/// Clauses, each with its end; room is taken for so many.
 pub(crate) fn clauses_in(
     alloc: Global,
     fields: Option<&[u8]>,
+    count: u64,
 ) -> Result<Option<Clauses>, AllocError>
     ensures { IfOk result (λ found. MatchOption found
         ((clauses : List (List Literal)) → StandFor (AreClauseTokens clauses)
@@ -129,40 +128,41 @@ pub(crate) fn clauses_in(
         (λ clauses. StandFor (AreClauseTokens clauses)
         (fields_behind fields.entry (λ f. f.now)))) }
 {
-    let mut all = Clauses::new(alloc);
-    let mut clause = Clause::new(alloc);
+    let mut clauses = ClausesBuilder::new(alloc);
+    let room = room_for(fields, count);
+    clauses.reserve(room.ends, room.items)?;
     let mut rest = fields;
     'fields: loop {
         let Some(line) = rest else {
-            return Ok(closed_clauses(all, &clause));
+            return Ok(closed_clauses(clauses));
         };
         let (field, behind) = split_field(line);
-        if !take_in_clauses(&mut all, &mut clause, field)? {
+        if !take_in_clauses(&mut clauses, field)? {
             return Ok(None);
         }
         rest = behind;
     }
 }
 
-/// Takes a field of clauses: a literal goes last in the clause that is begun, and an end puts that
-/// last. The answer is false where neither can stand there.
-fn take_in_clauses(all: &mut Clauses, clause: &mut Clause, field: &[u8]) -> Result<bool, AllocError>
-    ensures taken { result ≡ Ok true → ReadsField (clauses_from all.old clause.old) field.now
-        (clauses_from all.new clause.new) }
+/// Takes a field of clauses: a literal goes last in the clause that is begun, and an end ends it.
+/// The answer is false where neither can stand there.
+fn take_in_clauses(clauses: &mut ClausesBuilder, field: &[u8]) -> Result<bool, AllocError>
+    ensures taken { result ≡ Ok true
+        → ReadsField (clauses_from clauses.old.whole clauses.old.begun) field.now
+        (clauses_from clauses.new.whole clauses.new.begun) }
     ensures stopped { result ≡ Ok false
-        → StopsAtField (clauses_from all.old clause.old) field.now }
+        → StopsAtField (clauses_from clauses.old.whole clauses.old.begun) field.now }
 {
     let Some(token) = token_of(field) else {
         return Ok(false);
     };
     match clause_piece(token) {
         ClausePiece::Literal(literal) => {
-            clause.push(literal)?;
+            clauses.put(literal)?;
             Ok(true)
         }
         ClausePiece::End => {
-            all.push_literals(clause.as_slice())?;
-            clause.clear();
+            clauses.end()?;
             Ok(true)
         }
         ClausePiece::Other => Ok(false),
@@ -170,17 +170,22 @@ fn take_in_clauses(all: &mut Clauses, clause: &mut Clause, field: &[u8]) -> Resu
 }
 
 /// The clauses, if none is begun.
-fn closed_clauses(all: Clauses, clause: &Clause) -> Option<Clauses>
-    ensures { MatchOption result (whole_clauses all clause.now ≡ None)
-        (λ clauses. whole_clauses all clause.now ≡ Some clauses) }
+fn closed_clauses(clauses: ClausesBuilder) -> Option<Clauses>
+    ensures { MatchOption result (whole_clauses clauses.whole clauses.begun ≡ None)
+        (λ all. whole_clauses clauses.whole clauses.begun ≡ Some all) }
 {
-    if clause.is_empty() { Some(all) } else { None }
+    if clauses.begun() == 0 {
+        Some(clauses.list())
+    } else {
+        None
+    }
 }
 
-/// States, each with its end.
+/// States, each with its end; room is taken for so many.
 pub(crate) fn states_in(
     alloc: Global,
     fields: Option<&[u8]>,
+    count: u64,
 ) -> Result<Option<StateList>, AllocError>
     ensures { IfOk result (λ found. MatchOption found
         ((states : List (List ℕ)) → StandFor (AreStateTokens states)
@@ -188,49 +193,49 @@ pub(crate) fn states_in(
         (λ states. StandFor (AreStateTokens states)
         (fields_behind fields.entry (λ f. f.now)))) }
 {
-    let mut all = StateList::new(alloc);
-    let mut state = AtomList::new(alloc);
+    let mut states = StateListBuilder::new(alloc);
+    let room = room_for(fields, count);
+    states.reserve(room.ends, room.items)?;
     let mut least = 0;
     let mut rest = fields;
     'fields: loop {
         let Some(line) = rest else {
-            return Ok(closed_states(all, &state));
+            return Ok(closed_states(states));
         };
         let (field, behind) = split_field(line);
-        if !take_in_states(alloc, &mut all, &mut state, &mut least, field)? {
+        if !take_in_states(&mut states, &mut least, field)? {
             return Ok(None);
         }
         rest = behind;
     }
 }
 
-/// Takes a field of states: an atom goes last in the state that is begun, and an end puts that
-/// last. The answer is false where neither can stand there.
+/// Takes a field of states: an atom goes last in the state that is begun, and an end ends it. The
+/// answer is false where neither can stand there.
 fn take_in_states(
-    alloc: Global,
-    all: &mut StateList,
-    state: &mut AtomList,
+    states: &mut StateListBuilder,
     least: &mut u32,
     field: &[u8],
 ) -> Result<bool, AllocError>
-    requires { All (λ a. a < least.old) state.old }
-    ensures taken { result ≡ Ok true → ReadsField (states_from all.old state.old least.old)
-        field.now (states_from all.new state.new least.new) }
-    ensures below { result ≡ Ok true → All (λ a. a < least.new) state.new }
+    requires { All (λ a. a < least.old) states.old.begun }
+    ensures taken { result ≡ Ok true
+        → ReadsField (states_from states.old.whole states.old.begun least.old) field.now
+        (states_from states.new.whole states.new.begun least.new) }
+    ensures below { result ≡ Ok true → All (λ a. a < least.new) states.new.begun }
     ensures stopped { result ≡ Ok false
-        → StopsAtField (states_from all.old state.old least.old) field.now }
+        → StopsAtField (states_from states.old.whole states.old.begun least.old) field.now }
 {
     let Some(token) = token_of(field) else {
         return Ok(false);
     };
     match state_piece(token, *least) {
         StatePiece::Atom(atom) => {
-            push_last(state, atom)?;
+            states.put(atom)?;
             *least = atom + 1;
             Ok(true)
         }
         StatePiece::End => {
-            all.push(mem::replace(state, AtomList::new(alloc)))?;
+            states.end()?;
             *least = 0;
             Ok(true)
         }
@@ -239,18 +244,32 @@ fn take_in_states(
 }
 
 /// The states, if none is begun.
-fn closed_states(all: StateList, state: &AtomList) -> Option<StateList>
-    ensures { MatchOption result (whole_states all state.now ≡ None)
-        (λ states. whole_states all state.now ≡ Some states) }
+fn closed_states(states: StateListBuilder) -> Option<StateList>
+    ensures { MatchOption result (whole_states states.whole states.begun ≡ None)
+        (λ all. whole_states states.whole states.begun ≡ Some all) }
 {
-    if state.len() == 0 { Some(all) } else { None }
+    if states.begun() == 0 {
+        Some(states.list())
+    } else {
+        None
+    }
 }
 
-/// Puts in an atom that is greater than all others.
-fn push_last(atoms: &mut AtomList, atom: u32) -> Result<(), AllocError>
-    requires { All (λ a. a < atom) atoms.old }
-    ensures { OnOk result (atoms.new ≡ atoms.old ++ atom ∷ []) }
-{
-    let _length = atoms.len();
-    atoms.insert(atom)
+/// How many ends and how many items a list is given room for before it is read.
+#[derive(Clone, Copy)]
+struct Room {
+    ends: usize,
+    items: usize,
+}
+
+/// Room for so many ends, but for no more than the fields can have, an end and a space each, and
+/// for as many items as the rest has at least where none has more than six bytes with its space.
+fn room_for(fields: Option<&[u8]>, count: u64) -> Room {
+    let bytes = match fields {
+        Some(fields) => fields.len(),
+        None => 0,
+    };
+    let ends = count.min(bytes as u64 / 2 + 1) as usize;
+    let items = bytes.saturating_sub(ends).saturating_sub(ends) / 6;
+    Room { ends, items }
 }

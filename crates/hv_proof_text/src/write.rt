@@ -11,7 +11,6 @@ ghost use Rattle.hv_proof_text.specs.Working.Writing.{GrowsText, with_fields};
 use hv_bytes::Text;
 use hv_lines::{Acts, Constant, Expr, Line, Statement, Table, Word};
 use hv_sets::{Clauses, Literal, StateList};
-use hv_task::AtomList;
 use std::alloc::{AllocError, Global};
 
 /// The one spelling of the line, without LF.
@@ -189,20 +188,17 @@ fn push_literal(text: &mut Text, literal: &Literal) -> Result<(), AllocError>
 fn push_states(text: &mut Text, states: &StateList) -> Result<(), AllocError>
     ensures { OnOk result (text.new ≡ with_fields text.old (flat_map state_fields states.now)) }
 {
-    let items = states.as_slice();
-    for state in items {
-        push_state(text, state)?;
+    for place in 0..states.len() {
+        push_state(text, states.get(place))?;
     }
     Ok(())
 }
 
 /// Appends a state with its end.
-fn push_state(text: &mut Text, state: &AtomList) -> Result<(), AllocError>
+fn push_state(text: &mut Text, state: &[u32]) -> Result<(), AllocError>
     ensures { OnOk result (text.new ≡ with_fields text.old (state_fields state.now)) }
 {
-    for place in 0..state.len() {
-        push_number(text, state.get(place) as u64)?;
-    }
+    push_numbers(text, state)?;
     push_field(text, b";")
 }
 

@@ -1,5 +1,6 @@
 pub mod Truth
 pub mod Cubes
+pub mod Gathered
 pub mod Walks
 pub mod Room
 pub mod Names

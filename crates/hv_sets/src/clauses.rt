@@ -4,7 +4,7 @@ ghost use Rattle.std.specs.Prelude.{◌≡◌, ◌<◌, [], ◌∷◌, ◌++◌,
 ghost use Rattle.std.specs.Prelude.{OnOk, OnErr};
 
 use crate::clause::Clause;
-use crate::flat::FlatClauses;
+use crate::flat::Flat;
 use crate::held::Held;
 use crate::literal::Literal;
 use std::alloc::{AllocError, Global};
@@ -15,17 +15,19 @@ use std::rc::Rc;
 #[derive(Drop)]
 pub struct Clauses {
     alloc: Global,
-    pieces: Held<FlatClauses>,
+    pieces: Held<Flat<Literal>>,
 }
 
 impl Model for Clauses {
-    ghost use Rattle.std.specs.Prelude.{List};
+    ghost use Rattle.std.specs.Prelude.{◌≡◌, [], List};
     ghost use Rattle.hv_sets.specs.declared.literal.Literal.{Literal};
     ghost use Rattle.hv_sets.specs.Working.Held.{held_value};
 
     ghost Value = { List (List Literal) };
 
-    ghost view = { λ c. held_value c.pieces };
+    ghost view = { λ c. (held_value c.pieces).whole };
+
+    ghost invariant = { λ c. (held_value c.pieces).begun ≡ [] };
 }
 
 impl Clauses {
@@ -35,7 +37,7 @@ impl Clauses {
     {
         Clauses {
             alloc,
-            pieces: Held::Alone(FlatClauses::new(alloc)),
+            pieces: Held::Alone(Flat::new(alloc)),
         }
     }
 
@@ -108,5 +110,78 @@ impl Clauses {
         ensures { slice_get self.now place ≡ Some result.now }
     {
         self.pieces.get().get(place)
+    }
+}
+
+/// Clauses that are put together literal by literal.
+#[derive(Drop)]
+pub struct ClausesBuilder {
+    alloc: Global,
+    pieces: Flat<Literal>,
+}
+
+impl Model for ClausesBuilder {
+    ghost use Rattle.hv_sets.specs.Gathered.{Gathered};
+    ghost use Rattle.hv_sets.specs.declared.literal.Literal.{Literal};
+
+    ghost Value = { Gathered Literal };
+
+    ghost view = { λ b. b.pieces };
+}
+
+impl ClausesBuilder {
+    /// No clause, and none that is begun.
+    pub fn new(alloc: Global) -> ClausesBuilder
+        ensures { result ≡ record { whole = []; begun = [] } }
+    {
+        ClausesBuilder {
+            alloc,
+            pieces: Flat::new(alloc),
+        }
+    }
+
+    /// Takes room for so many clauses more, and for so many literals.
+    pub fn reserve(&mut self, clauses: usize, literals: usize) -> Result<(), AllocError>
+        ensures { self.new ≡ self.old }
+    {
+        self.pieces.reserve(clauses, literals)
+    }
+
+    /// Puts the literal last in the clause that is begun.
+    pub fn put(&mut self, literal: Literal) -> Result<(), AllocError>
+        ensures ok { OnOk result
+            (self.new ≡ record self.old { begun = self.old.begun ++ literal ∷ [] }) }
+        ensures err { OnErr result (self.new ≡ self.old) }
+    {
+        self.pieces.put(literal)
+    }
+
+    /// Ends the clause that is begun; without a literal it is the empty one. More than
+    /// 4,294,967,295 literals in all are answered as want of memory.
+    pub fn end(&mut self) -> Result<(), AllocError>
+        ensures ok { OnOk result
+            (self.new ≡ record { whole = self.old.whole ++ self.old.begun ∷ []; begun = [] }) }
+        ensures err { OnErr result (self.new ≡ self.old) }
+    {
+        self.pieces.end()
+    }
+
+    /// How many literals the clause has that is begun.
+    pub fn begun(&self) -> usize
+        ensures { result ≡ length self.now.begun }
+    {
+        self.pieces.begun()
+    }
+
+    /// The clauses, where none is begun.
+    pub fn list(self) -> Clauses
+        requires { self.begun ≡ [] }
+        ensures { result ≡ self.whole }
+    {
+        let ClausesBuilder { alloc, pieces } = self;
+        Clauses {
+            alloc,
+            pieces: Held::Alone(pieces),
+        }
     }
 }

@@ -1,88 +1,126 @@
-//! The literals of clauses in one list, with the end of each clause.
+//! Lists of lists in one list, with the end of each.
 
 ghost use Rattle.std.specs.Prelude.{◌≡◌, ◌<◌, ◌≤◌, ◌+◌, [], ◌∷◌, ◌++◌, length, slice_get};
-ghost use Rattle.std.specs.Prelude.{slice_range};
-ghost use Rattle.std.specs.Prelude.{IfOk, IfSome, Some, OnOk, OnErr};
-ghost use Rattle.hv_sets.specs.Working.Pieces.{EndAt, pieces, start_of};
+ghost use Rattle.std.specs.Prelude.{slice_range, IfOk, IfSome, Some, OnOk, OnErr};
+ghost use Rattle.hv_sets.specs.Working.Pieces.{EndWithin, last_end, pieces, start_of};
 
-use crate::literal::Literal;
 use std::alloc::{AllocError, Global};
 use std::marker::Model;
 
-/// Clauses, one after the other.
+/// Pieces, one after the other, and the items of one that is begun.
 #[derive(Drop)]
-pub(crate) struct FlatClauses {
-    literals: Vec<Literal>,
-    // Where each clause ends among them.
+pub(crate) struct Flat<T> {
+    items: Vec<T>,
+    // Where each piece ends among them.
     ends: Vec<u32>,
 }
 
-impl Model for FlatClauses {
-    ghost use Rattle.std.specs.Prelude.{List};
-    ghost use Rattle.hv_sets.specs.declared.literal.Literal.{Literal};
-    ghost use Rattle.hv_sets.specs.Working.Pieces.{EndAt, pieces};
+impl<T> Model for Flat<T> {
+    ghost use Rattle.hv_sets.specs.Gathered.{Gathered};
+    ghost use Rattle.hv_sets.specs.Working.Pieces.{EndWithin, gathered};
 
-    ghost Value = { List (List Literal) };
+    ghost Value = { Gathered T };
 
-    ghost view = { λ c. pieces c.literals.items 0 c.ends.items };
+    ghost view = { λ f. gathered f.items.items f.ends.items };
 
-    ghost invariant = { λ c. EndAt c.literals.items 0 c.ends.items };
+    ghost invariant = { λ f. EndWithin f.items.items 0 f.ends.items };
 }
 
-impl FlatClauses {
-    /// No clause.
-    pub(crate) fn new(alloc: Global) -> FlatClauses
-        ensures { result ≡ [] }
+impl<T: Copy> Flat<T> {
+    /// No piece.
+    pub(crate) fn new(alloc: Global) -> Flat<T>
+        ensures { result ≡ record { whole = []; begun = [] } }
     {
-        FlatClauses {
-            literals: Vec::new(alloc),
+        Flat {
+            items: Vec::new(alloc),
             ends: Vec::new(alloc),
         }
     }
 
-    /// The same clauses once more, in as much memory as they need.
-    pub(crate) fn copy(&self, alloc: Global) -> Result<FlatClauses, AllocError>
+    /// The same pieces and items once more, in as much memory as they need.
+    pub(crate) fn copy(&self, alloc: Global) -> Result<Flat<T>, AllocError>
         ensures { IfOk result (λ copy. copy ≡ self.now) }
     {
-        let mut literals = Vec::with_capacity(alloc, self.literals.len())?;
-        literals.extend_from_slice(&self.literals)?;
+        let mut items = Vec::with_capacity(alloc, self.items.len())?;
+        items.extend_from_slice(&self.items)?;
         let mut ends = Vec::with_capacity(alloc, self.ends.len())?;
         ends.extend_from_slice(&self.ends)?;
-        Ok(FlatClauses { literals, ends })
+        Ok(Flat { items, ends })
     }
 
-    /// Puts the clause of these literals last. More than 4,294,967,295 literals in all are answered
-    /// as want of memory.
-    pub(crate) fn push(&mut self, literals: &[Literal]) -> Result<(), AllocError>
-        ensures ok { OnOk result (self.new ≡ self.old ++ literals.now ∷ []) }
+    /// Puts an item last in the piece that is begun.
+    pub(crate) fn put(&mut self, item: T) -> Result<(), AllocError>
+        ensures ok { OnOk result
+            (self.new ≡ record self.old { begun = self.old.begun ++ item ∷ [] }) }
         ensures err { OnErr result (self.new ≡ self.old) }
     {
-        let Some(end) = end_after(self.literals.len(), literals.len()) else {
+        self.items.push(item)?;
+        Ok(())
+    }
+
+    /// Ends the piece that is begun. More than 4,294,967,295 items in all are answered as want of
+    /// memory.
+    pub(crate) fn end(&mut self) -> Result<(), AllocError>
+        ensures ok { OnOk result
+            (self.new ≡ record { whole = self.old.whole ++ self.old.begun ∷ []; begun = [] }) }
+        ensures err { OnErr result (self.new ≡ self.old) }
+    {
+        let Some(end) = end_after(self.items.len(), 0) else {
+            return Err(AllocError);
+        };
+        self.ends.push(end)?;
+        Ok(())
+    }
+
+    /// Puts the piece of these items last, where none is begun. More than 4,294,967,295 items in
+    /// all are answered as want of memory.
+    pub(crate) fn push(&mut self, items: &[T]) -> Result<(), AllocError>
+        requires { self.old.begun ≡ [] }
+        ensures ok { OnOk result
+            (self.new ≡ record self.old { whole = self.old.whole ++ items.now ∷ [] }) }
+        ensures err { OnErr result (self.new ≡ self.old) }
+    {
+        let Some(end) = end_after(self.items.len(), items.len()) else {
             return Err(AllocError);
         };
         self.ends.reserve(1)?;
-        self.literals.extend_from_slice(literals)?;
+        self.items.extend_from_slice(items)?;
         self.ends.push_reserved(end);
         Ok(())
     }
 
-    /// How many clauses there are.
+    /// Takes room for so many pieces more, and for so many items.
+    pub(crate) fn reserve(&mut self, pieces: usize, items: usize) -> Result<(), AllocError>
+        ensures { self.new ≡ self.old }
+    {
+        self.items.reserve(items)?;
+        self.ends.reserve(pieces)
+    }
+
+    /// How many pieces there are.
     pub(crate) fn len(&self) -> usize
-        ensures { result ≡ length self.now }
+        ensures { result ≡ length self.now.whole }
     {
         self.ends.len()
     }
 
-    /// The literals of the clause at a place from 0.
-    pub(crate) fn get(&self, place: usize) -> &[Literal]
-        requires { place < length self.now }
-        ensures { slice_get self.now place ≡ Some result.now }
+    /// How many items the piece has that is begun.
+    pub(crate) fn begun(&self) -> usize
+        ensures { result ≡ length self.now.begun }
     {
-        piece_at(&self.literals, &self.ends, place)
+        self.items.len() - end_of_last(&self.ends)
+    }
+
+    /// The items of the piece at a place from 0.
+    pub(crate) fn get(&self, place: usize) -> &[T]
+        requires { place < length self.now.whole }
+        ensures { slice_get self.now.whole place ≡ Some result.now }
+    {
+        piece_at(&self.items, &self.ends, place)
     }
 }
 
-// Where so many more literals after so many end, if there is room.
+// Where so many more items after so many end, if there is room.
 fn end_after(len: usize, more: usize) -> Option<u32>
     ensures { IfSome result (λ end. end ≡ len + more) }
 {
@@ -93,20 +131,20 @@ fn end_after(len: usize, more: usize) -> Option<u32>
 }
 
 // The piece at a place.
-fn piece_at<'a>(literals: &'a [Literal], ends: &[u32], place: usize) -> &'a [Literal]
-    requires ended { EndAt literals.now 0 ends.now }
+fn piece_at<'a, T>(items: &'a [T], ends: &[u32], place: usize) -> &'a [T]
+    requires ended { EndWithin items.now 0 ends.now }
     requires place { place < length ends.now }
-    ensures { slice_get (pieces literals.now 0 ends.now) place ≡ Some result.now }
+    ensures { slice_get (pieces items.now 0 ends.now) place ≡ Some result.now }
 {
-    between(literals, start_of(ends, place), ends[place] as usize)
+    between(items, start_of(ends, place), ends[place] as usize)
 }
 
-fn between(literals: &[Literal], start: usize, end: usize) -> &[Literal]
+fn between<T>(items: &[T], start: usize, end: usize) -> &[T]
     requires start { start ≤ end }
-    requires end { end ≤ length literals.now }
-    ensures { result.now ≡ slice_range literals.now start end }
+    requires end { end ≤ length items.now }
+    ensures { result.now ≡ slice_range items.now start end }
 {
-    &literals[start..end]
+    &items[start..end]
 }
 
 // Where the piece at a place begins.
@@ -118,5 +156,17 @@ fn start_of(ends: &[u32], place: usize) -> usize
         0
     } else {
         ends[place - 1] as usize
+    }
+}
+
+// Where the last piece ends.
+fn end_of_last(ends: &[u32]) -> usize
+    ensures { result ≡ last_end 0 ends.now }
+{
+    let count = ends.len();
+    if count == 0 {
+        0
+    } else {
+        ends[count - 1] as usize
     }
 }

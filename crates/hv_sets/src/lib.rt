@@ -19,7 +19,7 @@ pub mod state_list;
 pub mod state_set;
 
 pub use clause::Clause;
-pub use clauses::Clauses;
+pub use clauses::{Clauses, ClausesBuilder};
 pub use cube::Cube;
 pub use cursor::{Cursor, Step};
 pub use family::Family;
@@ -29,5 +29,5 @@ pub use operand::{Operand, Which};
 pub use operands::Operands;
 pub use query::Query;
 pub use scratch::Scratch;
-pub use state_list::StateList;
+pub use state_list::{StateList, StateListBuilder};
 pub use state_set::{Covering, Inside, MOST_COUNTED, Outside, StateSet};

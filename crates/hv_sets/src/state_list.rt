@@ -2,27 +2,36 @@
 
 ghost use Rattle.std.specs.Prelude.{◌≡◌, ◌<◌, [], ◌∷◌, ◌++◌, ◌==◌, length, slice_get, IfOk, Some};
 ghost use Rattle.std.specs.Prelude.{OnOk, OnErr};
+ghost use Rattle.std.specs.List.{All};
+ghost use Rattle.std.specs.List.Sorted.{IsStrictlyIncreasing};
+ghost use Rattle.hv_task.specs.State.{AreBelow};
 
+use crate::flat::Flat;
 use crate::held::Held;
 use hv_task::AtomList;
 use std::alloc::{AllocError, Global};
 use std::marker::Model;
 use std::rc::Rc;
 
-/// A list of states, each by the atoms that it holds.
+/// A list of states, each by the atoms that it holds, which rise.
 #[derive(Drop)]
 pub struct StateList {
     alloc: Global,
-    items: Held<Vec<AtomList>>,
+    pieces: Held<Flat<u32>>,
 }
 
 impl Model for StateList {
-    ghost use Rattle.std.specs.Prelude.{ℕ, List};
+    ghost use Rattle.std.specs.Prelude.{◌≡◌, ℕ, List, []};
+    ghost use Rattle.std.specs.List.{All};
+    ghost use Rattle.std.specs.List.Sorted.{IsStrictlyIncreasing};
     ghost use Rattle.hv_sets.specs.Working.Held.{held_value};
 
     ghost Value = { List (List ℕ) };
 
-    ghost view = { λ l. (held_value l.items).items };
+    ghost view = { λ l. (held_value l.pieces).whole };
+
+    ghost invariant = { λ l. ((held_value l.pieces).begun ≡ [])
+        × All IsStrictlyIncreasing (held_value l.pieces).whole };
 }
 
 impl StateList {
@@ -32,7 +41,7 @@ impl StateList {
     {
         StateList {
             alloc,
-            items: Held::Alone(Vec::new(alloc)),
+            pieces: Held::Alone(Flat::new(alloc)),
         }
     }
 
@@ -40,12 +49,12 @@ impl StateList {
     pub fn share(self) -> Result<StateList, AllocError>
         ensures { IfOk result (λ shared. shared ≡ self) }
     {
-        let StateList { alloc, items } = self;
-        let items = match items {
-            Held::Alone(items) => Held::Together(Rc::new(alloc, items)?),
+        let StateList { alloc, pieces } = self;
+        let pieces = match pieces {
+            Held::Alone(pieces) => Held::Together(Rc::new(alloc, pieces)?),
             Held::Together(shared) => Held::Together(shared),
         };
-        Ok(StateList { alloc, items })
+        Ok(StateList { alloc, pieces })
     }
 
     /// The same list once more: together with this one where it is shared, and otherwise in as much
@@ -53,27 +62,34 @@ impl StateList {
     pub fn copy(&self, alloc: Global) -> Result<StateList, AllocError>
         ensures { IfOk result (λ copy. copy ≡ self.now) }
     {
-        let items = match &self.items {
-            Held::Alone(items) => Held::Alone(copy_of(alloc, items)?),
+        let pieces = match &self.pieces {
+            Held::Alone(pieces) => Held::Alone(pieces.copy(alloc)?),
             Held::Together(shared) => Held::Together(shared.clone()?),
         };
-        Ok(StateList { alloc, items })
+        Ok(StateList { alloc, pieces })
     }
 
-    /// Puts the item last. Copies that are shared stay as they are.
+    /// Puts the item last. More than 4,294,967,295 atoms in all are answered as want of memory.
     pub fn push(&mut self, item: AtomList) -> Result<(), AllocError>
         ensures ok { OnOk result (self.new ≡ self.old ++ item ∷ []) }
         ensures err { OnErr result (self.new ≡ self.old) }
     {
-        match &mut self.items {
-            Held::Alone(items) => {
-                items.push(item)?;
-                Ok(())
-            }
+        self.push_atoms(item.as_slice())
+    }
+
+    /// Puts the state of these atoms last. Copies that are shared stay as they are. More than
+    /// 4,294,967,295 atoms in all are answered as want of memory.
+    pub fn push_atoms(&mut self, atoms: &[u32]) -> Result<(), AllocError>
+        requires { IsStrictlyIncreasing atoms.now }
+        ensures ok { OnOk result (self.new ≡ self.old ++ atoms.now ∷ []) }
+        ensures err { OnErr result (self.new ≡ self.old) }
+    {
+        match &mut self.pieces {
+            Held::Alone(pieces) => pieces.push(atoms),
             Held::Together(shared) => {
-                let mut own = copy_of(self.alloc, Rc::as_ref(shared))?;
-                own.push(item)?;
-                self.items = Held::Alone(own);
+                let mut own = shared.copy(self.alloc)?;
+                own.push(atoms)?;
+                self.pieces = Held::Alone(own);
                 Ok(())
             }
         }
@@ -81,41 +97,112 @@ impl StateList {
 
     /// How many states there are.
     pub fn len(&self) -> usize
-        ensures { result ≡ length self.now }
+        ensures len { result ≡ length self.now }
+        ensures rise { All IsStrictlyIncreasing self.now }
     {
-        self.items.get().len()
+        self.pieces.get().len()
     }
 
     /// Whether there is none.
     pub fn is_empty(&self) -> bool
         ensures { result ≡ (length self.now == 0) }
     {
-        self.items.get().is_empty()
+        self.len() == 0
     }
 
-    /// The state at a place from 0.
-    pub fn get(&self, place: usize) -> &AtomList
+    /// The atoms of the state at a place from 0, rising.
+    pub fn get(&self, place: usize) -> &[u32]
         requires { place < length self.now }
-        ensures { slice_get self.now place ≡ Some result.now }
+        ensures state { slice_get self.now place ≡ Some result.now }
+        ensures rises { IsStrictlyIncreasing result.now }
     {
-        &self.items.get()[place]
-    }
-
-    /// All items, in order.
-    pub fn as_slice(&self) -> &[AtomList]
-        ensures { result.now ≡ self.now }
-    {
-        self.items.get().as_slice()
+        self.pieces.get().get(place)
     }
 }
 
-// The same lists once more.
-fn copy_of(alloc: Global, lists: &Vec<AtomList>) -> Result<Vec<AtomList>, AllocError>
-    ensures { IfOk result (λ copy. copy.items ≡ lists.now.items) }
-{
-    let mut copy = Vec::with_capacity(alloc, lists.len())?;
-    for held in lists {
-        copy.push(held.copy(alloc)?)?;
+/// States that are put together atom by atom.
+#[derive(Drop)]
+pub struct StateListBuilder {
+    alloc: Global,
+    pieces: Flat<u32>,
+}
+
+impl Model for StateListBuilder {
+    ghost use Rattle.std.specs.Prelude.{ℕ};
+    ghost use Rattle.std.specs.List.{All};
+    ghost use Rattle.std.specs.List.Sorted.{IsStrictlyIncreasing};
+    ghost use Rattle.hv_sets.specs.Gathered.{Gathered};
+
+    ghost Value = { Gathered ℕ };
+
+    ghost view = { λ b. b.pieces };
+
+    ghost invariant = { λ b. All IsStrictlyIncreasing b.pieces.whole
+        × IsStrictlyIncreasing b.pieces.begun };
+}
+
+impl StateListBuilder {
+    /// No state, and none that is begun.
+    pub fn new(alloc: Global) -> StateListBuilder
+        ensures { result ≡ record { whole = []; begun = [] } }
+    {
+        StateListBuilder {
+            alloc,
+            pieces: Flat::new(alloc),
+        }
     }
-    Ok(copy)
+
+    /// Takes room for so many states more, and for so many atoms.
+    pub fn reserve(&mut self, states: usize, atoms: usize) -> Result<(), AllocError>
+        ensures { self.new ≡ self.old }
+    {
+        self.pieces.reserve(states, atoms)
+    }
+
+    /// Puts an atom last in the state that is begun: one that is greater than its others.
+    pub fn put(&mut self, atom: u32) -> Result<(), AllocError>
+        requires { AreBelow atom self.old.begun }
+        ensures ok { OnOk result
+            (self.new ≡ record self.old { begun = self.old.begun ++ atom ∷ [] }) }
+        ensures err { OnErr result (self.new ≡ self.old) }
+    {
+        self.pieces.put(atom)
+    }
+
+    /// Ends the state that is begun; without an atom it is the one that holds none. More than
+    /// 4,294,967,295 atoms in all are answered as want of memory.
+    pub fn end(&mut self) -> Result<(), AllocError>
+        ensures ok { OnOk result
+            (self.new ≡ record { whole = self.old.whole ++ self.old.begun ∷ []; begun = [] }) }
+        ensures err { OnErr result (self.new ≡ self.old) }
+    {
+        self.pieces.end()
+    }
+
+    /// How many states have been ended.
+    pub fn len(&self) -> usize
+        ensures len { result ≡ length self.now.whole }
+        ensures rise { All IsStrictlyIncreasing self.now.whole }
+    {
+        self.pieces.len()
+    }
+
+    /// How many atoms the state has that is begun.
+    pub fn begun(&self) -> usize
+        ensures { result ≡ length self.now.begun }
+    {
+        self.pieces.begun()
+    }
+
+    /// The list of the states, where none is begun.
+    pub fn list(self) -> StateList
+        requires { self.begun ≡ [] }
+        ensures { result ≡ self.whole }
+    {
+        let StateListBuilder { alloc, pieces } = self;
+        StateList {
+            alloc,
+            pieces: Held::Alone(pieces),
+        }
+    }
 }

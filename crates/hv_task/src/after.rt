@@ -14,9 +14,11 @@ use crate::atoms::{Atoms, Hint};
 #[derive(Clone, Copy)]
 pub struct After<'a> {
     /// The atoms that hold before the action.
-    pub held: &'a AtomList,
+    pub held: &'a [u32],
     /// The action.
     pub action: &'a Action,
+    // The atoms rise.
+    pub ghost rises: { IsStrictlyIncreasing held.now },
 }
 
 impl Atoms for After<'_> {
@@ -24,12 +26,7 @@ impl Atoms for After<'_> {
 
     fn next(&self, from: u32, hint: &mut Hint) -> Option<u32> {
         let added = next_in(self.action.add.as_slice(), from, &mut hint.first);
-        let kept = next_kept(
-            self.held.as_slice(),
-            &self.action.del,
-            from,
-            &mut hint.second,
-        );
+        let kept = next_kept(self.held, &self.action.del, from, &mut hint.second);
         lesser(added, kept)
     }
 }

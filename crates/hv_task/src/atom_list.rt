@@ -82,19 +82,14 @@ impl AtomList {
     pub fn has(&self, atom: u32) -> bool
         ensures { IsTrue result ↔ Contains self.now atom }
     {
-        place_of(self.atoms.as_slice(), atom).is_ok()
+        names_atom(self.atoms.as_slice(), atom)
     }
 
     /// Whether all of these atoms are among them.
     pub fn has_all(&self, atoms: &[u32]) -> bool
         ensures { IsTrue result ↔ All (λ p. Contains self.now p) atoms.now }
     {
-        for atom in atoms {
-            if !self.has(*atom) {
-                return false;
-            }
-        }
-        true
+        names_all(self.atoms.as_slice(), atoms)
     }
 
     /// All atoms, rising.
@@ -112,6 +107,27 @@ impl Atoms for AtomList {
     fn next(&self, from: u32, hint: &mut Hint) -> Option<u32> {
         next_in(self.atoms.as_slice(), from, &mut hint.first)
     }
+}
+
+/// Whether the atom is in a list that rises.
+pub fn names_atom(list: &[u32], atom: u32) -> bool
+    requires { IsStrictlyIncreasing list.now }
+    ensures { IsTrue result ↔ Contains list.now atom }
+{
+    place_of(list, atom).is_ok()
+}
+
+/// Whether all of these atoms are in a list that rises.
+pub fn names_all(list: &[u32], atoms: &[u32]) -> bool
+    requires { IsStrictlyIncreasing list.now }
+    ensures { IsTrue result ↔ All (λ p. Contains list.now p) atoms.now }
+{
+    for atom in atoms {
+        if !names_atom(list, *atom) {
+            return false;
+        }
+    }
+    true
 }
 
 /// The least atom of a list that rises that is at least this number. The hint becomes its place.

@@ -13,7 +13,7 @@ pub mod task;
 
 pub use action::Action;
 pub use after::After;
-pub use atom_list::AtomList;
+pub use atom_list::{AtomList, names_all, names_atom};
 pub use atoms::{Atoms, Hint};
 pub use laws::{laws_of_dead_states, laws_of_states};
 pub use name::Name;

@@ -10,7 +10,6 @@ ghost use Rattle.hv_task.specs.Atoms.{IsNext};
 ghost use Rattle.hv_task.specs.State.{AreBelow, has_all, has_atom, put_all, state_of};
 ghost use Rattle.hv_task.specs.Words.{AreWords};
 
-use crate::atom_list::AtomList;
 use crate::atoms::{Atoms, Hint};
 use crate::bits::{
     clear_all, copy_all, has_flag, meet_all, next_flag, next_outside, put_flag, resize_all,
@@ -142,13 +141,13 @@ impl State {
     }
 
     /// Makes it the state that holds these atoms and no other.
-    pub fn hold(&mut self, held: &AtomList)
+    pub fn hold(&mut self, held: &[u32])
         requires { AreBelow (length self.old) held.now }
         ensures held { self.new ≡ state_of (length self.old) held.now }
         ensures atoms { length self.new ≡ length self.old }
     {
         self.clear();
-        self.put_all(held.as_slice(), true);
+        self.put_all(held, true);
     }
 
     // Takes all atoms out.

@@ -20,7 +20,7 @@ returns-in_ok-share c =
     (counted_some AreStateTokens (λ l. length l) (fields_behind c.args.fields (λ f. f.now))
     (fields_behind c.in-Some.behind (λ f. f.now)) c.in-Some.count c.in-Some.ensures.0
     c.in-Some.ensures.1
-    c.in-Some-2.states are (sym c.len.ensures ∙ c.if-len-count.true))
+    c.in-Some-2.states are (sym c.len.ensures.len ∙ c.if-len-count.true))
 
 pub returns-else-len-count : goal.returns-else-len-count
 returns-else-len-count c =
@@ -29,4 +29,4 @@ returns-else-len-count c =
     (fields_behind c.in-Some.behind (λ f. f.now)) c.in-Some.count c.in-Some.ensures.0
     c.in-Some.ensures.1
     (λ x y tokens. same_states x y tokens) c.in-Some-2.states are
-    (λ e. c.if-len-count.false (c.len.ensures ∙ e))
+    (λ e. c.if-len-count.false (c.len.ensures.len ∙ e))

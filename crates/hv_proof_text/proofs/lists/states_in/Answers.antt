@@ -8,7 +8,8 @@ use Rattle.hv_proof_text.proofs.lists.states_in.Goals as goal
 
 pub returns-in_default : goal.returns-in_default
 returns-in_default c =
-    gathers_end (states_from [] [] 0) (states_from c.fields.all c.fields.state c.fields.least)
+    gathers_end (states_from [] [] 0)
+    (states_from c.fields.states.whole c.fields.states.begun c.fields.least)
     (fields_behind c.args.fields (λ f. f.now)) (fields_behind c.fields.rest (λ f. f.now))
     AreStateTokens c.fields.invariant.same
     states_only c.closed_states.result (ap (λ o. fields_behind o (λ f. f.now)) c.in_default.is)
@@ -19,7 +20,8 @@ returns-then-not-branch c =
     let first = ap (λ o. fields_behind o (λ f. f.now)) c.in-Some.is
     ∙ split_is c.split_field.result.1 (λ f. f.now) (cut_fields c.in-Some.line.now)
     c.split_field.result.0.now c.split_field.ensures.fields in
-    gathers_stop (states_from [] [] 0) (states_from c.fields.all c.fields.state c.fields.least)
+    gathers_stop (states_from [] [] 0)
+    (states_from c.fields.states.whole c.fields.states.begun c.fields.least)
     (fields_behind c.args.fields (λ f. f.now)) (fields_behind c.fields.rest (λ f. f.now))
     AreStateTokens c.fields.invariant.same
     states_only c.split_field.result.0.now (fields_behind c.split_field.result.1 (λ f. f.now)) first
@@ -32,8 +34,8 @@ fields-preserved c =
     c.split_field.result.0.now c.split_field.ensures.fields in
     record {
       same = gathers_more (states_from [] [] 0)
-          (states_from c.fields.all c.fields.state c.fields.least)
-          (states_from c.take_in_states.new.all c.take_in_states.new.state
+          (states_from c.fields.states.whole c.fields.states.begun c.fields.least)
+          (states_from c.take_in_states.new.states.whole c.take_in_states.new.states.begun
           c.take_in_states.new.least)
           (fields_behind c.args.fields (λ f. f.now)) (fields_behind c.fields.rest (λ f. f.now))
           (fields_behind c.split_field.result.1 (λ f. f.now)) c.split_field.result.0.now

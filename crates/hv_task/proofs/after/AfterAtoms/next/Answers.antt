@@ -7,4 +7,4 @@ returns c =
     c.lesser.ensures (names_atom c.args.self.now.action.now.add)
     (is_kept c.args.self.now.action.now.del c.args.self.now.held.now) c.args.from
     (rw c.as_slice.ensures.items at c.next_in-added.ensures)
-    (rw c.as_slice-2.ensures.items at c.next_kept-kept.ensures)
+    c.next_kept-kept.ensures

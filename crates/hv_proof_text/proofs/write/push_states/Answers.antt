@@ -1,0 +1,9 @@
+use Rattle.hv_lines.specs.Spelling.{state_fields}
+use Rattle.hv_proof_text.proofs.Joined.{items_more}
+use Rattle.hv_proof_text.proofs.write.push_states.Goals as goal
+
+pub loop-place-preserved : goal.loop-place-preserved
+loop-place-preserved c =
+    items_more state_fields c.args.states.now c.loop-place.place c.get.result.now c.args.text.now
+    c.loop-place.text
+    c.push_state.new.text c.get.ensures.state c.loop-place.invariant c.in_ok-push_state.ensures
