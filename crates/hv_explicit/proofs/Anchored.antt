@@ -4,7 +4,7 @@ use Rattle.std.proofs.Common.{Option, Some, None, length, get_or, slice_get, ref
 use Rattle.std.proofs.Common.{subst}
 use Rattle.std.proofs.lemmas.List.Elements.{All-contains, Contains-append_left}
 use Rattle.std.proofs.lemmas.List.Elements.{Contains-append_right, Contains-get_or}
-use Rattle.std.proofs.lemmas.List.Folds.{list_all_at, list_any_none}
+use Rattle.std.proofs.lemmas.List.Folds.{list_all_at, list_any_at, list_any_none}
 use Rattle.std.proofs.lemmas.Option.{get_or_from_slice_get, slice_get_within}
 use Rattle.std.proofs.lemmas.Bool.{and_parts, false_from_ne_true}
 use Rattle.std.specs.List.{All, Contains, list_all}
@@ -32,7 +32,8 @@ All-second P xs ys all = λ k d within. All-contains P (xs ++ ys) (get_or ys k d
     (Contains-append_right xs ys (get_or ys k d) (Contains-get_or ys k d within))
 
 -- where all pass each does
-passes_at : {X : Type 0} (p : X → Bool) (xs : List X) (x : X) → list_all p xs ≡ true → Contains xs x
+pub passes_at : {X : Type 0} (p : X → Bool) (xs : List X) (x : X) → list_all p xs ≡ true → Contains
+    xs x
     → p x ≡ true
 passes_at p xs x all c = by (p x) refl
   where
@@ -60,6 +61,30 @@ over_at sets n number set over named =
       get_or_from_slice_get sets number set set
           named,
     )
+
+-- each state of a set of the store is in it
+pub anchor_has : (sets : List Listing) (n number : ℕ) (set : Listing) → AreOver sets n
+    → slice_get sets number ≡ Some set → (states : List (List ℕ)) → states ≡ set.states
+    → All (λ held. in_set sets number (state_of n held) ≡ true) states
+anchor_has sets n number set over named states are = λ k d within.
+    let state = state_of n (get_or states k d) in
+    let mine : in_states n states state ≡ true =
+    list_any_at (λ h. is_same (state_of n h) state) states k d within
+    ((beq-Decides state state).1 refl) in
+    ap (λ s. in_found s state) named
+    ∙ subst (λ m. in_states m set.states state ≡ true) (sym (over_at sets n number set over named))
+    (subst (λ ss. in_states n ss state ≡ true) are mine)
+
+-- and so is the initial state
+pub anchor_start : (task : Strips) (states : List (List ℕ)) → states ≡ task.start ∷ []
+    → All (λ held. is_same (start_state task) (state_of (atoms task) held) ≡ true) states
+anchor_start task states are =
+    subst (All (λ held. is_same (start_state task) (state_of (atoms task) held) ≡ true)) (sym are)
+    (λ k d within.
+    let first : k ≡ 0 = omega arith in
+    subst (λ j. is_same (start_state task) (state_of (atoms task) (get_or (task.start ∷ []) j d)) ≡
+    true)
+    (sym first) ((beq-Decides (start_state task) (start_state task)).1 refl))
 
 module _ (task : Strips) (sets : List Listing) (query : Query) where
   -- a counterexample is in the anchor

@@ -11,7 +11,7 @@ use Rattle.hv_task.specs.State.{AreBelow, applicable, has_all, names_atom, state
 use Rattle.hv_task.specs.Strips.{IsOver, Strips, atoms}
 use Rattle.hv_task.proofs.Places.{has_all-Decides, has_atom_past, has_atom-state_of}
 use Rattle.hv_task.proofs.Places.{has_atom-successor, length-state_of, length-successor}
-use Rattle.hv_task.proofs.Places.{names_atom-Decides}
+use Rattle.hv_task.proofs.Places.{names_atom-Decides, same_state}
 use Rattle.hv_task.proofs.Next.{unnamed}
 use Rattle.hv_sets.specs.Query.{action_of, asked, in_operand, in_which, is_clash, may_apply}
 use Rattle.hv_sets.specs.declared.operand.Operand.{Operand}
@@ -41,6 +41,20 @@ stands_list task held below = record {
         (omega (arith, length-state_of (atoms task) held)))
   ];
 }
+
+-- a set of atoms is one state
+pub one_just : (task : Strips) (held : ℕ → Bool) (a b : List Bool) → HasJust task held a
+    → HasJust task held b → a ≡ b
+one_just task held a b one other =
+    same_state a b (one.of_task ∙ sym other.of_task) (λ p within. sym (one.same p) ∙ other.same p)
+
+pub known_before : (task : Strips) (P : List Bool → Bool) (held : List ℕ) → AreBelow (atoms task)
+    held
+    → P (state_of (atoms task) held) ≡ true → (b : List Bool) → HasJust task (names_atom held) b
+    → P b ≡ true
+known_before task P held below is b just =
+    ap P (one_just task (names_atom held) b (state_of (atoms task) held) just
+    (stands_list task held below)) ∙ is
 
 -- the result of an action has no atom past the bound
 pub below_after : (n : ℕ) (action : Action) (held : List ℕ) → AreBelow n held → IsOver n action

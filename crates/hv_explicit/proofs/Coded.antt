@@ -16,7 +16,7 @@ use Rattle.std.specs.declared.hash.DefaultHasher.{DefaultHasher}
 use Rattle.hv_task.specs.Atoms.{IsNext, Lists}
 use Rattle.hv_task.proofs.Listing.{lists_all}
 use Rattle.hv_explicit.specs.Codes.{IsBelow}
-use Rattle.hv_explicit.specs.Working.Codes.{IsCode, IsSame, code_of, with_atom, with_atoms}
+use Rattle.hv_explicit.specs.Working.Codes.{IsSip, IsSame, sip_of, with_atom, with_atoms}
 
 -- one atom more
 pub with_push : (hasher : DefaultHasher) (held : List ℕ) (atom : ℕ)
@@ -37,12 +37,12 @@ module _ (test : ℕ → Bool) where
   from_same xs a same e = (names_atom-Decides xs a).0 (sym (same a) ∙ e)
 
   -- a set has one code
-  pub code_same : (code : ℕ) (xs : List ℕ) → IsCode test code → IsStrictlyIncreasing xs
-      → IsSame test xs → code_of xs ≡ code
-  code_same code xs is rises same =
+  pub sip_same : (code : ℕ) (xs : List ℕ) → IsSip test code → IsStrictlyIncreasing xs
+      → IsSame test xs → sip_of xs ≡ code
+  sip_same code xs is rises same =
       let one : xs ≡ is.0 = same_rising xs is.0 rises is.1
       (λ a c. (is.2 a).1 (into_same xs a same c)) (λ a c. from_same xs a same ((is.2 a).0 c)) in
-      ap (λ held. code_of held) one ∙ sym is.3
+      ap (λ held. sip_of held) one ∙ sym is.3
 
 -- the list goes on with another atom than the set
 pub other_next : (test : ℕ → Bool) (from : ℕ) (xs : List ℕ) (i : ℕ) (next : Option ℕ)
@@ -135,9 +135,9 @@ same_at_end test from xs (Some a) false lists is e = (
 )
 
 -- the code of a list that rises is that of its set
-pub code_of_list : (xs : List ℕ) (code : ℕ) → IsStrictlyIncreasing xs → code ≡ code_of xs
-    → IsCode (names_atom xs) code
-code_of_list xs code rises is = (
+pub sip_of_list : (xs : List ℕ) (code : ℕ) → IsStrictlyIncreasing xs → code ≡ sip_of xs
+    → IsSip (names_atom xs) code
+sip_of_list xs code rises is = (
   xs,
   rises,
   λ a.

@@ -5,14 +5,22 @@ use Rattle.std.proofs.lemmas.List.Elements.{All-contains, Contains-get_or}
 use Rattle.std.proofs.lemmas.List.Folds.{list_all_at}
 use Rattle.std.proofs.lemmas.List.Sums.{list_all-from_AllPass}
 use Rattle.std.specs.List.{All, Contains, list_all}
-use Rattle.hv_task.specs.Strips.{Strips}
+use Rattle.hv_task.specs.Strips.{Strips, atoms}
 use Rattle.hv_sets.specs.Names.{AsksAbout}
 use Rattle.hv_sets.specs.Query.{IsNamed, IsReady, in_which}
 use Rattle.hv_sets.specs.declared.operand.Operand.{Operand}
 use Rattle.hv_sets.specs.declared.query.Query.{Query}
 use Rattle.hv_sets.specs.declared.operand.Which.{Which}
-use Rattle.hv_explicit.specs.Working.Search.{IsHit, in_either}
+use Rattle.hv_explicit.specs.Working.Search.{HasJust, IsHit, in_either, is_fit, is_in_none}
+use Rattle.std.proofs.lemmas.Bool.{and_right}
+use Rattle.hv_task.specs.declared.action.Action.{Action}
+use Rattle.hv_task.specs.Atoms.{is_after}
+use Rattle.hv_task.specs.State.{AreBelow, names_atom, state_of}
+use Rattle.hv_explicit.specs.declared.search.Search.{Search}
+use Rattle.hv_explicit.specs.Listing.{in_set}
+use Rattle.hv_explicit.specs.Working.Codes.{IsSame}
 use Rattle.hv_explicit.proofs.Anchored.{All-second}
+use Rattle.hv_explicit.proofs.Clashes.{known_before}
 
 -- the negative operands name constants and sets of the store
 pub negative_named : (count : ℕ) (query : Query) (operands : List Operand) → IsReady count query
@@ -102,3 +110,28 @@ module _ (task : Strips) (sets : ℕ → List Bool → Bool) (operands : List Op
   when_asked true no_before asked = sym (some_hit true (asked.0 refl))
   when_asked false no_before asked = sym (none_hit no_before
       (λ hit. not_hit false refl (asked.1 hit)))
+
+-- where the action leaves the state as it is, and what has it is asked about after the action, the
+-- state doesn't fit
+pub stays_none : (s : Search) (anchor : Which) (action : Action) (held : List ℕ)
+    → AreBelow (atoms s.task.now) held
+    → in_which s.task.now (in_set s.sets.now) anchor (state_of (atoms s.task.now) held) ≡ true
+    → AsksAbout s.query.now.negative anchor true → IsSame (is_after action held) held
+    → (b a : List Bool) → HasJust s.task.now (names_atom held) b
+    → HasJust s.task.now (is_after action held) a → false ≡ is_fit s b a
+stays_none s anchor action held below there asks left b a just_b just_a =
+    let task = s.task.now in
+    let sets = in_set s.sets.now in
+    let just : HasJust task (names_atom held) a = record {
+      of_task = just_a.of_task;
+      same = λ p. sym (left p) ∙ just_a.same p;
+    } in
+    let has = known_before task (in_which task sets anchor) held below there a just in
+    let hit : IsHit task sets s.query.now.negative true a = (
+      asks.0,
+      asks.1,
+      asks.3,
+      subst (λ w. in_which task sets w a ≡ true) (sym asks.2) has,
+    ) in
+    sym (and_right (list_all (in_either task sets b a) s.query.now.positive) (is_in_none s b a)
+    (some_hit task sets s.query.now.negative b a true hit))

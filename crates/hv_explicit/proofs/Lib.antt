@@ -1,4 +1,5 @@
 pub mod Coded
+pub mod Totals
 pub mod Linked
 pub mod Listing
 pub mod LookUp
@@ -8,3 +9,5 @@ pub mod Hits
 pub mod Clashes
 pub mod Wider
 pub mod Holding
+pub mod Walked
+pub mod Agreeing

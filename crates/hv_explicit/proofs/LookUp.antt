@@ -15,11 +15,12 @@ use Rattle.hv_task.proofs.Next.{unnamed}
 use Rattle.hv_task.proofs.Rising.{same_rising}
 use Rattle.hv_sets.specs.Truth.{in_states, is_same}
 use Rattle.hv_explicit.specs.Codes.{IsBelow, IsSetOf}
-use Rattle.hv_explicit.specs.Working.Codes.{IsCode, HasListed, IsSame, code_of}
+use Rattle.hv_explicit.specs.Working.Codes.{HasListed, IsCode, IsListCode, IsSame}
 use Rattle.hv_explicit.specs.Listing.{AreRising, AreStates}
 use Rattle.hv_explicit.specs.Working.Listing.{AreFirsts, IsEnteredState, IsIndex, first_at}
 use Rattle.hv_explicit.specs.Working.Places.{IsEnd, code_at}
-use Rattle.hv_explicit.proofs.Coded.{code_same, from_same, into_same}
+use Rattle.hv_explicit.proofs.Coded.{from_same, into_same}
+use Rattle.hv_explicit.proofs.Totals.{is_list_code, one_code}
 
 pub here : (states : List (List ℕ)) (k : ℕ) (held : List ℕ) → slice_get states k ≡ Some held
     → get_or states k [] ≡ held
@@ -33,6 +34,13 @@ room_at n states k held fits below at =
     let mine = All-contains (AreBelow n) states held below
     (k, slice_get_within states k held at, get_or_from_slice_get states k held held at) in
     All-weaker (λ a. a < n) (λ a. a < 2 ^ 32 - 1) (λ a less. omega arith) held mine
+
+pub state_below : (n : ℕ) (states : List (List ℕ)) (k : ℕ) (held : List ℕ) → AreStates n states
+    → slice_get states k ≡ Some held → IsBelow n (names_atom held)
+state_below n states k held below at p past = unnamed held p (λ c.
+    let mine = All-contains (AreBelow n) states held below
+    (k, slice_get_within states k held at, get_or_from_slice_get states k held held at) in
+    let less = All-contains (λ a. a < n) held p mine c in omega arith)
 
 -- one entry of the code is passed
 pub none_before : (P : ℕ → Type 0) (codes : List ℕ) (n code end earlier : ℕ) → 0 < end
@@ -51,14 +59,14 @@ none_before P codes n code end earlier some none at other is e within upto coded
     ]
 
 -- a state of the set is entered under the code of the set
-pub coded_at : (states : List (List ℕ)) (firsts codes : List ℕ) (set : ℕ → Bool) (code e : ℕ)
-    → AreRising states
-    → ((d : ℕ) → d < length firsts → get_or firsts d 0 < length states)
-    → IsIndex codes firsts states → IsCode set code → e < length firsts
+pub coded_at : (key : ℕ) (states : List (List ℕ)) (firsts codes : List ℕ) (set : ℕ → Bool)
+    (code e : ℕ)
+    → IsIndex key codes firsts states → IsCode key set code → e < length firsts
     → IsSame set (first_at states firsts e) → code_at codes e ≡ code
-coded_at states firsts codes set code e rise within index is less same =
-    index.code e less ∙ code_same set code (first_at states firsts e) is
-    (rise (get_or firsts e 0) [] (within e less)) same
+coded_at key states firsts codes set code e index is less same =
+    one_code key (names_atom (first_at states firsts e)) set (code_at codes e) code
+    (is_list_code key (code_at codes e) (first_at states firsts e) (index.code e less)) is
+    (λ p. sym (same p))
 
 -- two lists that rise and name the same atoms are one
 pub same_lists : (xs ys : List ℕ) → IsStrictlyIncreasing xs → IsStrictlyIncreasing ys
@@ -76,8 +84,8 @@ none_first states = record {
       (omega arith);
 }
 
-pub none_index : (states : List (List ℕ)) → IsIndex [] [] states
-none_index states = record { many = refl; code = λ e less. absurd (omega arith) }
+pub none_index : (key : ℕ) (states : List (List ℕ)) → IsIndex key [] [] states
+none_index key states = record { many = refl; code = λ e less. absurd (omega arith) }
 
 module _ (states : List (List ℕ)) (firsts : List ℕ) (place : ℕ) (held : List ℕ)
     (at : slice_get states place ≡ Some held) where
@@ -139,20 +147,24 @@ module _ (states : List (List ℕ)) (firsts : List ℕ) (place : ℕ) (held : Li
         ];
   }
 
-  pub index_more : (codes : List ℕ) (code : ℕ) → IsIndex codes firsts states → code ≡ code_of held
-      → IsIndex (codes ++ code ∷ []) (firsts ++ place ∷ []) states
-  index_more codes code index is = record {
+  pub index_more : (key : ℕ) (codes : List ℕ) (code : ℕ) → IsIndex key codes firsts states
+      → IsListCode key held code
+      → IsIndex key (codes ++ code ∷ []) (firsts ++ place ∷ []) states
+  index_more key codes code index is = record {
     many = let old = index.many in omega (arith, length_push firsts place, length_push codes code);
     code = λ e less.
         let size = length_push firsts place in
         let many = index.many in
         elim (cases_lt e (length firsts)) [
           | inl old ↦
-              get_or_append_left codes (code ∷ []) 0 e (omega arith)
-              ∙ (index.code e old ∙ ap (λ h. code_of h) (sym (first_kept e old)))
+              subst (λ c. IsListCode key (first_at states (firsts ++ place ∷ []) e) c)
+              (sym (get_or_append_left codes (code ∷ []) 0 e (omega arith)))
+              (subst (λ h. IsListCode key h (code_at codes e)) (sym (first_kept e old))
+              (index.code e old))
           | inr upto ↦
-              get_or_push codes code 0 e (omega arith)
-              ∙ (is ∙ ap (λ h. code_of h) (sym (first_new e (omega arith))))
+              subst (λ c. IsListCode key (first_at states (firsts ++ place ∷ []) e) c)
+              (sym (get_or_push codes code 0 e (omega arith)))
+              (subst (λ h. IsListCode key h code) (sym (first_new e (omega arith))) is)
         ];
   }
 

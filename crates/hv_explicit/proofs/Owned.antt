@@ -1,24 +1,32 @@
 -- Why the entries under the code of a state name each set that lists it.
-use Rattle.std.proofs.Common.{◌≡◌, ◌∙◌, ◌⊎◌, ◌↔◌, ◌<◌, ◌≤◌, ℕ, zero, suc, Bool, true, false, List}
-use Rattle.std.proofs.Common.{[], ◌∷◌, ◌++◌, None, Option, Some, length, get_or, refl, sym, ap}
-use Rattle.std.proofs.Common.{subst, arith, inl, inr}
+use Rattle.std.proofs.Common.{◌≡◌, ◌∙◌, ◌⊎◌, ◌↔◌, ◌<◌, ◌≤◌, ◌+◌, ℕ, zero, suc, Bool, true, false}
+use Rattle.std.proofs.Common.{List, Result, Ok, Err, [], ◌∷◌, ◌++◌, None, Option, Some, length}
+use Rattle.std.proofs.Common.{get_or, refl, sym, ap, subst, arith, inl, inr}
 use Rattle.std.proofs.lemmas.List.Elements.{All-contains, All-push}
 use Rattle.std.proofs.lemmas.Option.{get_or_from_slice_get, slice_get_within}
 use Rattle.std.specs.List.{All, slice_get}
+use Rattle.std.specs.Result.{OnErr}
 use Rattle.hv_sets.specs.Names.{AsksAbout}
 use Rattle.hv_sets.specs.Truth.{in_states}
 use Rattle.hv_sets.specs.declared.operand.Operand.{Operand}
 use Rattle.hv_sets.specs.declared.operand.Which.TheVariants as W
 use Rattle.hv_explicit.specs.Codes.{IsBelow, IsSetOf}
-use Rattle.hv_explicit.specs.Working.Codes.{IsCode, HasListed, IsSame}
+use Rattle.hv_explicit.specs.Working.Codes.{HasListed, IsSame}
+use Rattle.hv_explicit.specs.Working.Coding.{IsCodeBy}
 use Rattle.hv_explicit.specs.Listing.{AreOver, AreRising, AreStates, Listing, in_found, in_listing}
 use Rattle.hv_explicit.specs.Listing.{in_set}
 use Rattle.hv_explicit.specs.Working.Listing.{AreFirsts, first_at}
 use Rattle.hv_explicit.specs.Working.Owners.{AreEntered, AreListings, IsEntered, IsOwned, IsOwner}
-use Rattle.hv_explicit.specs.Working.Owners.{IsStore, KeepsEntries, entry_at}
+use Rattle.hv_explicit.specs.Working.Owners.{IsOwnerIndex, KeepsEntries, entry_at}
 use Rattle.hv_explicit.specs.Working.Places.{code_at}
+use Rattle.hv_explicit.specs.declared.coding.Coding.{Coding}
+use Rattle.hv_explicit.specs.declared.coding.Coding.TheVariants as K
 use Rattle.hv_explicit.specs.declared.owners.Entry.{Entry}
-use Rattle.hv_explicit.proofs.Coded.{code_same}
+use Rattle.hv_explicit.specs.declared.owners.Owners.{Owners}
+use Rattle.std.proofs.lemmas.Bool.{both_ways, cases_lt}
+use Rattle.hv_task.specs.State.{names_atom}
+use Rattle.hv_explicit.proofs.Coded.{same_from, sip_same}
+use Rattle.hv_explicit.proofs.Totals.{one_code}
 use Rattle.hv_explicit.proofs.LookUp.{all_from_firsts, listed_decides}
 use Rattle.hv_explicit.proofs.Anchored.{over_at}
 
@@ -38,6 +46,13 @@ listed_at : (sets : List Listing) (number : ℕ) (set : Listing) → AreListings
 listed_at sets number set listed at =
     All-contains (λ (s : Listing). AreStates s.atoms s.states × AreRising s.states) sets set listed
     (number, slice_get_within sets number set at, get_or_from_slice_get sets number set set at)
+
+-- a set of atoms has one code by a coding
+one_code_by : (coding : Coding) (f g : ℕ → Bool) (a b : ℕ) → IsCodeBy coding f a
+    → IsCodeBy coding g b → ((p : ℕ) → f p ≡ g p) → a ≡ b
+one_code_by (K.Sums key) f g a b one other same = one_code key f g a b one other same
+one_code_by K.Sips f g a b one other same =
+    one.3 ∙ sip_same g b one.0 other one.1 (λ p. sym (same p) ∙ same_from f one.0 one.2 p)
 
 module _ (n : ℕ) (sets : List Listing) (operands : List Operand) (after : Bool)
     (over : AreOver sets n) (listed : AreListings sets)
@@ -64,20 +79,20 @@ module _ (n : ℕ) (sets : List Listing) (operands : List Operand) (after : Bool
   )
 
   -- a set that lists the state has an entry under the code
-  pub owner_of : (codes : List ℕ) (entries : List Entry) (code : ℕ) → AreEntered codes entries sets
-      → IsCode held code
+  pub owner_of : (owners : Owners) (code : ℕ) → AreEntered owners sets
+      → IsCodeBy owners.coding held code
       → IsOwned sets operands after state
-      → (e : ℕ) × (e < length codes) × (code_at codes e ≡ code)
-      × IsOwner held sets operands after (entry_at entries e)
-  owner_of codes entries code entered is owned =
+      → (e : ℕ) × (e < length owners.codes) × (code_at owners.codes e ≡ code)
+      × IsOwner held sets operands after (entry_at owners.entries.items e)
+  owner_of owners code entered is owned =
       let found = set_of sets owned.0 state owned.2 in
       let set = found.0 in
       let at = (in_set_is owned.0 set found.1).0 found.2 in
-      let there = entered owned.0 set found.1 at.0 [] at.1 in
-      let rises = (listed_at sets owned.0 set listed found.1).1 at.0 [] at.1 in (
+      let there = entered owned.0 set found.1 at.0 [] at.1 in (
         there.0,
         there.1,
-        there.5 ∙ code_same held code (get_or set.states at.0 []) is rises at.2,
+        one_code_by owners.coding (names_atom (get_or set.states at.0 [])) held
+            (code_at owners.codes there.0) code there.5 is (λ p. sym (at.2 p)),
         (
           set,
           ap (λ k. slice_get sets k) there.2 ∙ found.1,
@@ -100,46 +115,121 @@ in_pushed (first ∷ sets) last (suc number) set e =
       | inr at ↦ inr (omega arith, at.1)
     ]
 
--- the same sets, with more entries
-pub store_kept : (sets : List Listing) (codes codes' : List ℕ) (entries entries' : List Entry)
-    → IsStore sets codes entries
-    → KeepsEntries codes entries codes' entries' → length codes' ≤ length entries'
-    → IsStore sets codes' entries'
-store_kept sets codes codes' entries entries' store keeps size = record {
-  listed = store.listed;
-  entered = λ number set at k d within. keeps number set.states (get_or set.states k d)
-      (store.entered number set at k d within);
+-- and each of the shorter is one of the longer
+in_longer : (sets : List Listing) (last : Listing) (number : ℕ) (set : Listing)
+    → slice_get sets number ≡ Some set → slice_get (sets ++ last ∷ []) number ≡ Some set
+in_longer [] last zero set e = let f : None ≡ Some set = e in absurd cc
+in_longer [] last (suc number) set e = let f : None ≡ Some set = e in absurd cc
+in_longer (first ∷ sets) last zero set e = e
+in_longer (first ∷ sets) last (suc number) set e = in_longer sets last number set e
+
+-- what is so in any case is so after an error
+pub on_err : {X E : Type 0} (r : Result X E) (P : Type 0) → P → OnErr r P
+on_err (Ok x) P p = tt
+on_err (Err e) P p = p
+
+-- where nothing is known
+pub index_unknown : (owners : Owners) (sets : List Listing) → owners.known ≡ false
+    → length owners.codes ≤ length owners.entries.items → IsOwnerIndex owners sets
+index_unknown owners sets not size = record {
+  entered = λ known. absurd (both_ways owners.known not known);
   size = size;
 }
 
--- one set more
-pub store_more : (sets : List Listing) (last : Listing) (codes codes' : List ℕ)
-    (entries entries' : List Entry) → IsStore sets codes entries
-    → KeepsEntries codes entries codes' entries' → length codes' ≤ length entries'
-    → AreStates last.atoms last.states × AreRising last.states
-    → All (λ held. IsEntered codes' entries' (length sets) last.states held) last.states
-    → IsStore (sets ++ last ∷ []) codes' entries'
-store_more sets last codes codes' entries entries' store keeps size listed new = record {
-  listed = All-push (λ (s : Listing). AreStates s.atoms s.states × AreRising s.states) sets last
-      store.listed listed;
-  entered = λ number set at. elim (in_pushed sets last number set at) [
-    | inl old ↦ λ k d within. keeps number set.states (get_or set.states k d)
-        (store.entered number set old k d within)
+-- the same sets, with more entries
+pub index_kept : (old new : Owners) (sets : List Listing) → IsOwnerIndex old sets
+    → new.known ≡ old.known → KeepsEntries old new → length new.codes ≤ length new.entries.items
+    → IsOwnerIndex new sets
+index_kept old new sets index same keeps size = record {
+  entered = λ known number set at k d within. keeps number set.states (get_or set.states k d)
+      (index.entered (sym same ∙ known) number set at k d within);
+  size = size;
+}
+
+-- one set more, whose states are entered
+pub index_more : (owners : Owners) (sets : List Listing) (last : Listing)
+    → IsOwnerIndex owners sets
+    → All (λ held. IsEntered owners (length sets) last.states held) last.states
+    → IsOwnerIndex owners (sets ++ last ∷ [])
+index_more owners sets last index new = record {
+  entered = λ known number set at. elim (in_pushed sets last number set at) [
+    | inl old ↦ index.entered known number set old
     | inr here ↦
-        subst (λ (s : Listing). All (λ held. IsEntered codes' entries' number s.states held)
-        s.states) here.1
-        (subst (λ j. All (λ held. IsEntered codes' entries' j last.states held) last.states)
+        subst (λ (s : Listing). All (λ held. IsEntered owners number s.states held) s.states)
+        here.1
+        (subst (λ j. All (λ held. IsEntered owners j last.states held) last.states)
         (sym here.0) new)
   ];
-  size = size;
+  size = index.size;
 }
 
+-- one set less
+pub index_less : (owners : Owners) (sets : List Listing) (last : Listing)
+    → IsOwnerIndex owners (sets ++ last ∷ []) → IsOwnerIndex owners sets
+index_less owners sets last index = record {
+  entered = λ known number set at. index.entered known number set
+      (in_longer sets last number set at);
+  size = index.size;
+}
+
+-- the sets of the store with one more
+pub listed_more : (sets : List Listing) (last : Listing) → AreListings sets
+    → AreStates last.atoms last.states × AreRising last.states → AreListings (sets ++ last ∷ [])
+listed_more sets last listed new =
+    All-push (λ (s : Listing). AreStates s.atoms s.states × AreRising s.states) sets last listed new
+
 -- every first state is entered, so each state is
-pub all_entered : (codes : List ℕ) (entries : List Entry) (number : ℕ) (states : List (List ℕ))
-    (firsts : List ℕ)
+pub all_entered : (owners : Owners) (number : ℕ) (states : List (List ℕ)) (firsts : List ℕ)
     → AreFirsts states firsts (length states)
-    → ((e : ℕ) → e < length firsts → IsEntered codes entries number states
-    (first_at states firsts e))
-    → All (λ held. IsEntered codes entries number states held) states
-all_entered codes entries number states firsts are entered =
-    all_from_firsts (IsEntered codes entries number states) states firsts are entered
+    → ((e : ℕ) → e < length firsts → IsEntered owners number states (first_at states firsts e))
+    → All (λ held. IsEntered owners number states held) states
+all_entered owners number states firsts are entered =
+    all_from_firsts (IsEntered owners number states) states firsts are entered
+
+-- so many sets are entered
+pub record AreSome (owners : Owners) (sets : List Listing) (count : ℕ) : Type 0 where
+  pub known : owners.known ≡ true
+  pub size : length owners.codes ≤ length owners.entries.items
+  pub each : (number : ℕ) → number < count → (set : Listing)
+      → slice_get sets number ≡ Some set
+      → All (λ held. IsEntered owners number set.states held) set.states
+
+-- none, to begin with
+pub some_first : (owners : Owners) (sets : List Listing) → owners.known ≡ true
+    → owners.entries.items ≡ [] → owners.codes ≡ [] → AreSome owners sets 0
+some_first owners sets known entries codes = record {
+  known = known;
+  size = let none = ap (λ (c : List ℕ). length c) codes in omega (arith, none);
+  each = λ number less. absurd (omega arith);
+}
+
+-- one more
+pub some_next : (old new : Owners) (sets : List Listing) (count : ℕ) (last : Listing)
+    → AreSome old sets count → slice_get sets count ≡ Some last
+    → new.known ≡ old.known → KeepsEntries old new → length new.codes ≤ length new.entries.items
+    → All (λ held. IsEntered new count last.states held) last.states
+    → AreSome new sets (count + 1)
+some_next old new sets count last some at known keeps size entered = record {
+  known = known ∙ some.known;
+  size = size;
+  each = λ number less set here. elim (cases_lt number count) [
+    | inl before ↦ λ k d within. keeps number set.states (get_or set.states k d)
+        (some.each number before set here k d within)
+    | inr upto ↦
+        let same : count ≡ number = omega arith in
+        let one : Some last ≡ Some set = sym at ∙ ap (λ k. slice_get sets k) same ∙ here in
+        let it : last ≡ set = cc in
+        subst (λ j. All (λ held. IsEntered new j set.states held) set.states) same
+        (subst (λ (s : Listing). All (λ held. IsEntered new count s.states held) s.states) it
+        entered)
+  ];
+}
+
+-- all
+pub some_all : (owners : Owners) (sets : List Listing) (count : ℕ) → AreSome owners sets count
+    → length sets ≤ count → IsOwnerIndex owners sets
+some_all owners sets count some all = record {
+  entered = λ known number set at. some.each number
+      (let within = slice_get_within sets number set at in omega arith) set at;
+  size = some.size;
+}

@@ -1,3 +1,4 @@
 pub mod Codes
 pub mod Listing
+pub mod Walked
 pub mod Working

@@ -1,8 +1,10 @@
 -- Definitions that no public contract cites: those of private contracts and of proofs.
 pub mod Codes
+pub mod Coding
 pub mod Places
 pub mod Listing
 pub mod Holders
 pub mod Owners
 pub mod Laws
 pub mod Search
+pub mod Results

@@ -1,60 +1,162 @@
 //! Codes of sets of atoms, by which listed states are found.
 
-ghost use Rattle.std.specs.Prelude.{◌≡◌, ◌<◌, ◌≤◌, ◌-◌, ◌^◌, ◌↔◌, ℕ, Bool, IsTrue};
+ghost use Rattle.std.specs.Prelude.{◌≡◌, ◌<◌, ◌+◌, ◌%◌, ◌^◌, ℕ, Bool, true, false};
 ghost use Rattle.std.specs.List.Sorted.{IsStrictlyIncreasing};
-ghost use Rattle.std.specs.Hash.DefaultHasher as sip;
-ghost use Rattle.hv_task.specs.State.{AreBelow};
+ghost use Rattle.hv_task.specs.State.{AreBelow, names_atom};
 ghost use Rattle.hv_explicit.specs.Codes.{IsBelow};
-ghost use Rattle.hv_explicit.specs.Working.Codes.{IsCode, IsSame, code_of, with_atom};
+ghost use Rattle.hv_explicit.specs.Working.Codes.{IsAfterCode, IsCode, IsListCode, IsSip};
+ghost use Rattle.hv_explicit.specs.Working.Codes.{code_sum, folded, sip_of, weight, with_atom};
+ghost use Rattle.hv_explicit.specs.Working.Codes.{with_more, without};
 
-use hv_task::{Atoms, Hint};
+use crate::results::named;
+use hv_task::{Action, Atoms, Hint};
 use std::hash::{DefaultHasher, Hasher};
 
 /// The code of a set of atoms below a bound.
-pub(crate) fn code_of<A: Atoms>(held: &A, atoms: u32) -> u64
+pub(crate) fn code_of<A: Atoms>(key: u64, held: &A, atoms: u32) -> u64
     requires { IsBelow atoms (A.has held.now) }
-    ensures { IsCode (A.has held.now) result }
+    ensures { IsCode key (A.has held.now) result }
+{
+    let mut code: u64 = 0;
+    let mut hint = Hint::default();
+    let mut from = 0;
+    while let Some(atom) = held.next(from, &mut hint) {
+        code = code.wrapping_add(number(key, atom));
+        from = atom + 1;
+    }
+    code
+}
+
+/// The code of the atoms of a list that rises.
+pub(crate) fn list_code(key: u64, list: &[u32]) -> u64
+    requires { IsStrictlyIncreasing list.now }
+    ensures { IsListCode key list.now result }
+{
+    let mut code: u64 = 0;
+    for atom in list {
+        code = code.wrapping_add(number(key, *atom));
+    }
+    code
+}
+
+/// The code of the result of an action, from that of the state.
+pub(crate) fn code_after(key: u64, code: u64, held: &[u32], action: &Action) -> u64
+    requires rises { IsStrictlyIncreasing held.now }
+    requires code { IsListCode key held.now code }
+    ensures { IsAfterCode key action.now held.now result }
+{
+    let add = action.add.as_slice();
+    let del = action.del.as_slice();
+    let less = code_without(key, code, held, del, add);
+    code_with(key, less, held, add, del)
+}
+
+// The code of what is left where the atoms to be deleted, and not added, are taken out.
+fn code_without(key: u64, code: u64, held: &[u32], del: &[u32], add: &[u32]) -> u64
+    requires held { IsStrictlyIncreasing held.now }
+    requires del { IsStrictlyIncreasing del.now }
+    requires add { IsStrictlyIncreasing add.now }
+    requires code { IsListCode key held.now code }
+    ensures { (bound : ℕ) → AreBelow bound held.now
+        → result ≡ code_sum key (without del.now add.now held.now) bound }
+{
+    let mut less = code;
+    for atom in del {
+        less = taken_out(key, less, held, add, *atom);
+    }
+    less
+}
+
+// The code of what is left with what is added.
+fn code_with(key: u64, code: u64, held: &[u32], add: &[u32], del: &[u32]) -> u64
+    requires held { IsStrictlyIncreasing held.now }
+    requires add { IsStrictlyIncreasing add.now }
+    requires code { (bound : ℕ) → AreBelow bound held.now
+        → code ≡ code_sum key (without del.now add.now held.now) bound }
+    ensures { (bound : ℕ) → AreBelow bound held.now → AreBelow bound add.now
+        → result ≡ code_sum key (with_more add.now (without del.now add.now held.now)) bound }
+{
+    let _ = del;
+    let mut more = code;
+    for atom in add {
+        more = put_in(key, more, held, *atom);
+    }
+    more
+}
+
+// The code without the atom, where it is held and isn't added.
+fn taken_out(key: u64, code: u64, held: &[u32], add: &[u32], atom: u32) -> u64
+    requires held { IsStrictlyIncreasing held.now }
+    requires add { IsStrictlyIncreasing add.now }
+    ensures out { names_atom held.now atom ≡ true → names_atom add.now atom ≡ false
+        → (result + weight key atom) % 2 ^ 64 ≡ code }
+    ensures fits { result < 2 ^ 64 }
+    ensures none { names_atom held.now atom ≡ false → result ≡ code }
+    ensures added { names_atom add.now atom ≡ true → result ≡ code }
+{
+    if named(held, atom) && !named(add, atom) {
+        return code.wrapping_sub(number(key, atom));
+    }
+    code
+}
+
+// The code with the atom, where it isn't held.
+fn put_in(key: u64, code: u64, held: &[u32], atom: u32) -> u64
+    requires { IsStrictlyIncreasing held.now }
+    ensures there { names_atom held.now atom ≡ true → result ≡ code }
+    ensures new { names_atom held.now atom ≡ false → result ≡ (code + weight key atom) % 2 ^ 64 }
+{
+    if named(held, atom) {
+        return code;
+    }
+    code.wrapping_add(number(key, atom))
+}
+
+// The number of an atom by this key.
+#[tactic(auto, unfolding(crate::specs::Working::Codes::weight))]
+fn number(key: u64, atom: u32) -> u64
+    ensures { result ≡ weight key atom }
+{
+    let first = halves(key ^ atom as u64, 0x9e37_79b9_7f4a_7c15);
+    halves(first ^ key, 0xd134_2543_de82_ef95)
+}
+
+// The two halves of a product, joined.
+fn halves(a: u64, b: u64) -> u64
+    ensures { result ≡ folded a b }
+{
+    let product = a as u128 * b as u128;
+    (product & 0xFFFF_FFFF_FFFF_FFFF) as u64 ^ (product >> 64) as u64
+}
+
+/// The SipHash of a set of atoms below a bound.
+pub(crate) fn sip_code<A: Atoms>(held: &A, atoms: u32) -> u64
+    requires { IsBelow atoms (A.has held.now) }
+    ensures { IsSip (A.has held.now) result }
 {
     let mut hasher = DefaultHasher::new();
     let mut hint = Hint::default();
     let mut from = 0;
     while let Some(atom) = held.next(from, &mut hint) {
-        put_in(&mut hasher, atom);
+        put_atom(&mut hasher, atom);
         from = atom + 1;
     }
     hasher.finish()
 }
 
-/// The code of a list of atoms.
-pub(crate) fn list_code(list: &[u32]) -> u64
-    ensures { result ≡ code_of list.now }
+/// The SipHash of a list of atoms.
+pub(crate) fn list_sip(list: &[u32]) -> u64
+    ensures { result ≡ sip_of list.now }
 {
     let mut hasher = DefaultHasher::new();
     for atom in list {
-        put_in(&mut hasher, *atom);
+        put_atom(&mut hasher, *atom);
     }
     hasher.finish()
 }
 
-/// Whether the set has just the atoms of a list that rises.
-pub(crate) fn is_same<A: Atoms>(list: &[u32], held: &A) -> bool
-    requires below { AreBelow (2 ^ 32 - 1) list.now }
-    requires rises { IsStrictlyIncreasing list.now }
-    ensures { IsTrue result ↔ IsSame (A.has held.now) list.now }
-{
-    let mut hint = Hint::default();
-    let mut from = 0;
-    for atom in list {
-        if held.next(from, &mut hint) != Some(*atom) {
-            return false;
-        }
-        from = *atom + 1;
-    }
-    held.next(from, &mut hint).is_none()
-}
-
 #[tactic(auto, unfolding(crate::specs::Working::Codes::with_atom))]
-fn put_in(hasher: &mut DefaultHasher, atom: u32)
+fn put_atom(hasher: &mut DefaultHasher, atom: u32)
     ensures { hasher.new ≡ with_atom hasher.old atom }
 {
     hasher.write_u64(atom as u64);

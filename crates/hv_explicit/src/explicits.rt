@@ -10,10 +10,11 @@ ghost use Rattle.hv_explicit.specs.Listing.{AreOver, in_set, states_listed};
 ghost use Rattle.hv_explicit.specs.Working.Owners.{IsOwned};
 
 use crate::explicit::Explicit;
-use crate::owners::{Owners, enter_set, find_owner};
+use crate::owners::{Owners, find_owner, take_in};
 use crate::search::Search;
+use crate::sought::Sought;
 use hv_sets::{Family, Finding, Operands, Query, Scratch};
-use hv_task::{Atoms, Task};
+use hv_task::Task;
 use std::alloc::{AllocError, Global};
 use std::marker::Model;
 
@@ -33,7 +34,7 @@ impl Model for Explicits {
 
     ghost view = { λ s. s.sets.items };
 
-    ghost invariant = { λ s. IsStore s.sets.items s.owners.codes s.owners.entries.items };
+    ghost invariant = { λ s. IsStore s.sets.items s.owners };
 }
 
 impl Explicits {
@@ -43,7 +44,7 @@ impl Explicits {
     {
         Explicits {
             sets: Vec::new(alloc),
-            owners: Owners::new(alloc),
+            owners: Owners::unknown(alloc),
         }
     }
 
@@ -58,12 +59,8 @@ impl Explicits {
         if number > u32::MAX as usize {
             return Err(AllocError);
         }
-        enter_set(
-            &mut self.owners.codes,
-            &mut self.owners.entries,
-            &set,
-            number as u32,
-        )?;
+        let alloc = *self.sets.allocator();
+        take_in(alloc, &mut self.owners, self.sets.as_slice(), &set)?;
         self.sets.push(set)?;
         Ok(number)
     }
@@ -85,8 +82,8 @@ impl Explicits {
 
     /// Whether one of the operands, asked about after the action (true) or before it, is a set that
     /// lists the state of these atoms; or none, which says nothing, where more sets list it than
-    /// there are operands.
-    pub(crate) fn find_owner<A: Atoms>(
+    /// there are operands, and where the sets are few.
+    pub(crate) fn find_owner<A: Sought>(
         &self,
         operands: &Operands,
         after: bool,
@@ -130,12 +127,11 @@ impl Family for Explicits {
         scratch: &mut Scratch,
     ) -> Result<Finding, AllocError> {
         scratch.reserve(task.atoms(), 0, 0)?;
-        let _ = alloc;
         let search = Search {
             task,
             sets: self,
             query,
         };
-        Ok(search.answer(budget, &mut scratch.state))
+        search.answer(alloc, budget, &mut scratch.state)
     }
 }

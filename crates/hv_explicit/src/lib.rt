@@ -2,16 +2,22 @@
 #![tactic(auto)]
 
 mod codes;
+mod coding;
 pub mod explicit;
 pub mod explicits;
+mod firsts;
 mod holders;
 mod owners;
 mod paths;
 mod places;
+mod results;
 mod search;
+mod sought;
+pub mod state_walk;
 
 pub use explicit::Explicit;
 pub use explicits::Explicits;
+pub use state_walk::StateWalk;
 
 #[cfg(test)]
 mod tests;

@@ -1,22 +1,24 @@
 //! Which sets list a state.
 
-ghost use Rattle.std.specs.Prelude.{◌≡◌, ◌<◌, ◌≤◌, ◌+◌, ◌^◌, ◌↔◌, ℕ, Bool, List, [], length};
-ghost use Rattle.std.specs.Prelude.{slice_index_or, IsTrue, IfOk, IfSome, OnOk, OnErr};
+ghost use Rattle.std.specs.Prelude.{◌≡◌, ◌<◌, ◌≤◌, ◌^◌, ◌++◌, ◌∷◌, ◌↔◌, ℕ, Bool, List, [], length};
+ghost use Rattle.std.specs.Prelude.{slice_index_or, true, IsTrue, IfOk, IfSome, OnOk, OnErr};
 ghost use Rattle.std.specs.List.{All};
-ghost use Rattle.hv_sets.specs.declared.operand.Operand.{Operand};
+ghost use Rattle.hv_task.specs.State.{AreBelow};
 ghost use Rattle.hv_explicit.specs.Codes.{IsBelow, IsSetOf};
-ghost use Rattle.hv_explicit.specs.Working.Codes.{code_of};
-ghost use Rattle.hv_explicit.specs.Listing.{AreOver, Listing};
-ghost use Rattle.hv_explicit.specs.Working.Listing.{AreFirsts};
-ghost use Rattle.hv_explicit.specs.Working.Owners.{AreEntered, IsEntered, IsOwned, IsOwner};
-ghost use Rattle.hv_explicit.specs.Working.Owners.{IsStore, KeepsEntries};
+ghost use Rattle.hv_explicit.specs.Listing.{AreOver};
+ghost use Rattle.hv_explicit.specs.Working.Owners.{AreListings, IsEntered, IsOwned, IsOwner};
+ghost use Rattle.hv_explicit.specs.Working.Owners.{IsOwnerIndex, KeepsEntries};
 
-use crate::codes::{code_of, list_code};
+use crate::coding::{Coding, code_by, tells_apart};
 use crate::explicit::Explicit;
+use crate::firsts::PLAIN;
 use crate::places::Places;
+use crate::sought::{Coded, Sought};
 use hv_sets::{Operands, Which};
-use hv_task::{AtomList, Atoms};
 use std::alloc::{AllocError, Global};
+
+// With so few sets none of their states is entered: to go through the sets is no dearer.
+const FEW: usize = 4;
 
 /// A listed state: the number of a set, and a place in its list.
 #[derive(Clone, Copy)]
@@ -28,74 +30,174 @@ pub(crate) struct Entry {
 /// The states of all sets, to find by a state the sets that list it.
 #[derive(Drop)]
 pub(crate) struct Owners {
+    /// Whether the states of all sets are entered.
+    pub known: bool,
+    /// How they are coded: by sums, unless two states have one or a set has its second key.
+    pub coding: Coding,
     pub entries: Vec<Entry>,
-    // The codes of the entries.
+    /// The codes of the entries.
     pub codes: Places,
 }
 
 impl Owners {
     /// Nothing is entered.
-    pub(crate) fn new(alloc: Global) -> Owners
-        ensures codes { result.codes ≡ [] }
+    fn new(alloc: Global, known: bool, coding: Coding) -> Owners
+        ensures known { result.known ≡ known }
+        ensures coding { result.coding ≡ coding }
         ensures entries { result.entries.items ≡ [] }
+        ensures codes { result.codes ≡ [] }
     {
         Owners {
+            known,
+            coding,
             entries: Vec::new(alloc),
             codes: Places::new(alloc),
         }
     }
+
+    /// What is known of a store without sets: nothing, until there are more than a few.
+    pub(crate) fn unknown(alloc: Global) -> Owners
+        ensures { IsOwnerIndex result [] }
+    {
+        Owners::new(alloc, false, Coding::Sips)
+    }
 }
 
-/// Enters the states of a set, by the places of the first ones. After want of memory some of them
-/// may be entered.
-pub(crate) fn enter_set(
-    codes: &mut Places,
-    entries: &mut Vec<Entry>,
+/// Takes in the states of one set more, the last one. After want of memory what was known of the
+/// others still is.
+pub(crate) fn take_in(
+    alloc: Global,
+    owners: &mut Owners,
+    sets: &[Explicit],
+    last: &Explicit,
+) -> Result<(), AllocError>
+    requires few { length sets.now < 2 ^ 32 }
+    requires owners { IsOwnerIndex owners.old sets.now }
+    ensures ok { OnOk result (IsOwnerIndex owners.new (sets.now ++ last.now ∷ [])) }
+    ensures err { OnErr result (IsOwnerIndex owners.new sets.now) }
+{
+    if !owners.known && sets.len() != FEW {
+        return Ok(());
+    }
+    if enter_set(owners, sets, last, sets.len() as u32)? {
+        return Ok(());
+    }
+    *owners = owners_of(alloc, sets, last)?;
+    Ok(())
+}
+
+// The states of these sets and the last one: by sums, or else by SipHashes. They stay unknown where
+// there are more than 4,294,967,295.
+fn owners_of(alloc: Global, sets: &[Explicit], last: &Explicit) -> Result<Owners, AllocError>
+    requires { length sets.now < 2 ^ 32 }
+    ensures { IfOk result (λ owners. IsOwnerIndex owners (sets.now ++ last.now ∷ [])) }
+{
+    let owners = owners_by(alloc, Coding::Sums(PLAIN), sets, last)?;
+    if owners.known {
+        return Ok(owners);
+    }
+    owners_by(alloc, Coding::Sips, sets, last)
+}
+
+// The same by one coding. They stay unknown where two states have one code.
+fn owners_by(
+    alloc: Global,
+    coding: Coding,
+    sets: &[Explicit],
+    last: &Explicit,
+) -> Result<Owners, AllocError>
+    requires { length sets.now < 2 ^ 32 }
+    ensures { IfOk result (λ owners. IsOwnerIndex owners (sets.now ++ last.now ∷ [])) }
+{
+    let mut owners = Owners::new(alloc, true, coding);
+    for number in 0..sets.len() {
+        if !enter_set(&mut owners, sets, &sets[number], number as u32)? {
+            return Ok(Owners::new(alloc, false, coding));
+        }
+    }
+    if !enter_set(&mut owners, sets, last, sets.len() as u32)? {
+        return Ok(Owners::new(alloc, false, coding));
+    }
+    Ok(owners)
+}
+
+// Enters the states of a set, by the places of the first ones. Answers false where they can't all
+// be told apart by their codes; then, and after want of memory, some of them may be entered.
+fn enter_set(
+    owners: &mut Owners,
+    sets: &[Explicit],
     set: &Explicit,
     number: u32,
-) -> Result<(), AllocError>
-    requires { length codes.old ≤ length entries.old.items }
-    ensures keeps { KeepsEntries codes.old entries.old.items codes.new entries.new.items }
-    ensures size { length codes.new ≤ length entries.new.items }
-    ensures ok { OnOk result (All (λ held.
-        IsEntered codes.new entries.new.items number set.now.states held) set.now.states) }
+) -> Result<bool, AllocError>
+    requires { length owners.old.codes ≤ length owners.old.entries.items }
+    ensures known { owners.new.known ≡ owners.old.known }
+    ensures keeps { KeepsEntries owners.old owners.new }
+    ensures size { length owners.new.codes ≤ length owners.new.entries.items }
+    ensures ok { IfOk result (λ whole. whole ≡ true
+        → All (λ held. IsEntered owners.new number set.now.states held) set.now.states) }
 {
-    let states = set.states();
+    if !owners.known || !tells_apart(owners.coding, set.key()) {
+        return Ok(false);
+    }
     for place in set.firsts() {
-        let code = list_code(states[*place as usize].as_slice());
         let entry = Entry {
             set: number,
             place: *place,
         };
-        enter_one(codes, entries, code, entry)?;
+        let state = set.at(*place as usize);
+        if !enter(owners, sets, entry, &state, set.atoms())? {
+            return Ok(false);
+        }
     }
-    Ok(())
+    Ok(true)
 }
 
-fn enter_one(
-    codes: &mut Places,
-    entries: &mut Vec<Entry>,
-    code: u64,
+// Enters a state, unless another one has its sum, or there is no room.
+fn enter(
+    owners: &mut Owners,
+    sets: &[Explicit],
     entry: Entry,
-) -> Result<(), AllocError>
-    requires { length codes.old ≤ length entries.old.items }
-    ensures keeps { KeepsEntries codes.old entries.old.items codes.new entries.new.items }
-    ensures size { length codes.new ≤ length entries.new.items }
-    ensures ok { OnOk result ((states : List (List ℕ)) → entry.place < length states
-        → code ≡ code_of (slice_index_or states entry.place [])
-        → IsEntered codes.new entries.new.items entry.set states
-        (slice_index_or states entry.place [])) }
+    state: &Coded<'_>,
+    atoms: u32,
+) -> Result<bool, AllocError>
+    requires size { length owners.old.codes ≤ length owners.old.entries.items }
+    requires below { AreBelow atoms state.now.atoms.now }
+    ensures known { owners.new.known ≡ owners.old.known }
+    ensures keeps { KeepsEntries owners.old owners.new }
+    ensures size { length owners.new.codes ≤ length owners.new.entries.items }
+    ensures ok { IfOk result (λ done. done ≡ true
+        → (states : List (List ℕ)) → entry.place < length states
+        → state.now.atoms.now ≡ slice_index_or states entry.place []
+        → IsEntered owners.new entry.set states (slice_index_or states entry.place [])) }
 {
-    entries.truncate(codes.len());
-    entries.push(entry)?;
-    codes.push(code)?;
-    Ok(())
+    let code = code_by(owners.coding, state, atoms);
+    if owners.codes.len() >= u32::MAX as usize || meets_other(owners, sets, code, state) {
+        return Ok(false);
+    }
+    owners.entries.truncate(owners.codes.len());
+    owners.entries.push(entry)?;
+    owners.codes.push(code)?;
+    Ok(true)
+}
+
+// Whether the sums are to be given up: the last entry of the code is of another state.
+fn meets_other(owners: &Owners, sets: &[Explicit], code: u64, state: &Coded<'_>) -> bool {
+    if matches!(owners.coding, Coding::Sips) {
+        return false;
+    }
+    let end = owners.codes.last(code);
+    if end == 0 || end > owners.entries.len() {
+        return false;
+    }
+    let entry = owners.entries[end - 1];
+    let number = entry.set as usize;
+    number < sets.len() && !sets[number].has_at(entry.place as usize, state)
 }
 
 /// Whether one of the operands, asked about after the action (true) or before it, is a set that
 /// lists the state of these atoms; or none, which says nothing, where more sets list it than there
-/// are operands.
-pub(crate) fn find_owner<A: Atoms>(
+/// are operands, and where the sets are few.
+pub(crate) fn find_owner<A: Sought>(
     owners: &Owners,
     sets: &[Explicit],
     operands: &Operands,
@@ -103,13 +205,17 @@ pub(crate) fn find_owner<A: Atoms>(
     held: &A,
     atoms: u32,
 ) -> Option<bool>
-    requires store { IsStore sets.now owners.now.codes owners.now.entries.items }
+    requires listed { AreListings sets.now }
+    requires index { IsOwnerIndex owners.now sets.now }
     requires over { AreOver sets.now atoms }
     requires below { IsBelow atoms (A.has held.now) }
     ensures { IfSome result (λ yes. (state : List Bool) → length state ≡ atoms
         → IsSetOf (A.has held.now) state → IsTrue yes ↔ IsOwned sets.now operands.now after state) }
 {
-    let code = code_of(held, atoms);
+    if !owners.known {
+        return None;
+    }
+    let code = code_by(owners.coding, held, atoms);
     let mut rest = owners.codes.last(code);
     'entries: for _ in 0..operands.len() {
         if rest == 0 {
@@ -123,7 +229,8 @@ pub(crate) fn find_owner<A: Atoms>(
     None
 }
 
-fn is_owner<A: Atoms>(
+// Whether the entry is of a set that the operands name, and its state has just these atoms.
+fn is_owner<A: Sought>(
     sets: &[Explicit],
     operands: &Operands,
     after: bool,

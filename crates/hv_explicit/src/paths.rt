@@ -1,14 +1,15 @@
 //! Explicit sets walked over and asked about along paths.
 
 use crate::explicit::Explicit;
-use hv_paths::{InsideAsk, InsideAsked, InsideWalk, InsideWalked};
+use crate::state_walk::StateWalk;
+use hv_paths::{InsideAsk, InsideAsked, InsideWalked};
 use std::alloc::{AllocError, Global};
 
 impl<'a> InsideWalked<'a> for Explicit {
-    type Walk = InsideWalk<'a, Explicit>;
+    type Walk = StateWalk<'a>;
 
-    fn walk_inside(&'a self, alloc: Global) -> Result<InsideWalk<'a, Explicit>, AllocError> {
-        Ok(InsideWalk::new(alloc, self))
+    fn walk_inside(&'a self, alloc: Global) -> Result<StateWalk<'a>, AllocError> {
+        StateWalk::new(alloc, self)
     }
 }
 

@@ -110,6 +110,14 @@ impl Places {
         Ok(())
     }
 
+    /// The code at a place.
+    pub(crate) fn get(&self, place: usize) -> u64
+        requires { place < length self.now }
+        ensures { result ≡ code_at self.now place }
+    {
+        self.codes[place]
+    }
+
     /// One more than the last place that has this code, or 0 where none has it.
     pub(crate) fn last(&self, code: u64) -> usize
         ensures { IsEnd (code_at self.now) code (length self.now) result }
@@ -150,7 +158,7 @@ fn slot_of(factor: u64, slots: usize, code: u64) -> usize
     ensures slot { result ≡ slot_of factor slots code }
     ensures within { result < slots }
 {
-    ((code.wrapping_mul(factor) >> 32) % slots as u64) as usize
+    ((code.wrapping_mul(factor) as u128 * slots as u128) >> 64) as usize
 }
 
 // Chains a place in its slot.

@@ -1,10 +1,13 @@
 //! The search through the states of the anchor.
 
-ghost use Rattle.std.specs.Prelude.{◌≡◌, ◌<◌, ◌↔◌, ℕ, Bool, List, length, slice_index_or};
-ghost use Rattle.std.specs.Prelude.{slice_get, Some, IsTrue, MatchOption};
+ghost use Rattle.std.specs.Prelude.{◌≡◌, ◌<◌, ◌↔◌, ◌∷◌, ℕ, Bool, List, [], length, slice_index_or};
+ghost use Rattle.std.specs.Prelude.{slice_get, Some, true, IsTrue, IfOk, IfSome, MatchOption};
 ghost use Rattle.std.specs.List.{All, Contains, list_all};
-ghost use Rattle.hv_task.specs.State.{AreBelow, state_of};
-ghost use Rattle.hv_task.specs.Strips.{IsState, atoms, is_goal};
+ghost use Rattle.hv_task.specs.State.{AreBelow, names_atom, state_of};
+ghost use Rattle.hv_task.specs.Strips.{IsOver, IsState, atoms, is_goal};
+ghost use Rattle.hv_task.specs.Atoms.{is_after};
+ghost use Rattle.std.specs.List.Sorted.{IsStrictlyIncreasing};
+ghost use Rattle.hv_sets.specs.Names.{AsksAbout};
 ghost use Rattle.hv_sets.specs.Cost.{IsAnswer, StatesPass};
 ghost use Rattle.hv_sets.specs.Query.{CanAnchor, IsAnchor, IsNamed, Rises, in_which, is_clash};
 ghost use Rattle.hv_sets.specs.declared.operand.Operand.{Operand};
@@ -15,12 +18,14 @@ ghost use Rattle.hv_explicit.specs.Working.Holders.{AreAllBut};
 ghost use Rattle.hv_explicit.specs.Listing.{AreRising, AreStates, in_set, states_listed};
 ghost use Rattle.hv_explicit.specs.Working.Listing.{AreFirsts};
 
-use crate::codes::is_same;
 use crate::explicit::Explicit;
 use crate::explicits::Explicits;
+use crate::firsts::PLAIN;
+use crate::results::is_left;
+use crate::sought::{Coded, Outcome, Sought};
 use hv_sets::{Finding, Operand, Query, Which};
-use hv_task::{After, AtomList, Atoms, Hint, State, Task};
-use std::slice;
+use hv_task::{Action, State, Task, names_all};
+use std::alloc::{AllocError, Global};
 
 // To go through so many operands is no dearer than to look up the sets that list a state.
 const FEW: usize = 4;
@@ -39,119 +44,218 @@ impl Search<'_> {
     ghost use Rattle.hv_explicit.specs.Working.Search.{is_in_none};
 
     /// The exact answer to the query. The state is overwritten.
-    pub(crate) fn answer(&self, budget: u64, state: &mut State) -> Finding
+    pub(crate) fn answer(
+        &self,
+        alloc: Global,
+        budget: u64,
+        state: &mut State,
+    ) -> Result<Finding, AllocError>
         requires search { IsListedSearch self.now }
         requires state { IsState self.now.task.now state.old }
-        ensures { IsAnswer result
+        ensures { IfOk result (λ found. IsAnswer found
             (StatesPass (states_listed self.now.sets.now) self.now.query.now budget)
             (atoms self.now.task.now)
-            (is_clash self.now.task.now (in_set self.now.sets.now) self.now.query.now) state.new }
+            (is_clash self.now.task.now (in_set self.now.sets.now) self.now.query.now) state.new) }
     {
         match anchor_of(self.query.positive.as_slice()) {
-            Some(anchor) => self.answer_at(anchor.which, budget, state),
-            None => Finding::Empty,
+            Some(anchor) => self.answer_at(alloc, anchor.which, budget, state),
+            None => Ok(Finding::Empty),
         }
     }
 
     // The answer, where the anchor names this set.
-    fn answer_at(&self, anchor: Which, budget: u64, state: &mut State) -> Finding
+    fn answer_at(
+        &self,
+        alloc: Global,
+        anchor: Which,
+        budget: u64,
+        state: &mut State,
+    ) -> Result<Finding, AllocError>
         requires search { IsListedSearch self.now }
         requires anchor { (o : Operand) × IsAnchor self.now.query.now.positive o
             × (o.which ≡ anchor) }
         requires state { IsState self.now.task.now state.old }
-        ensures { IsAnswer result
+        ensures { IfOk result (λ found. IsAnswer found
             (StatesPass (states_listed self.now.sets.now) self.now.query.now budget)
             (atoms self.now.task.now)
-            (is_clash self.now.task.now (in_set self.now.sets.now) self.now.query.now) state.new }
+            (is_clash self.now.task.now (in_set self.now.sets.now) self.now.query.now) state.new) }
     {
         match anchor {
-            Which::Start => {
-                self.find_among(slice::from_ref(self.task.start()), &[0], budget, state)
-            }
+            Which::Start => Ok(self.find_start(budget, state)),
             Which::Set(number) => {
                 let set = self.sets.get(number);
-                self.find_among(set.states(), self.places_in(set), budget, state)
+                self.answer_in(alloc, anchor, set, budget, state)
             }
-            _ => Finding::Empty,
+            _ => Ok(Finding::Empty),
         }
     }
 
     // The places of states of the set, such that no other state of it is a counterexample: those
-    // that hold an atom of the action's precondition, or all.
-    fn places_in<'b>(&self, set: &'b Explicit) -> &'b [u32]
+    // that hold the action's precondition, or none for all.
+    fn places_in(&self, alloc: Global, set: &Explicit) -> Result<Option<Vec<u32>>, AllocError>
         requires { IsListedSearch self.now }
-        ensures { AreAllBut (clashes_at self.now) set.now.states result.now }
+        ensures { IfOk result (λ o. IfSome o (λ places.
+            AreAllBut (clashes_at self.now) set.now.states places.items)) }
     {
         let Some(number) = self.query.action else {
-            return set.firsts();
+            return Ok(None);
         };
         let action = self.task.action(number);
-        match set.held_by(action.pre.as_slice()) {
-            Some(places) => places,
-            None => set.firsts(),
+        set.held_by(alloc, action.pre.as_slice())
+    }
+
+    // The answer, where the anchor is this set.
+    fn answer_in(
+        &self,
+        alloc: Global,
+        anchor: Which,
+        set: &Explicit,
+        budget: u64,
+        state: &mut State,
+    ) -> Result<Finding, AllocError>
+        requires search { IsListedSearch self.now }
+        requires atoms { set.now.atoms ≡ atoms self.now.task.now }
+        requires anchor { All (λ held. in_which self.now.task.now (in_set self.now.sets.now) anchor
+            (state_of (atoms self.now.task.now) held) ≡ true) set.now.states }
+        requires state { IsState self.now.task.now state.old }
+        ensures { IfOk result (λ found. IsFoundListed found budget (atoms self.now.task.now)
+            (is_clash self.now.task.now (in_set self.now.sets.now) self.now.query.now)
+            set.now.states state.new) }
+    {
+        match self.places_in(alloc, set)? {
+            Some(places) => Ok(self.find_among(anchor, set, places.as_slice(), budget, state)),
+            None => Ok(self.find_among(anchor, set, set.firsts(), budget, state)),
         }
     }
 
-    // Looks for a counterexample among these states, of which none is one but those at these
-    // places.
+    // Asks whether the initial state is a counterexample, where the anchor names it.
+    fn find_start(&self, budget: u64, state: &mut State) -> Finding
+        requires search { IsListedSearch self.now }
+        requires state { IsState self.now.task.now state.old }
+        ensures { IsFoundListed result budget (atoms self.now.task.now)
+            (is_clash self.now.task.now (in_set self.now.sets.now) self.now.query.now)
+            (self.now.task.now.start ∷ []) state.new }
+    {
+        if budget == 0 {
+            return Finding::Over;
+        }
+        let held = Coded::new(PLAIN, self.task.start().as_slice());
+        if self.clashes(Which::Start, held) {
+            state.hold(held.atoms);
+            return Finding::Clash;
+        }
+        Finding::Empty
+    }
+
+    // Looks for a counterexample among the states of the set, of which none is one but those at
+    // these places.
     fn find_among(
         &self,
-        states: &[AtomList],
+        anchor: Which,
+        set: &Explicit,
         places: &[u32],
         budget: u64,
         state: &mut State,
     ) -> Finding
         requires search { IsListedSearch self.now }
-        requires states { AreStates (atoms self.now.task.now) states.now }
-        requires places { AreAllBut (clashes_at self.now) states.now places.now }
+        requires atoms { set.now.atoms ≡ atoms self.now.task.now }
+        requires anchor { All (λ held. in_which self.now.task.now (in_set self.now.sets.now) anchor
+            (state_of (atoms self.now.task.now) held) ≡ true) set.now.states }
+        requires places { AreAllBut (clashes_at self.now) set.now.states places.now }
         requires state { IsState self.now.task.now state.old }
         ensures { IsFoundListed result budget (atoms self.now.task.now)
             (is_clash self.now.task.now (in_set self.now.sets.now) self.now.query.now)
-            states.now state.new }
+            set.now.states state.new }
     {
-        if states.len() as u64 > budget {
+        if set.len() as u64 > budget {
             return Finding::Over;
         }
         for place in places {
-            let held = &states[*place as usize];
-            if self.clashes(held) {
-                state.hold(held);
+            let held = set.at(*place as usize);
+            if self.clashes(anchor, held) {
+                state.hold(held.atoms);
                 return Finding::Clash;
             }
         }
         Finding::Empty
     }
 
-    // Whether the state of these atoms is a counterexample.
-    fn clashes(&self, held: &AtomList) -> bool
+    // Whether the state, which is in what the anchor names, is a counterexample.
+    fn clashes(&self, anchor: Which, held: Coded<'_>) -> bool
         requires search { IsListedSearch self.now }
-        requires held { AreBelow (atoms self.now.task.now) held.now }
+        requires anchor { in_which self.now.task.now (in_set self.now.sets.now) anchor
+            (state_of (atoms self.now.task.now) held.atoms.now) ≡ true }
+        requires held { AreBelow (atoms self.now.task.now) held.atoms.now }
         ensures { result ≡ is_clash self.now.task.now (in_set self.now.sets.now) self.now.query.now
-            (state_of (atoms self.now.task.now) held.now) }
+            (state_of (atoms self.now.task.now) held.entry.atoms.now) }
     {
         match self.query.action {
-            None => self.fits(held, held),
+            None => self.fits(anchor, &held, &held),
             Some(number) => {
                 let action = self.task.action(number);
-                held.has_all(action.pre.as_slice()) && self.fits(held, &After { held, action })
+                names_all(held.atoms, action.pre.as_slice())
+                    && self.fits_after(anchor, held, action)
             }
         }
     }
 
+    // Whether the state and the result of the action fit. Where the action leaves the state as it
+    // is, and the anchor is a negative operand that is asked about after it, they don't.
+    fn fits_after(&self, anchor: Which, held: Coded<'_>, action: &Action) -> bool
+        requires search { IsListedSearch self.now }
+        requires anchor { in_which self.now.task.now (in_set self.now.sets.now) anchor
+            (state_of (atoms self.now.task.now) held.atoms.now) ≡ true }
+        requires held { AreBelow (atoms self.now.task.now) held.atoms.now }
+        requires over { IsOver (atoms self.now.task.now) action.now }
+        ensures { (b a : List Bool) → HasJust self.now.task.now (names_atom held.entry.atoms.now) b
+            → HasJust self.now.task.now (is_after action.now held.entry.atoms.now) a
+            → result ≡ is_fit self.now b a }
+    {
+        let after = Outcome::of(held, action);
+        if after.code == held.code && self.stays(anchor, held.atoms, action) {
+            return false;
+        }
+        self.fits(anchor, &held, &after)
+    }
+
+    // Whether what the anchor names is a negative operand that is asked about after the action, and
+    // the action leaves the state as it is.
+    fn stays(&self, anchor: Which, held: &[u32], action: &Action) -> bool
+        requires { IsStrictlyIncreasing held.now }
+        ensures asks { IsTrue result → AsksAbout self.now.query.now.negative anchor true }
+        ensures left { IsTrue result → IsSame (is_after action.now held.now) held.now }
+    {
+        if !self.query.negative.names(anchor, true) {
+            return false;
+        }
+        is_left(held, action)
+    }
+
     // Whether the states before and after the action are in each positive operand and in no
     // negative one.
-    fn fits<B: Atoms, A: Atoms>(&self, before: &B, after: &A) -> bool
+    fn fits<B: Sought, A: Sought>(&self, anchor: Which, before: &B, after: &A) -> bool
         requires search { IsListedSearch self.now }
+        requires anchor { (b : List Bool) → HasJust self.now.task.now (B.has before.now) b
+            → in_which self.now.task.now (in_set self.now.sets.now) anchor b ≡ true }
         requires before { IsBelow (atoms self.now.task.now) (B.has before.now) }
         requires after { IsBelow (atoms self.now.task.now) (A.has after.now) }
         ensures { (b a : List Bool) → HasJust self.now.task.now (B.has before.now) b
             → HasJust self.now.task.now (A.has after.now) a → result ≡ is_fit self.now b a }
     {
-        self.are_all(self.query.positive.as_slice(), before, after) && self.are_none(before, after)
+        self.are_all(anchor, self.query.positive.as_slice(), before, after)
+            && self.are_none(before, after)
     }
 
-    fn are_all<B: Atoms, A: Atoms>(&self, operands: &[Operand], before: &B, after: &A) -> bool
+    fn are_all<B: Sought, A: Sought>(
+        &self,
+        anchor: Which,
+        operands: &[Operand],
+        before: &B,
+        after: &A,
+    ) -> bool
         requires search { IsListedSearch self.now }
+        requires anchor { (b : List Bool) → HasJust self.now.task.now (B.has before.now) b
+            → in_which self.now.task.now (in_set self.now.sets.now) anchor b ≡ true }
         requires operands { All (λ o. IsNamed (length self.now.sets.now) o.which) operands.now }
         requires before { IsBelow (atoms self.now.task.now) (B.has before.now) }
         requires after { IsBelow (atoms self.now.task.now) (A.has after.now) }
@@ -161,14 +265,14 @@ impl Search<'_> {
             operands.now }
     {
         for operand in operands {
-            if !self.is_in(operand, before, after) {
+            if !self.is_in(anchor, operand, before, after) {
                 return false;
             }
         }
         true
     }
 
-    fn are_none<B: Atoms, A: Atoms>(&self, before: &B, after: &A) -> bool
+    fn are_none<B: Sought, A: Sought>(&self, before: &B, after: &A) -> bool
         requires search { IsListedSearch self.now }
         requires before { IsBelow (atoms self.now.task.now) (B.has before.now) }
         requires after { IsBelow (atoms self.now.task.now) (A.has after.now) }
@@ -182,7 +286,7 @@ impl Search<'_> {
     // Whether a negative operand that is asked about after the action (true) or before it (false)
     // has the state. Few operands are gone through. Of many only those are asked about that name a
     // set that lists the state, if such sets are fewer.
-    fn is_hit<A: Atoms>(&self, held: &A, after: bool) -> bool
+    fn is_hit<A: Sought>(&self, held: &A, after: bool) -> bool
         requires search { IsListedSearch self.now }
         requires below { IsBelow (atoms self.now.task.now) (A.has held.now) }
         ensures { (state : List Bool) → HasJust self.now.task.now (A.has held.now) state
@@ -206,7 +310,7 @@ impl Search<'_> {
         }
     }
 
-    fn is_hit_among<A: Atoms>(&self, operands: &[Operand], held: &A, after: bool) -> bool
+    fn is_hit_among<A: Sought>(&self, operands: &[Operand], held: &A, after: bool) -> bool
         requires search { IsListedSearch self.now }
         requires operands { All (λ o. IsNamed (length self.now.sets.now) o.which) operands.now }
         requires below { IsBelow (atoms self.now.task.now) (A.has held.now) }
@@ -223,7 +327,7 @@ impl Search<'_> {
     }
 
     // Whether this set is a negative operand and has the state.
-    fn is_hit_by<A: Atoms>(&self, which: Which, held: &A, after: bool) -> bool
+    fn is_hit_by<A: Sought>(&self, which: Which, held: &A, after: bool) -> bool
         requires search { IsListedSearch self.now }
         requires below { IsBelow (atoms self.now.task.now) (A.has held.now) }
         ensures { (state : List Bool) → HasJust self.now.task.now (A.has held.now) state
@@ -232,8 +336,16 @@ impl Search<'_> {
         self.query.negative.names(which, after) && self.has(which, held)
     }
 
-    fn is_in<B: Atoms, A: Atoms>(&self, operand: &Operand, before: &B, after: &A) -> bool
+    fn is_in<B: Sought, A: Sought>(
+        &self,
+        anchor: Which,
+        operand: &Operand,
+        before: &B,
+        after: &A,
+    ) -> bool
         requires search { IsListedSearch self.now }
+        requires anchor { (b : List Bool) → HasJust self.now.task.now (B.has before.now) b
+            → in_which self.now.task.now (in_set self.now.sets.now) anchor b ≡ true }
         requires operand { IsNamed (length self.now.sets.now) operand.now.which }
         requires before { IsBelow (atoms self.now.task.now) (B.has before.now) }
         requires after { IsBelow (atoms self.now.task.now) (A.has after.now) }
@@ -242,13 +354,12 @@ impl Search<'_> {
             → result ≡ in_either self.now.task.now (in_set self.now.sets.now) b a operand.now }
     {
         if operand.after {
-            self.has(operand.which, after)
-        } else {
-            self.has(operand.which, before)
+            return self.has(operand.which, after);
         }
+        operand.which == anchor || self.has(operand.which, before)
     }
 
-    fn has<A: Atoms>(&self, which: Which, held: &A) -> bool
+    fn has<A: Sought>(&self, which: Which, held: &A) -> bool
         requires search { IsListedSearch self.now }
         requires which { IsNamed (length self.now.sets.now) which }
         requires below { IsBelow (atoms self.now.task.now) (A.has held.now) }
@@ -259,26 +370,26 @@ impl Search<'_> {
             Which::Empty => false,
             Which::Start => is_start(self.task, held),
             Which::Goal => has_goal(self.task, held),
-            Which::Set(number) => self.sets.get(number).lists(held),
+            Which::Set(number) => self.sets.get(number).has(held),
         }
     }
 }
 
-fn is_start<A: Atoms>(task: &Task, held: &A) -> bool
+fn is_start<A: Sought>(task: &Task, held: &A) -> bool
     ensures same { IsTrue result ↔ IsSame (A.has held.now) task.now.start }
     ensures below { AreBelow (atoms task.now) task.now.start }
 {
     let _atoms = task.atoms();
-    is_same(task.start().as_slice(), held)
+    held.is(task.start().as_slice())
 }
 
-fn has_goal<A: Atoms>(task: &Task, held: &A) -> bool
+fn has_goal<A: Sought>(task: &Task, held: &A) -> bool
     ensures { IsTrue result ↔ All (λ p. IsTrue (A.has held.now p)) task.now.goal }
 {
     has_all(task.goal().as_slice(), held)
 }
 
-fn has_all<A: Atoms>(atoms: &[u32], held: &A) -> bool
+fn has_all<A: Sought>(atoms: &[u32], held: &A) -> bool
     ensures { IsTrue result ↔ All (λ p. IsTrue (A.has held.now p)) atoms.now }
 {
     for atom in atoms {
@@ -289,10 +400,10 @@ fn has_all<A: Atoms>(atoms: &[u32], held: &A) -> bool
     true
 }
 
-fn has_atom<A: Atoms>(atom: u32, held: &A) -> bool
+fn has_atom<A: Sought>(atom: u32, held: &A) -> bool
     ensures { result ≡ A.has held.now atom }
 {
-    held.next(atom, &mut Hint::default()) == Some(atom)
+    held.holds(atom)
 }
 
 // The first operand that can be the anchor, which has the least identifier, since identifiers rise.

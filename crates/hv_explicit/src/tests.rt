@@ -49,7 +49,8 @@ fn state_from(alloc: Global, code: u32) -> Result<State, AllocError>
     ensures { IfOk result (λ state. length state ≡ 2) }
 {
     let mut state = State::empty(alloc, 2)?;
-    state.hold(&atoms_of(alloc, code)?);
+    let held = atoms_of(alloc, code)?;
+    state.hold(held.as_slice());
     Ok(state)
 }
 

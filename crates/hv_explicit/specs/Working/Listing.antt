@@ -1,6 +1,6 @@
 -- Working definitions beside those of `Listing`: for private contracts and proofs.
 use Rattle.std.specs.Prelude.{◌≡◌, ◌<◌, ℕ, Bool, List, [], length, slice_index, slice_index_or}
-use Rattle.hv_explicit.specs.Working.Codes.{IsSame, code_of}
+use Rattle.hv_explicit.specs.Working.Codes.{IsListCode, IsSame}
 use Rattle.hv_explicit.specs.Working.Places.{code_at}
 
 -- the state at the place that stands at this entry
@@ -15,9 +15,10 @@ pub record AreFirsts (states : List (List ℕ)) (firsts : List ℕ) (count : ℕ
       → (e : ℕ) × (e < length firsts) × (first_at states firsts e ≡ slice_index_or states k [])
 
 -- the index has the code of the state at each entry
-pub record IsIndex (codes firsts : List ℕ) (states : List (List ℕ)) : Type 0 where
+pub record IsIndex (key : ℕ) (codes firsts : List ℕ) (states : List (List ℕ)) : Type 0 where
   pub many : length codes ≡ length firsts
-  pub code : (e : ℕ) → e < length firsts → code_at codes e ≡ code_of (first_at states firsts e)
+  pub code : (e : ℕ) → e < length firsts
+      → IsListCode key (first_at states firsts e) (code_at codes e)
 
 -- the state at some entry has just these atoms
 abbrev pub IsEnteredState : (ℕ → Bool) → List (List ℕ) → List ℕ → Type 0

@@ -2,13 +2,16 @@
 use Rattle.std.specs.Prelude.{◌≡◌, ◌<◌, ◌≤◌, ℕ, Bool, true, List, [], length, slice_get}
 use Rattle.std.specs.Prelude.{slice_index_or, Some}
 use Rattle.std.specs.List.{All}
+use Rattle.hv_task.specs.State.{names_atom}
 use Rattle.hv_sets.specs.Names.{AsksAbout}
 use Rattle.hv_sets.specs.declared.operand.Operand.{Operand}
 use Rattle.hv_sets.specs.declared.operand.Which.TheVariants as W
-use Rattle.hv_explicit.specs.Working.Codes.{IsSame, code_of}
+use Rattle.hv_explicit.specs.Working.Codes.{IsSame}
+use Rattle.hv_explicit.specs.Working.Coding.{IsCodeBy}
 use Rattle.hv_explicit.specs.Listing.{AreRising, AreStates, Listing, in_set}
 use Rattle.hv_explicit.specs.Working.Places.{code_at}
 use Rattle.hv_explicit.specs.declared.owners.Entry.{Entry}
+use Rattle.hv_explicit.specs.declared.owners.Owners.{Owners}
 
 -- the entry at a place
 abbrev pub entry_at : List Entry → ℕ → Entry
@@ -19,34 +22,38 @@ abbrev pub state_of_entry : List (List ℕ) → Entry → List ℕ
 state_of_entry states entry = slice_index_or states entry.place []
 
 -- there is an entry of the set for this state, under its code
-abbrev pub IsEntered : List ℕ → List Entry → ℕ → List (List ℕ) → List ℕ → Type 0
-IsEntered codes entries number states held =
-    (e : ℕ) × (e < length codes) × ((entry_at entries e).set ≡ number)
-    × ((entry_at entries e).place < length states)
-    × (state_of_entry states (entry_at entries e) ≡ held)
-    × (code_at codes e ≡ code_of held)
+abbrev pub IsEntered : Owners → ℕ → List (List ℕ) → List ℕ → Type 0
+IsEntered owners number states held =
+    (e : ℕ) × (e < length owners.codes) × ((entry_at owners.entries.items e).set ≡ number)
+    × ((entry_at owners.entries.items e).place < length states)
+    × (state_of_entry states (entry_at owners.entries.items e) ≡ held)
+    × IsCodeBy owners.coding (names_atom held) (code_at owners.codes e)
 
 -- what was entered still is
-abbrev pub KeepsEntries : List ℕ → List Entry → List ℕ → List Entry → Type 0
-KeepsEntries codes entries codes' entries' =
+abbrev pub KeepsEntries : Owners → Owners → Type 0
+KeepsEntries old new =
     (number : ℕ) (states : List (List ℕ)) (held : List ℕ)
-    → IsEntered codes entries number states held → IsEntered codes' entries' number states held
+    → IsEntered old number states held → IsEntered new number states held
 
 -- each state of each set is entered; there may be more entries
-abbrev pub AreEntered : List ℕ → List Entry → List Listing → Type 0
-AreEntered codes entries sets =
+abbrev pub AreEntered : Owners → List Listing → Type 0
+AreEntered owners sets =
     (number : ℕ) (set : Listing) → slice_get sets number ≡ Some set
-    → All (λ held. IsEntered codes entries number set.states held) set.states
+    → All (λ held. IsEntered owners number set.states held) set.states
+
+-- the states of the sets are entered where they are known
+pub record IsOwnerIndex (owners : Owners) (sets : List Listing) : Type 0 where
+  pub entered : owners.known ≡ true → AreEntered owners sets
+  pub size : length owners.codes ≤ length owners.entries.items
 
 -- the states of the sets are states of their tasks, by lists that rise
 abbrev pub AreListings : List Listing → Type 0
 AreListings sets = All (λ set. AreStates set.atoms set.states × AreRising set.states) sets
 
 -- what a store of sets keeps
-pub record IsStore (sets : List Listing) (codes : List ℕ) (entries : List Entry) : Type 0 where
+pub record IsStore (sets : List Listing) (owners : Owners) : Type 0 where
   pub listed : AreListings sets
-  pub entered : AreEntered codes entries sets
-  pub size : length codes ≤ length entries
+  pub index : IsOwnerIndex owners sets
 
 -- the entry is of a set that these operands name, asked about after the action or before it, and
 -- its state has just these atoms

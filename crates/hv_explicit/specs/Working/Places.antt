@@ -5,9 +5,9 @@ use Rattle.std.specs.Prelude.{◌≡◌, ◌<◌, ◌≤◌, ◌-◌, ◌*◌, �
 abbrev pub code_at : List ℕ → ℕ → ℕ
 code_at codes k = slice_index codes k
 
--- in which of so many slots a code is chained, by this factor
+-- in which of so many slots a code is chained, by this factor: the high half of a product
 unfoldable pub slot_of : ℕ → ℕ → ℕ → ℕ
-slot_of factor slots code = code * factor % 2 ^ 64 / 2 ^ 32 % slots
+slot_of factor slots code = code * factor % 2 ^ 64 * slots / 2 ^ 64
 
 -- in which slot a place is chained
 abbrev pub slot_at : List ℕ → ℕ → ℕ → ℕ → ℕ

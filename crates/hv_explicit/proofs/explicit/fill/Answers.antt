@@ -9,9 +9,9 @@ loop-atom-preserved c =
     let below = subst (λ cube. AreBelow c.loop-atom.atom (atoms_of cube))
     (sym c.loop-atom.invariant) (atoms_below c.loop-atom.atom c.args.held.now) in
     let last = c.in_ok-add.ensures.last below in
-    full_more c.loop-atom.atom c.args.held.now c.has-positive.result c.add.new.self
-    c.has-positive.ensures
+    full_more c.loop-atom.atom c.args.held.now c.names_atom-positive.result c.add.new.self
+    c.names_atom-positive.ensures
     (last.1 ∙ ap (λ cube. cube ++ record {
       atom = c.loop-atom.atom;
-      positive = c.has-positive.result;
+      positive = c.names_atom-positive.result;
     } ∷ []) c.loop-atom.invariant)

@@ -7,10 +7,10 @@ returns-then-rest-eq0 g c = λ state size agree. (
   λ e. let f : false ≡ true = e in absurd cc,
   λ owned.
       let there = owner_of c.args.atoms c.args.sets.now c.args.operands.now c.args.after
-      c.requires.over c.requires.store.listed
-      (g.A.Atoms.has c.args.held.now) state size c.requires.below agree c.args.owners.now.codes
-      c.args.owners.now.entries.items
-      c.code_of-code.result c.requires.store.entered c.code_of-code.ensures owned in
+      c.requires.over c.requires.listed
+      (g.A.Sought.has c.args.held.now) state size c.requires.below agree c.args.owners.now
+      c.code_by-code.result (c.requires.index.entered c.if-not-owners.false)
+      c.code_by-code.ensures owned in
       let none = c.if-rest-eq0.true in
       absurd (c.entries.invariant.none there.0 there.1 (omega arith) there.2 there.3),
 )
@@ -18,8 +18,8 @@ returns-then-rest-eq0 g c = λ state size agree. (
 pub returns-then-is_owner : goal.returns-then-is_owner
 returns-then-is_owner g c = λ state size agree. (
   λ _. owned_from c.args.atoms c.args.sets.now c.args.operands.now c.args.after c.requires.over
-      c.requires.store.listed
-      (g.A.Atoms.has c.args.held.now) state size c.requires.below agree c.index.result.now
+      c.requires.listed
+      (g.A.Sought.has c.args.held.now) state size c.requires.below agree c.index.result.now
       (c.is_owner.ensures.0 c.if-is_owner.true),
   λ _. refl,
 )

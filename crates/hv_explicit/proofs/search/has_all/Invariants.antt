@@ -3,4 +3,4 @@ use Rattle.hv_explicit.proofs.search.has_all.Given as goal
 
 abbrev pub invariant-loop-atom : goal.invariant-loop-atom
 invariant-loop-atom g l = (k : ℕ) (d : ℕ) → k < l.atom-index
-    → g.A.Atoms.has l.held (get_or l.atoms k d) ≡ true
+    → g.A.Sought.has l.held (get_or l.atoms k d) ≡ true

@@ -1,13 +1,21 @@
-use Rattle.hv_explicit.proofs.Holding.{held_index, holders_found}
+use Rattle.std.proofs.Common.{subst}
+use Rattle.std.specs.Option.{IfSome}
+use Rattle.std.specs.Result.{IfOk}
+use Rattle.hv_explicit.specs.Listing.{Listing}
+use Rattle.hv_explicit.specs.Working.Holders.{AreHolders}
+use Rattle.hv_explicit.proofs.Holding.{are_holders, held_index, zip_found}
 use Rattle.hv_explicit.proofs.explicit.Explicit.held_by.Goals as goal
 
-pub returns-in-Some-rarest : goal.returns-in-Some-rarest
-returns-in-Some-rarest c = (
-  c.in-Some-rarest.atom,
-  c.in-Some-rarest.ensures,
-  rw (← c.self.view_is)
-      (holders_found c.self.inside.states c.self.inside.firsts.items _ c.in-Some.holders
-      c.holding.result.now c.in-Some-rarest.atom c.in-Some.is
-      c.self.invariant.firsts c.self.invariant.holders_are c.holding.ensures.only
-      c.holding.ensures.all),
-)
+pub returns-in-Some : goal.returns-in-Some
+returns-in-Some c =
+    let s = c.self.inside in
+    let h = c.in-Some.holders in
+    subst (λ (set : Listing). IfOk c.holding_all.result
+    (λ o. IfSome o (λ places. AreHolders set.states c.args.atoms.now places.items)))
+    c.self.view_is
+    (zip_found _ _ _ c.holding_all.result c.holding_all.ensures.only c.holding_all.ensures.all
+    (λ places only all. are_holders s.states s.firsts.places.items h.keys.items h.starts.items
+    h.places.items places.items
+    c.args.atoms.now c.self.invariant.firsts_are
+    (held_index s.states s.firsts.places.items _ h c.in-Some.is c.self.invariant.holders_are) only
+    all))

@@ -14,7 +14,7 @@ returns-clause-step c =
     c.fill.new.cube
     (let len = c.len.ensures in let less = c.if-cursor-len.false in omega arith)
     (sym (get_or_from_slice_get c.self.inside.states c.args.cursor.now.place c.get.result.now
-    c.get.result.now c.get.ensures)) c.in_ok-fill.ensures)
+    c.get.result.now c.get.ensures.state)) c.in_ok-fill.ensures)
 
 pub returns-clause-cube : goal.returns-clause-cube
 returns-clause-cube c =

@@ -6,7 +6,7 @@ use Rattle.hv_explicit.proofs.search.Search.are_all.Given as goal
 
 abbrev pub invariant-loop-operand : goal.invariant-loop-operand
 invariant-loop-operand g l =
-    (b a : List Bool) → HasJust l.self.task.now (g.B.Atoms.has l.before) b
-    → HasJust l.self.task.now (g.A.Atoms.has l.after) a
+    (b a : List Bool) → HasJust l.self.task.now (g.B.Sought.has l.before) b
+    → HasJust l.self.task.now (g.A.Sought.has l.after) a
     → list_all (in_either l.self.task.now (in_set l.self.sets.now) b a)
     (take l.operand-index l.operands) ≡ true

@@ -11,5 +11,5 @@ invariant-loop-place l = record {
   state : IsState l.self.task.now l.state;
   none : (e : ℕ) → e < l.place-index
       → is_clash l.self.task.now (in_set l.self.sets.now) l.self.query.now
-      (state_of (atoms l.self.task.now) (first_at l.states l.places e)) ≡ false;
+      (state_of (atoms l.self.task.now) (first_at l.set.states l.places e)) ≡ false;
 }

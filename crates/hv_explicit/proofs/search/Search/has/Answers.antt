@@ -14,7 +14,7 @@ use Rattle.hv_explicit.proofs.search.Search.has.Goals as goal
 pub returns-in-Start : goal.returns-in-Start
 returns-in-Start g c = λ state stands.
     let task = c.args.self.now.task.now in
-    let held = g.A.Atoms.has c.args.held.now in
+    let held = g.A.Sought.has c.args.held.now in
     subst (λ w. c.is_start.result ≡ in_which task (in_set c.args.self.now.sets.now) w state)
     (sym c.in-Start.is)
     (same_tests {P = IsSame held task.start} c.is_start.result (is_same (start_state task) state)
@@ -43,5 +43,5 @@ returns-in-Set g c = λ state stands.
     let size : length state ≡ c.get.result.now.atoms =
     stands.of_task ∙ sym (over_at sets (atoms task) c.in-Set.number c.get.result.now
     c.requires.search.over c.get.ensures) in
-    subst (λ w. c.lists.result ≡ in_which task (in_set sets) w state) (sym c.in-Set.is)
-    (c.lists.ensures state size stands.same ∙ sym (ap (λ s. in_found s state) c.get.ensures))
+    subst (λ w. c.has.result ≡ in_which task (in_set sets) w state) (sym c.in-Set.is)
+    (c.has.ensures state size stands.same ∙ sym (ap (λ s. in_found s state) c.get.ensures))

@@ -7,7 +7,7 @@ use Rattle.hv_explicit.proofs.search.Search.is_hit_among.Given as goal
 
 abbrev pub invariant-loop-operand : goal.invariant-loop-operand
 invariant-loop-operand g l =
-    (state : List Bool) → HasJust l.self.task.now (g.A.Atoms.has l.held) state
+    (state : List Bool) → HasJust l.self.task.now (g.A.Sought.has l.held) state
     → (k : ℕ) (d : Operand) → k < l.operand-index → (get_or l.operands k d).after ≡ l.after
     → in_which l.self.task.now (in_set l.self.sets.now) (get_or l.operands k d).which state ≡ true
     → ⊥

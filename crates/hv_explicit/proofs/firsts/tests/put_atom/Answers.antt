@@ -1,0 +1,7 @@
+use Rattle.hv_task.proofs.Rising.{AreBelow-Inserts}
+use Rattle.hv_explicit.proofs.firsts.tests.put_atom.Goals as goal
+
+pub returns : goal.returns
+returns c =
+    AreBelow-Inserts 65535 c.args.list.now c.args.atom c.insert.new.self
+    c.in_ok-insert.ensures.ok c.requires.list c.requires.atom

@@ -1,0 +1,36 @@
+//! How the states of all sets are coded.
+
+ghost use Rattle.std.specs.Prelude.{ℕ, Bool};
+ghost use Rattle.hv_explicit.specs.Codes.{IsBelow};
+ghost use Rattle.hv_explicit.specs.Working.Coding.{IsCodeBy};
+
+use crate::sought::Sought;
+
+/// How sets of atoms are coded. Sums are quick, but many states can be made to have one sum. For
+/// SipHashes a pair can be found, and no more than a few.
+#[derive(Clone, Copy)]
+pub(crate) enum Coding {
+    /// By sums, by this key.
+    Sums(u64),
+    /// By SipHashes.
+    Sips,
+}
+
+/// The code of a set of atoms below a bound.
+pub(crate) fn code_by<A: Sought>(coding: Coding, held: &A, atoms: u32) -> u64
+    requires { IsBelow atoms (A.has held.now) }
+    ensures { IsCodeBy coding (A.has held.now) result }
+{
+    match coding {
+        Coding::Sums(key) => held.code(key, atoms),
+        Coding::Sips => held.sip(atoms),
+    }
+}
+
+/// Whether a set whose states were told apart by sums by this key may be entered by the coding.
+pub(crate) fn tells_apart(coding: Coding, key: u64) -> bool {
+    match coding {
+        Coding::Sums(plain) => plain == key,
+        Coding::Sips => true,
+    }
+}
