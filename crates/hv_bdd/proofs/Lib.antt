@@ -17,7 +17,10 @@ pub mod Sought
 pub mod Stacked
 pub mod Counted
 pub mod Tripled
-pub mod Turned
-pub mod Waiting
+pub mod Deferred
+pub mod Parted
 pub mod Prefixed
+pub mod Joined
 pub mod OneAnswer
+pub mod Advanced
+pub mod Along

@@ -1,23 +1,22 @@
 -- What a reduced ordered list says of its first nodes: the next one has no fault, and all numbers
 -- are short.
 use Rattle.std.proofs.Common.{◌≡◌, ℕ, zero, suc, ◌<◌, ◌≤◌, ◌+◌, ◌-◌, ◌^◌, ◌∙◌, ◌&&◌, Bool, true}
-use Rattle.std.proofs.Common.{false, List, [], ◌∷◌, ◌++◌, None, Some, cond, eqb, get_or, ltb}
-use Rattle.std.proofs.Common.{length, map, refl, sym, ap, arith, inl, inr, subst}
+use Rattle.std.proofs.Common.{false, List, ◌∷◌, ◌++◌, None, Some, cond, eqb, get_or, ltb}
+use Rattle.std.proofs.Common.{length, refl, sym, ap, arith, inl, inr, subst}
 use Rattle.std.proofs.lemmas.Bool.{and_from, and_parts, cases_lt, eqb-true, lt-ltb, ne_eqb}
 use Rattle.std.proofs.lemmas.List.{get_or_append_left, get_or_at, get_or_default, length-append}
-use Rattle.std.proofs.lemmas.List.Elements.{All-head, All-tail}
 use Rattle.std.proofs.lemmas.List.Folds.{Any-from_list_any}
 use Rattle.std.specs.List.{All, list_any}
 use Rattle.hv_bdd.specs.declared.fault.NodeKind.TheVariants as N
 use Rattle.hv_bdd.specs.declared.node.Node.{Node}
 use Rattle.hv_bdd.specs.Building.{fault_of, is_later, or_twin, same_node}
-use Rattle.hv_bdd.specs.NodeText.{IsTriple, list_over, node_line}
+use Rattle.hv_bdd.specs.Working.NodeText.{list_over}
 use Rattle.hv_bdd.specs.Nodes.{NodeList, node_count}
 use Rattle.hv_bdd.specs.Order.{place}
 use Rattle.hv_bdd.specs.Reduced.{IsReduced, node_at, top}
 use Rattle.hv_bdd.specs.Working.Walking.{top_inner}
 use Rattle.hv_bdd.proofs.Built.{Passes}
-use Rattle.hv_bdd.proofs.Tripled.{one_triple, same_node as node_by_parts}
+use Rattle.hv_bdd.proofs.Tripled.{same_node as node_by_parts}
 
 -- a node that passes the tests has no fault
 pub none_from : (list : NodeList) (node : Node) → Passes list node → fault_of list node ≡ None
@@ -164,45 +163,3 @@ are_short atoms nodes few reduced = λ k d less.
     let low = reduced.low i (omega arith) (omega arith) in
     let high = reduced.high i (omega arith) (omega arith) in
     subst IsShort e record { atom = omega arith; low = omega arith; high = omega arith }
-
-as_triple : (node : Node) (line : List ℕ) → IsShort node → line ≡ node_line node
-    → IsTriple line node
-as_triple node line short e =
-    record { spelled = e; atom = short.atom; low = short.low; high = short.high }
-
--- the same lines are the same nodes
-pub same_nodes : (xs ys : List Node) → All IsShort xs → All IsShort ys
-    → map node_line xs ≡ map node_line ys → xs ≡ ys
-same_nodes [] [] p q e = refl
-same_nodes [] (y ∷ ys) p q e = absurd cc
-same_nodes (x ∷ xs) [] p q e = absurd cc
-same_nodes (x ∷ xs) (y ∷ ys) p q e =
-    let line : node_line x ≡ node_line y = cc in
-    let rest : map node_line xs ≡ map node_line ys = cc in
-    let first : x ≡ y =
-    one_triple (node_line x) x y (as_triple x (node_line x) (All-head IsShort x xs p) refl)
-    (as_triple y (node_line x) (All-head IsShort y ys q) line) in
-    let others = same_nodes xs ys (All-tail IsShort x xs p) (All-tail IsShort y ys q) rest in
-    cc
-
--- where the lines of a longer list go on with this one, it is that of its next node
-pub next_node_of : (xs ys : List Node) (line : List ℕ) (mid : List (List ℕ)) → All IsShort xs
-    → All IsShort ys
-    → map node_line ys ≡ map node_line xs ++ line ∷ mid
-    → (n : Node) × (more : List Node) × (ys ≡ xs ++ n ∷ more) × IsTriple line n
-next_node_of xs [] line mid p q e = absurd (none xs e)
-  where
-    none : (xs : List Node) → [] ≡ map node_line xs ++ line ∷ mid → ⊥
-    none [] e = cc
-    none (x ∷ xs) e = cc
-next_node_of [] (y ∷ ys) line mid p q e =
-    let first : node_line y ≡ line = cc in
-    (y, ys, refl, as_triple y line (All-head IsShort y ys q) (sym first))
-next_node_of (x ∷ xs) (y ∷ ys) line mid p q e =
-    let same : node_line y ≡ node_line x = cc in
-    let rest : map node_line ys ≡ map node_line xs ++ line ∷ mid = cc in
-    let first : x ≡ y =
-    one_triple (node_line x) x y (as_triple x (node_line x) (All-head IsShort x xs p) refl)
-    (as_triple y (node_line x) (All-head IsShort y ys q) (sym same)) in
-    let w = next_node_of xs ys line mid (All-tail IsShort x xs p) (All-tail IsShort y ys q) rest in
-    (w.0, w.1, (let tail = w.2 in cc), w.3)

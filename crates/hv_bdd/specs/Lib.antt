@@ -1,10 +1,12 @@
+pub mod Building
+pub mod Fronts
+pub mod Live
+pub mod NodeFile
+pub mod NodeText
 pub mod Nodes
 pub mod Order
+pub mod Paths
 pub mod Reduced
 pub mod Tuples
-pub mod Live
-pub mod Building
-pub mod Paths
-pub mod NodeText
 pub mod Words
 pub mod Working

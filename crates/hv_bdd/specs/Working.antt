@@ -8,8 +8,10 @@ pub mod Building
 pub mod Chains
 pub mod Paths
 pub mod Turning
-pub mod Reading
+pub mod Listing
+pub mod NodeText
 pub mod Ordered
 pub mod Walking
 pub mod Cubed
 pub mod Laws
+pub mod Fronts

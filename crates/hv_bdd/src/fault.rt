@@ -3,8 +3,9 @@
 ghost use Rattle.std.specs.Prelude.{◌≡◌};
 ghost use Rattle.hv_bdd.specs.declared.fault.NodesFault.TheVariants as F;
 ghost use Rattle.hv_bdd.specs.Words.{kind_word, limit_word};
+ghost use Rattle.hv_bdd.specs.NodeFile.{nodes_fault};
 
-use hv_bytes::Failed;
+use hv_grammar::ParseFault;
 use std::alloc::AllocError;
 use thiserror::Error;
 
@@ -38,6 +39,15 @@ pub enum NodeLimit {
     Long,
 }
 
+/// Why a line of a node file is refused.
+#[derive(Clone, Copy, Debug, PartialEq, Eq)]
+pub enum NodeRefusal {
+    /// What its place expects isn't there.
+    Place(NodeKind),
+    /// The line is there, and passes this limit.
+    Limit(NodeLimit),
+}
+
 /// Why a node file isn't read. Lines are counted from 1; at the end of the input the line is the
 /// one after the last.
 #[derive(Clone, Copy, Debug, PartialEq, Eq, Error)]
@@ -64,11 +74,17 @@ impl From<AllocError> for NodesFault {
     }
 }
 
-impl From<Failed> for NodesFault {
-    ghost from_gives = { λ _ fault. fault ≡ F.ReadFault };
+impl From<ParseFault<NodeRefusal>> for NodesFault {
+    ghost from_gives = { λ given fault. fault ≡ nodes_fault given };
 
-    fn from(_error: Failed) -> NodesFault {
-        NodesFault::ReadFault
+    fn from(given: ParseFault<NodeRefusal>) -> NodesFault {
+        match given {
+            ParseFault::Refused(line, NodeRefusal::Place(kind)) => NodesFault::Place(line, kind),
+            ParseFault::Refused(line, NodeRefusal::Limit(limit)) => NodesFault::Limit(line, limit),
+            ParseFault::Long(line) => NodesFault::Limit(line, NodeLimit::Long),
+            ParseFault::ReadFault => NodesFault::ReadFault,
+            ParseFault::Memory => NodesFault::Memory,
+        }
     }
 }
 

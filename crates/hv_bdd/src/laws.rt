@@ -1,7 +1,9 @@
-//! That a file has one answer, as the contract of a function that does nothing.
+//! That a file has one answer, and what it is, as contracts of functions that do nothing.
 
-ghost use Rattle.std.specs.Prelude.{◌≡◌, ◌<◌, ◌^◌, ℕ, List};
+ghost use Rattle.std.specs.Prelude.{◌≡◌, ◌<◌, ◌+◌, ◌^◌, [], ℕ, List, length};
 ghost use Rattle.hv_bytes.specs.Pieces.{Piece};
+ghost use Rattle.hv_grammar.specs.Parsers.{parsed};
+ghost use Rattle.hv_bdd.specs.NodeFile.{node_file};
 ghost use Rattle.hv_bdd.specs.NodeText.{AreTextOf, IsFirstFault};
 ghost use Rattle.hv_bdd.specs.Nodes.{NodeList};
 ghost use Rattle.hv_bdd.specs.declared.fault.NodesFault.{NodesFault};
@@ -15,4 +17,14 @@ pub fn one_answer()
         → atoms < 2 ^ 32 → AreTextOf atoms pieces list → IsFirstFault atoms pieces fault → ⊥ }
     ensures one_fault { (atoms : ℕ) (pieces : List Piece) (f g : NodesFault)
         → atoms < 2 ^ 32 → IsFirstFault atoms pieces f → IsFirstFault atoms pieces g → f ≡ g }
+{}
+
+/// What comes of a node file is a list exactly where the file is the text of this list.
+pub fn text_by_lines()
+    ensures text { (atoms : ℕ) (pieces : List Piece) (list : NodeList) → atoms < 2 ^ 32
+        → AreTextOf atoms pieces list
+        → node_file atoms 0 pieces ≡ parsed list (length list.nodes + 1) [] }
+    ensures value { (atoms : ℕ) (pieces : List Piece) (list : NodeList) (n : ℕ)
+        (rest : List Piece) → node_file atoms 0 pieces ≡ parsed list n rest
+        → AreTextOf atoms pieces list }
 {}

@@ -1,12 +1,12 @@
 //! The numbers in the lines of a node file.
 
-ghost use Rattle.std.specs.Prelude.{◌≡◌, ℕ, ◌∷◌, [], ◌++◌, List, MatchOption};
+ghost use Rattle.std.specs.Prelude.{◌≡◌};
 ghost use Rattle.hv_bytes.specs.Fields.{cut_fields};
-ghost use Rattle.hv_bdd.specs.Working.Building.{as_node};
-ghost use Rattle.hv_bdd.specs.NodeText.{IsHeader, IsTriple};
-ghost use Rattle.hv_bdd.specs.declared.node.Node.{Node};
+ghost use Rattle.hv_bdd.specs.NodeFile.{node_of_fields, three_numbers};
+ghost use Rattle.hv_bdd.specs.Working.NodeText.{node_of};
 
-use hv_bytes::{read_decimal, split_field};
+use hv_bytes::split_field;
+use hv_grammar::decimal;
 
 /// The three numbers of a line.
 #[derive(Clone, Copy)]
@@ -16,49 +16,27 @@ pub struct Triple {
     pub high: u64,
 }
 
-// What stands behind the word.
-fn behind<'a>(line: &'a [u8], word: &[u8]) -> Option<&'a [u8]>
-    ensures { MatchOption result
-        ((rest : List ℕ) → line.now ≡ word.now ++ rest → ⊥)
-        (λ rest. line.now ≡ word.now ++ rest.now) }
+// The three numbers, where all are there.
+fn three_numbers(atom: Option<u64>, low: Option<u64>, high: Option<u64>) -> Option<Triple>
+    ensures { node_of result ≡ three_numbers atom low high }
 {
-    line.strip_prefix(word)
-}
-
-/// How many nodes the first line says.
-pub fn count_of(line: &[u8]) -> Option<u64>
-    ensures { MatchOption result
-        ((count : ℕ) → IsHeader line.now count → ⊥)
-        (λ count. IsHeader line.now count) }
-{
-    read_decimal(behind(line, b"nodes ")?)
-}
-
-// The fields of a line that has three.
-fn three_fields(line: &[u8]) -> Option<(&[u8], &[u8], &[u8])>
-    ensures { MatchOption result
-        ((a b c : List ℕ) → cut_fields line.now ≡ a ∷ b ∷ c ∷ [] → ⊥)
-        (λ fields. cut_fields line.now ≡ fields.0.now ∷ fields.1.now ∷ fields.2.now ∷ []) }
-{
-    let (first, behind_first) = split_field(line);
-    let (second, behind_second) = split_field(behind_first?);
-    let (third, behind_third) = split_field(behind_second?);
-    if behind_third.is_some() {
-        return None;
-    }
-    Some((first, second, third))
+    let Some(atom) = atom else { return None };
+    let Some(low) = low else { return None };
+    let Some(high) = high else { return None };
+    Some(Triple { atom, low, high })
 }
 
 /// The three decimals of a line.
 pub fn triple_of(line: &[u8]) -> Option<Triple>
-    ensures { MatchOption result
-        ((node : Node) → IsTriple line.now node → ⊥)
-        (λ triple. IsTriple line.now (as_node triple)) }
+    ensures { node_of result ≡ node_of_fields (cut_fields line.now) }
 {
-    let (atom, low, high) = three_fields(line)?;
-    Some(Triple {
-        atom: read_decimal(atom)?,
-        low: read_decimal(low)?,
-        high: read_decimal(high)?,
-    })
+    let (first, behind) = split_field(line);
+    let Some(behind) = behind else { return None };
+    let (second, behind) = split_field(behind);
+    let Some(behind) = behind else { return None };
+    let (third, more) = split_field(behind);
+    match more {
+        Some(_) => None,
+        None => three_numbers(decimal(first), decimal(second), decimal(third)),
+    }
 }

@@ -1,5 +1,6 @@
 //! Nodes walked over and asked about along paths.
 
+use crate::front_ask::FrontAsk;
 use crate::path_walk::PathWalk;
 use crate::set::DiagramSet;
 use hv_paths::{InsideAsk, InsideAsked, InsideWalked, OutsideAsk, OutsideAsked, OutsideWalked};
@@ -26,17 +27,25 @@ impl<'a, 'b: 'a> OutsideWalked<'a> for DiagramSet<'b> {
 }
 
 impl<'a, 'b: 'a> InsideAsked<'a> for DiagramSet<'b> {
-    type Ask = InsideAsk<'a, DiagramSet<'b>>;
+    type Ask = FrontAsk<'b, InsideAsk<'a, DiagramSet<'b>>>;
 
-    fn ask_inside(&'a self, alloc: Global) -> Result<InsideAsk<'a, DiagramSet<'b>>, AllocError> {
-        Ok(InsideAsk::new(alloc, self))
+    fn ask_inside(
+        &'a self,
+        alloc: Global,
+    ) -> Result<FrontAsk<'b, InsideAsk<'a, DiagramSet<'b>>>, AllocError> {
+        let plain = InsideAsk::new(alloc, self);
+        FrontAsk::new(alloc, plain, self.nodes, self.node, true)
     }
 }
 
 impl<'a, 'b: 'a> OutsideAsked<'a> for DiagramSet<'b> {
-    type Ask = OutsideAsk<'a, DiagramSet<'b>>;
+    type Ask = FrontAsk<'b, OutsideAsk<'a, DiagramSet<'b>>>;
 
-    fn ask_outside(&'a self, alloc: Global) -> Result<OutsideAsk<'a, DiagramSet<'b>>, AllocError> {
-        Ok(OutsideAsk::new(alloc, self))
+    fn ask_outside(
+        &'a self,
+        alloc: Global,
+    ) -> Result<FrontAsk<'b, OutsideAsk<'a, DiagramSet<'b>>>, AllocError> {
+        let plain = OutsideAsk::new(alloc, self);
+        FrontAsk::new(alloc, plain, self.nodes, self.node, false)
     }
 }

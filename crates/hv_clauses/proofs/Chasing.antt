@@ -18,8 +18,7 @@ use Rattle.hv_sets.specs.Truth.{in_clause, in_clauses, in_literal}
 use Rattle.hv_clauses.specs.Rows.{IsRow}
 use Rattle.hv_clauses.specs.Working.Signed.{StandsAs}
 use Rattle.hv_clauses.specs.Working.Chase.{AreKept, IsApart, IsFollowed, IsKept}
-use Rattle.hv_clauses.specs.Working.Choices.{clause_at}
-use Rattle.hv_clauses.specs.Clausal.{AreClauses}
+use Rattle.hv_clauses.specs.Clausal.{clause_at, AreClauses}
 use Rattle.hv_clauses.specs.Denial.{names_literal}
 use Rattle.hv_clauses.specs.Working.Laws.{names_literal-Decides}
 use Rattle.hv_clauses.specs.Marks.{known, over}

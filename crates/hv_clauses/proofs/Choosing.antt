@@ -18,8 +18,8 @@ use Rattle.hv_sets.specs.Cost.{choices_of, clauses_of}
 use Rattle.hv_sets.specs.Cubes.{SpeakBelow}
 use Rattle.hv_sets.specs.Query.{in_which}
 use Rattle.hv_sets.specs.Truth.{in_clause, in_clauses, in_literal}
-use Rattle.hv_clauses.specs.Working.Choices.{AreChosenFalse, Breaks, clause_at}
-use Rattle.hv_clauses.specs.Clausal.{AreClauses, tests_of, sizes_of}
+use Rattle.hv_clauses.specs.Clausal.{clause_at, AreClauses, tests_of, sizes_of}
+use Rattle.hv_clauses.specs.Working.Choices.{AreChosenFalse, Breaks}
 use Rattle.hv_clauses.specs.Working.Clausal.{clauses_in, late}
 use Rattle.hv_clauses.specs.Marks.{over}
 use Rattle.hv_clauses.specs.Working.Marks.{Agrees, KeepsKnown}

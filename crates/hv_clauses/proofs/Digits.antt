@@ -14,13 +14,13 @@ use Rattle.hv_sets.specs.declared.operand.Operand.{Operand}
 use Rattle.hv_sets.specs.declared.query.Query.{Query}
 use Rattle.hv_sets.specs.Cost.{choices_of, clauses_of}
 use Rattle.hv_sets.specs.Query.{IsNamed}
-use Rattle.hv_clauses.specs.Working.Choices.{AreChosenFalse, Breaks, clause_at}
-use Rattle.hv_clauses.specs.Clausal.{sizes_of}
+use Rattle.hv_clauses.specs.Clausal.{clause_at, sizes_of}
+use Rattle.hv_clauses.specs.Working.Choices.{AreChosenFalse, Breaks}
 use Rattle.hv_clauses.specs.Working.Clausal.{InAll, clauses_in, late}
 use Rattle.hv_clauses.specs.Working.Completion.{IsCompleted}
 use Rattle.hv_clauses.specs.Working.Found.{IsBased, IsMet}
 use Rattle.hv_clauses.specs.Working.Front.{AreRefuted, FitsFrom, IsAdvanced, IsFront, IsNever}
-use Rattle.hv_clauses.specs.Working.Front.{MissesClause, block_end, block_size}
+use Rattle.hv_clauses.specs.Working.Front.{MissesClause, block_end, block_length}
 use Rattle.hv_clauses.specs.Working.Marks.{Agrees}
 use Rattle.hv_clauses.specs.Working.Problem.{AreAllLeft, FitsChoice}
 use Rattle.hv_clauses.specs.Working.Trail.{Grows, Knowledge, marks_of}
@@ -252,7 +252,7 @@ module _ (task : Strips) (sizes : ℕ → ℕ) (os : List Operand) (place : ℕ)
 module _ (task : Strips) (formulas : ℕ → List (List Literal)) (effect : List ℕ) (query : Query)
   where
     block_total : (place : ℕ) → choices_of task (sizes_of formulas) query.negative
-        ≡ block_size task formulas query place * choices_of task (sizes_of formulas)
+        ≡ block_length task formulas query place * choices_of task (sizes_of formulas)
         (drop place query.negative)
     block_total place =
         ap (choices_of task (sizes_of formulas)) (sym (take-append-drop place query.negative))
@@ -261,31 +261,31 @@ module _ (task : Strips) (formulas : ℕ → List (List Literal)) (effect : List
 
     -- all choices are in one block
     pub block_whole : (size : ℕ) → length query.negative ≤ size
-        → choices_of task (sizes_of formulas) query.negative ≡ block_size task formulas query size
+        → choices_of task (sizes_of formulas) query.negative ≡ block_length task formulas query size
     block_whole size past =
         block_total size
-        ∙ (ap (λ os. block_size task formulas query size * choices_of task (sizes_of formulas) os)
+        ∙ (ap (λ os. block_length task formulas query size * choices_of task (sizes_of formulas) os)
         (drop_all size query.negative past)
-        ∙ mul-one (block_size task formulas query size))
+        ∙ mul-one (block_length task formulas query size))
 
     pub block_some : (place : ℕ) → 0 < choices_of task (sizes_of formulas) query.negative
-        → 0 < block_size task formulas query place
+        → 0 < block_length task formulas query place
     block_some place some =
-        elim (cases_lt 0 (block_size task formulas query place)) [
+        elim (cases_lt 0 (block_length task formulas query place)) [
           | inl less ↦ less
           | inr none ↦
               let rest = choices_of task (sizes_of formulas) (drop place query.negative) in
-              let zero_size : block_size task formulas query place ≡ 0 = omega arith in
+              let zero_size : block_length task formulas query place ≡ 0 = omega arith in
               let no : choices_of task (sizes_of formulas) query.negative
               ≡ 0 * rest = block_total place ∙ ap (λ n. n * rest) zero_size in
               absurd (omega arith)
         ]
 
     pub block_within : (place next : ℕ) → next < choices_of task (sizes_of formulas) query.negative
-        → block_end next (block_size task formulas query place)
+        → block_end next (block_length task formulas query place)
         ≤ choices_of task (sizes_of formulas) query.negative
     block_within place next less =
-        let size = block_size task formulas query place in
+        let size = block_length task formulas query place in
         let rest = choices_of task (sizes_of formulas) (drop place query.negative) in
         let bound = end_within next size rest (block_some place (omega arith))
         (omega (arith, less, block_total place)) in
@@ -312,15 +312,15 @@ module _ (task : Strips) (formulas : ℕ → List (List Literal)) (effect : List
       below = omega (arith, is, less);
       refuted = refuted_none task formulas effect query number;
       front = subst (λ n. IsFront task formulas effect query n
-          (number / block_size task formulas query size) k) (sym whole)
-          (front_start task formulas effect query (number / block_size task formulas query size) k
+          (number / block_length task formulas query size) k) (sym whole)
+          (front_start task formulas effect query (number / block_length task formulas query size) k
           based);
     }
 
     -- The clauses of the operand at a place, one after the other.
     module _ (place next part count : ℕ) (o : Operand)
         (here : slice_get query.negative place ≡ Some o)
-        (part_eq : part ≡ block_size task formulas query place)
+        (part_eq : part ≡ block_length task formulas query place)
         (count_eq : count ≡ clauses_of task (sizes_of formulas) o.which)
         (less : next < choices_of task (sizes_of formulas) query.negative) where
       some_choices : 0 < choices_of task (sizes_of formulas) query.negative
@@ -334,7 +334,7 @@ module _ (task : Strips) (formulas : ℕ → List (List Literal)) (effect : List
       open_count = subst (λ n. 0 < n) (sym count_eq)
           (count_some task (sizes_of formulas) query.negative place o here some_choices)
 
-      block_of : block_size task formulas query (place + 1) ≡ part * count
+      block_of : block_length task formulas query (place + 1) ≡ part * count
       block_of = block_is task (sizes_of formulas) query.negative place o here
           ∙ ap₂ (λ a b. a * b) (sym part_eq) (sym count_eq)
 
@@ -361,7 +361,7 @@ module _ (task : Strips) (formulas : ℕ → List (List Literal)) (effect : List
           (choices_of task (sizes_of formulas) query.negative) total_of less rest within
 
       pub open_front : (rest : ℕ) → next / part ≤ rest → rest < (next / part / count + 1) * count
-          → next / block_size task formulas query (place + 1)
+          → next / block_length task formulas query (place + 1)
           ≡ rest / clauses_of task (sizes_of formulas) o.which
       open_front rest ahead within =
           ap (λ n. next / n) block_of
@@ -413,10 +413,10 @@ module _ (task : Strips) (formulas : ℕ → List (List Literal)) (effect : List
 
       pub open_refuted : (end : ℕ) → (next / part / count + 1) * count ≤ end → NoneBefore end
           → AreRefuted task formulas effect query next
-          (block_end next (block_size task formulas query (place + 1)))
+          (block_end next (block_length task formulas query (place + 1)))
       open_refuted end past none number low high state size fits =
           let q = next / (part * count) in
-          let same : block_end next (block_size task formulas query (place + 1))
+          let same : block_end next (block_length task formulas query (place + 1))
           ≡ (q + 1) * (part * count) = ap (λ n. (next / n + 1) * n) block_of in
           let turned : (next / part / count + 1) * count * part ≡ (q + 1) * count * part =
           ap (λ n. (n + 1) * count * part) (front_is next part count open_part open_count) in

@@ -31,3 +31,8 @@ pub mod Starting
 pub mod Blocks
 pub mod Digits
 pub mod Asking
+pub mod Walked
+pub mod Rest
+pub mod Mated
+pub mod Ordering
+pub mod Truths

@@ -13,8 +13,7 @@ use Rattle.hv_sets.specs.declared.operand.Which.TheVariants as W
 use Rattle.hv_sets.specs.Query.{in_which}
 use Rattle.hv_sets.specs.Truth.{in_clause, in_literal, is_same}
 use Rattle.hv_clauses.specs.Working.Chase.{AreKept, IsFollowed}
-use Rattle.hv_clauses.specs.Working.Choices.{clause_at}
-use Rattle.hv_clauses.specs.Clausal.{tests_of}
+use Rattle.hv_clauses.specs.Clausal.{clause_at, tests_of}
 use Rattle.hv_clauses.specs.Working.Clausal.{InAll, clauses_in, clauses_of_state, late}
 use Rattle.hv_clauses.specs.Kinded.{IsShort}
 use Rattle.hv_clauses.specs.Marks.{over}

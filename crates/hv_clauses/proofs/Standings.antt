@@ -14,7 +14,7 @@ use Rattle.hv_clauses.specs.declared.rows.Head.{Head}
 use Rattle.hv_clauses.specs.Implied.{IsPair}
 use Rattle.hv_clauses.specs.Negative.{StandsNegatively}
 use Rattle.hv_clauses.specs.Rows.{IsRow}
-use Rattle.hv_clauses.specs.Working.Choices.{clause_at}
+use Rattle.hv_clauses.specs.Clausal.{clause_at}
 use Rattle.hv_clauses.specs.Working.Occurrences.{AreBeside, AreOccurrences, AreStanding, IsBeside}
 use Rattle.hv_clauses.specs.Working.Occurrences.{IsIndexOf, entry_or_none, no_literal}
 use Rattle.hv_clauses.specs.Working.Rows.{AreCoded, AreHeads, IsEndBefore, place_of_code}

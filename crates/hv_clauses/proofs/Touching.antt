@@ -16,8 +16,8 @@ use Rattle.hv_sets.specs.Cost.{choices_of, clauses_of}
 use Rattle.hv_sets.specs.Cubes.{SpeakBelow}
 use Rattle.hv_sets.specs.Names.{AsksAbout}
 use Rattle.hv_sets.specs.Truth.{in_clause}
-use Rattle.hv_clauses.specs.Working.Choices.{Breaks, clause_at}
-use Rattle.hv_clauses.specs.Clausal.{sizes_of}
+use Rattle.hv_clauses.specs.Clausal.{clause_at, sizes_of}
+use Rattle.hv_clauses.specs.Working.Choices.{Breaks}
 use Rattle.hv_clauses.specs.Working.Clausal.{clauses_in, late}
 use Rattle.hv_clauses.specs.Working.Found.{IsFramed, IsMetAmong, IsMetBelow}
 use Rattle.hv_clauses.specs.Marks.{known, over}

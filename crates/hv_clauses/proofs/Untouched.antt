@@ -12,7 +12,7 @@ use Rattle.hv_task.specs.State.{has_atom}
 use Rattle.hv_sets.specs.declared.literal.Literal.{Literal}
 use Rattle.hv_clauses.specs.Working.Base.{AreSettledBut, put_unless, untouched}
 use Rattle.hv_clauses.specs.Working.Chase.{AreKept, IsKept}
-use Rattle.hv_clauses.specs.Working.Choices.{clause_at}
+use Rattle.hv_clauses.specs.Clausal.{clause_at}
 use Rattle.hv_clauses.specs.Marks.{known, over}
 use Rattle.hv_clauses.specs.Working.Marks.{Agrees, mark_for}
 use Rattle.hv_clauses.specs.Working.Trail.{Knowledge, marked, written}

@@ -25,3 +25,6 @@ pub mod Front
 pub mod Touched
 pub mod Room
 pub mod Asking
+pub mod Walked
+pub mod Rest
+pub mod Mates

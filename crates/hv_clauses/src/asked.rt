@@ -18,7 +18,7 @@ use crate::constraint::Constraint;
 use crate::formula::Formula;
 use crate::trail::Marks;
 use hv_paths::Asker;
-use hv_sets::{Literal, Scratch};
+use hv_sets::{Literal, Scratch, StateSet};
 use hv_task::State;
 use std::alloc::{AllocError, Global};
 
@@ -122,6 +122,12 @@ impl<'a, K: ClauseKind> Asker for FormulaAsk<'a, K> {
         let _ = alloc;
         scratch.reserve(self.set.atoms(), 0, 0)?;
         Ok(complete_in(self.set, &mut self.marks, &mut scratch.state))
+    }
+
+    fn wants(&mut self, alloc: Global, held: &[u32], state: &State) -> Result<bool, AllocError> {
+        let _ = alloc;
+        let _ = held;
+        Ok(self.set.holds(state))
     }
 }
 

@@ -7,13 +7,11 @@ ghost use Rattle.std.specs.Prelude.{MatchOption, false, true, length, slice_get}
 ghost use Rattle.hv_task.specs.Strips.{atoms};
 ghost use Rattle.hv_sets.specs.Cost.{choices_of, clauses_of};
 ghost use Rattle.hv_sets.specs.Query.{IsNamed};
-ghost use Rattle.hv_clauses.specs.Working.Choices.{clause_at};
-ghost use Rattle.hv_clauses.specs.Clausal.{sizes_of};
+ghost use Rattle.hv_clauses.specs.Clausal.{clause_at, sizes_of};
 ghost use Rattle.hv_clauses.specs.Working.Clausal.{InAll, clauses_in, late};
 ghost use Rattle.hv_clauses.specs.Working.Found.{IsBased, IsMet, IsMetBelow, IsPosed};
 ghost use Rattle.hv_clauses.specs.Working.Front.{AreRefuted, IsAdvanced, IsFront, IsNever};
-ghost use Rattle.hv_clauses.specs.Working.Front.{MissesClause};
-ghost use Rattle.hv_clauses.specs.Working.Front.{block_end, block_size};
+ghost use Rattle.hv_clauses.specs.Working.Front.{MissesClause, block_end, block_length};
 ghost use Rattle.hv_clauses.specs.Working.Marks.{Agrees};
 ghost use Rattle.hv_clauses.specs.Working.Problem.{AreAllLeft, FitsChoice};
 ghost use Rattle.hv_clauses.specs.Store.{formula_at};
@@ -152,15 +150,15 @@ fn first_open<K: ClauseKind>(
         (sizes_of (formula_at problem.now.store.now)) problem.now.query.now.negative }
     requires few { choices_of problem.now.task.now (sizes_of (formula_at problem.now.store.now))
         problem.now.query.now.negative < 2 ^ 64 }
-    requires part { part ≡ block_size problem.now.task.now (formula_at problem.now.store.now)
+    requires part { part ≡ block_length problem.now.task.now (formula_at problem.now.store.now)
         problem.now.query.now place }
     requires front { IsFront problem.now.task.now (formula_at problem.now.store.now)
-        problem.now.effect.now problem.now.query.now (place + 1) (next / block_size
+        problem.now.effect.now problem.now.query.now (place + 1) (next / block_length
         problem.now.task.now (formula_at problem.now.store.now) problem.now.query.now (place + 1))
         marks.old }
     ensures open { MatchOption result (AreRefuted problem.now.task.now
         (formula_at problem.now.store.now) problem.now.effect.now problem.now.query.now next
-        (block_end next (block_size problem.now.task.now (formula_at problem.now.store.now)
+        (block_end next (block_length problem.now.task.now (formula_at problem.now.store.now)
         problem.now.query.now (place + 1))))
         (λ found. IsAdvanced problem.now.task.now (formula_at problem.now.store.now)
         problem.now.effect.now problem.now.query.now place next found marks.new) }

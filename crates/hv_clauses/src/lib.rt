@@ -2,6 +2,7 @@
 #![tactic(auto)]
 
 mod alone;
+mod arranged;
 mod asked;
 mod base;
 mod beside;
@@ -9,6 +10,7 @@ mod change;
 mod chase;
 mod choices;
 pub mod clause_kind;
+pub mod clause_walk;
 mod closure;
 mod complete;
 pub mod completion;
@@ -22,13 +24,17 @@ pub mod formulas;
 mod frame;
 mod fronts;
 mod implied;
+pub mod listed_ask;
 pub mod listing;
 mod lists;
 mod literals;
 mod look;
+mod mates;
 mod occurrences;
 mod paths;
 mod problem;
+mod ranking;
+pub mod rest_ask;
 mod room;
 mod rows;
 mod signed;
@@ -38,7 +44,10 @@ mod trail;
 mod turned;
 
 pub use clause_kind::ClauseKind;
+pub use clause_walk::ClauseWalk;
 pub use completion::Completion;
 pub use formula::Formula;
 pub use formulas::Formulas;
+pub use listed_ask::ListedAsk;
 pub use listing::Listing;
+pub use rest_ask::RestAsk;

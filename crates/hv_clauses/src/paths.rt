@@ -2,30 +2,42 @@
 
 use crate::asked::FormulaAsk;
 use crate::clause_kind::ClauseKind;
+use crate::clause_walk::ClauseWalk;
 use crate::formula::Formula;
-use hv_paths::{InsideAsked, OutsideAsk, OutsideAsked, OutsideWalk, OutsideWalked};
+use crate::listed_ask::ListedAsk;
+use crate::rest_ask::RestAsk;
+use hv_paths::{InsideAsked, OutsideAsk, OutsideAsked, OutsideWalked};
 use std::alloc::{AllocError, Global};
 
 impl<'a, K: ClauseKind + 'a> OutsideWalked<'a> for Formula<K> {
-    type Walk = OutsideWalk<'a, Formula<K>>;
+    type Walk = ClauseWalk<'a, K>;
 
-    fn walk_outside(&'a self, alloc: Global) -> Result<OutsideWalk<'a, Formula<K>>, AllocError> {
-        Ok(OutsideWalk::new(alloc, self))
+    fn walk_outside(&'a self, alloc: Global) -> Result<ClauseWalk<'a, K>, AllocError> {
+        ClauseWalk::new(alloc, self)
     }
 }
 
 impl<'a, K: ClauseKind + 'a> InsideAsked<'a> for Formula<K> {
-    type Ask = FormulaAsk<'a, K>;
+    type Ask = ListedAsk<'a, K, FormulaAsk<'a, K>>;
 
-    fn ask_inside(&'a self, alloc: Global) -> Result<FormulaAsk<'a, K>, AllocError> {
-        FormulaAsk::new(alloc, self)
+    fn ask_inside(
+        &'a self,
+        alloc: Global,
+    ) -> Result<ListedAsk<'a, K, FormulaAsk<'a, K>>, AllocError> {
+        let asked = FormulaAsk::new(alloc, self)?;
+        Ok(ListedAsk::new(alloc, asked, self, true))
     }
 }
 
 impl<'a, K: ClauseKind + 'a> OutsideAsked<'a> for Formula<K> {
-    type Ask = OutsideAsk<'a, Formula<K>>;
+    type Ask = ListedAsk<'a, K, RestAsk<'a, K, OutsideAsk<'a, Formula<K>>>>;
 
-    fn ask_outside(&'a self, alloc: Global) -> Result<OutsideAsk<'a, Formula<K>>, AllocError> {
-        Ok(OutsideAsk::new(alloc, self))
+    fn ask_outside(
+        &'a self,
+        alloc: Global,
+    ) -> Result<ListedAsk<'a, K, RestAsk<'a, K, OutsideAsk<'a, Formula<K>>>>, AllocError> {
+        let plain = OutsideAsk::new(alloc, self);
+        let asked = RestAsk::new(alloc, plain, self);
+        Ok(ListedAsk::new(alloc, asked, self, false))
     }
 }

@@ -2,14 +2,13 @@
 //! each key begin. On the way there a key and a number have a code: the key times 2^32 plus the
 //! number.
 
-ghost use Rattle.std.specs.Prelude.{◌≡◌, ◌<◌, ◌≤◌, ◌↔◌, ℕ, List, length, map};
-ghost use Rattle.std.specs.Prelude.{IfOk, OnOk, slice_index_or};
+ghost use Rattle.std.specs.Prelude.{◌≡◌, ◌<◌, ◌≤◌, ◌↔◌, ℕ, List, length, map, true, IfOk, OnOk};
+ghost use Rattle.std.specs.Prelude.{slice_index_or};
 ghost use Rattle.std.specs.List.{Contains};
 ghost use Rattle.std.specs.List.Sorted.{IsNonDecreasingBy, IsStrictlyIncreasing};
 ghost use Rattle.hv_clauses.specs.declared.rows.Head.{Head};
 ghost use Rattle.hv_clauses.specs.Working.Rows.{AreHeads, HasHeads, IsEndBefore, IsPartOf};
-ghost use Rattle.hv_clauses.specs.Working.Rows.{PutsHead};
-ghost use Rattle.hv_clauses.specs.Working.Rows.{code, key_of, place_of_code};
+ghost use Rattle.hv_clauses.specs.Working.Rows.{PutsHead, code, key_of, place_of_code};
 
 use std::alloc::{AllocError, Global};
 
@@ -50,8 +49,23 @@ pub(crate) fn sort(codes: &mut Vec<usize>)
     ensures rises { IsStrictlyIncreasing codes.new.items }
     ensures has { (c : ℕ) → Contains codes.new.items c ↔ Contains codes.old.items c }
 {
+    if do_rise(codes) {
+        return;
+    }
     codes.sort_unstable();
     codes.dedup();
+}
+
+// Whether the codes are in order, each once.
+fn do_rise(codes: &[usize]) -> bool
+    ensures { result ≡ true → IsStrictlyIncreasing codes.now }
+{
+    for place in 1..codes.len() {
+        if codes[place - 1] >= codes[place] {
+            return false;
+        }
+    }
+    true
 }
 
 // Leaves the number of each code.

@@ -6,8 +6,7 @@ ghost use Rattle.hv_sets.specs.declared.literal.Literal.{Literal};
 ghost use Rattle.hv_sets.specs.Truth.{in_clauses};
 ghost use Rattle.hv_clauses.specs.Working.Base.{AreSettledBut};
 ghost use Rattle.hv_clauses.specs.Working.Chase.{AreKept, IsFollowed, IsKept};
-ghost use Rattle.hv_clauses.specs.Working.Choices.{clause_at};
-ghost use Rattle.hv_clauses.specs.Clausal.{AreClauses};
+ghost use Rattle.hv_clauses.specs.Clausal.{clause_at, AreClauses};
 ghost use Rattle.hv_clauses.specs.Marks.{known, over};
 ghost use Rattle.hv_clauses.specs.Working.Occurrences.{IsIndexOf};
 

@@ -1,2 +1,4 @@
 pub mod Filled
 pub mod Fronts
+pub mod Stops
+pub mod Taken

@@ -2,12 +2,14 @@
 
 ghost use Rattle.std.specs.Prelude.{◌≡◌, ◌<◌, ◌++◌, ◌∷◌, [], ℕ, Bool, true, false, List, length};
 ghost use Rattle.std.specs.Prelude.{take, IfOk, OnOk};
+ghost use Rattle.hv_task.specs.State.{AreBelow, state_of};
 ghost use Rattle.hv_sets.specs.Room.{KeepsLengths};
-ghost use Rattle.hv_sets.specs.Walks.{Meets};
+ghost use Rattle.hv_sets.specs.Walks.{IsStateOf, Meets};
 ghost use Rattle.hv_sets.specs.declared.literal.Literal.{Literal};
 ghost use Rattle.hv_paths.specs.Along.{IsBarren};
 
 use hv_sets::{Literal, Scratch};
+use hv_task::State;
 use std::alloc::{AllocError, Global};
 
 /// The question whether some state that is looked for is in a cube. The literals of the cube are
@@ -71,4 +73,17 @@ pub trait Asker {
         ensures atoms { atoms self.new ≡ atoms self.old }
         ensures wanted { (s : List Bool) → wanted self.new s ≡ wanted self.old s }
         ensures lengths { KeepsLengths scratch.old scratch.new };
+
+    /// Whether a state is one of those that are looked for. It holds just the atoms that are
+    /// listed.
+    fn wants(&mut self, alloc: Global, held: &[u32], state: &State) -> Result<bool, AllocError>
+        requires stands { stands self.old }
+        requires below { AreBelow (atoms self.old) held.now }
+        requires size { IsStateOf (atoms self.old) state.now }
+        requires state { state.now ≡ state_of (atoms self.old) held.now }
+        ensures wants { IfOk result (λ yes. yes ≡ wanted self.old state.now) }
+        ensures stands { OnOk result (stands self.new) }
+        ensures assumed { OnOk result (assumed self.new ≡ assumed self.old) }
+        ensures atoms { atoms self.new ≡ atoms self.old }
+        ensures wanted { (s : List Bool) → wanted self.new s ≡ wanted self.old s };
 }

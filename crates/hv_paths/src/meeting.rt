@@ -2,14 +2,16 @@
 
 ghost use Rattle.std.specs.Prelude.{◌≡◌, ◌≤◌, ℕ, Bool, true, false, [], List, length, take, IfOk};
 ghost use Rattle.std.specs.Prelude.{OnOk};
+ghost use Rattle.hv_task.specs.State.{AreBelow, state_of};
 ghost use Rattle.hv_sets.specs.Cubes.{SpeakBelow};
 ghost use Rattle.hv_sets.specs.Room.{KeepsLengths};
-ghost use Rattle.hv_sets.specs.Walks.{Meets};
+ghost use Rattle.hv_sets.specs.Walks.{IsStateOf, Meets};
 ghost use Rattle.hv_paths.specs.Along.{IsBarren, MeetsSome};
 
 use crate::asker::Asker;
-use crate::walker::Walker;
+use crate::walker::{Stop, Walker};
 use hv_sets::{Literal, Scratch};
+use hv_task::State;
 use std::alloc::{AllocError, Global};
 
 /// Whether some state that is looked for is in a cube of the walk. One such state then stands in
@@ -32,12 +34,79 @@ pub fn meet_along<W: Walker, A: Asker>(
         match walk.advance()? {
             None => return Ok(false),
             Some(kept) => {
-                if follow(alloc, walk.path(), kept, asked, scratch)? {
+                if stop_at(alloc, walk, kept, asked, scratch)? {
                     return Ok(true);
                 }
             }
         }
     }
+}
+
+// Whether a state that is looked for is in the cube at which the walk stands. What is assumed is of
+// the cube before, and so many of its literals stay.
+#[tactic(auto, using(crate::proofs::Stops::alone_meets))]
+fn stop_at<W: Walker, A: Asker>(
+    alloc: Global,
+    walk: &W,
+    kept: usize,
+    asked: &mut A,
+    scratch: &mut Scratch,
+) -> Result<bool, AllocError>
+    requires atoms { W.atoms walk.now ≡ A.atoms asked.old }
+    requires walk { W.stands walk.now }
+    requires stands { A.stands asked.old }
+    requires room { kept ≤ length (W.path walk.now) }
+    requires front { take kept (A.assumed asked.old)
+        ≡ take (length (A.assumed asked.old)) (take kept (W.path walk.now)) }
+    ensures stands { OnOk result (A.stands asked.new) }
+    ensures front { OnOk result (A.assumed asked.new
+        ≡ take (length (A.assumed asked.new)) (W.path walk.now)) }
+    ensures meets { IfOk result (λ yes. Meets yes (A.atoms asked.old) (A.wanted asked.old)
+        (W.path walk.now) scratch.new.state) }
+    ensures atoms { A.atoms asked.new ≡ A.atoms asked.old }
+    ensures wanted { (s : List Bool) → A.wanted asked.new s ≡ A.wanted asked.old s }
+    ensures lengths { KeepsLengths scratch.old scratch.new }
+{
+    match walk.stop() {
+        Stop::Cube(path) => follow(alloc, path, kept, asked, scratch),
+        Stop::State(held, state) => {
+            let yes = look(alloc, held, state, kept, asked, scratch)?;
+            Ok(yes)
+        }
+    }
+}
+
+// Whether the state, which holds just these atoms, is one that is looked for. So many literals of
+// what is assumed stay.
+fn look<A: Asker>(
+    alloc: Global,
+    held: &[u32],
+    state: &State,
+    kept: usize,
+    asked: &mut A,
+    scratch: &mut Scratch,
+) -> Result<bool, AllocError>
+    requires stands { A.stands asked.old }
+    requires below { AreBelow (A.atoms asked.old) held.now }
+    requires size { IsStateOf (A.atoms asked.old) state.now }
+    requires state { state.now ≡ state_of (A.atoms asked.old) held.now }
+    ensures stands { OnOk result (A.stands asked.new) }
+    ensures assumed { OnOk result (A.assumed asked.new ≡ take kept (A.assumed asked.old)) }
+    ensures wants { IfOk result (λ yes. yes ≡ A.wanted asked.old state.now) }
+    ensures state { IfOk result (λ yes. yes ≡ true → scratch.new.state ≡ state.now) }
+    ensures atoms { A.atoms asked.new ≡ A.atoms asked.old }
+    ensures wanted { (s : List Bool) → A.wanted asked.new s ≡ A.wanted asked.old s }
+    ensures lengths { KeepsLengths scratch.old scratch.new }
+{
+    if asked.depth() > kept {
+        asked.take_back(kept);
+    }
+    if !asked.wants(alloc, held, state)? {
+        return Ok(false);
+    }
+    scratch.reserve(state.atoms(), 0, 0)?;
+    scratch.state.copy_from(state);
+    Ok(true)
 }
 
 // Whether a state that is looked for is in the cube. What is assumed is of the cube before, and so

@@ -7,6 +7,7 @@ ghost use Rattle.hv_sets.specs.Cubes.{SpeakBelow};
 use crate::asker::Asker;
 use crate::filling::fill;
 use hv_sets::{Cube, Literal, Scratch, StateSet};
+use hv_task::State;
 use std::alloc::{AllocError, Global};
 
 /// The question whether some state of a set is in a cube.
@@ -67,5 +68,11 @@ impl<'a, R: StateSet> Asker for InsideAsk<'a, R> {
             return Ok(false);
         }
         self.set.meets(alloc, &self.cube, scratch)
+    }
+
+    fn wants(&mut self, alloc: Global, held: &[u32], state: &State) -> Result<bool, AllocError> {
+        let _ = alloc;
+        let _ = held;
+        Ok(self.set.holds(state))
     }
 }

@@ -7,6 +7,7 @@ ghost use Rattle.hv_sets.specs.Cubes.{SpeakBelow};
 use crate::asker::Asker;
 use crate::filling::fill;
 use hv_sets::{Covering, Cube, Literal, Scratch};
+use hv_task::State;
 use std::alloc::{AllocError, Global};
 
 /// The question whether some state outside a set is in a cube.
@@ -68,5 +69,11 @@ impl<'a, R: Covering> Asker for OutsideAsk<'a, R> {
         }
         let covered = self.set.covers(alloc, &self.cube, scratch)?;
         Ok(!covered)
+    }
+
+    fn wants(&mut self, alloc: Global, held: &[u32], state: &State) -> Result<bool, AllocError> {
+        let _ = alloc;
+        let _ = held;
+        Ok(!self.set.holds(state))
     }
 }

@@ -6,8 +6,8 @@ ghost use Rattle.hv_sets.specs.Walks.{in_cubes, IsStateOf};
 ghost use Rattle.hv_paths.specs.Along.{cubes_of};
 ghost use Rattle.hv_paths.specs.Working.Along.{TakesNext};
 
-use crate::walker::Walker;
-use hv_sets::{Cube, Cursor, Inside, Literal, Outside, Step};
+use crate::walker::{Stop, Walker};
+use hv_sets::{Cube, Cursor, Inside, Outside, Step};
 use std::alloc::{AllocError, Global};
 
 /// The walk over the cubes of a set by its steps.
@@ -51,8 +51,8 @@ impl<'a, L: Inside> Walker for InsideWalk<'a, L> {
         }
     }
 
-    fn path(&self) -> &[Literal] {
-        self.cube.as_slice()
+    fn stop(&self) -> Stop<'_> {
+        Stop::Cube(self.cube.as_slice())
     }
 }
 
@@ -100,8 +100,8 @@ impl<'a, R: Outside> Walker for OutsideWalk<'a, R> {
         }
     }
 
-    fn path(&self) -> &[Literal] {
-        self.cube.as_slice()
+    fn stop(&self) -> Stop<'_> {
+        Stop::Cube(self.cube.as_slice())
     }
 }
 

@@ -1,12 +1,19 @@
 //! Walks over cubes.
 
-ghost use Rattle.std.specs.Prelude.{◌≡◌, ℕ, List, IfOk, IfSome};
-ghost use Rattle.hv_sets.specs.Cubes.{SpeakBelow};
+ghost use Rattle.std.specs.Prelude.{ℕ, List, IfOk, IfSome, ◌≡◌};
 ghost use Rattle.hv_sets.specs.declared.literal.Literal.{Literal};
-ghost use Rattle.hv_paths.specs.Along.{TakesPath};
+ghost use Rattle.hv_paths.specs.Along.{IsStop, TakesPath};
 
 use hv_sets::Literal;
+use hv_task::State;
 use std::alloc::AllocError;
+
+/// Where a walk stands: at a cube, by its literals; or at one state alone, by the atoms that it
+/// holds and as a state.
+pub enum Stop<'a> {
+    Cube(&'a [Literal]),
+    State(&'a [u32], &'a State),
+}
 
 /// A walk over cubes, each written in the order of the walk. Many begin as the one before.
 pub trait Walker {
@@ -31,9 +38,8 @@ pub trait Walker {
         ensures stands { IfOk result (λ kept. IfSome kept (λ _. stands self.new)) }
         ensures atoms { atoms self.new ≡ atoms self.old };
 
-    /// The cube of the last step.
-    fn path(&self) -> &[Literal]
+    /// Where the walk stands after the last step.
+    fn stop(&self) -> Stop<'_>
         requires { stands self.now }
-        ensures path { result.now ≡ path self.now }
-        ensures below { SpeakBelow (atoms self.now) result.now };
+        ensures { IsStop (atoms self.now) (path self.now) result };
 }

@@ -1,7 +1,6 @@
 -- Choices of one clause of each negative operand, as numbers: the digits of a number, each to the
 -- base of its operand's count of clauses, name the clauses.
-use Rattle.std.specs.Prelude.{◌≡◌, ◌%◌, ◌/◌, ℕ, Bool, false, List, [], ◌∷◌, length, slice_index_or}
-use Rattle.std.specs.Prelude.{⊤}
+use Rattle.std.specs.Prelude.{◌≡◌, ◌%◌, ◌/◌, ℕ, Bool, false, List, [], ◌∷◌, length, ⊤}
 use Rattle.hv_task.specs.Strips.{Strips}
 use Rattle.hv_sets.specs.declared.literal.Literal.{Literal}
 use Rattle.hv_sets.specs.declared.operand.Operand.{Operand}
@@ -9,10 +8,7 @@ use Rattle.hv_sets.specs.Truth.{in_clause}
 use Rattle.hv_clauses.specs.Working.Clausal.{clauses_in, late}
 use Rattle.hv_clauses.specs.Marks.{over}
 use Rattle.hv_clauses.specs.Working.Units.{AreFalse}
-
--- the clause at this place
-abbrev pub clause_at : List (List Literal) → ℕ → List Literal
-clause_at clauses place = slice_index_or clauses place []
+use Rattle.hv_clauses.specs.Clausal.{clause_at}
 
 -- the state, seen through the effect where that is meant, is in none of the clauses that the number
 -- chooses

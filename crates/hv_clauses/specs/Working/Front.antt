@@ -8,8 +8,8 @@ use Rattle.hv_sets.specs.declared.query.Query.{Query}
 use Rattle.hv_sets.specs.Cost.{choices_of}
 use Rattle.hv_sets.specs.Query.{action_of, may_apply}
 use Rattle.hv_sets.specs.Truth.{in_clause}
-use Rattle.hv_clauses.specs.Working.Choices.{AreChosenFalse, Breaks, clause_at}
-use Rattle.hv_clauses.specs.Clausal.{sizes_of}
+use Rattle.hv_clauses.specs.Clausal.{clause_at, sizes_of}
+use Rattle.hv_clauses.specs.Working.Choices.{AreChosenFalse, Breaks}
 use Rattle.hv_clauses.specs.Working.Clausal.{InAll, clauses_in, late}
 use Rattle.hv_clauses.specs.Working.Effect.{IsEnabled}
 use Rattle.hv_clauses.specs.Marks.{over}
@@ -60,8 +60,8 @@ pub record IsFront (task : Strips) (formulas : ℕ → List (List Literal)) (eff
 
 -- how many choices there are of the negative operands before this place: choices with the same
 -- clauses of the others stand in one block of so many numbers
-abbrev pub block_size : Strips → (ℕ → List (List Literal)) → Query → ℕ → ℕ
-block_size task formulas query place =
+abbrev pub block_length : Strips → (ℕ → List (List Literal)) → Query → ℕ → ℕ
+block_length task formulas query place =
     choices_of task (sizes_of formulas) (take place query.negative)
 
 -- the end of the block of this size in which the number is
@@ -76,4 +76,4 @@ pub record IsAdvanced (task : Strips) (formulas : ℕ → List (List Literal)) (
   pub below : upto < choices_of task (sizes_of formulas) query.negative
   pub refuted : AreRefuted task formulas effect query from upto
   pub front : IsFront task formulas effect query place
-      (upto / block_size task formulas query place) knowledge
+      (upto / block_length task formulas query place) knowledge

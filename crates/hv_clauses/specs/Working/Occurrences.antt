@@ -1,12 +1,11 @@
 -- Where the literals of clauses stand.
 use Rattle.std.specs.Prelude.{◌≡◌, ◌<◌, ◌≤◌, ◌+◌, ◌⊎◌, ℕ, Bool, true, false, not, List, [], ◌∷◌}
-use Rattle.std.specs.Prelude.{length}
-use Rattle.std.specs.Prelude.{slice_index, slice_index_or}
+use Rattle.std.specs.Prelude.{length, slice_index, slice_index_or}
 use Rattle.hv_sets.specs.declared.literal.Literal.{Literal}
 use Rattle.hv_clauses.specs.declared.occurrences.Occurrences.{Occurrences}
 use Rattle.hv_clauses.specs.declared.occurrences.Signed.{Signed}
 use Rattle.hv_clauses.specs.declared.occurrences.Standing.{Standing}
-use Rattle.hv_clauses.specs.Working.Choices.{clause_at}
+use Rattle.hv_clauses.specs.Clausal.{clause_at}
 use Rattle.hv_clauses.specs.Implied.{IsPair}
 use Rattle.hv_clauses.specs.Rows.{IsRow}
 use Rattle.hv_clauses.specs.Working.Rows.{AreCoded, AreHeads, key_of, place_of_code}

@@ -1,7 +1,7 @@
 use Rattle.std.proofs.Common.{[], get_or, sym, arith, below_more, subst}
 use Rattle.std.proofs.lemmas.Option.{get_or_from_slice_get}
 use Rattle.hv_sets.specs.declared.literal.Literal.{Literal}
-use Rattle.hv_clauses.specs.Working.Choices.{clause_at}
+use Rattle.hv_clauses.specs.Clausal.{clause_at}
 use Rattle.hv_clauses.specs.Working.Occurrences.{IsBeside, entry_or_none}
 use Rattle.hv_clauses.specs.Working.Rows.{key_of, place_of_code}
 use Rattle.hv_clauses.proofs.beside.entries_of.Goals as goal

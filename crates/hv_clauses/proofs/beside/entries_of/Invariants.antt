@@ -1,5 +1,5 @@
 use Rattle.std.proofs.Common.{ℕ, ◌<◌, ◌≤◌, length, get_or}
-use Rattle.hv_clauses.specs.Working.Choices.{clause_at}
+use Rattle.hv_clauses.specs.Clausal.{clause_at}
 use Rattle.hv_clauses.specs.Working.Occurrences.{IsBeside, entry_or_none}
 use Rattle.hv_clauses.specs.Working.Rows.{key_of, place_of_code}
 use Rattle.hv_clauses.proofs.beside.entries_of.Given as goal

@@ -1,6 +1,6 @@
 use Rattle.std.proofs.Common.{◌∙◌, length, refl, sym, ap, arith, subst}
 use Rattle.hv_sets.specs.Truth.{in_clause}
-use Rattle.hv_clauses.specs.Working.Choices.{clause_at}
+use Rattle.hv_clauses.specs.Clausal.{clause_at}
 use Rattle.hv_clauses.specs.Working.Clausal.{clauses_in}
 use Rattle.hv_clauses.specs.Marks.{over}
 use Rattle.hv_clauses.specs.Working.Problem.{AreAllLeft}

@@ -3,7 +3,7 @@ use Rattle.std.proofs.Common.{slice_get, sym, ap, ap₂, arith, subst}
 use Rattle.std.proofs.lemmas.Option.{slice_get-get_or}
 use Rattle.hv_sets.specs.declared.operand.Operand.{Operand}
 use Rattle.hv_clauses.specs.Clausal.{sizes_of}
-use Rattle.hv_clauses.specs.Working.Front.{AreRefuted, IsAdvanced, block_end, block_size}
+use Rattle.hv_clauses.specs.Working.Front.{AreRefuted, IsAdvanced, block_end, block_length}
 use Rattle.hv_clauses.specs.Store.{formula_at}
 use Rattle.hv_clauses.proofs.Blocks.{below_end}
 use Rattle.hv_clauses.proofs.Chasing.{grows_same, grows_then}
@@ -76,9 +76,9 @@ first_open-requires-clause-part g c =
     let p = c.args.problem.now in
     let count = length c.as_slice-negative.result.now in
     let at = before count c.loop-fixed.fixed c.loop-fixed-test.true in
-    let size : c.loop-fixed.block ≡ block_size p.task.now (formula_at p.store.now) p.query.now
+    let size : c.loop-fixed.block ≡ block_length p.task.now (formula_at p.store.now) p.query.now
     (count - 1 - c.loop-fixed.fixed + 1) =
-    c.loop-fixed.invariant.block ∙ ap (block_size p.task.now (formula_at p.store.now) p.query.now)
+    c.loop-fixed.invariant.block ∙ ap (block_length p.task.now (formula_at p.store.now) p.query.now)
     (behind count c.loop-fixed.fixed c.loop-fixed-test.true) in
     ap₂ (λ a b. a / b) size c.count_of.ensures
     ∙ part_is p.task.now (sizes_of (formula_at p.store.now)) p.query.now.negative
@@ -106,9 +106,9 @@ pub returns-in-None-clause-tried : goal.returns-in-None-clause-tried
 returns-in-None-clause-tried g c =
     let p = c.args.problem.now in
     let count = length c.as_slice-negative.result.now in
-    let size : c.loop-fixed.block ≡ block_size p.task.now (formula_at p.store.now) p.query.now
+    let size : c.loop-fixed.block ≡ block_length p.task.now (formula_at p.store.now) p.query.now
     (count - 1 - c.loop-fixed.fixed + 1) =
-    c.loop-fixed.invariant.block ∙ ap (block_size p.task.now (formula_at p.store.now) p.query.now)
+    c.loop-fixed.invariant.block ∙ ap (block_length p.task.now (formula_at p.store.now) p.query.now)
     (behind count c.loop-fixed.fixed c.loop-fixed-test.true) in
     let some : 0 < c.loop-fixed.block = subst (λ n. 0 < n) (sym c.loop-fixed.invariant.block)
     (block_some p.task.now (formula_at p.store.now) p.effect.now p.query.now _
@@ -133,9 +133,9 @@ loop-fixed-preserved g c =
     let count = length c.as_slice-negative.result.now in
     let at = before count c.loop-fixed.fixed c.loop-fixed-test.true in
     let next = next_is count c.loop-fixed.fixed c.loop-fixed-test.true in
-    let size : c.loop-fixed.block ≡ block_size p.task.now (formula_at p.store.now) p.query.now
+    let size : c.loop-fixed.block ≡ block_length p.task.now (formula_at p.store.now) p.query.now
     (count - 1 - c.loop-fixed.fixed + 1) =
-    c.loop-fixed.invariant.block ∙ ap (block_size p.task.now (formula_at p.store.now) p.query.now)
+    c.loop-fixed.invariant.block ∙ ap (block_length p.task.now (formula_at p.store.now) p.query.now)
     (behind count c.loop-fixed.fixed c.loop-fixed-test.true) in
     record {
       block = ap₂ (λ a b. a / b) size c.count_of.ensures
@@ -143,7 +143,7 @@ loop-fixed-preserved g c =
           (count - 1 - c.loop-fixed.fixed) _
           (here_is c.as_slice-negative.result.now p.query.now.negative _ _
           c.as_slice-negative.ensures at) (some_of _ _ _ c.requires.cost c.requires.number)
-          ∙ ap (block_size p.task.now (formula_at p.store.now) p.query.now) next);
+          ∙ ap (block_length p.task.now (formula_at p.store.now) p.query.now) next);
       advanced = subst (λ n. IsAdvanced p.task.now (formula_at p.store.now) p.effect.now p.query.now
           n c.args.number c.in-Some.found c.first_open.new.marks) next
           (advanced_then p.task.now (formula_at p.store.now) p.effect.now p.query.now _ _ _ _ _ _ _

@@ -1,9 +1,7 @@
-use Rattle.std.proofs.Common.{◌≡◌, ◌<◌, ◌∙◌, [], arith, Some, true, get_or}
-use Rattle.std.proofs.Common.{sym, subst}
+use Rattle.std.proofs.Common.{◌≡◌, ◌<◌, ◌∙◌, [], arith, Some, true, get_or, sym, subst}
 use Rattle.hv_sets.specs.Cost.{choices_of}
 use Rattle.hv_sets.specs.Cubes.{SpeakBelow}
-use Rattle.hv_clauses.specs.Clausal.{sizes_of}
-use Rattle.hv_clauses.specs.Working.Choices.{clause_at}
+use Rattle.hv_clauses.specs.Clausal.{sizes_of, clause_at}
 use Rattle.hv_clauses.specs.Working.Occurrences.{entry_or_none}
 use Rattle.hv_clauses.specs.Store.{formula_at}
 use Rattle.hv_clauses.specs.Working.Trail.{literal_of, marks_of}

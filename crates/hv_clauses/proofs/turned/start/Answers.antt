@@ -1,8 +1,7 @@
 use Rattle.std.proofs.Common.{◌≡◌, ◌∙◌, Bool, true, length, refl, sym, ap, arith, subst, List}
 use Rattle.hv_sets.specs.Truth.{in_clauses}
 use Rattle.hv_clauses.specs.Working.Base.{AreSettledBut}
-use Rattle.hv_clauses.specs.Working.Choices.{clause_at}
-use Rattle.hv_clauses.specs.Clausal.{AreClauses}
+use Rattle.hv_clauses.specs.Clausal.{clause_at, AreClauses}
 use Rattle.hv_clauses.specs.Marks.{over}
 use Rattle.hv_clauses.proofs.Chasing.{followed_then, kept_on}
 use Rattle.hv_clauses.proofs.Untouched.{kept_either, turned_kept}

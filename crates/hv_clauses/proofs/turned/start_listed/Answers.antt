@@ -1,7 +1,7 @@
 use Rattle.std.proofs.Common.{◌<◌, ◌∙◌, length, get_or, refl, ap, arith, below_more, subst}
 use Rattle.std.proofs.lemmas.List.{get_or_default}
 use Rattle.hv_clauses.specs.Working.Chase.{IsKept}
-use Rattle.hv_clauses.specs.Working.Choices.{clause_at}
+use Rattle.hv_clauses.specs.Clausal.{clause_at}
 use Rattle.hv_clauses.proofs.Chasing.{clause_below, clause_followed, clause_kept, kept_on}
 use Rattle.hv_clauses.proofs.turned.start_listed.Goals as goal
 

@@ -5,8 +5,7 @@ use Rattle.std.proofs.lemmas.List.{get_or_default}
 use Rattle.hv_sets.specs.Truth.{in_clauses}
 use Rattle.hv_sets.specs.declared.literal.Literal.{Literal}
 use Rattle.hv_clauses.specs.Working.Chase.{IsKept}
-use Rattle.hv_clauses.specs.Working.Choices.{clause_at}
-use Rattle.hv_clauses.specs.Clausal.{AreClauses}
+use Rattle.hv_clauses.specs.Clausal.{clause_at, AreClauses}
 use Rattle.hv_clauses.specs.Marks.{over}
 use Rattle.hv_clauses.specs.Working.Signed.{StandsAs}
 use Rattle.hv_clauses.proofs.Standings.{inside_at}

@@ -1,0 +1,336 @@
+-- What comes of a node file is a list exactly where the file is the text of this list.
+use Rattle.std.proofs.Common.{◌≡◌, ℕ, zero, suc, ◌+◌, ◌<◌, ◌≤◌, ◌^◌, List, [], ◌∷◌, ◌++◌, Option}
+use Rattle.std.proofs.Common.{None, Some, Result, Ok, Err, length, map, refl, sym, ◌∙◌, ap, subst}
+use Rattle.std.proofs.Common.{Bool, true, false, arith, decimal, cond, nat_le, append_assoc}
+use Rattle.std.proofs.Common.{append-nil, length-append}
+use Rattle.std.specs.Prelude.{IfSome, IsErrAnd, codes, option_and_then}
+use Rattle.std.proofs.lemmas.Bool.{le-leb, leb-true}
+use Rattle.std.proofs.lemmas.List.Elements.{All-head, All-tail}
+use Rattle.std.specs.List.{All}
+use Rattle.hv_bytes.specs.Fields.{cut_fields}
+use Rattle.hv_bytes.specs.Files.{Names, bytes_of}
+use Rattle.hv_bytes.specs.Pieces.{Piece, as_pieces, pieces_of}
+use Rattle.hv_bytes.specs.declared.cutting.Limits.{Limits}
+use Rattle.hv_grammar.specs.Reads.{IsOfNoLine}
+use Rattle.hv_grammar.specs.Working.Reads.{IsReadAs}
+use Rattle.hv_grammar.specs.declared.fault.ParseFault.{ParseFault}
+use Rattle.hv_grammar.specs.declared.fault.ParseFault.TheVariants as P
+use Rattle.hv_bdd.specs.declared.fault.NodesFault.{NodesFault}
+use Rattle.hv_grammar.specs.Forms.{at_most, decimal_of, number_behind, numbered_in, or_refused}
+use Rattle.hv_grammar.specs.Forms.{rest_behind}
+use Rattle.hv_grammar.specs.Parsers.{Outcome, after, check, end_of_input, iterate, long, parsed}
+use Rattle.hv_grammar.specs.Parsers.{pure, refused, tested, ◌>>=◌, ◌>>◌}
+use Rattle.hv_grammar.proofs.Numerals.{behind_append, behind_some, decimal_of_is, is_decimal_of}
+use Rattle.hv_bdd.specs.declared.fault.NodeKind.{NodeKind}
+use Rattle.hv_bdd.specs.declared.fault.NodeKind.TheVariants as K
+use Rattle.hv_bdd.specs.declared.fault.NodeLimit.TheVariants as W
+use Rattle.hv_bdd.specs.declared.fault.NodeRefusal.{NodeRefusal}
+use Rattle.hv_bdd.specs.declared.fault.NodeRefusal.TheVariants as R
+use Rattle.hv_bdd.specs.declared.node.Node.{Node}
+use Rattle.hv_bdd.specs.Building.{fault_of}
+use Rattle.hv_bdd.specs.NodeFile.{next_node_line, node_file, node_in, node_of_fields, or_fault}
+use Rattle.hv_bdd.specs.NodeFile.{fault_in, nodes_fault, three_numbers, with_next}
+use Rattle.hv_bdd.specs.NodeText.{AreTextOf, IsReadFrom, header_line, node_line}
+use Rattle.hv_bdd.specs.Nodes.{NodeList, no_nodes}
+use Rattle.hv_bdd.specs.Reduced.{IsReduced}
+use Rattle.hv_bdd.specs.Working.Building.{with_node}
+use Rattle.hv_bdd.specs.Working.NodeText.{IsHeader, IsTriple, list_over}
+use Rattle.hv_bdd.proofs.Built.{passes_from, reduced_more}
+use Rattle.hv_bdd.proofs.Prefixed.{IsShort, are_short, next_good}
+use Rattle.hv_bdd.proofs.Tripled.{cut_triple, triple_from}
+
+abbrev said_of_header : List ℕ → Result ℕ NodeRefusal
+said_of_header = numbered_in (codes "nodes ") 16777216 (R.Place K.Header) (R.Limit W.Nodes)
+
+node_read : (x : Node) → IsShort x → node_of_fields (cut_fields (node_line x)) ≡ Some x
+node_read x short =
+    ap node_of_fields (cut_triple (node_line x) x
+    (record { spelled = refl; atom = short.atom; low = short.low; high = short.high }))
+    ∙ rw (decimal_of_is (decimal x.atom) x.atom (record { spelled = refl; short = short.atom }))
+    (rw (decimal_of_is (decimal x.low) x.low (record { spelled = refl; short = short.low }))
+    (rw (decimal_of_is (decimal x.high) x.high (record {
+      spelled = refl;
+      short =
+          short.high;
+    })) refl))
+
+line_taken : (x : Node) → IsShort x → node_in (node_line x) ≡ Ok x
+line_taken x short = ap (or_refused (R.Place K.Node)) (node_read x short)
+
+node_taken : (list : NodeList) (x : Node) → fault_of list x ≡ None
+    → with_next list x ≡ Ok (with_node list x)
+node_taken list x good = ap (or_fault list x) good
+
+nodes_read : (atoms : ℕ) (front rest : List Node) (n : ℕ)
+    → IsReduced (list_over atoms (front ++ rest)) → All IsShort rest
+    → iterate (length rest) next_node_line (list_over atoms front) n
+    (as_pieces (map node_line rest))
+    ≡ parsed (list_over atoms (front ++ rest)) (n + length rest) []
+nodes_read atoms front [] n reduced short =
+    ap (λ ns. parsed (list_over atoms ns) n []) (sym (append-nil front))
+    ∙ ap (λ k. parsed (list_over atoms (front ++ [])) k []) (let e : n ≡ n + 0 = omega arith in e)
+nodes_read atoms front (x ∷ rest) n reduced short =
+    let same : (front ++ x ∷ []) ++ rest ≡ front ++ x ∷ rest = append_assoc front (x ∷ []) rest in
+    let good : fault_of (list_over atoms front) x ≡ None = next_good atoms front rest x reduced in
+    let more = nodes_read atoms (front ++ x ∷ []) rest (n + 1)
+    (subst (λ ns. IsReduced (list_over atoms ns)) (sym same) reduced)
+    (All-tail IsShort x rest short) in
+    ap (λ r. after
+    (after (tested (n + 1) (as_pieces (map node_line rest)) r)
+    (check (with_next (list_over atoms front)))) (λ l. iterate (length rest) next_node_line l))
+    (line_taken x (All-head IsShort x rest short))
+    ∙ ap (λ r. after (tested (n + 1) (as_pieces (map node_line rest)) r)
+    (λ l. iterate (length rest) next_node_line l)) (node_taken (list_over atoms front) x good)
+    ∙ more
+    ∙ ap (λ ns. parsed (list_over atoms ns) ((n + 1) + length rest) []) same
+    ∙ ap (λ k. parsed (list_over atoms (front ++ x ∷ rest)) k [])
+    (let e : (n + 1) + length rest ≡ n + suc (length rest) = omega arith in e)
+
+header_number : (k : ℕ) → k < 10 ^ 18 → number_behind (codes "nodes ") (header_line k) ≡ Some k
+header_number k short =
+    ap (option_and_then decimal_of) (behind_append (codes "nodes ") (decimal k))
+    ∙ decimal_of_is (decimal k) k (record { spelled = refl; short = short })
+
+header_taken : (k : ℕ) → k ≤ 16777216 → said_of_header (header_line k) ≡ Ok k
+header_taken k few =
+    ap (at_most 16777216 (R.Place K.Header) (R.Limit W.Nodes)) (header_number k (omega arith))
+    ∙ rw (le-leb k 16777216 few) refl
+
+-- a text of a list is read as this list
+pub text_is_read : (atoms : ℕ) (pieces : List Piece) (list : NodeList) → atoms < 10 ^ 18
+    → AreTextOf atoms pieces list → node_file atoms 0 pieces ≡ parsed list
+    (length list.nodes + 1) []
+text_is_read atoms pieces list small (over, text) =
+    let few = text.reduced.few in
+    let reduced = subst (λ n. IsReduced (list_over n list.nodes)) over text.reduced in
+    let read = nodes_read atoms [] list.nodes 1 reduced
+    (are_short atoms list.nodes small reduced) in
+    ap (node_file atoms 0) (sym text.spelled)
+    ∙ rw (header_taken (length list.nodes) few) (rw read (
+    ap (λ n. parsed (list_over n list.nodes) (1 + length list.nodes) []) (sym over)
+    ∙ ap (λ k. parsed list k []) (let e : 1 + length list.nodes ≡ length list.nodes + 1 =
+    omega arith in e)))
+
+-- And back: what comes of a file is the list of which it is the text.
+
+three_parts : (p q r : Option ℕ) (x : Node) → three_numbers p q r ≡ Some x
+    → (p ≡ Some x.atom) × (q ≡ Some x.low) × (r ≡ Some x.high)
+three_parts None q r x e = absurd cc
+three_parts (Some a) None r x e = absurd cc
+three_parts (Some a) (Some b) None x e = absurd cc
+three_parts (Some a) (Some b) (Some c) x e =
+    let same : record { atom = a; low = b; high = c } ≡ x = cc in (
+      ap (λ (y : Node). Some y.atom) same,
+      ap (λ (y : Node). Some y.low) same,
+      ap (λ (y : Node). Some y.high) same,
+    )
+
+triple_read : (l : List ℕ) (fs : List (List ℕ)) (x : Node) → cut_fields l ≡ fs
+    → node_of_fields fs ≡ Some x → IsTriple l x
+triple_read l [] x c e = absurd cc
+triple_read l (a ∷ []) x c e = absurd cc
+triple_read l (a ∷ b ∷ []) x c e = absurd cc
+triple_read l (a ∷ b ∷ d ∷ []) x c e =
+    let w = three_parts (decimal_of a) (decimal_of b) (decimal_of d) x e in
+    triple_from l a b d x.atom x.low x.high c (is_decimal_of a x.atom w.0)
+    (is_decimal_of b x.low w.1) (is_decimal_of d x.high w.2)
+triple_read l (a ∷ b ∷ d ∷ f ∷ fs) x c e = absurd cc
+
+-- so many nodes were read behind the first ones
+record Reading
+    (atoms k : ℕ) (front : List Node) (ps : List Piece) (list : NodeList) (qs : List Piece)
+    (rest : List Node) : Type 0
+  where
+    pub list_is : list ≡ list_over atoms (front ++ rest)
+    pub size : length rest ≡ k
+    pub reduced : IsReduced list
+    pub pieces : ps ≡ as_pieces (map node_line rest) ++ qs
+
+same_got : (a b : NodeList) (n m : ℕ) (ps qs : List Piece)
+    → ◌≡◌ {A = Outcome NodeRefusal NodeList} (parsed a n ps) (parsed b m qs) → (a ≡ b) × (ps ≡ qs)
+same_got a b n m ps qs e = (cc, cc)
+
+-- the same of any first nodes
+abbrev Reads : ℕ → ℕ → Type 0
+Reads atoms k =
+    (front : List Node) (n m : ℕ) (ps qs : List Piece) (list : NodeList)
+    → IsReduced (list_over atoms front) → length front + k ≤ 16777216
+    → iterate k next_node_line (list_over atoms front) n ps ≡ parsed list m qs
+    → (rest : List Node) × Reading atoms k front ps list qs rest
+
+good_node : (list : NodeList) (x : Node) (f : Option NodeKind) (n : ℕ) (ps : List Piece)
+    (k m : ℕ) (qs : List Piece) (new : NodeList)
+    → after (tested n ps (or_fault list x f)) (λ b. iterate k next_node_line b) ≡ parsed new m qs
+    → (f ≡ None) × (iterate k next_node_line (with_node list x) n ps ≡ parsed new m qs)
+good_node list x None n ps k m qs new e = (refl, e)
+good_node list x (Some kind) n ps k m qs new e = absurd cc
+
+turn_is : (atoms k : ℕ) → Reads atoms k → (front : List Node) (n m : ℕ) (l : List ℕ)
+    (ps qs : List Piece) (list : NodeList) (o : Option Node)
+    → IsReduced (list_over atoms front) → length front + suc k ≤ 16777216
+    → node_of_fields (cut_fields l) ≡ o
+    → after
+    (after (tested (n + 1) ps (or_refused (R.Place K.Node) o)) (check (with_next
+    (list_over atoms front))))
+    (λ b. iterate k next_node_line b) ≡ parsed list m qs
+    → (rest : List Node) × Reading atoms (suc k) front (Some l ∷ ps) list qs rest
+turn_is atoms k ih front n m l ps qs list None reduced few t e = absurd cc
+turn_is atoms k ih front n m l ps qs list (Some x) reduced few t e =
+    let w = good_node (list_over atoms front) x (fault_of (list_over atoms front) x) (n + 1) ps k m
+    qs list e in
+    let triple = triple_read l (cut_fields l) x refl t in
+    let size : length (front ++ x ∷ []) ≡ length front + 1 = length-append front (x ∷ []) in
+    let more = reduced_more (list_over atoms front) x reduced
+    (passes_from (list_over atoms front) x w.0) (omega arith) in
+    let r = ih (front ++ x ∷ []) (n + 1) m ps qs list more (omega arith) w.1 in
+    let others = r.1.size in
+    let same = r.1.pieces in (
+      x ∷ r.0,
+      record {
+        list_is = r.1.list_is ∙ ap (list_over atoms) (append_assoc front (x ∷ []) r.0);
+        size = ap suc others;
+        reduced = r.1.reduced;
+        pieces = ap (λ z. Some z ∷ ps) triple.spelled ∙ ap (λ z. Some (node_line x) ∷ z) same;
+      },
+    )
+
+nodes_are : (atoms k : ℕ) → Reads atoms k
+nodes_are atoms zero front n m ps qs list reduced few e =
+    let w = same_got (list_over atoms front) list n m ps qs e in (
+      [],
+      record {
+        list_is = sym w.0 ∙ ap (list_over atoms) (sym (append-nil front));
+        size = refl;
+        reduced = subst IsReduced w.0 reduced;
+        pieces = w.1;
+      },
+    )
+nodes_are atoms (suc k) front n m [] qs list reduced few e = absurd cc
+nodes_are atoms (suc k) front n m (None ∷ ps) qs list reduced few e = absurd cc
+nodes_are atoms (suc k) front n m (Some l ∷ ps) qs list reduced few e =
+    turn_is atoms k (nodes_are atoms k) front n m l ps qs list (node_of_fields (cut_fields l))
+    reduced few refl e
+
+nothing_behind : (o : Outcome NodeRefusal NodeList) (list : NodeList) (n : ℕ) (rest : List Piece)
+    → after o (λ l. end_of_input (R.Place K.End) >> pure l) ≡ parsed list n rest
+    → (m : ℕ) × (o ≡ parsed list m [])
+nothing_behind (parsed a m []) list n rest e =
+    let w = same_got a list m n [] rest e in (m, ap (λ l. parsed l m []) w.0)
+nothing_behind (parsed a m (None ∷ qs)) list n rest e = absurd cc
+nothing_behind (parsed a m (Some l ∷ qs)) list n rest e = absurd cc
+nothing_behind (refused m b) list n rest e = absurd cc
+nothing_behind (long m) list n rest e = absurd cc
+
+within_is : (n : ℕ) (t : Bool) (k : ℕ) → nat_le n 16777216 ≡ t
+    → ◌≡◌ {A = Result ℕ NodeRefusal} (cond t (Ok n) (Err (R.Limit W.Nodes))) (Ok k)
+    → (n ≡ k) × (k ≤ 16777216)
+within_is n true k t e =
+    let same : n ≡ k = cc in (same, subst (λ j. j ≤ 16777216) same (leb-true n 16777216 t))
+within_is n false k t e = absurd cc
+
+header_from : (l : List ℕ) (o : Option (List ℕ)) (k : ℕ) → rest_behind (codes "nodes ") l ≡ o
+    → option_and_then decimal_of o ≡ Some k → IsHeader l k
+header_from l None k c e = absurd cc
+header_from l (Some rest) k c e =
+    let d = is_decimal_of rest k e in
+    record {
+      spelled = behind_some (codes "nodes ") l rest c ∙ ap (λ x. codes "nodes " ++ x) d.spelled;
+      short = d.short;
+    }
+
+count_is : (l : List ℕ) (o : Option ℕ) (k : ℕ) → number_behind (codes "nodes ") l ≡ o
+    → at_most 16777216 (R.Place K.Header) (R.Limit W.Nodes) o ≡ Ok k
+    → IsHeader l k × (k ≤ 16777216)
+count_is l None k c e = absurd cc
+count_is l (Some n) k c e =
+    let w = within_is n (nat_le n 16777216) k refl e in
+    (header_from l (rest_behind (codes "nodes ") l) k refl (c ∙ ap (λ j. Some j) w.0), w.1)
+
+file_is : (atoms : ℕ) (l : List ℕ) (ps : List Piece) (list : NodeList) (n : ℕ) (rest : List Piece)
+    (t : Result ℕ NodeRefusal) → IsReduced (list_over atoms []) → said_of_header l ≡ t
+    → after (tested 1 ps t)
+    (λ k. iterate k next_node_line (no_nodes atoms) >>= λ b.
+    end_of_input (R.Place K.End) >> pure b) ≡ parsed list n rest
+    → AreTextOf atoms (Some l ∷ ps) list
+file_is atoms l ps list n rest (Err b) none t e = absurd cc
+file_is atoms l ps list n rest (Ok k) none t e =
+    let h = count_is l (number_behind (codes "nodes ") l) k refl t in
+    let o = nothing_behind (iterate k next_node_line (no_nodes atoms) 1 ps) list n rest e in
+    let few = h.1 in
+    let w = nodes_are atoms k [] 1 o.0 ps [] list none (omega arith) o.1 in
+    let nodes = ap (λ (x : NodeList). x.nodes) w.1.list_is in (
+      ap (λ (x : NodeList). x.atoms) w.1.list_is,
+      record {
+        reduced = w.1.reduced;
+        spelled = ap (λ ns. as_pieces (header_line (length ns) ∷ map node_line ns)) nodes
+            ∙ ap (λ j. Some (header_line j) ∷ as_pieces (map node_line w.0)) w.1.size
+            ∙ ap (λ z. Some z ∷ as_pieces (map node_line w.0)) (sym h.0.spelled)
+            ∙ ap (λ z. Some l ∷ z) (sym (w.1.pieces ∙ append-nil (as_pieces (map node_line w.0))));
+      },
+    )
+
+pub read_is_text : (atoms : ℕ) (pieces : List Piece) (list : NodeList) (n : ℕ) (rest : List Piece)
+    → IsReduced (list_over atoms []) → node_file atoms 0 pieces ≡ parsed list n rest
+    → AreTextOf atoms pieces list
+read_is_text atoms [] list n rest none e = absurd cc
+read_is_text atoms (None ∷ ps) list n rest none e = absurd cc
+read_is_text atoms (Some l ∷ ps) list n rest none e =
+    file_is atoms l ps list n rest (said_of_header l) none refl e
+
+pub none_reduced : (atoms : ℕ) → IsReduced (list_over atoms [])
+none_reduced atoms = record {
+  atom = λ i le less. absurd (omega arith);
+  low = λ i le less. absurd (omega arith);
+  high = λ i le less. absurd (omega arith);
+  low_later = λ i le less. absurd (omega arith);
+  high_later = λ i le less. absurd (omega arith);
+  apart = λ i le less e. absurd (omega arith);
+  twinless = λ i j le less le2 less2 e. absurd (omega arith);
+  few = omega arith;
+}
+
+-- What is answered, by what comes of the whole file.
+
+pub answers_list : (files : Option Names) (name : List ℕ) (limits : Limits) (atoms : ℕ)
+    (list : NodeList)
+    → IfSome files (λ f. IsReadAs (node_file atoms 0 (pieces_of limits (bytes_of f name)))
+    (Ok list))
+    → IfSome files (λ f. IsReadFrom limits atoms (bytes_of f name) (Ok list))
+answers_list None name limits atoms list h = tt
+answers_list (Some f) name limits atoms list h =
+    read_is_text atoms (pieces_of limits (bytes_of f name)) list h.0 h.1 (none_reduced atoms) h.2
+
+fault_is : (limits : Limits) (atoms : ℕ) (bytes : List ℕ) (e : ParseFault NodeRefusal)
+    → IsReadAs (node_file atoms 0 (pieces_of limits bytes)) (Err e)
+    → IsReadFrom limits atoms bytes (Err (nodes_fault e))
+fault_is limits atoms bytes (P.Refused n (R.Place kind)) h = ap fault_in h
+fault_is limits atoms bytes (P.Refused n (R.Limit limit)) h = ap fault_in h
+fault_is limits atoms bytes (P.Long n) h = ap fault_in h
+fault_is limits atoms bytes P.ReadFault h = tt
+fault_is limits atoms bytes P.Memory h = tt
+
+pub answers_fault : (files : Option Names) (name : List ℕ) (limits : Limits) (atoms : ℕ)
+    (e : ParseFault NodeRefusal) (answer : NodesFault) → answer ≡ nodes_fault e
+    → IfSome files (λ f. IsReadAs (node_file atoms 0 (pieces_of limits (bytes_of f name))) (Err e))
+    → IfSome files (λ f. IsReadFrom limits atoms (bytes_of f name) (Err answer))
+answers_fault None name limits atoms e answer is h = tt
+answers_fault (Some f) name limits atoms e answer is h =
+    subst (λ a. IsReadFrom limits atoms (bytes_of f name) (Err a)) (sym is)
+    (fault_is limits atoms (bytes_of f name) e h)
+
+outside : (limits : Limits) (atoms : ℕ) (bytes : List ℕ) (e : ParseFault NodeRefusal)
+    → IsOfNoLine e → IsReadFrom limits atoms bytes (Err (nodes_fault e))
+outside limits atoms bytes (P.Refused n b) h = absurd h
+outside limits atoms bytes (P.Long n) h = absurd h
+outside limits atoms bytes P.ReadFault h = tt
+outside limits atoms bytes P.Memory h = tt
+
+pub answers_unopened : (files : Option Names) (name : List ℕ) (limits : Limits) (atoms : ℕ)
+    (e : ParseFault NodeRefusal) (result : Result NodeList NodesFault) → IsOfNoLine e
+    → IsErrAnd result (λ f. f ≡ nodes_fault e)
+    → IfSome files (λ f. IsReadFrom limits atoms (bytes_of f name) result)
+answers_unopened None name limits atoms e result h is = tt
+answers_unopened (Some f) name limits atoms e (Ok list) h is = absurd is
+answers_unopened (Some f) name limits atoms e (Err answer) h is =
+    subst (λ a. IsReadFrom limits atoms (bytes_of f name) (Err a)) (sym is)
+    (outside limits atoms (bytes_of f name) e h)

@@ -1,0 +1,55 @@
+-- Fronts: the nodes that are met after some literals, from the root of a diagram down.
+use Rattle.std.specs.Prelude.{◌≡◌, ◌<◌, ◌≤◌, ◌+◌, ◌++◌, ◌⊎◌, ◌∷◌, ℕ, Bool, true, List, [], length}
+use Rattle.std.specs.Prelude.{slice_index_or}
+use Rattle.std.specs.List.{Contains}
+use Rattle.hv_sets.specs.declared.literal.Literal.{Literal}
+use Rattle.hv_sets.specs.Truth.{in_literal}
+use Rattle.hv_bdd.specs.Nodes.{NodeList, in_node}
+use Rattle.hv_bdd.specs.declared.level.Level.{Level}
+use Rattle.hv_bdd.specs.Fronts.{AreBelowBound}
+
+-- the new list goes on where the old one ended
+abbrev pub IsContinued : List ℕ → List ℕ → Type 0
+IsContinued old new = (more : List ℕ) × (new ≡ old ++ more)
+
+-- the node stands in the list, or was put last
+abbrev pub LiesIn : List ℕ → ℕ → List ℕ → Type 0
+LiesIn old node new = ((new ≡ old) × Contains old node) ⊎ (new ≡ old ++ node ∷ [])
+
+-- a state that is in one of the nodes, or outside it, is so in one of the others
+abbrev pub MovesTo : NodeList → Bool → List ℕ → List ℕ → Type 0
+MovesTo list inside old new =
+    (s : List Bool) (x : ℕ) → Contains old x → in_node list x s ≡ inside
+    → (y : ℕ) × Contains new y × (in_node list y s ≡ inside)
+
+-- the same of the states in which a literal is true
+abbrev pub Turns : NodeList → Bool → Literal → List ℕ → List ℕ → Type 0
+Turns list inside literal old new =
+    (s : List Bool) (x : ℕ) → in_literal literal s ≡ true → Contains old x
+    → in_node list x s ≡ inside
+    → (y : ℕ) × Contains new y × (in_node list y s ≡ inside)
+
+-- the node is moved, or waits from this place of the queue on
+abbrev pub IsPending : List ℕ → List ℕ → ℕ → ℕ → Type 0
+IsPending out queue at y =
+    Contains out y ⊎ ((k : ℕ) × (at ≤ k) × (k < length queue) × (slice_index_or queue k 0 ≡ y))
+
+-- a state that is in a node of the queue, or outside it, is so in a node that was moved or waits,
+-- and
+-- that isn't greater
+abbrev pub IsAhead : NodeList → Bool → List ℕ → List ℕ → ℕ → Type 0
+IsAhead list inside out queue at =
+    (s : List Bool) (x : ℕ) → Contains queue x → in_node list x s ≡ inside
+    → (y : ℕ) × IsPending out queue at y × (y ≤ x) × (in_node list y s ≡ inside)
+
+-- The level that follows by a literal, and the one before it, whose nodes were moved further down.
+pub record IsNextLevel (list : NodeList) (inside : Bool) (bound : ℕ) (literal : Literal)
+    (old new next : Level) : Type 0 where
+  pub same : new.start.items ≡ old.start.items
+  pub moved : MovesTo list inside old.start.items new.moved.items
+      ⊎ ((old.ready ≡ true) × MovesTo list inside old.moved.items new.moved.items)
+  pub turns : Turns list inside literal new.moved.items next.start.items
+  pub unready : next.moved.items ≡ []
+  pub next_unready : next.ready ≡ true → ⊥
+  pub moved_below : AreBelowBound bound new.moved.items
+  pub next_below : AreBelowBound bound next.start.items

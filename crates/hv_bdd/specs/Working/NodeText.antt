@@ -1,0 +1,34 @@
+-- Working definitions beside those of `NodeText`: for private contracts and proofs.
+use Rattle.std.specs.Prelude.{◌≡◌, ◌<◌, ◌^◌, ℕ, List, Option, None, Some, Result, Ok, Err}
+use Rattle.hv_grammar.specs.declared.fault.ParseFault.{ParseFault}
+use Rattle.hv_bdd.specs.declared.fault.NodeRefusal.{NodeRefusal}
+use Rattle.hv_bdd.specs.declared.node.Node.{Node}
+use Rattle.hv_bdd.specs.declared.numbers.Triple.{Triple}
+use Rattle.hv_bdd.specs.NodeText.{header_line, node_line}
+use Rattle.hv_bdd.specs.Nodes.{NodeList}
+use Rattle.hv_bdd.specs.Working.Building.{as_node}
+
+-- these nodes over so many atoms
+abbrev pub list_over : ℕ → List Node → NodeList
+list_over atoms nodes = record { atoms = atoms; nodes = nodes }
+
+-- the line is the first one of a file with so many nodes
+pub record IsHeader (line : List ℕ) (count : ℕ) : Type 0 where
+  pub spelled : line ≡ header_line count
+  pub short : count < 10 ^ 18
+
+-- the line has three decimals, those of this node, be it a good one or not
+pub record IsTriple (line : List ℕ) (node : Node) : Type 0 where
+  pub spelled : line ≡ node_line node
+  pub atom : node.atom < 10 ^ 18
+  pub low : node.low < 10 ^ 18
+  pub high : node.high < 10 ^ 18
+
+-- the node of the numbers of a line
+abbrev pub node_of : Option Triple → Option Node
+node_of None = None
+node_of (Some triple) = Some (as_node triple)
+
+abbrev pub as_nodes : Result Triple (ParseFault NodeRefusal) → Result Node (ParseFault NodeRefusal)
+as_nodes (Ok triple) = Ok (as_node triple)
+as_nodes (Err e) = Err e

@@ -1,0 +1,116 @@
+//! The question to a node along a path: after each literal the nodes are kept that are still met.
+
+ghost use Rattle.std.specs.Prelude.{◌≡◌, ◌<◌, ◌≤◌, [], Bool, List, IfOk, true, not, ◌&&◌, length};
+ghost use Rattle.hv_bdd.specs.Nodes.{IsNode, in_node};
+ghost use Rattle.hv_bdd.specs.Fronts.{StandsAlong};
+
+use crate::diagrams::Diagrams;
+use crate::level::{Level, next_level};
+use hv_paths::Asker;
+use hv_sets::{Literal, Scratch};
+use hv_task::State;
+use std::alloc::{AllocError, Global};
+
+/// A question beside which stands which nodes are met after each literal.
+#[derive(Drop)]
+pub struct FrontAsk<'a, A: Asker + Drop> {
+    alloc: Global,
+    asked: A,
+    nodes: &'a Diagrams,
+    inside: bool,
+    places: Vec<u32>,
+    levels: Vec<Level>,
+    refuted: bool,
+}
+
+impl<'a, A: Asker + Drop> FrontAsk<'a, A> {
+    // The question with nothing assumed.
+    pub(crate) fn new(
+        alloc: Global,
+        asked: A,
+        nodes: &'a Diagrams,
+        node: u32,
+        inside: bool,
+    ) -> Result<FrontAsk<'a, A>, AllocError>
+        requires node { IsNode nodes.now node }
+        requires asked { A.stands asked }
+        requires first { A.assumed asked ≡ [] }
+        requires wanted { (s : List Bool) → A.wanted asked s ≡ true
+            → in_node nodes.now node s ≡ inside }
+        ensures stands { IfOk result (λ ask. ⟦<FrontAsk<'a, A> as Asker>⟧.stands ask) }
+        ensures atoms { IfOk result
+            (λ ask. ⟦<FrontAsk<'a, A> as Asker>⟧.atoms ask ≡ A.atoms asked) }
+        ensures first { IfOk result (λ ask. ⟦<FrontAsk<'a, A> as Asker>⟧.assumed ask ≡ []) }
+        ensures wanted { IfOk result (λ ask. (s : List Bool)
+            → ⟦<FrontAsk<'a, A> as Asker>⟧.wanted ask s ≡ A.wanted asked s) }
+    {
+        let mut places = Vec::new(alloc);
+        places.resize(node as usize + 1, 0)?;
+        let mut levels = Vec::new(alloc);
+        let level = Level::of(alloc, node)?;
+        levels.push(level)?;
+        Ok(FrontAsk {
+            alloc,
+            asked,
+            nodes,
+            inside,
+            places,
+            levels,
+            refuted: false,
+        })
+    }
+}
+
+impl<'a, A: Asker + Drop> Asker for FrontAsk<'a, A> {
+    ghost atoms = { λ q. A.atoms q.asked };
+
+    ghost wanted = { λ q. A.wanted q.asked };
+
+    ghost stands = { λ q. A.stands q.asked
+        × StandsAlong q.nodes.now q.inside (A.atoms q.asked) (A.wanted q.asked)
+        (A.assumed q.asked) q.places.items q.levels.items q.refuted };
+
+    ghost assumed = { λ q. A.assumed q.asked };
+
+    ghost alive = { λ q. not q.refuted && A.alive q.asked };
+
+    fn depth(&self) -> usize {
+        self.asked.depth()
+    }
+
+    fn is_open(&self) -> bool {
+        !self.refuted && self.asked.is_open()
+    }
+
+    fn assume(&mut self, literal: Literal) -> Result<(), AllocError> {
+        let depth = self.asked.depth();
+        let level = next_level(
+            self.alloc,
+            self.nodes,
+            self.inside,
+            &mut self.levels[depth],
+            &mut self.places,
+            literal,
+        )?;
+        self.asked.assume(literal)?;
+        self.refuted = level.is_met_nowhere();
+        self.levels.push(level)?;
+        Ok(())
+    }
+
+    fn take_back(&mut self, depth: usize) {
+        self.asked.take_back(depth);
+        self.levels.truncate(depth + 1);
+        self.refuted = false;
+    }
+
+    fn meets(&mut self, alloc: Global, scratch: &mut Scratch) -> Result<bool, AllocError> {
+        let yes = self.asked.meets(alloc, scratch)?;
+        Ok(yes)
+    }
+
+    fn wants(&mut self, alloc: Global, held: &[u32], state: &State) -> Result<bool, AllocError> {
+        let yes = self.asked.wants(alloc, held, state)?;
+        Ok(yes)
+    }
+}

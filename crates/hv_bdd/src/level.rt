@@ -1,0 +1,251 @@
+//! Fronts of nodes: where the states that are looked for are, after some literals.
+
+ghost use Rattle.std.specs.Prelude.{◌≡◌, ◌<◌, ◌≤◌, ◌++◌, ◌∷◌, ◌⊎◌, ◌≢◌, ◌+◌, [], Bool, List, IfOk};
+ghost use Rattle.std.specs.Prelude.{OnOk, true, length, cond, slice_index_or, ℕ};
+ghost use Rattle.std.specs.List.{All, Contains};
+ghost use Rattle.hv_sets.specs.Truth.{in_literal};
+ghost use Rattle.hv_bdd.specs.Nodes.{IsNode, in_node, node_count};
+ghost use Rattle.hv_bdd.specs.Fronts.{AreBelowBound};
+ghost use Rattle.hv_bdd.specs.Working.Fronts.{IsContinued, IsAhead, IsNextLevel, MovesTo, LiesIn};
+ghost use Rattle.hv_bdd.specs.Working.Fronts.{Turns};
+
+use crate::diagrams::Diagrams;
+use hv_sets::Literal;
+use std::alloc::{AllocError, Global};
+
+/// The nodes that are met after some literals; and the same nodes moved down so that none asks for
+/// an atom before a place.
+#[derive(Drop)]
+pub(crate) struct Level {
+    pub start: Vec<u32>,
+    pub moved: Vec<u32>,
+    pub ready: bool,
+    pub upto: u32,
+}
+
+impl Level {
+    // Whether there is no node.
+    pub(crate) fn is_met_nowhere(&self) -> bool
+        ensures { result ≡ true → length self.now.start.items ≡ 0 }
+    {
+        self.start.len() == 0
+    }
+
+    // That of one node.
+    pub(crate) fn of(alloc: Global, node: u32) -> Result<Level, AllocError>
+        ensures start { IfOk result (λ l. l.start.items ≡ node ∷ []) }
+        ensures moved { IfOk result (λ l. l.moved.items ≡ node ∷ []) }
+    {
+        let mut start = Vec::new(alloc);
+        start.push(node)?;
+        let mut moved = Vec::new(alloc);
+        moved.push(node)?;
+        Ok(Level {
+            start,
+            moved,
+            ready: true,
+            upto: 0,
+        })
+    }
+}
+
+// The nodes that are met after one more literal.
+pub(crate) fn next_level(
+    alloc: Global,
+    nodes: &Diagrams,
+    inside: bool,
+    level: &mut Level,
+    places: &mut Vec<u32>,
+    literal: Literal,
+) -> Result<Level, AllocError>
+    requires bound { length places.old.items ≤ node_count nodes.now }
+    requires start { AreBelowBound (length places.old.items) level.old.start.items }
+    requires moved { AreBelowBound (length places.old.items) level.old.moved.items }
+    ensures next { IfOk result (λ next.
+        IsNextLevel nodes.now inside (length places.old.items) literal level.old level.new next) }
+    ensures places { length places.new.items ≡ length places.old.items }
+{
+    let place = nodes.place(literal.atom);
+    restart(level, place)?;
+    let mut out = Vec::new(alloc);
+    advance(nodes, inside, place, places, &mut level.moved, &mut out)?;
+    level.moved = out;
+    level.upto = place;
+    let mut start = Vec::new(alloc);
+    restrict(
+        nodes,
+        inside,
+        level.moved.as_slice(),
+        literal,
+        places,
+        &mut start,
+    )?;
+    Ok(Level {
+        start,
+        moved: Vec::new(alloc),
+        ready: false,
+        upto: 0,
+    })
+}
+
+// Begins anew where the nodes were moved past the place.
+fn restart(level: &mut Level, place: u32) -> Result<(), AllocError>
+    ensures start { OnOk result (level.new.start.items ≡ level.old.start.items) }
+    ensures ready { OnOk result (level.new.ready ≡ true) }
+    ensures moved { OnOk result ((level.new.moved.items ≡ level.old.start.items)
+        ⊎ ((level.old.ready ≡ true) × (level.new.moved.items ≡ level.old.moved.items))) }
+{
+    if level.ready && level.upto <= place {
+        return Ok(());
+    }
+    level.moved.clear();
+    level.moved.extend_from_slice(&level.start)?;
+    level.ready = true;
+    Ok(())
+}
+
+// Puts a node into the list, unless it stands there.
+fn put(places: &mut Vec<u32>, list: &mut Vec<u32>, node: u32) -> Result<(), AllocError>
+    requires { node < length places.old.items }
+    ensures put { OnOk result (LiesIn list.old.items node list.new.items) }
+    ensures places { length places.new.items ≡ length places.old.items }
+{
+    let at = places[node as usize] as usize;
+    if at < list.len() && list[at] == node {
+        return Ok(());
+    }
+    places[node as usize] = list.len().min(u32::MAX as usize) as u32;
+    list.push(node)?;
+    Ok(())
+}
+
+// The same, unless it is the end that isn't looked for.
+fn put_live(
+    inside: bool,
+    places: &mut Vec<u32>,
+    list: &mut Vec<u32>,
+    node: u32,
+) -> Result<(), AllocError>
+    requires { node < length places.old.items }
+    ensures extends { OnOk result (IsContinued list.old.items list.new.items) }
+    ensures below { OnOk result ((bound : ℕ) → node < bound → AreBelowBound bound list.old.items
+        → AreBelowBound bound list.new.items) }
+    ensures put { OnOk result ((node ≡ cond inside 0 1) ⊎ Contains list.new.items node) }
+    ensures places { length places.new.items ≡ length places.old.items }
+{
+    let bad = if inside { 0 } else { 1 };
+    if node == bad {
+        return Ok(());
+    }
+    put(places, list, node)
+}
+
+// Remembers where each node of the list stands.
+fn note_all(places: &mut Vec<u32>, list: &[u32])
+    requires { AreBelowBound (length places.old.items) list.now }
+    ensures { length places.new.items ≡ length places.old.items }
+{
+    for k in 0..list.len() {
+        places[list[k] as usize] = k.min(u32::MAX as usize) as u32;
+    }
+}
+
+// Moves the nodes down, until none asks for an atom before the place.
+fn advance(
+    nodes: &Diagrams,
+    inside: bool,
+    place: u32,
+    places: &mut Vec<u32>,
+    queue: &mut Vec<u32>,
+    out: &mut Vec<u32>,
+) -> Result<(), AllocError>
+    requires bound { length places.old.items ≤ node_count nodes.now }
+    requires queue { AreBelowBound (length places.old.items) queue.old.items }
+    requires out { out.old.items ≡ [] }
+    ensures moves { OnOk result (MovesTo nodes.now inside queue.old.items out.new.items) }
+    ensures below { OnOk result (AreBelowBound (length places.old.items) out.new.items) }
+    ensures places { length places.new.items ≡ length places.old.items }
+{
+    note_all(places, queue.as_slice());
+    let most = queue.len().saturating_add(nodes.count());
+    for at in 0..most {
+        if at >= queue.len() {
+            return Ok(());
+        }
+        move_one(nodes, inside, place, places, queue, at, out)?;
+    }
+    // This many are never left.
+    out.extend_from_slice(queue.as_slice())?;
+    Ok(())
+}
+
+// Moves one node down, or leaves it as it is.
+fn move_one(
+    nodes: &Diagrams,
+    inside: bool,
+    place: u32,
+    places: &mut Vec<u32>,
+    queue: &mut Vec<u32>,
+    at: usize,
+    out: &mut Vec<u32>,
+) -> Result<(), AllocError>
+    requires bound { length places.old.items ≤ node_count nodes.now }
+    requires queue { AreBelowBound (length places.old.items) queue.old.items }
+    requires out { AreBelowBound (length places.old.items) out.old.items }
+    requires at { at < length queue.old.items }
+    requires ahead { IsAhead nodes.now inside out.old.items queue.old.items at }
+    ensures ahead { OnOk result (IsAhead nodes.now inside out.new.items queue.new.items (at + 1)) }
+    ensures extends { OnOk result (IsContinued queue.old.items queue.new.items) }
+    ensures queue { OnOk result (AreBelowBound (length places.old.items) queue.new.items) }
+    ensures out { OnOk result (AreBelowBound (length places.old.items) out.new.items) }
+    ensures places { length places.new.items ≡ length places.old.items }
+{
+    let node = queue[at];
+    let _atoms = nodes.atoms();
+    if node < 2 || nodes.top(node) >= place {
+        out.push(node)?;
+        return Ok(());
+    }
+    put_live(inside, places, queue, nodes.child(node, false))?;
+    put_live(inside, places, queue, nodes.child(node, true))?;
+    Ok(())
+}
+
+// Lists where the nodes lead by the literal.
+fn restrict(
+    nodes: &Diagrams,
+    inside: bool,
+    front: &[u32],
+    literal: Literal,
+    places: &mut Vec<u32>,
+    list: &mut Vec<u32>,
+) -> Result<(), AllocError>
+    requires bound { length places.old.items ≤ node_count nodes.now }
+    requires front { AreBelowBound (length places.old.items) front.now }
+    requires list { list.old.items ≡ [] }
+    ensures turns { OnOk result (Turns nodes.now inside literal front.now list.new.items) }
+    ensures below { OnOk result (AreBelowBound (length places.old.items) list.new.items) }
+    ensures places { length places.new.items ≡ length places.old.items }
+{
+    let _atoms = nodes.atoms();
+    for at in 0..front.len() {
+        let node = turned(nodes, front[at], literal);
+        put_live(inside, places, list, node)?;
+    }
+    Ok(())
+}
+
+// The node to which a literal leads.
+fn turned(nodes: &Diagrams, node: u32, literal: Literal) -> u32
+    requires { IsNode nodes.now node }
+    ensures same { (s : List Bool) → in_literal literal s ≡ true
+        → in_node nodes.now node s ≡ in_node nodes.now result s }
+    ensures less { result ≤ node }
+{
+    let _atoms = nodes.atoms();
+    if node >= 2 && nodes.node(node).atom == literal.atom {
+        nodes.child(node, literal.positive)
+    } else {
+        node
+    }
+}

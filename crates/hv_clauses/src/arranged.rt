@@ -1,0 +1,142 @@
+//! The places of clauses, of which those that are told of stand in front.
+
+ghost use Rattle.std.specs.Prelude.{◌≡◌, ◌<◌, ◌≤◌, ℕ, [], Bool, List, IfOk, true, length};
+ghost use Rattle.std.specs.Prelude.{slice_index_or, OnOk};
+ghost use Rattle.std.specs.List.{Contains};
+ghost use Rattle.hv_sets.specs.Truth.{in_clause};
+ghost use Rattle.hv_clauses.specs.Rest.{AreTrueUpto, IsArranged};
+ghost use Rattle.hv_clauses.specs.Working.Rest.{KeepsUpto};
+
+use crate::denial;
+use hv_sets::{Clauses, Cube, Literal};
+use std::alloc::{AllocError, Global};
+
+/// The places of clauses in some order, so many of them in front that are told of; and for each
+/// clause its place in that order.
+#[derive(Drop)]
+pub(crate) struct Arranged {
+    pub order: Vec<u32>,
+    pub places: Vec<u32>,
+    pub done: usize,
+}
+
+impl Arranged {
+    // That of no clauses.
+    pub(crate) fn none(alloc: Global) -> Arranged
+        ensures { result.done ≡ 0 }
+    {
+        Arranged {
+            order: Vec::new(alloc),
+            places: Vec::new(alloc),
+            done: 0,
+        }
+    }
+
+    // That of so many clauses, of which none is told of.
+    fn rising(alloc: Global, count: usize) -> Result<Arranged, AllocError>
+        ensures arranged { IfOk result (IsArranged count) }
+        ensures none { IfOk result (λ a. a.done ≡ 0) }
+    {
+        if count > u32::MAX as usize {
+            return Err(AllocError);
+        }
+        let mut order = Vec::with_capacity(alloc, count)?;
+        let mut places = Vec::with_capacity(alloc, count)?;
+        for place in 0..count {
+            order.push(place as u32)?;
+            places.push(place as u32)?;
+        }
+        Ok(Arranged {
+            order,
+            places,
+            done: 0,
+        })
+    }
+
+    // That of these clauses. Those that are true in each state are told of.
+    pub(crate) fn of(alloc: Global, clauses: &Clauses) -> Result<Arranged, AllocError>
+        ensures arranged { IfOk result (IsArranged (length clauses.now)) }
+        ensures upto { IfOk result (λ a. AreTrueUpto clauses.now [] a.order.items a.done) }
+    {
+        let mut arranged = Arranged::rising(alloc, clauses.len())?;
+        let mut cube = Cube::new(alloc);
+        for place in 0..clauses.len() {
+            arranged.move_if_true(clauses, place, &mut cube)?;
+        }
+        Ok(arranged)
+    }
+
+    // Tells of a clause that is true in each state.
+    fn move_if_true(
+        &mut self,
+        clauses: &Clauses,
+        place: usize,
+        cube: &mut Cube,
+    ) -> Result<(), AllocError>
+        requires place { place < length clauses.now }
+        requires arranged { IsArranged (length clauses.now) self.old }
+        requires upto { AreTrueUpto clauses.now [] self.old.order.items self.old.done }
+        ensures arranged { OnOk result (IsArranged (length clauses.now) self.new) }
+        ensures upto { OnOk result
+            (AreTrueUpto clauses.now [] self.new.order.items self.new.done) }
+    {
+        if !is_always_true(clauses.get(place), cube)? {
+            return Ok(());
+        }
+        self.move_up(place);
+        Ok(())
+    }
+
+    // Tells of one more clause, unless it is told of.
+    fn move_up(&mut self, clause: usize)
+        requires arranged { (count : ℕ) × (clause < count) × IsArranged count self.old }
+        ensures arranged { (count : ℕ) → clause < count → IsArranged count self.old
+            → IsArranged count self.new }
+        ensures keeps { KeepsUpto self.old.done self.old.order.items self.new.order.items }
+        ensures grows { self.old.done ≤ self.new.done }
+        ensures more { (k : ℕ) → self.old.done ≤ k → k < self.new.done
+            → slice_index_or self.new.order.items k 0 ≡ clause }
+    {
+        let place = self.places[clause] as usize;
+        if place < self.done {
+            return;
+        }
+        let other = self.order[self.done];
+        self.order[place] = other;
+        self.order[self.done] = clause as u32;
+        self.places[other as usize] = place as u32;
+        self.places[clause] = self.done as u32;
+        self.done += 1;
+    }
+
+    // Tells of these clauses.
+    pub(crate) fn move_all(&mut self, clauses: &[usize])
+        requires arranged { (count : ℕ) × IsArranged count self.old
+            × ((k : ℕ) → k < length clauses.now → slice_index_or clauses.now k 0 < count) }
+        ensures arranged { (count : ℕ) → IsArranged count self.old
+            → ((k : ℕ) → k < length clauses.now → slice_index_or clauses.now k 0 < count)
+            → IsArranged count self.new }
+        ensures keeps { KeepsUpto self.old.done self.old.order.items self.new.order.items }
+        ensures grows { self.old.done ≤ self.new.done }
+        ensures more { (k : ℕ) → self.old.done ≤ k → k < self.new.done
+            → Contains clauses.now (slice_index_or self.new.order.items k 0) }
+    {
+        for at in 0..clauses.len() {
+            self.move_up(clauses[at]);
+        }
+    }
+}
+
+// Whether the clause has a literal and its opposite.
+fn is_always_true(clause: &[Literal], cube: &mut Cube) -> Result<bool, AllocError>
+    ensures { IfOk result (λ yes. yes ≡ true → (s : List Bool) → in_clause clause.now s ≡ true) }
+{
+    if clause.len() < 2 {
+        return Ok(false);
+    }
+    if clause.len() == 2 && clause[0].atom != clause[1].atom {
+        return Ok(false);
+    }
+    let some = denial::fill(clause, cube)?;
+    Ok(!some)
+}
