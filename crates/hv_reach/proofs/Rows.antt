@@ -1,13 +1,11 @@
 -- Which actions ask for an atom.
-use Rattle.std.proofs.Common.{◌≡◌, ℕ, ◌+◌, ◌<◌, ◌∙◌, List, length, get_or, sym}
+use Rattle.std.proofs.Common.{◌≡◌, ℕ, ◌+◌, ◌<◌, ◌∙◌, List, length, get_or}
 use Rattle.std.proofs.Common.{ap, arith, inl, inr, subst, slice_get, Some}
-use Rattle.std.proofs.lemmas.List.{get_or_default}
 use Rattle.std.proofs.lemmas.Bool.{cases_lt}
 use Rattle.std.specs.List.{All}
 use Rattle.std.specs.Global.{Vec}
 use Rattle.hv_task.specs.declared.action.Action.{Action}
-use Rattle.hv_task.specs.State.{AreBelow}
-use Rattle.hv_reach.specs.Working.Index.{IsIn, IsRange}
+use Rattle.hv_reach.specs.Index.{IsIn}
 
 -- the number is in the rows of the places so far
 pub entered_more : (old new : List (Vec ℕ)) (places : List ℕ) (i x n : ℕ) → i < length places
@@ -54,9 +52,3 @@ past_more x old new actions n b at keeps here before k a below is none =
           let e : b ≡ a = let f = subst (λ m. slice_get actions m ≡ Some b) same at in cc in
           subst (λ m. IsIn new x m) same (here (ap (λ (y : Action). length y.pre) e ∙ none))
     ]
-
-pub range_below : (n : ℕ) (xs : List ℕ) → IsRange n xs → AreBelow n xs
-range_below n xs range = λ k d less.
-    let size = range.size in
-    subst (λ y. y < n) (sym (range.each k (omega arith)) ∙ get_or_default xs k 0 d less)
-    (omega arith)

@@ -1,6 +1,7 @@
 -- The start of the search for reached pairs.
-use Rattle.std.proofs.Common.{◌≡◌, ℕ, suc, ◌∷◌, length, get_or, arith, List, Bool, true, inr}
-use Rattle.std.proofs.lemmas.Option.{slice_get_within}
+use Rattle.std.proofs.Common.{◌≡◌, ◌<◌, ◌∙◌, ℕ, suc, ◌∷◌, length, get_or, arith, List, Bool, true}
+use Rattle.std.proofs.Common.{false, inl, inr, refl, set, sym}
+use Rattle.std.proofs.lemmas.Bool.{cases_Bool, cases_eq}
 use Rattle.std.proofs.lemmas.List.Elements.{All-cons, All-contains, All-contains_itself}
 use Rattle.std.specs.List.{All, Contains}
 use Rattle.hv_task.specs.declared.action.Action.{Action}
@@ -8,9 +9,9 @@ use Rattle.hv_task.specs.State.{AreBelow, has_atom}
 use Rattle.hv_task.specs.Strips.{Strips}
 use Rattle.hv_task.specs.AtomList.{IsListOf}
 use Rattle.hv_task.proofs.Listing.{within_state}
-use Rattle.hv_reach.specs.Working.Index.{IsRange}
-use Rattle.hv_reach.specs.Reached.{ArePaired, ClosedPairs, HasPairsOf}
-use Rattle.hv_reach.specs.Working.Table.{HaveTheirPairsBut, IsEven, IsJoined, KeepAllPairs}
+use Rattle.hv_reach.proofs.Sets.{set_grows, set_has}
+use Rattle.hv_reach.specs.Reached.{ArePaired, ClosedPairs, HasPairsOf, has_pair}
+use Rattle.hv_reach.specs.Working.Table.{HaveTheirPairs, IsEven, IsJoined, IsPairStep, KeepAllPairs}
 
 pub listed_held : (s : List Bool) (held : List ℕ) → IsListOf s held
     → All (λ p. has_atom s p ≡ true) held
@@ -39,13 +40,43 @@ paired_listed s held r listed paired p q hp hq =
     in_list : (x : ℕ) → has_atom s x ≡ true → Contains held x
     in_list x h = (listed.has x).1 (within_state s x h, h)
 
-pub ready_start : (n : ℕ) (actions : List Action) (numbers : List ℕ) (rows : List (List Bool))
-    (flags : List Bool) → IsRange (length actions) numbers
-    → HaveTheirPairsBut numbers 0 n actions rows flags
-ready_start n actions numbers rows flags range k a is =
-    let less = slice_get_within actions k a is in
-    let size = range.size in
-    inr (k, omega arith, omega arith, range.each k less)
+-- no action asks for pairs that aren't in: each waits for an atom whose flag is raised, or it has a
+-- precondition that isn't in
+pub ready_start : (n : ℕ) (actions : List Action) (old new : List (List Bool))
+    (flags raised : List Bool) (moved : Bool) → IsPairStep n old flags new raised moved
+    → ((p q : ℕ) → has_pair old p q ≡ false) → n < length raised
+    → HaveTheirPairs n actions new (set raised n true)
+ready_start n actions old new flags raised moved step none less k a is =
+    elim (cases_eq (length a.pre) 0) [
+      | inl free ↦ inr (n, inr (refl, free), set_has raised n less)
+      | inr some ↦
+          let p = get_or a.pre 0 0 in
+          let f : length a.pre ≡ 0 → ⊥ = some in
+          let first : 0 < length a.pre = omega arith in
+          elim (cases_Bool (has_pair new p p)) [
+            | inl here ↦
+                inr (
+                  p,
+                  inl (All-contains_itself a.pre 0 0 first),
+                  set_grows raised n p less
+                      (raised_first p here),
+                )
+            | inr out ↦ inl record {
+              both = λ pairs. absurd (missing p out (pairs 0 0 first 0 0 first));
+              other = λ q free pairs joined. absurd (missing p out (pairs 0 0 first 0 0 first));
+            }
+          ]
+    ]
+  where
+    missing : (p : ℕ) → has_pair new p p ≡ false → has_pair new p p ≡ true → ⊥
+    missing p out here = let e : false ≡ true = sym out ∙ here in cc
+
+    raised_first : (p : ℕ) → has_pair new p p ≡ true → has_atom raised p ≡ true
+    raised_first p here =
+        elim (step.raises p p here) [
+          | inl e ↦ let e : false ≡ true = sym (none p p) ∙ e in absurd cc
+          | inr e ↦ e.0
+        ]
 
 -- all pairs of a list with one more
 pub pairs_with : (set : ℕ → ℕ → Bool) (ps : List ℕ) (q : ℕ) → IsEven set → HasPairsOf set ps

@@ -14,7 +14,7 @@ use Rattle.hv_task.proofs.Places.{has_atom-set, names_atom-Decides}
 use Rattle.hv_task.proofs.Next.{unnamed}
 use Rattle.hv_task.proofs.Listing.{within_state}
 use Rattle.hv_reach.proofs.Steps.{ready_step}
-use Rattle.hv_reach.specs.Working.Index.{IsIn, IsActionIndex}
+use Rattle.hv_reach.specs.Index.{IsIn, IsActionIndex}
 use Rattle.hv_reach.specs.Reached.{has_pair}
 use Rattle.hv_reach.specs.Working.Table.{HaveTheirPairs, HaveTheirPairsBut, IsPairStep, HasItsPairs}
 use Rattle.hv_reach.specs.Working.Table.{IsPairTable, IsTrigger, IsTurn, KeepAllPairs}

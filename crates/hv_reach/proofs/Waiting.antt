@@ -5,17 +5,20 @@ use Rattle.std.proofs.Common.{◌⊎◌, ◌↔◌, slice_get, Some}
 use Rattle.std.proofs.lemmas.List.{length-set, get_or_default}
 use Rattle.std.proofs.lemmas.Bool.{cases_eq, cases_lt}
 use Rattle.std.proofs.lemmas.List.Elements.{All-push, Contains-push, Contains-push_cases}
-use Rattle.std.proofs.lemmas.List.Elements.{Contains-append_left}
+use Rattle.std.proofs.lemmas.List.Elements.{All-contains_itself, Contains-append_left}
 use Rattle.std.specs.List.{Contains}
 use Rattle.std.proofs.lemmas.Option.{slice_get_within}
 use Rattle.std.specs.Global.{Vec}
 use Rattle.hv_task.specs.declared.action.Action.{Action}
+use Rattle.hv_task.specs.AtomList.{IsListOf}
 use Rattle.hv_task.specs.State.{AreBelow, has_atom}
+use Rattle.hv_task.proofs.Listing.{within_state}
 use Rattle.hv_reach.proofs.Sets.{All-from_zero, missing_set, set_cases, set_grows}
-use Rattle.hv_reach.specs.Working.Index.{IsIn, IsActionIndex, IsRange}
+use Rattle.hv_reach.specs.Index.{IsIn, IsActionIndex}
 use Rattle.hv_reach.specs.Reached.{AreIn, IsWithin, Keeps}
 use Rattle.hv_reach.specs.Working.Waiting.{AreActionsSettled, AreActionsSettledBut, IsPassed}
-use Rattle.hv_reach.specs.Working.Waiting.{IsActionSettled, GrowsQueued}
+use Rattle.hv_reach.specs.Working.Passed.{AreZeros}
+use Rattle.hv_reach.specs.Working.Waiting.{IsActionSettled, IsKeptSearch, GrowsQueued}
 
 pub step_both : (a b c : List Bool) (q u w : List ℕ) → GrowsQueued a q b u → GrowsQueued b u c w
     → GrowsQueued a q c w
@@ -150,13 +153,56 @@ whole_in held r a pre from place passed same whole front within =
       | inr ge ↦ subst (λ xs. has_atom held (get_or xs k 0) ≡ true) same (front k ge (omega arith))
     ]))
 
-pub settled_start : (actions : List Action) (numbers : List ℕ) (held : List Bool)
-    (queue passed : List ℕ) → IsRange (length actions) numbers
-    → AreActionsSettledBut numbers 0 actions held queue passed
-settled_start actions numbers held queue passed range k a is =
-    let less = slice_get_within actions k a is in
-    let size = range.size in
-    inr (k, omega arith, omega arith, range.each k less)
+-- at the start each action is at its first place: it waits for an atom that isn't held or is in the
+-- queue, or it has no precondition and is in the row past the atoms
+pub settled_start : (n : ℕ) (actions : List Action) (rows : List (Vec ℕ)) (row : Vec ℕ)
+    (held : List Bool) (queue passed : List ℕ)
+    → IsActionIndex n actions rows → slice_get rows n ≡ Some row → AreZeros passed
+    → ((p : ℕ) → has_atom held p ≡ true → Contains queue p)
+    → AreActionsSettledBut row.items 0 actions held queue passed
+settled_start n actions rows row held queue passed index at zeros queued k a is =
+    elim (cases_eq (length a.pre) 0) [
+      | inl none ↦
+          let c = index.past k a is none row at in
+          inr (c.0, omega arith, c.1, get_or_default row.items c.0 0 k c.1 ∙ c.2)
+      | inr some ↦
+          inl (inl (
+            let e = zeros k in let f : length a.pre ≡ 0 → ⊥ = some in omega arith,
+            queued (get_or a.pre (get_or passed k 0) 0),
+          ))
+    ]
+
+-- the atoms that a state holds are all in its list
+pub all_queued : (held start : List Bool) (queue : List ℕ) → held ≡ start → IsListOf start queue
+    → (p : ℕ) → has_atom held p ≡ true → Contains queue p
+all_queued held start queue same listed p h =
+    let e = subst (λ s. has_atom s p ≡ true) same h in
+    (listed.has p).1 (within_state start p e, e)
+
+-- and below the number of its atoms
+pub queue_below : (held start : List Bool) (queue : List ℕ) → held ≡ start → IsListOf start queue
+    → AreBelow (length held) queue
+queue_below held start queue same listed = λ k d less.
+    let e = ap (λ (s : List Bool). length s) same in
+    let w = ((listed.has (get_or queue k d)).0 (All-contains_itself queue k d less)).0 in
+    omega arith
+
+-- the first place is passed
+pub passed_zero : (held : List Bool) (a : Action) (place : ℕ) → place ≡ 0 → IsPassed held a place
+passed_zero held a place zero = record {
+  upto = omega arith;
+  front = λ i less. absurd (omega arith);
+  done = λ e some. absurd (omega arith);
+}
+
+pub kept_start : (actions : List Action) (held : List Bool) (queue passed : List ℕ)
+    → length passed ≡ length actions → AreBelow (length held) queue → AreZeros passed
+    → IsKeptSearch actions held queue passed
+kept_start actions held queue passed size below zeros = record {
+  size = size;
+  below = below;
+  each = λ k a is. passed_zero held a (get_or passed k 0) (zeros k);
+}
 
 -- a list of the atoms below a bound that a state holds, with the next atom where it is held
 pub listed_more : (held : List Bool) (old new : List ℕ) (n : ℕ)

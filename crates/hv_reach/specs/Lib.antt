@@ -1,3 +1,4 @@
+pub mod Index
 pub mod Reached
 pub mod Written
 pub mod Pruners

@@ -1,5 +1,5 @@
 -- What the pruners by reached atoms and by reached pairs cover, and what they write.
-use Rattle.std.specs.Prelude.{◌≡◌, ◌≤◌, ◌+◌, ◌↔◌, ℕ, Bool, true, List, Some, IfSome, length}
+use Rattle.std.specs.Prelude.{◌≡◌, ◌≤◌, ◌+◌, ◌↔◌, ℕ, Bool, true, List, Option, Some, IfSome, length}
 use Rattle.std.specs.Prelude.{slice_get}
 use Rattle.std.specs.List.{All}
 use Rattle.hv_task.specs.State.{has_atom}
@@ -11,6 +11,8 @@ use Rattle.hv_lines.specs.Pruning.{IsNoted, states_in}
 use Rattle.hv_lines.specs.declared.line.Expr.TheVariants as E
 use Rattle.hv_lines.specs.declared.line.Line.{Line}
 use Rattle.hv_lines.specs.declared.note.Note.{Note}
+use Rattle.std.specs.Global.{Vec}
+use Rattle.hv_reach.specs.Index.{AreSearchRowsOf, IsTaskIndex, SearchRows}
 use Rattle.hv_reach.specs.Reached.{IsWithin, ReachedAtom, ReachedPair, has_pair}
 use Rattle.hv_reach.specs.Written.{IsDenial, PairsExcludeFrom, RelaxedExcludesFrom, dead_block}
 use Rattle.hv_reach.specs.Written.{pairs_formula, relaxed_formula}
@@ -62,16 +64,19 @@ AreHornNotes task covered lines notes =
     (k : ℕ) (note : Note) → slice_get notes k ≡ Some note
     → IsNoted task covered lines note × IsDenied (atoms task) lines note.set
 
--- what a pruner by reached atoms has, as contracts see it: its notes, and for each the atoms that
--- were reached
+-- what a pruner by reached atoms has, as contracts see it: its notes, for each the atoms that were
+-- reached, and what the search for reached atoms goes by, once it was made
 pub record RelaxedNotes : Type 0 where
   pub notes : List Note
   pub reached : List (List Bool)
+  pub search : Option SearchRows
 
--- the same of a pruner by reached pairs: for each note the table of the pairs that were reached
+-- the same of a pruner by reached pairs: for each note the table of the pairs that were reached,
+-- and the index of the actions, once it was made
 pub record PairNotes : Type 0 where
   pub notes : List Note
   pub reached : List (List (List Bool))
+  pub index : Option (List (Vec ℕ))
 
 -- the state holds atoms of the row alone
 abbrev pub HoldsAtomsOf : List Bool → List Bool → Type 0
@@ -98,14 +103,17 @@ AreDescribed Holds task lines notes reached =
     × ((k : ℕ) (note : Note) → slice_get notes k ≡ Some note
     → IfSome (slice_get reached k) (Describes Holds task lines note.set))
 
--- the notes of a pruner by reached atoms stand in the lines, and what it has for each is right
+-- the notes of a pruner by reached atoms stand in the lines, what it has for each is right, and
+-- what the search goes by is that of the task
 abbrev pub FitRelaxed : Strips → List Line → RelaxedNotes → Type 0
 FitRelaxed task lines kept =
     AreHornNotes task (RelaxedExcludesFrom task) lines kept.notes
     × AreDescribed HoldsAtomsOf task lines kept.notes kept.reached
+    × IfSome kept.search (AreSearchRowsOf task)
 
 -- the same of a pruner by reached pairs
 abbrev pub FitPairs : Strips → List Line → PairNotes → Type 0
 FitPairs task lines kept =
     AreHornNotes task (PairsCover task) lines kept.notes
     × AreDescribed HoldsPairsOf task lines kept.notes kept.reached
+    × IfSome kept.index (IsTaskIndex task)

@@ -1,5 +1,6 @@
 -- Definitions that no public contract cites: those of private contracts and of proofs.
 pub mod Index
+pub mod Passed
 pub mod Waiting
 pub mod Table
 pub mod Written

@@ -3,15 +3,14 @@
 ghost use Rattle.std.specs.Prelude.{◌≡◌, ◌<◌, ◌+◌, ℕ, length, IfOk, OnOk};
 ghost use Rattle.std.specs.List.{All};
 ghost use Rattle.hv_task.specs.State.{AreBelow};
-ghost use Rattle.hv_task.specs.Strips.{atoms};
-ghost use Rattle.hv_reach.specs.Working.Index.{IsIn, IsActionIndex, IsRange, RowsBelow};
+ghost use Rattle.hv_reach.specs.Index.{IsIn, IsTaskIndex, RowsBelow};
 
 use hv_task::Task;
 use std::alloc::{AllocError, Global};
 
 /// The actions of each atom, by number; in a last row those without precondition.
 pub(crate) fn index(alloc: Global, task: &Task) -> Result<Vec<Vec<u32>>, AllocError>
-    ensures { IfOk result (λ rows. IsActionIndex (atoms task.now) task.now.actions rows.items) }
+    ensures { IfOk result (λ rows. IsTaskIndex task.now rows.items) }
 {
     let mut rows = empty_rows(alloc, task.atoms() + 1)?;
     for number in 0..task.actions() {
@@ -23,17 +22,6 @@ pub(crate) fn index(alloc: Global, task: &Task) -> Result<Vec<Vec<u32>>, AllocEr
         )?;
     }
     Ok(rows)
-}
-
-/// The numbers below a bound.
-pub(crate) fn range(alloc: Global, count: u32) -> Result<Vec<u32>, AllocError>
-    ensures { IfOk result (λ numbers. IsRange count numbers.items) }
-{
-    let mut numbers = Vec::new(alloc);
-    for number in 0..count {
-        numbers.push(number)?;
-    }
-    Ok(numbers)
 }
 
 // So many empty rows.

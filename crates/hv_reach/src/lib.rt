@@ -14,6 +14,7 @@ mod notes;
 pub mod pair_pruner;
 pub mod paired;
 pub mod pairs;
+mod passed;
 pub mod relaxed;
 pub mod relaxed_pruner;
 mod search;

@@ -1,17 +1,19 @@
 //! The pruner by reached pairs.
 
 ghost use Rattle.std.specs.Prelude.{◌≡◌, ◌≤◌, [], ◌↔◌, ℕ, true, IsTrue, IfOk, IfSome, IfNone};
-ghost use Rattle.std.specs.Prelude.{MatchOption, OnErr, is_some, length};
+ghost use Rattle.std.specs.Prelude.{MatchOption, OnErr, None, is_some, length};
 ghost use Rattle.hv_task.specs.AtomList.{IsListOf};
 ghost use Rattle.hv_task.specs.Strips.{IsState, atoms};
 ghost use Rattle.hv_lines.specs.Drafts.{IsGoodTable};
 ghost use Rattle.hv_lines.specs.Pruning.{Extends, IsPrunerAnswer, IsDeadBy, IsFirstNoted};
 ghost use Rattle.hv_lines.specs.Pruning.{NoneNoted};
+ghost use Rattle.hv_reach.specs.Index.{IsTaskIndex};
 ghost use Rattle.hv_reach.specs.Pruners.{AreDescribed, AreHornNotes, FitPairs, HoldsPairsOf};
 ghost use Rattle.hv_reach.specs.Pruners.{IsPairsBlock, PairsCover};
 ghost use Rattle.hv_reach.specs.Working.Pruners.{AreDiagonals, IsOutcome};
 ghost use Rattle.hv_reach.specs.Reached.{ReachedPair, has_pair};
 
+use crate::index::index;
 use crate::note_rows::NoteRows;
 use crate::notes::write_block;
 use crate::paired::{MOST_ATOMS, pairs_formula, pairs_reason};
@@ -36,15 +38,21 @@ pub struct PairPruner {
     reached: Vec<Pairs>,
     // The atoms that were reached in a pair with themselves, for each note.
     rows: NoteRows,
+    // Which actions ask for an atom, from the first question on.
+    index: Option<Vec<Vec<u32>>>,
 }
 
 impl Model for PairPruner {
     ghost use Rattle.hv_reach.specs.Pruners.{PairNotes};
-    ghost use Rattle.hv_reach.specs.Working.Pruners.{AreDiagonals};
+    ghost use Rattle.hv_reach.specs.Working.Pruners.{AreDiagonals, items_in};
 
     ghost Value = { PairNotes };
 
-    ghost view = { λ p. record { notes = p.notes.items; reached = p.reached.items } };
+    ghost view = { λ p. record {
+      notes = p.notes.items;
+      reached = p.reached.items;
+      index = items_in p.index;
+    } };
 
     ghost invariant = { λ p. AreDiagonals p.rows.rows p.reached.items };
 }
@@ -52,12 +60,13 @@ impl Model for PairPruner {
 impl PairPruner {
     /// The pruner without notes.
     pub fn new(alloc: Global) -> PairPruner
-        ensures { result ≡ record { notes = []; reached = [] } }
+        ensures { result ≡ record { notes = []; reached = []; index = None } }
     {
         PairPruner {
             notes: Vec::new(alloc),
             reached: Vec::new(alloc),
             rows: NoteRows::new(alloc),
+            index: None,
         }
     }
 
@@ -87,15 +96,33 @@ impl PairPruner {
         ensures err_draft { OnErr result (draft.new ≡ draft.old) }
         ensures err_notes { OnErr result (self.new ≡ self.old) }
     {
-        pairs_answer(
-            alloc,
-            task,
-            draft,
-            &mut self.notes,
-            &mut self.reached,
-            &mut self.rows,
-            state,
-        )
+        match &self.index {
+            Some(index) => pairs_answer(
+                alloc,
+                task,
+                draft,
+                &mut self.notes,
+                &mut self.reached,
+                &mut self.rows,
+                index,
+                state,
+            ),
+            None => {
+                let index = index(alloc, task)?;
+                let found = pairs_answer(
+                    alloc,
+                    task,
+                    draft,
+                    &mut self.notes,
+                    &mut self.reached,
+                    &mut self.rows,
+                    &index,
+                    state,
+                )?;
+                self.index = Some(index);
+                Ok(found)
+            }
+        }
     }
 }
 
@@ -111,6 +138,7 @@ impl Pruner for PairPruner {
         self.notes.clear();
         self.reached.clear();
         self.rows.clear();
+        self.index = None;
     }
 
     fn justify(
@@ -135,6 +163,7 @@ fn pairs_answer(
     notes: &mut Vec<Note>,
     reached: &mut Vec<Pairs>,
     rows: &mut NoteRows,
+    index: &Vec<Vec<u32>>,
     state: &State,
 ) -> Result<Option<usize>, AllocError>
     requires good { IsGoodTable task.now draft.old.lines }
@@ -143,6 +172,7 @@ fn pairs_answer(
     requires described { AreDescribed HoldsPairsOf task.now
         draft.old.lines notes.old.items reached.old.items }
     requires diagonals { AreDiagonals rows.old.rows reached.old.items }
+    requires index { IsTaskIndex task.now index.now.items }
     requires state { IsState task.now state.now }
     ensures outcome { IfOk result (λ found. IsOutcome task.now (PairsCover task.now)
         (IsPairsBlock task.now state.now draft.old.lines) state.now found
@@ -169,7 +199,7 @@ fn pairs_answer(
     if noted.is_some() {
         return Ok(noted);
     }
-    match covering_pairs(alloc, task, state)? {
+    match covering_pairs(alloc, task, index, state)? {
         Some(pairs) => {
             let clauses = pairs_formula(alloc, task.atoms(), &pairs)?;
             reached.reserve(1)?;
@@ -216,8 +246,14 @@ fn first_noted(
 }
 
 // The pairs that are reached from the state, where it is covered; otherwise there are none to tell.
-fn covering_pairs(alloc: Global, task: &Task, state: &State) -> Result<Option<Pairs>, AllocError>
-    requires { IsState task.now state.now }
+fn covering_pairs(
+    alloc: Global,
+    task: &Task,
+    index: &Vec<Vec<u32>>,
+    state: &State,
+) -> Result<Option<Pairs>, AllocError>
+    requires index { IsTaskIndex task.now index.now.items }
+    requires state { IsState task.now state.now }
     ensures few { IfOk result (λ found. IfSome found (λ _. atoms task.now ≤ 1024)) }
     ensures some { IfOk result (λ found. IsTrue (is_some found)
         ↔ PairsCover task.now state.now) }
@@ -229,5 +265,5 @@ fn covering_pairs(alloc: Global, task: &Task, state: &State) -> Result<Option<Pa
     if task.atoms() > MOST_ATOMS {
         return Ok(None);
     }
-    pairs_reason(alloc, task, state)
+    pairs_reason(alloc, task, index, state)
 }

@@ -6,13 +6,15 @@ ghost use Rattle.hv_lines.specs.Drafts.{IsGoodTable};
 ghost use Rattle.hv_lines.specs.Judged.{Concludes};
 ghost use Rattle.hv_task.specs.Strips.{IsState, atoms};
 ghost use Rattle.hv_reach.specs.declared.fault.ReachFault.TheVariants as F;
+ghost use Rattle.hv_reach.specs.Index.{IsTaskIndex};
 ghost use Rattle.hv_reach.specs.Reached.{ReachedPair, has_pair};
 ghost use Rattle.hv_reach.specs.Written.{IsPairsProof, PairsExclude, PairsExcludeFrom};
 ghost use Rattle.hv_reach.specs.Written.{pair_clauses, pairs_formula, row_clauses};
 
 use crate::fault::ReachFault;
 use crate::horn_proof::{denied, horn_proof};
-use crate::pairs::{Pairs, reached_pairs};
+use crate::index::index;
+use crate::pairs::{Pairs, pairs_by};
 use hv_lines::Draft;
 use hv_sets::Clauses;
 use hv_task::{State, Task};
@@ -51,7 +53,8 @@ fn pairs_proof(alloc: Global, task: &Task) -> Result<Option<Draft>, AllocError>
     ensures concludes { IfOk result (λ found. IfSome found (λ draft. Concludes draft.lines)) }
 {
     let start = task.start_state(alloc)?;
-    match pairs_reason(alloc, task, &start)? {
+    let index = index(alloc, task)?;
+    match pairs_reason(alloc, task, &index, &start)? {
         Some(pairs) => {
             let clauses = pairs_formula(alloc, task.atoms(), &pairs)?;
             let draft = horn_proof(alloc, task, clauses)?;
@@ -66,9 +69,11 @@ fn pairs_proof(alloc: Global, task: &Task) -> Result<Option<Draft>, AllocError>
 pub(crate) fn pairs_reason(
     alloc: Global,
     task: &Task,
+    index: &Vec<Vec<u32>>,
     state: &State,
 ) -> Result<Option<Pairs>, AllocError>
     requires few { atoms task.now ≤ 1024 }
+    requires index { IsTaskIndex task.now index.now.items }
     requires state { IsState task.now state.now }
     ensures some { IfOk result (λ found. IsTrue (is_some found)
         ↔ PairsExcludeFrom task.now state.now) }
@@ -77,7 +82,7 @@ pub(crate) fn pairs_reason(
     ensures reached { IfOk result (λ found. IfSome found (λ pairs. (p q : ℕ)
         → (has_pair pairs p q ≡ true) ↔ ReachedPair task.now state.now p q)) }
 {
-    let pairs = reached_pairs(alloc, task, state)?;
+    let pairs = pairs_by(alloc, task, index, state)?;
     if pairs.has_all(task.atoms(), task.goal().as_slice()) {
         return Ok(None);
     }

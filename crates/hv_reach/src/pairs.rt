@@ -3,13 +3,14 @@
 ghost use Rattle.std.specs.Prelude.{◌≡◌, ◌<◌, ◌≤◌, ◌↔◌, ℕ, true, false, length, IfOk};
 ghost use Rattle.hv_task.specs.Strips.{IsState, atoms};
 ghost use Rattle.hv_task.specs.State.{AreBelow};
+ghost use Rattle.hv_reach.specs.Index.{IsTaskIndex};
 ghost use Rattle.hv_reach.specs.Reached.{HasPairsOf, ReachedPair, has_pair};
 ghost use Rattle.hv_reach.specs.Working.NoteRows.{IsDiagonal};
 ghost use Rattle.hv_reach.specs.Working.Table.{IsPairTable};
 
-use crate::index::{index, range};
+use crate::index::index;
 use crate::mask::{diagonal, has_pairs};
-use crate::search::{close, wake};
+use crate::search::{close, turn};
 use crate::table::{mark_all, table};
 use hv_task::{State, Task};
 use std::alloc::{AllocError, Global};
@@ -74,13 +75,37 @@ pub fn reached_pairs(alloc: Global, task: &Task, start: &State) -> Result<Pairs,
     ensures reached { IfOk result (λ pairs. (p q : ℕ)
         → (has_pair pairs p q ≡ true) ↔ ReachedPair task.now start.now p q) }
 {
-    let rows = reached_rows(alloc, task, start)?;
+    let index = index(alloc, task)?;
+    pairs_by(alloc, task, &index, start)
+}
+
+/// The same by the index of the task.
+pub(crate) fn pairs_by(
+    alloc: Global,
+    task: &Task,
+    index: &Vec<Vec<u32>>,
+    start: &State,
+) -> Result<Pairs, AllocError>
+    requires index { IsTaskIndex task.now index.now.items }
+    requires state { IsState task.now start.now }
+    ensures atoms { IfOk result (λ pairs. length pairs ≡ atoms task.now) }
+    ensures reached { IfOk result (λ pairs. (p q : ℕ)
+        → (has_pair pairs p q ≡ true) ↔ ReachedPair task.now start.now p q) }
+{
+    let rows = reached_rows(alloc, task, index, start)?;
     Ok(Pairs { rows })
 }
 
-// The table of the pairs that are reached.
-fn reached_rows(alloc: Global, task: &Task, start: &State) -> Result<Vec<State>, AllocError>
-    requires { IsState task.now start.now }
+// The table of the pairs that are reached: actions without precondition are visited first, and then
+// those that ask for an atom of the state.
+fn reached_rows(
+    alloc: Global,
+    task: &Task,
+    index: &Vec<Vec<u32>>,
+    start: &State,
+) -> Result<Vec<State>, AllocError>
+    requires index { IsTaskIndex task.now index.now.items }
+    requires state { IsState task.now start.now }
     ensures table { IfOk result (λ rows. IsPairTable (atoms task.now) rows.items) }
     ensures reached { IfOk result (λ rows. (p q : ℕ) → has_pair rows.items p q ≡ true
         → ReachedPair task.now start.now p q) }
@@ -91,12 +116,11 @@ fn reached_rows(alloc: Global, task: &Task, start: &State) -> Result<Vec<State>,
     let mut flags = State::empty(alloc, task.atoms() + 1)?;
     let mut mask = State::empty(alloc, task.atoms())?;
     let mut seen = State::empty(alloc, task.atoms())?;
-    let index = index(alloc, task)?;
-    let all = range(alloc, task.actions())?;
     let mut held = Vec::new(alloc);
     start.list_atoms(&mut held)?;
     mark_all(task.atoms(), &mut rows, &mut flags, held.as_slice());
-    wake(task, &mut rows, &mut flags, &mut mask, all.as_slice());
-    close(task, &index, &mut rows, &mut flags, &mut mask, &mut seen);
+    flags.set(task.atoms(), true);
+    turn(task, index, &mut rows, &mut flags, &mut mask, task.atoms());
+    close(task, index, &mut rows, &mut flags, &mut mask, &mut seen);
     Ok(rows)
 }

@@ -1,17 +1,19 @@
 //! The pruner by reached atoms.
 
 ghost use Rattle.std.specs.Prelude.{◌≡◌, [], ◌↔◌, IsTrue, IfOk, IfSome, IfNone, MatchOption, OnErr};
-ghost use Rattle.std.specs.Prelude.{is_some};
+ghost use Rattle.std.specs.Prelude.{None, is_some};
 ghost use Rattle.hv_task.specs.AtomList.{IsListOf};
 ghost use Rattle.hv_task.specs.Strips.{IsState};
 ghost use Rattle.hv_lines.specs.Drafts.{IsGoodTable};
 ghost use Rattle.hv_lines.specs.Pruning.{Extends, IsPrunerAnswer, IsDeadBy, IsFirstNoted};
 ghost use Rattle.hv_lines.specs.Pruning.{NoneNoted};
+ghost use Rattle.hv_reach.specs.Index.{AreSearchRowsOf};
 ghost use Rattle.hv_reach.specs.Pruners.{AreDescribed, AreHornNotes, FitRelaxed, HoldsAtomsOf};
 ghost use Rattle.hv_reach.specs.Pruners.{IsRelaxedBlock};
 ghost use Rattle.hv_reach.specs.Working.Pruners.{IsOutcome};
 ghost use Rattle.hv_reach.specs.Written.{RelaxedExcludesFrom};
 
+use crate::atoms::AtomSearch;
 use crate::note_rows::NoteRows;
 use crate::notes::write_block;
 use crate::relaxed::{relaxed_formula, relaxed_reason};
@@ -31,6 +33,8 @@ pub struct RelaxedPruner {
     notes: Vec<Note>,
     // The atoms that were reached, for each note.
     reached: NoteRows,
+    // What the search for reached atoms goes by, from the first question on.
+    search: Option<AtomSearch>,
 }
 
 impl Model for RelaxedPruner {
@@ -38,17 +42,22 @@ impl Model for RelaxedPruner {
 
     ghost Value = { RelaxedNotes };
 
-    ghost view = { λ p. record { notes = p.notes.items; reached = p.reached.rows } };
+    ghost view = { λ p. record {
+      notes = p.notes.items;
+      reached = p.reached.rows;
+      search = p.search;
+    } };
 }
 
 impl RelaxedPruner {
     /// The pruner without notes.
     pub fn new(alloc: Global) -> RelaxedPruner
-        ensures { result ≡ record { notes = []; reached = [] } }
+        ensures { result ≡ record { notes = []; reached = []; search = None } }
     {
         RelaxedPruner {
             notes: Vec::new(alloc),
             reached: NoteRows::new(alloc),
+            search: None,
         }
     }
 
@@ -79,14 +88,31 @@ impl RelaxedPruner {
         ensures err_draft { OnErr result (draft.new ≡ draft.old) }
         ensures err_notes { OnErr result (self.new ≡ self.old) }
     {
-        relaxed_answer(
-            alloc,
-            task,
-            draft,
-            &mut self.notes,
-            &mut self.reached,
-            state,
-        )
+        match &mut self.search {
+            Some(search) => relaxed_answer(
+                alloc,
+                task,
+                draft,
+                &mut self.notes,
+                &mut self.reached,
+                search,
+                state,
+            ),
+            None => {
+                let mut search = AtomSearch::new(alloc, task)?;
+                let found = relaxed_answer(
+                    alloc,
+                    task,
+                    draft,
+                    &mut self.notes,
+                    &mut self.reached,
+                    &mut search,
+                    state,
+                )?;
+                self.search = Some(search);
+                Ok(found)
+            }
+        }
     }
 }
 
@@ -102,6 +128,7 @@ impl Pruner for RelaxedPruner {
     fn begin(&mut self) {
         self.notes.clear();
         self.reached.clear();
+        self.search = None;
     }
 
     fn justify(
@@ -125,6 +152,7 @@ fn relaxed_answer(
     draft: &mut Draft,
     notes: &mut Vec<Note>,
     reached: &mut NoteRows,
+    search: &mut AtomSearch,
     state: &State,
 ) -> Result<Option<usize>, AllocError>
     requires good { IsGoodTable task.now draft.old.lines }
@@ -132,6 +160,7 @@ fn relaxed_answer(
         draft.old.lines notes.old.items }
     requires described { AreDescribed HoldsAtomsOf task.now
         draft.old.lines notes.old.items reached.old.rows }
+    requires search { AreSearchRowsOf task.now search.old }
     requires state { IsState task.now state.now }
     ensures outcome { IfOk result (λ found. IsOutcome task.now (RelaxedExcludesFrom task.now)
         (IsRelaxedBlock task.now state.now draft.old.lines) state.now found
@@ -141,6 +170,7 @@ fn relaxed_answer(
     ensures err_draft { OnErr result (draft.new ≡ draft.old) }
     ensures err_notes { OnErr result (notes.new.items ≡ notes.old.items) }
     ensures err_reached { OnErr result (reached.new.rows ≡ reached.old.rows) }
+    ensures search { search.new ≡ search.old }
 {
     let _atoms = task.atoms();
     let mut held = Vec::new(alloc);
@@ -149,7 +179,7 @@ fn relaxed_answer(
     if noted.is_some() {
         return Ok(noted);
     }
-    match relaxed_reason(alloc, task, state)? {
+    match relaxed_reason(alloc, task, search, state)? {
         Some(row) => {
             let clauses = relaxed_formula(alloc, &row)?;
             let line = write_block(alloc, task, draft, notes, clauses, reached, row)?;

@@ -5,7 +5,7 @@ ghost use Rattle.hv_task.specs.declared.action.Action.{Action};
 ghost use Rattle.hv_task.specs.State.{AreBelow, has_atom};
 ghost use Rattle.hv_task.specs.Strips.{IsOver, atoms};
 ghost use Rattle.hv_reach.specs.Reached.{has_pair};
-ghost use Rattle.hv_reach.specs.Working.Index.{IsActionIndex};
+ghost use Rattle.hv_reach.specs.Index.{IsTaskIndex};
 ghost use Rattle.hv_reach.specs.Working.Table.{HaveTheirPairs, HaveTheirPairsBut, IsPairStep};
 ghost use Rattle.hv_reach.specs.Working.Table.{HasItsPairs, IsPairTable, IsTurn, KeepAllPairs};
 ghost use Rattle.hv_reach.specs.Working.Table.{KeepsPairs, PairsGrowWithin};
@@ -25,7 +25,7 @@ pub(crate) fn close(
     mask: &mut State,
     seen: &mut State,
 )
-    requires index { IsActionIndex (atoms task.now) task.now.actions index.now.items }
+    requires index { IsTaskIndex task.now index.now.items }
     requires table { IsPairTable (atoms task.now) rows.old.items }
     requires flags { length flags.old ≡ atoms task.now + 1 }
     requires mask { length mask.old ≡ atoms task.now }
@@ -53,7 +53,7 @@ fn settle(
     mask: &mut State,
     seen: &mut State,
 ) -> bool
-    requires index { IsActionIndex (atoms task.now) task.now.actions index.now.items }
+    requires index { IsTaskIndex task.now index.now.items }
     requires table { IsPairTable (atoms task.now) rows.old.items }
     requires flags { length flags.old ≡ atoms task.now + 1 }
     requires mask { length mask.old ≡ atoms task.now }
@@ -89,7 +89,7 @@ fn sweep_short(
     mask: &mut State,
     few: u32,
 ) -> bool
-    requires index { IsActionIndex (atoms task.now) task.now.actions index.now.items }
+    requires index { IsTaskIndex task.now index.now.items }
     requires table { IsPairTable (atoms task.now) rows.old.items }
     requires flags { length flags.old ≡ atoms task.now + 1 }
     requires mask { length mask.old ≡ atoms task.now }
@@ -118,7 +118,7 @@ fn turn_short(
     few: u32,
 ) -> bool
     requires flag { flag ≤ atoms task.now }
-    requires index { IsActionIndex (atoms task.now) task.now.actions index.now.items }
+    requires index { IsTaskIndex task.now index.now.items }
     requires table { IsPairTable (atoms task.now) rows.old.items }
     requires flags { length flags.old ≡ atoms task.now + 1 }
     requires mask { length mask.old ≡ atoms task.now }
@@ -145,7 +145,7 @@ fn chase(
     mask: &mut State,
     seen: &mut State,
 ) -> bool
-    requires index { IsActionIndex (atoms task.now) task.now.actions index.now.items }
+    requires index { IsTaskIndex task.now index.now.items }
     requires table { IsPairTable (atoms task.now) rows.old.items }
     requires flags { length flags.old ≡ atoms task.now + 1 }
     requires mask { length mask.old ≡ atoms task.now }
@@ -196,7 +196,7 @@ fn sweep(
     flags: &mut State,
     mask: &mut State,
 ) -> bool
-    requires index { IsActionIndex (atoms task.now) task.now.actions index.now.items }
+    requires index { IsTaskIndex task.now index.now.items }
     requires table { IsPairTable (atoms task.now) rows.old.items }
     requires flags { length flags.old ≡ atoms task.now + 1 }
     requires mask { length mask.old ≡ atoms task.now }
@@ -216,8 +216,8 @@ fn sweep(
     moved
 }
 
-// Where the flag is raised, lowers it and visits the actions that it stands for.
-fn turn(
+/// Where the flag is raised, lowers it and visits the actions that it stands for.
+pub(crate) fn turn(
     task: &Task,
     index: &Vec<Vec<u32>>,
     rows: &mut Vec<State>,
@@ -226,7 +226,7 @@ fn turn(
     flag: u32,
 ) -> bool
     requires flag { flag ≤ atoms task.now }
-    requires index { IsActionIndex (atoms task.now) task.now.actions index.now.items }
+    requires index { IsTaskIndex task.now index.now.items }
     requires table { IsPairTable (atoms task.now) rows.old.items }
     requires flags { length flags.old ≡ atoms task.now + 1 }
     requires mask { length mask.old ≡ atoms task.now }
@@ -246,8 +246,8 @@ fn turn(
     wake(task, rows, flags, mask, row.as_slice())
 }
 
-/// Visits each of these actions, and says whether a pair is new.
-pub(crate) fn wake(
+// Visits each of these actions, and says whether a pair is new.
+fn wake(
     task: &Task,
     rows: &mut Vec<State>,
     flags: &mut State,

@@ -2,7 +2,7 @@
 use Rattle.std.proofs.Common.{◌≡◌, ◌∙◌, ◌<◌, ◌≤◌, ◌↔◌, ℕ, Bool, true, false, List, Option, Some}
 use Rattle.std.proofs.Common.{get_or, length, inl, inr, refl, sym, ap, subst, arith}
 use Rattle.std.specs.Prelude.{not, slice_get}
-use Rattle.std.proofs.lemmas.Bool.{cases_lt}
+use Rattle.std.proofs.lemmas.Bool.{cases_lt, false_from_ne_true}
 use Rattle.std.proofs.lemmas.List.{get_or_default}
 use Rattle.std.proofs.lemmas.List.Elements.{All-contains}
 use Rattle.std.specs.Global.{Vec}
@@ -77,14 +77,17 @@ module _ (task : Strips) (set : Listing) (held : List ℕ) (below : AreBelow (at
     same_action a at = let f : ◌≡◌ {A = Option Action} (Some action) (Some a) = sym named ∙ at in cc
 
     -- an action whose precondition isn't held leads nowhere
-    pub stays_put : (All (λ p. Contains held p) action.pre → ⊥) → StaysListed task set state number
+    pub stays_put : (All (λ p. has_atom state p ≡ true) action.pre → ⊥)
+        → StaysListed task set state number
     stays_put none = λ a at can.
-        let no = applies_not (atoms task) held action.pre over.pre none in
+        let no : has_all action.pre state ≡ false =
+        false_from_ne_true (has_all action.pre state)
+        (λ yes. none ((has_all-Decides action.pre state).0 yes)) in
         let f : false ≡ true = sym no ∙ (ap (λ (x : Action). applicable x state) (same_action a at)
         ∙ can) in absurd cc
 
     -- the result of another is looked up
-    pub stays_listed : set.atoms ≡ atoms task → All (λ p. Contains held p) action.pre
+    pub stays_listed : set.atoms ≡ atoms task → All (λ p. has_atom state p ≡ true) action.pre
         → (found : Bool)
         → ((s : List Bool) → length s ≡ set.atoms → IsSetOf (is_after action held) s
         → found ≡ in_listing set s)
@@ -95,7 +98,7 @@ module _ (task : Strips) (set : Listing) (held : List ℕ) (below : AreBelow (at
         (stands.of_task ∙ sym size) stands.same in (
           λ yes a at can. subst (λ (x : Action). in_listing set (successor x state) ≡ true)
               (same_action a at) (sym is ∙ yes),
-          λ stays. is ∙ stays action named (applies (atoms task) held action.pre below all),
+          λ stays. is ∙ stays action named ((has_all-Decides action.pre state).1 all),
         )
 
   -- an atom that the state has stands in the list

@@ -1,5 +1,5 @@
 -- Logs and the set of their states: what the search for the first hole rests on.
-use Rattle.std.proofs.Common.{◌≡◌, ℕ, ◌<◌, ◌∙◌, Bool, true, false, List, Option, None, Some}
+use Rattle.std.proofs.Common.{◌≡◌, ℕ, ◌<◌, ◌≤◌, ◌∙◌, Bool, true, false, List, Option, None, Some}
 use Rattle.std.proofs.Common.{MatchOption, get_or, inl, inr, length, map, sym, ap, subst, arith}
 use Rattle.std.proofs.lemmas.List.{get_or-map, length-map}
 use Rattle.std.proofs.lemmas.Option.{get_or_from_slice_get, slice_get_cases, slice_get_within}
@@ -9,7 +9,7 @@ use Rattle.hv_sets.specs.Truth.{InStates, in_states}
 use Rattle.hv_sets.proofs.Listed.{in_states-Decides}
 use Rattle.hv_explicit.specs.Listing.{Listing, in_listing}
 use Rattle.hv_replay.specs.Closed.{IsFirstWithout, IsGoalFree, IsLogged, LeadsOn, state_in}
-use Rattle.hv_replay.specs.Working.Following.{ListsLog, StaysListed}
+use Rattle.hv_replay.specs.Working.Following.{HasExpanded, ListsLog, StaysListed}
 use Rattle.hv_replay.specs.Logs.{SearchLog, StandsInLog}
 use Rattle.hv_replay.specs.declared.log.Entry.{Entry}
 
@@ -128,3 +128,22 @@ module _ (task : Strips) (log : SearchLog) where
       → in_listing set state ≡ false → IsLogged log state → ⊥
   not_listed set state are fails holds = let f : false ≡ true = sym fails
       ∙ from_listed log set are state holds in absurd cc
+
+-- where every action leads on from an expanded state, it does from the same state at another place
+pub leads_again : (task : Strips) (log : SearchLog) (old place : ℕ) (held : List ℕ) (x : Entry)
+    → HasExpanded log old held → ((action : ℕ) → LeadsOn task log old action)
+    → StandsInLog log place x → held ≡ x.state → (action : ℕ) → LeadsOn task log place action
+leads_again task log old place held x again leads stands same action = λ e a at holds is can.
+    let here : again.0.state ≡ e.state =
+    again.3 ∙ (same ∙ ap (λ (y : Entry). y.state) (same_entry log place x e stands at)) in
+    let state : state_of log.atoms again.0.state ≡ state_of log.atoms e.state =
+    ap (state_of log.atoms) here in
+    subst (λ s. IsLogged log (successor a s)) state
+    (leads action again.0 a again.1 again.2 is
+    (subst (λ s. applicable a s ≡ true) (sym state) can))
+
+-- places past the log, from which nothing leads
+pub leads_past : (task : Strips) (log : SearchLog) (place : ℕ) → length log.entries ≤ place
+    → (action : ℕ) → LeadsOn task log place action
+leads_past task log place past action = λ e a at holds is can.
+    let less = slice_get_within log.entries place e at in absurd (omega arith)

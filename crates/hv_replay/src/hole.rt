@@ -9,7 +9,7 @@ ghost use Rattle.hv_replay.specs.declared.hole.ReplayFault.TheVariants as H;
 use crate::log::Log;
 use crate::open::first_open;
 use crate::waiting::waiting;
-use hv_task::Task;
+use hv_task::{Task, names_all};
 use std::alloc::{AllocError, Global};
 use thiserror::Error;
 
@@ -55,10 +55,10 @@ pub(crate) fn follow(alloc: Global, task: &Task, log: &Log) -> Result<(), Replay
         return Err(ReplayFault::GoalExpanded(line_of(log, place)));
     }
     let rows = waiting(alloc, task)?;
-    if let Some(found) = first_open(task, log, &rows) {
-        return Err(ReplayFault::Open(line_of(log, found.0), found.1));
+    match first_open(alloc, task, log, &rows)? {
+        Some(found) => Err(ReplayFault::Open(line_of(log, found.0), found.1)),
+        None => Ok(()),
     }
-    Ok(())
 }
 
 // The number of the line of the entry at a place.
@@ -79,7 +79,7 @@ fn is_goal_free(task: &Task, log: &Log, place: usize) -> bool
     if !log.expanded(place) {
         return true;
     }
-    !log.held(place).has_all(task.goal().as_slice())
+    !names_all(log.held(place), task.goal().as_slice())
 }
 
 // The first place of an expanded state that holds the goal.

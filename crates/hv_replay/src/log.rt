@@ -1,7 +1,7 @@
 //! Logs of a search.
 
-ghost use Rattle.std.specs.Prelude.{◌≡◌, ◌<◌, ◌≤◌, [], ◌∷◌, ◌++◌, Some, length, slice_get, IfOk};
-ghost use Rattle.std.specs.Prelude.{OnErr, OnOk};
+ghost use Rattle.std.specs.Prelude.{◌≡◌, ◌<◌, ◌≤◌, [], ◌∷◌, ◌++◌, length, IfOk, OnErr, OnOk};
+ghost use Rattle.std.specs.List.Sorted.{IsStrictlyIncreasing};
 ghost use Rattle.hv_task.specs.Strips.{atoms};
 ghost use Rattle.hv_replay.specs.Working.Following.{ListsLog};
 ghost use Rattle.hv_replay.specs.Logs.{AreFew, IsAtomSet, IsLogEntry, IsLog, StandsInLog};
@@ -149,29 +149,23 @@ impl Log {
         self.expanded[place]
     }
 
-    /// The state of the entry at this place, by the atoms that it holds.
-    pub fn state(&self, place: usize) -> &AtomList
+    /// The state of the entry at this place, by the atoms that it holds, rising.
+    pub fn state(&self, place: usize) -> &[u32]
         requires { place < length self.now.entries }
-        ensures { (entry : Entry) → StandsInLog self.now place entry → result.now ≡ entry.state }
+        ensures state { (entry : Entry) → StandsInLog self.now place entry
+            → result.now ≡ entry.state }
+        ensures rises { IsStrictlyIncreasing result.now }
     {
         self.held(place)
     }
 
     // The same; it is a state of the task.
-    pub(crate) fn held(&self, place: usize) -> &AtomList
+    pub(crate) fn held(&self, place: usize) -> &[u32]
         requires { place < length self.now.entries }
         ensures stands { (entry : Entry) → StandsInLog self.now place entry
             → result.now ≡ entry.state }
         ensures legal { IsAtomSet self.now.atoms result.now }
     {
-        item(self.states.states(), place)
+        self.states.states().get(place)
     }
-}
-
-// The state at a place of a list.
-fn item(states: &[AtomList], place: usize) -> &AtomList
-    requires { place < length states.now }
-    ensures { slice_get states.now place ≡ Some result.now }
-{
-    &states[place]
 }

@@ -1,70 +1,137 @@
 //! The first action that leads out of a log.
 
-ghost use Rattle.std.specs.Prelude.{◌≡◌, ◌<◌, ◌≤◌, ◌↔◌, ℕ, length, IsTrue, MatchOption};
-ghost use Rattle.std.specs.List.{Contains};
-ghost use Rattle.hv_task.specs.State.{AreBelow, state_of};
-ghost use Rattle.hv_task.specs.Strips.{atoms};
+ghost use Rattle.std.specs.Prelude.{◌≡◌, ◌<◌, ◌≤◌, ◌↔◌, ℕ, true, length, IfOk, IsTrue, MatchOption};
+ghost use Rattle.std.specs.List.{All, Contains};
+ghost use Rattle.hv_task.specs.State.{AreBelow, has_atom, state_of};
+ghost use Rattle.hv_task.specs.Strips.{IsState, atoms};
 ghost use Rattle.hv_replay.specs.Closed.{IsFirstWithout, LeadsOn};
-ghost use Rattle.hv_replay.specs.Working.Following.{StaysListed};
+ghost use Rattle.hv_replay.specs.Logs.{IsAtomSet};
+ghost use Rattle.hv_replay.specs.Working.Following.{HasExpanded, IsOpen, LeadAllOn, StaysListed};
 ghost use Rattle.hv_replay.specs.Working.Waiting.{AreWaiting, IsIn};
 
 use crate::log::Log;
 use hv_explicit::Explicit;
-use hv_task::{After, AtomList, Task};
+use hv_task::{State, Task};
+use std::alloc::{AllocError, Global};
 
 /// The first place of an expanded state from which an action leads to a state that isn't listed,
-/// and the least such action there.
-pub(crate) fn first_open(task: &Task, log: &Log, rows: &Vec<Vec<u32>>) -> Option<(usize, u32)>
+/// and the least such action there. A state that is listed again isn't asked again, unless another
+/// one that falls into the same slot was asked between.
+pub(crate) fn first_open(
+    alloc: Global,
+    task: &Task,
+    log: &Log,
+    rows: &Vec<Vec<u32>>,
+) -> Result<Option<(usize, u32)>, AllocError>
     requires atoms { log.now.atoms ≡ atoms task.now }
     requires rows { AreWaiting (atoms task.now) task.now.actions rows.now.items }
-    ensures { MatchOption result
-        ((place action : ℕ) → place < length log.now.entries
-        → LeadsOn task.now log.now place action)
-        (λ found. (found.0 < length log.now.entries)
-        × IsFirstWithout (LeadsOn task.now log.now found.0) found.1
-        × ((before action : ℕ) → before < found.0
-        → LeadsOn task.now log.now before action)) }
+    ensures { IfOk result (IsOpen task.now log.now) }
 {
+    let mut asked = vec![in alloc; log.len(); log.len()]?;
+    let mut state = State::empty(alloc, task.atoms())?;
     for place in 0..log.len() {
-        if let Some(action) = open_action(task, log, rows, place) {
-            return Some((place, action));
+        if let Some(action) = open_action(task, log, rows, &mut asked, &mut state, place) {
+            return Ok(Some((place, action)));
         }
     }
-    None
+    Ok(None)
 }
 
 // The least action that leads from the entry at this place, where it is an expanded state, to a
-// state that isn't listed.
-fn open_action(task: &Task, log: &Log, rows: &Vec<Vec<u32>>, place: usize) -> Option<u32>
+// state that isn't listed. From the entries at the places in `asked` every action leads on; each
+// place stands in the slot of its state, and a slot without one has the number of all entries.
+// `state` is one to write to.
+fn open_action(
+    task: &Task,
+    log: &Log,
+    rows: &Vec<Vec<u32>>,
+    asked: &mut Vec<usize>,
+    state: &mut State,
+    place: usize,
+) -> Option<u32>
     requires atoms { log.now.atoms ≡ atoms task.now }
     requires rows { AreWaiting (atoms task.now) task.now.actions rows.now.items }
+    requires asked { length asked.old.items ≡ length log.now.entries }
+    requires lead { LeadAllOn task.now log.now asked.old.items }
+    requires state { IsState task.now state.old }
     requires place { place < length log.now.entries }
-    ensures { MatchOption result
+    ensures open { MatchOption result
         ((action : ℕ) → LeadsOn task.now log.now place action)
         (λ action. IsFirstWithout (LeadsOn task.now log.now place) action) }
+    ensures asked { length asked.new.items ≡ length asked.old.items }
+    ensures lead { LeadAllOn task.now log.now asked.new.items }
+    ensures state { IsState task.now state.new }
 {
     if !log.expanded(place) {
         return None;
     }
-    least_exit(task, log.listed(), rows, log.held(place))
+    let held = log.held(place);
+    let slot = slot_of(held, asked.len());
+    if has_expanded(log, asked[slot], held) {
+        return None;
+    }
+    match least_exit(task, log.listed(), rows, state, held) {
+        Some(action) => Some(action),
+        None => {
+            asked[slot] = place;
+            None
+        }
+    }
+}
+
+// The slot of the state of these atoms, of so many slots.
+fn slot_of(held: &[u32], slots: usize) -> usize
+    requires { 0 < slots }
+    ensures { result < slots }
+{
+    let mut code = 0;
+    for atom in held {
+        code = mixed(code, *atom);
+    }
+    ((code >> 32) % slots as u64) as usize
+}
+
+// The code of some atoms with one more.
+fn mixed(code: u64, atom: u32) -> u64 {
+    (code ^ (code >> 29) ^ u64::from(atom)).wrapping_mul(0x9e37_79b9_7f4a_7c15)
+}
+
+// Whether the entry at this place is an expanded state of just these atoms.
+fn has_expanded(log: &Log, place: usize, held: &[u32]) -> bool
+    ensures { result ≡ true → HasExpanded log.now place held.now }
+{
+    if place >= log.len() || !log.expanded(place) {
+        return false;
+    }
+    log.held(place) == held
 }
 
 // The least action that leads from the state of these atoms to one that isn't listed. Those alone
-// are tried that wait under an atom which is held, or that have no precondition.
-fn least_exit(task: &Task, listed: &Explicit, rows: &Vec<Vec<u32>>, held: &AtomList) -> Option<u32>
+// are tried that wait under an atom which is held, or that have no precondition. `state`
+// becomes the state.
+fn least_exit(
+    task: &Task,
+    listed: &Explicit,
+    rows: &Vec<Vec<u32>>,
+    state: &mut State,
+    held: &[u32],
+) -> Option<u32>
+    requires state { IsState task.now state.old }
     requires atoms { listed.now.atoms ≡ atoms task.now }
     requires rows { AreWaiting (atoms task.now) task.now.actions rows.now.items }
-    requires held { AreBelow (atoms task.now) held.now }
-    ensures { MatchOption result
+    requires held { IsAtomSet (atoms task.now) held.now }
+    ensures first { MatchOption result
         ((action : ℕ) → action < length task.now.actions
         → StaysListed task.now listed.now (state_of (atoms task.now) held.now) action)
         (λ action. IsFirstWithout
         (StaysListed task.now listed.now (state_of (atoms task.now) held.now)) action) }
+    ensures state { IsState task.now state.new }
 {
+    state.hold(held);
     let count = task.actions();
-    let mut least = least_in(task, listed, rows, held, task.atoms(), count);
-    for atom in held.as_slice() {
-        least = least_in(task, listed, rows, held, *atom, least);
+    let mut least = least_in(task, listed, rows, state, held, task.atoms(), count);
+    for atom in held {
+        least = least_in(task, listed, rows, state, held, *atom, least);
     }
     if least == count {
         return None;
@@ -78,13 +145,15 @@ fn least_in(
     task: &Task,
     listed: &Explicit,
     rows: &Vec<Vec<u32>>,
-    held: &AtomList,
+    state: &State,
+    held: &[u32],
     place: u32,
     bound: u32,
 ) -> u32
+    requires state { state.now ≡ state_of (atoms task.now) held.now }
     requires atoms { listed.now.atoms ≡ atoms task.now }
     requires rows { AreWaiting (atoms task.now) task.now.actions rows.now.items }
-    requires held { AreBelow (atoms task.now) held.now }
+    requires held { IsAtomSet (atoms task.now) held.now }
     requires place { place ≤ atoms task.now }
     ensures upto { result ≤ bound }
     ensures stay { (action : ℕ) → IsIn rows.now.items place action → action < result
@@ -92,14 +161,29 @@ fn least_in(
     ensures exit { result < bound
         → StaysListed task.now listed.now (state_of (atoms task.now) held.now) result → ⊥ }
 {
-    least_among(task, listed, rows[place as usize].as_slice(), held, bound)
+    least_among(
+        task,
+        listed,
+        rows[place as usize].as_slice(),
+        state,
+        held,
+        bound,
+    )
 }
 
 // The same for the actions of this row.
-fn least_among(task: &Task, listed: &Explicit, row: &[u32], held: &AtomList, bound: u32) -> u32
+fn least_among(
+    task: &Task,
+    listed: &Explicit,
+    row: &[u32],
+    state: &State,
+    held: &[u32],
+    bound: u32,
+) -> u32
+    requires state { state.now ≡ state_of (atoms task.now) held.now }
     requires atoms { listed.now.atoms ≡ atoms task.now }
     requires row { AreBelow (length task.now.actions) row.now }
-    requires held { AreBelow (atoms task.now) held.now }
+    requires held { IsAtomSet (atoms task.now) held.now }
     ensures upto { result ≤ bound }
     ensures stay { (action : ℕ) → Contains row.now action → action < result
         → StaysListed task.now listed.now (state_of (atoms task.now) held.now) action }
@@ -108,40 +192,57 @@ fn least_among(task: &Task, listed: &Explicit, row: &[u32], held: &AtomList, bou
 {
     let mut least = bound;
     for action in row {
-        least = lesser_exit(task, listed, *action, held, least);
+        least = lesser_exit(task, listed, *action, state, held, least);
     }
     least
 }
 
 // The action, where it is less than the bound and leads from the state of these atoms to one that
 // isn't listed, and otherwise the bound.
-fn lesser_exit(task: &Task, listed: &Explicit, action: u32, held: &AtomList, bound: u32) -> u32
+fn lesser_exit(
+    task: &Task,
+    listed: &Explicit,
+    action: u32,
+    state: &State,
+    held: &[u32],
+    bound: u32,
+) -> u32
+    requires state { state.now ≡ state_of (atoms task.now) held.now }
     requires atoms { listed.now.atoms ≡ atoms task.now }
     requires action { action < length task.now.actions }
-    requires held { AreBelow (atoms task.now) held.now }
+    requires held { IsAtomSet (atoms task.now) held.now }
     ensures upto { result ≤ bound }
     ensures stays { action < result
         → StaysListed task.now listed.now (state_of (atoms task.now) held.now) action }
     ensures exit { result < bound
         → StaysListed task.now listed.now (state_of (atoms task.now) held.now) result → ⊥ }
 {
-    if action >= bound || stays(task, listed, action, held) {
+    if action >= bound || stays(task, listed, action, state, held) {
         return bound;
     }
     action
 }
 
 // Whether the action isn't applicable in the state of these atoms, or its result is listed.
-fn stays(task: &Task, listed: &Explicit, number: u32, held: &AtomList) -> bool
+fn stays(task: &Task, listed: &Explicit, number: u32, state: &State, held: &[u32]) -> bool
+    requires state { state.now ≡ state_of (atoms task.now) held.now }
     requires atoms { listed.now.atoms ≡ atoms task.now }
     requires number { number < length task.now.actions }
-    requires held { AreBelow (atoms task.now) held.now }
+    requires held { IsAtomSet (atoms task.now) held.now }
     ensures { IsTrue result
         ↔ StaysListed task.now listed.now (state_of (atoms task.now) held.now) number }
 {
     let action = task.action(number);
-    if !held.has_all(action.pre.as_slice()) {
+    if !holds_each(state, action.pre.as_slice()) {
         return true;
     }
-    listed.lists(&After { held, action })
+    listed.lists_after(held, action)
+}
+
+// Whether the state holds each of these atoms.
+fn holds_each(state: &State, list: &[u32]) -> bool
+    requires { AreBelow (length state.now) list.now }
+    ensures { IsTrue result ↔ All (λ p. has_atom state.now p ≡ true) list.now }
+{
+    list.iter().all(|atom| state.has(*atom))
 }

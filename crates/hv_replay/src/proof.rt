@@ -27,7 +27,7 @@ use crate::log::Log;
 use crate::pruned::push_pruned;
 use hv_lines::{Draft, Note, Pruner};
 use hv_sets::StateList;
-use hv_task::{AtomList, State, Task};
+use hv_task::{State, Task};
 use std::alloc::{AllocError, Global};
 
 /// Makes the proof of a closed log, for whatever pruners: these are begun anew and asked in order.
@@ -222,7 +222,7 @@ fn put_one(
 fn put_state(
     alloc: Global,
     task: &Task,
-    held: &AtomList,
+    held: &[u32],
     draft: &mut Draft,
     state: &mut State,
     pruners: &mut [Box<dyn Pruner>],
@@ -249,8 +249,7 @@ fn put_state(
     match ask(alloc, task, draft, state, pruners)? {
         None => Ok(None),
         Some(by) => {
-            let copy = held.copy(alloc)?;
-            let more = push_pruned(alloc, draft, task, copy, by, union)?;
+            let more = push_pruned(alloc, draft, task, held, by, union)?;
             Ok(Some(more))
         }
     }
@@ -265,18 +264,13 @@ fn expanded_states(alloc: Global, log: &Log) -> Result<StateList, AllocError>
     let _log = log.listed();
     let count = log.len();
     for place in 0..count {
-        put_expanded(alloc, log, place, &mut states)?;
+        put_expanded(log, place, &mut states)?;
     }
     Ok(states)
 }
 
 // Puts the state of an entry last, where it is an expanded one.
-fn put_expanded(
-    alloc: Global,
-    log: &Log,
-    place: usize,
-    states: &mut StateList,
-) -> Result<(), AllocError>
+fn put_expanded(log: &Log, place: usize, states: &mut StateList) -> Result<(), AllocError>
     requires { place < length log.now.entries }
     ensures { (entry : Entry) → StandsInLog log.now place entry → OnOk result
         (states.new ≡ states.old ++ expanded_in (entry ∷ [])) }
@@ -284,6 +278,5 @@ fn put_expanded(
     if !log.expanded(place) {
         return Ok(());
     }
-    states.push(log.held(place).copy(alloc)?)?;
-    Ok(())
+    states.push_atoms(log.held(place))
 }

@@ -2,20 +2,22 @@
 
 ghost use Rattle.std.specs.Prelude.{◌≡◌, ◌<◌, ◌≤◌, ◌+◌, ◌^◌, ◌∷◌, [], ℕ, Bool, List, Some, IfOk};
 ghost use Rattle.std.specs.Prelude.{OnErr};
-ghost use Rattle.hv_task.specs.State.{AreBelow, state_of};
+ghost use Rattle.std.specs.List.Sorted.{IsStrictlyIncreasing};
+ghost use Rattle.hv_task.specs.State.{state_of};
 ghost use Rattle.hv_task.specs.Strips.{atoms};
 ghost use Rattle.hv_lines.specs.Drafts.{IsGoodTable, onto};
 ghost use Rattle.hv_lines.specs.Numbering.{expr_count, known_count};
 ghost use Rattle.hv_lines.specs.Pruning.{Extends, IsDeadBy, states_in};
 ghost use Rattle.hv_lines.specs.Rules.{Says};
 ghost use Rattle.hv_lines.specs.declared.line.Statement.TheVariants as T;
+ghost use Rattle.hv_replay.specs.Logs.{IsAtomSet};
 ghost use Rattle.hv_replay.specs.PrunedLines.{pruned_lines, pruned_word, word_of_formula};
 ghost use Rattle.hv_replay.specs.Working.PrunedLines.{IsPrunedUnion};
 ghost use Rattle.hv_replay.specs.Replayed.{union_after};
 
 use hv_lines::{Draft, Expr, Line, Note, Premises, Statement, Table, Word};
 use hv_sets::StateList;
-use hv_task::{AtomList, Task};
+use hv_task::Task;
 use std::alloc::{AllocError, Global};
 
 /// Puts the five lines of a pruned state last, of which line `by` says that a literal is dead that
@@ -25,17 +27,17 @@ pub(crate) fn push_pruned(
     alloc: Global,
     draft: &mut Draft,
     task: &Task,
-    held: AtomList,
+    held: &[u32],
     by: usize,
     union: Note,
 ) -> Result<Note, AllocError>
     requires draft { IsGoodTable task.now draft.old.lines }
-    requires below { AreBelow (atoms task.now) held }
-    requires dead { IsDeadBy task.now draft.old.lines (state_of (atoms task.now) held) by }
+    requires held { IsAtomSet (atoms task.now) held.now }
+    requires dead { IsDeadBy task.now draft.old.lines (state_of (atoms task.now) held.now) by }
     requires union { (pruned : ℕ) × IsPrunedUnion task.now draft.old.lines pruned union }
     ensures lines { IfOk result (λ _. (set : ℕ) → Says draft.old.lines by (T.Dead set)
         → draft.new.lines
-        ≡ onto (pruned_lines (expr_count draft.old.lines) (known_count draft.old.lines) held
+        ≡ onto (pruned_lines (expr_count draft.old.lines) (known_count draft.old.lines) held.now
         (pruned_word draft.old.lines set) (record { set = set; line = by }) union)
         draft.old.lines) }
     ensures number { IfOk result (λ all. all ≡ union_after draft.old.lines) }
@@ -44,14 +46,13 @@ pub(crate) fn push_pruned(
         → IsPrunedUnion task.now draft.old.lines pruned union
         → IsPrunedUnion task.now draft.new.lines (pruned + 1) all) }
     ensures inside { IfOk result (λ all.
-        states_in task.now draft.new.lines all.set (state_of (atoms task.now) held)) }
+        states_in task.now draft.new.lines all.set (state_of (atoms task.now) held.now)) }
     ensures keeps { IfOk result (λ all. (state : List Bool)
         → states_in task.now draft.old.lines union.set state
         → states_in task.now draft.new.lines all.set state) }
     ensures err { OnErr result (draft.new.lines ≡ draft.old.lines) }
 {
     let _atoms = task.atoms();
-    let _len = held.len();
     draft.reserve(5)?;
     let next = next_in(draft.table());
     let holder = dead_by(draft.table(), by);
@@ -95,18 +96,19 @@ fn dead_by(table: &Table, line: usize) -> Note
 fn pruned_lines(
     alloc: Global,
     next: Note,
-    held: AtomList,
+    held: &[u32],
     word: Word,
     holder: Note,
     union: Note,
 ) -> Result<Vec<Line>, AllocError>
     requires set { next.set + 1 < 2 ^ 64 }
     requires line { next.line + 2 < 2 ^ 64 }
+    requires rises { IsStrictlyIncreasing held.now }
     ensures { IfOk result (λ lines. lines.items
-        ≡ pruned_lines next.set next.line held word holder union) }
+        ≡ pruned_lines next.set next.line held.now word holder union) }
 {
     let mut states = StateList::new(alloc);
-    states.push(held)?;
+    states.push_atoms(held)?;
     Ok(vec![in alloc;
         Line::Expr {
             id: next.set,

@@ -57,6 +57,7 @@ relaxed_fits task old new kept fits extends = (
   notes_fit task (RelaxedExcludesFrom task) old new kept.notes fits.0 extends,
   described_fit HoldsAtomsOf task (RelaxedExcludesFrom task) old new kept.notes kept.reached fits.0
       extends fits.1,
+  fits.2,
 )
 
 pub pairs_fit : (task : Strips) (old new : List Line) (kept : PairNotes)
@@ -65,4 +66,5 @@ pairs_fit task old new kept fits extends = (
   notes_fit task (PairsCover task) old new kept.notes fits.0 extends,
   described_fit HoldsPairsOf task (PairsCover task) old new kept.notes kept.reached fits.0 extends
       fits.1,
+  fits.2,
 )

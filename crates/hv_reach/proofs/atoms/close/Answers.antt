@@ -21,14 +21,14 @@ wake-requires-clause-settled c =
     let same = i.size in
     omega arith in
     subst (λ xs. AreActionsSettledBut xs 0 c.args.task.now.actions c.loop-atom.held
-    c.pop.new.self.items c.loop-atom.passed.items) (sym c.as_slice.ensures.value)
+    c.pop.new.self.items c.loop-atom.passed) (sym c.as_slice.ensures.value)
     (settled_pop (atoms c.args.task.now) c.args.task.now.actions c.args.rows.now.items
     c.index-row.result.now c.loop-atom.held c.in-Some.atom
-    c.pop.new.self.items c.loop-atom.passed.items c.requires.index
+    c.pop.new.self.items c.loop-atom.passed c.requires.index
     (slice_get_at c.args.rows.now.items c.in-Some.atom c.index-row.result.now within
     c.index-row.ensures)
     (subst (λ q. AreActionsSettled c.args.task.now.actions c.loop-atom.held q
-    c.loop-atom.passed.items) c.in-Some.ensures.items i.settled))
+    c.loop-atom.passed) c.in-Some.ensures.items i.settled))
 
 pub loop-atom-preserved : goal.loop-atom-preserved
 loop-atom-preserved c =
@@ -38,6 +38,7 @@ loop-atom-preserved c =
       size = s.size ∙ i.size;
       kept = c.in_ok-wake.ensures.kept;
       settled = c.in_ok-wake.ensures.settled;
+      actions = c.wake.ensures.actions ∙ i.actions;
       grows = λ p h. s.grows p (i.grows p h);
       least = λ r keeps within. c.in_ok-wake.ensures.least r keeps (i.least r keeps within);
     }
@@ -45,7 +46,7 @@ loop-atom-preserved c =
 pub returns-clause-keeps : goal.returns-clause-keeps
 returns-clause-keeps c =
     let e = c.in_default.ensures.cases in
-    keeps_empty c.args.task.now.actions c.loop-atom.held c.loop-atom.passed.items
+    keeps_empty c.args.task.now.actions c.loop-atom.held c.loop-atom.passed
     (subst (λ q. AreActionsSettled c.args.task.now.actions c.loop-atom.held q
-    c.loop-atom.passed.items) (empty_list c.loop-atom.queue.items
+    c.loop-atom.passed) (empty_list c.loop-atom.queue.items
     (let l = c.loop-atom.queue.ok.0 in omega arith)) c.loop-atom.invariant.settled)

@@ -8,8 +8,9 @@ use Rattle.hv_reach.proofs.atoms.close.Given as goal
 abbrev pub invariant-loop-atom : goal.invariant-loop-atom
 invariant-loop-atom l = record {
   size : length l.held ≡ length l.fn.held;
-  kept : IsKeptSearch l.task.actions l.held l.queue.items l.passed.items;
-  settled : AreActionsSettled l.task.actions l.held l.queue.items l.passed.items;
+  kept : IsKeptSearch l.task.actions l.held l.queue.items l.passed;
+  settled : AreActionsSettled l.task.actions l.held l.queue.items l.passed;
+  actions : length l.passed ≡ length l.fn.passed;
   grows : (p : ℕ) → has_atom l.fn.held p ≡ true → has_atom l.held p ≡ true;
   least : (r : ℕ → Bool) → Keeps l.task.actions r → IsWithin l.fn.held r → IsWithin l.held r;
 }

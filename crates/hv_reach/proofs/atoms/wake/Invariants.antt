@@ -1,4 +1,4 @@
-use Rattle.std.proofs.Common.{ℕ, Bool}
+use Rattle.std.proofs.Common.{◌≡◌, ℕ, Bool, length}
 use Rattle.hv_task.specs.Strips.{IsState}
 use Rattle.hv_reach.specs.Reached.{IsWithin, Keeps}
 use Rattle.hv_reach.specs.Working.Waiting.{AreActionsSettledBut, IsKeptSearch, GrowsQueued}
@@ -8,8 +8,9 @@ abbrev pub invariant-loop-number : goal.invariant-loop-number
 invariant-loop-number l = record {
   step : GrowsQueued l.fn.held l.fn.queue.items l.held l.queue.items;
   state : IsState l.task l.held;
-  kept : IsKeptSearch l.task.actions l.held l.queue.items l.passed.items;
+  actions : length l.passed ≡ length l.fn.passed;
+  kept : IsKeptSearch l.task.actions l.held l.queue.items l.passed;
   settled : AreActionsSettledBut l.numbers l.number-index l.task.actions l.held l.queue.items
-      l.passed.items;
+      l.passed;
   least : (r : ℕ → Bool) → Keeps l.task.actions r → IsWithin l.fn.held r → IsWithin l.held r;
 }

@@ -1,5 +1,5 @@
 use Rattle.std.proofs.Common.{◌≡◌, ℕ, length}
-use Rattle.hv_reach.specs.Working.Index.{RowsBelow}
+use Rattle.hv_reach.specs.Index.{RowsBelow}
 use Rattle.hv_reach.proofs.index.empty_rows.Given as goal
 
 abbrev pub invariant-loop-place : goal.invariant-loop-place

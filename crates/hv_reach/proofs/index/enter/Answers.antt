@@ -1,7 +1,7 @@
 use Rattle.std.proofs.Common.{◌∙◌, get_or, arith, refl}
 use Rattle.hv_reach.proofs.Rows.{entered_more}
 use Rattle.hv_reach.proofs.Sets.{All-from_zero}
-use Rattle.hv_reach.specs.Working.Index.{IsIn}
+use Rattle.hv_reach.specs.Index.{IsIn}
 use Rattle.hv_reach.proofs.index.enter.Goals as goal
 
 pub loop-place-preserved : goal.loop-place-preserved

@@ -1,5 +1,5 @@
 use Rattle.std.proofs.Common.{◌≡◌, ◌<◌, ℕ, length, get_or}
-use Rattle.hv_reach.specs.Working.Index.{IsIn, RowsBelow}
+use Rattle.hv_reach.specs.Index.{IsIn, RowsBelow}
 use Rattle.hv_reach.proofs.index.enter.Given as goal
 
 abbrev pub invariant-loop-place : goal.invariant-loop-place

@@ -3,7 +3,7 @@ use Rattle.std.specs.List.{All}
 use Rattle.std.proofs.lemmas.Option.{slice_get_within}
 use Rattle.hv_task.specs.Strips.{atoms}
 use Rattle.hv_reach.proofs.Rows.{indexed_more, past_more}
-use Rattle.hv_reach.specs.Working.Index.{IsIn}
+use Rattle.hv_reach.specs.Index.{IsIn}
 use Rattle.hv_reach.proofs.index.index.Goals as goal
 
 pub loop-number-init : goal.loop-number-init

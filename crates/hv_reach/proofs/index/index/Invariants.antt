@@ -2,7 +2,7 @@ use Rattle.std.proofs.Common.{◌≡◌, ◌<◌, ◌+◌, ℕ, length, slice_ge
 use Rattle.std.specs.List.{All}
 use Rattle.hv_task.specs.declared.action.Action.{Action}
 use Rattle.hv_task.specs.Strips.{atoms}
-use Rattle.hv_reach.specs.Working.Index.{IsIn, RowsBelow}
+use Rattle.hv_reach.specs.Index.{IsIn, RowsBelow}
 use Rattle.hv_reach.proofs.index.index.Given as goal
 
 abbrev pub invariant-loop-number : goal.invariant-loop-number

@@ -1,6 +1,7 @@
 use Rattle.std.proofs.Common.{◌≡◌, ◌≤◌, ◌∙◌, rules, false, subst, sym, true}
 use Rattle.hv_task.specs.Strips.{atoms, start_state}
 use Rattle.hv_explicit.proofs.Clashes.{below_list}
+use Rattle.hv_replay.specs.Working.Following.{IsOpen}
 use Rattle.hv_replay.proofs.Exits.{start_found}
 use Rattle.hv_replay.proofs.Followed.{free_all, leads_all, not_listed, to_listed}
 use Rattle.hv_replay.proofs.hole.follow.Goals as goal
@@ -29,32 +30,37 @@ returns-in-Some c =
     (start_state c.args.task.now) (sym start ∙ some) in
     (listed, c.in-Some.place, c.line_of.ensures, c.in-Some.ensures.1)
 
-pub returns-in-Some-first_open : goal.returns-in-Some-first_open
-returns-in-Some-first_open c =
+pub returns-in-Some-2 : goal.returns-in-Some-2
+returns-in-Some-2 c =
+    let task = c.args.task.now in
+    let log = c.args.log.now in
     let some : c.lists.result ≡ true = search rules in
-    let start = start_found c.args.task.now c.start.result.now c.listed.result.now
+    let start = start_found task c.start.result.now c.listed.result.now
     c.start.ensures.below c.start.ensures.start
     (c.listed.ensures.listed.over ∙ c.requires) c.lists.result c.lists.ensures in
-    let listed = to_listed c.args.log.now c.listed.result.now c.listed.ensures.listed
-    (start_state c.args.task.now) (sym start ∙ some) in
-    let first = c.in-Some-first_open.ensures in (
+    let listed = to_listed log c.listed.result.now c.listed.ensures.listed
+    (start_state task) (sym start ∙ some) in
+    let first = subst (IsOpen task log) c.in-Some-2.is c.in_ok-found.ensures in (
       listed,
-      free_all c.args.task.now c.args.log.now c.in_default.ensures,
-      c.in-Some-first_open.found.0,
-      c.line_of-in-Some-first_open.ensures,
+      free_all task log c.in_default.ensures,
+      c.in-Some-2.found.0,
+      c.line_of-in-Some-2.ensures,
       first.1,
       first.2,
     )
 
 pub returns : goal.returns
 returns c =
+    let task = c.args.task.now in
+    let log = c.args.log.now in
     let some : c.lists.result ≡ true = search rules in
-    let start = start_found c.args.task.now c.start.result.now c.listed.result.now
+    let start = start_found task c.start.result.now c.listed.result.now
     c.start.ensures.below c.start.ensures.start
     (c.listed.ensures.listed.over ∙ c.requires) c.lists.result c.lists.ensures in
     record {
-      initial = to_listed c.args.log.now c.listed.result.now c.listed.ensures.listed
-          (start_state c.args.task.now) (sym start ∙ some);
-      goalless = free_all c.args.task.now c.args.log.now c.in_default.ensures;
-      leads = leads_all c.args.task.now c.args.log.now c.in_default-first_open.ensures;
+      initial = to_listed log c.listed.result.now c.listed.ensures.listed
+          (start_state task) (sym start ∙ some);
+      goalless = free_all task log c.in_default.ensures;
+      leads = leads_all task log
+          (subst (IsOpen task log) c.in-None.is c.in_ok-found.ensures);
     }

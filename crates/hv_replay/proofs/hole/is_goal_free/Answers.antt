@@ -23,10 +23,10 @@ returns c =
     let w = entry_there log c.args.place c.requires.place in
     let over = subst (λ xs. AreBelow log.atoms xs) c.goal.ensures.goal
     (subst (λ n. AreBelow n c.goal.result.now) (sym c.requires.atoms) c.goal.ensures.below) in
-    let tells = subst (λ xs. (c.has_all.result ≡ true) ↔ All (λ p. Contains held p) xs)
+    let tells = subst (λ xs. (c.names_all.result ≡ true) ↔ All (λ p. Contains held p) xs)
     (c.as_slice.ensures.items ∙ c.goal.ensures.goal)
-    c.has_all.ensures in
+    c.names_all.ensures in
     goal_free task log c.args.place w.0 w.1 (sym (c.expanded.ensures w.0 w.1) ∙ yes)
-    c.has_all.result
-    (holds_all log.atoms held task.goal c.held.ensures.legal.below over c.has_all.result tells
+    c.names_all.result
+    (holds_all log.atoms held task.goal c.held.ensures.legal.below over c.names_all.result tells
     ∙ ap (λ h. is_goal task (state_of log.atoms h)) (c.held.ensures.stands w.0 w.1))

@@ -1,4 +1,4 @@
-use Rattle.std.proofs.Common.{◌<◌, ℕ, ap, arith, below_more, get_or, length, subst, sym}
+use Rattle.std.proofs.Common.{◌<◌, ℕ, arith, below_more, get_or, length}
 use Rattle.hv_task.specs.State.{state_of}
 use Rattle.hv_task.specs.Strips.{atoms}
 use Rattle.hv_replay.specs.Working.Following.{StaysListed}
@@ -21,34 +21,30 @@ loop-atom-preserved c =
       each = below_more (λ k. (action : ℕ) → IsIn c.args.rows.now.items (get_or held k 0) action
           → action < new → P action) c.loop-atom.atom-index
           (λ k lt action row less. i.each k lt action row (omega arith))
-          (λ action row less. e.stay action
-          (subst (λ xs. IsIn c.args.rows.now.items (get_or xs c.loop-atom.atom-index 0) action)
-          (sym c.as_slice-atom-items.ensures.items) row) less);
+          (λ action row less. e.stay action row less);
       exit = exit_more P (length task.actions) c.loop-atom.least new upto i.exit e.exit;
     }
 
-pub returns-then-least-count : goal.returns-then-least-count
-returns-then-least-count c =
+pub returns-then-least-count-clause-first : goal.returns-then-least-count-clause-first
+returns-then-least-count-clause-first c =
     let i = c.loop-atom.invariant in
-    let many = ap length c.as_slice-atom-items.ensures.items in
     let past = c.loop-atom-test.false in
     let all = c.if-least-count.true in
     let count = c.actions-count.ensures.actions in
     λ k less.
-    all_asked c.args.task.now c.args.listed.now c.args.held.now c.requires.held
+    all_asked c.args.task.now c.args.listed.now c.args.held.now c.requires.held.below
     c.args.rows.now.items c.requires.rows c.loop-atom.least
     i.last (λ j within. i.each j (omega arith)) k (omega arith)
 
-pub returns : goal.returns
-returns c =
+pub returns-clause-first : goal.returns-clause-first
+returns-clause-first c =
     let i = c.loop-atom.invariant in
-    let many = ap length c.as_slice-atom-items.ensures.items in
     let past = c.loop-atom-test.false in
     let upto = i.upto in
     let other = c.if-least-count.false in
     let count = c.actions-count.ensures.actions in (
       i.exit (omega arith),
-      all_asked c.args.task.now c.args.listed.now c.args.held.now c.requires.held
+      all_asked c.args.task.now c.args.listed.now c.args.held.now c.requires.held.below
           c.args.rows.now.items c.requires.rows c.loop-atom.least
           i.last (λ j within. i.each j (omega arith)),
     )

@@ -1,9 +1,8 @@
-use Rattle.std.proofs.Common.{◌≡◌, ◌∙◌, ◌++◌, ◌∷◌, [], ap, subst, sym}
+use Rattle.std.proofs.Common.{◌≡◌, ◌∙◌, ap, subst, sym}
 use Rattle.hv_task.specs.State.{state_of}
 use Rattle.hv_task.specs.Strips.{atoms}
 use Rattle.hv_lines.specs.Pruning.{IsDeadBy}
 use Rattle.hv_lines.proofs.Extended.{extends_then}
-use Rattle.hv_replay.specs.Working.Progress.{IsProgress}
 use Rattle.hv_replay.proofs.Replaying.{progress_more}
 use Rattle.hv_replay.proofs.Several.{AnyOf, covered_none, covered_some, found_some}
 use Rattle.hv_replay.proofs.Unions.{union_extended}
@@ -42,25 +41,22 @@ returns-in_ok-more-in-Some-clause-covered g c =
 pub returns-in_ok-more-in-Some-clause-progress : goal.returns-in_ok-more-in-Some-clause-progress
 returns-in_ok-more-in-Some-clause-progress g c =
     let task = c.args.task.now in
-    let copy = c.in_ok-copy-in-Some.copy in
+    let held = c.args.held.now in
     let more = c.in_ok-more-in-Some.more in
-    let same : copy ≡ c.args.held.now = c.in_ok-copy-in-Some.ensures in
-    let at : c.hold.new.self ≡ state_of (atoms task) copy =
-    c.hold.ensures.held ∙ (ap (λ n. state_of n c.args.held.now) c.requires.state
-    ∙ ap (state_of (atoms task)) (sym same)) in
-    let dead : IsDeadBy task c.ask.new.draft.lines (state_of (atoms task) copy) c.in-Some.by =
+    let at : c.hold.new.self ≡ state_of (atoms task) held =
+    c.hold.ensures.held ∙ ap (λ n. state_of n held) c.requires.state in
+    let dead : IsDeadBy task c.ask.new.draft.lines (state_of (atoms task) held) c.in-Some.by =
     subst (λ s. IsDeadBy task c.ask.new.draft.lines s c.in-Some.by) at
     (found_some c.in_ok-ask.field-0 c.in-Some.by
     (λ line. IsDeadBy task c.ask.new.draft.lines c.hold.new.self line) c.in-Some.is
     c.in_ok-ask.ensures.dead) in
     λ states before.
-    subst (λ held. IsProgress task (states ++ held ∷ []) c.push_pruned.new.draft.lines more) same
-    (progress_more task c.args.draft.now.lines c.ask.new.draft.lines c.push_pruned.new.draft.lines
-    copy c.in-Some.by c.args.union more
+    progress_more task c.args.draft.now.lines c.ask.new.draft.lines c.push_pruned.new.draft.lines
+    held c.in-Some.by c.args.union more
     c.ask.ensures.extends dead c.in_ok-more-in-Some.ensures.lines
     c.in_ok-more-in-Some.ensures.number c.push_pruned.ensures.extends
     c.in_ok-more-in-Some.ensures.union c.in_ok-more-in-Some.ensures.inside
-    c.in_ok-more-in-Some.ensures.keeps states before)
+    c.in_ok-more-in-Some.ensures.keeps states before
 
 pub returns-in_ok-more-in-Some-clause-fits : goal.returns-in_ok-more-in-Some-clause-fits
 returns-in_ok-more-in-Some-clause-fits g c = λ lines extends.

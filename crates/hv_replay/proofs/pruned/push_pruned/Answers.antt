@@ -25,8 +25,8 @@ pruned_word-word-requires c =
     (c.table-2.ensures.lines ∙ c.in_ok-reserve.ensures.lines) c.dead_by-holder.ensures.says in
     subst (λ lines. c.dead_by-holder.result.set < expr_count lines)
     (sym (c.table-3.ensures.lines ∙ c.in_ok-reserve.ensures.lines))
-    (holder_below c.args.task.now c.atoms-atoms.ensures.task old c.requires.draft c.args.held
-    (record { below = c.requires.below; rises = c.len-len.ensures.rises }) c.args.by c.requires.dead
+    (holder_below c.args.task.now c.atoms-atoms.ensures.task old c.requires.draft c.args.held.now
+    c.requires.held c.args.by c.requires.dead
     c.next_in-next.result
     c.dead_by-holder.result is_next c.dead_by-holder.ensures.line says)
 
@@ -45,18 +45,18 @@ push_all-requires-clause-good c =
     ∙ ap (λ lines. pruned_word lines c.dead_by-holder.result.set)
     (c.table-3.ensures.lines ∙ c.in_ok-reserve.ensures.lines) in
     let items : c.in_ok-lines.lines.items ≡ pruned_lines c.next_in-next.result.set
-    c.next_in-next.result.line c.args.held (pruned_word old c.dead_by-holder.result.set)
+    c.next_in-next.result.line c.args.held.now (pruned_word old c.dead_by-holder.result.set)
     c.dead_by-holder.result c.args.union =
     c.in_ok-lines.ensures
-    ∙ ap (λ w. pruned_lines c.next_in-next.result.set c.next_in-next.result.line c.args.held w
+    ∙ ap (λ w. pruned_lines c.next_in-next.result.set c.next_in-next.result.line c.args.held.now w
     c.dead_by-holder.result c.args.union) word_is in
     subst (λ lines. IsGoodTable c.args.task.now (onto lines c.reserve.new.self.lines)) (sym items)
     (subst (λ lines. IsGoodTable c.args.task.now
-    (onto (pruned_lines c.next_in-next.result.set c.next_in-next.result.line c.args.held
+    (onto (pruned_lines c.next_in-next.result.set c.next_in-next.result.line c.args.held.now
     (pruned_word old c.dead_by-holder.result.set) c.dead_by-holder.result c.args.union) lines))
     (sym c.in_ok-reserve.ensures.lines)
-    (put_pruned c.args.task.now c.atoms-atoms.ensures.task old c.requires.draft c.args.held
-    (record { below = c.requires.below; rises = c.len-len.ensures.rises }) c.args.by c.requires.dead
+    (put_pruned c.args.task.now c.atoms-atoms.ensures.task old c.requires.draft c.args.held.now
+    c.requires.held c.args.by c.requires.dead
     c.next_in-next.result
     c.dead_by-holder.result is_next c.dead_by-holder.ensures.line says c.requires.union.0
     c.args.union c.requires.union.1))
@@ -76,7 +76,7 @@ says c =
 
 -- the lines of the draft at the end
 same : (c : goal.After-struct_known-2-1) → c.push_all.new.self.lines
-    ≡ onto (pruned_lines c.next_in-next.result.set c.next_in-next.result.line c.args.held
+    ≡ onto (pruned_lines c.next_in-next.result.set c.next_in-next.result.line c.args.held.now
     (pruned_word c.args.draft.now.lines c.dead_by-holder.result.set) c.dead_by-holder.result
     c.args.union) c.args.draft.now.lines
 same c =
@@ -86,14 +86,14 @@ same c =
     ∙ ap (λ lines. pruned_word lines c.dead_by-holder.result.set)
     (c.table-3.ensures.lines ∙ c.in_ok-reserve.ensures.lines) in
     let items : c.in_ok-lines.lines.items ≡ pruned_lines c.next_in-next.result.set
-    c.next_in-next.result.line c.args.held (pruned_word old c.dead_by-holder.result.set)
+    c.next_in-next.result.line c.args.held.now (pruned_word old c.dead_by-holder.result.set)
     c.dead_by-holder.result c.args.union =
     c.in_ok-lines.ensures
-    ∙ ap (λ w. pruned_lines c.next_in-next.result.set c.next_in-next.result.line c.args.held w
+    ∙ ap (λ w. pruned_lines c.next_in-next.result.set c.next_in-next.result.line c.args.held.now w
     c.dead_by-holder.result c.args.union) word_is in
     c.push_all.ensures.lines
     ∙ (ap (λ lines. onto lines c.reserve.new.self.lines) items
-    ∙ ap (onto (pruned_lines c.next_in-next.result.set c.next_in-next.result.line c.args.held
+    ∙ ap (onto (pruned_lines c.next_in-next.result.set c.next_in-next.result.line c.args.held.now
     (pruned_word old c.dead_by-holder.result.set) c.dead_by-holder.result c.args.union))
     c.in_ok-reserve.ensures.lines)
 
@@ -102,10 +102,10 @@ returns-clause-extends c =
     let old = c.args.draft.now.lines in
     subst (Extends c.args.task.now old) (sym (same c))
     (extends_by c.args.task.now
-    (pruned_lines c.next_in-next.result.set c.next_in-next.result.line c.args.held
+    (pruned_lines c.next_in-next.result.set c.next_in-next.result.line c.args.held.now
     (pruned_word old c.dead_by-holder.result.set) c.dead_by-holder.result c.args.union) old
-    (put_pruned c.args.task.now c.atoms-atoms.ensures.task old c.requires.draft c.args.held
-    (record { below = c.requires.below; rises = c.len-len.ensures.rises }) c.args.by c.requires.dead
+    (put_pruned c.args.task.now c.atoms-atoms.ensures.task old c.requires.draft c.args.held.now
+    c.requires.held c.args.by c.requires.dead
     c.next_in-next.result
     c.dead_by-holder.result (is_next c) c.dead_by-holder.ensures.line (says c) c.requires.union.0
     c.args.union c.requires.union.1))
@@ -120,8 +120,8 @@ returns-clause-union c =
     } in
     λ pruned is.
     subst (λ lines. IsPrunedUnion c.args.task.now lines (pruned + 1) all) (sym (same c))
-    (put_union c.args.task.now c.atoms-atoms.ensures.task old c.requires.draft c.args.held
-    (record { below = c.requires.below; rises = c.len-len.ensures.rises }) c.args.by c.requires.dead
+    (put_union c.args.task.now c.atoms-atoms.ensures.task old c.requires.draft c.args.held.now
+    c.requires.held c.args.by c.requires.dead
     c.next_in-next.result
     c.dead_by-holder.result (is_next c) c.dead_by-holder.ensures.line (says c) pruned c.args.union
     is)
@@ -132,8 +132,8 @@ returns-clause-keeps c =
     λ state inside.
     subst (λ lines. states_in c.args.task.now lines (c.next_in-next.result.set + 1) state)
     (sym (same c))
-    (put_keeps c.args.task.now c.atoms-atoms.ensures.task old c.requires.draft c.args.held
-    (record { below = c.requires.below; rises = c.len-len.ensures.rises }) c.args.by c.requires.dead
+    (put_keeps c.args.task.now c.atoms-atoms.ensures.task old c.requires.draft c.args.held.now
+    c.requires.held c.args.by c.requires.dead
     c.next_in-next.result
     c.dead_by-holder.result (is_next c) c.dead_by-holder.ensures.line (says c) c.requires.union.0
     c.args.union c.requires.union.1 state inside)
@@ -144,10 +144,10 @@ returns-clause-number c = union_as c.args.draft.now.lines c.next_in-next.result 
 pub returns-clause-inside : goal.returns-clause-inside
 returns-clause-inside c =
     subst (λ lines. states_in c.args.task.now lines (c.next_in-next.result.set + 1)
-    (state_of (atoms c.args.task.now) c.args.held)) (sym (same c))
+    (state_of (atoms c.args.task.now) c.args.held.now)) (sym (same c))
     (put_inside c.args.task.now c.atoms-atoms.ensures.task c.args.draft.now.lines c.requires.draft
-    c.args.held
-    (record { below = c.requires.below; rises = c.len-len.ensures.rises }) c.args.by c.requires.dead
+    c.args.held.now
+    c.requires.held c.args.by c.requires.dead
     c.next_in-next.result
     c.dead_by-holder.result (is_next c) c.dead_by-holder.ensures.line (says c) c.requires.union.0
     c.args.union c.requires.union.1)

@@ -1,18 +1,58 @@
 use Rattle.std.proofs.Common.{subst, sym}
+use Rattle.std.specs.Option.{IfSome}
+use Rattle.hv_reach.specs.Index.{IsTaskIndex}
+use Rattle.hv_reach.specs.Working.Pruners.{items_in}
 use Rattle.hv_reach.specs.Pruners.{FitPairs, HoldsPairsOf, IsPairsBlock, PairsCover}
 use Rattle.hv_reach.proofs.Writing.{described_after, fits_after}
 use Rattle.hv_reach.proofs.pair_pruner.PairPruner.answer.Goals as goal
 
 pub pairs_answer-requires-clause-fits : goal.pairs_answer-requires-clause-fits
 pairs_answer-requires-clause-fits c =
-    (subst (FitPairs c.args.task.now c.args.draft.now.lines) (sym c.self.view_is) c.requires.fits).0
+    (subst (FitPairs c.args.task.now c.args.draft.now.lines) (sym c.self.view_is)
+    c.requires.fits).0
 
 pub pairs_answer-requires-clause-described : goal.pairs_answer-requires-clause-described
 pairs_answer-requires-clause-described c =
-    (subst (FitPairs c.args.task.now c.args.draft.now.lines) (sym c.self.view_is) c.requires.fits).1
+    (subst (FitPairs c.args.task.now c.args.draft.now.lines) (sym c.self.view_is)
+    c.requires.fits).1
 
-pub returns-clause-fits : goal.returns-clause-fits
-returns-clause-fits c =
+pub pairs_answer-requires-clause-index : goal.pairs_answer-requires-clause-index
+pairs_answer-requires-clause-index c =
+    subst (λ x. IfSome (items_in x) (IsTaskIndex c.args.task.now)) c.in-Some.is
+    (subst (FitPairs c.args.task.now c.args.draft.now.lines) (sym c.self.view_is)
+    c.requires.fits).2
+
+pub pairs_answer-requires-in-None-clause-fits : goal.pairs_answer-requires-in-None-clause-fits
+pairs_answer-requires-in-None-clause-fits c =
+    (subst (FitPairs c.args.task.now c.args.draft.now.lines) (sym c.self.view_is)
+    c.requires.fits).0
+
+pub pairs_answer-requires-in-None-clause-described
+    : goal.pairs_answer-requires-in-None-clause-described
+pairs_answer-requires-in-None-clause-described c =
+    (subst (FitPairs c.args.task.now c.args.draft.now.lines) (sym c.self.view_is)
+    c.requires.fits).1
+
+pub returns-in_err-found-in-None-clause-fits : goal.returns-in_err-found-in-None-clause-fits
+returns-in_err-found-in-None-clause-fits c =
+    let e = c.pairs_answer-in-None.ensures in
+    let n = c.pairs_answer-in-None.new in
+    let fits = subst (FitPairs c.args.task.now c.args.draft.now.lines) (sym c.self.view_is)
+    c.requires.fits in (
+      fits_after c.args.task.now (PairsCover c.args.task.now)
+          (IsPairsBlock c.args.task.now c.args.state.now c.args.draft.now.lines) c.args.state.now
+          c.self.inside.notes.items c.args.draft.now n.notes.items n.draft
+          c.pairs_answer-in-None.result
+          e.outcome e.err_draft e.err_notes fits.0,
+      described_after HoldsPairsOf c.args.task.now c.args.draft.now n.draft
+          c.self.inside.notes.items n.notes.items c.self.inside.reached.items
+          n.reached.items c.pairs_answer-in-None.result e.described e.err_draft e.err_notes
+          e.err_reached fits.1,
+      fits.2,
+    )
+
+pub returns-in-Some-clause-fits : goal.returns-in-Some-clause-fits
+returns-in-Some-clause-fits c =
     let e = c.pairs_answer.ensures in
     let n = c.pairs_answer.new in
     let fits = subst (FitPairs c.args.task.now c.args.draft.now.lines) (sym c.self.view_is)
@@ -25,4 +65,5 @@ returns-clause-fits c =
           c.self.inside.notes.items n.notes.items c.self.inside.reached.items
           n.reached.items c.pairs_answer.result e.described e.err_draft e.err_notes e.err_reached
           fits.1,
+      fits.2,
     )

@@ -1,4 +1,6 @@
 use Rattle.std.proofs.Common.{subst, sym}
+use Rattle.std.specs.Option.{IfSome}
+use Rattle.hv_reach.specs.Index.{AreSearchRowsOf}
 use Rattle.hv_reach.specs.Pruners.{FitRelaxed, HoldsAtomsOf, IsRelaxedBlock}
 use Rattle.hv_reach.specs.Written.{RelaxedExcludesFrom}
 use Rattle.hv_reach.proofs.Writing.{described_after, fits_after}
@@ -14,8 +16,48 @@ relaxed_answer-requires-clause-described c =
     (subst (FitRelaxed c.args.task.now c.args.draft.now.lines) (sym c.self.view_is)
     c.requires.fits).1
 
-pub returns-clause-fits : goal.returns-clause-fits
-returns-clause-fits c =
+pub relaxed_answer-requires-clause-search : goal.relaxed_answer-requires-clause-search
+relaxed_answer-requires-clause-search c =
+    subst (λ s. IfSome s (AreSearchRowsOf c.args.task.now)) c.in-Some.is
+    (subst (FitRelaxed c.args.task.now c.args.draft.now.lines) (sym c.self.view_is)
+    c.requires.fits).2
+
+pub returns-in_err-search-in-None-clause-fits : goal.returns-in_err-search-in-None-clause-fits
+returns-in_err-search-in-None-clause-fits c =
+    subst (FitRelaxed c.args.task.now c.args.draft.now.lines) (sym c.self.view_is)
+    c.requires.fits
+
+pub relaxed_answer-requires-in-None-clause-fits : goal.relaxed_answer-requires-in-None-clause-fits
+relaxed_answer-requires-in-None-clause-fits c =
+    (subst (FitRelaxed c.args.task.now c.args.draft.now.lines) (sym c.self.view_is)
+    c.requires.fits).0
+
+pub relaxed_answer-requires-in-None-clause-described
+    : goal.relaxed_answer-requires-in-None-clause-described
+relaxed_answer-requires-in-None-clause-described c =
+    (subst (FitRelaxed c.args.task.now c.args.draft.now.lines) (sym c.self.view_is)
+    c.requires.fits).1
+
+pub returns-in_err-found-in-None-clause-fits : goal.returns-in_err-found-in-None-clause-fits
+returns-in_err-found-in-None-clause-fits c =
+    let e = c.relaxed_answer-in-None.ensures in
+    let n = c.relaxed_answer-in-None.new in
+    let fits = subst (FitRelaxed c.args.task.now c.args.draft.now.lines) (sym c.self.view_is)
+    c.requires.fits in (
+      fits_after c.args.task.now (RelaxedExcludesFrom c.args.task.now)
+          (IsRelaxedBlock c.args.task.now c.args.state.now c.args.draft.now.lines) c.args.state.now
+          c.self.inside.notes.items c.args.draft.now n.notes.items n.draft
+          c.relaxed_answer-in-None.result
+          e.outcome e.err_draft e.err_notes fits.0,
+      described_after HoldsAtomsOf c.args.task.now c.args.draft.now n.draft
+          c.self.inside.notes.items n.notes.items c.self.inside.reached.rows
+          n.reached.rows c.relaxed_answer-in-None.result e.described e.err_draft e.err_notes
+          e.err_reached fits.1,
+      fits.2,
+    )
+
+pub returns-in-Some-clause-fits : goal.returns-in-Some-clause-fits
+returns-in-Some-clause-fits c =
     let e = c.relaxed_answer.ensures in
     let n = c.relaxed_answer.new in
     let fits = subst (FitRelaxed c.args.task.now c.args.draft.now.lines) (sym c.self.view_is)
@@ -28,4 +70,6 @@ returns-clause-fits c =
           c.self.inside.notes.items n.notes.items c.self.inside.reached.rows
           n.reached.rows c.relaxed_answer.result e.described e.err_draft e.err_notes e.err_reached
           fits.1,
+      subst (AreSearchRowsOf c.args.task.now) (sym e.search)
+          (subst (λ s. IfSome s (AreSearchRowsOf c.args.task.now)) c.in-Some.is fits.2),
     )

@@ -5,8 +5,8 @@ use Rattle.hv_replay.specs.Logs.{IsAtomSet, SearchLog}
 use Rattle.hv_replay.proofs.Kept.{atom_sets, entries_at, entries_length}
 use Rattle.hv_replay.proofs.log.Log.held.Goals as goal
 
-pub item-requires : goal.item-requires
-item-requires c =
+pub get-requires : goal.get-requires
+get-requires c =
     let s = c.self.inside in
     let size = entries_length s.expanded.items s.states.states c.self.invariant.1 in
     let view = ap (λ (l : SearchLog). length l.entries) c.self.view_is in
@@ -20,18 +20,18 @@ returns-clause-stands c = λ entry at.
     let s = c.self.inside in
     let here = subst (λ (l : SearchLog). slice_get l.entries c.args.place ≡ Some entry)
     (sym c.self.view_is) at in
-    let there = subst (λ xs. slice_get xs c.args.place ≡ Some c.item.result.now)
-    c.states.ensures.states c.item.ensures in
-    let same : ◌≡◌ {A = Option (List ℕ)} (Some c.item.result.now) (Some entry.state) =
+    let there = subst (λ xs. slice_get xs c.args.place ≡ Some c.get.result.now)
+    c.states.ensures.states c.get.ensures.state in
+    let same : ◌≡◌ {A = Option (List ℕ)} (Some c.get.result.now) (Some entry.state) =
     sym there ∙ (entries_at s.expanded.items s.states.states c.args.place entry here).1 in
     cc
 
 pub returns-clause-legal : goal.returns-clause-legal
 returns-clause-legal c =
     let s = c.self.inside in
-    let held = c.item.result.now in
+    let held = c.get.result.now in
     let there = subst (λ xs. slice_get xs c.args.place ≡ Some held) c.states.ensures.states
-    c.item.ensures in
+    c.get.ensures.state in
     let sets = atom_sets s.states.atoms s.expanded.items s.states.states c.self.invariant.1
     c.self.invariant.0 in
     subst (λ n. IsAtomSet n held) (ap (λ (l : SearchLog). l.atoms) c.self.view_is)
