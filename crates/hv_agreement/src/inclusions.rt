@@ -314,7 +314,9 @@ fn codes_are_right(alloc: Global, horn: u32, two: u32) -> Result<bool, Fail> {
     }
     let alone = clauses_are_right(alloc, &[horn], &[two])?;
     let beside = clauses_are_right(alloc, &[horn, 3, 42], &[5, 24, two])?;
-    Ok(alone & beside)
+    let turned = clauses_are_right(alloc, &[42, horn | 128, 3, horn], &[two | 128, 24, 133])?;
+    let full = clauses_are_right(alloc, &[154, horn, 41, 170, 38], &[two | 128, 133])?;
+    Ok(alone & beside & turned & full)
 }
 
 // Whether the Horn clause of this code and each clause of two literals are.
@@ -350,7 +352,8 @@ fn code_is_right(
     }
     let horn = formula_is_right::<HornKind>(alloc, task, listing, left, &[3, code])?;
     let two = formula_is_right::<TwoKind>(alloc, task, listing, left, &[code, 3])?;
-    Ok(horn & two)
+    let turned = formula_is_right::<HornKind>(alloc, task, listing, left, &[170, code | 128])?;
+    Ok(horn & two & turned)
 }
 
 // Whether a set of listed states and a set of each clause of both kinds are.

@@ -1,8 +1,9 @@
 //! A task of three atoms, its states, and sets of states, all as numbers.
 //!
-//! A state is a code below 8, with a bit for each atom. A clause is a code below 128, with a bit
+//! A state is a code below 8, with a bit for each atom. A clause is a code below 256, with a bit
 //! for each literal: the place of a literal is twice its atom, and one more if it is negative. With
-//! 64 each of them stands there twice. Several states are a mask, with a bit for the code of each.
+//! 64 each of them stands there twice, and with 128 they stand in the falling order. Several states
+//! are a mask, with a bit for the code of each.
 
 ghost use Rattle.std.specs.Prelude.{◌≡◌, ◌<◌, ◌+◌, [], IfOk, OnOk, length};
 ghost use Rattle.hv_task.specs.State.{AreBelow};
@@ -75,7 +76,7 @@ fn state_holding(alloc: Global, held: &AtomList) -> Result<State, AllocError>
     ensures { IfOk result (λ state. length state ≡ 3) }
 {
     let mut state = State::empty(alloc, 3)?;
-    state.hold(held);
+    state.hold(held.as_slice());
     Ok(state)
 }
 
@@ -244,12 +245,23 @@ fn put_literal(clause: &mut Clause, code: u32, place: u32) -> Result<(), AllocEr
     Ok(())
 }
 
+// The place whose turn it is: with 128 the literals come in the falling order.
+fn in_turn(code: u32, place: u32) -> u32
+    requires { place < 6 }
+    ensures { result < 6 }
+{
+    if has_bit(code, 7) {
+        return 5 - place;
+    }
+    place
+}
+
 fn clause_from(alloc: Global, code: u32) -> Result<Clause, AllocError>
     ensures { IfOk result (SpeakBelow 3) }
 {
     let mut clause = Clause::new(alloc);
     for place in 0..6 {
-        put_literal(&mut clause, code, place)?;
+        put_literal(&mut clause, code, in_turn(code, place))?;
     }
     Ok(clause)
 }

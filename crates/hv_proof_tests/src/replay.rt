@@ -291,14 +291,14 @@ fn limits_of_a_log(rt: HostRuntime) -> Result<(), Fail> {
     Ok(())
 }
 
-// Whether the entries of the log are an expanded state that holds atom 2, and then the pruned
+// Whether the entries of the log are an expanded state that holds atoms 0 and 2, and then the pruned
 // empty one.
 fn has_two_entries(log: &Log) -> bool {
     log.len() == 2
         && log.expanded(0)
         && !log.expanded(1)
-        && log.state(0).has(2)
-        && log.state(1).len() == 0
+        && log.state(0) == [0, 2].as_slice()
+        && log.state(1).is_empty()
 }
 
 #[test]

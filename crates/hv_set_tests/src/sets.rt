@@ -1,6 +1,10 @@
 //! Tests of lists, and of operands by their names.
 
-use hv_sets::{Clause, Clauses, Literal, Operand, Operands, StateList, Which};
+ghost use Rattle.std.specs.Prelude.{◌≡◌, [], OnOk};
+
+use hv_sets::{
+    Clause, Clauses, ClausesBuilder, Literal, Operand, Operands, StateList, StateListBuilder, Which,
+};
 use hv_task::AtomList;
 use std::alloc::{AllocError, Global};
 use std::test::Fail;
@@ -122,8 +126,8 @@ fn one_state(alloc: Global) -> Result<StateList, AllocError> {
 // Whether a copy of the one state stays where the list gets a further one.
 fn state_copy_stays(alloc: Global, states: &mut StateList) -> Result<bool, AllocError> {
     let copy = states.copy(alloc)?;
-    states.push(AtomList::new(alloc))?;
-    Ok(states.as_slice().len() == 2 && copy.len() == 1)
+    states.push_atoms(&[1, 4])?;
+    Ok(states.len() == 2 && states.get(1) == [1, 4].as_slice() && copy.len() == 1)
 }
 
 // The same of a list that is shared.
@@ -135,6 +139,62 @@ fn shared_state_copy_stays(alloc: Global) -> Result<bool, AllocError> {
 #[test]
 fn a_copy_of_shared_states_stays(rt: HostRuntime) -> Result<(), Fail> {
     assert!(rt; shared_state_copy_stays(rt.alloc())?);
+    Ok(())
+}
+
+// Puts the two literals and an end, an end alone, and the second literal and an end.
+fn gather_three(clauses: &mut ClausesBuilder) -> Result<(), AllocError>
+    ensures { OnOk result (clauses.new.begun ≡ []) }
+{
+    clauses.reserve(3, 3)?;
+    clauses.put(HELD)?;
+    clauses.put(DENIED)?;
+    clauses.end()?;
+    clauses.end()?;
+    clauses.put(DENIED)?;
+    clauses.end()
+}
+
+// Whether the three clauses are put together literal by literal.
+fn are_gathered(alloc: Global) -> Result<bool, AllocError> {
+    let mut clauses = ClausesBuilder::new(alloc);
+    gather_three(&mut clauses)?;
+    Ok(clauses.begun() == 0 && are_three(&clauses.list()))
+}
+
+// Puts atoms 1 and 4 and an end, an end alone, and atom 2 and an end.
+fn gather_states(states: &mut StateListBuilder) -> Result<(), AllocError>
+    requires { states.old.begun ≡ [] }
+    ensures { OnOk result (states.new.begun ≡ []) }
+{
+    states.reserve(3, 3)?;
+    states.put(1)?;
+    states.put(4)?;
+    states.end()?;
+    states.end()?;
+    states.put(2)?;
+    states.end()
+}
+
+// Whether the list has just these states.
+fn are_gathered_states(states: &StateList) -> bool {
+    states.len() == 3
+        && states.get(0) == [1, 4].as_slice()
+        && states.get(1).is_empty()
+        && states.get(2) == [2].as_slice()
+}
+
+// Whether the three states are put together atom by atom.
+fn states_are_gathered(alloc: Global) -> Result<bool, AllocError> {
+    let mut states = StateListBuilder::new(alloc);
+    gather_states(&mut states)?;
+    Ok(states.len() == 3 && states.begun() == 0 && are_gathered_states(&states.list()))
+}
+
+#[test]
+fn lists_are_put_together_item_by_item(rt: HostRuntime) -> Result<(), Fail> {
+    assert!(rt; are_gathered(rt.alloc())?);
+    assert!(rt; states_are_gathered(rt.alloc())?);
     Ok(())
 }
 

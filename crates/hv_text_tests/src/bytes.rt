@@ -211,6 +211,165 @@ fn reads_no_further_than_a_line(rt: HostRuntime) -> Result<(), Fail> {
     Ok(())
 }
 
+/// By reads of `step` bytes, with a fault at the call of this number: the line and its number that
+/// stay. The open is the first call.
+static FAULTS: [(usize, u64, &str, u64); 12] = [
+    (1, 2, "", 0),
+    (1, 3, "", 0),
+    (1, 4, "", 0),
+    (1, 5, "ab", 1),
+    (1, 6, "ab", 1),
+    (1, 7, "ab", 1),
+    (1, 8, "cd", 2),
+    (1, 9, "cd", 2),
+    (1, 10, "cd", 2),
+    (7, 2, "", 0),
+    (7, 3, "cd", 2),
+    (7, 4, "cd", 2),
+];
+
+/// Whether no further line may be asked for, and this is still the present line, with its number.
+fn stays(lines: &Lines, line: &str, number: u64) -> bool {
+    !lines.live() && lines.line() == line.as_bytes() && lines.number() == number
+}
+
+/// Whether a fault comes among the first calls, and this line and number stay.
+fn stays_at_fault(
+    lines: &mut Lines,
+    shelf: &mut MemoryShelf,
+    line: &str,
+    number: u64,
+) -> Result<bool, LineFault> {
+    for _call in 0..4 {
+        if lines.live() && lines.next(shelf).is_err() {
+            return Ok(stays(lines, line, number));
+        }
+    }
+    Ok(false)
+}
+
+/// Whether of a file of three lines this line and number stay at a fault of the shelf.
+fn stays_where_failed(
+    alloc: Global,
+    step: usize,
+    call: u64,
+    line: &str,
+    number: u64,
+) -> Result<bool, LineFault>
+    requires { 1 ≤ step }
+{
+    let mut shelf = shelf_of(alloc, "ab\ncd\nef", step)?;
+    shelf.fail_at(call)?;
+    shelf.open("file")?;
+    let mut lines = Lines::new(alloc, Limits::STANDARD)?;
+    stays_at_fault(&mut lines, &mut shelf, line, number)
+}
+
+#[test]
+fn a_fault_of_the_shelf_leaves_the_line(rt: HostRuntime) -> Result<(), Fail> {
+    for (step, call, line, number) in &FAULTS {
+        let stays = stays_where_failed(rt.alloc(), (*step).max(1), *call, line, *number)?;
+        assert!(rt; stays, "{step} {call}");
+    }
+    Ok(())
+}
+
+/// Whether of a file whose second line is too long the first one stays, by reads of `step` bytes.
+fn stays_where_long(alloc: Global, step: usize) -> Result<bool, LineFault>
+    requires { 1 ≤ step }
+{
+    let mut shelf = shelf_of(alloc, "ab\ncde\nf\n", step)?;
+    shelf.open("file")?;
+    let mut lines = Lines::new(alloc, Limits { line: 2, file: 100 })?;
+    stays_at_fault(&mut lines, &mut shelf, "ab", 1)
+}
+
+#[test]
+fn a_long_line_leaves_the_one_before(rt: HostRuntime) -> Result<(), Fail> {
+    assert!(rt; stays_where_long(rt.alloc(), 1)?);
+    assert!(rt; stays_where_long(rt.alloc(), 4)?);
+    assert!(rt; stays_where_long(rt.alloc(), 4096)?);
+    Ok(())
+}
+
+/// A text of so many lines, each the row; the last one lacks its LF.
+fn rows_of(alloc: Global, row: &[u8], count: usize) -> Result<Vec<u8>, AllocError> {
+    let mut text = Vec::from_slice(alloc, row)?;
+    for _row in 1..count {
+        text.push(b'\n')?;
+        text.extend_from_slice(row)?;
+    }
+    Ok(text)
+}
+
+/// A shelf whose open file has so many lines, each the row.
+fn shelf_of_rows(
+    alloc: Global,
+    row: &[u8],
+    count: usize,
+    step: usize,
+) -> Result<MemoryShelf, LineFault>
+    requires { 1 ≤ step }
+{
+    let text = rows_of(alloc, row, count)?;
+    let mut shelf = MemoryShelf::new(alloc, step);
+    shelf.add("file", text.as_slice())?;
+    shelf.open("file")?;
+    Ok(shelf)
+}
+
+/// Whether so many lines come, each the row, and then the end.
+fn gives_rows(
+    lines: &mut Lines,
+    shelf: &mut MemoryShelf,
+    row: &[u8],
+    count: usize,
+) -> Result<bool, LineFault> {
+    for _row in 0..count {
+        if !lines.live() || lines.next(shelf)? != Next::Line || lines.line() != row {
+            return Ok(false);
+        }
+    }
+    Ok(lines.live() && lines.next(shelf)? == Next::End && lines.line() == row)
+}
+
+/// Whether lines of `size` bytes are cut where reads give `step` bytes.
+fn cuts_rows(alloc: Global, size: usize, count: usize, step: usize) -> Result<bool, LineFault>
+    requires size { size ≤ 100000 }
+    requires step { 1 ≤ step }
+{
+    let row = vec![in alloc; b'x'; size]?;
+    let mut shelf = shelf_of_rows(alloc, row.as_slice(), count, step)?;
+    let mut lines = Lines::new(
+        alloc,
+        Limits {
+            line: 70000,
+            file: 1000000,
+        },
+    )?;
+    gives_rows(&mut lines, &mut shelf, row.as_slice(), count)
+}
+
+#[test]
+fn cuts_lines_across_blocks(rt: HostRuntime) -> Result<(), Fail> {
+    // a block has 65,536 bytes: the third line goes on in the second one
+    assert!(rt; cuts_rows(rt.alloc(), 30000, 4, 1)?);
+    assert!(rt; cuts_rows(rt.alloc(), 30000, 4, 7)?);
+    assert!(rt; cuts_rows(rt.alloc(), 30000, 4, 65536)?);
+    // the last byte of a line, and its LF, at the end of a block
+    assert!(rt; cuts_rows(rt.alloc(), 65536, 3, 65536)?);
+    assert!(rt; cuts_rows(rt.alloc(), 65535, 3, 65536)?);
+    Ok(())
+}
+
+#[test]
+fn a_line_has_exactly_the_limit(rt: HostRuntime) -> Result<(), Fail> {
+    assert!(rt; cuts_rows(rt.alloc(), 70000, 2, 65536)?);
+    let longer = cuts_rows(rt.alloc(), 70001, 2, 65536);
+    assert!(rt; longer == Err(LineFault::Long));
+    Ok(())
+}
+
 /// Lines, their first fields, and what follows them.
 static FIELDS: [(&str, &str, Option<&str>); 6] = [
     ("", "", None),

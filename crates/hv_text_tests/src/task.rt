@@ -176,7 +176,7 @@ fn exchange(alloc: Global) -> Result<Action, AllocError> {
 fn is_read(alloc: Global, action: &Action) -> Result<bool, AllocError> {
     let held = atoms_of(alloc, &[0, 2, 7])?;
     let after = After {
-        held: &held,
+        held: held.as_slice(),
         action,
     };
     let mut hint = Hint::default();
