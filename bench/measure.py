@@ -1,12 +1,24 @@
-"""What the benchmarks share: the built program is run on files, and its user time and its greatest memory are told."""
+"""What the benchmarks share: programs are run on files, and their times and memory are told."""
+import argparse
+import collections
 import math
 import os
+import re
+import signal
 import subprocess
 import sys
 import tempfile
 
 TOP = os.path.dirname(os.path.dirname(os.path.abspath(__file__)))
 PROGRAM = os.path.join(TOP, "crates", "helve", "out", "helve")
+STARTER = os.path.join(TOP, "bench", "starter.py")
+PAGE = os.path.join(TOP, "bench", "README.md")
+NO_CONCLUSION = (1, b"no conclusion\n")
+UNSOLVABLE = (0, b"unsolvable\n")
+ENDED = (-signal.SIGXCPU, -signal.SIGKILL)
+
+# user time and user and system time in seconds, or None where a run was ended, and memory in MB
+Result = collections.namedtuple("Result", "user seconds memory")
 
 
 def build():
@@ -15,31 +27,151 @@ def build():
 
 
 def run(words, wanted=None, times=3):
-    """The least user time of some runs in seconds, and the greatest memory in MB.
-
-    Each run is started by a small process of its own: what a process holds when it starts another counts for the other.
-    """
+    """The least user time of some runs in seconds, and the greatest memory in MB."""
     least, most = math.inf, 0
     for _ in range(times):
-        starter = subprocess.run([sys.executable, __file__, PROGRAM] + words, stdout=subprocess.PIPE, check=True)
-        user, memory, got = starter.stdout.split(b"\n", 2)
+        (user, _, memory), _, got = run_once(PROGRAM, words)
         if wanted is not None and got != wanted.encode():
             sys.exit("not %r: %r" % (wanted, got[:200]))
-        least = min(least, float(user))
-        most = max(most, int(memory) / 1024)
+        least = min(least, user)
+        most = max(most, memory)
     return least, most
 
 
-def start(command):
-    """Runs a command and prints its user time in seconds, its greatest memory in KB and what it printed."""
-    process = subprocess.Popen(command, stdout=subprocess.PIPE)
-    got = process.stdout.read()
-    _, _, usage = os.wait4(process.pid, 0)
-    sys.stdout.buffer.write(b"%f\n%d\n" % (usage.ru_utime, usage.ru_maxrss) + got)
+def run_once(program, words, limit=0):
+    """One run: times and greatest memory, exit status, and what it printed.
+
+    The status is below 0 where it was ended after so many seconds of processor time.
+    """
+    command = [sys.executable, "-I", "-S", STARTER, str(limit), program] + words
+    starter = subprocess.run(command, stdout=subprocess.PIPE, check=True)
+    user, seconds, memory, status, got = starter.stdout.split(b"\n", 4)
+    return Result(float(user), float(seconds), int(memory) / 1024), int(status), got
+
+
+class Bench:
+    """What a script was asked for, the runs of its programs, and what they answered wrongly."""
+
+    def __init__(self, text, default):
+        words = argparse.ArgumentParser(description=text.split("\n", maxsplit=1)[0])
+        words.add_argument("sizes", nargs="*", type=int, help="without: %s" % default)
+        words.add_argument("--program", default=PROGRAM)
+        words.add_argument("--against", help="a second program, which is run in turn with it")
+        words.add_argument("--folder", help="where the files are written, and stay")
+        words.add_argument("--only", default="", help="only what has this in its name")
+        words.add_argument("--times", type=int, default=3, help="runs, of which the best counts")
+        words.add_argument("--limit", type=int, default=120, help="the seconds that a run may take")
+        words.add_argument("--write", action="store_true", help="renews the table of README.md")
+        self.asked, self.faults = words.parse_args(), []
+        self.sizes = self.asked.sizes or default
+        if self.asked.program == PROGRAM:
+            build()
+        self.programs = [self.asked.program]
+        if self.asked.against is not None:
+            self.programs.append(self.asked.against)
+
+    def folder(self, name):
+        """A folder for the files of a row: within the named one, or one that goes when it is
+        left."""
+        if self.asked.folder is None:
+            return tempfile.TemporaryDirectory()
+        return Folder(os.path.join(self.asked.folder, re.sub("[^a-z0-9]+", "-", name.lower())))
+
+    def run(self, title, words, wanted):
+        """The best of some runs of each program, by turns; wanted is the exit status and the
+        text. A long run isn't repeated."""
+        best = [Result(math.inf, math.inf, 0)] * len(self.programs)
+        for turn in range(self.asked.times):
+            for number, program in enumerate(self.programs):
+                one = best[number]
+                if turn == 0 or one.seconds is not None and one.seconds < 2:
+                    best[number] = self.better(one, title, [program] + words, wanted)
+        return best
+
+    def better(self, before, title, command, wanted):
+        """What is known after one more run."""
+        one, status, got = run_once(command[0], command[1:], self.asked.limit)
+        memory = max(one.memory, before.memory)
+        if status in ENDED:
+            return Result(None, None, memory)
+        if (status, got) != wanted:
+            self.faults.append("%s: %s ended with %d: %r" % (title, command[0], status, got[:80]))
+        return min(one, before, key=lambda result: result.seconds)._replace(memory=memory)
+
+    def seconds(self, seconds):
+        return "over %d" % self.asked.limit if seconds is None else "%.3f" % seconds
+
+    def end(self, name, lines):
+        """Renews the table of this name where that was asked, and ends: with 1 where an answer
+        was wrong."""
+        if self.asked.write:
+            renew(name, lines)
+        for fault in self.faults:
+            print("wrong: " + fault, flush=True)
+        sys.exit(1 if self.faults else 0)
+
+
+class Folder:
+    """A folder that stays."""
+
+    def __init__(self, path):
+        self.path = path
+
+    def __enter__(self):
+        os.makedirs(self.path, exist_ok=True)
+        return self.path
+
+    def __exit__(self, *_):
+        pass
+
+
+def growth(now, before):
+    """The exponent of the size, of two pairs of a size and a time, where the times are known and
+    aren't short."""
+    if before is None or is_short(now[1]) or is_short(before[1]) or now[0] == before[0]:
+        return ""
+    return "%.1f" % (math.log(now[1] / before[1]) / math.log(now[0] / before[0]))
+
+
+def ratio(one, other):
+    """How many times as long the one took as the other, where neither is short; or None."""
+    if is_short(one.seconds) or is_short(other.seconds):
+        return None
+    return one.seconds / other.seconds
+
+
+def is_short(seconds):
+    """Whether a time is too short to say something, or a run was ended."""
+    return seconds is None or seconds < 0.004
+
+
+def row_of(cells):
+    return "| %s |" % " | ".join(cells)
+
+
+def head_of(cells):
+    """The two lines that begin a table."""
+    return [row_of(cells), "|" + "---|" * len(cells)]
+
+
+def renew(name, lines):
+    """Puts these lines in the place of the table of this name on the page."""
+    with open(PAGE, encoding="utf-8") as file:
+        page = file.read()
+    block = re.compile(r"(<!-- %s -->\n).*?(<!-- end -->)" % re.escape(name), re.S)
+    table_text = "\n".join(lines) + "\n"
+    with open(PAGE, "w", encoding="utf-8") as file:
+        file.write(block.sub(lambda found: found.group(1) + table_text + found.group(2), page))
+
+
+def bytes_of(words):
+    """The bytes of the files among these words."""
+    return sum(os.path.getsize(word) for word in words if os.path.isfile(word))
 
 
 def table(title, unit, rows, times=3):
-    """Runs `check` on each row (size, task text, proof text, further words, wanted answer), and prints a line for it.
+    """Runs `check` on each row (size, task text, proof text, further words, wanted answer), and
+    prints a line for it.
 
     The growth is the exponent of the size: 1 where twice the size takes twice the time.
     """
@@ -54,10 +186,8 @@ def table(title, unit, rows, times=3):
                         file.write(part)
             count = os.path.getsize(task) + os.path.getsize(proof)
             seconds, memory = run(["check", task, proof] + words, wanted, times)
-            growth = ""
-            if before is not None and before[1] > 0 and seconds > 0 and size != before[0]:
-                growth = "%.1f" % (math.log(seconds / before[1]) / math.log(size / before[0]))
-            print("%12d %12d %10.3f %8s %10.0f" % (size, count, seconds, growth, memory), flush=True)
+            cells = (size, count, seconds, growth((size, seconds), before), memory)
+            print("%12d %12d %10.3f %8s %10.0f" % cells, flush=True)
             before = (size, seconds)
     print()
 
@@ -65,7 +195,3 @@ def table(title, unit, rows, times=3):
 def sizes(words, default):
     """The sizes that the words name, or else these."""
     return [int(word) for word in words] or default
-
-
-if __name__ == "__main__":
-    start(sys.argv[1:])

@@ -1,0 +1,200 @@
+"""Tasks whose states are known, and proofs and logs that list them, written piece by piece."""
+import itertools
+
+import texts
+
+
+def write_task(path, atoms, start, goal, actions):
+    """A task; an action has a precondition, an add list and a delete list."""
+    with open(path, "w") as file:
+        file.write("begin_atoms:%d\n" % atoms)
+        file.writelines("atom_%d\n" % atom for atom in range(atoms))
+        for name, listed in (("init", start), ("goal", goal)):
+            file.write("%s\nbegin_%s\n" % ("end_atoms" if name == "init" else "end_init", name))
+            file.writelines("%d\n" % atom for atom in listed)
+        file.write("end_goal\nbegin_actions:%d\n" % len(actions))
+        for number, (pre, add, delete) in enumerate(actions):
+            file.write("begin_action\naction_%d\ncost:1\n" % number)
+            file.writelines("PRE:%d\n" % atom for atom in pre)
+            file.writelines("ADD:%d\n" % atom for atom in add)
+            file.writelines("DEL:%d\n" % atom for atom in delete)
+            file.write("end_action\n")
+        file.write("end_actions\n")
+
+
+def write_log(path, expanded, pruned=()):
+    with open(path, "w") as file:
+        for letter, states in (("x", expanded), ("p", pruned)):
+            file.writelines(letter + "".join(" %d" % atom for atom in s) + "\n" for s in states)
+        file.write("end\n")
+
+
+class Proof:
+    """A proof that is written: each line gets the next identifier of its letter."""
+
+    def __init__(self, file):
+        self.file, self.sets, self.known = file, 3, 1
+        file.write(texts.PRELUDE)
+
+    def set(self, words):
+        """A set's line, and its identifier."""
+        self.file.write("e %d %s\n" % (self.sets, words))
+        self.sets += 1
+        return self.sets - 1
+
+    def listed(self, count, states):
+        """A line that lists so many states."""
+        self.file.write("e %d x %d" % (self.sets, count))
+        for state in states:
+            self.file.write("".join(" %d" % atom for atom in state) + " ;")
+        self.file.write("\n")
+        self.sets += 1
+        return self.sets - 1
+
+    def know(self, words):
+        self.file.write("k %d %s\n" % (self.known, words))
+        self.known += 1
+        return self.known - 1
+
+    def dead(self, one, within, line):
+        """The one is dead, since it is within a set that is dead by this line."""
+        inside = self.know("s %d %d b1" % (one, within))
+        return self.know("d %d sd %d %d" % (one, inside, line))
+
+
+def write_replay(path, count, states):
+    """What `replay` writes of a log that expanded these states and pruned none."""
+    with open(path, "w") as file:
+        proof = Proof(file)
+        end_replay(proof, proof.listed(count, states), 0, 0)
+
+
+def end_replay(proof, listed, union, line):
+    """The lines behind the expanded states; the pruned ones are in the union, dead by the line."""
+    after = proof.set("p %d 0" % listed)
+    every = proof.set("u %d %d" % (listed, union))
+    goals = proof.set("i %d 2" % listed)
+    step = proof.know("s %d %d b2" % (after, every))
+    without = proof.dead(goals, 0, 0)
+    done = proof.know("d %d pg %d %d %d" % (listed, step, line, without))
+    whole = proof.know("d %d ud %d %d" % (every, done, line))
+    proof.know("u ci %d" % proof.dead(1, every, whole))
+
+
+def write_lists(path, lists):
+    """The proof by a union of lists, each a count and states: no action leads out of the union,
+    none of its states is a goal state, and the initial state is in it."""
+    with open(path, "w") as file:
+        proof = Proof(file)
+        parts = [proof.listed(count, states) for count, states in lists]
+        unions = [parts[0]]
+        for part in parts[1:]:
+            unions.append(proof.set("u %d %d" % (unions[-1], part)))
+        step = stays(proof, parts, unions, proof.set("u %d 0" % unions[-1]))
+        without = no_goal(proof, parts, unions)
+        done = proof.know("d %d pg %d 0 %d" % (unions[-1], step, without))
+        proof.know("u ci %d" % proof.dead(1, unions[-1], done))
+
+
+def stays(proof, parts, unions, every):
+    """The line that says that each action leads from the union of the parts into it."""
+    step = None
+    for part, union in zip(parts, unions):
+        after = proof.set("p %d 0" % part)
+        own = proof.know("s %d %d b2" % (after, every))
+        if step is None:
+            step = own
+        else:
+            after = proof.set("p %d 0" % union)
+            step = proof.know("s %d %d pu %d %d" % (after, every, step, own))
+    return step
+
+
+def no_goal(proof, parts, unions):
+    """The line that says that the goal states among the union's are dead, since there are none."""
+    before, line = None, None
+    for part, union in zip(parts, unions):
+        goals = proof.set("i %d 2" % part)
+        own = proof.dead(goals, 0, 0)
+        if before is None:
+            before, line = goals, own
+        else:
+            either = proof.set("u %d %d" % (before, goals))
+            dead = proof.know("d %d ud %d %d" % (either, line, own))
+            before = proof.set("i %d 2" % union)
+            inside = proof.know("s %d %d di" % (before, either))
+            line = proof.know("d %d sd %d %d" % (before, inside, dead))
+    return line
+
+
+def cut(states, count, parts):
+    """The states in so many lists of the same length or one more."""
+    states = iter(states)
+    for part in range(parts):
+        length = (part + 1) * count // parts - part * count // parts
+        yield length, itertools.islice(states, length)
+
+
+class Dials:
+    """Dials of some positions each: a state has an atom for each dial. The last atom is the goal,
+    which no action adds."""
+
+    def __init__(self, *positions):
+        self.positions = positions
+        self.first = [sum(positions[:dial]) for dial in range(len(positions))]
+        self.atoms = sum(positions) + 1
+        self.start, self.goal = self.first, [self.atoms - 1]
+        self.count = 1
+        for number in positions:
+            self.count *= number
+
+    def states(self):
+        ranges = [range(low, low + n) for low, n in zip(self.first, self.positions)]
+        return itertools.product(*ranges)
+
+    def steps(self):
+        """Each dial goes from a position to the next."""
+        for low, number in zip(self.first, self.positions):
+            for place in range(number):
+                yield [low + place], [low + (place + 1) % number], [low + place]
+
+    def steps_beside(self):
+        """Each dial goes from a position to the next where another is at a certain one."""
+        for pre, add, delete in self.steps():
+            dial = max(d for d, low in enumerate(self.first) if low <= pre[0])
+            for other, (low, number) in enumerate(zip(self.first, self.positions)):
+                if other != dial:
+                    for atom in range(low, low + number):
+                        yield sorted(pre + [atom]), add, delete
+
+
+class Switches:
+    """24 switches, of which a state has an atom each: off or on. Those with the same remainder
+    modulo a number go together. The goal is that the first is off and on."""
+
+    def __init__(self, free):
+        self.free, self.atoms, self.count = free, 48, 2**free
+        self.start, self.goal = list(range(0, 48, 2)), [0, 1]
+
+    def states(self):
+        for number in range(self.count):
+            yield [2 * s + (number >> s % self.free & 1) for s in range(24)]
+
+    def steps(self):
+        """Each switch goes off and on."""
+        for bit in range(self.free):
+            for value in (0, 1):
+                yield self.step(bit, value)
+
+    def step(self, bit, value):
+        together = range(bit, 24, self.free)
+        before = [2 * switch + value for switch in together]
+        return before[:1], [atom ^ 1 for atom in before], before
+
+    def steps_beside(self, count, numbers):
+        """So many actions, by which a switch goes where ten others are in a certain way."""
+        for _ in range(count):
+            chosen = numbers.sample(range(self.free), 11)
+            pre, add, delete = self.step(chosen[0], numbers.randrange(2))
+            others = [2 * bit + numbers.randrange(2) for bit in chosen[1:]]
+            yield sorted(pre + others), add, delete
