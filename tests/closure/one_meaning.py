@@ -15,9 +15,8 @@ import sources  # noqa: E402
 
 
 ROLES = """
-AreTextOf Beginning begun begun_by Ends EndsEarly FailsLine fault_at Feeds IsFirstFault IsLegal
-IsReadFrom IsReading IsTextOf kind_word LacksForm limit_word line_fault_at lines_before PassesLimit
-PassesNext
+AreTextOf Beginning Ends fault_at Feeds IsFirstFault IsLegal
+IsReadFrom IsReading IsTextOf kind_word LacksForm limit_word line_fault_at lines_before PassesNext
 IsChain IsEnd IsLinked slot_at slot_of
 AreOver IsEither IsFault or_else
 IsModest IsOutcome with_budget

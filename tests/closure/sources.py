@@ -12,7 +12,9 @@ NAME = r"[^\W\d][\w'-]*"
 DOTTED = re.compile(r"(?<![\w.])%s(?:\.%s)*" % (NAME, NAME))
 USE = re.compile(r"^\s*(?:ghost )?use ([\w.]+?)(?:\.\{([^}]*)\})?(?: as (\w+))?;?\s*$")
 SPEC_WORDS = r"(?:abbrev |unfoldable )*(?:pub )?(?:record |data )?"
-SPEC_ITEM = re.compile(r"^%s(%s)\s*(?=[:({ ]|$)" % (SPEC_WORDS, NAME))
+# an operator is known by the sign between its places, as `◌++◌`
+OPERATOR = r"◌\S+◌"
+SPEC_ITEM = re.compile(r"^%s(%s|%s)\s*(?=[:({ ]|$)" % (SPEC_WORDS, NAME, OPERATOR))
 BEGINS_ITEM = re.compile(
     r"^(?:abbrev|unfoldable|pub (?:record|data) |record|data|module|pub %s :)(?:\s|$)?" % NAME)
 RUST_TYPE = re.compile(r"^(pub(?:\([\w ]+\))? )?(struct|enum|trait) (\w+)")
@@ -127,7 +129,7 @@ class Sources:
         """Cuts lines into definitions, each with the comment before it, also those of a module."""
         chunks, waiting = [], []
         for number, line in enumerate(lines, first):
-            if line.startswith("--"):
+            if line.startswith("--") or re.match(r"infix[lr]? \d", line):
                 waiting.append(line)
             elif not line.strip():
                 if chunks:
@@ -396,10 +398,25 @@ class Sources:
             bound = set().union(*(self.bound_in(head) for head in heads))
             for found in DOTTED.finditer(part):
                 self.cite(item, found.group(0), bound)
+            self.cite_operators(item, part)
             for name, (path, _) in item.names.single.items():
                 sign = name.strip("◌").split("◌")[0]
                 if "◌" in name and path.startswith("Rattle.std") and sign in part:
                     item.kit.add((path, name))
+
+    def cite_operators(self, item, part):
+        """Cites the operators whose signs stand alone in the part. Those that join parts are not
+        written in a `do`, and are meant by it."""
+        own = {name: (crate, room, name) for crate, room, name in self.defs
+               if "◌" in name and (crate, room) == (item.crate, item.room)}
+        brought = {name: self.find(path, original)
+                   for name, (path, original) in item.names.single.items() if "◌" in name}
+        for name, key in {**own, **brought}.items():
+            sign = name.strip("◌")
+            alone = re.search(r"(?<!\S)%s(?!\S)" % re.escape(sign), part)
+            joined = sign in (">>=", ">>") and re.search(r"\bdo\b", part)
+            if key and key != item.key and (alone or joined):
+                item.cites[key] = True
 
     @staticmethod
     def parts_of(item, lines):
