@@ -8,3 +8,4 @@ pub mod Next
 pub mod Outside
 pub mod Listing
 pub mod Lists
+pub mod Sets

@@ -26,8 +26,8 @@ impl Action {
     ghost use Rattle.hv_task.specs.State.{successor};
     ghost use Rattle.hv_task.specs.Strips.{IsOver};
 
-    // Makes the state its successor.
-    pub(crate) fn apply(&self, state: &mut State)
+    /// Makes the state its successor, whether or not the action is applicable there.
+    pub fn apply(&self, state: &mut State)
         requires { IsOver (length state.old) self.now }
         ensures successor { state.new ≡ successor self.now state.old }
         ensures atoms { length state.new ≡ length state.old }

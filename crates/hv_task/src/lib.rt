@@ -4,6 +4,7 @@
 pub mod action;
 pub mod after;
 pub mod atom_list;
+pub mod atom_set;
 pub mod atoms;
 mod bits;
 pub mod laws;
@@ -14,6 +15,7 @@ pub mod task;
 pub use action::Action;
 pub use after::After;
 pub use atom_list::{AtomList, names_all, names_atom};
+pub use atom_set::AtomSet;
 pub use atoms::{Atoms, Hint};
 pub use laws::{laws_of_dead_states, laws_of_states};
 pub use name::Name;

@@ -2,12 +2,13 @@
 use Rattle.std.proofs.Common.{◌≡◌, ℕ, List, [], length, map, refl}
 use Rattle.std.specs.List.{filter_map}
 use Rattle.std.proofs.lemmas.List.{length-map}
+use Rattle.hv_task.specs.AtomList.{set_of}
 use Rattle.hv_task.specs.declared.action.Action.{Action}
 use Rattle.hv_task.specs.Strips.{IsOver}
 use Rattle.hv_task_text.specs.declared.fault.TaskKind.{TaskKind}
 use Rattle.hv_task_text.specs.declared.fault.TaskKind.TheVariants as K
 use Rattle.hv_task_text.specs.declared.reader.Reader.{Reader}
-use Rattle.hv_task_text.specs.Written.{Entry, Head, written_action, add_of, del_of, pre_of, set_of}
+use Rattle.hv_task_text.specs.Written.{Entry, Head, written_action, add_of, del_of, pre_of}
 use Rattle.hv_task_text.specs.declared.reader.OpenAction.{OpenAction}
 use Rattle.hv_task_text.specs.Beginning.{Beginning, at_begin_atoms, at_atom_name, at_end_atoms}
 use Rattle.hv_task_text.specs.Beginning.{at_begin_init, at_init_atom, at_begin_goal, at_goal_atom}
@@ -15,7 +16,7 @@ use Rattle.hv_task_text.specs.Beginning.{at_begin_actions, at_begin_action, at_a
 use Rattle.hv_task_text.specs.Beginning.{at_action_line, at_end_actions, at_end, IsLegal}
 use Rattle.hv_task_text.specs.Beginning.{expected_after, names_before}
 use Rattle.hv_task_text.specs.Working.Reading.{no_action, IsReading}
-use Rattle.hv_task_text.proofs.Sets.{set_below}
+use Rattle.hv_task.proofs.Sets.{set_below}
 
 -- what is kept of a written action that isn't whole yet
 abbrev pub open_of : ℕ → Entry → OpenAction

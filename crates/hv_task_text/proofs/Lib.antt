@@ -1,7 +1,6 @@
 pub mod Held
 pub mod Once
 pub mod Reached
-pub mod Sets
 pub mod Spelled
 pub mod Steps
 pub mod OneAnswer
@@ -9,3 +8,5 @@ pub mod SoFar
 pub mod Turns
 pub mod Appended
 pub mod Readable
+pub mod CleanLines
+pub mod TaskTexts

@@ -15,7 +15,7 @@ use Rattle.hv_task_text.specs.declared.fault.TaskLimit.{TaskLimit}
 use Rattle.hv_task_text.specs.declared.reader.Reader.{Reader}
 use Rattle.hv_task_text.specs.Form.{IsForm, PassesTaskLimit}
 use Rattle.hv_task_text.specs.Working.Reading.{Takes, Puts}
-use Rattle.hv_task_text.proofs.Sets.{inserted_once}
+use Rattle.hv_task.proofs.Sets.{inserted_once}
 use Rattle.hv_task_text.proofs.Spelled.{same_behind}
 
 -- a decimal doesn't begin with an `e`

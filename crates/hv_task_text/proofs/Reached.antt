@@ -1,4 +1,5 @@
 -- Every legal beginning is read: the reader comes to it line by line.
+use Rattle.hv_task.specs.AtomList.{set_of}
 use Rattle.std.proofs.Common.{◌≡◌, ℕ, zero, suc, ◌+◌, ◌<◌, ◌≤◌, true, false, cond, List, [], ◌∷◌}
 use Rattle.std.proofs.Common.{◌++◌, ◌⊎◌, inl, inr, length, map, refl, sym, ap, subst, arith}
 use Rattle.std.specs.Prelude.{codes, nat_lt}
@@ -12,14 +13,14 @@ use Rattle.hv_task_text.specs.declared.fault.TaskKind.{TaskKind}
 use Rattle.hv_task_text.specs.declared.fault.TaskKind.TheVariants as K
 use Rattle.hv_task_text.specs.declared.reader.Reader.{Reader}
 use Rattle.hv_task_text.specs.Written.{Item, pre, add, del, Entry, Head, atom_lines, start_lines}
-use Rattle.hv_task_text.specs.Written.{action_lines, pre_of, add_of, del_of, written_action, set_of}
+use Rattle.hv_task_text.specs.Written.{action_lines, pre_of, add_of, del_of, written_action}
 use Rattle.hv_task_text.specs.Beginning.{Beginning, at_begin_atoms, at_atom_name, at_end_atoms}
 use Rattle.hv_task_text.specs.Beginning.{at_begin_init, at_init_atom, at_begin_goal, at_goal_atom}
 use Rattle.hv_task_text.specs.Beginning.{at_begin_actions, at_begin_action, at_action_name, at_cost}
 use Rattle.hv_task_text.specs.Beginning.{at_action_line, at_end_actions, at_end, IsLegal, IsName}
 use Rattle.hv_task_text.specs.Beginning.{IsItem, IsEntry, expected_after, lines_before}
 use Rattle.hv_task_text.specs.Working.Reading.{turn, Takes}
-use Rattle.hv_task_text.proofs.Sets.{set_inserted}
+use Rattle.hv_task.proofs.Sets.{set_inserted}
 use Rattle.hv_task_text.proofs.Held.{held, held_expected}
 use Rattle.hv_task_text.proofs.Steps.{set_none, push_line, goal_push, item_spelled, ended_spelled}
 use Rattle.hv_task_text.proofs.Steps.{counted, same_in}

@@ -21,6 +21,7 @@ use Rattle.hv_bytes.specs.Standard.{most_file_bytes, most_line_bytes, standard}
 use Rattle.hv_bytes.proofs.WholeText.{IsWithin, pieces_of_short}
 use Rattle.hv_bytes.proofs.LineLaws.{lines_of-ended}
 use Rattle.hv_bytes.proofs.DecimalTexts.{digits_model}
+use Rattle.hv_task.specs.AtomList.{set_of}
 use Rattle.hv_task.specs.State.{AreBelow}
 use Rattle.hv_task.specs.Strips.{Strips, IsOver, IsTask}
 use Rattle.hv_task.specs.declared.action.Action.{Action}
@@ -31,8 +32,8 @@ use Rattle.hv_task_text.specs.Working.Canonical.{IsStored}
 use Rattle.hv_task_text.specs.TaskText.{TaskText}
 use Rattle.hv_task_text.specs.Written.{Item, pre, add, del, Entry, item_line, atom_lines}
 use Rattle.hv_task_text.specs.Written.{start_lines, goal_lines, head_lines, entry_lines, body_lines}
-use Rattle.hv_task_text.specs.Written.{pre_of, add_of, del_of, written_action, set_of, task_of}
-use Rattle.hv_task_text.proofs.Sets.{set_same}
+use Rattle.hv_task_text.specs.Written.{pre_of, add_of, del_of, written_action, task_of}
+use Rattle.hv_task.proofs.Sets.{set_same}
 
 abbrev IsNoLf : ℕ → Type 0
 IsNoLf b = b ≢ 10
@@ -43,7 +44,7 @@ clean_digits (b ∷ bytes) d =
     All-cons IsNoLf b bytes (λ e. let v : digit_value 10 < 10 = subst
     (λ x. digit_value x < 10) e d.0 in absurd (omega arith)) (clean_digits bytes d.1)
 
-clean_decimal : (n : ℕ) → n < 2 ^ 64 → IsClean (decimal n)
+pub clean_decimal : (n : ℕ) → n < 2 ^ 64 → IsClean (decimal n)
 clean_decimal n l = clean_digits (decimal n) (digits_decimal digits_model n l)
 
 cleaner : (b : ℕ) (bytes : List ℕ) (t : Bool) → b == 10 ≡ t
@@ -54,7 +55,7 @@ cleaner b bytes false s more f = All-cons IsNoLf b bytes
     (λ eq. let t = (Decides-eqb b 10).1 eq in absurd cc) (more f)
 
 -- a word without an LF, by test
-clean_word : (bytes : List ℕ) → list_all (λ b. not (b == 10)) bytes ≡ true → IsClean bytes
+pub clean_word : (bytes : List ℕ) → list_all (λ b. not (b == 10)) bytes ≡ true → IsClean bytes
 clean_word [] e = All-nil IsNoLf
 clean_word (b ∷ bytes) e = cleaner b bytes (b == 10) refl (clean_word bytes) e
 
@@ -110,7 +111,7 @@ lines_of_entry atoms entry few e name =
     (All-cons IsLine (codes "end_action") [] (word_line (codes "end_action") refl (omega arith))
     (All-nil IsLine))
 
-All-flat_map : {X Y : Type 0} (P : Y → Type 0) (f : X → List Y) (xs : List X)
+pub All-flat_map : {X Y : Type 0} (P : Y → Type 0) (f : X → List Y) (xs : List X)
     → All (λ x. All P (f x)) xs → All P (flat_map f xs)
 All-flat_map P f [] a = All-nil P
 All-flat_map P f (x ∷ xs) a =
@@ -118,7 +119,7 @@ All-flat_map P f (x ∷ xs) a =
     (All-flat_map P f xs (All-tail (λ x. All P (f x)) x xs a))
 
 -- what is known of each action of a task whose names can be written
-record IsWhole (atoms : ℕ) (action : Action) : Type 0 where
+pub record IsWhole (atoms : ℕ) (action : Action) : Type 0 where
   pub over : IsOver atoms action
   pub stored : IsStored action
   pub name : IsWritableName action.name

@@ -10,6 +10,7 @@ use Rattle.std.proofs.lemmas.Bool.Decides.{nat_tests}
 use Rattle.std.proofs.lemmas.List.{append_assoc, append-nil, length_push, length-map, map_push}
 use Rattle.std.proofs.lemmas.List.Concat.{flat_map-append}
 use Rattle.std.proofs.lemmas.List.Elements.{All-nil, All-push, filter_map-append}
+use Rattle.hv_task.specs.AtomList.{set_of}
 use Rattle.hv_task.specs.AtomList.{Inserts}
 use Rattle.hv_task_text.specs.declared.fault.TaskKind.{TaskKind}
 use Rattle.hv_task_text.specs.declared.fault.TaskKind.TheVariants as K
@@ -17,14 +18,14 @@ use Rattle.hv_task_text.specs.declared.reader.Reader.{Reader}
 use Rattle.hv_task_text.specs.Written.{Item, pre, add, del, Entry, Head, item_line, name_lines}
 use Rattle.hv_task_text.specs.Written.{atom_lines, start_lines, goal_lines, head_lines, body_lines}
 use Rattle.hv_task_text.specs.Written.{entry_lines, action_lines, pre_of, add_of, del_of}
-use Rattle.hv_task_text.specs.Written.{written_action, set_of}
+use Rattle.hv_task_text.specs.Written.{written_action}
 use Rattle.hv_task_text.specs.Beginning.{Beginning, at_begin_atoms, at_atom_name, at_end_atoms}
 use Rattle.hv_task_text.specs.Beginning.{at_begin_init, at_init_atom, at_begin_goal, at_goal_atom}
 use Rattle.hv_task_text.specs.Beginning.{at_begin_actions, at_begin_action, at_action_name, at_cost}
 use Rattle.hv_task_text.specs.Beginning.{at_action_line, at_end_actions, at_end, IsLegal, IsName}
 use Rattle.hv_task_text.specs.Beginning.{IsItem, IsEntry, expected_after, lines_before}
 use Rattle.hv_task_text.specs.Working.Reading.{turn, Takes}
-use Rattle.hv_task_text.proofs.Sets.{set_more}
+use Rattle.hv_task.proofs.Sets.{set_more}
 use Rattle.hv_task_text.proofs.Held.{held}
 
 -- this beginning is the former one with the line behind it, and the reader then holds what it says

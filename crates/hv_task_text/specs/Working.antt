@@ -1,4 +1,3 @@
 -- Definitions that no public contract cites: those of private contracts and of proofs.
 pub mod Canonical
 pub mod Reading
-pub mod Written

@@ -1,8 +1,9 @@
 -- The parts of a task text as they are written, and the task that a whole text stands for.
-use Rattle.std.specs.Prelude.{ℕ, ◌+◌, ◌==◌, List, [], ◌∷◌, ◌++◌, Option, Some, None, map, filter}
+use Rattle.std.specs.Prelude.{ℕ, List, [], ◌∷◌, ◌++◌, Option, Some, None, map}
 use Rattle.std.specs.Prelude.{length, decimal, codes}
-use Rattle.std.specs.List.{filter_map, flat_map, list_any, range_with_len}
+use Rattle.std.specs.List.{filter_map, flat_map}
 use Rattle.hv_task.specs.declared.action.Action.{Action}
+use Rattle.hv_task.specs.AtomList.{set_of}
 use Rattle.hv_task.specs.Strips.{Strips}
 
 -- one line of an action's lists: the word and the atom's number behind it
@@ -71,10 +72,6 @@ action_lines count head actions =
 -- a whole text
 abbrev pub text_lines : Head → List Entry → List (List ℕ)
 text_lines head actions = action_lines (length actions) head actions ++ codes "end_actions" ∷ []
-
--- the atoms, of so many, that stand in the list: each once, rising
-abbrev pub set_of : ℕ → List ℕ → List ℕ
-set_of atoms listed = filter (λ atom. list_any (λ n. n == atom) listed) (range_with_len 0 atoms)
 
 -- the atom of such a line, where it is one of the precondition, of what is added, of what is
 -- deleted

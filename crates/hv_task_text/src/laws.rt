@@ -1,10 +1,13 @@
-//! That a file has one answer, as the contract of a function that does nothing.
+//! That a file has one answer, and what a task that is read keeps, as contracts of functions that
+//! do nothing.
 
-ghost use Rattle.std.specs.Prelude.{◌≡◌, List};
+ghost use Rattle.std.specs.Prelude.{◌≡◌, ℕ, List};
 ghost use Rattle.hv_bytes.specs.Pieces.{Piece};
-ghost use Rattle.hv_task.specs.Strips.{Strips};
+ghost use Rattle.hv_bytes.specs.declared.cutting.Limits.{Limits};
+ghost use Rattle.hv_task.specs.Strips.{IsTask, Strips};
+ghost use Rattle.hv_task_text.specs.Canonical.{HasWritableNames};
 ghost use Rattle.hv_task_text.specs.declared.fault.TaskFault.{TaskFault};
-ghost use Rattle.hv_task_text.specs.TaskText.{AreTextOf, IsFirstFault};
+ghost use Rattle.hv_task_text.specs.TaskText.{AreTextOf, IsFirstFault, TaskText};
 
 /// The pieces of a file have one answer: they are the text of one task at most, a text has no
 /// fault, and the first fault is one.
@@ -15,4 +18,13 @@ pub fn one_answer()
         → AreTextOf pieces task → IsFirstFault pieces fault → ⊥ }
     ensures one_fault { (pieces : List Piece) (f g : TaskFault)
         → IsFirstFault pieces f → IsFirstFault pieces g → f ≡ g }
+{}
+
+/// What a task that is read from a text keeps: it is within the limits of tasks, and each of its
+/// names can be written and read again.
+pub fn laws_of_read_tasks()
+    ensures tasks { (pieces : List Piece) (task : Strips)
+        → AreTextOf pieces task → IsTask task }
+    ensures names { (limits : Limits) (bytes : List ℕ) (task : Strips)
+        → TaskText limits bytes task → HasWritableNames task }
 {}

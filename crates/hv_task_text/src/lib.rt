@@ -1,7 +1,6 @@
 //! Task texts: planning tasks read from text and written to it.
 #![tactic(auto)]
 
-mod atom_set;
 pub mod fault;
 pub mod laws;
 mod numbers;
@@ -10,6 +9,6 @@ mod reader;
 pub mod write;
 
 pub use fault::{TaskFault, TaskKind, TaskLimit};
-pub use laws::one_answer;
+pub use laws::{laws_of_read_tasks, one_answer};
 pub use read::read_task;
 pub use write::write_task;

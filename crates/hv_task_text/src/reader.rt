@@ -9,10 +9,9 @@ ghost use Rattle.hv_task_text.specs.Working.Reading.{closed, no_action, turn, Is
 ghost use Rattle.hv_task_text.specs.Working.Reading.{ClosesAction, TakesWord, Takes, Feeds};
 ghost use Rattle.hv_task_text.specs.Working.Reading.{FeedsEnd, Ends, fault_at, nothing_read};
 
-use crate::atom_set::AtomSet;
 use crate::fault::{TaskFault, TaskKind, TaskLimit};
 use crate::numbers::{atom_alone, atom_behind, numbered};
-use hv_task::{Action, Name, Task};
+use hv_task::{Action, AtomSet, Name, Task};
 use std::alloc::{AllocError, Global};
 use std::mem;
 

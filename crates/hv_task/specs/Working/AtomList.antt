@@ -1,5 +1,7 @@
 -- Working definitions beside those of `AtomList`: for private contracts and proofs.
-use Rattle.std.specs.Prelude.{◌≡◌, ◌<◌, ◌≤◌, ℕ, List, length, slice_index, Result, MatchResult}
+use Rattle.std.specs.Prelude.{◌≡◌, ◌<◌, ◌≤◌, ◌+◌, ℕ, List, length, slice_index, sum, Result}
+use Rattle.std.specs.Prelude.{MatchResult}
+use Rattle.hv_task.specs.AtomList.{set_of}
 
 -- the place of an atom in a rising list, or else the place where it belongs: what stands before it
 -- is less, and the rest greater
@@ -16,3 +18,7 @@ pub record IsFirstFrom (list : List ℕ) (from place : ℕ) : Type 0 where
   pub upto : place ≤ length list
   pub before : (k : ℕ) → k < place → slice_index list k < from
   pub after : (k : ℕ) → place ≤ k → k < length list → from ≤ slice_index list k
+
+-- the numbers that stand in the list: each once, rising
+abbrev pub members : List ℕ → List ℕ
+members listed = set_of (sum listed + 1) listed

@@ -2,7 +2,6 @@
 use Rattle.std.specs.Prelude.{◌≤◌}
 use Rattle.std.specs.List.Sorted.{IsStrictlyIncreasing}
 use Rattle.hv_task.specs.declared.action.Action.{Action}
-use Rattle.hv_task_text.specs.Written.{pre, add, del}
 
 -- what every action of a task in the program keeps: its cost is a number of 32 bits, and its sets
 -- rise

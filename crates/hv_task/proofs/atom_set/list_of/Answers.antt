@@ -1,9 +1,9 @@
-use Rattle.std.proofs.Common.{◌≡◌, ◌+◌, ◌∙◌, ap, get_or, sym, take}
+use Rattle.std.proofs.Common.{◌∙◌, ap, get_or, sym, take}
 use Rattle.std.proofs.lemmas.List.{take_more}
 use Rattle.hv_task.specs.AtomList.{Inserts}
-use Rattle.hv_task_text.specs.Working.Written.{members}
-use Rattle.hv_task_text.proofs.Sets.{members_more}
-use Rattle.hv_task_text.proofs.atom_set.list_of.Goals as goal
+use Rattle.hv_task.specs.Working.AtomList.{members}
+use Rattle.hv_task.proofs.Sets.{members_more}
+use Rattle.hv_task.proofs.atom_set.list_of.Goals as goal
 
 pub loop-atom-preserved : goal.loop-atom-preserved
 loop-atom-preserved c =

@@ -12,11 +12,10 @@ use Rattle.std.proofs.lemmas.List.Elements.{Contains-push}
 use Rattle.std.proofs.lemmas.List.{get_or_default}
 use Rattle.std.proofs.lemmas.List.Sums.{sum_by-cons}
 use Rattle.std.proofs.lemmas.List.Kept.{IsStrictlyIncreasing-filter}
-use Rattle.hv_task.specs.AtomList.{Inserts}
+use Rattle.hv_task.specs.AtomList.{Inserts, set_of}
+use Rattle.hv_task.specs.Working.AtomList.{members}
 use Rattle.hv_task.specs.State.{AreBelow}
 use Rattle.hv_task.proofs.Rising.{same_rising}
-use Rattle.hv_task_text.specs.Written.{set_of}
-use Rattle.hv_task_text.specs.Working.Written.{members}
 
 -- membership by recursion
 abbrev Has : ℕ → List ℕ → Type 0

@@ -1,8 +1,8 @@
 use Rattle.std.proofs.lemmas.List.Filters.{dedup_is}
 use Rattle.std.proofs.lemmas.List.Kept.{Contains-dedup_nat, Contains-from_dedup}
 use Rattle.std.proofs.lemmas.List.Sorted.{Contains-permutation, IsPermutation-sym}
-use Rattle.hv_task_text.proofs.Sets.{same_members_of}
-use Rattle.hv_task_text.proofs.atom_set.sort.Goals as goal
+use Rattle.hv_task.proofs.Sets.{same_members_of}
+use Rattle.hv_task.proofs.atom_set.sort.Goals as goal
 
 pub returns : goal.returns
 returns c =

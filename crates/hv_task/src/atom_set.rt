@@ -1,10 +1,10 @@
 //! Sets of atoms while they are read: any order, with repeats, in time n log n.
 
-ghost use Rattle.std.specs.Prelude.{◌≡◌, [], IfOk, OnOk};
+ghost use Rattle.std.specs.Prelude.{◌≡◌, [], IfOk, OnOk, OnErr};
 ghost use Rattle.hv_task.specs.AtomList.{Inserts};
-ghost use Rattle.hv_task_text.specs.Working.Written.{members};
+ghost use Rattle.hv_task.specs.Working.AtomList.{members};
 
-use hv_task::AtomList;
+use crate::atom_list::AtomList;
 use std::alloc::{AllocError, Global};
 use std::marker::Model;
 
@@ -23,7 +23,7 @@ pub struct AtomSet {
 
 impl Model for AtomSet {
     ghost use Rattle.std.specs.Prelude.{ℕ, List};
-    ghost use Rattle.hv_task_text.specs.Working.Written.{members};
+    ghost use Rattle.hv_task.specs.Working.AtomList.{members};
 
     ghost Value = { List ℕ };
 
@@ -43,7 +43,8 @@ impl AtomSet {
 
     /// Puts an atom in. One that is there already changes nothing.
     pub fn insert(&mut self, atom: u32) -> Result<(), AllocError>
-        ensures { OnOk result (Inserts self.old atom self.new) }
+        ensures ok { OnOk result (Inserts self.old atom self.new) }
+        ensures err { OnErr result (self.new ≡ self.old) }
     {
         self.room = made_room(&mut self.atoms, self.room);
         self.atoms.push(atom)?;
@@ -54,6 +55,7 @@ impl AtomSet {
     pub fn take(&mut self, alloc: Global) -> Result<AtomList, AllocError>
         ensures list { IfOk result (λ list. list ≡ self.old) }
         ensures empty { OnOk result (self.new ≡ []) }
+        ensures err { OnErr result (self.new ≡ self.old) }
     {
         sort(&mut self.atoms);
         let list = list_of(alloc, self.atoms.as_slice())?;
