@@ -1,0 +1,13 @@
+pub mod Members
+pub mod Atoms
+pub mod Effects
+pub mod Coded
+pub mod Steps
+pub mod Plans
+pub mod Making
+pub mod Legal
+pub mod Tests
+pub mod Split
+pub mod Ranges
+pub mod Answered
+pub mod Marks

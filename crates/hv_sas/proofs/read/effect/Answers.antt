@@ -1,0 +1,22 @@
+use Rattle.std.proofs.Common.{◌++◌, ◌∷◌, [], subst, sym, Bool, List, arith}
+use Rattle.hv_sas.specs.declared.task.Effect.{Effect}
+use Rattle.hv_sas.specs.Working.Reading.{AreMarked}
+use Rattle.hv_sas.proofs.Atoms.{range_within}
+use Rattle.hv_sas.proofs.Marks.{marked_push}
+use Rattle.hv_sas.proofs.read.effect.Goals as goal
+
+pub set-requires : goal.set-requires
+set-requires g c =
+    let e = c.in_ok-effect.effect in
+    let within = range_within c.args.variables.now e.var e.after
+    c.in_ok-effect.ensures.effect.after in
+    let size = c.requires.marked.count in omega arith
+
+pub returns-clause-marked : goal.returns-clause-marked
+returns-clause-marked g c =
+    let vs = c.args.variables.now in
+    let e = c.in_ok-effect.effect in
+    subst (λ (es : List Effect). AreMarked vs es c.set.new.self) (sym c.in_ok-push.ensures.ok)
+    (subst (λ (marks : List Bool). AreMarked vs (c.args.effects.now ++ e ∷ []) marks)
+    (sym c.set.ensures)
+    (marked_push vs c.args.effects.now e c.args.marks.now c.requires.marked))

@@ -1,0 +1,9 @@
+pub mod Variables
+pub mod Meaning
+pub mod Sound
+pub mod Made
+pub mod Words
+pub mod Lines
+pub mod Text
+pub mod Answer
+pub mod Working

@@ -1,0 +1,3 @@
+-- Definitions that no public contract cites: those of private contracts and of proofs.
+pub mod Making
+pub mod Reading
