@@ -1,0 +1,14 @@
+use Rattle.std.proofs.Common.{◌↔◌, subst, sym}
+use Rattle.hv_task.specs.Strips.{Strips}
+use Rattle.hv_bound.specs.Costs.{IsSolvable, IsSolvableWithin}
+use Rattle.hv_bound.proofs.Bounds.{plan_of_within, within_of_plan}
+use Rattle.hv_bound.proofs.bound.bounded.Goals as goal
+
+pub returns-clause-solvable : goal.returns-clause-solvable
+returns-clause-solvable c =
+    let task = c.atoms-atoms.ensures.task in
+    subst (λ (made : Strips). IsSolvable made ↔ IsSolvableWithin c.args.most c.args.task.now)
+    (sym c.in_ok-made_task.ensures) (
+      within_of_plan c.args.task.now c.args.most task,
+      plan_of_within c.args.task.now c.args.most task,
+    )

@@ -1,0 +1,5 @@
+pub mod Bounded
+pub mod Costs
+pub mod PlanAnswers
+pub mod PlanFile
+pub mod PlanText

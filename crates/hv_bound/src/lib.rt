@@ -1,0 +1,16 @@
+//! Cost bounds as tasks of their own, and plans: their files, their steps and their costs.
+#![tactic(auto)]
+
+pub mod bound;
+pub mod checking;
+pub mod fault;
+pub mod laws;
+pub mod plan_list;
+pub mod read;
+
+pub use bound::bounded;
+pub use checking::{PlanAnswer, check_plan};
+pub use fault::{BoundFault, PlanFault};
+pub use laws::{laws_of_cost_bounds, laws_of_plan_files};
+pub use plan_list::PlanList;
+pub use read::read_plan;
