@@ -1,0 +1,2 @@
+pub mod BoundTexts
+pub mod SasTexts
