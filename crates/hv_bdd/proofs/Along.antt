@@ -1,20 +1,17 @@
 -- Fronts after each of some literals.
-use Rattle.std.proofs.Common.{◌≡◌, ℕ, ◌<◌, ◌≤◌, ◌+◌, ◌∙◌, ◌++◌, ◌⊎◌, ◌&&◌, Bool, true, false, not}
-use Rattle.std.proofs.Common.{List, [], ◌∷◌, length, get_or, take, set, refl, sym, ap, arith, inl}
+use Rattle.std.proofs.Common.{◌≡◌, ℕ, ◌<◌, ◌≤◌, ◌+◌, ◌∙◌, ◌++◌, ◌&&◌, Bool, true, false}
+use Rattle.std.proofs.Common.{List, [], ◌∷◌, length, get_or, take, refl, sym, ap, arith, inl}
 use Rattle.std.proofs.Common.{inr, subst}
-use Rattle.std.proofs.lemmas.Bool.{and_parts, cases_eq, cases_lt, false_from_ne_true}
-use Rattle.std.proofs.lemmas.List.{get_or_append_left, get_or_push, get_or-take, get_or_default}
-use Rattle.std.proofs.lemmas.List.{get_or-set_other, get_or-set_same, length-set, length_push}
-use Rattle.std.proofs.lemmas.List.{length-take-le, take-append-le, take-take, take_all}
-use Rattle.std.proofs.lemmas.List.Elements.{Contains-push}
-use Rattle.std.specs.List.{Contains}
+use Rattle.std.proofs.lemmas.Bool.{and_parts, cases_order, false_from_ne_true}
+use Rattle.std.proofs.lemmas.List.{length_push, length-take-le, take-append-le, take-take}
+use Rattle.std.proofs.lemmas.List.{take_all}
 use Rattle.hv_sets.specs.declared.literal.Literal.{Literal}
 use Rattle.hv_sets.specs.Truth.{in_cube, in_literal}
 use Rattle.hv_paths.specs.Along.{IsBarren}
-use Rattle.hv_bdd.specs.Nodes.{NodeList, in_node, node_count}
+use Rattle.hv_bdd.specs.Nodes.{NodeList}
 use Rattle.hv_bdd.specs.declared.level.Level.{Level}
 use Rattle.hv_bdd.specs.Fronts.{AreBelowBound, HoldWanted, IsLevel, StandsAlong}
-use Rattle.hv_bdd.specs.Working.Fronts.{IsNextLevel, MovesTo, Turns}
+use Rattle.hv_bdd.specs.Working.Fronts.{GoesDeeper, IsNextLevel, MovesTo, Turns}
 
 in_push : (ls : List Literal) (l : Literal) (s : List Bool)
     → in_cube (ls ++ l ∷ []) s ≡ (in_cube ls s && in_literal l s)
@@ -90,14 +87,14 @@ module _ (list : NodeList) (inside : Bool) where
 
   -- the same question, told by equal functions
   pub along_same : (atoms atoms' : ℕ) (w v : List Bool → Bool) (ls ls' : List Literal)
-      (places : List ℕ) (levels : List Level) (refuted : Bool)
+      (bound : ℕ) (levels : List Level) (refuted : Bool)
       → atoms' ≡ atoms → ((s : List Bool) → v s ≡ w s) → ls' ≡ ls
-      → StandsAlong list inside atoms w ls places levels refuted
-      → StandsAlong list inside atoms' v ls' places levels refuted
-  along_same atoms atoms' w v ls ls' places levels refuted e same f is =
-      subst (λ n. StandsAlong list inside n v ls' places levels refuted) (sym e)
-      (subst (λ xs. StandsAlong list inside atoms v xs places levels refuted) (sym f) (record {
-        bound = is.bound;
+      → StandsAlong list inside atoms w ls bound levels refuted
+      → StandsAlong list inside atoms' v ls' bound levels refuted
+  along_same atoms atoms' w v ls ls' bound levels refuted e same f is =
+      subst (λ n. StandsAlong list inside n v ls' bound levels refuted) (sym e)
+      (subst (λ xs. StandsAlong list inside atoms v xs bound levels refuted) (sym f) (record {
+        few = is.few;
         sizes = is.sizes;
         each = λ i d less.
             let l = is.each i d less in
@@ -112,103 +109,87 @@ module _ (list : NodeList) (inside : Bool) where
       }))
 
   module _ (atoms : ℕ) (wanted : List Bool → Bool) where
-    pub along_back : (ls : List Literal) (places : List ℕ) (levels : List Level) (refuted : Bool)
+    pub along_back : (ls : List Literal) (bound : ℕ) (levels : List Level) (refuted : Bool)
         (depth : ℕ) → depth < length ls
-        → StandsAlong list inside atoms wanted ls places levels refuted
-        → StandsAlong list inside atoms wanted (take depth ls) places (take
-        (depth + 1) levels) false
-    along_back ls places levels refuted depth less is =
-        let size = length-take-le (depth + 1) levels (omega (arith, is.sizes, less)) in
+        → StandsAlong list inside atoms wanted ls bound levels refuted
+        → StandsAlong list inside atoms wanted (take depth ls) bound levels false
+    along_back ls bound levels refuted depth less is =
         let few = length-take-le depth ls (omega (arith, less)) in
         record {
-          bound = is.bound;
-          sizes = size ∙ ap (λ n. n + 1) (sym few);
-          each = λ i d early.
-              let in_levels : i < length levels = omega (arith, early, size, is.sizes, less) in
-              subst (λ x. IsLevel list inside wanted (length places) (take i (take depth ls)) x)
-              (sym (get_or-take (depth + 1) levels i d (omega (arith, early, size))))
-              (subst (λ xs. IsLevel list inside wanted (length places) xs (get_or levels i d))
-              (sym (take-take i depth ls (omega (arith, early, size))))
-              (is.each i d in_levels));
+          few = is.few;
+          sizes = omega (arith, few, is.sizes, less);
+          each = λ i d upto.
+              subst (λ xs. IsLevel list inside wanted bound xs (get_or levels i d))
+              (sym (take-take i depth ls (omega (arith, upto, few))))
+              (is.each i d (omega (arith, upto, few, less)));
           none = λ r. let f : false ≡ true = r in absurd cc;
         }
 
-    pub along_more : (ls : List Literal) (l : Literal) (places places' : List ℕ)
-        (levels levels' : List Level) (old new next : Level) (refuted refuted' : Bool)
-        → StandsAlong list inside atoms wanted ls places levels refuted
-        → length places' ≡ length places
-        → ((d : Level) → get_or levels (length ls) d ≡ old)
-        → levels' ≡ set levels (length ls) new ++ next ∷ []
-        → IsNextLevel list inside (length places) l old new next
-        → (refuted' ≡ true → length next.start.items ≡ 0)
-        → StandsAlong list inside atoms wanted (ls ++ l ∷ []) places' levels' refuted'
-    along_more ls l places places' levels levels' old new next refuted refuted' is size at out step
-        none =
-        subst (λ xs. StandsAlong list inside atoms wanted (ls ++ l ∷ []) places' xs refuted')
-        (sym out)
-        (record {
-          bound = omega (arith, is.bound, size);
-          sizes = length_push (set levels (length ls) new) next
-              ∙ (ap (λ n. n + 1) (len ∙ is.sizes) ∙ ap (λ n. n + 1) (sym (length_push ls l)));
-          each = each;
-          none = λ r. none_left list inside wanted atoms (ls ++ l ∷ []) next.start.items (none r)
-              last.start;
-        })
+    -- some level
+    some_level : (levels : List Level) → 0 < length levels → Level
+    some_level [] less = absurd (omega (arith, less))
+    some_level (level ∷ levels) less = level
+
+    pub along_more : (ls : List Literal) (l : Literal) (bound : ℕ) (levels levels' : List Level)
+        (refuted refuted' : Bool)
+        → StandsAlong list inside atoms wanted ls bound levels refuted
+        → GoesDeeper list inside bound l (length ls) levels levels'
+        → (refuted' ≡ true → (d : Level)
+        → length (get_or levels' (length ls + 1) d).start.items ≡ 0)
+        → StandsAlong list inside atoms wanted (ls ++ l ∷ []) bound levels' refuted'
+    along_more ls l bound levels levels' refuted refuted' is deeper none = record {
+      few = is.few;
+      sizes = omega (arith, deeper.size, more);
+      each = each;
+      none = λ r. none_left list inside wanted atoms (ls ++ l ∷ [])
+          (get_or levels' (length ls + 1) some).start.items (none r some) (last some).start;
+    }
       where
-        len : length (set levels (length ls) new) ≡ length levels
-        len = length-set levels (length ls) new
+        more : length (ls ++ l ∷ []) ≡ length ls + 1
+        more = length_push ls l
 
-        here : IsLevel list inside wanted (length places) ls old
-        here =
-            subst (λ x. IsLevel list inside wanted (length places) ls x) (at old)
-            (subst (λ xs. IsLevel list inside wanted (length places) xs (get_or levels
-            (length ls) old))
-            (take_all (length ls) ls (omega arith)) (is.each (length ls) old (omega
-            (arith, is.sizes))))
+        some : Level
+        some = some_level levels' (omega (arith, deeper.size))
 
-        last : IsLevel list inside wanted (length places) (ls ++ l ∷ []) next
-        last = level_next list inside wanted (length places) ls l old new next here step
+        here : (d : Level) → IsLevel list inside wanted bound ls (get_or levels (length ls) d)
+        here d = subst (λ xs. IsLevel list inside wanted bound xs (get_or levels (length ls) d))
+            (take_all (length ls) ls (omega arith)) (is.each (length ls) d (omega arith))
 
-        old_one : (i : ℕ) (d : Level) → i < length levels
-            → IsLevel list inside wanted (length places) (take i ls)
-            (get_or (set levels (length ls) new) i d)
-        old_one i d early = elim (cases_eq i (length ls)) [
+        last : (d : Level) → IsLevel list inside wanted bound (ls ++ l ∷ [])
+            (get_or levels' (length ls + 1) d)
+        last d = level_next list inside wanted bound ls l (get_or levels (length ls) d)
+            (get_or levels' (length ls) d) (get_or levels' (length ls + 1) d) (here d)
+            (deeper.next d)
+
+        moved : (d : Level) → IsLevel list inside wanted bound ls (get_or levels' (length ls) d)
+        moved d = level_moved list inside wanted bound ls l (get_or levels (length ls) d)
+            (get_or levels' (length ls) d) (get_or levels' (length ls + 1) d) (here d)
+            (deeper.next d)
+
+        -- the first literals stay
+        front : (i : ℕ) (level : Level) → i ≤ length ls
+            → IsLevel list inside wanted bound (take i ls) level
+            → IsLevel list inside wanted bound (take i (ls ++ l ∷ [])) level
+        front i level upto h = subst (λ xs. IsLevel list inside wanted bound xs level)
+            (sym (take-append-le i ls (l ∷ []) upto)) h
+
+        each : (i : ℕ) (d : Level) → i ≤ length (ls ++ l ∷ [])
+            → IsLevel list inside wanted bound (take i (ls ++ l ∷ [])) (get_or levels' i d)
+        each i d upto = elim (cases_order i (length ls)) [
           | inl same ↦
-              subst (λ j. IsLevel list inside wanted (length places) (take j ls)
-              (get_or (set levels (length ls) new) j d)) (sym same)
-              (subst (λ x. IsLevel list inside wanted (length places) (take (length ls) ls) x)
-              (sym (get_or-set_same levels (length ls) new d (omega (arith, is.sizes))))
-              (subst (λ xs. IsLevel list inside wanted (length places) xs new)
-              (sym (take_all (length ls) ls (omega arith)))
-              (level_moved list inside wanted (length places) ls l old new next here step)))
-          | inr other ↦
-              subst (λ x. IsLevel list inside wanted (length places) (take i ls) x)
-              (sym (get_or-set_other levels (length ls) i new d other)) (is.each i d early)
+              front i (get_or levels' i d) (omega (arith, same))
+              (subst (λ j. IsLevel list inside wanted bound (take j ls) (get_or levels' j d))
+              (sym same)
+              (subst (λ xs. IsLevel list inside wanted bound xs (get_or levels' (length ls) d))
+              (sym (take_all (length ls) ls (omega arith))) (moved d)))
+          | inr (inl early) ↦
+              front i (get_or levels' i d) (omega (arith, early))
+              (subst (λ x. IsLevel list inside wanted bound (take i ls) x)
+              (sym (deeper.before i d early)) (is.each i d (omega (arith, early))))
+          | inr (inr late) ↦
+              let end : i ≡ length ls + 1 = omega (arith, late, upto, more) in
+              subst (λ xs. IsLevel list inside wanted bound xs (get_or levels' i d))
+              (sym (take_all i (ls ++ l ∷ []) (omega (arith, end, more))))
+              (subst (λ j. IsLevel list inside wanted bound (ls ++ l ∷ []) (get_or levels' j d))
+              (sym end) (last d))
         ]
-
-        each : (i : ℕ) (d : Level) → i < length (set levels (length ls) new ++ next ∷ [])
-            → IsLevel list inside wanted (length places') (take i (ls ++ l ∷ []))
-            (get_or (set levels (length ls) new ++ next ∷ []) i d)
-        each i d less =
-            let long = length_push (set levels (length ls) new) next in
-            let more = length_push ls l in
-            subst (λ n. IsLevel list inside wanted n (take i (ls ++ l ∷ []))
-            (get_or (set levels (length ls) new ++ next ∷ []) i d)) (sym size)
-            (elim (cases_lt i (length levels)) [
-              | inl early ↦
-                  let upto : i ≤ length ls = omega (arith, early, is.sizes) in
-                  subst (λ x. IsLevel list inside wanted (length places) (take i (ls ++ l ∷ [])) x)
-                  (sym (get_or_append_left (set levels (length ls) new) (next ∷ []) d i
-                  (omega (arith, early, len))))
-                  (subst (λ xs. IsLevel list inside wanted (length places) xs
-                  (get_or (set levels (length ls) new) i d)) (sym (take-append-le i ls
-                  (l ∷ []) upto))
-                  (old_one i d early))
-              | inr late ↦
-                  let end : i ≡ length levels = omega (arith, late, less, long, len) in
-                  subst (λ x. IsLevel list inside wanted (length places) (take i (ls ++ l ∷ [])) x)
-                  (sym (get_or_push (set levels (length ls) new) next d i
-                  (omega (arith, end, len))))
-                  (subst (λ xs. IsLevel list inside wanted (length places) xs next)
-                  (sym (take_all i (ls ++ l ∷ []) (omega (arith, end, is.sizes, more)))) last)
-            ])

@@ -1,5 +1,5 @@
 -- Fronts: the nodes that are met after some literals, from the root of a diagram down.
-use Rattle.std.specs.Prelude.{◌≡◌, ◌<◌, ◌≤◌, ◌+◌, ℕ, Bool, true, List, [], length}
+use Rattle.std.specs.Prelude.{◌≡◌, ◌<◌, ◌≤◌, ℕ, Bool, true, List, length}
 use Rattle.std.specs.Prelude.{take, slice_index_or}
 use Rattle.std.specs.List.{Contains}
 use Rattle.hv_sets.specs.declared.literal.Literal.{Literal}
@@ -26,13 +26,13 @@ pub record IsLevel (list : NodeList) (inside : Bool) (wanted : List Bool → Boo
   pub start : HoldWanted list inside wanted cube level.start.items
   pub moved : level.ready ≡ true → HoldWanted list inside wanted cube level.moved.items
 
--- There is a level after each of the literals, and one before the first; and where no node is left,
--- no state that is looked for is in the cube.
+-- There is a level after each of the literals, and one before the first, of nodes below the bound,
+-- and there may be others; and where no node is left, no state that is looked for is in the cube.
 pub record StandsAlong (list : NodeList) (inside : Bool) (atoms : ℕ) (wanted : List Bool → Bool)
-    (literals : List Literal) (places : List ℕ) (levels : List Level)
+    (literals : List Literal) (bound : ℕ) (levels : List Level)
     (refuted : Bool) : Type 0 where
-  pub bound : length places ≤ node_count list
-  pub sizes : length levels ≡ length literals + 1
-  pub each : (i : ℕ) (d : Level) → i < length levels
-      → IsLevel list inside wanted (length places) (take i literals) (slice_index_or levels i d)
+  pub few : bound ≤ node_count list
+  pub sizes : length literals < length levels
+  pub each : (i : ℕ) (d : Level) → i ≤ length literals
+      → IsLevel list inside wanted bound (take i literals) (slice_index_or levels i d)
   pub none : refuted ≡ true → IsBarren atoms wanted literals

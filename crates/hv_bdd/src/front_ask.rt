@@ -5,7 +5,7 @@ ghost use Rattle.hv_bdd.specs.Nodes.{IsNode, in_node};
 ghost use Rattle.hv_bdd.specs.Fronts.{StandsAlong};
 
 use crate::diagrams::Diagrams;
-use crate::level::{Level, next_level};
+use crate::level::{Level, deepen};
 use hv_paths::Asker;
 use hv_sets::{Literal, Scratch};
 use hv_task::State;
@@ -18,8 +18,14 @@ pub struct FrontAsk<'a, A: Asker + Drop> {
     asked: A,
     nodes: &'a Diagrams,
     inside: bool,
+    // The nodes that can be met are below this number.
+    bound: usize,
+    // Where each of them was put last, from the first literal on.
     places: Vec<u32>,
+    // One level after each literal, and others that are filled again.
     levels: Vec<Level>,
+    // A list to write to.
+    spare: Vec<u32>,
     refuted: bool,
 }
 
@@ -44,8 +50,6 @@ impl<'a, A: Asker + Drop> FrontAsk<'a, A> {
         ensures wanted { IfOk result (λ ask. (s : List Bool)
             → ⟦<FrontAsk<'a, A> as Asker>⟧.wanted ask s ≡ A.wanted asked s) }
     {
-        let mut places = Vec::new(alloc);
-        places.resize(node as usize + 1, 0)?;
         let mut levels = Vec::new(alloc);
         let level = Level::of(alloc, node)?;
         levels.push(level)?;
@@ -54,8 +58,10 @@ impl<'a, A: Asker + Drop> FrontAsk<'a, A> {
             asked,
             nodes,
             inside,
-            places,
+            bound: node as usize + 1,
+            places: Vec::new(alloc),
             levels,
+            spare: Vec::new(alloc),
             refuted: false,
         })
     }
@@ -68,7 +74,7 @@ impl<'a, A: Asker + Drop> Asker for FrontAsk<'a, A> {
 
     ghost stands = { λ q. A.stands q.asked
         × StandsAlong q.nodes.now q.inside (A.atoms q.asked) (A.wanted q.asked)
-        (A.assumed q.asked) q.places.items q.levels.items q.refuted };
+        (A.assumed q.asked) q.bound q.levels.items q.refuted };
 
     ghost assumed = { λ q. A.assumed q.asked };
 
@@ -84,23 +90,24 @@ impl<'a, A: Asker + Drop> Asker for FrontAsk<'a, A> {
 
     fn assume(&mut self, literal: Literal) -> Result<(), AllocError> {
         let depth = self.asked.depth();
-        let level = next_level(
+        self.places.resize(self.bound, 0)?;
+        let none = deepen(
             self.alloc,
             self.nodes,
             self.inside,
-            &mut self.levels[depth],
+            &mut self.levels,
+            depth,
             &mut self.places,
+            &mut self.spare,
             literal,
         )?;
         self.asked.assume(literal)?;
-        self.refuted = level.is_met_nowhere();
-        self.levels.push(level)?;
+        self.refuted = none;
         Ok(())
     }
 
     fn take_back(&mut self, depth: usize) {
         self.asked.take_back(depth);
-        self.levels.truncate(depth + 1);
         self.refuted = false;
     }
 

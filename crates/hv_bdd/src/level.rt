@@ -6,15 +6,16 @@ ghost use Rattle.std.specs.List.{All, Contains};
 ghost use Rattle.hv_sets.specs.Truth.{in_literal};
 ghost use Rattle.hv_bdd.specs.Nodes.{IsNode, in_node, node_count};
 ghost use Rattle.hv_bdd.specs.Fronts.{AreBelowBound};
-ghost use Rattle.hv_bdd.specs.Working.Fronts.{IsContinued, IsAhead, IsNextLevel, MovesTo, LiesIn};
-ghost use Rattle.hv_bdd.specs.Working.Fronts.{Turns};
+ghost use Rattle.hv_bdd.specs.Working.Fronts.{GoesDeeper, IsContinued, IsAhead, IsMovedDown};
+ghost use Rattle.hv_bdd.specs.Working.Fronts.{IsNextLevel, MovesTo, LiesIn, Turns};
 
 use crate::diagrams::Diagrams;
 use hv_sets::Literal;
 use std::alloc::{AllocError, Global};
+use std::mem;
 
-/// The nodes that are met after some literals; and the same nodes moved down so that none asks for
-/// an atom before a place.
+/// The nodes that are met after some literals; and, if it is ready, the same nodes moved down so
+/// that none asks for an atom before the place `upto`.
 #[derive(Drop)]
 pub(crate) struct Level {
     pub start: Vec<u32>,
@@ -29,6 +30,16 @@ impl Level {
         ensures { result ≡ true → length self.now.start.items ≡ 0 }
     {
         self.start.len() == 0
+    }
+
+    // One that isn't made yet.
+    fn none(alloc: Global) -> Level {
+        Level {
+            start: Vec::new(alloc),
+            moved: Vec::new(alloc),
+            ready: false,
+            upto: 0,
+        }
     }
 
     // That of one node.
@@ -49,43 +60,125 @@ impl Level {
     }
 }
 
-// The nodes that are met after one more literal.
-pub(crate) fn next_level(
+// Makes the level after the one at this depth, for one more literal. The answer is whether no node
+// is met there. The lists of a level that was taken back are filled again; `spare` is one to write
+// to.
+pub(crate) fn deepen(
     alloc: Global,
+    nodes: &Diagrams,
+    inside: bool,
+    levels: &mut Vec<Level>,
+    depth: usize,
+    places: &mut Vec<u32>,
+    spare: &mut Vec<u32>,
+    literal: Literal,
+) -> Result<bool, AllocError>
+    requires bound { length places.old.items ≤ node_count nodes.now }
+    requires depth { depth < length levels.old.items }
+    requires start { (d : Level) → AreBelowBound (length places.old.items)
+        (slice_index_or levels.old.items depth d).start.items }
+    requires moved { (d : Level) → AreBelowBound (length places.old.items)
+        (slice_index_or levels.old.items depth d).moved.items }
+    ensures deeper { OnOk result (GoesDeeper nodes.now inside (length places.old.items) literal
+        depth levels.old.items levels.new.items) }
+    ensures none { IfOk result (λ none. none ≡ true → (d : Level)
+        → length (slice_index_or levels.new.items (depth + 1) d).start.items ≡ 0) }
+{
+    make_room(alloc, levels, depth)?;
+    let mut next = mem::replace(&mut levels[depth + 1], Level::none(alloc));
+    next_level(
+        nodes,
+        inside,
+        &mut levels[depth],
+        places,
+        spare,
+        literal,
+        &mut next,
+    )?;
+    let none = next.is_met_nowhere();
+    levels[depth + 1] = next;
+    Ok(none)
+}
+
+// Sees to it that there is a level after the one at this depth.
+fn make_room(alloc: Global, levels: &mut Vec<Level>, depth: usize) -> Result<(), AllocError>
+    requires { depth < length levels.old.items }
+    ensures room { OnOk result (depth + 1 < length levels.new.items) }
+    ensures same { OnOk result ((i : ℕ) (d : Level) → i ≤ depth
+        → slice_index_or levels.new.items i d ≡ slice_index_or levels.old.items i d) }
+{
+    if levels.len() > depth + 1 {
+        return Ok(());
+    }
+    levels.push(Level::none(alloc))?;
+    Ok(())
+}
+
+// Makes the next level that of the nodes that are met after one more literal.
+fn next_level(
     nodes: &Diagrams,
     inside: bool,
     level: &mut Level,
     places: &mut Vec<u32>,
+    spare: &mut Vec<u32>,
     literal: Literal,
-) -> Result<Level, AllocError>
+    next: &mut Level,
+) -> Result<(), AllocError>
     requires bound { length places.old.items ≤ node_count nodes.now }
     requires start { AreBelowBound (length places.old.items) level.old.start.items }
     requires moved { AreBelowBound (length places.old.items) level.old.moved.items }
-    ensures next { IfOk result (λ next.
-        IsNextLevel nodes.now inside (length places.old.items) literal level.old level.new next) }
-    ensures places { length places.new.items ≡ length places.old.items }
+    ensures next { OnOk result (IsNextLevel nodes.now inside (length places.old.items) literal
+        level.old level.new next.new) }
 {
-    let place = nodes.place(literal.atom);
-    restart(level, place)?;
-    let mut out = Vec::new(alloc);
-    advance(nodes, inside, place, places, &mut level.moved, &mut out)?;
-    level.moved = out;
-    level.upto = place;
-    let mut start = Vec::new(alloc);
+    move_down(
+        nodes,
+        inside,
+        nodes.place(literal.atom),
+        level,
+        places,
+        spare,
+    )?;
+    next.start.clear();
+    next.moved.clear();
+    next.ready = false;
     restrict(
         nodes,
         inside,
         level.moved.as_slice(),
         literal,
         places,
-        &mut start,
+        &mut next.start,
     )?;
-    Ok(Level {
-        start,
-        moved: Vec::new(alloc),
-        ready: false,
-        upto: 0,
-    })
+    Ok(())
+}
+
+// Moves the nodes of the level down to the place, where they aren't moved there.
+fn move_down(
+    nodes: &Diagrams,
+    inside: bool,
+    place: u32,
+    level: &mut Level,
+    places: &mut Vec<u32>,
+    spare: &mut Vec<u32>,
+) -> Result<(), AllocError>
+    requires bound { length places.old.items ≤ node_count nodes.now }
+    requires start { AreBelowBound (length places.old.items) level.old.start.items }
+    requires moved { AreBelowBound (length places.old.items) level.old.moved.items }
+    ensures start { OnOk result (level.new.start.items ≡ level.old.start.items) }
+    ensures moved { OnOk result (IsMovedDown nodes.now inside level.old level.new) }
+    ensures below { OnOk result
+        (AreBelowBound (length places.old.items) level.new.moved.items) }
+    ensures places { length places.new.items ≡ length places.old.items }
+{
+    if level.ready && level.upto == place {
+        return Ok(());
+    }
+    restart(level, place)?;
+    spare.clear();
+    advance(nodes, inside, place, places, &mut level.moved, spare)?;
+    mem::swap(&mut level.moved, spare);
+    level.upto = place;
+    Ok(())
 }
 
 // Begins anew where the nodes were moved past the place.

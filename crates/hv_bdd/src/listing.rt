@@ -43,7 +43,7 @@ impl Listing {
         }
     }
 
-    /// TakesNode one more node.
+    /// Takes one more node.
     pub fn put(&mut self, triple: Triple) -> Result<(), ParseFault<NodeRefusal>>
         requires ready { IsListing self.old }
         requires few { read_count self.old < 16777216 }

@@ -42,14 +42,27 @@ IsAhead list inside out queue at =
     (s : List Bool) (x : ℕ) → Contains queue x → in_node list x s ≡ inside
     → (y : ℕ) × IsPending out queue at y × (y ≤ x) × (in_node list y s ≡ inside)
 
+-- the nodes of a level were moved down, from its start on or from where they were
+abbrev pub IsMovedDown : NodeList → Bool → Level → Level → Type 0
+IsMovedDown list inside old new =
+    MovesTo list inside old.start.items new.moved.items
+    ⊎ ((old.ready ≡ true) × MovesTo list inside old.moved.items new.moved.items)
+
 -- The level that follows by a literal, and the one before it, whose nodes were moved further down.
 pub record IsNextLevel (list : NodeList) (inside : Bool) (bound : ℕ) (literal : Literal)
     (old new next : Level) : Type 0 where
   pub same : new.start.items ≡ old.start.items
-  pub moved : MovesTo list inside old.start.items new.moved.items
-      ⊎ ((old.ready ≡ true) × MovesTo list inside old.moved.items new.moved.items)
+  pub moved : IsMovedDown list inside old new
   pub turns : Turns list inside literal new.moved.items next.start.items
   pub unready : next.moved.items ≡ []
   pub next_unready : next.ready ≡ true → ⊥
   pub moved_below : AreBelowBound bound new.moved.items
   pub next_below : AreBelowBound bound next.start.items
+
+-- After the level at a depth stands one that follows by a literal; those before it are the same.
+pub record GoesDeeper (list : NodeList) (inside : Bool) (bound : ℕ) (literal : Literal) (depth : ℕ)
+    (old new : List Level) : Type 0 where
+  pub size : depth + 1 < length new
+  pub before : (i : ℕ) (d : Level) → i < depth → slice_index_or new i d ≡ slice_index_or old i d
+  pub next : (d : Level) → IsNextLevel list inside bound literal (slice_index_or old depth d)
+      (slice_index_or new depth d) (slice_index_or new (depth + 1) d)

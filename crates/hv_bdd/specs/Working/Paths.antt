@@ -1,5 +1,5 @@
 -- Working definitions beside those of `Paths`: for private contracts and proofs.
-use Rattle.std.specs.Prelude.{◌≡◌, ◌<◌, ◌+◌, ◌-◌, ℕ, List, [], ◌∷◌, length, min, slice_index_or}
+use Rattle.std.specs.Prelude.{◌≡◌, ◌<◌, ◌+◌, ℕ, List, [], ◌∷◌, length, min, slice_index_or}
 use Rattle.hv_sets.specs.declared.literal.Literal.{Literal}
 use Rattle.hv_bdd.specs.Nodes.{NodeList}
 use Rattle.hv_bdd.specs.Reduced.{node_at}

@@ -1,7 +1,7 @@
-use Rattle.std.proofs.Common.{◌≡◌, ◌∙◌, ◌<◌, ◌≤◌, sym, ap, subst, arith, length, ◌++◌}
+use Rattle.std.proofs.Common.{◌∙◌, sym, ap, subst, ◌++◌}
 use Rattle.hv_bdd.specs.Fronts.{AreBelowBound}
 use Rattle.hv_bdd.specs.Working.Fronts.{MovesTo}
-use Rattle.hv_bdd.proofs.Advanced.{ahead_done, ahead_rest, below_append, extends_more}
+use Rattle.hv_bdd.proofs.Advanced.{ahead_rest, extends_more}
 use Rattle.hv_bdd.proofs.level.advance.Goals as goal
 
 pub loop-at-preserved : goal.loop-at-preserved

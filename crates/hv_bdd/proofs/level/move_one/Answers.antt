@@ -1,10 +1,7 @@
-use Rattle.std.proofs.Common.{◌≡◌, ◌∙◌, ◌<◌, ◌≤◌, ◌⊎◌, ◌+◌, ap, sym, subst, arith, length, get_or}
-use Rattle.std.proofs.Common.{cond}
+use Rattle.std.proofs.Common.{◌≡◌, ◌∙◌, ◌<◌, ◌+◌, sym, subst, arith, length, get_or}
 use Rattle.std.proofs.lemmas.List.{get_or_default}
-use Rattle.std.specs.List.{Contains}
 use Rattle.hv_bdd.specs.Nodes.{node_count}
-use Rattle.hv_bdd.specs.Fronts.{AreBelowBound}
-use Rattle.hv_bdd.specs.Working.Fronts.{IsAhead, IsContinued}
+use Rattle.hv_bdd.specs.Working.Fronts.{IsAhead}
 use Rattle.hv_bdd.proofs.Advanced.{ahead_kept, ahead_moved, goes_on, extends_more}
 use Rattle.hv_bdd.proofs.level.move_one.Goals as goal
 

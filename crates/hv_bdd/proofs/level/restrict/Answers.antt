@@ -1,5 +1,4 @@
-use Rattle.std.proofs.Common.{◌≡◌, ◌∙◌, ◌<◌, ◌≤◌, sym, ap, subst, arith, length, get_or, refl}
-use Rattle.std.proofs.lemmas.List.{get_or_default}
+use Rattle.std.proofs.Common.{◌∙◌, arith, length, get_or, refl}
 use Rattle.hv_bdd.proofs.Advanced.{turned_more, turned_all}
 use Rattle.hv_bdd.proofs.level.restrict.Goals as goal
 

@@ -1,4 +1,4 @@
-use Rattle.std.proofs.Common.{◌≡◌, ◌≤◌, ◌<◌, ◌∙◌, ap, sym, arith, true}
+use Rattle.std.proofs.Common.{◌∙◌, ap, sym, true}
 use Rattle.hv_bdd.specs.Nodes.{in_node}
 use Rattle.hv_bdd.proofs.Advanced.{turned_same}
 use Rattle.hv_bdd.proofs.level.turned.Goals as goal

@@ -1,4 +1,4 @@
-use Rattle.std.proofs.Common.{◌≡◌, ◌<◌, length, take}
+use Rattle.std.proofs.Common.{◌≡◌, take}
 use Rattle.hv_sets.specs.Cubes.{SpeakBelow}
 use Rattle.hv_bdd.specs.Working.Paths.{literals_of}
 use Rattle.hv_bdd.proofs.walk.extend.Given as goal

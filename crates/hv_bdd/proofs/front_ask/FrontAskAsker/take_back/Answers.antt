@@ -1,5 +1,4 @@
-use Rattle.std.proofs.Common.{◌≡◌, ◌+◌, true, false, refl, sym, ap, subst, take}
-use Rattle.hv_bdd.specs.Fronts.{StandsAlong}
+use Rattle.std.proofs.Common.{false, take}
 use Rattle.hv_bdd.proofs.Along.{along_back, along_same}
 use Rattle.hv_bdd.proofs.front_ask.FrontAskAsker.take_back.Goals as goal
 
@@ -7,18 +6,14 @@ pub returns-clause-stands : goal.returns-clause-stands
 returns-clause-stands g c =
     let q = c.args.self.now in (
       c.take_back.ensures.stands,
-      subst (λ xs. StandsAlong q.nodes.now q.inside (g.A.Asker.atoms c.take_back.new.self)
-          (g.A.Asker.wanted c.take_back.new.self) (g.A.Asker.assumed c.take_back.new.self)
-          q.places.items
-          xs false) (sym c.truncate.ensures.items)
-          (along_same q.nodes.now q.inside (g.A.Asker.atoms q.asked)
+      along_same q.nodes.now q.inside (g.A.Asker.atoms q.asked)
           (g.A.Asker.atoms c.take_back.new.self)
           (g.A.Asker.wanted q.asked) (g.A.Asker.wanted c.take_back.new.self)
           (take c.args.depth (g.A.Asker.assumed q.asked)) (g.A.Asker.assumed c.take_back.new.self)
-          q.places.items (take (c.args.depth + 1) q.levels.items) false
+          q.bound q.levels.items false
           c.take_back.ensures.atoms c.take_back.ensures.wanted c.take_back.ensures.assumed
           (along_back q.nodes.now q.inside (g.A.Asker.atoms q.asked) (g.A.Asker.wanted q.asked)
-          (g.A.Asker.assumed q.asked) q.places.items q.levels.items q.refuted c.args.depth
+          (g.A.Asker.assumed q.asked) q.bound q.levels.items q.refuted c.args.depth
           c.requires.depth
-          (c.requires.stands.1))),
+          (c.requires.stands.1)),
     )
