@@ -1,11 +1,11 @@
 -- The walk over the clauses of a formula in another order.
-use Rattle.std.proofs.Common.{◌≡◌, ◌∙◌, ◌+◌, ◌<◌, ◌≤◌, ◌++◌, ◌&&◌, ◌||◌, ◌↔◌, ℕ, zero, suc, Bool}
-use Rattle.std.proofs.Common.{true, false, not, List, [], ◌∷◌, length, map, take, drop, get_or}
-use Rattle.std.proofs.Common.{refl, sym, ap, ap₂, arith, subst, inl, inr}
-use Rattle.std.proofs.lemmas.Bool.{and_parts, cases_lt}
+use Rattle.std.proofs.Common.{◌≡◌, ◌∙◌, ◌+◌, ◌<◌, ◌++◌, ◌&&◌, ◌||◌, ◌↔◌, ℕ, zero, suc, Bool}
+use Rattle.std.proofs.Common.{true, false, not, List, [], ◌∷◌, length, drop, get_or}
+use Rattle.std.proofs.Common.{refl, sym, ap, ap₂, arith, inl, inr}
+use Rattle.std.proofs.lemmas.Bool.{cases_lt}
 use Rattle.std.proofs.lemmas.List.{drop_more, get_or-map, length-map}
 use Rattle.std.proofs.lemmas.List.Elements.{Contains-append_left, Contains-push}
-use Rattle.std.proofs.lemmas.List.Elements.{Contains-push_cases, Contains-get_or}
+use Rattle.std.proofs.lemmas.List.Elements.{Contains-push_cases}
 use Rattle.std.specs.List.{Contains}
 use Rattle.hv_sets.specs.declared.literal.Literal.{Literal}
 use Rattle.hv_sets.specs.Truth.{in_clause, in_clauses, in_cube}

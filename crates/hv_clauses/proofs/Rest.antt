@@ -7,7 +7,7 @@ use Rattle.std.proofs.lemmas.List.{length-take-le, take-append-le, take-take, ta
 use Rattle.std.proofs.lemmas.List.{get_or-set_other, get_or-set_same, length-set}
 use Rattle.std.specs.List.{Contains}
 use Rattle.hv_sets.specs.declared.literal.Literal.{Literal}
-use Rattle.hv_sets.specs.Truth.{in_clause, in_clauses, in_cube, in_literal}
+use Rattle.hv_sets.specs.Truth.{in_clause, in_clauses, in_literal}
 use Rattle.hv_paths.specs.Along.{IsBarren}
 use Rattle.hv_clauses.specs.declared.arranged.Arranged.{Arranged}
 use Rattle.hv_clauses.specs.Clausal.{clause_at}

@@ -2,14 +2,13 @@
 use Rattle.std.proofs.Common.{◌≡◌, ◌∙◌, ◌<◌, ◌++◌, ◌&&◌, ◌||◌, ℕ, zero, suc, Bool, true, false}
 use Rattle.std.proofs.Common.{cond, not, List, [], ◌∷◌, length, get_or, refl, sym, ap, ap₂, arith}
 use Rattle.std.proofs.lemmas.Bool.{and_parts, false_from_ne_true}
+use Rattle.std.proofs.Math.Bool.{beq}
 use Rattle.std.specs.List.{Contains}
 use Rattle.hv_sets.specs.declared.literal.Literal.{Literal}
 use Rattle.hv_sets.specs.Truth.{in_clause, in_clauses, in_cube, in_literal}
 use Rattle.hv_sets.specs.Cubes.{opposite}
 use Rattle.hv_task.specs.State.{has_atom}
-use Rattle.hv_clauses.specs.Denial.{is_tautology}
 use Rattle.hv_clauses.specs.Clausal.{clause_at}
-use Rattle.hv_clauses.specs.Working.Laws.{tautology_has}
 
 -- of a literal and its opposite one is true
 pub opposite_is : (l : Literal) (s : List Bool) → in_literal (opposite l) s ≡ not (in_literal l s)
@@ -74,22 +73,23 @@ pub one_false : (s : List Bool) (clauses : List (List Literal)) (p : ℕ) → p 
 one_false s clauses p less out = false_from_ne_true (in_clauses clauses s) (λ h.
     let f : true ≡ false = sym (each_clause s clauses p less h) ∙ out in absurd cc)
 
--- a clause with a literal and its opposite is true in each state
-pub always_true : (clause : List Literal) → is_tautology clause ≡ true → (s : List Bool)
+-- a clause with an atom and its negation is true in each state
+pub always_true : (clause : List Literal) (l k : Literal) → Contains clause l → Contains clause k
+    → l.atom ≡ k.atom → (beq l.positive k.positive ≡ true → ⊥) → (s : List Bool)
     → in_clause clause s ≡ true
-always_true clause is s = by (in_literal l s) refl
+always_true clause l k has_l has_k same differ s = by (in_literal l s) refl
   where
-    l : Literal
-    l = (tautology_has clause is).0
-
-    flip : (b : Bool) → b ≡ false → not b ≡ true
-    flip b e = ap not e
+    flip : (p q b : Bool) → (beq p q ≡ true → ⊥) → cond p b (not b) ≡ false
+        → cond q b (not b) ≡ true
+    flip true true b apart e = absurd (apart refl)
+    flip true false true apart e = let f : true ≡ false = e in absurd cc
+    flip true false false apart e = refl
+    flip false true true apart e = refl
+    flip false true false apart e = let f : true ≡ false = e in absurd cc
+    flip false false b apart e = absurd (apart refl)
 
     by : (b : Bool) → in_literal l s ≡ b → in_clause clause s ≡ true
-    by true e = clause_has s clause l ((tautology_has clause is).1) e
-    by false e = clause_has s clause (opposite l) ((tautology_has clause is).2)
-        (opposite_is l s ∙ flip (in_literal l s) e)
-
-pub none_if : (b : Bool) → not b ≡ true → b ≡ false
-none_if true e = let f : false ≡ true = e in absurd cc
-none_if false e = refl
+    by true e = clause_has s clause l has_l e
+    by false e = clause_has s clause k has_k
+        (flip l.positive k.positive (has_atom s k.atom) differ
+        (ap (λ a. cond l.positive (has_atom s a) (not (has_atom s a))) (sym same) ∙ e))

@@ -1,6 +1,6 @@
 -- The walk over the clauses of a formula.
 use Rattle.std.proofs.Common.{◌≡◌, ◌∙◌, ◌+◌, ◌<◌, ◌≤◌, ◌++◌, ◌&&◌, ◌||◌, ℕ, zero, suc, Bool, true}
-use Rattle.std.proofs.Common.{false, not, cond, eqb, List, [], ◌∷◌, length, map, take, drop, get_or}
+use Rattle.std.proofs.Common.{false, not, eqb, List, [], ◌∷◌, length, take, get_or}
 use Rattle.std.proofs.Common.{refl, sym, ap, ap₂, arith, subst}
 use Rattle.std.proofs.lemmas.List.{get_or-map, length-map, take_all}
 use Rattle.std.proofs.lemmas.List.Elements.{Contains-get_or}
@@ -8,9 +8,8 @@ use Rattle.std.proofs.lemmas.Bool.{and_parts}
 use Rattle.std.proofs.lemmas.Bool.Decides.{Decides-eqb}
 use Rattle.std.proofs.Math.Bool.{beq}
 use Rattle.std.specs.List.{Contains}
-use Rattle.hv_task.specs.State.{has_atom}
 use Rattle.hv_sets.specs.declared.literal.Literal.{Literal}
-use Rattle.hv_sets.specs.Cubes.{SpeakBelow, opposite}
+use Rattle.hv_sets.specs.Cubes.{SpeakBelow}
 use Rattle.hv_sets.specs.Truth.{in_clause, in_cube, in_literal}
 use Rattle.hv_clauses.proofs.Truths.{opposite_is}
 use Rattle.hv_clauses.specs.Walked.{OrdersUpto, opposed, place_in}

@@ -7,8 +7,7 @@ ghost use Rattle.hv_sets.specs.Truth.{in_clause};
 ghost use Rattle.hv_clauses.specs.Rest.{AreTrueUpto, IsArranged};
 ghost use Rattle.hv_clauses.specs.Working.Rest.{KeepsUpto};
 
-use crate::denial;
-use hv_sets::{Clauses, Cube, Literal};
+use hv_sets::{Clauses, Literal};
 use std::alloc::{AllocError, Global};
 
 /// The places of clauses in some order, so many of them in front that are told of; and for each
@@ -59,9 +58,9 @@ impl Arranged {
         ensures upto { IfOk result (λ a. AreTrueUpto clauses.now [] a.order.items a.done) }
     {
         let mut arranged = Arranged::rising(alloc, clauses.len())?;
-        let mut cube = Cube::new(alloc);
+        let mut codes = Vec::new(alloc);
         for place in 0..clauses.len() {
-            arranged.move_if_true(clauses, place, &mut cube)?;
+            arranged.move_if_true(clauses, place, &mut codes)?;
         }
         Ok(arranged)
     }
@@ -71,7 +70,7 @@ impl Arranged {
         &mut self,
         clauses: &Clauses,
         place: usize,
-        cube: &mut Cube,
+        codes: &mut Vec<u64>,
     ) -> Result<(), AllocError>
         requires place { place < length clauses.now }
         requires arranged { IsArranged (length clauses.now) self.old }
@@ -80,7 +79,7 @@ impl Arranged {
         ensures upto { OnOk result
             (AreTrueUpto clauses.now [] self.new.order.items self.new.done) }
     {
-        if !is_always_true(clauses.get(place), cube)? {
+        if !is_always_true(clauses.get(place), codes)? {
             return Ok(());
         }
         self.move_up(place);
@@ -127,16 +126,61 @@ impl Arranged {
     }
 }
 
-// Whether the clause has a literal and its opposite.
-fn is_always_true(clause: &[Literal], cube: &mut Cube) -> Result<bool, AllocError>
+// Whether the clause has a literal and its opposite. `codes` is a list to write to.
+fn is_always_true(clause: &[Literal], codes: &mut Vec<u64>) -> Result<bool, AllocError>
     ensures { IfOk result (λ yes. yes ≡ true → (s : List Bool) → in_clause clause.now s ≡ true) }
 {
-    if clause.len() < 2 {
+    if are_in_order(clause) {
         return Ok(false);
     }
-    if clause.len() == 2 && clause[0].atom != clause[1].atom {
-        return Ok(false);
+    sort_places(clause, codes)?;
+    Ok(has_opposites(clause, codes.as_slice()))
+}
+
+// Whether the atoms rise, or fall. Then no two literals are of one atom.
+fn are_in_order(clause: &[Literal]) -> bool {
+    let mut rise = true;
+    let mut fall = true;
+    for at in 1..clause.len() {
+        rise &= clause[at - 1].atom < clause[at].atom;
+        fall &= clause[at - 1].atom > clause[at].atom;
     }
-    let some = denial::fill(clause, cube)?;
-    Ok(!some)
+    rise || fall
+}
+
+// Lists the places of the literals, by rising atoms.
+fn sort_places(clause: &[Literal], codes: &mut Vec<u64>) -> Result<(), AllocError> {
+    codes.clear();
+    for place in 0..clause.len() {
+        let atom = clause[place].atom as u64;
+        codes.push(atom << 32 | place.min(u32::MAX as usize) as u64)?;
+    }
+    codes.sort_unstable();
+    Ok(())
+}
+
+// Whether the literals at two neighbours of these places are opposites.
+fn has_opposites(clause: &[Literal], codes: &[u64]) -> bool
+    ensures { result ≡ true → (s : List Bool) → in_clause clause.now s ≡ true }
+{
+    for at in 1..codes.len() {
+        let first = (codes[at - 1] & 0xffff_ffff) as usize;
+        let second = (codes[at] & 0xffff_ffff) as usize;
+        if are_opposite(clause, first, second) {
+            return true;
+        }
+    }
+    false
+}
+
+// Whether there are literals at these places, and they are opposites.
+fn are_opposite(clause: &[Literal], first: usize, second: usize) -> bool
+    ensures { result ≡ true → (s : List Bool) → in_clause clause.now s ≡ true }
+{
+    if first >= clause.len() || second >= clause.len() {
+        return false;
+    }
+    let one = clause[first];
+    let other = clause[second];
+    one.atom == other.atom && one.positive != other.positive
 }

@@ -8,17 +8,18 @@ use crate::clause_kind::ClauseKind;
 use crate::formula::Formula;
 use crate::mates::Mates;
 use hv_paths::Asker;
-use hv_sets::{Literal, Scratch};
+use hv_sets::{Literal, Scratch, StateSet};
 use hv_task::State;
 use std::alloc::{AllocError, Global};
 
 /// A question about a formula, or about the states outside it. Beside it stands what is tried for
-/// listed states; the first of them makes it.
+/// listed states. For the first of them all clauses are tried; the second one makes it.
 #[derive(Drop)]
 pub struct ListedAsk<'a, K: ClauseKind, A: Asker + Drop> {
     asked: A,
     set: &'a Formula<K>,
     inside: bool,
+    begun: bool,
     ready: bool,
     mates: Mates,
 }
@@ -46,6 +47,7 @@ impl<'a, K: ClauseKind, A: Asker + Drop> ListedAsk<'a, K, A> {
             asked,
             set,
             inside,
+            begun: false,
             ready: false,
             mates: Mates::none(alloc),
         }
@@ -90,8 +92,13 @@ impl<'a, K: ClauseKind, A: Asker + Drop> Asker for ListedAsk<'a, K, A> {
     }
 
     fn wants(&mut self, alloc: Global, held: &[u32], state: &State) -> Result<bool, AllocError> {
-        make_ready(alloc, self.set, &mut self.ready, &mut self.mates)?;
         let set = self.set;
+        if !self.begun {
+            self.begun = true;
+            let yes = set.holds(state);
+            return Ok(if self.inside { yes } else { !yes });
+        }
+        make_ready(alloc, set, &mut self.ready, &mut self.mates)?;
         let yes = self.mates.holds(set.clauses(), set.occurs(), held, state);
         Ok(if self.inside { yes } else { !yes })
     }

@@ -1,6 +1,5 @@
-use Rattle.std.proofs.Common.{◌≡◌, ◌<◌, ◌≤◌, ◌∙◌, true, false, arith, length, get_or}
+use Rattle.std.proofs.Common.{◌∙◌, false, arith, get_or}
 use Rattle.hv_sets.specs.declared.literal.Literal.{Literal}
-use Rattle.hv_clauses.specs.Working.Walked.{denial_for}
 use Rattle.hv_clauses.proofs.Walked.{front_more, literal_same}
 use Rattle.hv_clauses.proofs.clause_walk.common.Goals as goal
 

@@ -1,4 +1,4 @@
-use Rattle.std.proofs.Common.{◌≡◌, ◌∙◌, ◌++◌, ◌∷◌, [], ap, ap₂}
+use Rattle.std.proofs.Common.{◌∙◌, ◌++◌, ◌∷◌, [], ap₂}
 use Rattle.hv_clauses.proofs.Walked.{take_denied}
 use Rattle.hv_clauses.proofs.clause_walk.put_rest.Goals as goal
 

@@ -1,6 +1,6 @@
-use Rattle.std.proofs.Common.{◌≡◌, ◌≤◌, ◌<◌, ◌+◌, subst, sym, arith, length, ℕ}
+use Rattle.std.proofs.Common.{◌+◌, subst, sym, arith, length}
 use Rattle.hv_clauses.specs.Walked.{OrdersUpto}
-use Rattle.hv_clauses.proofs.Ordering.{orders_first, orders_more, orders_same}
+use Rattle.hv_clauses.proofs.Ordering.{orders_more, orders_same}
 use Rattle.hv_clauses.proofs.ranking.of_clauses.Goals as goal
 
 pub loop-place-preserved : goal.loop-place-preserved

@@ -1,4 +1,4 @@
-use Rattle.std.proofs.Common.{◌≤◌, ◌<◌, ◌∙◌, arith, get_or}
+use Rattle.std.proofs.Common.{◌∙◌, arith, get_or}
 use Rattle.std.proofs.lemmas.List.Elements.{Contains-get_or}
 use Rattle.hv_clauses.proofs.Rest.{more_told}
 use Rattle.hv_clauses.proofs.arranged.Arranged.move_all.Goals as goal

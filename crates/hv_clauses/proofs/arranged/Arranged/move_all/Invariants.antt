@@ -1,4 +1,4 @@
-use Rattle.std.proofs.Common.{◌≡◌, ◌<◌, ◌≤◌, ℕ, length, slice_index_or}
+use Rattle.std.proofs.Common.{◌<◌, ◌≤◌, ℕ, length, slice_index_or}
 use Rattle.std.specs.List.{Contains}
 use Rattle.hv_clauses.specs.Rest.{IsArranged}
 use Rattle.hv_clauses.specs.Working.Rest.{KeepsUpto}

@@ -1,4 +1,4 @@
-use Rattle.std.proofs.Common.{◌≡◌, ◌∙◌, [], true, sym, subst, ap, Bool, List, get_or}
+use Rattle.std.proofs.Common.{◌≡◌, ◌∙◌, [], ap, get_or}
 use Rattle.std.proofs.lemmas.Option.{get_or_from_slice_get}
 use Rattle.hv_sets.specs.Truth.{in_clause}
 use Rattle.hv_clauses.proofs.Rest.{upto_more}

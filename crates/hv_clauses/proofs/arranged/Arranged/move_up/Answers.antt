@@ -1,4 +1,4 @@
-use Rattle.std.proofs.Common.{◌≡◌, ◌∙◌, ◌≤◌, ◌<◌, ℕ, arith, refl, sym, get_or}
+use Rattle.std.proofs.Common.{◌≡◌, ◌∙◌, ◌≤◌, ◌<◌, arith, refl, get_or}
 use Rattle.std.proofs.lemmas.List.{get_or_default}
 use Rattle.hv_clauses.proofs.Rest.{moved_up}
 use Rattle.hv_clauses.proofs.arranged.Arranged.move_up.Goals as goal

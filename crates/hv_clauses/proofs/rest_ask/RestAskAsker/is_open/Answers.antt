@@ -1,4 +1,4 @@
-use Rattle.std.proofs.Common.{◌≡◌, ◌≤◌, arith, length, ap}
+use Rattle.std.proofs.Common.{arith, length, ap}
 use Rattle.hv_clauses.proofs.Rest.{barren_all}
 use Rattle.hv_clauses.proofs.rest_ask.RestAskAsker.is_open.Goals as goal
 
