@@ -1,13 +1,11 @@
 -- A walk over listed states.
-use Rattle.std.proofs.Common.{◌≡◌, ◌<◌, ◌≤◌, ◌+◌, ◌-◌, ◌∙◌, ℕ, zero, suc, Bool, List, [], ◌∷◌}
-use Rattle.std.proofs.Common.{length, map, drop, get_or, refl, sym, ap, ap₂, arith, subst}
-use Rattle.std.proofs.lemmas.List.{drop_more, length-map, get_or-map, get_or_default}
-use Rattle.hv_task.specs.State.{AreBelow, state_of}
-use Rattle.hv_task.proofs.Places.{length-state_of}
-use Rattle.hv_sets.specs.Truth.{in_cube, is_same}
-use Rattle.hv_sets.specs.declared.literal.Literal.{Literal}
-use Rattle.hv_explicit.specs.Listing.{AreStates, Listing, full_cube, full_cubes}
-use Rattle.hv_explicit.specs.Walked.{HoldsLast, StandsAfter, path_at}
+use Rattle.std.proofs.Common.{◌≡◌, ◌<◌, ◌+◌, ◌∙◌, ℕ, zero, suc, Bool, List, [], ◌∷◌}
+use Rattle.std.proofs.Common.{length, drop, get_or, refl, sym, ap, arith, subst}
+use Rattle.std.proofs.lemmas.List.{drop_more, length-map, get_or-map}
+use Rattle.hv_task.specs.State.{state_of}
+use Rattle.hv_sets.specs.Truth.{is_same}
+use Rattle.hv_explicit.specs.Listing.{Listing, full_cube, full_cubes}
+use Rattle.hv_explicit.specs.Walked.{StandsAfter, path_at}
 use Rattle.hv_explicit.specs.Working.Laws.{full_cube_is}
 use Rattle.hv_paths.specs.Along.{IsCubeOfOne, LeavesRest}
 use Rattle.hv_paths.proofs.Taken.{first_taken}

@@ -1,7 +1,7 @@
 //! Sets of listed states.
 
 ghost use Rattle.std.specs.Prelude.{◌≡◌, ◌<◌, ◌-◌, ◌^◌, ℕ, Bool, List, [], length, map, min, drop};
-ghost use Rattle.std.specs.Prelude.{slice_index, slice_index_or, IsTrue, IfOk, IfSome, OnOk};
+ghost use Rattle.std.specs.Prelude.{slice_index_or, IsTrue, IfOk, IfSome, OnOk};
 ghost use Rattle.std.specs.Prelude.{⊤, ◌↔◌};
 ghost use Rattle.std.specs.List.Sorted.{IsStrictlyIncreasing};
 ghost use Rattle.hv_task.specs.State.{AreBelow};
@@ -14,12 +14,12 @@ ghost use Rattle.hv_explicit.specs.Codes.{IsBelow, IsSetOf};
 ghost use Rattle.hv_explicit.specs.Listing.{AreRising, AreStates, full_cube, full_cubes};
 ghost use Rattle.hv_explicit.specs.Listing.{in_listing};
 ghost use Rattle.hv_explicit.specs.Working.Codes.{IsSame};
-ghost use Rattle.hv_explicit.specs.Working.Listing.{AreFirsts};
-ghost use Rattle.hv_explicit.specs.Working.Holders.{AreHolders, IsHolderIndex};
+ghost use Rattle.hv_explicit.specs.Working.Listing.{AreFirsts, ArePlacesOf};
+ghost use Rattle.hv_explicit.specs.Working.Holders.{AreHolders, IsHolderIndex, listed_places};
 ghost use Rattle.hv_explicit.specs.Working.Laws as laws;
 
 use crate::firsts::{Firsts, coded_state, firsts_of, is_at, look_up};
-use crate::holders::{Holders, holders_of, holding_all};
+use crate::holders::{Holders, Part, holders_of, holding_all};
 use crate::sought::{Coded, Outcome, Read, Sought};
 use hv_sets::{Cube, Cursor, Inside, Literal, Scratch, StateList, StateSet, Step};
 use hv_task::{Action, Atoms, State, Task, names_atom};
@@ -100,9 +100,9 @@ impl Explicit {
         &self,
         alloc: Global,
         atoms: &[u32],
-    ) -> Result<Option<Vec<u32>>, AllocError>
-        ensures { IfOk result (λ o. IfSome o (λ places.
-            AreHolders self.now.states atoms.now places.items)) }
+    ) -> Result<Option<Part<'_>>, AllocError>
+        ensures { IfOk result (λ o. IfSome o (λ part.
+            AreHolders self.now.states atoms.now (listed_places part))) }
     {
         match &self.holders {
             None => Ok(None),
@@ -259,8 +259,7 @@ fn holders_if_many(
     states: &StateList,
     firsts: &[u32],
 ) -> Result<Option<Holders>, AllocError>
-    requires { (e : ℕ) → e < length firsts.now
-        → slice_index firsts.now e < length states.now }
+    requires { ArePlacesOf states.now firsts.now }
     ensures { IfOk result (λ found. IfSome found (λ h.
         IsHolderIndex states.now firsts.now h.keys.items h.starts.items h.places.items)) }
 {

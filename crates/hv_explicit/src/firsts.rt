@@ -4,7 +4,8 @@ ghost use Rattle.std.specs.Prelude.{◌≡◌, ◌<◌, ◌+◌, ◌-◌, ◌^�
 ghost use Rattle.std.specs.Prelude.{slice_index, slice_index_or, IsTrue, IfOk, IfSome, OnOk};
 ghost use Rattle.hv_explicit.specs.Listing.{AreRising, AreStates};
 ghost use Rattle.hv_explicit.specs.Working.Codes.{IsCode, IsSame};
-ghost use Rattle.hv_explicit.specs.Working.Listing.{AreFirsts, IsEnteredState, IsIndex};
+ghost use Rattle.hv_explicit.specs.Working.Listing.{AreFirsts, ArePlacesOf, IsEnteredState};
+ghost use Rattle.hv_explicit.specs.Working.Listing.{IsIndex};
 
 use crate::places::Places;
 use crate::sought::{Coded, Sought};
@@ -134,8 +135,7 @@ pub(crate) fn look_up<A: Sought>(states: &StateList, firsts: &Firsts, code: u64,
     requires code { IsCode firsts.now.key (A.has held.now) code }
     requires below { AreStates (2 ^ 32 - 1) states.now }
     requires rise { AreRising states.now }
-    requires firsts { (e : ℕ) → e < length firsts.now.places.items
-        → slice_index firsts.now.places.items e < length states.now }
+    requires firsts { ArePlacesOf states.now firsts.now.places.items }
     requires index { IsIndex firsts.now.key firsts.now.codes firsts.now.places.items states.now }
     ensures { IsTrue result ↔ IsEnteredState (A.has held.now) states.now firsts.now.places.items }
 {

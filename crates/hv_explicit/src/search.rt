@@ -14,13 +14,14 @@ ghost use Rattle.hv_sets.specs.declared.operand.Operand.{Operand};
 ghost use Rattle.hv_sets.specs.declared.operand.Which.TheVariants as W;
 ghost use Rattle.hv_explicit.specs.Codes.{IsBelow};
 ghost use Rattle.hv_explicit.specs.Working.Codes.{IsSame};
-ghost use Rattle.hv_explicit.specs.Working.Holders.{AreAllBut};
+ghost use Rattle.hv_explicit.specs.Working.Holders.{AreAllBut, listed_places};
 ghost use Rattle.hv_explicit.specs.Listing.{AreRising, AreStates, in_set, states_listed};
 ghost use Rattle.hv_explicit.specs.Working.Listing.{AreFirsts};
 
 use crate::explicit::Explicit;
 use crate::explicits::Explicits;
 use crate::firsts::PLAIN;
+use crate::holders::Part;
 use crate::results::is_left;
 use crate::sought::{Coded, Outcome, Sought};
 use hv_sets::{Finding, Operand, Query, Which};
@@ -92,10 +93,14 @@ impl Search<'_> {
 
     // The places of states of the set, such that no other state of it is a counterexample: those
     // that hold the action's precondition, or none for all.
-    fn places_in(&self, alloc: Global, set: &Explicit) -> Result<Option<Vec<u32>>, AllocError>
+    fn places_in<'a>(
+        &self,
+        alloc: Global,
+        set: &'a Explicit,
+    ) -> Result<Option<Part<'a>>, AllocError>
         requires { IsListedSearch self.now }
-        ensures { IfOk result (λ o. IfSome o (λ places.
-            AreAllBut (clashes_at self.now) set.now.states places.items)) }
+        ensures { IfOk result (λ o. IfSome o (λ part.
+            AreAllBut (clashes_at self.now) set.now.states (listed_places part))) }
     {
         let Some(number) = self.query.action else {
             return Ok(None);
@@ -123,7 +128,7 @@ impl Search<'_> {
             set.now.states state.new) }
     {
         match self.places_in(alloc, set)? {
-            Some(places) => Ok(self.find_among(anchor, set, places.as_slice(), budget, state)),
+            Some(part) => Ok(self.find_among(anchor, set, part.as_slice(), budget, state)),
             None => Ok(self.find_among(anchor, set, set.firsts(), budget, state)),
         }
     }

@@ -7,6 +7,10 @@ use Rattle.hv_explicit.specs.Working.Places.{code_at}
 abbrev pub first_at : List (List ℕ) → List ℕ → ℕ → List ℕ
 first_at states firsts e = slice_index_or states (slice_index firsts e) []
 
+-- the numbers are places of this list
+abbrev pub ArePlacesOf : List (List ℕ) → List ℕ → Type 0
+ArePlacesOf states places = (e : ℕ) → e < length places → slice_index places e < length states
+
 -- the entries are places of the first so many states of a list, and each of these states stands at
 -- one of them
 pub record AreFirsts (states : List (List ℕ)) (firsts : List ℕ) (count : ℕ) : Type 0 where

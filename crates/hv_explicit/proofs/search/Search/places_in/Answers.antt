@@ -2,6 +2,7 @@ use Rattle.std.proofs.Common.{◌≡◌, ◌∙◌, ◌&&◌, [], false, ap, get
 use Rattle.std.specs.List.{All, Contains}
 use Rattle.hv_task.specs.State.{applicable, state_of, successor}
 use Rattle.hv_task.specs.Strips.{atoms}
+use Rattle.hv_explicit.specs.Working.Holders.{listed_places}
 use Rattle.hv_explicit.specs.Working.Search.{clashes_at, is_fit}
 use Rattle.hv_explicit.proofs.Clashes.{applies_not, clash_acting}
 use Rattle.hv_explicit.proofs.Holding.{all_but_holders, zip_found}
@@ -12,8 +13,8 @@ returns c =
     let s = c.args.self.now in
     let n = atoms s.task.now in
     let action = c.action-action.result.now in
-    zip_found _ _ _ c.held_by.result c.held_by.ensures c.held_by.ensures (λ places are _.
-    all_but_holders (clashes_at s) c.args.set.now.states c.as_slice.result.now places.items are
+    zip_found _ _ _ c.held_by.result c.held_by.ensures c.held_by.ensures (λ part are _.
+    all_but_holders (clashes_at s) c.args.set.now.states c.as_slice.result.now (listed_places part) are
     (λ k less none.
     let held = get_or c.args.set.now.states k [] in
     let state = state_of n held in

@@ -1,4 +1,4 @@
-use Rattle.std.proofs.Common.{◌<◌, ◌≤◌, arith, refl}
+use Rattle.std.proofs.Common.{arith, refl}
 use Rattle.hv_explicit.proofs.Walked.{state_taken}
 use Rattle.hv_explicit.proofs.state_walk.StateWalkWalker.advance.Goals as goal
 
