@@ -79,6 +79,12 @@ module _ (task : Strips) (covered : StateSet) (IsBlock : List Line → Note → 
     fits = fits;
   }
 
+  -- no note's formula holds a state that isn't covered
+  pub outcome_beyond : (covered state → ⊥)
+      → IsOutcome task covered IsBlock state None notes draft notes draft
+  outcome_beyond out = outcome_none
+      (λ k note at holds. out ((fits k note at).0.within state is_state holds)) out
+
 -- what the search of the notes tells
 abbrev pub Told : Strips → List Line → List Note → List Bool → Option ℕ → Type 0
 Told task lines notes state found = MatchOption found (NoneNoted task lines notes state)

@@ -1,7 +1,7 @@
 //! The pruner by reached pairs.
 
-ghost use Rattle.std.specs.Prelude.{◌≡◌, ◌≤◌, [], ◌↔◌, ℕ, true, IsTrue, IfOk, IfSome, IfNone};
-ghost use Rattle.std.specs.Prelude.{MatchOption, OnErr, None, is_some, length};
+ghost use Rattle.std.specs.Prelude.{◌≡◌, ◌≤◌, [], ◌↔◌, IsTrue, IfOk, IfSome, IfNone};
+ghost use Rattle.std.specs.Prelude.{MatchOption, OnErr, None, is_some};
 ghost use Rattle.hv_task.specs.AtomList.{IsListOf};
 ghost use Rattle.hv_task.specs.Strips.{IsState, atoms};
 ghost use Rattle.hv_lines.specs.Drafts.{IsGoodTable};
@@ -11,7 +11,6 @@ ghost use Rattle.hv_reach.specs.Index.{IsTaskIndex};
 ghost use Rattle.hv_reach.specs.Pruners.{AreDescribed, AreHornNotes, FitPairs, HoldsPairsOf};
 ghost use Rattle.hv_reach.specs.Pruners.{IsPairsBlock, PairsCover};
 ghost use Rattle.hv_reach.specs.Working.Pruners.{AreDiagonals, IsOutcome};
-ghost use Rattle.hv_reach.specs.Reached.{ReachedPair, has_pair};
 
 use crate::index::index;
 use crate::note_rows::NoteRows;
@@ -96,6 +95,9 @@ impl PairPruner {
         ensures err_draft { OnErr result (draft.new ≡ draft.old) }
         ensures err_notes { OnErr result (self.new ≡ self.old) }
     {
+        if task.atoms() > MOST_ATOMS {
+            return Ok(None);
+        }
         match &self.index {
             Some(index) => pairs_answer(
                 alloc,
@@ -155,7 +157,7 @@ impl Pruner for PairPruner {
         fitting.pairs_fit task old new kept fits extends };
 }
 
-// The answer by these notes.
+// The answer by these notes, in a task of few atoms.
 fn pairs_answer(
     alloc: Global,
     task: &Task,
@@ -166,6 +168,7 @@ fn pairs_answer(
     index: &Vec<Vec<u32>>,
     state: &State,
 ) -> Result<Option<usize>, AllocError>
+    requires few { atoms task.now ≤ 1024 }
     requires good { IsGoodTable task.now draft.old.lines }
     requires fits { AreHornNotes task.now (PairsCover task.now)
         draft.old.lines notes.old.items }
@@ -199,7 +202,7 @@ fn pairs_answer(
     if noted.is_some() {
         return Ok(noted);
     }
-    match covering_pairs(alloc, task, index, state)? {
+    match pairs_reason(alloc, task, index, state)? {
         Some(pairs) => {
             let clauses = pairs_formula(alloc, task.atoms(), &pairs)?;
             reached.reserve(1)?;
@@ -243,27 +246,4 @@ fn first_noted(
         from = place + 1;
     }
     Ok(None)
-}
-
-// The pairs that are reached from the state, where it is covered; otherwise there are none to tell.
-fn covering_pairs(
-    alloc: Global,
-    task: &Task,
-    index: &Vec<Vec<u32>>,
-    state: &State,
-) -> Result<Option<Pairs>, AllocError>
-    requires index { IsTaskIndex task.now index.now.items }
-    requires state { IsState task.now state.now }
-    ensures few { IfOk result (λ found. IfSome found (λ _. atoms task.now ≤ 1024)) }
-    ensures some { IfOk result (λ found. IsTrue (is_some found)
-        ↔ PairsCover task.now state.now) }
-    ensures size { IfOk result (λ found. IfSome found (λ pairs.
-        length pairs ≡ atoms task.now)) }
-    ensures reached { IfOk result (λ found. IfSome found (λ pairs. (p q : ℕ)
-        → (has_pair pairs p q ≡ true) ↔ ReachedPair task.now state.now p q)) }
-{
-    if task.atoms() > MOST_ATOMS {
-        return Ok(None);
-    }
-    pairs_reason(alloc, task, index, state)
 }

@@ -1,4 +1,4 @@
-use Rattle.std.proofs.Common.{◌≡◌, ◌≤◌, ◌∙◌, ◌↔◌, ◌++◌, ◌∷◌, [], true, ℕ, Bool, List, Option, Some}
+use Rattle.std.proofs.Common.{◌≡◌, ◌∙◌, ◌↔◌, ◌++◌, ◌∷◌, [], true, ℕ, Bool, List, Option, Some}
 use Rattle.std.proofs.Common.{ap, is_some, length, refl, sym, subst}
 use Rattle.std.specs.Option.{IfSome}
 use Rattle.hv_task.specs.Strips.{atoms}
@@ -24,8 +24,6 @@ pub write_block-requires-clause-dead : goal.write_block-requires-clause-dead
 write_block-requires-clause-dead c =
     let task = c.args.task.now in
     let state = c.args.state.now in
-    let few = subst (λ (f : Option (List (List Bool))). IfSome f (λ _. atoms task ≤ 1024))
-    c.in-Some.is c.in_ok-pairs.ensures.few in
     let size = subst (λ (f : Option (List (List Bool))). IfSome f (λ r. length r ≡ atoms task))
     c.in-Some.is c.in_ok-pairs.ensures.size in
     let each = subst (λ (f : Option (List (List Bool))). IfSome f
@@ -35,14 +33,12 @@ write_block-requires-clause-dead c =
     (ap (λ (f : Option (List (List Bool))). is_some f) c.in-Some.is) in
     (pairs_found_reason task c.in-Some.pairs state each c.in_ok-clauses-in-Some.clauses
     c.atoms.result c.atoms.ensures.atoms c.in_ok-clauses-in-Some.ensures
-    few c.requires.state out.1).dead
+    c.requires.few c.requires.state out).dead
 
 pub returns-in-Some-clause-outcome : goal.returns-in-Some-clause-outcome
 returns-in-Some-clause-outcome c =
     let task = c.args.task.now in
     let state = c.args.state.now in
-    let few = subst (λ (f : Option (List (List Bool))). IfSome f (λ _. atoms task ≤ 1024))
-    c.in-Some.is c.in_ok-pairs.ensures.few in
     let size = subst (λ (f : Option (List (List Bool))). IfSome f (λ r. length r ≡ atoms task))
     c.in-Some.is c.in_ok-pairs.ensures.size in
     let each = subst (λ (f : Option (List (List Bool))). IfSome f
@@ -65,7 +61,7 @@ returns-in-Some-clause-outcome c =
     (PairsCover task) state (pairs_found_reason task c.in-Some.pairs state each
     c.in_ok-clauses-in-Some.clauses c.atoms.result c.atoms.ensures.atoms
     c.in_ok-clauses-in-Some.ensures
-    few c.requires.state out.1) (IsPairsBlock task state lines) notes c.requires.state
+    c.requires.few c.requires.state out) (IsPairsBlock task state lines) notes c.requires.state
     c.requires.fits (
       clauses,
       pairs_found_formula task c.in-Some.pairs state each c.in_ok-clauses-in-Some.clauses
@@ -79,8 +75,6 @@ pub returns-in-Some-clause-described : goal.returns-in-Some-clause-described
 returns-in-Some-clause-described c =
     let task = c.args.task.now in
     let state = c.args.state.now in
-    let few = subst (λ (f : Option (List (List Bool))). IfSome f (λ _. atoms task ≤ 1024))
-    c.in-Some.is c.in_ok-pairs.ensures.few in
     let size = subst (λ (f : Option (List (List Bool))). IfSome f (λ r. length r ≡ atoms task))
     c.in-Some.is c.in_ok-pairs.ensures.size in
     let each = subst (λ (f : Option (List (List Bool))). IfSome f

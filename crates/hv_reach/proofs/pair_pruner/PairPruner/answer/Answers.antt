@@ -1,9 +1,9 @@
-use Rattle.std.proofs.Common.{subst, sym}
+use Rattle.std.proofs.Common.{arith, subst, sym}
 use Rattle.std.specs.Option.{IfSome}
 use Rattle.hv_reach.specs.Index.{IsTaskIndex}
 use Rattle.hv_reach.specs.Working.Pruners.{items_in}
 use Rattle.hv_reach.specs.Pruners.{FitPairs, HoldsPairsOf, IsPairsBlock, PairsCover}
-use Rattle.hv_reach.proofs.Writing.{described_after, fits_after}
+use Rattle.hv_reach.proofs.Writing.{described_after, fits_after, outcome_beyond}
 use Rattle.hv_reach.proofs.pair_pruner.PairPruner.answer.Goals as goal
 
 pub pairs_answer-requires-clause-fits : goal.pairs_answer-requires-clause-fits
@@ -67,3 +67,15 @@ returns-in-Some-clause-fits c =
           fits.1,
       fits.2,
     )
+
+-- in so great a task no state is covered
+pub returns-then-atoms-gt-MOST_ATOMS-clause-answer
+    : goal.returns-then-atoms-gt-MOST_ATOMS-clause-answer
+returns-then-atoms-gt-MOST_ATOMS-clause-answer c =
+    let task = c.args.task.now in
+    let over = c.if-atoms-gt-MOST_ATOMS.true in
+    let count = c.atoms.ensures.atoms in
+    (outcome_beyond task (PairsCover task)
+    (IsPairsBlock task c.args.state.now c.args.draft.now.lines) c.args.state.now
+    c.args.self.now.notes c.args.draft.now c.requires.state c.requires.good
+    (c.requires.fits.0) (λ cover. let few = cover.0 in omega (arith, over, count, few))).answer
