@@ -291,8 +291,8 @@ fn limits_of_a_log(rt: HostRuntime) -> Result<(), Fail> {
     Ok(())
 }
 
-// Whether the entries of the log are an expanded state that holds atoms 0 and 2, and then the pruned
-// empty one.
+// Whether the entries of the log are an expanded state that holds atoms 0 and 2, and then the
+// pruned empty one.
 fn has_two_entries(log: &Log) -> bool {
     log.len() == 2
         && log.expanded(0)

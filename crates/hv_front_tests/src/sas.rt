@@ -1,0 +1,651 @@
+//! Tests of translator files: spellings, cut texts, limits, failing reads, and the tasks that are
+//! made of them.
+
+ghost use Rattle.std.specs.Prelude.{◌<◌, ◌≤◌, ◌^◌, IfOk, length};
+ghost use Rattle.hv_sas.specs.Sound.{IsSoundSas};
+
+use hv_bytes::{Limits, MemoryShelf, SureShelf};
+use hv_sas::{Sas, SasFault, read_sas, to_strips};
+use hv_task::Task;
+use hv_task_text::write_task;
+use std::alloc::{AllocError, Global};
+use std::test::Fail;
+
+const NAME: &str = "sas";
+
+/// A line of a text, the word of its part, and whether it is a name, so that a beginning of it is
+/// one as well.
+type Row = (&'static str, &'static str, bool);
+
+/// A lamp and its switch.
+static SWITCH: [Row; 31] = [
+    ("begin_version", "version", false),
+    ("3", "version", false),
+    ("end_version", "version", false),
+    ("begin_metric", "metric", false),
+    ("0", "metric", false),
+    ("end_metric", "metric", false),
+    ("1", "variables", false),
+    ("begin_variable", "variable", false),
+    ("var0", "variable", true),
+    ("-1", "variable", false),
+    ("2", "variable", false),
+    ("Atom lit()", "variable", true),
+    ("NegatedAtom lit()", "variable", true),
+    ("end_variable", "variable", false),
+    ("0", "mutexes", false),
+    ("begin_state", "state", false),
+    ("1", "state", false),
+    ("end_state", "state", false),
+    ("begin_goal", "goal", false),
+    ("1", "goal", false),
+    ("0 0", "goal", false),
+    ("end_goal", "goal", false),
+    ("1", "operators", false),
+    ("begin_operator", "operator", false),
+    ("switch", "operator", true),
+    ("0", "operator", false),
+    ("1", "operator", false),
+    ("0 0 1 0", "operator", false),
+    ("5", "operator", false),
+    ("end_operator", "operator", false),
+    ("0", "axioms", false),
+];
+
+/// A robot in one of three rooms, and a key that it has or that lies in the middle room.
+static KEY: [Row; 73] = [
+    ("begin_version", "version", false),
+    ("3", "version", false),
+    ("end_version", "version", false),
+    ("begin_metric", "metric", false),
+    ("1", "metric", false),
+    ("end_metric", "metric", false),
+    ("2", "variables", false),
+    ("begin_variable", "variable", false),
+    ("robot", "variable", true),
+    ("-1", "variable", false),
+    ("3", "variable", false),
+    ("Atom at(left)", "variable", true),
+    ("Atom at(middle)", "variable", true),
+    ("Atom at(right)", "variable", true),
+    ("end_variable", "variable", false),
+    ("begin_variable", "variable", false),
+    ("key", "variable", true),
+    ("-1", "variable", false),
+    ("2", "variable", false),
+    ("Atom has(key)", "variable", true),
+    ("Atom lies(key)", "variable", true),
+    ("end_variable", "variable", false),
+    ("2", "mutexes", false),
+    ("begin_mutex_group", "mutex", false),
+    ("2", "mutex", false),
+    ("0 0", "mutex", false),
+    ("0 1", "mutex", false),
+    ("end_mutex_group", "mutex", false),
+    ("begin_mutex_group", "mutex", false),
+    ("0", "mutex", false),
+    ("end_mutex_group", "mutex", false),
+    ("begin_state", "state", false),
+    ("0", "state", false),
+    ("1", "state", false),
+    ("end_state", "state", false),
+    ("begin_goal", "goal", false),
+    ("2", "goal", false),
+    ("0 2", "goal", false),
+    ("1 0", "goal", false),
+    ("end_goal", "goal", false),
+    ("4", "operators", false),
+    ("begin_operator", "operator", false),
+    ("take", "operator", true),
+    ("1", "operator", false),
+    ("0 1", "operator", false),
+    ("1", "operator", false),
+    ("0 1 1 0", "operator", false),
+    ("3", "operator", false),
+    ("end_operator", "operator", false),
+    ("begin_operator", "operator", false),
+    ("go left middle", "operator", true),
+    ("0", "operator", false),
+    ("1", "operator", false),
+    ("0 0 0 1", "operator", false),
+    ("2", "operator", false),
+    ("end_operator", "operator", false),
+    ("begin_operator", "operator", false),
+    ("jump right", "operator", true),
+    ("1", "operator", false),
+    ("1 0", "operator", false),
+    ("1", "operator", false),
+    ("0 0 -1 2", "operator", false),
+    ("0", "operator", false),
+    ("end_operator", "operator", false),
+    ("begin_operator", "operator", false),
+    ("reset", "operator", true),
+    ("0", "operator", false),
+    ("2", "operator", false),
+    ("0 1 -1 1", "operator", false),
+    ("0 0 2 0", "operator", false),
+    ("7", "operator", false),
+    ("end_operator", "operator", false),
+    ("0", "axioms", false),
+];
+
+/// A line of the switch, what stands in its place, and the answer.
+static SPELLINGS: [(usize, &str, &str); 79] = [
+    (0, "", "read"),
+    (1, "begin", "place 1 version"),
+    (1, "begin_version ", "place 1 version"),
+    (2, "4", "unsupported 2 version"),
+    (2, "999999999999999999", "unsupported 2 version"),
+    (2, "1000000000000000000", "place 2 version"),
+    (2, "03", "place 2 version"),
+    (2, "3 ", "place 2 version"),
+    (2, "", "place 2 version"),
+    (3, "begin_metric", "place 3 version"),
+    (4, "begin_version", "place 4 metric"),
+    (5, "1", "read"),
+    (5, "2", "place 5 metric"),
+    (5, "00", "place 5 metric"),
+    (6, "end", "place 6 metric"),
+    (7, "x", "place 7 variables"),
+    (7, "0", "place 8 mutexes"),
+    (7, "2", "place 15 variable"),
+    (8, "begin", "place 8 variable"),
+    (9, "", "read"),
+    (9, " end_variable\t", "read"),
+    (10, "0", "unsupported 10 layer"),
+    (10, "7", "unsupported 10 layer"),
+    (10, "-2", "place 10 variable"),
+    (10, "01", "place 10 variable"),
+    (11, "0", "place 11 variable"),
+    (11, "x", "place 11 variable"),
+    (11, "65535", "place 32 variable"),
+    (11, "65536", "limit 11 values"),
+    (11, "999999999999999999", "limit 11 values"),
+    (11, "1000000000000000000", "place 11 variable"),
+    (11, "3", "place 15 variable"),
+    (11, "1", "place 13 variable"),
+    (14, "end", "place 14 variable"),
+    (15, "x", "place 15 mutexes"),
+    (15, "1", "place 16 mutex"),
+    (
+        15,
+        "1\nbegin_mutex_group\n2\n0 0\n0 1\nend_mutex_group",
+        "read",
+    ),
+    (15, "1\nbegin_mutex_group\n-1", "place 17 mutex"),
+    (
+        15,
+        "1\nbegin_mutex_group\n1\n0 2\nend_mutex_group",
+        "place 18 mutex",
+    ),
+    (
+        15,
+        "1\nbegin_mutex_group\n1\n1 0\nend_mutex_group",
+        "place 18 mutex",
+    ),
+    (15, "1\nbegin_mutex_group\n1\n0 1\nend", "place 19 mutex"),
+    (
+        15,
+        "2\nbegin_mutex_group\n0\nend_mutex_group",
+        "place 19 mutex",
+    ),
+    (16, "end_state", "place 16 state"),
+    (17, "2", "place 17 state"),
+    (17, "-1", "place 17 state"),
+    (18, "1", "place 18 state"),
+    (19, "begin", "place 19 goal"),
+    (20, "-1", "place 20 goal"),
+    (20, "0", "place 21 goal"),
+    (21, "0 2", "place 21 goal"),
+    (21, "1 0", "place 21 goal"),
+    (21, "0  0", "place 21 goal"),
+    (21, "0", "place 21 goal"),
+    (21, "0 0 0", "place 21 goal"),
+    (22, "end", "place 22 goal"),
+    (23, "1000001", "limit 23 operators"),
+    (23, "1000000", "place 31 operator"),
+    (23, "x", "place 23 operators"),
+    (24, "begin", "place 24 operator"),
+    (26, "1\n0 1", "read"),
+    (26, "1", "place 27 operator"),
+    (27, "2\n0 0 -1 1", "unsupported 29 twice"),
+    (27, "2\n0 0 -1 2", "place 28 operator"),
+    (28, "1 0 1 0 1 0", "unsupported 28 condition"),
+    (28, "1", "unsupported 28 condition"),
+    (28, "0 0 -1 0", "read"),
+    (28, "0 0 2 0", "place 28 operator"),
+    (28, "0 0 1 2", "place 28 operator"),
+    (28, "0 0 1", "place 28 operator"),
+    (28, "0 0 1 0 0", "place 28 operator"),
+    (28, "0 1 1 0", "place 28 operator"),
+    (28, "x 0 1 0", "place 28 operator"),
+    (29, "4294967295", "read"),
+    (29, "4294967296", "limit 29 cost"),
+    (29, "-1", "place 29 operator"),
+    (30, "end", "place 30 operator"),
+    (31, "1", "unsupported 31 axiom"),
+    (31, "x", "place 31 axioms"),
+    (31, "0\n", "place 32 end"),
+];
+
+/// How many values the second variable of the key has, beside three of the first, and the answer.
+static SUMS: [(&str, &str); 3] = [
+    ("2", "read"),
+    ("65532", "place 74 variable"),
+    ("65533", "limit 19 values"),
+];
+
+// Puts the line and an LF last.
+fn push_line(text: &mut Vec<u8>, line: &str) -> Result<(), AllocError> {
+    text.extend_from_slice(line.as_bytes())?;
+    text.push(b'\n')?;
+    Ok(())
+}
+
+// The text with this in place of the line of this number.
+fn spelled(alloc: Global, rows: &[Row], number: usize, line: &str) -> Result<Vec<u8>, AllocError> {
+    let mut text = Vec::new(alloc);
+    for (place, row) in rows.iter().enumerate() {
+        push_line(&mut text, if place + 1 == number { line } else { row.0 })?;
+    }
+    Ok(text)
+}
+
+// The task that the text is read as.
+fn read(alloc: Global, text: &[u8], limits: Limits) -> Result<Sas, SasFault>
+    requires line { limits.line ≤ 2 ^ 62 }
+    requires file { limits.file ≤ 2 ^ 62 }
+    ensures { IfOk result IsSoundSas }
+{
+    let mut shelf = SureShelf::new(alloc);
+    match shelf.add(NAME, text) {
+        Ok(()) => read_sas(alloc, &mut shelf, NAME, limits),
+        Err(_) => Err(SasFault::Memory),
+    }
+}
+
+// The fault, in the words of the program.
+fn told(alloc: Global, fault: SasFault) -> Result<String, AllocError> {
+    match fault {
+        SasFault::Place(line, kind) => format!(in alloc; "place {line} {}", kind.word()),
+        SasFault::Unsupported(line, which) => {
+            format!(in alloc; "unsupported {line} {}", which.word())
+        }
+        SasFault::Limit(line, limit) => format!(in alloc; "limit {line} {}", limit.word()),
+        SasFault::ReadFault => format!(in alloc; "read fault"),
+        SasFault::Memory => Err(AllocError),
+    }
+}
+
+// Whether the fault is told so.
+fn is_told(alloc: Global, fault: SasFault, want: &str) -> Result<bool, AllocError> {
+    let told = told(alloc, fault)?;
+    Ok(told.as_str() == want)
+}
+
+// Whether the text is answered so, in the words of the program.
+fn is_answered(alloc: Global, text: &[u8], limits: Limits, want: &str) -> Result<bool, AllocError>
+    requires line { limits.line ≤ 2 ^ 62 }
+    requires file { limits.file ≤ 2 ^ 62 }
+{
+    match read(alloc, text, limits).err() {
+        None => Ok(want == "read"),
+        Some(fault) => is_told(alloc, fault, want),
+    }
+}
+
+// Whether the text with this in place of a line is answered so within the limits.
+fn tells(
+    alloc: Global,
+    rows: &[Row],
+    number: usize,
+    line: &str,
+    limits: Limits,
+    want: &str,
+) -> Result<bool, AllocError>
+    requires line { limits.line ≤ 2 ^ 62 }
+    requires file { limits.file ≤ 2 ^ 62 }
+{
+    let text = spelled(alloc, rows, number, line)?;
+    is_answered(alloc, text.as_slice(), limits, want)
+}
+
+#[test]
+fn spellings_of_a_translator_file(rt: HostRuntime) -> Result<(), Fail> {
+    for (number, line, want) in &SPELLINGS {
+        let told = tells(rt.alloc(), &SWITCH, *number, line, Limits::STANDARD, want)?;
+        assert!(rt; told, "line {number} as {line}");
+    }
+    Ok(())
+}
+
+#[test]
+fn sums_of_values(rt: HostRuntime) -> Result<(), Fail> {
+    for (line, want) in &SUMS {
+        let told = tells(rt.alloc(), &KEY, 19, line, Limits::STANDARD, want)?;
+        assert!(rt; told, "{line} values");
+    }
+    Ok(())
+}
+
+// The beginning of the text that ends after so many bytes of the line at this place.
+fn begun(alloc: Global, rows: &[Row], place: usize, part: usize) -> Result<Vec<u8>, AllocError> {
+    let mut text = Vec::new(alloc);
+    for row in rows.iter().take(place) {
+        push_line(&mut text, row.0)?;
+    }
+    match rows.get(place) {
+        Some(row) => put_part(&mut text, row.0, part)?,
+        None => (),
+    }
+    Ok(text)
+}
+
+// Puts the first bytes of the line last.
+fn put_part(text: &mut Vec<u8>, line: &str, part: usize) -> Result<(), AllocError> {
+    match line.as_bytes().get(..part) {
+        Some(bytes) => text.extend_from_slice(bytes),
+        None => Ok(()),
+    }
+}
+
+// The place of the line that is missed where the text ends after so many bytes of this one: the
+// line itself, unless this much of it is a line of its form.
+fn missed(row: Row, place: usize, part: usize) -> usize
+    requires { place < 100 }
+{
+    if part == row.0.len() || (row.2 && 0 < part) {
+        place + 1
+    } else {
+        place
+    }
+}
+
+// Whether the fault is that the line at this place isn't there.
+fn is_missing(fault: SasFault, rows: &[Row], missing: usize) -> bool {
+    match (fault, rows.get(missing)) {
+        (SasFault::Place(line, kind), Some(row)) => {
+            line == missing as u64 + 1 && kind.word() == row.1
+        }
+        _ => false,
+    }
+}
+
+// Whether the beginning of a text is refused at this place, or is read where the text is whole.
+fn is_refused_at(
+    alloc: Global,
+    text: &[u8],
+    rows: &[Row],
+    missing: usize,
+) -> Result<bool, AllocError> {
+    match read(alloc, text, Limits::STANDARD).err() {
+        None => Ok(missing == rows.len()),
+        Some(SasFault::Memory) => Err(AllocError),
+        Some(fault) => Ok(is_missing(fault, rows, missing)),
+    }
+}
+
+// Whether the text is refused rightly where it ends after so many bytes of the line at this place.
+fn is_cut_rightly(
+    alloc: Global,
+    rows: &[Row],
+    place: usize,
+    part: usize,
+) -> Result<bool, AllocError>
+    requires place { place < length rows.now }
+    requires few { length rows.now < 100 }
+{
+    let text = begun(alloc, rows, place, part)?;
+    let missing = missed(rows[place], place, part);
+    is_refused_at(alloc, text.as_slice(), rows, missing)
+}
+
+// Whether it is so at each byte of the line.
+fn is_line_cut_rightly(alloc: Global, rows: &[Row], place: usize) -> Result<bool, AllocError>
+    requires place { place < length rows.now }
+    requires few { length rows.now < 100 }
+{
+    for part in 0..rows[place].0.len().saturating_add(1) {
+        if !is_cut_rightly(alloc, rows, place, part)? {
+            return Ok(false);
+        }
+    }
+    Ok(true)
+}
+
+// The first line at which it isn't so.
+fn first_wrong_line(alloc: Global, rows: &[Row]) -> Result<Option<usize>, AllocError>
+    requires { length rows.now < 100 }
+{
+    for place in 0..rows.len() {
+        if !is_line_cut_rightly(alloc, rows, place)? {
+            return Ok(Some(place));
+        }
+    }
+    Ok(None)
+}
+
+#[test]
+fn cut_texts(rt: HostRuntime) -> Result<(), Fail> {
+    assert_eq!(rt; first_wrong_line(rt.alloc(), &SWITCH)?, None);
+    assert_eq!(rt; first_wrong_line(rt.alloc(), &KEY)?, None);
+    Ok(())
+}
+
+// A name of so many bytes.
+fn name_of(alloc: Global, length: usize) -> Result<String, AllocError> {
+    let mut name = String::new(alloc);
+    for _ in 0..length {
+        name.push('x')?;
+    }
+    Ok(name)
+}
+
+// Whether the switch is answered so where the line is a name of so many bytes.
+fn tells_name(alloc: Global, number: usize, length: usize, want: &str) -> Result<bool, AllocError> {
+    let name = name_of(alloc, length)?;
+    tells(
+        alloc,
+        &SWITCH,
+        number,
+        name.as_str(),
+        Limits::STANDARD,
+        want,
+    )
+}
+
+#[test]
+fn lengths_of_names(rt: HostRuntime) -> Result<(), Fail> {
+    assert!(rt; tells_name(rt.alloc(), 9, 1024, "read")?);
+    assert!(rt; tells_name(rt.alloc(), 9, 1025, "limit 9 name")?);
+    assert!(rt; tells_name(rt.alloc(), 13, 1024, "read")?);
+    assert!(rt; tells_name(rt.alloc(), 13, 1025, "limit 13 name")?);
+    assert!(rt; tells_name(rt.alloc(), 25, 1024, "read")?);
+    assert!(rt; tells_name(rt.alloc(), 25, 1025, "limit 25 name")?);
+    Ok(())
+}
+
+// The limits of a line and of a file, and the answer of the switch.
+static LENGTHS: [(u8, u16, &str); 7] = [
+    (17, 1000, "read"),
+    (16, 1000, "limit 13 long"),
+    (13, 1000, "limit 8 long"),
+    (12, 1000, "limit 1 long"),
+    (17, 12, "limit 1 long"),
+    (17, 14, "limit 2 long"),
+    (17, 15, "limit 3 long"),
+];
+
+// Whether the switch is answered so within the limits.
+fn tells_within(alloc: Global, line: u8, file: u16, want: &str) -> Result<bool, AllocError> {
+    let limits = Limits {
+        line: line as u64,
+        file: file as u64,
+    };
+    tells(alloc, &SWITCH, 0, "", limits, want)
+}
+
+#[test]
+fn lengths_of_lines_and_files(rt: HostRuntime) -> Result<(), Fail> {
+    for (line, file, want) in &LENGTHS {
+        let told = tells_within(rt.alloc(), *line, *file, want)?;
+        assert!(rt; told, "line {line} file {file}");
+    }
+    Ok(())
+}
+
+// A shelf with the text whose call of this number fails.
+fn failing_shelf(alloc: Global, text: &[u8], call: u64) -> Result<MemoryShelf, AllocError> {
+    let mut shelf = MemoryShelf::new(alloc, 100);
+    shelf.add(NAME, text)?;
+    shelf.fail_at(call)?;
+    Ok(shelf)
+}
+
+// Whether the shelf fails before the task is read.
+fn fails(alloc: Global, shelf: &mut MemoryShelf) -> Result<bool, SasFault> {
+    match read_sas(alloc, shelf, NAME, Limits::STANDARD).err() {
+        None => Ok(false),
+        Some(SasFault::ReadFault) => Ok(true),
+        Some(fault) => Err(fault),
+    }
+}
+
+// Whether the switch isn't read where the shelf's call of this number fails.
+fn fails_at(alloc: Global, call: u64) -> Result<bool, SasFault> {
+    let switch = spelled(alloc, &SWITCH, 0, "")?;
+    let mut shelf = failing_shelf(alloc, switch.as_slice(), call)?;
+    fails(alloc, &mut shelf)
+}
+
+#[test]
+fn failing_reads(rt: HostRuntime) -> Result<(), Fail> {
+    // The open, three reads of up to 100 bytes, and the read of no bytes.
+    assert!(rt; fails_at(rt.alloc(), 1)?);
+    assert!(rt; fails_at(rt.alloc(), 2)?);
+    assert!(rt; fails_at(rt.alloc(), 4)?);
+    assert!(rt; fails_at(rt.alloc(), 5)?);
+    assert!(rt; !fails_at(rt.alloc(), 6)?);
+    Ok(())
+}
+
+/// The task of the switch: the lines before its cost, and behind it.
+const LIT: &str =
+    "begin_atoms:2\nAtom lit()\nNegatedAtom lit()\nend_atoms\nbegin_init\n1\nend_init\n\
+    begin_goal\n0\nend_goal\nbegin_actions:1\nbegin_action\nswitch\n";
+
+/// What stands in the place of a line of the switch, and the lines of the action behind its name.
+static MADE: [(usize, &str, &str); 4] = [
+    (0, "", "cost:1\nPRE:1\nADD:0\nDEL:1\n"),
+    (28, "0 0 -1 0", "cost:1\nADD:0\nDEL:1\n"),
+    (5, "1", "cost:5\nPRE:1\nADD:0\nDEL:1\n"),
+    (
+        26,
+        "3\n0 1\n0 0\n0 1",
+        "cost:1\nPRE:0\nPRE:1\nADD:0\nDEL:1\n",
+    ),
+];
+
+/// The task of the robot and the key.
+const KEY_TASK: &str = "begin_atoms:5\nAtom at(left)\nAtom at(middle)\nAtom at(right)\n\
+    Atom has(key)\nAtom lies(key)\nend_atoms\nbegin_init\n0\n4\nend_init\n\
+    begin_goal\n2\n3\nend_goal\nbegin_actions:4\n\
+    begin_action\ntake\ncost:3\nPRE:1\nPRE:4\nADD:3\nDEL:4\nend_action\n\
+    begin_action\ngo left middle\ncost:2\nPRE:0\nADD:1\nDEL:0\nend_action\n\
+    begin_action\njump right\ncost:0\nPRE:3\nADD:2\nDEL:0\nDEL:1\nend_action\n\
+    begin_action\nreset\ncost:7\nPRE:2\nADD:0\nADD:4\nDEL:2\nDEL:3\nend_action\nend_actions\n";
+
+// Whether the task has this text.
+fn is_written(alloc: Global, task: &Task, want: &[u8]) -> Result<bool, AllocError> {
+    let text = write_task(alloc, task)?;
+    Ok(text.as_bytes() == want)
+}
+
+// Whether the task that is made of this one has this text.
+fn is_made(alloc: Global, sas: &Sas, want: &[u8]) -> Result<bool, AllocError>
+    requires { IsSoundSas sas.now }
+{
+    let task = to_strips(alloc, sas)?;
+    is_written(alloc, &task, want)
+}
+
+// Whether the translator file is read, and makes a task of this text.
+fn makes(alloc: Global, text: &[u8], want: &[u8]) -> Result<bool, SasFault> {
+    let sas = read(alloc, text, Limits::STANDARD)?;
+    match is_made(alloc, &sas, want) {
+        Ok(yes) => Ok(yes),
+        Err(_) => Err(SasFault::Memory),
+    }
+}
+
+// The text of the switch's task with these lines in its action.
+fn lit(alloc: Global, action: &str) -> Result<String, AllocError> {
+    format!(in alloc; "{LIT}{action}end_action\nend_actions\n")
+}
+
+// Whether the switch with this in place of a line makes the task with these lines in its action.
+fn switch_makes(alloc: Global, number: usize, line: &str, action: &str) -> Result<bool, SasFault> {
+    let text = spelled(alloc, &SWITCH, number, line)?;
+    let want = lit(alloc, action)?;
+    makes(alloc, text.as_slice(), want.as_bytes())
+}
+
+// Whether the robot and the key make their task.
+fn key_makes(alloc: Global) -> Result<bool, SasFault> {
+    let text = spelled(alloc, &KEY, 0, "")?;
+    makes(alloc, text.as_slice(), KEY_TASK.as_bytes())
+}
+
+#[test]
+fn texts_of_made_tasks(rt: HostRuntime) -> Result<(), Fail> {
+    for (number, line, action) in &MADE {
+        let made = switch_makes(rt.alloc(), *number, line, action)?;
+        assert!(rt; made, "line {number} as {line}");
+    }
+    assert!(rt; key_makes(rt.alloc())?);
+    Ok(())
+}
+
+/// Lists of operators, and whether they bring the key to the right room.
+static PLANS: [(&[u32], bool); 7] = [
+    (&[1, 0, 2], true),
+    (&[1, 0], false),
+    (&[], false),
+    (&[0], false),
+    (&[2], false),
+    (&[1, 0, 2, 3, 1, 0, 2], true),
+    (&[1, 0, 4], false),
+];
+
+// Whether the task has just these plans.
+fn has_plans(alloc: Global, task: &Task) -> Result<bool, AllocError> {
+    let mut right = true;
+    for (list, plan) in &PLANS {
+        right &= task.solves(alloc, list)? == *plan;
+    }
+    Ok(right)
+}
+
+// Whether the task that is made of this one has just these plans.
+fn is_made_with_plans(alloc: Global, sas: &Sas) -> Result<bool, AllocError>
+    requires { IsSoundSas sas.now }
+{
+    let task = to_strips(alloc, sas)?;
+    has_plans(alloc, &task)
+}
+
+// Whether the task of the robot and the key has just these plans.
+fn key_has_plans(alloc: Global) -> Result<bool, SasFault> {
+    let text = spelled(alloc, &KEY, 0, "")?;
+    let sas = read(alloc, text.as_slice(), Limits::STANDARD)?;
+    match is_made_with_plans(alloc, &sas) {
+        Ok(yes) => Ok(yes),
+        Err(_) => Err(SasFault::Memory),
+    }
+}
+
+#[test]
+fn plans_of_a_made_task(rt: HostRuntime) -> Result<(), Fail> {
+    assert!(rt; key_has_plans(rt.alloc())?);
+    Ok(())
+}
