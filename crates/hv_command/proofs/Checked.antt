@@ -1,11 +1,12 @@
 -- What is answered to a job, from what was read and judged.
-use Rattle.std.proofs.Common.{◌≡◌, ℕ, ◌∙◌, List, Option, Some, None, Ok, Err, IfSome, [], arith}
+use Rattle.std.proofs.Common.{◌≡◌, ℕ, ◌∙◌, List, Option, Some, None, Result, Ok, Err, IfOk, IfSome}
+use Rattle.std.proofs.Common.{[], arith}
 use Rattle.std.proofs.Common.{codes, inl, inr, ap, refl, unwrap_or, reverse, subst, sym}
 use Rattle.std.specs.Option.{option_map}
 use Rattle.hv_bytes.specs.Files.{Names, bytes_of}
 use Rattle.hv_bytes.specs.Standard.{standard}
 use Rattle.hv_task.specs.Strips.{Strips, atoms}
-use Rattle.hv_task_text.specs.TaskText.{IsReadFrom, TaskText}
+use Rattle.hv_task_text.specs.TaskText.{IsFirstFault, IsReadFrom, TaskText}
 use Rattle.hv_task_text.specs.declared.fault.TaskFault.{TaskFault}
 use Rattle.hv_task_text.specs.declared.fault.TaskFault.TheVariants as F
 use Rattle.hv_lines.specs.Judged.{Accepts, Concludes, Judged, JudgedBytes, Judgement, LineText}
@@ -17,7 +18,8 @@ use Rattle.hv_checker.specs.declared.stop.Stop.{Stop}
 use Rattle.hv_checker.specs.declared.stop.Stop.TheVariants as C
 use Rattle.hv_checker.specs.declared.piece.End.{End}
 use Rattle.hv_checker.specs.declared.piece.End.TheVariants as E
-use Rattle.hv_bdd.specs.NodeText.{AreTextOf, IsReadFrom as IsNodesRead}
+use Rattle.hv_bdd.specs.NodeText.{AreTextOf, IsFirstFault as IsFirstNodesFault}
+use Rattle.hv_bdd.specs.NodeText.{IsReadFrom as IsNodesRead}
 use Rattle.hv_bdd.specs.Nodes.{NodeList, no_nodes}
 use Rattle.hv_lines.specs.Drafts.{IsGoodTable, default_budget, draft_setting}
 use Rattle.hv_lines.specs.Spelling.{proof_text}
@@ -29,14 +31,25 @@ use Rattle.hv_bytes.specs.Pieces.{pieces_of}
 use Rattle.hv_lines.specs.Setting.{Setting, setting_of}
 use Rattle.hv_checker.proofs.OneJudgement.{judged_once}
 use Rattle.hv_replay.specs.Logs.{SearchLog}
-use Rattle.hv_replay.specs.LogText.{IsReadFrom as IsLogRead}
+use Rattle.hv_replay.specs.LogText.{AreTextOf as AreTextOfLog, IsFirstFault as IsFirstLogFault}
+use Rattle.hv_replay.specs.LogText.{IsReadFrom as IsLogRead, log_limits}
 use Rattle.hv_replay.specs.declared.fault.LogFault.{LogFault}
 use Rattle.hv_replay.specs.declared.fault.LogFault.TheVariants as L
-use Rattle.hv_command.specs.Answer.{AfterLog, AfterTask, Answer, AnswersPieces, AnswersProof}
-use Rattle.hv_command.specs.Answer.{AnswersTask, AnswersTold, Covered, IsTold}
+use Rattle.hv_sas.specs.Answer.{IsReadFrom as IsSasRead, sas_in}
+use Rattle.hv_sas.specs.declared.fault.SasFault.{SasFault}
+use Rattle.hv_sas.specs.declared.fault.SasFault.TheVariants as A
+use Rattle.hv_sas.specs.declared.task.Sas.{Sas}
+use Rattle.hv_bound.specs.PlanFile.{IsPlanRead, plan_answer, plan_file, plan_in, plan_limits}
+use Rattle.hv_bound.specs.declared.fault.PlanFault.{PlanFault}
+use Rattle.hv_bound.specs.declared.fault.PlanFault.TheVariants as B
+use Rattle.hv_command.specs.Answer.{AfterLog, AfterPlan, AfterSas, AfterTask, AfterText, Answer}
+use Rattle.hv_command.specs.Answer.{AnswersPieces, AnswersProof, AnswersTask, AnswersTold, Covered}
+use Rattle.hv_command.specs.Answer.{IsTold}
 use Rattle.hv_command.specs.Replies.{judgement_status, log_fault_text, nodes_fault_text}
-use Rattle.hv_command.specs.Replies.{refused_text, task_fault_text, unsolvable_text}
-use Rattle.hv_command.specs.Working.Replies.{IsLogFault, IsNodesFault, IsTextFault}
+use Rattle.hv_command.specs.Replies.{plan_fault_text, refused_text, sas_fault_text}
+use Rattle.hv_command.specs.Replies.{task_fault_text, unsolvable_text}
+use Rattle.hv_command.specs.Working.Replies.{IsLogFault, IsNodesFault, IsPlanFault, IsSasFault}
+use Rattle.hv_command.specs.Working.Replies.{IsTextFault}
 use Rattle.hv_command.specs.Sample.{sample_text}
 use Rattle.hv_command.specs.Working.Sample.{IsHornProof}
 use Rattle.hv_command.proofs.Sampled.{horn_size}
@@ -45,6 +58,8 @@ use Rattle.hv_command.specs.declared.job.Job.TheVariants as J
 use Rattle.hv_command.specs.declared.job.Report.{Report}
 use Rattle.hv_command.specs.declared.job.Report.TheVariants as P
 use Rattle.hv_command.specs.Words.{HasName}
+use Rattle.hv_command.specs.declared.job_fault.JobFault.{JobFault}
+use Rattle.hv_command.specs.declared.reply.Reply.{Reply}
 use Rattle.hv_command.specs.declared.status.Status.{Status}
 use Rattle.hv_command.specs.declared.status.Status.TheVariants as S
 
@@ -69,6 +84,23 @@ pub on_all : (held : Option Names) (A : Type 0) → A → IfSome held (λ _. A)
 on_all None A holds = tt
 on_all (Some h) A holds = holds
 
+-- what is answered after a text, whatever the shelf tells: to the value that was read, or to the
+-- first fault
+module _ {A F : Type 0} (StandsFor : Names → A → Type 0) (HasFault : Names → F → Type 0)
+    (fault_text : F → List ℕ) (Answers : Names → A → Status → List ℕ → Type 0) (status : Status)
+    (text : List ℕ) where
+  value_answer : (held : Option Names) (value : A) → IfSome held (λ h. StandsFor h value)
+      → IfSome held (λ h. Answers h value status text)
+      → IfSome held (λ h. AfterText (StandsFor h) (HasFault h) fault_text (Answers h) status text)
+  value_answer None value stands answers = tt
+  value_answer (Some h) value stands answers = inr (value, stands, answers)
+
+  fault_answer : (held : Option Names) (fault : F) → IfSome held (λ h. HasFault h fault)
+      → status ≡ S.BadInput → text ≡ fault_text fault
+      → IfSome held (λ h. AfterText (StandsFor h) (HasFault h) fault_text (Answers h) status text)
+  fault_answer None fault first status_is text_is = tt
+  fault_answer (Some h) fault first status_is text_is = inl (fault, first, status_is, text_is)
+
 -- what is answered after the text of a task
 module _ (held : Option Names) (name : List ℕ) (Answers : Names → Strips → Status → List ℕ → Type 0)
   where
@@ -77,34 +109,29 @@ module _ (held : Option Names) (name : List ℕ) (Answers : Names → Strips →
         → IfSome held (λ h. TaskText standard (bytes_of h name) task)
         → IfSome held (λ h. Answers h task status text)
         → IfSome held (λ h. AfterTask (bytes_of h name) (Answers h) status text)
-    task_answer task status text is_text answers = of_files held is_text answers
-      where
-        of_files : (files : Option Names) → IfSome files
-            (λ h. TaskText standard (bytes_of h name) task)
-            → IfSome files (λ h. Answers h task status text)
-            → IfSome files (λ h. AfterTask (bytes_of h name) (Answers h) status text)
-        of_files None read says = tt
-        of_files (Some h) read says = inr (task, read, says)
+    task_answer task status text =
+        value_answer (λ h. TaskText standard (bytes_of h name))
+        (λ h. IsFirstFault (pieces_of standard (bytes_of h name))) task_fault_text Answers status
+        text held task
 
     -- the answer to a task text with a fault
     pub task_fault : (fault : TaskFault) (status : Status) (text : List ℕ)
         → IfSome held (λ h. IsReadFrom standard (bytes_of h name) (Err fault)) → IsTextFault fault
         → status ≡ S.BadInput → text ≡ task_fault_text fault
         → IfSome held (λ h. AfterTask (bytes_of h name) (Answers h) status text)
-    task_fault fault status text read is_fault status_is text_is = of_files held fault read is_fault
-        text_is
+    task_fault fault status text read is_fault =
+        fault_answer (λ h. TaskText standard (bytes_of h name))
+        (λ h. IsFirstFault (pieces_of standard (bytes_of h name))) task_fault_text Answers status
+        text held fault (first held fault read is_fault)
       where
-        of_files : (files : Option Names) (f : TaskFault)
-            → IfSome files (λ h. IsReadFrom standard (bytes_of h name) (Err f))
-            → IsTextFault f → text ≡ task_fault_text f
-            → IfSome files (λ h. AfterTask (bytes_of h name) (Answers h) status text)
-        of_files None f first is says = tt
-        of_files (Some h) (F.Place line kind) first is says = inl
-            (F.Place line kind, first, status_is, says)
-        of_files (Some h) (F.Limit line limit) first is says = inl
-            (F.Limit line limit, first, status_is, says)
-        of_files (Some h) F.ReadFault first is says = absurd is
-        of_files (Some h) F.Memory first is says = absurd is
+        first : (files : Option Names) (f : TaskFault)
+            → IfSome files (λ h. IsReadFrom standard (bytes_of h name) (Err f)) → IsTextFault f
+            → IfSome files (λ h. IsFirstFault (pieces_of standard (bytes_of h name)) f)
+        first None f told is = tt
+        first (Some h) (F.Place line kind) told is = told
+        first (Some h) (F.Limit line limit) told is = told
+        first (Some h) F.ReadFault told is = absurd is
+        first (Some h) F.Memory told is = absurd is
 
 -- the same after a log
 module _ (task : Strips) (held : Option Names) (name : List ℕ)
@@ -113,31 +140,99 @@ module _ (task : Strips) (held : Option Names) (name : List ℕ)
       → IfSome held (λ h. IsLogRead (atoms task) (bytes_of h name) (Ok log))
       → Answers log status text
       → IfSome held (λ h. AfterLog task (bytes_of h name) Answers status text)
-  log_answer log status text is_text answers = of_files held is_text
-    where
-      of_files : (files : Option Names) → IfSome files
-          (λ h. IsLogRead (atoms task) (bytes_of h name) (Ok log))
-          → IfSome files (λ h. AfterLog task (bytes_of h name) Answers status text)
-      of_files None read = tt
-      of_files (Some h) read = inr (log, read, answers)
+  log_answer log status text is_text answers =
+      value_answer (λ h. AreTextOfLog (atoms task) (pieces_of log_limits (bytes_of h name)))
+      (λ h. IsFirstLogFault (atoms task) (pieces_of log_limits (bytes_of h name))) log_fault_text
+      (λ h. Answers) status text held log is_text (on_all held (Answers log status text) answers)
 
   pub log_fault : (fault : LogFault) (status : Status) (text : List ℕ)
       → IfSome held (λ h. IsLogRead (atoms task) (bytes_of h name) (Err fault)) → IsLogFault fault
       → status ≡ S.BadInput → text ≡ log_fault_text fault
       → IfSome held (λ h. AfterLog task (bytes_of h name) Answers status text)
-  log_fault fault status text read is_fault status_is text_is = of_files held fault read is_fault
-      text_is
+  log_fault fault status text read is_fault =
+      fault_answer (λ h. AreTextOfLog (atoms task) (pieces_of log_limits (bytes_of h name)))
+      (λ h. IsFirstLogFault (atoms task) (pieces_of log_limits (bytes_of h name))) log_fault_text
+      (λ h. Answers) status text held fault (first held fault read is_fault)
     where
-      of_files : (files : Option Names) (f : LogFault)
-          → IfSome files (λ h. IsLogRead (atoms task) (bytes_of h name) (Err f))
-          → IsLogFault f → text ≡ log_fault_text f
-          → IfSome files (λ h. AfterLog task (bytes_of h name) Answers status text)
-      of_files None f first is says = tt
-      of_files (Some h) (L.Place line) first is says = inl (L.Place line, first, status_is, says)
-      of_files (Some h) (L.Limit line limit) first is says = inl
-          (L.Limit line limit, first, status_is, says)
-      of_files (Some h) L.ReadFault first is says = absurd is
-      of_files (Some h) L.Memory first is says = absurd is
+      first : (files : Option Names) (f : LogFault)
+          → IfSome files (λ h. IsLogRead (atoms task) (bytes_of h name) (Err f)) → IsLogFault f
+          → IfSome files (λ h. IsFirstLogFault (atoms task)
+          (pieces_of log_limits (bytes_of h name)) f)
+      first None f told is = tt
+      first (Some h) (L.Place line) told is = told
+      first (Some h) (L.Limit line limit) told is = told
+      first (Some h) L.ReadFault told is = absurd is
+      first (Some h) L.Memory told is = absurd is
+
+-- the same after a translator's file
+module _ (held : Option Names) (name : List ℕ) (Answers : Sas → Status → List ℕ → Type 0) where
+  pub sas_text_answer : (sas : Sas) (status : Status) (text : List ℕ)
+      → IfSome held (λ h. IsSasRead standard (bytes_of h name) (Ok sas))
+      → Answers sas status text
+      → IfSome held (λ h. AfterSas (bytes_of h name) Answers status text)
+  sas_text_answer sas status text is_text answers =
+      value_answer (λ h sas. sas_in (pieces_of standard (bytes_of h name)) ≡ Ok sas)
+      (λ h fault. sas_in (pieces_of standard (bytes_of h name)) ≡ Err fault) sas_fault_text
+      (λ h. Answers) status text held sas is_text (on_all held (Answers sas status text) answers)
+
+  pub sas_text_fault : (fault : SasFault) (status : Status) (text : List ℕ)
+      → IfSome held (λ h. IsSasRead standard (bytes_of h name) (Err fault)) → IsSasFault fault
+      → status ≡ S.BadInput → text ≡ sas_fault_text fault
+      → IfSome held (λ h. AfterSas (bytes_of h name) Answers status text)
+  sas_text_fault fault status text read is_fault =
+      fault_answer (λ h sas. sas_in (pieces_of standard (bytes_of h name)) ≡ Ok sas)
+      (λ h fault. sas_in (pieces_of standard (bytes_of h name)) ≡ Err fault) sas_fault_text
+      (λ h. Answers) status text held fault (first held fault read is_fault)
+    where
+      first : (files : Option Names) (f : SasFault)
+          → IfSome files (λ h. IsSasRead standard (bytes_of h name) (Err f)) → IsSasFault f
+          → IfSome files (λ h. sas_in (pieces_of standard (bytes_of h name)) ≡ Err f)
+      first None f told is = tt
+      first (Some h) (A.Place line kind) told is = told
+      first (Some h) (A.Unsupported line which) told is = told
+      first (Some h) (A.Limit line limit) told is = told
+      first (Some h) A.ReadFault told is = absurd is
+      first (Some h) A.Memory told is = absurd is
+
+-- the same after a plan file
+module _ (held : Option Names) (name : List ℕ) (Answers : List ℕ → Status → List ℕ → Type 0) where
+  pub plan_text_answer : (list : List ℕ) (status : Status) (text : List ℕ)
+      → IfSome held (λ h. IsPlanRead (plan_file 0 (pieces_of plan_limits (bytes_of h name)))
+      (Ok list))
+      → Answers list status text
+      → IfSome held (λ h. AfterPlan (bytes_of h name) Answers status text)
+  plan_text_answer list status text is_text answers =
+      value_answer (λ h list. plan_in (pieces_of plan_limits (bytes_of h name)) ≡ Ok list)
+      (λ h fault. plan_in (pieces_of plan_limits (bytes_of h name)) ≡ Err fault) plan_fault_text
+      (λ h. Answers) status text held list (value held is_text)
+      (on_all held (Answers list status text) answers)
+    where
+      value : (files : Option Names)
+          → IfSome files (λ h. IsPlanRead (plan_file 0 (pieces_of plan_limits (bytes_of h name)))
+          (Ok list))
+          → IfSome files (λ h. plan_in (pieces_of plan_limits (bytes_of h name)) ≡ Ok list)
+      value None told = tt
+      value (Some h) told = ap plan_answer told.2
+
+  pub plan_text_fault : (fault : PlanFault) (status : Status) (text : List ℕ)
+      → IfSome held (λ h. IsPlanRead (plan_file 0 (pieces_of plan_limits (bytes_of h name)))
+      (Err fault)) → IsPlanFault fault
+      → status ≡ S.BadInput → text ≡ plan_fault_text fault
+      → IfSome held (λ h. AfterPlan (bytes_of h name) Answers status text)
+  plan_text_fault fault status text read is_fault =
+      fault_answer (λ h list. plan_in (pieces_of plan_limits (bytes_of h name)) ≡ Ok list)
+      (λ h fault. plan_in (pieces_of plan_limits (bytes_of h name)) ≡ Err fault) plan_fault_text
+      (λ h. Answers) status text held fault (first held fault read is_fault)
+    where
+      first : (files : Option Names) (f : PlanFault)
+          → IfSome files (λ h. IsPlanRead (plan_file 0 (pieces_of plan_limits (bytes_of h name)))
+          (Err f)) → IsPlanFault f
+          → IfSome files (λ h. plan_in (pieces_of plan_limits (bytes_of h name)) ≡ Err f)
+      first None f told is = tt
+      first (Some h) (B.Place line) told is = ap plan_answer told
+      first (Some h) (B.Limit line) told is = ap plan_answer told
+      first (Some h) B.ReadFault told is = absurd is
+      first (Some h) B.Memory told is = absurd is
 
 -- the answer to a job that reads a file, whatever the shelf tells
 pub told_job : (covered : Covered) (job other : Job) (name : List ℕ) (held : Option Names)
@@ -153,6 +248,16 @@ told_job covered job other name held status text same has answers =
     of_files None says = λ unread h. absurd (unread name has)
     of_files (Some h) says = says
 
+-- the same of what a function gives
+pub told_result : (covered : Covered) (job other : Job) (name : List ℕ) (held : Option Names)
+    (result : Result Reply JobFault)
+    → other ≡ job → HasName (Some job) name
+    → IfSome held (λ h. IfOk result (λ r. Answer covered (Some job) h r.status r.text))
+    → IfOk result (λ r. AnswersTold covered (Some other) held r.status r.text)
+told_result covered job other name held (Ok r) same has answers =
+    told_job covered job other name held r.status r.text same has answers
+told_result covered job other name held (Err fault) same has answers = tt
+
 module _ (report : Report) (task : Strips) (proof_name nodes_name : List ℕ) (budget : ℕ) where
   -- the answer to nodes that were read
   pub nodes_answer : (held : Option Names) (list : NodeList) (status : Status) (text : List ℕ)
@@ -160,8 +265,12 @@ module _ (report : Report) (task : Strips) (proof_name nodes_name : List ℕ) (b
       → IfSome held (λ h. AnswersProof report (setting_of task list budget) (bytes_of h proof_name)
       status text)
       → IfSome held (λ h. AnswersTask report task proof_name (Some nodes_name) budget h status text)
-  nodes_answer None list status text is_text answers = tt
-  nodes_answer (Some h) list status text is_text answers = inr (list, is_text, answers)
+  nodes_answer held list status text =
+      value_answer (λ h. AreTextOf (atoms task) (pieces_of standard (bytes_of h nodes_name)))
+      (λ h. IsFirstNodesFault (atoms task) (pieces_of standard (bytes_of h nodes_name)))
+      nodes_fault_text
+      (λ h nodes. AnswersProof report (setting_of task nodes budget) (bytes_of h proof_name))
+      status text held list
 
   -- the answer to a node file with a fault
   pub nodes_fault : (held : Option Names) (fault : NodesFault) (status : Status) (text : List ℕ)
@@ -169,13 +278,23 @@ module _ (report : Report) (task : Strips) (proof_name nodes_name : List ℕ) (b
       → IsNodesFault fault
       → status ≡ S.BadInput → text ≡ nodes_fault_text fault
       → IfSome held (λ h. AnswersTask report task proof_name (Some nodes_name) budget h status text)
-  nodes_fault None fault status text read is_fault status_is text_is = tt
-  nodes_fault (Some h) (N.Place line kind) status text read is_fault status_is text_is =
-      inl (N.Place line kind, read, status_is, text_is)
-  nodes_fault (Some h) (N.Limit line limit) status text read is_fault status_is text_is =
-      inl (N.Limit line limit, read, status_is, text_is)
-  nodes_fault (Some h) N.ReadFault status text read is_fault status_is text_is = absurd is_fault
-  nodes_fault (Some h) N.Memory status text read is_fault status_is text_is = absurd is_fault
+  nodes_fault held fault status text read is_fault =
+      fault_answer (λ h. AreTextOf (atoms task) (pieces_of standard (bytes_of h nodes_name)))
+      (λ h. IsFirstNodesFault (atoms task) (pieces_of standard (bytes_of h nodes_name)))
+      nodes_fault_text
+      (λ h nodes. AnswersProof report (setting_of task nodes budget) (bytes_of h proof_name))
+      status text held fault (first held fault read is_fault)
+    where
+      first : (files : Option Names) (f : NodesFault)
+          → IfSome files (λ h. IsNodesRead standard (atoms task) (bytes_of h nodes_name) (Err f))
+          → IsNodesFault f
+          → IfSome files (λ h. IsFirstNodesFault (atoms task)
+          (pieces_of standard (bytes_of h nodes_name)) f)
+      first None f told is = tt
+      first (Some h) (N.Place line kind) told is = told
+      first (Some h) (N.Limit line limit) told is = told
+      first (Some h) N.ReadFault told is = absurd is
+      first (Some h) N.Memory told is = absurd is
 
 -- the lines of a checker that refused nothing are those that are accepted of all pieces
 pub all_accepted : (checker : CheckerState) (stop : Stop) (pieces : List LineText)

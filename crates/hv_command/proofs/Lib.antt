@@ -1,9 +1,9 @@
 pub mod AtomTexts
 pub mod Numbers
 pub mod Checked
+pub mod Computed
 pub mod FedFiles
 pub mod OneAnswer
 pub mod SoundAnswers
-pub mod TaskTexts
 pub mod Produced
 pub mod Sampled

@@ -1,13 +1,16 @@
 -- A job has one answer.
 use Rattle.std.proofs.Common.{◌≡◌, ◌⊎◌, ◌↔◌, ◌<◌, ◌^◌, ℕ, ◌∙◌, Bool, List, [], Option, Some, None}
-use Rattle.std.proofs.Common.{IsSome, inl, inr, ap, arith, refl, reverse, subst, sym}
+use Rattle.std.proofs.Common.{Ok, Err, IsSome, inl, inr, ap, arith, refl, reverse, subst}
+use Rattle.std.proofs.Common.{sym}
 use Rattle.std.specs.Option.{option_map}
 use Rattle.hv_bytes.specs.Files.{Names, bytes_of}
 use Rattle.hv_bytes.specs.Pieces.{Piece, pieces_of}
 use Rattle.hv_bytes.specs.Standard.{standard}
 use Rattle.hv_task.specs.Strips.{Strips, atoms}
-use Rattle.hv_task_text.specs.TaskText.{AreTextOf}
-use Rattle.hv_bdd.specs.Nodes.{NodeList, no_nodes}
+use Rattle.hv_task_text.specs.TaskText.{AreTextOf, IsFirstFault, TaskText}
+use Rattle.hv_bdd.specs.NodeText.{AreTextOf as AreTextOfNodes}
+use Rattle.hv_bdd.specs.NodeText.{IsFirstFault as IsFirstNodesFault}
+use Rattle.hv_bdd.specs.Nodes.{no_nodes}
 use Rattle.hv_task_text.proofs.OneAnswer.{one_fault, one_task, text_or_fault}
 use Rattle.hv_bdd.proofs.OneAnswer.{one_fault as one_nodes_fault, one_list}
 use Rattle.hv_bdd.proofs.OneAnswer.{text_or_fault as list_or_fault}
@@ -23,21 +26,28 @@ use Rattle.hv_explain.proofs.OneText.{one_explanation}
 use Rattle.hv_explain.specs.Explained.{IsExplanation}
 use Rattle.hv_lines.specs.declared.line.Line.{Line}
 use Rattle.hv_replay.specs.Logs.{SearchLog}
+use Rattle.hv_replay.specs.LogText.{AreTextOf as AreTextOfLog, IsFirstFault as IsFirstLogFault}
 use Rattle.hv_replay.specs.LogText.{log_limits}
 use Rattle.hv_replay.proofs.OneAnswer.{one_fault as one_log_fault, one_log}
 use Rattle.hv_replay.proofs.OneAnswer.{text_or_fault as log_or_fault}
 use Rattle.hv_replay.proofs.OneHole.{closed_or_hole, one_hole}
-use Rattle.hv_command.specs.Answer.{AfterLog, AfterTask, Answer, AnswersCheck, AnswersLog}
-use Rattle.hv_command.specs.Answer.{AnswersPieces, AnswersProduce, AnswersReplay, AnswersTask}
-use Rattle.hv_command.specs.Answer.{Covered, IsReplayProof, IsTold}
+use Rattle.hv_bound.proofs.Steps.{one_answer as one_plan_answer}
+use Rattle.hv_bound.specs.PlanFile.{plan_in, plan_limits}
+use Rattle.hv_sas.specs.Answer.{sas_in}
+use Rattle.hv_command.specs.Answer.{AfterLog, AfterPlan, AfterSas, AfterTask, AfterText, Answer}
+use Rattle.hv_command.specs.Answer.{AnswersBound, AnswersCheck, AnswersLog, AnswersPieces}
+use Rattle.hv_command.specs.Answer.{AnswersPlan, AnswersProduce, AnswersProof, AnswersReplay}
+use Rattle.hv_command.specs.Answer.{AnswersSas, AnswersTask, Covered, IsReplayProof, IsTold}
 use Rattle.hv_command.specs.Replies.{AreOneText, hole_text, judgement_status, judgement_text}
-use Rattle.hv_command.specs.Replies.{log_fault_text, nodes_fault_text, refused_text}
+use Rattle.hv_command.specs.Replies.{log_fault_text, nodes_fault_text, plan_fault_text}
+use Rattle.hv_command.specs.Replies.{plan_status, plan_text, refused_text, sas_fault_text}
 use Rattle.hv_command.specs.Replies.{task_fault_text}
 use Rattle.hv_command.specs.declared.job.Job.{Job}
 use Rattle.hv_command.specs.declared.job.Job.TheVariants as J
 use Rattle.hv_command.specs.declared.job.Kind.{Kind}
 use Rattle.hv_command.specs.declared.job.Report.{Report}
 use Rattle.hv_command.specs.declared.job.Report.TheVariants as P
+use Rattle.hv_command.proofs.Computed.{one_fault_of, one_value_of, value_or_fault_of}
 use Rattle.hv_command.proofs.Produced.{one_produced}
 use Rattle.hv_command.specs.declared.status.Status.{Status}
 use Rattle.hv_command.specs.declared.status.Status.TheVariants as S
@@ -174,80 +184,94 @@ few_atoms pieces task text =
     let same = ap (λ (t : Strips). atoms t) text.2.says in
     omega (arith, few, same)
 
+-- one status and one text
+abbrev AreOne : Status → Status → List ℕ → List ℕ → Type 0
+AreOne s u t v = (s ≡ u) × AreOneText t v
+
+-- one text, but for a proof that replays a log
+abbrev IsOne : Status → Status → List ℕ → List ℕ → Type 0
+IsOne s u t v = (s ≡ u) × ((s ≡ S.Done → ⊥) → AreOneText t v)
+
+are_one : (s u : Status) (t v : List ℕ) → s ≡ u → t ≡ v → AreOne s u t v
+are_one s u t v same one = (same, inl one)
+
+is_one : (s u : Status) (t v : List ℕ) → s ≡ u → t ≡ v → IsOne s u t v
+is_one s u t v same one = (same, λ _. inl one)
+
+-- A text stands for one value, or has one first fault: so what is answered after it is one, where
+-- the answers to its value are.
+module _ {A F : Type 0} (StandsFor : A → Type 0) (HasFault : F → Type 0)
+    (fault_text : F → List ℕ) (Answers : A → Status → List ℕ → Type 0)
+    (Same : Status → Status → List ℕ → List ℕ → Type 0)
+    (one_value : (a b : A) → StandsFor a → StandsFor b → a ≡ b)
+    (value_or_fault : (a : A) (f : F) → StandsFor a → HasFault f → ⊥)
+    (one_first : (f g : F) → HasFault f → HasFault g → f ≡ g)
+    (same_texts : (s u : Status) (t v : List ℕ) → s ≡ u → t ≡ v → Same s u t v)
+    (same_answers : (a : A) → StandsFor a → (s u : Status) (t v : List ℕ) → Answers a s t
+    → Answers a u v → Same s u t v) where
+  one_after : (s u : Status) (t v : List ℕ)
+      → AfterText StandsFor HasFault fault_text Answers s t
+      → AfterText StandsFor HasFault fault_text Answers u v → Same s u t v
+  one_after s u t v (inl (f, first, bad, said)) (inl (g, other, wrong, told)) =
+      same_texts s u t v (bad ∙ sym wrong)
+      (said ∙ (ap fault_text (one_first f g first other) ∙ sym told))
+  one_after s u t v (inl (f, first, bad, said)) (inr (b, stands, answers)) =
+      absurd (value_or_fault b f stands first)
+  one_after s u t v (inr (a, stands, answers)) (inl (f, first, bad, said)) =
+      absurd (value_or_fault a f stands first)
+  one_after s u t v (inr (a, stands, answers)) (inr (b, also, says)) =
+      same_answers b also s u t v
+      (subst (λ (x : A). Answers x s t) (one_value a b stands also) answers) says
+
+-- the same after the bytes of a task
+module _ (bytes : List ℕ) (Answers : Strips → Status → List ℕ → Type 0)
+    (Same : Status → Status → List ℕ → List ℕ → Type 0)
+    (same_texts : (s u : Status) (t v : List ℕ) → s ≡ u → t ≡ v → Same s u t v)
+    (same_answers : (task : Strips) → TaskText standard bytes task
+    → (s u : Status) (t v : List ℕ) → Answers task s t → Answers task u v → Same s u t v) where
+  one_after_task : (s u : Status) (t v : List ℕ) → AfterTask bytes Answers s t
+      → AfterTask bytes Answers u v → Same s u t v
+  one_after_task =
+      let pieces = pieces_of standard bytes in
+      one_after (TaskText standard bytes) (IsFirstFault pieces) task_fault_text Answers Same
+      (one_task pieces) (text_or_fault pieces) (one_fault pieces) same_texts same_answers
+
 module _ (report : Report) (task : Strips) (few : atoms task < 10 ^ 18) (proof_name : List ℕ)
     (budget : ℕ) (held : Names) where
   one_task_answer : (nodes_name : Option (List ℕ)) (s u : Status) (t v : List ℕ)
       → AnswersTask report task proof_name nodes_name budget held s t
       → AnswersTask report task proof_name nodes_name budget held u v
-      → (s ≡ u) × AreOneText t v
+      → AreOne s u t v
   one_task_answer None s u t v x y =
       one_proof report (setting_of task (no_nodes (atoms task)) budget)
       (pieces_of standard (bytes_of held proof_name)) s u t v x y
-  one_task_answer (Some name) s u t v (inl (f, first, bad, said)) (inl (g, other, wrong, told)) =
-      let pieces = pieces_of standard (bytes_of held name) in (
-        bad ∙ sym wrong,
-        inl (said ∙ (ap nodes_fault_text
-            (one_nodes_fault (atoms task) few pieces f g first other) ∙ sym told)),
-      )
-  one_task_answer (Some name) s u t v (inl (f, first, bad, said)) (inr (list, is_text, answers)) =
-      absurd (list_or_fault (atoms task) few (pieces_of standard (bytes_of held name)) list f
-      is_text first)
-  one_task_answer (Some name) s u t v (inr (list, is_text, answers)) (inl (f, first, bad, said)) =
-      absurd (list_or_fault (atoms task) few (pieces_of standard (bytes_of held name)) list f
-      is_text first)
-  one_task_answer (Some name) s u t v (inr (list, is_text, answers)) (inr (other, reads, says)) =
-      one_proof report (setting_of task other budget)
-      (pieces_of standard (bytes_of held proof_name)) s u t v
-      (subst (λ (x : NodeList). AnswersPieces report (setting_of task x budget)
-      (pieces_of standard (bytes_of held proof_name)) s t)
-      (one_list (atoms task) few (pieces_of standard (bytes_of held name)) list other is_text reads)
-      answers) says
+  one_task_answer (Some name) s u t v x y =
+      let pieces = pieces_of standard (bytes_of held name) in
+      one_after (AreTextOfNodes (atoms task) pieces) (IsFirstNodesFault (atoms task) pieces)
+      nodes_fault_text
+      (λ nodes. AnswersProof report (setting_of task nodes budget) (bytes_of held proof_name))
+      AreOne (one_list (atoms task) few pieces) (list_or_fault (atoms task) few pieces)
+      (one_nodes_fault (atoms task) few pieces) are_one
+      (λ nodes _. one_proof report (setting_of task nodes budget)
+      (pieces_of standard (bytes_of held proof_name))) s u t v x y
 
-module _ (report : Report) (task_name proof_name : List ℕ) (nodes_name : Option (List ℕ))
-    (budget : ℕ) (held : Names) where
-  one_check : (s u : Status) (t v : List ℕ)
-      → AnswersCheck report task_name proof_name nodes_name budget held s t
-      → AnswersCheck report task_name proof_name nodes_name budget held u v
-      → (s ≡ u) × AreOneText t v
-  one_check s u t v (inl (f, first, bad, said)) (inl (g, other, wrong, told)) = (
-    bad ∙ sym wrong,
-    inl (said ∙ (ap task_fault_text
-        (one_fault (pieces_of standard (bytes_of held task_name)) f g first other) ∙ sym told)),
-  )
-  one_check s u t v (inl (f, first, bad, said)) (inr (task, is_text, answers)) =
-      absurd (text_or_fault (pieces_of standard (bytes_of held task_name)) task f is_text first)
-  one_check s u t v (inr (task, is_text, answers)) (inl (f, first, bad, said)) =
-      absurd (text_or_fault (pieces_of standard (bytes_of held task_name)) task f is_text first)
-  one_check s u t v (inr (task, is_text, answers)) (inr (other, reads, says)) =
-      one_task_answer report other (few_atoms (pieces_of standard (bytes_of held task_name)) other
-      reads) proof_name budget held nodes_name s u t v
-      (subst (λ (x : Strips). AnswersTask report x proof_name nodes_name budget held s t)
-      (one_task (pieces_of standard (bytes_of held task_name)) task other is_text reads) answers)
-      says
+one_check : (report : Report) (task_name proof_name : List ℕ) (nodes_name : Option (List ℕ))
+    (budget : ℕ) (held : Names) (s u : Status) (t v : List ℕ)
+    → AnswersCheck report task_name proof_name nodes_name budget held s t
+    → AnswersCheck report task_name proof_name nodes_name budget held u v → AreOne s u t v
+one_check report task_name proof_name nodes_name budget held =
+    let bytes = bytes_of held task_name in
+    one_after_task bytes (λ task. AnswersTask report task proof_name nodes_name budget held) AreOne
+    are_one
+    (λ task is_text. one_task_answer report task (few_atoms (pieces_of standard bytes) task is_text)
+    proof_name budget held nodes_name)
 
 one_proof_answer : (kind : Kind) (name : List ℕ) (held : Names) (s u : Status) (t v : List ℕ)
     → AfterTask (bytes_of held name) (AnswersProduce kind) s t
-    → AfterTask (bytes_of held name) (AnswersProduce kind) u v
-    → (s ≡ u) × AreOneText t v
-one_proof_answer kind name held s u t v (inl (f, first, bad, said)) (inl (g, other, wrong, told)) = (
-  bad ∙ sym wrong,
-  inl (said ∙ (ap task_fault_text
-      (one_fault (pieces_of standard (bytes_of held name)) f g first other) ∙ sym told)),
-)
-one_proof_answer kind name held s u t v (inl (f, first, bad, said)) (inr (task, is_text, answers)) =
-    absurd (text_or_fault (pieces_of standard (bytes_of held name)) task f is_text first)
-one_proof_answer kind name held s u t v (inr (task, is_text, answers)) (inl (f, first, bad, said)) =
-    absurd (text_or_fault (pieces_of standard (bytes_of held name)) task f is_text first)
-one_proof_answer kind name held s u t v (inr (task, is_text, answers)) (inr (other, reads, says)) =
-    let one = one_produced kind other s u t v
-    (subst (λ x. AnswersProduce kind x s t)
-    (one_task (pieces_of standard (bytes_of held name)) task other is_text reads) answers)
-    says in
-    (one.0, inl one.1)
-
--- one text, but for a proof that replays a log
-abbrev IsOne : Status → Status → List ℕ → List ℕ → Type 0
-IsOne s u t v = (s ≡ u) × ((s ≡ S.Done → ⊥) → AreOneText t v)
+    → AfterTask (bytes_of held name) (AnswersProduce kind) u v → AreOne s u t v
+one_proof_answer kind name held =
+    one_after_task (bytes_of held name) (AnswersProduce kind) AreOne are_one
+    (λ task _ s u t v x y. let one = one_produced kind task s u t v x y in (one.0, inl one.1))
 
 module _ (covered : List Bool → Type 0) (task : Strips) (log : SearchLog) where
   one_replay : (s u : Status) (t v : List ℕ) → AnswersLog (λ _. covered) task log s t
@@ -264,48 +288,68 @@ module _ (covered : List Bool → Type 0) (task : Strips) (log : SearchLog) wher
         ∙ sym tells)),
   )
 
-module _ (covered : List Bool → Type 0) (task : Strips) (few : atoms task < 10 ^ 18)
-    (bytes : List ℕ) where
-  one_log_answer : (s u : Status) (t v : List ℕ)
-      → AfterLog task bytes (AnswersLog (λ _. covered) task) s t
-      → AfterLog task bytes (AnswersLog (λ _. covered) task) u v → IsOne s u t v
-  one_log_answer s u t v (inl (f, first, bad, said)) (inl (g, other, wrong, told)) = (
-    bad ∙ sym wrong,
-    λ _. inl (said ∙ (ap log_fault_text
-        (one_log_fault (atoms task) few (pieces_of log_limits bytes) f g first other)
-        ∙ sym told)),
-  )
-  one_log_answer s u t v (inl (f, first, bad, said)) (inr (log, is_text, answers)) =
-      absurd (log_or_fault (atoms task) few (pieces_of log_limits bytes) log f is_text first)
-  one_log_answer s u t v (inr (log, is_text, answers)) (inl (f, first, bad, said)) =
-      absurd (log_or_fault (atoms task) few (pieces_of log_limits bytes) log f is_text first)
-  one_log_answer s u t v (inr (log, is_text, answers)) (inr (other, reads, says)) =
-      one_replay covered task other s u t v
-      (subst (λ (x : SearchLog). AnswersLog (λ _. covered) task x s t)
-      (one_log (atoms task) few (pieces_of log_limits bytes) log other is_text reads) answers) says
+one_log_answer : (covered : List Bool → Type 0) (task : Strips) (few : atoms task < 10 ^ 18)
+    (bytes : List ℕ) (s u : Status) (t v : List ℕ)
+    → AfterLog task bytes (AnswersLog (λ _. covered) task) s t
+    → AfterLog task bytes (AnswersLog (λ _. covered) task) u v → IsOne s u t v
+one_log_answer covered task few bytes =
+    let pieces = pieces_of log_limits bytes in
+    one_after (AreTextOfLog (atoms task) pieces) (IsFirstLogFault (atoms task) pieces)
+    log_fault_text (AnswersLog (λ _. covered) task) IsOne (one_log (atoms task) few pieces)
+    (log_or_fault (atoms task) few pieces) (one_log_fault (atoms task) few pieces) is_one
+    (λ log _. one_replay covered task log)
 
 one_replay_answer : (covered : Covered) (name log_name : List ℕ) (held : Names) (s u : Status)
     (t v : List ℕ)
     → AnswersReplay covered name log_name held s t → AnswersReplay covered name log_name held u v
     → IsOne s u t v
-one_replay_answer covered name log_name held s u t v (inl (f, first, bad, said))
-    (inl (g, other, wrong, told)) = (
-      bad ∙ sym wrong,
-      λ _. inl (said ∙ (ap task_fault_text
-          (one_fault (pieces_of standard (bytes_of held name)) f g first other) ∙ sym told)),
+one_replay_answer covered name log_name held =
+    let bytes = bytes_of held name in
+    one_after_task bytes
+    (λ task. AfterLog task (bytes_of held log_name) (AnswersLog covered task)) IsOne is_one
+    (λ task is_text. one_log_answer (covered task) task
+    (few_atoms (pieces_of standard bytes) task is_text) (bytes_of held log_name))
+
+one_sas_answer : (bytes : List ℕ) (s u : Status) (t v : List ℕ) → AfterSas bytes AnswersSas s t
+    → AfterSas bytes AnswersSas u v → AreOne s u t v
+one_sas_answer bytes =
+    let answer = sas_in (pieces_of standard bytes) in
+    one_after (λ sas. answer ≡ Ok sas) (λ fault. answer ≡ Err fault) sas_fault_text AnswersSas
+    AreOne (one_value_of answer) (value_or_fault_of answer) (one_fault_of answer) are_one
+    (λ sas _ s u t v x y. (x.0 ∙ sym y.0, inl (x.1 ∙ sym y.1)))
+
+one_bound : (most : ℕ) (task : Strips) (s u : Status) (t v : List ℕ)
+    → AnswersBound most task s t → AnswersBound most task u v → AreOne s u t v
+one_bound most task s u t v (inl (large, s_is, t_is)) (inl (also, u_is, v_is)) =
+    (s_is ∙ sym u_is, inl (t_is ∙ sym v_is))
+one_bound most task s u t v (inl (large, s_is, t_is)) (inr (fits, u_is, v_is)) = absurd (fits large)
+one_bound most task s u t v (inr (fits, s_is, t_is)) (inl (large, u_is, v_is)) = absurd (fits large)
+one_bound most task s u t v (inr (fits, s_is, t_is)) (inr (also, u_is, v_is)) =
+    (s_is ∙ sym u_is, inl (t_is ∙ sym v_is))
+
+one_bound_answer : (most : ℕ) (bytes : List ℕ) (s u : Status) (t v : List ℕ)
+    → AfterTask bytes (AnswersBound most) s t → AfterTask bytes (AnswersBound most) u v
+    → AreOne s u t v
+one_bound_answer most bytes =
+    one_after_task bytes (AnswersBound most) AreOne are_one (λ task _. one_bound most task)
+
+one_list_answer : (task : Strips) (list : List ℕ) (s u : Status) (t v : List ℕ)
+    → AnswersPlan task list s t → AnswersPlan task list u v → AreOne s u t v
+one_list_answer task list s u t v (a, is, s_is, t_is) (b, also, u_is, v_is) =
+    let same = one_plan_answer task list a b is also in (
+      s_is ∙ (ap plan_status same ∙ sym u_is),
+      inl (t_is ∙ (ap plan_text same ∙ sym v_is)),
     )
-one_replay_answer covered name log_name held s u t v (inl (f, first, bad, said))
-    (inr (task, is_text, answers)) =
-    absurd (text_or_fault (pieces_of standard (bytes_of held name)) task f is_text first)
-one_replay_answer covered name log_name held s u t v (inr (task, is_text, answers))
-    (inl (f, first, bad, said)) =
-    absurd (text_or_fault (pieces_of standard (bytes_of held name)) task f is_text first)
-one_replay_answer covered name log_name held s u t v (inr (task, is_text, answers))
-    (inr (other, reads, says)) =
-    one_log_answer (covered other) other (few_atoms (pieces_of standard (bytes_of held name)) other
-    reads) (bytes_of held log_name) s u t v
-    (subst (λ (x : Strips). AfterLog x (bytes_of held log_name) (AnswersLog covered x) s t)
-    (one_task (pieces_of standard (bytes_of held name)) task other is_text reads) answers) says
+
+one_plan_file : (bytes plan_bytes : List ℕ) (s u : Status) (t v : List ℕ)
+    → AfterTask bytes (λ task. AfterPlan plan_bytes (AnswersPlan task)) s t
+    → AfterTask bytes (λ task. AfterPlan plan_bytes (AnswersPlan task)) u v → AreOne s u t v
+one_plan_file bytes plan_bytes =
+    let answer = plan_in (pieces_of plan_limits plan_bytes) in
+    one_after_task bytes (λ task. AfterPlan plan_bytes (AnswersPlan task)) AreOne are_one
+    (λ task _. one_after (λ list. answer ≡ Ok list) (λ fault. answer ≡ Err fault) plan_fault_text
+    (AnswersPlan task) AreOne (one_value_of answer) (value_or_fault_of answer)
+    (one_fault_of answer) are_one (λ list _. one_list_answer task list))
 
 -- where one text is had in any case
 in_any_case : (s u : Status) (t v : List ℕ) (A : Type 0) → (s ≡ u) × AreOneText t v
@@ -326,3 +370,9 @@ one_answer covered (Some (J.Replay task log)) held s u t v x y = one_replay_answ
     held s u t v x y
 one_answer covered (Some (J.Sample rooms)) held s u t v x y =
     (x.0 ∙ sym y.0, λ _. inl (x.1 ∙ sym y.1))
+one_answer covered (Some (J.Sas file)) held s u t v x y =
+    in_any_case s u t v _ (one_sas_answer (bytes_of held file) s u t v x y)
+one_answer covered (Some (J.Bound task most)) held s u t v x y =
+    in_any_case s u t v _ (one_bound_answer most (bytes_of held task) s u t v x y)
+one_answer covered (Some (J.Plan task plan)) held s u t v x y =
+    in_any_case s u t v _ (one_plan_file (bytes_of held task) (bytes_of held plan) s u t v x y)

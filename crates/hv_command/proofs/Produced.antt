@@ -8,6 +8,14 @@ use Rattle.hv_bytes.specs.Standard.{most_file_bytes, standard}
 use Rattle.hv_task.specs.Plan.{IsUnsolvable}
 use Rattle.hv_task.specs.Strips.{Strips, IsTask, atoms, start_state}
 use Rattle.hv_task_text.proofs.OneAnswer.{one_task}
+use Rattle.hv_task_text.specs.TaskText.{TaskText}
+use Rattle.hv_bound.specs.Bounded.{bounded_task}
+use Rattle.hv_fronts.proofs.BoundTexts.{read_back}
+use Rattle.hv_fronts.proofs.SasTexts.{sas_read_back}
+use Rattle.hv_sas.specs.Answer.{sas_in}
+use Rattle.hv_sas.specs.Made.{strips_of}
+use Rattle.hv_sas.specs.declared.task.Sas.{Sas}
+use Rattle.hv_command.proofs.Computed.{one_value_of}
 use Rattle.hv_lines.specs.Drafts.{DraftState, IsGoodTable, draft_setting}
 use Rattle.hv_lines.specs.Judged.{Concludes, JudgedBytes, Unsolvable}
 use Rattle.hv_lines.specs.Spelling.{proof_text}
@@ -32,7 +40,7 @@ use Rattle.hv_command.specs.declared.job.Kind.{Kind}
 use Rattle.hv_command.specs.declared.job.Kind.TheVariants as K
 use Rattle.hv_command.specs.declared.status.Status.{Status}
 use Rattle.hv_command.specs.declared.status.Status.TheVariants as S
-use Rattle.hv_command.proofs.TaskTexts.{is_task}
+use Rattle.hv_task_text.proofs.TaskTexts.{is_task}
 
 module _ (task : Strips) (is : IsTask task) where
   good_proof : (kind : Kind) (lines : List Line) → (HasTooMany kind task → ⊥) → Excludes kind task
@@ -180,6 +188,27 @@ accepted covered (Some (J.Replay name log_name)) held status text
     (one_task (pieces_of standard (bytes_of held name)) other task other_text is_text)
     (judged_replay (covered other) other log status text answers done small)
 accepted covered (Some (J.Sample rooms)) held status text answers = tt
+accepted covered (Some (J.Sas name)) held status text (inl (fault, first, bad, said)) =
+    λ done small sas read. absurd (cc)
+accepted covered (Some (J.Sas name)) held status text (inr (other, other_read, (is_done, said))) =
+    λ done small sas read.
+    subst (λ (x : Sas). TaskText standard text (strips_of x))
+    (one_value_of (sas_in (pieces_of standard (bytes_of held name))) other sas other_read read)
+    (sas_read_back (bytes_of held name) text other
+    (record { read = other_read; written = said; short = small }))
+accepted covered (Some (J.Bound name most)) held status text (inl (fault, first, bad, said)) =
+    λ done small task is_text. absurd (cc)
+accepted covered (Some (J.Bound name most)) held status text
+    (inr (other, other_text, inl (large, refused, said))) =
+    λ done small task is_text. absurd (cc)
+accepted covered (Some (J.Bound name most)) held status text
+    (inr (other, other_text, inr (fits, is_done, said))) =
+    λ done small task is_text.
+    subst (λ (t : Strips). TaskText standard text (bounded_task t most))
+    (one_task (pieces_of standard (bytes_of held name)) other task other_text is_text)
+    (read_back (bytes_of held name) text other most
+    (record { read = other_text; fits = fits; written = said; short = small }))
+accepted covered (Some (J.Plan task plan)) held status text answers = tt
 
 pub accepted_told : (covered : Covered) (job : Option Job) (held : Option Names) (status : Status)
     (text : List ℕ)

@@ -21,7 +21,7 @@ use Rattle.hv_command.specs.declared.job.Kind.{Kind}
 use Rattle.hv_command.specs.declared.job.Report.{Report}
 use Rattle.hv_command.specs.declared.job.Report.TheVariants as P
 use Rattle.hv_command.proofs.Produced.{answer_unsolvable, replay_unsolvable}
-use Rattle.hv_command.proofs.TaskTexts.{is_task}
+use Rattle.hv_task_text.proofs.TaskTexts.{is_task}
 use Rattle.hv_command.specs.declared.status.Status.{Status}
 use Rattle.hv_command.specs.declared.status.Status.TheVariants as S
 
@@ -109,3 +109,6 @@ sound_told covered (Some (J.Produce kind task)) (Some held) status text answers 
 sound_told covered (Some (J.Replay task log)) (Some held) status text answers =
     sound_replay covered task log held status text answers
 sound_told covered (Some (J.Sample rooms)) (Some held) status text answers = tt
+sound_told covered (Some (J.Sas file)) (Some held) status text answers = tt
+sound_told covered (Some (J.Bound task most)) (Some held) status text answers = tt
+sound_told covered (Some (J.Plan task plan)) (Some held) status text answers = tt

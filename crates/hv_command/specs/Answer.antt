@@ -1,6 +1,6 @@
 -- What the program answers to a job, by the bytes of the files that it reads.
-use Rattle.std.specs.Prelude.{◌≡◌, ◌<◌, ◌≤◌, ◌⊎◌, ◌++◌, ℕ, List, Option, Some, None, length}
-use Rattle.std.specs.Prelude.{reverse}
+use Rattle.std.specs.Prelude.{◌≡◌, ◌<◌, ◌≤◌, ◌⊎◌, ◌++◌, ℕ, List, Option, Some, None, Ok}
+use Rattle.std.specs.Prelude.{Err, length, reverse}
 use Rattle.hv_bytes.specs.Files.{Names, bytes_of}
 use Rattle.hv_bytes.specs.Pieces.{pieces_of}
 use Rattle.hv_bytes.specs.Standard.{most_file_bytes, standard}
@@ -26,9 +26,18 @@ use Rattle.hv_replay.specs.Progress.{IsProof as IsLogProof}
 use Rattle.hv_replay.specs.declared.hole.ReplayFault.{ReplayFault}
 use Rattle.hv_trap.specs.Trap.{IsSatisfied}
 use Rattle.hv_trap.specs.Written.{IsTrapProof}
+use Rattle.hv_task_text.specs.Canonical.{canonical_of}
+use Rattle.hv_sas.specs.Answer.{sas_in}
+use Rattle.hv_sas.specs.Made.{strips_of}
+use Rattle.hv_sas.specs.declared.task.Sas.{Sas}
+use Rattle.hv_bound.specs.Bounded.{IsTooLarge, bounded_task}
+use Rattle.hv_bound.specs.PlanAnswers.{IsPlanAnswer}
+use Rattle.hv_bound.specs.PlanFile.{plan_in, plan_limits}
+use Rattle.hv_bound.specs.declared.checking.PlanAnswer.{PlanAnswer}
 use Rattle.hv_command.specs.Replies.{usage_text, hole_text, judgement_status, judgement_text}
 use Rattle.hv_command.specs.Replies.{log_fault_text, no_proof_text, nodes_fault_text}
-use Rattle.hv_command.specs.Replies.{task_fault_text, too_many_atoms_text}
+use Rattle.hv_command.specs.Replies.{plan_fault_text, plan_status, plan_text, sas_fault_text}
+use Rattle.hv_command.specs.Replies.{task_fault_text, too_large_text, too_many_atoms_text}
 use Rattle.hv_command.specs.Sample.{sample_text}
 use Rattle.hv_command.specs.Words.{HasName}
 use Rattle.hv_command.specs.declared.job.Job.{Job}
@@ -163,6 +172,37 @@ AnswersReplay covered task_name log_name held status text =
     AfterTask (bytes_of held task_name)
     (λ task. AfterLog task (bytes_of held log_name) (AnswersLog covered task)) status text
 
+-- the answer after the bytes of a translator's file
+abbrev pub AfterSas : List ℕ → (Sas → Status → List ℕ → Type 0) → Status → List ℕ → Type 0
+AfterSas bytes Answers status text =
+    AfterText (λ sas. sas_in (pieces_of standard bytes) ≡ Ok sas)
+    (λ fault. sas_in (pieces_of standard bytes) ≡ Err fault) sas_fault_text Answers status text
+
+-- the answer to a translator's task: the text of the task that is made of it
+abbrev pub AnswersSas : Sas → Status → List ℕ → Type 0
+AnswersSas sas status text = (status ≡ S.Done) × (text ≡ canonical_of (strips_of sas))
+
+-- the answer to a bound on the cost of a task's plans: the text of the task that has a plan exactly
+-- where this one has a plan within the bound, or that it would be too large
+abbrev pub AnswersBound : ℕ → Strips → Status → List ℕ → Type 0
+AnswersBound most task status text =
+    (IsTooLarge task most × (status ≡ S.Refused) × (text ≡ too_large_text))
+    ⊎ ((IsTooLarge task most → ⊥) × (status ≡ S.Done)
+    × (text ≡ canonical_of (bounded_task task most)))
+
+-- the answer after the bytes of a plan file
+abbrev pub AfterPlan : List ℕ → (List ℕ → Status → List ℕ → Type 0) → Status → List ℕ → Type 0
+AfterPlan bytes Answers status text =
+    AfterText (λ list. plan_in (pieces_of plan_limits bytes) ≡ Ok list)
+    (λ fault. plan_in (pieces_of plan_limits bytes) ≡ Err fault) plan_fault_text Answers status text
+
+-- the answer to a list of action numbers: its cost, where it is a plan of the task, or else its
+-- first step that can't be taken, or that it doesn't end at the goal
+abbrev pub AnswersPlan : Strips → List ℕ → Status → List ℕ → Type 0
+AnswersPlan task list status text =
+    (answer : PlanAnswer) × IsPlanAnswer task list answer
+    × (status ≡ plan_status answer) × (text ≡ plan_text answer)
+
 -- the answer to a job, by what is covered and by the bytes that are held under its names; words
 -- that are no job get the usage line
 abbrev pub Answer : Covered → Option Job → Names → Status → List ℕ → Type 0
@@ -177,6 +217,13 @@ Answer covered (Some (J.Replay task log)) held status text =
     AnswersReplay covered task log held status text
 Answer covered (Some (J.Sample rooms)) held status text =
     (status ≡ S.Done) × (text ≡ sample_text rooms)
+Answer covered (Some (J.Sas file)) held status text =
+    AfterSas (bytes_of held file) AnswersSas status text
+Answer covered (Some (J.Bound task most)) held status text =
+    AfterTask (bytes_of held task) (AnswersBound most) status text
+Answer covered (Some (J.Plan task plan)) held status text =
+    AfterTask (bytes_of held task) (λ given. AfterPlan (bytes_of held plan) (AnswersPlan given))
+    status text
 
 -- The same where the shelf tells its bytes. Otherwise it is the answer of a job that reads no file,
 -- whatever the files hold, and nothing is said of other jobs.
@@ -225,6 +272,9 @@ IsSound (Some (J.Explain task proof nodes budget)) held status =
 IsSound (Some (J.Produce kind task)) held status = IsSoundProof task held status
 IsSound (Some (J.Replay task log)) held status = IsSoundProof task held status
 IsSound (Some (J.Sample rooms)) held status = Unit {0}
+IsSound (Some (J.Sas file)) held status = Unit {0}
+IsSound (Some (J.Bound task most)) held status = Unit {0}
+IsSound (Some (J.Plan task plan)) held status = Unit {0}
 
 -- the same where the shelf tells its bytes
 abbrev pub IsSoundTold : Option Job → Option Names → Status → Type 0
@@ -238,8 +288,21 @@ IsAcceptedProof task_name held text =
     (task : Strips) → TaskText standard (bytes_of held task_name) task
     → JudgedBytes (draft_setting task) standard text Unsolvable
 
--- a proof that is written is judged so; one that replays a log, where it has no more bytes than a
--- file may have; nothing is said of other jobs
+-- the text is that of the task which a cost bound makes of the task of this file
+abbrev pub IsBoundReadBack : ℕ → List ℕ → Names → List ℕ → Type 0
+IsBoundReadBack most task_name held text =
+    (task : Strips) → TaskText standard (bytes_of held task_name) task
+    → TaskText standard text (bounded_task task most)
+
+-- the text is that of the task which is made of the translator's task of this file
+abbrev pub IsSasReadBack : List ℕ → Names → List ℕ → Type 0
+IsSasReadBack name held text =
+    (sas : Sas) → sas_in (pieces_of standard (bytes_of held name)) ≡ Ok sas
+    → TaskText standard text (strips_of sas)
+
+-- What the program reads in what it wrote. A proof is judged so; one that replays a log, where it
+-- has no more bytes than a file may have. Then a task text, too, is read as the task that was made:
+-- of a translator's file, or with a cost bound. Nothing is said of other jobs.
 abbrev pub IsAccepted : Option Job → Names → Status → List ℕ → Type 0
 IsAccepted None held status text = Unit {0}
 IsAccepted (Some (J.Check task proof nodes budget)) held status text = Unit {0}
@@ -249,6 +312,11 @@ IsAccepted (Some (J.Produce kind task)) held status text =
 IsAccepted (Some (J.Replay task log)) held status text =
     status ≡ S.Done → length text ≤ most_file_bytes → IsAcceptedProof task held text
 IsAccepted (Some (J.Sample rooms)) held status text = Unit {0}
+IsAccepted (Some (J.Sas file)) held status text =
+    status ≡ S.Done → length text ≤ most_file_bytes → IsSasReadBack file held text
+IsAccepted (Some (J.Bound task most)) held status text =
+    status ≡ S.Done → length text ≤ most_file_bytes → IsBoundReadBack most task held text
+IsAccepted (Some (J.Plan task plan)) held status text = Unit {0}
 
 -- the same where the shelf tells its bytes
 abbrev pub IsAcceptedTold : Option Job → Option Names → Status → List ℕ → Type 0

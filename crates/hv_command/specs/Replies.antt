@@ -18,6 +18,14 @@ use Rattle.hv_replay.specs.declared.fault.LogFault.TheVariants as L
 use Rattle.hv_replay.specs.declared.hole.ReplayFault.{ReplayFault}
 use Rattle.hv_replay.specs.declared.hole.ReplayFault.TheVariants as H
 use Rattle.hv_replay.specs.Words.{limit_word as log_limit_word}
+use Rattle.hv_sas.specs.declared.fault.SasFault.{SasFault}
+use Rattle.hv_sas.specs.declared.fault.SasFault.TheVariants as A
+use Rattle.hv_sas.specs.Words.{kind_word as sas_kind_word, limit_word as sas_limit_word}
+use Rattle.hv_sas.specs.Words.{which_word}
+use Rattle.hv_bound.specs.declared.fault.PlanFault.{PlanFault}
+use Rattle.hv_bound.specs.declared.fault.PlanFault.TheVariants as B
+use Rattle.hv_bound.specs.declared.checking.PlanAnswer.{PlanAnswer}
+use Rattle.hv_bound.specs.declared.checking.PlanAnswer.TheVariants as W
 use Rattle.hv_command.specs.declared.status.Status.{Status}
 use Rattle.hv_command.specs.declared.status.Status.TheVariants as S
 
@@ -144,6 +152,43 @@ hole_text (H.Open line action) =
 hole_text (H.Unjustified line) =
     line_of (codes "log line " ++ decimal line ++ codes ": unjustified")
 hole_text H.Memory = []
+
+-- the first fault of the translator's file
+abbrev pub sas_fault_text : SasFault → List ℕ
+sas_fault_text (A.Place line kind) =
+    line_of (codes "sas line " ++ decimal line ++ codes ": place " ++ sas_kind_word kind)
+sas_fault_text (A.Unsupported line which) =
+    line_of (codes "sas line " ++ decimal line ++ codes ": unsupported " ++ which_word which)
+sas_fault_text (A.Limit line limit) =
+    line_of (codes "sas line " ++ decimal line ++ codes ": limit " ++ sas_limit_word limit)
+sas_fault_text A.ReadFault = []
+sas_fault_text A.Memory = []
+
+-- the task with the bound would have too many atoms or actions
+abbrev pub too_large_text : List ℕ
+too_large_text = line_of (codes "too large")
+
+-- the first fault of the plan file
+abbrev pub plan_fault_text : PlanFault → List ℕ
+plan_fault_text (B.Place line) = line_of (codes "plan line " ++ decimal line ++ codes ": place")
+plan_fault_text (B.Limit line) = line_of (codes "plan line " ++ decimal line ++ codes ": limit")
+plan_fault_text B.ReadFault = []
+plan_fault_text B.Memory = []
+
+-- the status of what a list of action numbers is
+abbrev pub plan_status : PlanAnswer → Status
+plan_status (W.Cost cost) = S.Done
+plan_status (W.Unknown step) = S.Refused
+plan_status (W.NotApplicable step) = S.Refused
+plan_status W.NoGoal = S.Refused
+
+-- the text of what a list of action numbers is
+abbrev pub plan_text : PlanAnswer → List ℕ
+plan_text (W.Cost cost) = line_of (codes "plan cost " ++ decimal cost)
+plan_text (W.Unknown step) = line_of (codes "step " ++ decimal step ++ codes ": unknown")
+plan_text (W.NotApplicable step) =
+    line_of (codes "step " ++ decimal step ++ codes ": not applicable")
+plan_text W.NoGoal = line_of (codes "no goal")
 
 -- two texts are one, but for which state a counterexample names
 abbrev pub AreOneText : List ℕ → List ℕ → Type 0

@@ -91,6 +91,28 @@ abbrev pub sample_of : List (List ℕ) → Option Job
 sample_of words =
     option_and_then (λ word. sample_with (number_of 3 most_rooms word)) (one_text words)
 
+-- the task of a translator's file: `FILE`
+abbrev pub sas_of : List (List ℕ) → Option Job
+sas_of words = option_map (λ file. J.Sas file) (one_text words)
+
+-- the greatest bound on the cost of a plan
+abbrev pub most_bound : ℕ
+most_bound = 65534
+
+-- a bound on the cost of the task's plans, where there is such a number
+abbrev pub bound_with : List ℕ → Option ℕ → Option Job
+bound_with task None = None
+bound_with task (Some most) = Some (J.Bound task most)
+
+-- a bound: `TASK`, and a decimal of at most 65,534
+abbrev pub cost_bound_of : List (List ℕ) → Option Job
+cost_bound_of words =
+    option_and_then (λ pair. bound_with pair.0 (number_of 0 most_bound pair.1)) (two_texts words)
+
+-- a plan: `TASK PLAN`
+abbrev pub plan_of : List (List ℕ) → Option Job
+plan_of words = option_map (λ pair. J.Plan pair.0 pair.1) (two_texts words)
+
 -- the words are a command and what it takes
 abbrev pub job_of : List (List ℕ) → Option Job
 job_of [] = None
@@ -99,7 +121,10 @@ job_of (command ∷ words) =
     (cond (bytes_eq command (codes "explain")) (check_of P.Explanation words)
     (cond (bytes_eq command (codes "produce")) (produce_of words)
     (cond (bytes_eq command (codes "replay")) (replay_of words)
-    (cond (bytes_eq command (codes "sample")) (sample_of words) None))))
+    (cond (bytes_eq command (codes "sample")) (sample_of words)
+    (cond (bytes_eq command (codes "sas")) (sas_of words)
+    (cond (bytes_eq command (codes "bound")) (cost_bound_of words)
+    (cond (bytes_eq command (codes "plan")) (plan_of words) None)))))))
 
 -- the job may read the file of this name
 abbrev pub HasName : Option Job → List ℕ → Type 0
@@ -111,6 +136,9 @@ HasName (Some (J.Explain task proof nodes budget)) name =
 HasName (Some (J.Produce kind task)) name = name ≡ task
 HasName (Some (J.Replay task log)) name = (name ≡ task) ⊎ (name ≡ log)
 HasName (Some (J.Sample rooms)) name = ⊥
+HasName (Some (J.Sas file)) name = name ≡ file
+HasName (Some (J.Bound task most)) name = name ≡ task
+HasName (Some (J.Plan task plan)) name = (name ≡ task) ⊎ (name ≡ plan)
 
 -- a query may cost so much
 abbrev pub IsBudget : ℕ → Type 0
@@ -123,3 +151,6 @@ IsBounded (J.Explain task proof nodes budget) = IsBudget budget
 IsBounded (J.Produce kind task) = Unit {0}
 IsBounded (J.Replay task log) = Unit {0}
 IsBounded (J.Sample rooms) = IsRooms rooms
+IsBounded (J.Sas file) = Unit {0}
+IsBounded (J.Bound task most) = most ≤ most_bound
+IsBounded (J.Plan task plan) = Unit {0}

@@ -21,7 +21,7 @@ ghost use Rattle.hv_command.specs.declared.status.Status.TheVariants as S;
 use crate::feeding::feed_file;
 use crate::job::{FileName, Report};
 use crate::job_fault::JobFault;
-use crate::reply::{Reply, fixed, misplaced, misplaced_node, passed, passed_by_nodes, refusal};
+use crate::reply::{Reply, fixed, refusal, text_fault};
 use crate::status::Status;
 use crate::task_fault::fault_reply;
 use hv_bdd::{Diagrams, NodesFault, read_nodes};
@@ -78,11 +78,11 @@ fn nodes_fault_reply(alloc: Global, fault: NodesFault) -> Result<Reply, JobFault
 {
     match fault {
         NodesFault::Place(line, kind) => {
-            let answer = misplaced_node(alloc, line, kind)?;
+            let answer = text_fault(alloc, b"nodes line ", line, b": place ", kind.word())?;
             Ok(answer)
         }
         NodesFault::Limit(line, limit) => {
-            let answer = passed_by_nodes(alloc, line, limit)?;
+            let answer = text_fault(alloc, b"nodes line ", line, b": limit ", limit.word())?;
             Ok(answer)
         }
         NodesFault::ReadFault => Err(JobFault::ReadFault),

@@ -3,10 +3,11 @@
 ghost use Rattle.std.specs.Prelude.{◌≡◌, ◌≤◌, ◌<◌, ◌^◌, ◌↔◌, IfOk, IfSome, IsTrue, Some, map};
 ghost use Rattle.std.specs.Prelude.{option_map};
 ghost use Rattle.std.specs.String.{string_bytes};
-ghost use Rattle.hv_command.specs.Words.{IsBounded, IsBudget, IsRooms, IsBetween, budget_of};
-ghost use Rattle.hv_command.specs.Words.{check_of, check_with, checking, given_budget, job_of};
-ghost use Rattle.hv_command.specs.Words.{kind_of, number_of, produce_of, produce_with, replay_of};
-ghost use Rattle.hv_command.specs.Words.{sample_of, sample_with};
+ghost use Rattle.hv_command.specs.Words.{IsBounded, IsBudget, IsRooms, IsBetween, cost_bound_of};
+ghost use Rattle.hv_command.specs.Words.{bound_with, budget_of, check_of, check_with, checking};
+ghost use Rattle.hv_command.specs.Words.{given_budget, job_of, kind_of, most_bound, number_of};
+ghost use Rattle.hv_command.specs.Words.{plan_of, produce_of, produce_with, replay_of, sample_of};
+ghost use Rattle.hv_command.specs.Words.{sample_with, sas_of};
 ghost use Rattle.hv_bytes.specs.Decimals.{IsDecimal};
 ghost use Rattle.hv_words.specs.Forms.{texts_of};
 
@@ -58,6 +59,9 @@ const MOST_BUDGET: u64 = 16_777_216;
 /// The greatest number of rooms of a sample.
 const MOST_ROOMS: u64 = 64;
 
+/// The greatest bound on the cost of a plan.
+const MOST_BOUND: u64 = 65_534;
+
 /// What the program is asked to do.
 #[derive(Drop)]
 pub enum Job {
@@ -92,6 +96,22 @@ pub enum Job {
     /// `sample N`: the task of so many rooms, from 3 to 64, and what is told of its two proofs.
     Sample {
         rooms: u32,
+    },
+    /// `sas FILE`: the task that is made of a translator's task.
+    Sas {
+        file: FileName,
+    },
+    /// `bound TASK K`: a task that has a plan exactly where the given one has a plan that costs at
+    /// most so much, from 0 to 65,534.
+    Bound {
+        task: FileName,
+        most: u32,
+    },
+    /// `plan TASK PLAN`: whether the list of action numbers is a plan of the task, and what it
+    /// costs.
+    Plan {
+        task: FileName,
+        plan: FileName,
     },
 }
 
@@ -136,6 +156,12 @@ pub fn read_job(alloc: Global, words: &Words) -> Result<Option<Job>, AllocError>
                 replay_job(alloc, command, others)
             } else if command == "sample" {
                 sample_job(alloc, command, others)
+            } else if command == "sas" {
+                sas_job(alloc, command, others)
+            } else if command == "bound" {
+                bound_job(alloc, command, others)
+            } else if command == "plan" {
+                plan_job(alloc, command, others)
             } else {
                 Ok(None)
             }
@@ -229,6 +255,74 @@ fn sample_with(rooms: Option<u64>) -> Option<Job>
 {
     let rooms = rooms? as u32;
     Some(Job::Sample { rooms })
+}
+
+// The translator's file that the words after the command name.
+fn sas_job<'a>(
+    alloc: Global,
+    command: &'a str,
+    words: &'a [String],
+) -> Result<Option<Job>, AllocError>
+    ensures job { IfOk result (λ job. job ≡ sas_of (map string_bytes words.entry.now)) }
+    ensures bounded { IfOk result (λ job. IfSome job IsBounded) }
+{
+    match read_one(alloc, command, words)? {
+        Some(file) => Ok(Some(Job::Sas {
+            file: FileName::new(alloc, file)?,
+        })),
+        None => Ok(None),
+    }
+}
+
+// The bound that the words after the command ask for.
+fn bound_job<'a>(
+    alloc: Global,
+    command: &'a str,
+    words: &'a [String],
+) -> Result<Option<Job>, AllocError>
+    ensures job { IfOk result (λ job. job ≡ cost_bound_of (map string_bytes words.entry.now)) }
+    ensures bounded { IfOk result (λ job. IfSome job IsBounded) }
+{
+    match read_two(alloc, command, words)? {
+        Some((task, most)) => bound_with(alloc, task, read_number(most, 0, MOST_BOUND)),
+        None => Ok(None),
+    }
+}
+
+// The bound of the plans of this task, where there is such a number.
+fn bound_with(alloc: Global, task: &str, most: Option<u64>) -> Result<Option<Job>, AllocError>
+    requires { IfSome most (λ number. number ≤ most_bound) }
+    ensures job { IfOk result (λ job. job ≡ bound_with task.now most) }
+    ensures bounded { IfOk result (λ job. IfSome job IsBounded) }
+{
+    match most {
+        Some(most) => {
+            let most = most as u32;
+            Ok(Some(Job::Bound {
+                task: FileName::new(alloc, task)?,
+                most,
+            }))
+        }
+        None => Ok(None),
+    }
+}
+
+// The plan that the words after the command name.
+fn plan_job<'a>(
+    alloc: Global,
+    command: &'a str,
+    words: &'a [String],
+) -> Result<Option<Job>, AllocError>
+    ensures job { IfOk result (λ job. job ≡ plan_of (map string_bytes words.entry.now)) }
+    ensures bounded { IfOk result (λ job. IfSome job IsBounded) }
+{
+    match read_two(alloc, command, words)? {
+        Some((task, plan)) => Ok(Some(Job::Plan {
+            task: FileName::new(alloc, task)?,
+            plan: FileName::new(alloc, plan)?,
+        })),
+        None => Ok(None),
+    }
 }
 
 // The check that the words after the command ask for.

@@ -23,7 +23,8 @@ pub fn one_answer(pruners: &[Box<dyn Pruner>])
 }
 
 /// Does nothing: its contract states that a proof which is the answer to a job is judged to show
-/// that the task has no plan.
+/// that the task has no plan, and that a task text which is the answer is read as the task that was
+/// made.
 pub fn accepted(pruners: &[Box<dyn Pruner>])
     ensures { (job : Option JobOf) (held : Names) (status : StatusOf) (text : List ℕ)
         → Answer (λ task state. Any (λ b. covers b task state) pruners.now) job held status text

@@ -1,11 +1,13 @@
 //! The whole product as one call.
 #![tactic(auto)]
 
+mod bounding;
 mod checking;
 mod feeding;
 pub mod job;
 mod job_fault;
 pub mod laws;
+mod planning;
 mod producing;
 mod replaying;
 mod reply;
@@ -14,6 +16,7 @@ mod sampling;
 pub mod status;
 mod task_fault;
 pub mod top;
+mod translating;
 pub mod words;
 
 pub use job::{FileName, Job, Kind, read_job};

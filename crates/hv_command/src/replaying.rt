@@ -1,6 +1,6 @@
 //! The job `replay`: the log of a search becomes a proof that a task has no plan.
 
-ghost use Rattle.std.specs.Prelude.{◌≡◌, ◌≤◌, ◌++◌, codes, decimal, IfOk, IfSome, IsErrOf, IsTrue};
+ghost use Rattle.std.specs.Prelude.{◌≡◌, ◌≤◌, IfOk, IfSome, IsErrOf, IsTrue};
 ghost use Rattle.std.specs.Prelude.{MatchResult};
 ghost use Rattle.std.specs.List.{Any};
 ghost use Rattle.hv_bytes.specs.Devices.{Rose};
@@ -9,7 +9,7 @@ ghost use Rattle.hv_task.specs.Strips.{atoms};
 ghost use Rattle.hv_replay.specs.declared.fault.LogFault.TheVariants as L;
 ghost use Rattle.hv_replay.specs.declared.hole.ReplayFault.TheVariants as H;
 ghost use Rattle.hv_command.specs.Answer.{AfterLog, AnswersLog, AnswersReplay};
-ghost use Rattle.hv_command.specs.Replies.{hole_text, line_of};
+ghost use Rattle.hv_command.specs.Replies.{hole_text};
 ghost use Rattle.hv_command.specs.Working.Replies.{IsJobStatus, IsLogFault};
 ghost use Rattle.hv_command.specs.Replies.{log_fault_text};
 ghost use Rattle.hv_command.specs.Working.Reply.{IsReply};
@@ -18,7 +18,7 @@ ghost use Rattle.hv_command.specs.declared.status.Status.TheVariants as S;
 use crate::job::FileName;
 use crate::job_fault::JobFault;
 use crate::producing::written;
-use crate::reply::{Reply, fixed, text_fault};
+use crate::reply::{Reply, fixed, numbered, text_fault};
 use crate::status::Status;
 use crate::task_fault::fault_reply;
 use hv_bytes::{Limits, Shelf, Text};
@@ -128,7 +128,13 @@ fn hole_reply(alloc: Global, hole: ReplayFault) -> Result<Reply, AllocError>
             Ok(answer)
         }
         ReplayFault::GoalExpanded(line) => {
-            let answer = line_reply(alloc, Status::Refused, line, b": goal expanded")?;
+            let answer = numbered(
+                alloc,
+                Status::Refused,
+                b"log line ",
+                line,
+                b": goal expanded",
+            )?;
             Ok(answer)
         }
         ReplayFault::Open(line, action) => {
@@ -136,7 +142,7 @@ fn hole_reply(alloc: Global, hole: ReplayFault) -> Result<Reply, AllocError>
             Ok(answer)
         }
         ReplayFault::Unjustified(line) => {
-            let answer = line_reply(alloc, Status::Refused, line, b": unjustified")?;
+            let answer = numbered(alloc, Status::Refused, b"log line ", line, b": unjustified")?;
             Ok(answer)
         }
         ReplayFault::Memory => Err(AllocError),
@@ -151,7 +157,7 @@ fn log_fault_reply(alloc: Global, fault: LogFault) -> Result<Reply, JobFault>
 {
     match fault {
         LogFault::Place(line) => {
-            let answer = line_reply(alloc, Status::BadInput, line, b": place")?;
+            let answer = numbered(alloc, Status::BadInput, b"log line ", line, b": place")?;
             Ok(answer)
         }
         LogFault::Limit(line, limit) => {
@@ -161,19 +167,6 @@ fn log_fault_reply(alloc: Global, fault: LogFault) -> Result<Reply, JobFault>
         LogFault::ReadFault => Err(JobFault::ReadFault),
         LogFault::Memory => Err(JobFault::Memory),
     }
-}
-
-// `log line L`, and what is said of this line.
-fn line_reply(alloc: Global, status: Status, line: u64, what: &[u8]) -> Result<Reply, AllocError>
-    ensures { IfOk result (λ r. IsReply r status
-        (line_of (codes "log line " ++ decimal line ++ what.now))) }
-{
-    let mut text = Text::new(alloc);
-    text.push_bytes(b"log line ")?;
-    text.push_number(line)?;
-    text.push_bytes(what)?;
-    text.push_bytes(b"\n")?;
-    Ok(Reply { status, text })
 }
 
 // `log line L: open action A`

@@ -2,20 +2,18 @@
 
 ghost use Rattle.std.specs.Prelude.{◌≡◌, ◌<◌, ◌++◌, codes, decimal, flat_map, length, IfOk, OnOk};
 ghost use Rattle.std.specs.List.{range_with_len};
-ghost use Rattle.hv_command.specs.Replies.{action_text, atom_text, line_of, nodes_fault_text};
-ghost use Rattle.hv_command.specs.Replies.{reason_text, refused_text, state_text, task_fault_text};
+ghost use Rattle.hv_task_text.specs.Canonical.{canonical_of};
+ghost use Rattle.hv_command.specs.Replies.{action_text, atom_text, line_of};
+ghost use Rattle.hv_command.specs.Replies.{reason_text, refused_text, state_text};
 ghost use Rattle.hv_command.specs.Working.Reply.{IsReply};
-ghost use Rattle.hv_bdd.specs.declared.fault.NodesFault.TheVariants as N;
-ghost use Rattle.hv_task_text.specs.declared.fault.TaskFault.TheVariants as F;
 ghost use Rattle.hv_command.specs.declared.status.Status.TheVariants as S;
 ghost use Rattle.hv_lines.specs.declared.reason.Reason.TheVariants as R;
 
 use crate::status::Status;
-use hv_bdd::{NodeKind, NodeLimit};
 use hv_bytes::Text;
 use hv_lines::{Clash, Reason};
-use hv_task::State;
-use hv_task_text::{TaskKind, TaskLimit};
+use hv_task::{State, Task};
+use hv_task_text::write_task;
 use std::alloc::{AllocError, Global};
 
 /// A text to be printed, and the status that goes with it.
@@ -148,38 +146,32 @@ pub(crate) fn text_fault(
     })
 }
 
-/// `task line L: place KIND`
-pub(crate) fn misplaced(alloc: Global, line: u64, kind: TaskKind) -> Result<Reply, AllocError>
-    ensures { IfOk result (λ r. IsReply r S.BadInput (task_fault_text (F.Place line kind))) }
-{
-    let answer = text_fault(alloc, b"task line ", line, b": place ", kind.word())?;
-    Ok(answer)
-}
-
-/// `task line L: limit WHICH`
-pub(crate) fn passed(alloc: Global, line: u64, limit: TaskLimit) -> Result<Reply, AllocError>
-    ensures { IfOk result (λ r. IsReply r S.BadInput (task_fault_text (F.Limit line limit))) }
-{
-    let answer = text_fault(alloc, b"task line ", line, b": limit ", limit.word())?;
-    Ok(answer)
-}
-
-/// `nodes line L: place KIND`
-pub(crate) fn misplaced_node(alloc: Global, line: u64, kind: NodeKind) -> Result<Reply, AllocError>
-    ensures { IfOk result (λ r. IsReply r S.BadInput (nodes_fault_text (N.Place line kind))) }
-{
-    let answer = text_fault(alloc, b"nodes line ", line, b": place ", kind.word())?;
-    Ok(answer)
-}
-
-/// `nodes line L: limit WHICH`
-pub(crate) fn passed_by_nodes(
+/// A reply of one line with a number in it.
+pub(crate) fn numbered(
     alloc: Global,
-    line: u64,
-    limit: NodeLimit,
+    status: Status,
+    before: &[u8],
+    number: u64,
+    after: &[u8],
 ) -> Result<Reply, AllocError>
-    ensures { IfOk result (λ r. IsReply r S.BadInput (nodes_fault_text (N.Limit line limit))) }
+    ensures { IfOk result (λ r. IsReply r status
+        (line_of (before.now ++ decimal number ++ after.now))) }
 {
-    let answer = text_fault(alloc, b"nodes line ", line, b": limit ", limit.word())?;
-    Ok(answer)
+    let mut text = Text::new(alloc);
+    text.push_bytes(before)?;
+    text.push_number(number)?;
+    text.push_bytes(after)?;
+    text.push_bytes(b"\n")?;
+    Ok(Reply { status, text })
+}
+
+/// The canonical text of a task.
+pub(crate) fn task_reply(alloc: Global, task: &Task) -> Result<Reply, AllocError>
+    ensures { IfOk result (λ r. IsReply r S.Done (canonical_of task.now)) }
+{
+    let text = write_task(alloc, task)?;
+    Ok(Reply {
+        status: Status::Done,
+        text,
+    })
 }

@@ -12,7 +12,8 @@ pub enum Status {
     Refused,
     /// The words are no job.
     Usage,
-    /// The task text, the node file or the log isn't in its grammar, or passes a limit.
+    /// The task text, the node file, the log, the translator's file or the plan file isn't in its
+    /// grammar, or passes a limit.
     BadInput,
     /// A file can't be opened or read.
     ReadFault,

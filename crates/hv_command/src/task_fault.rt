@@ -8,7 +8,7 @@ ghost use Rattle.hv_command.specs.Working.Reply.{IsReply};
 ghost use Rattle.hv_command.specs.declared.status.Status.TheVariants as S;
 
 use crate::job_fault::JobFault;
-use crate::reply::{Reply, misplaced, passed};
+use crate::reply::{Reply, text_fault};
 use hv_task_text::TaskFault;
 use std::alloc::Global;
 
@@ -20,11 +20,11 @@ pub(crate) fn fault_reply(alloc: Global, fault: TaskFault) -> Result<Reply, JobF
 {
     match fault {
         TaskFault::Place(line, kind) => {
-            let answer = misplaced(alloc, line, kind)?;
+            let answer = text_fault(alloc, b"task line ", line, b": place ", kind.word())?;
             Ok(answer)
         }
         TaskFault::Limit(line, limit) => {
-            let answer = passed(alloc, line, limit)?;
+            let answer = text_fault(alloc, b"task line ", line, b": limit ", limit.word())?;
             Ok(answer)
         }
         TaskFault::ReadFault => Err(JobFault::ReadFault),

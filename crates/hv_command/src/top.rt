@@ -10,14 +10,17 @@ ghost use Rattle.hv_command.specs.Working.Replies.{IsJobStatus};
 ghost use Rattle.hv_command.specs.Words.{HasName, IsBounded, job_of};
 ghost use Rattle.hv_command.specs.declared.status.Status.{Status as StatusOf};
 
+use crate::bounding::bound;
 use crate::checking::check;
 use crate::job::{Job, Report, read_job};
 use crate::job_fault::JobFault;
+use crate::planning::plan_files;
 use crate::producing::produce;
 use crate::replaying::replay_files;
 use crate::reply::{Reply, fixed};
 use crate::sampling::sample;
 use crate::status::Status;
+use crate::translating::translate;
 use crate::words::Words;
 use hv_bytes::{Shelf, Sink, send};
 use hv_lines::Pruner;
@@ -43,7 +46,7 @@ pub fn run<S: Shelf, K: Sink>(
     ensures later_out { K.faults out.old ≤ K.faults out.new }
 
     // the answer of the job, and that it was written; a proof that is written is judged
-    // `unsolvable`
+    // `unsolvable`, and a task that is written is read back
     ensures answer { IsAnswered result → (text : List ℕ)
         × AnswersTold (λ task state. Any (λ b. covers b task state) pruners.items)
         (job_of words.now) (S.held shelf.old) result text
@@ -164,17 +167,14 @@ fn do_job<S: Shelf>(
             )?;
             Ok(reply)
         }
-        Job::Produce { kind, task } => {
-            let reply = produce(alloc, shelf, *kind, task)?;
-            Ok(reply)
-        }
-        Job::Replay { task, log } => {
-            let reply = replay_files(alloc, shelf, task, log, pruners)?;
-            Ok(reply)
-        }
+        Job::Produce { kind, task } => produce(alloc, shelf, *kind, task),
+        Job::Replay { task, log } => replay_files(alloc, shelf, task, log, pruners),
         Job::Sample { rooms } => {
             let reply = sample(alloc, *rooms)?;
             Ok(reply)
         }
+        Job::Sas { file } => translate(alloc, shelf, file),
+        Job::Bound { task, most } => bound(alloc, shelf, task, *most),
+        Job::Plan { task, plan } => plan_files(alloc, shelf, task, plan),
     }
 }

@@ -6,6 +6,8 @@ mod check;
 #[cfg(test)]
 mod explain;
 #[cfg(test)]
+mod fronts;
+#[cfg(test)]
 mod produce;
 #[cfg(test)]
 mod pruners;

@@ -51,6 +51,24 @@ fn with_rooms(alloc: Global, rooms: u32) -> Result<String, AllocError> {
     format!(in alloc; "sample {rooms}")
 }
 
+// The command and the file.
+fn with_file(alloc: Global, file: &FileName) -> Result<String, AllocError> {
+    let file = file.as_str();
+    format!(in alloc; "sas {file}")
+}
+
+// The command, the task and the bound.
+fn with_most(alloc: Global, task: &FileName, most: u32) -> Result<String, AllocError> {
+    let task = task.as_str();
+    format!(in alloc; "bound {task} {most}")
+}
+
+// The command and the two files.
+fn with_plan(alloc: Global, task: &FileName, plan: &FileName) -> Result<String, AllocError> {
+    let (task, plan) = (task.as_str(), plan.as_str());
+    format!(in alloc; "plan {task} {plan}")
+}
+
 // The job as text: the command, and then what the job has, field by field.
 fn told_of(alloc: Global, job: &Job) -> Result<String, AllocError> {
     match job {
@@ -69,6 +87,9 @@ fn told_of(alloc: Global, job: &Job) -> Result<String, AllocError> {
         Job::Produce { kind, task } => with_kind(alloc, *kind, task),
         Job::Replay { task, log } => with_log(alloc, task, log),
         Job::Sample { rooms } => with_rooms(alloc, *rooms),
+        Job::Sas { file } => with_file(alloc, file),
+        Job::Bound { task, most } => with_most(alloc, task, *most),
+        Job::Plan { task, plan } => with_plan(alloc, task, plan),
     }
 }
 
@@ -99,7 +120,7 @@ fn names(alloc: Global, text: &str, job: &str) -> Result<bool, AllocError> {
     name_job(alloc, &words, job)
 }
 
-static JOBS: [(&str, &str); 15] = [
+static JOBS: [(&str, &str); 19] = [
     ("check t p", "check t p none 1000000"),
     ("check t p --budget 1", "check t p none 1"),
     ("check t p --budget 16777216", "check t p none 16777216"),
@@ -115,10 +136,14 @@ static JOBS: [(&str, &str); 15] = [
     ("sample 3", "sample 3"),
     ("sample 64", "sample 64"),
     ("check check check", "check check check none 1000000"),
+    ("sas f", "sas f"),
+    ("bound t 0", "bound t 0"),
+    ("bound t 65534", "bound t 65534"),
+    ("plan t p", "plan t p"),
 ];
 
 // Words that are no job.
-static NO_JOBS: [&str; 67] = [
+static NO_JOBS: [&str; 83] = [
     "",
     " ",
     " t p",
@@ -186,6 +211,22 @@ static NO_JOBS: [&str; 67] = [
     "sample 03",
     "sample -3",
     "sample 3 3",
+    "sas",
+    "sas f g",
+    "sas -f",
+    "Sas f",
+    "bound",
+    "bound t",
+    "bound t 65535",
+    "bound t 07",
+    "bound t -1",
+    "bound t +1",
+    "bound t 1 1",
+    "bound 1 t",
+    "plan",
+    "plan t",
+    "plan t -p",
+    "plan t p q",
 ];
 
 // Asserts that each text names its job.

@@ -5,6 +5,10 @@ use Rattle.hv_bdd.specs.declared.fault.NodesFault.{NodesFault}
 use Rattle.hv_bdd.specs.declared.fault.NodesFault.TheVariants as N
 use Rattle.hv_replay.specs.declared.fault.LogFault.{LogFault}
 use Rattle.hv_replay.specs.declared.fault.LogFault.TheVariants as L
+use Rattle.hv_sas.specs.declared.fault.SasFault.{SasFault}
+use Rattle.hv_sas.specs.declared.fault.SasFault.TheVariants as A
+use Rattle.hv_bound.specs.declared.fault.PlanFault.{PlanFault}
+use Rattle.hv_bound.specs.declared.fault.PlanFault.TheVariants as B
 use Rattle.hv_command.specs.declared.status.Status.{Status}
 use Rattle.hv_command.specs.declared.status.Status.TheVariants as S
 
@@ -35,3 +39,18 @@ IsLogFault (L.Place line) = Unit {0}
 IsLogFault (L.Limit line limit) = Unit {0}
 IsLogFault L.ReadFault = ⊥
 IsLogFault L.Memory = ⊥
+
+-- the same of a translator's file
+abbrev pub IsSasFault : SasFault → Type 0
+IsSasFault (A.Place line kind) = Unit {0}
+IsSasFault (A.Unsupported line which) = Unit {0}
+IsSasFault (A.Limit line limit) = Unit {0}
+IsSasFault A.ReadFault = ⊥
+IsSasFault A.Memory = ⊥
+
+-- the same of a plan file
+abbrev pub IsPlanFault : PlanFault → Type 0
+IsPlanFault (B.Place line) = Unit {0}
+IsPlanFault (B.Limit line) = Unit {0}
+IsPlanFault B.ReadFault = ⊥
+IsPlanFault B.Memory = ⊥
