@@ -16,6 +16,9 @@ PAGE = os.path.join(TOP, "bench", "README.md")
 NO_CONCLUSION = (1, b"no conclusion\n")
 UNSOLVABLE = (0, b"unsolvable\n")
 ENDED = (-signal.SIGXCPU, -signal.SIGKILL)
+# the columns of a table of jobs, and those of a second program
+JOBS = ["input", "job", "size", "bytes read", "user, s", "with system, s", "growth", "MB"]
+AGAINST = ["other: user, s", "with system, s", "growth", "MB", "ratio"]
 
 # user time and user and system time in seconds, or None where a run was ended, and memory in MB
 Result = collections.namedtuple("Result", "user seconds memory")
@@ -97,6 +100,40 @@ class Bench:
         if (status, got) != wanted:
             self.faults.append("%s: %s ended with %d: %r" % (title, command[0], status, got[:80]))
         return min(one, before, key=lambda result: result.seconds)._replace(memory=memory)
+
+    def jobs(self, name, rows):
+        """Prints a table of jobs, and ends. A row has a title, what its size counts, and a function
+        that writes its files for a percentage: it gives the size, and a list of jobs, their words
+        and what they have to answer."""
+        lines = head_of(JOBS + AGAINST * (len(self.programs) - 1))
+        print("\n".join(lines), flush=True)
+        for row in rows:
+            if self.asked.only in row[0]:
+                for line in self.lines_of(*row):
+                    print(line, flush=True)
+                    lines.append(line)
+        self.end(name, lines)
+
+    def lines_of(self, title, unit, make):
+        """The lines of a row: of each size one for each job."""
+        before = {}
+        for percent in self.sizes:
+            with self.folder("%s %d" % (title, percent)) as folder:
+                size, jobs = make(folder, percent)
+                for job, words, wanted in jobs:
+                    count = bytes_of(words)
+                    cells = [title, job, "{:,} {}".format(size, unit), "{:,}".format(count)]
+                    results = self.run("%s, %s, %s" % (title, job, size), words, wanted)
+                    for place, one in enumerate(results):
+                        now = (size, one.seconds)
+                        grown = growth(now, before.get((job, place)))
+                        cells += [self.seconds(one.user), self.seconds(one.seconds), grown]
+                        cells.append("%.0f" % one.memory)
+                        before[job, place] = now
+                    if len(results) > 1:
+                        between = ratio(*results)
+                        cells.append("" if between is None else "%.1f" % between)
+                    yield row_of(cells)
 
     def seconds(self, seconds):
         return "over %d" % self.asked.limit if seconds is None else "%.3f" % seconds
