@@ -181,17 +181,13 @@ in_all atoms i m k past within before =
     before
 
 -- the precondition of an action as the calls give it
-pub enabled_by : (task : Strips) (chosen : Option ℕ) (number : ℕ) (action : Action)
-    (pre m k : List ℕ) (r : Bool)
-    → chosen ≡ Some number → slice_get task.actions number ≡ Some action → pre ≡ action.pre
+pub enabled_by : (chosen : Option Action) (action : Action) (pre m k : List ℕ) (r : Bool)
+    → chosen ≡ Some action → pre ≡ action.pre
     → IsConcluded (λ state. has_all pre state ≡ true) (AreMarkedIn pre) m k r
-    → IsConcluded (λ state. may_apply (action_of task chosen) state ≡ true)
-    (IsEnabled (action_of task chosen)) m k r
-enabled_by task chosen number action pre m k r is named pres one =
-    let found : action_of task chosen ≡ Some action = ap (λ c. action_of task c) is ∙ named in
+    → IsConcluded (λ state. may_apply chosen state ≡ true) (IsEnabled chosen) m k r
+enabled_by chosen action pre m k r found pres one =
     conclude_same (λ state. has_all pre state ≡ true)
-    (λ state. may_apply (action_of task chosen) state ≡ true) (AreMarkedIn pre)
-    (IsEnabled (action_of task chosen)) m k r
+    (λ state. may_apply chosen state ≡ true) (AreMarkedIn pre) (IsEnabled chosen) m k r
     (λ state size holds. ap (λ p. has_all p state) pres ∙ sym (ap (λ a. may_apply a state) found)
     ∙ holds)
     (λ marks size done. λ state agrees.

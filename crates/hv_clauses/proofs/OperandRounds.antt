@@ -21,10 +21,11 @@ abbrev pub IsDenied : List ℕ → List Literal → List ℕ → List ℕ → Bo
 IsDenied effect clause = IsConcluded (λ state. in_clause clause (over effect state) ≡ false)
     (AreFalse effect clause)
 
--- the same under another name
-pub denied_same : (effect m k : List ℕ) (r : Bool) (made clause : List Literal) → made ≡ clause
-    → IsDenied effect made m k r → IsDenied effect clause m k r
-denied_same effect m k r made clause is one = subst (λ c. IsDenied effect c m k r) is one
+-- the same under other names
+pub denied_same : (seen effect m k : List ℕ) (r : Bool) (made clause : List Literal)
+    → seen ≡ effect → made ≡ clause → IsDenied seen made m k r → IsDenied effect clause m k r
+denied_same seen effect m k r made clause through is one =
+    subst (λ e. IsDenied e clause m k r) through (subst (λ c. IsDenied seen c m k r) is one)
 
 -- The digits of a number, from the first.
 module _ (task : Strips) (formulas : ℕ → List (List Literal)) where
@@ -103,21 +104,20 @@ module _ (task : Strips) (formulas : ℕ → List (List Literal)) where
           (false_join (take place operands) (get_or operands place d ∷ []) number marks first last)
 
       -- one operand more
-      pub deny_more : (m k n : List ℕ) (r : Bool) (seen : List ℕ) (digit : ℕ)
-          → seen ≡ late effect (get_or operands place d).after
+      pub deny_more : (m k n : List ℕ) (r : Bool) (digit : ℕ)
           → digit ≡ left_after (take place operands) number % length (clauses_here operands place d)
           → AreDenied effect (take place operands) number m k true
-          → IsDenied seen (clause_at (clauses_here operands place d) digit) k n r
+          → IsDenied (late effect (get_or operands place d).after)
+          (clause_at (clauses_here operands place d) digit) k n r
           → AreDenied effect (take (place + 1) operands) number m n r
-      deny_more m k n r seen digit through here one two =
+      deny_more m k n r digit here one two =
           let place_in = left_after (take place operands) number % length
           (clauses_here operands place d) in
           let clause = clause_at (clauses_here operands place d) place_in in
           let effect_here = late effect (get_or operands place d).after in
           let named : IsDenied effect_here clause k n r =
-          subst (λ e. IsDenied e clause k n r) through
-          (subst (λ p. IsDenied seen (clause_at (clauses_here operands place d) p) k n r) here two)
-          in
+          subst (λ p. IsDenied effect_here (clause_at (clauses_here operands place d) p) k n r)
+          here two in
           conclude_then (Breaks task formulas effect (take place operands) number)
           (λ state. in_clause clause (over effect_here state) ≡ false)
           (Breaks task formulas effect (take (place + 1) operands) number)
@@ -133,13 +133,13 @@ module _ (task : Strips) (formulas : ℕ → List (List Literal)) where
           one named
 
       -- a literal of the clause that is chosen of the next operand is known to be true
-      pub deny_broken : (m k n : List ℕ) (seen : List ℕ) (digit : ℕ)
-          → seen ≡ late effect (get_or operands place d).after
+      pub deny_broken : (m k n : List ℕ) (digit : ℕ)
           → digit ≡ left_after (take place operands) number % length (clauses_here operands place d)
           → AreDenied effect (take place operands) number m k true
-          → IsDenied seen (clause_at (clauses_here operands place d) digit) k n false
+          → IsDenied (late effect (get_or operands place d).after)
+          (clause_at (clauses_here operands place d) digit) k n false
           → AreDenied effect operands number m n false
-      deny_broken m k n seen digit through here one two =
+      deny_broken m k n digit here one two =
           conclude_stop (Breaks task formulas effect (take (place + 1) operands) number)
           (Breaks task formulas effect operands number)
           (Breaks task formulas effect operands number)
@@ -150,7 +150,7 @@ module _ (task : Strips) (formulas : ℕ → List (List Literal)) where
           (breaks_parts (take (place + 1) operands) (drop (place + 1) operands) number state
           (subst (λ os. Breaks task formulas effect os number state)
           (sym (take-append-drop (place + 1) operands)) holds)).0)
-          (deny_more m k n false seen digit through here one two)
+          (deny_more m k n false digit here one two)
 
 -- The digits of a number, as a loop over the operands reads them.
 module _ (task : Strips) (formulas : ℕ → List (List Literal)) (operands : List Operand) (place : ℕ)

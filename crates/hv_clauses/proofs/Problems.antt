@@ -14,11 +14,12 @@ use Rattle.hv_sets.specs.Query.{in_which}
 use Rattle.hv_sets.specs.Truth.{in_clause, in_literal, is_same}
 use Rattle.hv_clauses.specs.Working.Chase.{AreKept, IsFollowed}
 use Rattle.hv_clauses.specs.Clausal.{clause_at, tests_of}
-use Rattle.hv_clauses.specs.Working.Clausal.{InAll, clauses_in, clauses_of_state, late}
+use Rattle.hv_clauses.specs.Working.Clausal.{clauses_in, clauses_of_state, late}
 use Rattle.hv_clauses.specs.Kinded.{IsShort}
 use Rattle.hv_clauses.specs.Marks.{over}
 use Rattle.hv_clauses.specs.Working.Marks.{KeepsKnown}
-use Rattle.hv_clauses.specs.Working.Problem.{AreAllLeft, AreAllSettled, IsLeft}
+use Rattle.hv_clauses.specs.Working.Posed.{InEach, Problem, formulas}
+use Rattle.hv_clauses.specs.Working.Problem.{AreEachSettled, AreLeft, InOne, IsLeft, IsLeftOf}
 use Rattle.hv_clauses.specs.Working.Trail.{Grows, Knowledge, marks_of}
 use Rattle.hv_clauses.specs.Units.{IsSettled, value_of}
 use Rattle.hv_clauses.specs.Working.Units.{AreSettled, IsConcluded}
@@ -164,57 +165,73 @@ start_literal_in n held e p state less size same =
     (ap (λ c. in_clause c (over e state)) (sym (clause_of_state_at n held p less))
     ∙ true_at e clauses p (omega arith) state (start_holds n held e state size same))
 
--- Operands, one after the other.
-module _ (task : Strips) (formulas : ℕ → List (List Literal)) (effect : List ℕ) where
-  -- the state, seen through the effect where that is meant, is in what the operand names
-  abbrev pub InOne : Operand → List Bool → Type 0
-  InOne o state = in_which task (tests_of formulas) o.which (over (late effect o.after) state)
-      ≡ true
+-- What is said of what is named, seen through an effect, is said of the operand.
+module _ (p : Problem) (o : Operand) (which : Which) (is : o.which ≡ which) (seen : List ℕ)
+    (through : seen ≡ late p.effect o.after) where
+  pub followed_in : (a b : Knowledge) (r : Bool)
+      → IsFollowed (λ s. in_which p.task (tests_of (formulas p)) which (over seen s) ≡ true) a b r
+      → IsFollowed (InOne p o) a b r
+  followed_in a b r one =
+      subst (λ w. IsFollowed (λ s. in_which p.task (tests_of (formulas p)) w
+      (over (late p.effect o.after) s) ≡ true) a b r) (sym is)
+      (subst (λ e. IsFollowed (λ s. in_which p.task (tests_of (formulas p)) which (over e s) ≡ true)
+      a b r) through one)
 
-  -- its clauses tell nothing more than what comes from the trail
-  abbrev pub LeftOne : Operand → Knowledge → ℕ → Type 0
-  LeftOne o k from = IsLeft task formulas (late effect o.after) o.which k from
+  pub left_in : (k : Knowledge) (from : ℕ) → IsLeft p.task (formulas p) seen which k from
+      → IsLeftOf p o k from
+  left_in k from left =
+      subst (λ w. IsLeft p.task (formulas p) (late p.effect o.after) w k from) (sym is)
+      (subst (λ e. IsLeft p.task (formulas p) e which k from) through left)
 
-  pub all_end : (xs : List Operand) (k : Knowledge) (from : ℕ) → length k.trail ≤ from
-      → AreAllLeft task formulas effect xs k from
-      → AreAllSettled task formulas effect xs (marks_of k)
-  all_end xs k from h left = λ j d less. left_ends task formulas (late effect (get_or xs j d).after)
-      (get_or xs j d).which k from h (left j d less)
+  -- and the other way round
+  pub left_from : (k : Knowledge) (from : ℕ) → IsLeftOf p o k from
+      → IsLeft p.task (formulas p) seen which k from
+  left_from k from left =
+      subst (λ e. IsLeft p.task (formulas p) e which k from) (sym through)
+      (subst (λ w. IsLeft p.task (formulas p) (late p.effect o.after) w k from) is left)
 
-  pub all_stay : (xs : List Operand) (old new : Knowledge) (from : ℕ) → Grows old new
-      → from ≤ length old.trail
-      → AreAllLeft task formulas effect xs old from → AreAllLeft task formulas effect xs new from
-  all_stay xs old new from grown h left = λ j d less.
-      left_grown task formulas (late effect (get_or xs j d).after) (get_or xs j d).which old new
-      from grown h (left j d less)
+-- The positive operands, one after the other.
+module _ (p : Problem) where
+  pub all_end : (k : Knowledge) (from : ℕ) → length k.trail ≤ from → AreLeft p k from
+      → AreEachSettled p (marks_of k)
+  all_end k from h left = λ j d less.
+      left_ends p.task (formulas p) (late p.effect (get_or p.query.positive j d).after)
+      (get_or p.query.positive j d).which k from h (left j d less)
 
-  module _ (xs : List Operand) (i : ℕ) (d : Operand) (within : i < length xs) (seen : List ℕ)
-      (is : seen ≡ late effect (get_or xs i d).after) where
-    pub operand_followed : (a b c : Knowledge) (r : Bool)
-        → IsFollowed (InAll task formulas effect xs) a b true
-        → IsFollowed (λ s. in_which task (tests_of formulas) (get_or xs i d).which (over seen s)
-        ≡ true) b c r
-        → IsFollowed (InAll task formulas effect xs) a c r
-    operand_followed a b c r first second =
-        followed_then (InAll task formulas effect xs)
-        (λ s. in_which task (tests_of formulas) (get_or xs i d).which (over seen s) ≡ true) a b
-        c r
-        (λ s size holds. ap (λ e. in_which task (tests_of formulas) (get_or xs i d).which
-        (over e s)) is ∙ holds i d within) first second
+  pub all_stay : (old new : Knowledge) (from : ℕ) → Grows old new → from ≤ length old.trail
+      → AreLeft p old from → AreLeft p new from
+  all_stay old new from grown h left = λ j d less.
+      left_grown p.task (formulas p) (late p.effect (get_or p.query.positive j d).after)
+      (get_or p.query.positive j d).which old new from grown h (left j d less)
 
-    pub operand_left : (k : Knowledge) (from : ℕ) → AreAllLeft task formulas effect xs k from
-        → IsLeft task formulas seen (get_or xs i d).which k from
-    operand_left k from left = subst (λ e. IsLeft task formulas e (get_or xs i d).which k from)
-        (sym is) (left i d within)
+  -- The list of them, as it is gone through.
+  module _ (xs : List Operand) (same : xs ≡ p.query.positive) where
+    pub all_seen : (k : Knowledge) (from : ℕ)
+        → ((i : ℕ) → i < length xs → (f : Operand) → IsLeftOf p (get_or xs i f) k from)
+        → AreLeft p k from
+    all_seen k from seen =
+        subst (λ os. All (λ o. IsLeftOf p o k from) os) same (λ i f less. seen i less f)
 
-    -- what was seen stays seen, and one more is
-    pub operand_seen : (old new : Knowledge) (from : ℕ) → Grows old new → from ≤ length old.trail
-        → ((k : ℕ) → k < i → (f : Operand) → LeftOne (get_or xs k f) old from)
-        → IsLeft task formulas seen (get_or xs i d).which new from
-        → (k : ℕ) → k < i + 1 → (f : Operand) → LeftOne (get_or xs k f) new from
-    operand_seen old new from grown h before here =
-        below_more (λ k. (f : Operand) → LeftOne (get_or xs k f) new from) i
-        (λ k less f. left_grown task formulas (late effect (get_or xs k f).after)
-        (get_or xs k f).which old new from grown h (before k less f))
-        (λ f. subst (λ o. LeftOne o new from) (get_or_default xs i d f within)
-        (subst (λ e. IsLeft task formulas e (get_or xs i d).which new from) is here))
+    module _ (i : ℕ) (d : Operand) (within : i < length xs) where
+      pub operand_followed : (a b c : Knowledge) (r : Bool) → IsFollowed (InEach p) a b true
+          → IsFollowed (InOne p (get_or xs i d)) b c r → IsFollowed (InEach p) a c r
+      operand_followed a b c r first second =
+          followed_then (InEach p) (InOne p (get_or xs i d)) a b c r
+          (λ s size inside. subst (λ os. All (λ o. InOne p o s) os) (sym same) inside i d within)
+          first second
+
+      pub operand_left : (k : Knowledge) (from : ℕ) → AreLeft p k from
+          → IsLeftOf p (get_or xs i d) k from
+      operand_left k from left =
+          subst (λ os. All (λ o. IsLeftOf p o k from) os) (sym same) left i d within
+
+      -- what was seen stays seen, and one more is
+      pub operand_seen : (old new : Knowledge) (from : ℕ) → Grows old new → from ≤ length old.trail
+          → ((k : ℕ) → k < i → (f : Operand) → IsLeftOf p (get_or xs k f) old from)
+          → IsLeftOf p (get_or xs i d) new from
+          → (k : ℕ) → k < i + 1 → (f : Operand) → IsLeftOf p (get_or xs k f) new from
+      operand_seen old new from grown h before here =
+          below_more (λ k. (f : Operand) → IsLeftOf p (get_or xs k f) new from) i
+          (λ k less f. left_grown p.task (formulas p) (late p.effect (get_or xs k f).after)
+          (get_or xs k f).which old new from grown h (before k less f))
+          (λ f. subst (λ o. IsLeftOf p o new from) (get_or_default xs i d f within) here)

@@ -2,16 +2,15 @@
 use Rattle.std.proofs.Common.{◌≡◌, ◌∙◌, ℕ, Bool, true, List, Some, sym, ap, subst}
 use Rattle.std.proofs.lemmas.List.Elements.{All-contains}
 use Rattle.std.specs.List.{Contains}
-use Rattle.hv_task.specs.Strips.{Strips, atoms}
 use Rattle.hv_sets.specs.declared.literal.Literal.{Literal}
 use Rattle.hv_sets.specs.declared.operand.Operand.{Operand}
 use Rattle.hv_sets.specs.declared.operand.Which.TheVariants as W
-use Rattle.hv_sets.specs.declared.query.Query.{Query}
 use Rattle.hv_sets.specs.Query.{in_which}
 use Rattle.hv_sets.specs.Truth.{in_clauses}
+use Rattle.hv_clauses.specs.Working.Posed.{InEach, Problem, formulas, width}
 use Rattle.hv_clauses.specs.Working.Base.{AreSettledBut, untouched}
 use Rattle.hv_clauses.specs.Clausal.{tests_of}
-use Rattle.hv_clauses.specs.Working.Clausal.{InAll, late}
+use Rattle.hv_clauses.specs.Working.Clausal.{late}
 use Rattle.hv_clauses.specs.Working.Closure.{AreForced}
 use Rattle.hv_clauses.specs.Marks.{over}
 use Rattle.hv_clauses.specs.Working.Start.{IsStart}
@@ -19,36 +18,32 @@ use Rattle.hv_clauses.specs.Working.Trail.{marked}
 use Rattle.hv_clauses.proofs.Marked.{length-over}
 use Rattle.hv_clauses.proofs.Untouched.{agrees_beside, settled_but}
 
-module _ (task : Strips) (formulas : ℕ → List (List Literal)) (effect : List ℕ) (query : Query)
-    (operand : Operand) (number : ℕ)
-    (among : Contains query.positive operand) (is : operand.which ≡ W.Set number) where
+module _ (p : Problem) (operand : Operand) (number : ℕ)
+    (among : Contains p.query.positive operand) (is : operand.which ≡ W.Set number) where
   -- a state that is in each positive operand is in this one
-  pub inside_after : (state : List Bool) → InAll task formulas effect query.positive state
-      → in_clauses (formulas number) (over (late effect operand.after) state) ≡ true
+  pub inside_after : (state : List Bool) → InEach p state
+      → in_clauses (formulas p number) (over (late p.effect operand.after) state) ≡ true
   inside_after state inside =
-      sym (ap (λ w. in_which task (tests_of formulas) w (over (late effect operand.after) state))
-      is)
-      ∙ All-contains (λ (o : Operand). in_which task (tests_of formulas) o.which
-      (over (late effect o.after) state) ≡ true) query.positive operand inside among
+      sym (ap (λ w. in_which p.task (tests_of (formulas p)) w
+      (over (late p.effect operand.after) state)) is)
+      ∙ All-contains (λ (o : Operand). in_which p.task (tests_of (formulas p)) o.which
+      (over (late p.effect o.after) state) ≡ true) p.query.positive operand inside among
 
   pub start_of_forced : (literals base : List Literal) (seen : List ℕ)
-      → base ≡ untouched seen literals → seen ≡ late effect operand.after
-      → AreForced (atoms task) (formulas number) literals
-      → IsStart task formulas effect query (record { operand = Some operand; base = base })
+      → base ≡ untouched seen literals → seen ≡ late p.effect operand.after
+      → AreForced (width p) (formulas p number) literals
+      → IsStart p (record { operand = Some operand; base = base })
   start_of_forced literals base seen base_is seen_is forced =
-      let e = late effect operand.after in
+      let e = late p.effect operand.after in
       let at : base ≡ untouched e literals = base_is ∙ ap (λ x. untouched x literals) seen_is in
-      subst (λ b. IsStart task formulas effect query (record { operand = Some operand; base = b }))
-      (sym at)
+      subst (λ b. IsStart p (record { operand = Some operand; base = b })) (sym at)
       (record {
         based = λ n same.
             let equal : W.Set number ≡ W.Set n = sym is ∙ same in
             let here : number ≡ n = cc in
-            subst (λ k. AreSettledBut e (formulas k) (marked (atoms task) (untouched e literals)))
-            here
-            (settled_but e (atoms task) literals (formulas number) forced.settled);
-        follows = λ state size inside.
-            agrees_beside e (atoms task) literals state
+            subst (λ k. AreSettledBut e (formulas p k) (marked (width p) (untouched e literals)))
+            here (settled_but e (width p) literals (formulas p number) forced.settled);
+        follows = λ state size inside. agrees_beside e (width p) literals state
             (forced.follows (over e state) (length-over e state ∙ size)
             (inside_after state inside));
       })

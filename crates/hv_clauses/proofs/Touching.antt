@@ -2,16 +2,15 @@
 -- operand at the other time.
 use Rattle.std.proofs.Common.{◌≡◌, ℕ, zero, suc, ◌*◌, ◌/◌, ◌%◌, ◌<◌, ◌∙◌, ◌⊎◌, Bool, true, false}
 use Rattle.std.proofs.Common.{not, cond, List, [], ◌∷◌, Option, None, Some, length, slice_get, refl}
-use Rattle.std.proofs.Common.{sym, ap, arith, inl, inr, subst}
+use Rattle.std.proofs.Common.{ap, arith, inl, inr, subst}
 use Rattle.std.proofs.Math.Nat.{mod-eq_of_lt}
 use Rattle.std.proofs.lemmas.List.Elements.{All-cons, All-nil}
 use Rattle.std.proofs.lemmas.Option.{slice_get_within}
 use Rattle.std.specs.List.{All, Contains}
-use Rattle.hv_task.specs.Strips.{Strips, atoms}
+use Rattle.hv_task.specs.Strips.{Strips}
 use Rattle.hv_sets.specs.declared.literal.Literal.{Literal}
 use Rattle.hv_sets.specs.declared.operand.Operand.{Operand}
 use Rattle.hv_sets.specs.declared.operand.Which.TheVariants as W
-use Rattle.hv_sets.specs.declared.query.Query.{Query}
 use Rattle.hv_sets.specs.Cost.{choices_of, clauses_of}
 use Rattle.hv_sets.specs.Cubes.{SpeakBelow}
 use Rattle.hv_sets.specs.Names.{AsksAbout}
@@ -24,6 +23,7 @@ use Rattle.hv_clauses.specs.Marks.{known, over}
 use Rattle.hv_clauses.specs.Working.Marks.{Agrees}
 use Rattle.hv_clauses.specs.Working.Occurrences.{turning_sign}
 use Rattle.hv_clauses.specs.Working.Touched.{IsTurnedBy}
+use Rattle.hv_clauses.specs.Working.Posed.{Problem, choices, formulas, sizes, width}
 use Rattle.hv_clauses.specs.Working.Problem.{FitsChoice}
 use Rattle.hv_clauses.specs.Units.{value_of}
 use Rattle.hv_clauses.proofs.Framed.{framed_true, known_true}
@@ -147,89 +147,74 @@ module _ (task : Strips) (formulas : ℕ → List (List Literal)) (effect : List
       (subst (λ n. Breaks task formulas effect os n state) same next)
 
 -- The one negative operand is a set of the store that is a positive operand at the other time.
-module _ (task : Strips) (formulas : ℕ → List (List Literal)) (effect : List ℕ) (query : Query)
-    (operand : Operand) (set : ℕ)
-    (framed : IsFramed query operand) (is : operand.which ≡ W.Set set) where
-  pub choices_are : choices_of task (sizes_of formulas) query.negative ≡ length (formulas set)
+module _ (p : Problem) (operand : Operand) (set : ℕ) (framed : IsFramed p operand)
+    (is : operand.which ≡ W.Set set) where
+  pub choices_are : choices p ≡ length (formulas p set)
   choices_are =
-      alone_choices task formulas effect query.negative framed.alone.place operand framed.alone.here
-      framed.alone.before framed.alone.behind
-      ∙ ap (clauses_of task (sizes_of formulas)) is
+      alone_choices p.task (formulas p) p.effect p.query.negative framed.alone.place operand
+      framed.alone.here framed.alone.before framed.alone.behind
+      ∙ ap (clauses_of p.task (sizes p)) is
+
+  -- a state that fits the choice of a clause is not in it
+  broken_at : (number : ℕ) (state : List Bool) → number < choices p → FitsChoice p number state
+      → in_clause (clause_at (formulas p set) number) (over (late p.effect operand.after) state)
+      ≡ false
+  broken_at number state less fits =
+      let seen = over (late p.effect operand.after) state in
+      let breaks = alone_breaks p.task (formulas p) p.effect p.query.negative framed.alone.place
+      operand framed.alone.here framed.alone.before number state fits.outside in
+      let within : number < length (formulas p set) = omega (arith, choices_are) in
+      subst (λ n. in_clause (clause_at (formulas p set) n) seen ≡ false) (mod-eq_of_lt within)
+      (subst (λ w. in_clause (clause_at (clauses_in p.task (formulas p) w)
+      (number % length (clauses_in p.task (formulas p) w))) seen ≡ false) is breaks)
 
   -- no state fits the choice of a clause of which the effect turns no literal
-  held_none : (number : ℕ) (state : List Bool)
-      → number < choices_of task (sizes_of formulas) query.negative
-      → All (λ l. value_of effect [] l ≡ Some (not operand.after) → ⊥)
-      (clause_at (formulas set) number) → FitsChoice task formulas effect query number state → ⊥
+  held_none : (number : ℕ) (state : List Bool) → number < choices p
+      → All (λ l. value_of p.effect [] l ≡ Some (not operand.after) → ⊥)
+      (clause_at (formulas p set) number) → FitsChoice p number state → ⊥
   held_none number state less held fits =
-      let within : number < length (formulas set) = omega (arith, choices_are) in
-      let breaks = alone_breaks task formulas effect query.negative framed.alone.place operand
-      framed.alone.here framed.alone.before number state fits.outside in
-      let broken : in_clause (clause_at (formulas set) (number % length (formulas set)))
-      (over (late effect operand.after) state) ≡ false =
-      sym (ap (λ w. in_clause (clause_at (clauses_in task formulas w)
-      (number % length (clauses_in task formulas w))) (over (late effect operand.after) state))
-      is)
-      ∙ breaks in
-      framed_true task formulas effect query.positive set operand.after number state within
-      (subst (λ w. AsksAbout query.positive w (not operand.after)) is framed.named) held fits.inside
-      (sym (ap (λ n. in_clause (clause_at (formulas set) n)
-      (over (late effect operand.after) state)) (mod-eq_of_lt within)) ∙ broken)
+      framed_true p.task (formulas p) p.effect p.query.positive set operand.after number state
+      (omega (arith, less, choices_are))
+      (subst (λ w. AsksAbout p.query.positive w (not operand.after)) is framed.named) held
+      fits.inside (broken_at number state less fits)
 
   -- no state that agrees with what is known fits the choice of a clause of which a literal is true
-  pub known_none : (base : List ℕ) (number : ℕ) (state : List Bool)
-      → number < choices_of task (sizes_of formulas) query.negative
-      → SpeakBelow (length state) (clause_at (formulas set) number)
-      → ((l : Literal) × Contains (clause_at (formulas set) number) l
-      × (value_of (late effect operand.after) base l ≡ Some true))
-      → Agrees base state → FitsChoice task formulas effect query number state → ⊥
+  pub known_none : (base : List ℕ) (number : ℕ) (state : List Bool) → number < choices p
+      → SpeakBelow (length state) (clause_at (formulas p set) number)
+      → ((l : Literal) × Contains (clause_at (formulas p set) number) l
+      × (value_of (late p.effect operand.after) base l ≡ Some true))
+      → Agrees base state → FitsChoice p number state → ⊥
   known_none base number state less below found agrees fits =
-      let within : number < length (formulas set) = omega (arith, choices_are) in
-      let breaks = alone_breaks task formulas effect query.negative framed.alone.place operand
-      framed.alone.here framed.alone.before number state fits.outside in
-      let broken : in_clause (clause_at (formulas set) (number % length (formulas set)))
-      (over (late effect operand.after) state) ≡ false =
-      sym (ap (λ w. in_clause (clause_at (clauses_in task formulas w)
-      (number % length (clauses_in task formulas w))) (over (late effect operand.after) state))
-      is)
-      ∙ breaks in
-      known_true (late effect operand.after) base (clause_at (formulas set) number) (length state)
-      state below refl found agrees
-      (sym (ap (λ n. in_clause (clause_at (formulas set) n)
-      (over (late effect operand.after) state)) (mod-eq_of_lt within)) ∙ broken)
+      known_true (late p.effect operand.after) base (clause_at (formulas p set) number)
+      (length state) state below refl found agrees (broken_at number state less fits)
 
   -- so it is enough to try the clauses of which it turns one
   pub met_from_touched : (middle found : List Bool)
       → IsMetAmong false
-      (IsTurnedBy effect false (turning_sign operand.after false) (formulas set))
-      (choices_of task (sizes_of formulas) query.negative) (atoms task)
-      (FitsChoice task formulas effect query) middle
-      → (result : Bool)
-      → IsMetAmong result
-      (IsTurnedBy effect true (turning_sign operand.after true) (formulas set))
-      (choices_of task (sizes_of formulas) query.negative) (atoms task)
-      (FitsChoice task formulas effect query) found
-      → IsMetBelow result (choices_of task (sizes_of formulas) query.negative) (atoms task)
-      (FitsChoice task formulas effect query) found
+      (IsTurnedBy p.effect false (turning_sign operand.after false) (formulas p set))
+      (choices p) (width p) (FitsChoice p) middle → (result : Bool) → IsMetAmong result
+      (IsTurnedBy p.effect true (turning_sign operand.after true) (formulas p set))
+      (choices p) (width p) (FitsChoice p) found → IsMetBelow result (choices p) (width p)
+      (FitsChoice p) found
   met_from_touched middle found first true second = second
   met_from_touched middle found first false second = λ number less state size fits.
-      elim (turned_or effect (not operand.after) (clause_at (formulas set) number)) [
+      elim (turned_or p.effect (not operand.after) (clause_at (formulas p set) number)) [
         | inl all ↦ held_none number state less all fits
         | inr some ↦
-            let by = turned_by effect operand.after some.0 some.2 in
+            let by = turned_by p.effect operand.after some.0 some.2 in
             either number state size fits by.0 (record {
               atom = some.0.atom;
               made = by.1;
               stands = record {
                 among = omega (arith, choices_are);
-                has = subst (λ (s : Bool). Contains (clause_at (formulas set) number)
+                has = subst (λ (s : Bool). Contains (clause_at (formulas p set) number)
                     (record { atom = some.0.atom; positive = s })) by.2 some.1;
               };
             })
       ]
     where
-      either : (number : ℕ) (state : List Bool) → length state ≡ atoms task
-          → FitsChoice task formulas effect query number state → (v : Bool)
-          → IsTurnedBy effect v (turning_sign operand.after v) (formulas set) number → ⊥
+      either : (number : ℕ) (state : List Bool) → length state ≡ width p
+          → FitsChoice p number state → (v : Bool)
+          → IsTurnedBy p.effect v (turning_sign operand.after v) (formulas p set) number → ⊥
       either number state size fits true turned = second number turned state size fits
       either number state size fits false turned = first number turned state size fits

@@ -6,6 +6,7 @@ pub mod Choices
 pub mod Scan
 pub mod Completion
 pub mod Effect
+pub mod Posed
 pub mod Problem
 pub mod Found
 pub mod Overwriting

@@ -1,12 +1,11 @@
 //! Whether clauses are true in some state of a cube.
 
-ghost use Rattle.std.specs.Prelude.{◌≡◌, ◌≤◌, ◌^◌, Bool, List, [], true, length};
+ghost use Rattle.std.specs.Prelude.{◌≡◌, ◌≤◌, Bool, List, [], true, length};
 ghost use Rattle.std.specs.List.{All};
 ghost use Rattle.hv_sets.specs.Cubes.{SpeakBelow};
 ghost use Rattle.hv_sets.specs.Truth.{in_clauses};
 ghost use Rattle.hv_sets.specs.Walks.{Meets};
-ghost use Rattle.hv_clauses.specs.Clausal.{AreClauses};
-ghost use Rattle.hv_clauses.specs.Working.Closure.{IsClosure};
+ghost use Rattle.hv_clauses.specs.Clausal.{AreClauses, in_formula};
 ghost use Rattle.hv_clauses.specs.Working.Marks.{Agrees};
 ghost use Rattle.hv_clauses.specs.Working.Occurrences.{IsIndexOf};
 ghost use Rattle.hv_clauses.specs.Working.Trail.{marks_of};
@@ -14,46 +13,38 @@ ghost use Rattle.hv_clauses.specs.Working.Units.{AreSettled};
 
 use crate::change::Effect;
 use crate::clause_kind::ClauseKind;
-use crate::closure::Closure;
 use crate::constraint::{Alone, Constraint};
+use crate::formula::Formula;
 use crate::trail::Marks;
 use crate::{complete, literals};
-use hv_sets::{Clauses, Literal};
+use hv_sets::Literal;
 use hv_task::State;
 
-// Looks for a state of the cube in which the clauses are true, in room for each atom.
+// Looks for a state of the cube in the set, in room for each atom.
 pub(crate) fn meet<K: ClauseKind>(
-    clauses: &Clauses,
-    closure: &Closure,
+    set: &Formula<K>,
     cube: &[Literal],
     places: &mut [u32],
     queue: &mut [u32],
     watches: &mut [u32],
     state: &mut State,
 ) -> bool
-    requires kind { All K.is_of clauses.now }
-    requires clauses { AreClauses (length state.old) clauses.now }
-    requires closure { IsClosure (length state.old) clauses.now closure.now }
-    requires cube { SpeakBelow (length state.old) cube.now }
-    requires few { length state.old ≤ 2 ^ 31 }
-    requires places { length state.old ≤ length places.old }
-    requires queue { length state.old ≤ length queue.old }
-    ensures meets { Meets result (length state.old) (in_clauses clauses.now) cube.now state.new }
+    requires atoms { length state.old ≡ set.now.atoms }
+    requires cube { SpeakBelow set.now.atoms cube.now }
+    requires places { set.now.atoms ≤ length places.old }
+    requires queue { set.now.atoms ≤ length queue.old }
+    ensures meets { Meets result set.now.atoms (in_formula set.now) cube.now state.new }
     ensures places { length places.new ≡ length places.old }
     ensures queue { length queue.new ≡ length queue.old }
     ensures watches { length watches.new ≡ length watches.old }
     ensures state { length state.new ≡ length state.old }
 {
-    if closure.broken {
+    let Some(forced) = set.forced() else {
         return false;
-    }
-    let atoms = state.atoms() as usize;
-    let forced = closure.forced.as_slice();
-    let mut marks = Marks::over(atoms, forced, places, queue, watches);
-    let alone = Alone {
-        clauses,
-        occurs: &closure.occurs,
     };
+    let alone = set.alone();
+    let atoms = set.atoms() as usize;
+    let mut marks = Marks::over(atoms, forced, places, queue, watches);
     meet_from::<K>(&alone, cube, &mut marks, state)
 }
 

@@ -2,73 +2,43 @@
 
 ghost use Rattle.std.specs.Prelude.{◌≡◌, ◌<◌, ◌≤◌, ◌*◌, MatchOption, false, true, length};
 ghost use Rattle.std.specs.List.{All};
-ghost use Rattle.hv_task.specs.State.{names_atom};
-ghost use Rattle.hv_task.specs.Strips.{atoms};
-ghost use Rattle.hv_sets.specs.Cost.{choices_of, clauses_of};
-ghost use Rattle.hv_sets.specs.Query.{IsNamed};
-ghost use Rattle.hv_sets.specs.Truth.{in_clause};
-ghost use Rattle.hv_clauses.specs.Clausal.{clause_at, sizes_of};
-ghost use Rattle.hv_clauses.specs.Working.Choices.{AreChosenFalse, Breaks};
-ghost use Rattle.hv_clauses.specs.Working.Clausal.{clauses_in};
-ghost use Rattle.hv_clauses.specs.Marks.{over};
-ghost use Rattle.hv_clauses.specs.Store.{AreOver, formula_at};
+ghost use Rattle.hv_clauses.specs.Working.Posed.{choices, size_in, width};
+ghost use Rattle.hv_clauses.specs.Working.Problem.{AreMissed, IsMissed, MissesAll, MissesClause};
 ghost use Rattle.hv_clauses.specs.Working.Trail.{Grows, marks_of};
-ghost use Rattle.hv_clauses.specs.Working.Units.{AreFalse, IsConcluded};
+ghost use Rattle.hv_clauses.specs.Working.Units.{IsConcluded};
 
-use crate::change::Effect;
 use crate::clause_kind::ClauseKind;
-use crate::formulas::Formulas;
 use crate::literals;
+use crate::problem::Problem;
 use crate::trail::Marks;
 use hv_sets::{Literal, Operand, Which};
-use hv_task::Task;
 use std::slice;
 
-// How many clauses an operand has.
-pub(crate) fn count_of<K: ClauseKind>(task: &Task, store: &Formulas<K>, which: Which) -> u64
-    requires { IsNamed (length store.now) which }
-    ensures { result ≡ clauses_of task.now (sizes_of (formula_at store.now)) which }
-{
-    match which {
-        Which::Empty => 1,
-        Which::Start => task.atoms() as u64,
-        Which::Goal => task.goal().len() as u64,
-        Which::Set(number) => store.set(number).clauses().len() as u64,
-    }
-}
-
 // The cost of a query, if that is within the budget.
-pub(crate) fn cost_within<K: ClauseKind>(
-    task: &Task,
-    store: &Formulas<K>,
-    negative: &[Operand],
-    budget: u64,
-) -> Option<u64>
-    requires { All (λ o. IsNamed (length store.now) o.which) negative.now }
-    ensures { MatchOption result (budget < choices_of task.now (sizes_of (formula_at store.now))
-        negative.now) (λ cost. (cost ≡ choices_of task.now (sizes_of (formula_at store.now))
-        negative.now) × (cost ≤ budget)) }
+pub(crate) fn cost_within<K: ClauseKind>(problem: &Problem<'_, K>, budget: u64) -> Option<u64>
+    ensures { MatchOption result (budget < choices problem.now)
+        (λ cost. (cost ≡ choices problem.now) × (cost ≤ budget)) }
 {
-    if has_empty(task, store, negative) {
+    let negative = problem.negative();
+    if has_empty(problem) {
         return Some(0);
     }
     let mut cost = 1;
     for operand in negative {
-        cost = times(cost, count_of(task, store, operand.which), budget)?;
+        cost = times(cost, problem.count_of(operand.which), budget)?;
     }
     if cost <= budget { Some(cost) } else { None }
 }
 
-// Whether some operand has no clause, so that there is no choice.
-fn has_empty<K: ClauseKind>(task: &Task, store: &Formulas<K>, negative: &[Operand]) -> bool
-    requires { All (λ o. IsNamed (length store.now) o.which) negative.now }
-    ensures none { result ≡ true → choices_of task.now (sizes_of (formula_at store.now))
-        negative.now ≡ 0 }
-    ensures some { result ≡ false → All (λ o. 0 < clauses_of task.now
-        (sizes_of (formula_at store.now)) o.which) negative.now }
+// Whether some negative operand has no clause, so that there is no choice.
+fn has_empty<K: ClauseKind>(problem: &Problem<'_, K>) -> bool
+    ensures none { result ≡ true → choices problem.now ≡ 0 }
+    ensures some { result ≡ false
+        → All (λ o. 0 < size_in problem.now o.which) problem.now.query.negative }
 {
+    let negative = problem.negative();
     for operand in negative {
-        if count_of(task, store, operand.which) == 0 {
+        if problem.count_of(operand.which) == 0 {
             return true;
         }
     }
@@ -85,38 +55,33 @@ fn times(left: u64, right: u64, budget: u64) -> Option<u64>
 
 // Marks each literal of the clause at this place of an operand as false. The answer is false if one
 // is known to be true.
-pub(crate) fn deny_which<K: ClauseKind>(
-    task: &Task,
-    store: &Formulas<K>,
-    which: Which,
+pub(crate) fn deny_clause<K: ClauseKind>(
+    problem: &Problem<'_, K>,
+    operand: Operand,
     place: u64,
-    effect: &Effect<'_>,
     marks: &mut Marks<'_>,
 ) -> bool
-    requires named { IsNamed (length store.now) which }
-    requires place { place < clauses_of task.now (sizes_of (formula_at store.now)) which }
-    requires over { AreOver store.now (atoms task.now) }
-    requires size { length marks.old.base ≡ atoms task.now }
-    ensures denied { IsConcluded (λ state. in_clause (clause_at
-        (clauses_in task.now (formula_at store.now) which) place) (over effect.now state) ≡ false)
-        (AreFalse effect.now (clause_at (clauses_in task.now (formula_at store.now) which) place))
-        (marks_of marks.old) (marks_of marks.new) result }
+    requires place { place < size_in problem.now operand.which }
+    requires size { length marks.old.base ≡ width problem.now }
+    ensures denied { IsConcluded (MissesClause problem.now operand place)
+        (IsMissed problem.now operand place) (marks_of marks.old) (marks_of marks.new) result }
     ensures grown { Grows marks.old marks.new }
 {
-    match which {
+    let seen = problem.seen(operand.after);
+    match operand.which {
         Which::Empty => true,
         Which::Start => {
-            let _atoms = task.atoms();
-            let literal = start_literal(task, place as u32);
-            literals::deny(slice::from_ref(&literal), effect, marks)
+            let _atoms = problem.atoms();
+            let literal = problem.start_literal(place as u32);
+            literals::deny(slice::from_ref(&literal), &seen, marks)
         }
         Which::Goal => {
-            let literal = goal_literal(task.goal().get(place as usize));
-            literals::deny(slice::from_ref(&literal), effect, marks)
+            let literal = goal_literal(problem.goal().get(place as usize));
+            literals::deny(slice::from_ref(&literal), &seen, marks)
         }
         Which::Set(number) => {
-            let clauses = store.set(number).clauses();
-            literals::deny(clauses.get(place as usize), effect, marks)
+            let clauses = problem.set(number).clauses();
+            literals::deny(clauses.get(place as usize), &seen, marks)
         }
     }
 }
@@ -124,28 +89,21 @@ pub(crate) fn deny_which<K: ClauseKind>(
 // Marks the clauses that the number chooses as false. The answer is false if a literal of one is
 // known to be true.
 pub(crate) fn deny_all<K: ClauseKind>(
-    task: &Task,
-    store: &Formulas<K>,
-    negative: &[Operand],
+    problem: &Problem<'_, K>,
     number: u64,
-    effect: &Effect<'_>,
     marks: &mut Marks<'_>,
 ) -> bool
-    requires named { All (λ o. IsNamed (length store.now) o.which) negative.now }
-    requires some { All (λ o. 0 < clauses_of task.now (sizes_of (formula_at store.now)) o.which)
-        negative.now }
-    requires over { AreOver store.now (atoms task.now) }
-    requires size { length marks.old.base ≡ atoms task.now }
-    ensures denied { IsConcluded (Breaks task.now (formula_at store.now) effect.now negative.now
-        number) (AreChosenFalse task.now (formula_at store.now) effect.now negative.now number)
+    requires number { number < choices problem.now }
+    requires size { length marks.old.base ≡ width problem.now }
+    ensures denied { IsConcluded (MissesAll problem.now number) (AreMissed problem.now number)
         (marks_of marks.old) (marks_of marks.new) result }
     ensures grown { Grows marks.old marks.new }
 {
     let mut rest = number;
+    let negative = problem.negative();
     for operand in negative {
-        let count = count_of(task, store, operand.which);
-        let seen = effect.late(operand.after);
-        if !deny_which(task, store, operand.which, rest % count, &seen, marks) {
+        let count = problem.count_of(operand.which);
+        if !deny_clause(problem, *operand, rest % count, marks) {
             return false;
         }
         rest /= count;
@@ -153,16 +111,7 @@ pub(crate) fn deny_all<K: ClauseKind>(
     true
 }
 
-// What is true of the atom in the initial state.
-pub(crate) fn start_literal(task: &Task, atom: u32) -> Literal
-    ensures { result ≡ record { atom = atom; positive = names_atom task.now.start atom } }
-{
-    Literal {
-        atom,
-        positive: task.start().has(atom),
-    }
-}
-
+// The literal of an atom that the goal asks for.
 pub(crate) fn goal_literal(atom: u32) -> Literal
     ensures { result ≡ record { atom = atom; positive = true } }
 {

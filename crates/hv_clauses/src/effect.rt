@@ -1,31 +1,32 @@
 //! What an action asks for.
 
-ghost use Rattle.std.specs.Prelude.{◌≡◌, ◌<◌, true, length, IfSome};
+ghost use Rattle.std.specs.Prelude.{◌≡◌, true, length};
 ghost use Rattle.hv_task.specs.State.{AreBelow, has_all};
-ghost use Rattle.hv_task.specs.Strips.{atoms};
-ghost use Rattle.hv_sets.specs.Query.{action_of, may_apply};
+ghost use Rattle.hv_sets.specs.Query.{action_of};
 ghost use Rattle.hv_clauses.specs.Working.Effect.{AreMarkedIn, IsEnabled};
+ghost use Rattle.hv_clauses.specs.Working.Posed.{Applies, width};
 ghost use Rattle.hv_clauses.specs.Working.Trail.{Grows, marks_of};
 ghost use Rattle.hv_clauses.specs.Working.Units.{IsConcluded};
 
 use crate::change::Effect;
+use crate::clause_kind::ClauseKind;
 use crate::literals;
+use crate::problem::Problem;
 use crate::trail::Marks;
 use hv_sets::Literal;
-use hv_task::Task;
 
-// Marks what an action asks for. The answer is false if it is applicable in no state that agrees
+// Marks what the action asks for. The answer is false if it is applicable in no state that agrees
 // with the marks.
-pub(crate) fn mark_pre(task: &Task, action: Option<u32>, marks: &mut Marks<'_>) -> bool
-    requires action { IfSome action (λ a. a < length task.now.actions) }
-    requires size { length marks.old.base ≡ atoms task.now }
-    ensures marked { IsConcluded (λ state. may_apply (action_of task.now action) state ≡ true)
-        (IsEnabled (action_of task.now action)) (marks_of marks.old) (marks_of marks.new) result }
+pub(crate) fn mark_pre<K: ClauseKind>(problem: &Problem<'_, K>, marks: &mut Marks<'_>) -> bool
+    requires { length marks.old.base ≡ width problem.now }
+    ensures marked { IsConcluded (Applies problem.now)
+        (IsEnabled (action_of problem.now.task problem.now.query.action)) (marks_of marks.old)
+        (marks_of marks.new) result }
     ensures grown { Grows marks.old marks.new }
 {
-    match action {
+    match problem.action() {
         None => true,
-        Some(number) => force_in(task.action(number).pre.as_slice(), marks),
+        Some(action) => force_in(action.pre.as_slice(), marks),
     }
 }
 

@@ -2,20 +2,18 @@
 
 ghost use Rattle.std.specs.Prelude.{◌≡◌, ◌<◌, ◌≤◌, [], Bool, List, IfSome, false, true, length};
 ghost use Rattle.hv_task.specs.Strips.{atoms};
-ghost use Rattle.hv_sets.specs.Cost.{ClausesPass, IsAnswer, choices_of};
-ghost use Rattle.hv_sets.specs.Query.{IsReady, action_of, is_clash, may_apply};
+ghost use Rattle.hv_sets.specs.Cost.{ClausesPass, IsAnswer};
+ghost use Rattle.hv_sets.specs.Query.{IsReady, is_clash};
 ghost use Rattle.hv_sets.specs.Room.{HasRoom, KeepsLengths};
 ghost use Rattle.hv_clauses.specs.Clausal.{tests_of, sizes_of};
-ghost use Rattle.hv_clauses.specs.Working.Clausal.{InAll};
-ghost use Rattle.hv_clauses.specs.Working.Effect.{IsEffect};
-ghost use Rattle.hv_clauses.specs.Working.Found.{IsBased, IsFound, IsMet, IsMetBelow, IsPosed};
-ghost use Rattle.hv_clauses.specs.Working.Marks.{Agrees};
+ghost use Rattle.hv_clauses.specs.Working.Found.{IsBased, IsFound, IsMet, IsMetBelow};
+ghost use Rattle.hv_clauses.specs.Working.Posed.{Applies, InEach, IsPosed, choices, formulas};
+ghost use Rattle.hv_clauses.specs.Working.Posed.{width};
 ghost use Rattle.hv_clauses.specs.Working.Problem.{FitsChoice};
-ghost use Rattle.hv_clauses.specs.Working.Start.{IsBasedOn};
+ghost use Rattle.hv_clauses.specs.Working.Start.{HoldInEach, IsBasedOn};
 ghost use Rattle.hv_clauses.specs.Store.{AreOver, formula_at};
 ghost use Rattle.hv_clauses.specs.Working.Trail.{Grows, marks_of};
 
-use crate::change::Effect;
 use crate::clause_kind::ClauseKind;
 use crate::constraint::Constraint;
 use crate::formulas::Formulas;
@@ -46,16 +44,9 @@ pub(crate) fn find_in<K: ClauseKind>(
     ensures state { length scratch.new.state ≡ length scratch.old.state }
     ensures lengths { KeepsLengths scratch.old scratch.new }
 {
-    let negative = query.negative.as_slice();
-    let Some(cost) = choices::cost_within(task, store, negative, budget) else {
+    let problem = Problem::of(task, store, query);
+    let Some(cost) = choices::cost_within(&problem, budget) else {
         return Finding::Over;
-    };
-    let effect = Effect::of(task, query.action);
-    let problem = Problem {
-        task,
-        store,
-        query,
-        effect: &effect,
     };
     let places = scratch.marks.as_mut_slice();
     let queue = scratch.queue.as_mut_slice();
@@ -76,20 +67,13 @@ fn search<K: ClauseKind>(
     watches: &mut [u32],
     state: &mut State,
 ) -> bool
-    requires posed { IsPosed problem.now.task.now problem.now.store.now problem.now.effect.now
-        problem.now.query.now }
-    requires action { IfSome problem.now.query.now.action
-        (λ a. a < length problem.now.task.now.actions) }
-    requires effect { IsEffect (action_of problem.now.task.now problem.now.query.now.action)
-        problem.now.effect.now }
-    requires cost { cost ≡ choices_of problem.now.task.now
-        (sizes_of (formula_at problem.now.store.now)) problem.now.query.now.negative }
-    requires places { atoms problem.now.task.now ≤ length places.old }
-    requires queue { atoms problem.now.task.now ≤ length queue.old }
-    requires state { length state.old ≡ atoms problem.now.task.now }
-    ensures found { IsFound result (atoms problem.now.task.now)
-        (is_clash problem.now.task.now (tests_of (formula_at problem.now.store.now))
-        problem.now.query.now) state.new }
+    requires posed { IsPosed problem.now }
+    requires cost { cost ≡ choices problem.now }
+    requires places { width problem.now ≤ length places.old }
+    requires queue { width problem.now ≤ length queue.old }
+    requires state { length state.old ≡ width problem.now }
+    ensures found { IsFound result (width problem.now) (is_clash problem.now.task
+        (tests_of (formulas problem.now)) problem.now.query) state.new }
     ensures places { length places.new ≡ length places.old }
     ensures queue { length queue.new ≡ length queue.old }
     ensures watches { length watches.new ≡ length watches.old }
@@ -98,7 +82,7 @@ fn search<K: ClauseKind>(
     let Some(start) = start::start_of(problem) else {
         return false;
     };
-    let atoms = problem.task.atoms() as usize;
+    let atoms = problem.atoms() as usize;
     let based = start.operand;
     let mut marks = Marks::from(atoms, start.base, places, queue, watches);
     search_from(problem, based, cost, &mut marks, state)
@@ -112,25 +96,14 @@ fn search_from<K: ClauseKind>(
     marks: &mut Marks<'_>,
     state: &mut State,
 ) -> bool
-    requires posed { IsPosed problem.now.task.now problem.now.store.now problem.now.effect.now
-        problem.now.query.now }
-    requires action { IfSome problem.now.query.now.action
-        (λ a. a < length problem.now.task.now.actions) }
-    requires effect { IsEffect (action_of problem.now.task.now problem.now.query.now.action)
-        problem.now.effect.now }
-    requires cost { cost ≡ choices_of problem.now.task.now
-        (sizes_of (formula_at problem.now.store.now)) problem.now.query.now.negative }
-    requires marks { length marks.old.base ≡ atoms problem.now.task.now }
+    requires cost { cost ≡ choices problem.now }
+    requires marks { length marks.old.base ≡ width problem.now }
     requires none { marks.old.trail ≡ [] }
-    requires based { IsBasedOn (formula_at problem.now.store.now) problem.now.effect.now based
-        marks.old.base }
-    requires follows { (state : List Bool) → length state ≡ atoms problem.now.task.now → InAll
-        problem.now.task.now (formula_at problem.now.store.now) problem.now.effect.now
-        problem.now.query.now.positive state → Agrees (marks_of marks.old) state }
-    requires state { length state.old ≡ atoms problem.now.task.now }
-    ensures found { IsFound result (atoms problem.now.task.now)
-        (is_clash problem.now.task.now (tests_of (formula_at problem.now.store.now))
-        problem.now.query.now) state.new }
+    requires based { IsBasedOn problem.now based marks.old.base }
+    requires follows { HoldInEach problem.now (marks_of marks.old) }
+    requires state { length state.old ≡ width problem.now }
+    ensures met { IsMetBelow result (choices problem.now) (width problem.now)
+        (FitsChoice problem.now) state.new }
     ensures state { length state.new ≡ length state.old }
 {
     if !mark_base(problem, based, marks) {
@@ -146,25 +119,15 @@ fn mark_base<K: ClauseKind>(
     based: Option<Operand>,
     marks: &mut Marks<'_>,
 ) -> bool
-    requires posed { IsPosed problem.now.task.now problem.now.store.now problem.now.effect.now
-        problem.now.query.now }
-    requires action { IfSome problem.now.query.now.action
-        (λ a. a < length problem.now.task.now.actions) }
-    requires marks { length marks.old.base ≡ atoms problem.now.task.now }
+    requires marks { length marks.old.base ≡ width problem.now }
     requires none { marks.old.trail ≡ [] }
-    requires based { IsBasedOn (formula_at problem.now.store.now) problem.now.effect.now based
-        marks.old.base }
-    requires follows { (state : List Bool) → length state ≡ atoms problem.now.task.now → InAll
-        problem.now.task.now (formula_at problem.now.store.now) problem.now.effect.now
-        problem.now.query.now.positive state → Agrees (marks_of marks.old) state }
-    ensures based { result ≡ true → IsBased problem.now.task.now (formula_at problem.now.store.now)
-        problem.now.effect.now problem.now.query.now marks.new }
-    ensures never { result ≡ false → (state : List Bool) → length state ≡ atoms problem.now.task.now
-        → may_apply (action_of problem.now.task.now problem.now.query.now.action) state ≡ true →
-        InAll problem.now.task.now (formula_at problem.now.store.now) problem.now.effect.now
-        problem.now.query.now.positive state → ⊥ }
+    requires based { IsBasedOn problem.now based marks.old.base }
+    requires follows { HoldInEach problem.now (marks_of marks.old) }
+    ensures based { result ≡ true → IsBased problem.now marks.new }
+    ensures never { result ≡ false → (state : List Bool) → length state ≡ width problem.now
+        → Applies problem.now state → InEach problem.now state → ⊥ }
 {
-    if !effect::mark_pre(problem.task, problem.query.action, marks) {
+    if !effect::mark_pre(problem, marks) {
         return false;
     }
     if !problem::start_all(problem, based, marks) {
@@ -181,21 +144,14 @@ fn choose<K: ClauseKind>(
     marks: &mut Marks<'_>,
     state: &mut State,
 ) -> bool
-    requires posed { IsPosed problem.now.task.now problem.now.store.now problem.now.effect.now
-        problem.now.query.now }
-    requires cost { cost ≡ choices_of problem.now.task.now
-        (sizes_of (formula_at problem.now.store.now)) problem.now.query.now.negative }
-    requires based { IsBased problem.now.task.now (formula_at problem.now.store.now)
-        problem.now.effect.now problem.now.query.now marks.old }
-    requires state { length state.old ≡ atoms problem.now.task.now }
-    ensures met { IsMetBelow result (choices_of problem.now.task.now
-        (sizes_of (formula_at problem.now.store.now)) problem.now.query.now.negative)
-        (atoms problem.now.task.now) (FitsChoice problem.now.task.now
-        (formula_at problem.now.store.now)
-        problem.now.effect.now problem.now.query.now) state.new }
+    requires cost { cost ≡ choices problem.now }
+    requires based { IsBased problem.now marks.old }
+    requires state { length state.old ≡ width problem.now }
+    ensures met { IsMetBelow result (choices problem.now)
+        (width problem.now) (FitsChoice problem.now) state.new }
     ensures state { length state.new ≡ length state.old }
 {
-    match frame::framed(problem.query) {
+    match frame::framed(problem) {
         Some(operand) => touched::choose_touched(problem, operand, marks, state),
         None => fronts::choose_each(problem, cost, marks, state),
     }
@@ -209,16 +165,10 @@ pub(crate) fn decide<K: ClauseKind>(
     marks: &mut Marks<'_>,
     state: &mut State,
 ) -> bool
-    requires posed { IsPosed problem.now.task.now problem.now.store.now problem.now.effect.now
-        problem.now.query.now }
-    requires number { number < choices_of problem.now.task.now
-        (sizes_of (formula_at problem.now.store.now)) problem.now.query.now.negative }
-    requires based { IsBased problem.now.task.now (formula_at problem.now.store.now)
-        problem.now.effect.now problem.now.query.now marks.old }
-    requires state { length state.old ≡ atoms problem.now.task.now }
-    ensures met { IsMet result (atoms problem.now.task.now)
-        (FitsChoice problem.now.task.now (formula_at problem.now.store.now) problem.now.effect.now
-        problem.now.query.now number) state.new }
+    requires number { number < choices problem.now }
+    requires based { IsBased problem.now marks.old }
+    requires state { length state.old ≡ width problem.now }
+    ensures met { IsMet result (width problem.now) (FitsChoice problem.now number) state.new }
     ensures same { marks.new ≡ marks.old }
     ensures state { length state.new ≡ length state.old }
 {
@@ -238,26 +188,17 @@ fn try_choice<K: ClauseKind>(
     marks: &mut Marks<'_>,
     state: &mut State,
 ) -> bool
-    requires posed { IsPosed problem.now.task.now problem.now.store.now problem.now.effect.now
-        problem.now.query.now }
-    requires number { number < choices_of problem.now.task.now
-        (sizes_of (formula_at problem.now.store.now)) problem.now.query.now.negative }
-    requires based { IsBased problem.now.task.now (formula_at problem.now.store.now)
-        problem.now.effect.now problem.now.query.now marks.old }
-    requires state { length state.old ≡ atoms problem.now.task.now }
-    ensures met { IsMet result (atoms problem.now.task.now)
-        (FitsChoice problem.now.task.now (formula_at problem.now.store.now) problem.now.effect.now
-        problem.now.query.now number) state.new }
+    requires number { number < choices problem.now }
+    requires based { IsBased problem.now marks.old }
+    requires state { length state.old ≡ width problem.now }
+    ensures met { IsMet result (width problem.now) (FitsChoice problem.now number) state.new }
     ensures grown { Grows marks.old marks.new }
     ensures state { length state.new ≡ length state.old }
 {
-    let how = problem.store.completion();
-    let task = problem.task;
-    let _atoms = task.atoms();
+    let how = problem.completion();
     problem.laws();
     let point = marks.len();
-    let negative = problem.query.negative.as_slice();
-    if !choices::deny_all(task, problem.store, negative, number, problem.effect, marks) {
+    if !choices::deny_all(problem, number, marks) {
         return false;
     }
     if !complete::close(problem, marks, point) {

@@ -176,9 +176,8 @@ impl<K: ClauseKind> Formula<K> {
         let places = scratch.marks.as_mut_slice();
         let queue = scratch.queue.as_mut_slice();
         let watches = scratch.counts.as_mut_slice();
-        alone::meet::<K>(
-            &self.clauses,
-            &self.closure,
+        alone::meet(
+            self,
             cube.as_slice(),
             places,
             queue,

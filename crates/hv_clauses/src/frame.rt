@@ -3,28 +3,21 @@
 ghost use Rattle.std.specs.Prelude.{◌≡◌, ◌<◌, ◌≤◌, [], ℕ, Some, true, false, not, length};
 ghost use Rattle.std.specs.Prelude.{slice_get, List, Bool, IfSome};
 ghost use Rattle.std.specs.List.{All};
-ghost use Rattle.hv_task.specs.Strips.{atoms};
-ghost use Rattle.hv_sets.specs.Cost.{clauses_of};
-ghost use Rattle.hv_sets.specs.Query.{IsNamed};
-ghost use Rattle.hv_sets.specs.Truth.{in_clause};
 ghost use Rattle.hv_sets.specs.declared.operand.Operand.{Operand as OperandOf};
 ghost use Rattle.hv_sets.specs.declared.operand.Which.TheVariants as W;
-ghost use Rattle.hv_clauses.specs.Clausal.{clause_at, sizes_of};
-ghost use Rattle.hv_clauses.specs.Working.Choices.{Breaks};
-ghost use Rattle.hv_clauses.specs.Working.Clausal.{InAll, clauses_in, late};
 ghost use Rattle.hv_clauses.specs.Working.Found.{IsAlone, IsFramed};
-ghost use Rattle.hv_clauses.specs.Marks.{over};
 ghost use Rattle.hv_clauses.specs.Working.Marks.{Agrees};
-ghost use Rattle.hv_clauses.specs.Store.{AreOver, formula_at};
+ghost use Rattle.hv_clauses.specs.Working.Posed.{InEach, choices, size_in, width};
+ghost use Rattle.hv_clauses.specs.Working.Problem.{MissesAll, MissesClause};
 ghost use Rattle.hv_clauses.specs.Working.Trail.{marks_of};
 ghost use Rattle.hv_clauses.specs.Units.{value_of};
 
 use crate::change::Effect;
 use crate::clause_kind::ClauseKind;
+use crate::literals;
 use crate::problem::Problem;
 use crate::trail::Marks;
-use crate::{choices, literals};
-use hv_sets::{Literal, Operand, Query, Which};
+use hv_sets::{Literal, Operand, Which};
 
 // Whether a chosen clause is true in each state that agrees with what is known and is in each
 // positive operand, as far as that shows without propagation.
@@ -33,21 +26,15 @@ pub(crate) fn is_refuted<K: ClauseKind>(
     number: u64,
     marks: &Marks<'_>,
 ) -> bool
-    requires named { All (λ o. IsNamed (length problem.now.store.now) o.which)
-        problem.now.query.now.negative }
-    requires some { All (λ o. 0 < clauses_of problem.now.task.now
-        (sizes_of (formula_at problem.now.store.now)) o.which) problem.now.query.now.negative }
-    requires over { AreOver problem.now.store.now (atoms problem.now.task.now) }
-    ensures { result ≡ true → (state : List Bool) → length state ≡ atoms problem.now.task.now →
-        Agrees (marks_of marks.now) state → InAll problem.now.task.now
-        (formula_at problem.now.store.now) problem.now.effect.now problem.now.query.now.positive
-        state → Breaks problem.now.task.now (formula_at problem.now.store.now)
-        problem.now.effect.now problem.now.query.now.negative number state → ⊥ }
+    requires { number < choices problem.now }
+    ensures { result ≡ true → (state : List Bool) → length state ≡ width problem.now
+        → Agrees (marks_of marks.now) state → InEach problem.now state
+        → MissesAll problem.now number state → ⊥ }
 {
     let mut rest = number;
-    let negative = problem.query.negative.as_slice();
+    let negative = problem.negative();
     for operand in negative {
-        let count = choices::count_of(problem.task, problem.store, operand.which);
+        let count = problem.count_of(operand.which);
         if is_clause_true(problem, *operand, rest % count, marks) {
             return true;
         }
@@ -65,27 +52,20 @@ pub(crate) fn is_clause_true<K: ClauseKind>(
     place: u64,
     marks: &Marks<'_>,
 ) -> bool
-    requires named { IsNamed (length problem.now.store.now) operand.which }
-    requires place { place < clauses_of problem.now.task.now
-        (sizes_of (formula_at problem.now.store.now)) operand.which }
-    requires over { AreOver problem.now.store.now (atoms problem.now.task.now) }
-    ensures { result ≡ true → (state : List Bool) → length state ≡ atoms problem.now.task.now →
-        Agrees (marks_of marks.now) state → InAll problem.now.task.now
-        (formula_at problem.now.store.now) problem.now.effect.now problem.now.query.now.positive
-        state → in_clause (clause_at (clauses_in problem.now.task.now
-        (formula_at problem.now.store.now) operand.which) place)
-        (over (late problem.now.effect.now operand.after) state) ≡ false → ⊥ }
+    requires { place < size_in problem.now operand.which }
+    ensures { result ≡ true → (state : List Bool) → length state ≡ width problem.now
+        → Agrees (marks_of marks.now) state → InEach problem.now state
+        → MissesClause problem.now operand place state → ⊥ }
 {
     let Which::Set(number) = operand.which else {
         return false;
     };
-    let clause = problem.store.set(number).clauses().get(place as usize);
-    let seen = problem.effect.late(operand.after);
+    let clause = problem.set(number).clauses().get(place as usize);
+    let seen = problem.seen(operand.after);
     if literals::has_true(clause, &seen, marks) {
         return true;
     }
-    problem.query.positive.names(operand.which, !operand.after)
-        && is_held(clause, problem.effect, operand.after)
+    problem.names(operand.which, !operand.after) && is_held(clause, problem.effect(), operand.after)
 }
 
 // Whether the effect turns no literal of the clause: none is made false by it where the clause is
@@ -114,14 +94,14 @@ fn is_made(literal: Literal, effect: &Effect<'_>, to: bool) -> bool
 
 // The one negative operand, but for the empty set, if it is a set of the store that is a positive
 // operand at the other time.
-pub(crate) fn framed(query: &Query) -> Option<Operand>
-    ensures { IfSome result (IsFramed query.now) }
+pub(crate) fn framed<K: ClauseKind>(problem: &Problem<'_, K>) -> Option<Operand>
+    ensures { IfSome result (IsFramed problem.now) }
 {
-    let operand = alone(query.negative.as_slice())?;
+    let operand = alone(problem.negative())?;
     let Which::Set(_) = operand.which else {
         return None;
     };
-    if !query.positive.names(operand.which, !operand.after) {
+    if !problem.names(operand.which, !operand.after) {
         return None;
     }
     Some(operand)

@@ -4,19 +4,13 @@
 
 ghost use Rattle.std.specs.Prelude.{◌≡◌, ◌<◌, ◌≤◌, ◌+◌, ◌*◌, ◌/◌, ◌%◌, ◌^◌, ℕ, Bool, List, Some};
 ghost use Rattle.std.specs.Prelude.{MatchOption, false, true, length, slice_get};
-ghost use Rattle.hv_task.specs.Strips.{atoms};
-ghost use Rattle.hv_sets.specs.Cost.{choices_of, clauses_of};
-ghost use Rattle.hv_sets.specs.Query.{IsNamed};
-ghost use Rattle.hv_clauses.specs.Clausal.{clause_at, sizes_of};
-ghost use Rattle.hv_clauses.specs.Working.Clausal.{InAll, clauses_in, late};
-ghost use Rattle.hv_clauses.specs.Working.Found.{IsBased, IsMet, IsMetBelow, IsPosed};
+ghost use Rattle.hv_clauses.specs.Working.Found.{IsBased, IsMet, IsMetBelow};
 ghost use Rattle.hv_clauses.specs.Working.Front.{AreRefuted, IsAdvanced, IsFront, IsNever};
-ghost use Rattle.hv_clauses.specs.Working.Front.{MissesClause, block_end, block_length};
+ghost use Rattle.hv_clauses.specs.Working.Front.{block_end, block_length};
 ghost use Rattle.hv_clauses.specs.Working.Marks.{Agrees};
-ghost use Rattle.hv_clauses.specs.Working.Problem.{AreAllLeft, FitsChoice};
-ghost use Rattle.hv_clauses.specs.Store.{formula_at};
+ghost use Rattle.hv_clauses.specs.Working.Posed.{InEach, choices, size_in, width};
+ghost use Rattle.hv_clauses.specs.Working.Problem.{AreLeft, FitsChoice, IsMissed, MissesClause};
 ghost use Rattle.hv_clauses.specs.Working.Trail.{Grows, marks_of};
-ghost use Rattle.hv_clauses.specs.Working.Units.{AreFalse};
 
 use crate::clause_kind::ClauseKind;
 use crate::constraint::Constraint;
@@ -33,16 +27,10 @@ pub(crate) fn choose_each<K: ClauseKind>(
     marks: &mut Marks<'_>,
     state: &mut State,
 ) -> bool
-    requires posed { IsPosed problem.now.task.now problem.now.store.now problem.now.effect.now
-        problem.now.query.now }
-    requires cost { cost ≡ choices_of problem.now.task.now
-        (sizes_of (formula_at problem.now.store.now)) problem.now.query.now.negative }
-    requires based { IsBased problem.now.task.now (formula_at problem.now.store.now)
-        problem.now.effect.now problem.now.query.now marks.old }
-    requires state { length state.old ≡ atoms problem.now.task.now }
-    ensures met { IsMetBelow result cost (atoms problem.now.task.now)
-        (FitsChoice problem.now.task.now (formula_at problem.now.store.now) problem.now.effect.now
-        problem.now.query.now) state.new }
+    requires cost { cost ≡ choices problem.now }
+    requires based { IsBased problem.now marks.old }
+    requires state { length state.old ≡ width problem.now }
+    ensures met { IsMetBelow result cost (width problem.now) (FitsChoice problem.now) state.new }
     ensures state { length state.new ≡ length state.old }
 {
     let mut number = 0;
@@ -64,20 +52,13 @@ fn explore<K: ClauseKind>(
     marks: &mut Marks<'_>,
     state: &mut State,
 ) -> Option<u64>
-    requires posed { IsPosed problem.now.task.now problem.now.store.now problem.now.effect.now
-        problem.now.query.now }
-    requires cost { cost ≡ choices_of problem.now.task.now
-        (sizes_of (formula_at problem.now.store.now)) problem.now.query.now.negative }
+    requires cost { cost ≡ choices problem.now }
     requires number { number < cost }
-    requires based { IsBased problem.now.task.now (formula_at problem.now.store.now)
-        problem.now.effect.now problem.now.query.now marks.old }
-    requires state { length state.old ≡ atoms problem.now.task.now }
-    ensures tried { MatchOption result (IsMetBelow true cost (atoms problem.now.task.now)
-        (FitsChoice problem.now.task.now (formula_at problem.now.store.now) problem.now.effect.now
-        problem.now.query.now) state.new)
-        (λ upto. (number < upto) × AreRefuted problem.now.task.now
-        (formula_at problem.now.store.now) problem.now.effect.now problem.now.query.now number
-        upto) }
+    requires based { IsBased problem.now marks.old }
+    requires state { length state.old ≡ width problem.now }
+    ensures tried { MatchOption result (IsMetBelow true cost (width problem.now)
+        (FitsChoice problem.now) state.new)
+        (λ upto. (number < upto) × AreRefuted problem.now number upto) }
     ensures same { marks.new ≡ marks.old }
     ensures state { length state.new ≡ length state.old }
 {
@@ -95,30 +76,23 @@ fn explore_on<K: ClauseKind>(
     marks: &mut Marks<'_>,
     state: &mut State,
 ) -> Option<u64>
-    requires posed { IsPosed problem.now.task.now problem.now.store.now problem.now.effect.now
-        problem.now.query.now }
-    requires cost { cost ≡ choices_of problem.now.task.now
-        (sizes_of (formula_at problem.now.store.now)) problem.now.query.now.negative }
+    requires cost { cost ≡ choices problem.now }
     requires number { number < cost }
-    requires based { IsBased problem.now.task.now (formula_at problem.now.store.now)
-        problem.now.effect.now problem.now.query.now marks.old }
-    requires state { length state.old ≡ atoms problem.now.task.now }
-    ensures tried { MatchOption result (IsMetBelow true cost (atoms problem.now.task.now)
-        (FitsChoice problem.now.task.now (formula_at problem.now.store.now) problem.now.effect.now
-        problem.now.query.now) state.new)
-        (λ upto. (number < upto) × AreRefuted problem.now.task.now
-        (formula_at problem.now.store.now) problem.now.effect.now problem.now.query.now number
-        upto) }
+    requires based { IsBased problem.now marks.old }
+    requires state { length state.old ≡ width problem.now }
+    ensures tried { MatchOption result (IsMetBelow true cost (width problem.now)
+        (FitsChoice problem.now) state.new)
+        (λ upto. (number < upto) × AreRefuted problem.now number upto) }
     ensures grown { Grows marks.old marks.new }
     ensures state { length state.new ≡ length state.old }
 {
-    let negative = problem.query.negative.as_slice();
+    let negative = problem.negative();
     let count = negative.len();
     let mut next = number;
     let mut block = cost;
     for fixed in 0..count {
         let place = count - 1 - fixed;
-        let part = block / choices::count_of(problem.task, problem.store, negative[place].which);
+        let part = block / problem.count_of(negative[place].which);
         match first_open(problem, negative[place], place, next, part, marks) {
             None => return Some((next / block + 1) * block),
             Some(found) => next = found,
@@ -143,28 +117,18 @@ fn first_open<K: ClauseKind>(
     part: u64,
     marks: &mut Marks<'_>,
 ) -> Option<u64>
-    requires posed { IsPosed problem.now.task.now problem.now.store.now problem.now.effect.now
-        problem.now.query.now }
-    requires here { slice_get problem.now.query.now.negative place ≡ Some operand }
-    requires next { next < choices_of problem.now.task.now
-        (sizes_of (formula_at problem.now.store.now)) problem.now.query.now.negative }
-    requires few { choices_of problem.now.task.now (sizes_of (formula_at problem.now.store.now))
-        problem.now.query.now.negative < 2 ^ 64 }
-    requires part { part ≡ block_length problem.now.task.now (formula_at problem.now.store.now)
-        problem.now.query.now place }
-    requires front { IsFront problem.now.task.now (formula_at problem.now.store.now)
-        problem.now.effect.now problem.now.query.now (place + 1) (next / block_length
-        problem.now.task.now (formula_at problem.now.store.now) problem.now.query.now (place + 1))
+    requires here { slice_get problem.now.query.negative place ≡ Some operand }
+    requires next { next < choices problem.now }
+    requires few { choices problem.now < 2 ^ 64 }
+    requires part { part ≡ block_length problem.now place }
+    requires front { IsFront problem.now (place + 1) (next / block_length problem.now (place + 1))
         marks.old }
-    ensures open { MatchOption result (AreRefuted problem.now.task.now
-        (formula_at problem.now.store.now) problem.now.effect.now problem.now.query.now next
-        (block_end next (block_length problem.now.task.now (formula_at problem.now.store.now)
-        problem.now.query.now (place + 1))))
-        (λ found. IsAdvanced problem.now.task.now (formula_at problem.now.store.now)
-        problem.now.effect.now problem.now.query.now place next found marks.new) }
+    ensures open { MatchOption result (AreRefuted problem.now next
+        (block_end next (block_length problem.now (place + 1))))
+        (λ found. IsAdvanced problem.now place next found marks.new) }
     ensures grown { Grows marks.old marks.new }
 {
-    let count = choices::count_of(problem.task, problem.store, operand.which);
+    let count = problem.count_of(operand.which);
     let first = next / part;
     let end = (first / count + 1) * count;
     for rest in first..end {
@@ -199,25 +163,16 @@ fn fix<K: ClauseKind>(
     rest: u64,
     marks: &mut Marks<'_>,
 ) -> bool
-    requires posed { IsPosed problem.now.task.now problem.now.store.now problem.now.effect.now
-        problem.now.query.now }
-    requires here { slice_get problem.now.query.now.negative place ≡ Some operand }
-    requires some { 0 < clauses_of problem.now.task.now
-        (sizes_of (formula_at problem.now.store.now)) operand.which }
-    requires front { IsFront problem.now.task.now (formula_at problem.now.store.now)
-        problem.now.effect.now problem.now.query.now (place + 1)
-        (rest / clauses_of problem.now.task.now (sizes_of (formula_at problem.now.store.now))
-        operand.which) marks.old }
-    ensures front { result ≡ true → IsFront problem.now.task.now
-        (formula_at problem.now.store.now) problem.now.effect.now problem.now.query.now place rest
-        marks.new }
-    ensures never { result ≡ false → IsNever problem.now.task.now
-        (formula_at problem.now.store.now) problem.now.effect.now problem.now.query.now place
-        rest }
+    requires here { slice_get problem.now.query.negative place ≡ Some operand }
+    requires some { 0 < size_in problem.now operand.which }
+    requires front { IsFront problem.now (place + 1) (rest / size_in problem.now operand.which)
+        marks.old }
+    ensures front { result ≡ true → IsFront problem.now place rest marks.new }
+    ensures never { result ≡ false → IsNever problem.now place rest }
     ensures same { result ≡ false → marks.new ≡ marks.old }
     ensures grown { Grows marks.old marks.new }
 {
-    let digit = rest % choices::count_of(problem.task, problem.store, operand.which);
+    let digit = rest % problem.count_of(operand.which);
     if frame::is_clause_true(problem, operand, digit, marks) {
         return false;
     }
@@ -237,43 +192,22 @@ fn deny<K: ClauseKind>(
     digit: u64,
     marks: &mut Marks<'_>,
 ) -> bool
-    requires posed { IsPosed problem.now.task.now problem.now.store.now problem.now.effect.now
-        problem.now.query.now }
-    requires named { IsNamed (length problem.now.store.now) operand.which }
-    requires digit { digit < clauses_of problem.now.task.now
-        (sizes_of (formula_at problem.now.store.now)) operand.which }
-    requires wide { length marks.old.base ≡ atoms problem.now.task.now }
-    requires left { AreAllLeft problem.now.task.now (formula_at problem.now.store.now)
-        problem.now.effect.now problem.now.query.now.positive marks.old (length marks.old.trail) }
-    ensures follows { (state : List Bool) → length state ≡ atoms problem.now.task.now
-        → InAll problem.now.task.now (formula_at problem.now.store.now) problem.now.effect.now
-        problem.now.query.now.positive state → MissesClause problem.now.task.now
-        (formula_at problem.now.store.now) problem.now.effect.now operand digit state
+    requires digit { digit < size_in problem.now operand.which }
+    requires wide { length marks.old.base ≡ width problem.now }
+    requires left { AreLeft problem.now marks.old (length marks.old.trail) }
+    ensures follows { (state : List Bool) → length state ≡ width problem.now
+        → InEach problem.now state → MissesClause problem.now operand digit state
         → Agrees (marks_of marks.old) state → Agrees (marks_of marks.new) state }
-    ensures never { result ≡ false → (state : List Bool) → length state ≡ atoms problem.now.task.now
-        → InAll problem.now.task.now (formula_at problem.now.store.now) problem.now.effect.now
-        problem.now.query.now.positive state → MissesClause problem.now.task.now
-        (formula_at problem.now.store.now) problem.now.effect.now operand digit state
+    ensures never { result ≡ false → (state : List Bool) → length state ≡ width problem.now
+        → InEach problem.now state → MissesClause problem.now operand digit state
         → Agrees (marks_of marks.old) state → ⊥ }
-    ensures denied { result ≡ true → AreFalse (late problem.now.effect.now operand.after)
-        (clause_at (clauses_in problem.now.task.now (formula_at problem.now.store.now)
-        operand.which) digit) (marks_of marks.new) }
-    ensures left { result ≡ true → AreAllLeft problem.now.task.now
-        (formula_at problem.now.store.now) problem.now.effect.now problem.now.query.now.positive
-        marks.new (length marks.new.trail) }
+    ensures denied { result ≡ true → IsMissed problem.now operand digit (marks_of marks.new) }
+    ensures left { result ≡ true → AreLeft problem.now marks.new (length marks.new.trail) }
     ensures grown { Grows marks.old marks.new }
 {
     problem.laws();
-    let seen = problem.effect.late(operand.after);
     let point = marks.len();
-    if !choices::deny_which(
-        problem.task,
-        problem.store,
-        operand.which,
-        digit,
-        &seen,
-        marks,
-    ) {
+    if !choices::deny_clause(problem, operand, digit, marks) {
         return false;
     }
     complete::close(problem, marks, point)
@@ -286,19 +220,13 @@ fn finish<K: ClauseKind>(
     marks: &mut Marks<'_>,
     state: &mut State,
 ) -> bool
-    requires posed { IsPosed problem.now.task.now problem.now.store.now problem.now.effect.now
-        problem.now.query.now }
-    requires front { IsFront problem.now.task.now (formula_at problem.now.store.now)
-        problem.now.effect.now problem.now.query.now 0 number marks.old }
-    requires state { length state.old ≡ atoms problem.now.task.now }
-    ensures met { IsMet result (atoms problem.now.task.now)
-        (FitsChoice problem.now.task.now (formula_at problem.now.store.now) problem.now.effect.now
-        problem.now.query.now number) state.new }
+    requires front { IsFront problem.now 0 number marks.old }
+    requires state { length state.old ≡ width problem.now }
+    ensures met { IsMet result (width problem.now) (FitsChoice problem.now number) state.new }
     ensures grown { Grows marks.old marks.new }
     ensures state { length state.new ≡ length state.old }
 {
-    let how = problem.store.completion();
-    let _atoms = problem.task.atoms();
+    let how = problem.completion();
     problem.laws();
     complete::complete(how, problem, marks, state)
 }

@@ -1,57 +1,213 @@
-//! The positive operands of a query as a condition on states.
+//! A query as it is asked, and its positive operands as a condition on states.
 
-ghost use Rattle.std.specs.Prelude.{◌≡◌, ◌<◌, ◌+◌, ℕ, Some, false, true, length, map};
+ghost use Rattle.std.specs.Prelude.{◌≡◌, ◌<◌, ◌+◌, ℕ, None, Some, IfSome, MatchOption, false, true};
+ghost use Rattle.std.specs.Prelude.{◌↔◌, IsTrue, length, map};
 ghost use Rattle.std.specs.List.{All};
-ghost use Rattle.hv_task.specs.Strips.{atoms, is_goal, start_state};
+ghost use Rattle.hv_task.specs.State.{AreBelow, names_atom};
+ghost use Rattle.hv_task.specs.Strips.{IsTask, atoms, is_goal, start_state};
 ghost use Rattle.hv_sets.specs.declared.operand.Operand.{Operand as OperandOf};
-ghost use Rattle.hv_sets.specs.Query.{IsNamed, in_which};
+ghost use Rattle.hv_sets.specs.Names.{AsksAbout};
+ghost use Rattle.hv_sets.specs.Query.{IsNamed, IsReady, action_of};
 ghost use Rattle.hv_sets.specs.Truth.{is_same};
 ghost use Rattle.hv_clauses.specs.Working.Chase.{IsFollowed};
-ghost use Rattle.hv_clauses.specs.Clausal.{tests_of};
-ghost use Rattle.hv_clauses.specs.Working.Clausal.{InAll, clauses_of_state, late, unit};
+ghost use Rattle.hv_clauses.specs.Working.Clausal.{Completes, clauses_of_state, late, unit};
 ghost use Rattle.hv_clauses.specs.Marks.{over};
-ghost use Rattle.hv_clauses.specs.Working.Problem.{AreAllLeft, AreAllSettled, IsLeft};
+ghost use Rattle.hv_clauses.specs.Working.Posed.{InEach, IsPosed, formulas, size_in, width};
+ghost use Rattle.hv_clauses.specs.Working.Problem.{AreEachSettled, AreLeft, InOne, IsLeftOf};
 ghost use Rattle.hv_clauses.specs.Working.Trail.{marks_of};
 ghost use Rattle.hv_clauses.specs.Working.Units.{AreSettled};
 ghost use Rattle.hv_clauses.specs.Working.Start.{IsBasedOn};
-ghost use Rattle.hv_clauses.specs.Store.{AreOver, formula_at};
+ghost use Rattle.hv_clauses.specs.Store.{AreOver};
 
 use crate::change::Effect;
 use crate::clause_kind::ClauseKind;
+use crate::completion::Completion;
 use crate::constraint::Constraint;
+use crate::formula::Formula;
 use crate::formulas::Formulas;
 use crate::trail::Marks;
 use crate::{chase, choices, literals, turned};
-use hv_sets::{Operand, Query, Which};
-use hv_task::Task;
+use hv_sets::{Literal, Operand, Query, Which};
+use hv_task::{Action, AtomList, Task};
+use std::marker::Model;
 
-// A query over a store, and the effect of its action.
+/// A query, the task and the store of which it is asked, and the effect of its action.
 #[derive(Drop)]
 pub(crate) struct Problem<'a, K: ClauseKind> {
-    pub task: &'a Task,
-    pub store: &'a Formulas<K>,
-    pub query: &'a Query,
-    pub effect: &'a Effect<'a>,
+    task: &'a Task,
+    store: &'a Formulas<K>,
+    query: &'a Query,
+    effect: Effect<'a>,
+}
+
+impl<'a, K: ClauseKind> Model for Problem<'a, K> {
+    ghost use Rattle.hv_clauses.specs.Working.Posed.{IsPosed, Problem};
+
+    ghost Value = { Problem };
+
+    ghost view = { λ s. record {
+      task = s.task.now;
+      store = s.store.now;
+      query = s.query.now;
+      effect = s.effect;
+    } };
+
+    ghost invariant = { λ s. IsPosed record {
+      task = s.task.now;
+      store = s.store.now;
+      query = s.query.now;
+      effect = s.effect;
+    } };
+}
+
+impl<'a, K: ClauseKind> Problem<'a, K> {
+    /// The query, asked of this task and this store.
+    pub(crate) fn of(task: &'a Task, store: &'a Formulas<K>, query: &'a Query) -> Problem<'a, K>
+        requires ready { IsReady (length store.now) query.now }
+        requires over { AreOver store.now (atoms task.now) }
+        requires action { IfSome query.now.action (λ a. a < length task.now.actions) }
+        ensures posed { IsPosed result }
+        ensures task { result.task ≡ task.now }
+        ensures store { result.store ≡ store.now }
+        ensures query { result.query ≡ query.now }
+    {
+        let effect = Effect::of(task, query.action);
+        Problem {
+            task,
+            store,
+            query,
+            effect,
+        }
+    }
+
+    /// Whether some positive operand is this set, asked about after the action (true) or before it.
+    pub(crate) fn names(&self, which: Which, after: bool) -> bool
+        ensures { IsTrue result ↔ AsksAbout self.now.query.positive which after }
+    {
+        self.query.positive.names(which, after)
+    }
+
+    /// The store.
+    pub(crate) fn store(&self) -> &'a Formulas<K>
+        ensures { result.now ≡ self.now.store }
+    {
+        self.store
+    }
+
+    /// The effect of its action.
+    pub(crate) fn effect(&self) -> &Effect<'a>
+        ensures { result.now ≡ self.now.effect }
+    {
+        &self.effect
+    }
+
+    /// How many atoms the task has.
+    pub(crate) fn atoms(&self) -> u32
+        ensures atoms { result ≡ width self.now }
+        ensures task { IsTask self.now.task }
+    {
+        self.task.atoms()
+    }
+
+    /// The atoms that the goal asks for.
+    pub(crate) fn goal(&self) -> &'a AtomList
+        ensures goal { result.now ≡ self.now.task.goal }
+        ensures below { AreBelow (width self.now) result.now }
+    {
+        self.task.goal()
+    }
+
+    /// What is true of the atom in the initial state.
+    pub(crate) fn start_literal(&self, atom: u32) -> Literal
+        ensures { result ≡ record { atom = atom; positive = names_atom self.now.task.start atom } }
+    {
+        Literal {
+            atom,
+            positive: self.task.start().has(atom),
+        }
+    }
+
+    /// Its positive operands.
+    pub(crate) fn positive(&self) -> &'a [Operand]
+        ensures list { result.now ≡ self.now.query.positive }
+        ensures named { All (λ o. IsNamed (length self.now.store) o.which) result.now }
+    {
+        self.query.positive.as_slice()
+    }
+
+    /// Its negative operands.
+    pub(crate) fn negative(&self) -> &'a [Operand]
+        ensures list { result.now ≡ self.now.query.negative }
+        ensures named { All (λ o. IsNamed (length self.now.store) o.which) result.now }
+    {
+        self.query.negative.as_slice()
+    }
+
+    /// The effect through which an operand is asked about.
+    pub(crate) fn seen(&self, after: bool) -> Effect<'a>
+        ensures { result ≡ late self.now.effect after }
+    {
+        self.effect.late(after)
+    }
+
+    /// The set of this number.
+    pub(crate) fn set(&self, number: usize) -> &'a Formula<K>
+        requires { number < length self.now.store }
+        ensures clauses { result.now.clauses ≡ formulas self.now number }
+        ensures atoms { result.now.atoms ≡ width self.now }
+    {
+        self.store.set(number)
+    }
+
+    /// How many clauses an operand has.
+    pub(crate) fn count_of(&self, which: Which) -> u64
+        requires { IsNamed (length self.now.store) which }
+        ensures { result ≡ size_in self.now which }
+    {
+        match which {
+            Which::Empty => 1,
+            Which::Start => self.task.atoms() as u64,
+            Which::Goal => self.task.goal().len() as u64,
+            Which::Set(number) => self.store.set(number).clauses().len() as u64,
+        }
+    }
+
+    /// Its action, if it has one.
+    pub(crate) fn action(&self) -> Option<&'a Action>
+        ensures { MatchOption result (action_of self.now.task self.now.query.action ≡ None)
+            (λ action. (action_of self.now.task self.now.query.action ≡ Some action.now)
+            × AreBelow (width self.now) action.now.pre) }
+    {
+        match self.query.action {
+            None => None,
+            Some(number) => Some(self.task.action(number)),
+        }
+    }
+
+    /// How what is settled is completed to a state that is in each positive operand.
+    pub(crate) fn completion(&self) -> Completion
+        ensures completes { Completes result (InEach self.now) (AreEachSettled self.now)
+            (width self.now) }
+        ensures wide { length self.now.effect ≡ width self.now }
+    {
+        let _atoms = self.task.atoms();
+        self.store.completion()
+    }
 }
 
 impl<K: ClauseKind> Constraint for Problem<'_, K> {
-    ghost is_over = { λ p n. (n ≡ atoms p.task.now) × AreOver p.store.now (atoms p.task.now) × All
-        (λ o. IsNamed (length p.store.now) o.which) p.query.now.positive };
+    ghost is_over = { λ p n. n ≡ width p };
 
-    ghost admits = { λ p state. InAll p.task.now (formula_at p.store.now) p.effect.now
-        p.query.now.positive state };
+    ghost admits = { InEach };
 
-    ghost settled = { λ p marks. AreAllSettled p.task.now (formula_at p.store.now) p.effect.now
-        p.query.now.positive marks };
+    ghost settled = { AreEachSettled };
 
-    ghost left = { λ p k from. AreAllLeft p.task.now (formula_at p.store.now) p.effect.now
-        p.query.now.positive k from };
+    ghost left = { AreLeft };
 
     fn visit(&self, marks: &mut Marks<'_>, from: usize) -> bool {
-        let positive = self.query.positive.as_slice();
+        let positive = self.positive();
         for operand in positive {
-            let seen = self.effect.late(operand.after);
-            if !visit_which(self.task, self.store, operand.which, &seen, marks, from) {
+            if !visit_operand(self, *operand, marks, from) {
                 return false;
             }
         }
@@ -62,30 +218,25 @@ impl<K: ClauseKind> Constraint for Problem<'_, K> {
 }
 
 // Follows up the literal at this place of the trail in the clauses of an operand.
-fn visit_which<K: ClauseKind>(
-    task: &Task,
-    store: &Formulas<K>,
-    which: Which,
-    effect: &Effect<'_>,
+fn visit_operand<K: ClauseKind>(
+    problem: &Problem<'_, K>,
+    operand: Operand,
     marks: &mut Marks<'_>,
     from: usize,
 ) -> bool
-    requires named { IsNamed (length store.now) which }
-    requires over { AreOver store.now (atoms task.now) }
-    requires size { length marks.old.base ≡ atoms task.now }
+    requires named { IsNamed (length problem.now.store) operand.which }
+    requires size { length marks.old.base ≡ width problem.now }
     requires from { from < length marks.old.trail }
-    requires left { IsLeft task.now (formula_at store.now) effect.now which marks.old from }
-    ensures followed { IsFollowed
-        (λ state. in_which task.now (tests_of (formula_at store.now)) which
-        (over effect.now state) ≡ true) marks.old marks.new result }
-    ensures left { result ≡ true → IsLeft task.now (formula_at store.now) effect.now which marks.new
-        (from + 1) }
+    requires left { IsLeftOf problem.now operand marks.old from }
+    ensures followed { IsFollowed (InOne problem.now operand) marks.old marks.new result }
+    ensures left { result ≡ true → IsLeftOf problem.now operand marks.new (from + 1) }
 {
-    let Which::Set(number) = which else {
+    let Which::Set(number) = operand.which else {
         return true;
     };
-    let set = store.set(number);
-    chase::visit(set.clauses(), set.occurs(), effect, marks, from)
+    let seen = problem.seen(operand.after);
+    let set = problem.set(number);
+    chase::visit(set.clauses(), set.occurs(), &seen, marks, from)
 }
 
 // Looks at each clause of each positive operand once; of that on which all is based, at each of
@@ -95,19 +246,12 @@ pub(crate) fn start_all<K: ClauseKind>(
     based: Option<Operand>,
     marks: &mut Marks<'_>,
 ) -> bool
-    requires named { All (λ o. IsNamed (length problem.now.store.now) o.which)
-        problem.now.query.now.positive }
-    requires over { AreOver problem.now.store.now (atoms problem.now.task.now) }
-    requires size { length marks.old.base ≡ atoms problem.now.task.now }
-    requires based { IsBasedOn (formula_at problem.now.store.now) problem.now.effect.now based
-        marks.old.base }
-    ensures followed { IsFollowed (InAll problem.now.task.now (formula_at problem.now.store.now)
-        problem.now.effect.now problem.now.query.now.positive) marks.old marks.new result }
-    ensures left { result ≡ true → AreAllLeft problem.now.task.now
-        (formula_at problem.now.store.now) problem.now.effect.now problem.now.query.now.positive
-        marks.new 0 }
+    requires size { length marks.old.base ≡ width problem.now }
+    requires based { IsBasedOn problem.now based marks.old.base }
+    ensures followed { IsFollowed (InEach problem.now) marks.old marks.new result }
+    ensures left { result ≡ true → AreLeft problem.now marks.new 0 }
 {
-    let positive = problem.query.positive.as_slice();
+    let positive = problem.positive();
     for operand in positive {
         if !start_operand(problem, *operand, based, marks) {
             return false;
@@ -124,26 +268,25 @@ fn start_operand<K: ClauseKind>(
     based: Option<Operand>,
     marks: &mut Marks<'_>,
 ) -> bool
-    requires named { IsNamed (length problem.now.store.now) operand.which }
-    requires over { AreOver problem.now.store.now (atoms problem.now.task.now) }
-    requires size { length marks.old.base ≡ atoms problem.now.task.now }
-    requires based { IsBasedOn (formula_at problem.now.store.now) problem.now.effect.now based
-        marks.old.base }
-    ensures followed { IsFollowed (λ state. in_which problem.now.task.now
-        (tests_of (formula_at problem.now.store.now)) operand.which
-        (over (late problem.now.effect.now operand.after) state) ≡ true) marks.old marks.new
-        result }
-    ensures left { result ≡ true → IsLeft problem.now.task.now (formula_at problem.now.store.now)
-        (late problem.now.effect.now operand.after) operand.which marks.new 0 }
+    requires named { IsNamed (length problem.now.store) operand.which }
+    requires size { length marks.old.base ≡ width problem.now }
+    requires based { IsBasedOn problem.now based marks.old.base }
+    ensures followed { IsFollowed (InOne problem.now operand) marks.old marks.new result }
+    ensures left { result ≡ true → IsLeftOf problem.now operand marks.new 0 }
 {
-    let seen = problem.effect.late(operand.after);
-    if let Which::Set(number) = operand.which {
-        if is_based(operand, based) {
-            let set = problem.store.set(number);
-            return turned::start(set.clauses(), set.occurs(), &seen, marks);
+    let seen = problem.seen(operand.after);
+    match operand.which {
+        Which::Empty => false,
+        Which::Start => start_start(problem, &seen, marks),
+        Which::Goal => start_goal(problem, &seen, marks),
+        Which::Set(number) => {
+            let set = problem.set(number);
+            if is_based(operand, based) {
+                return turned::start(set.clauses(), set.occurs(), &seen, marks);
+            }
+            chase::start(set.clauses(), &seen, marks)
         }
     }
-    start_which(problem.task, problem.store, operand.which, &seen, marks)
 }
 
 // Whether the operand is that on which all is based.
@@ -157,41 +300,20 @@ fn is_based(operand: Operand, based: Option<Operand>) -> bool
     operand.which == base.which && operand.after == base.after
 }
 
-// Looks at each clause of an operand once.
-fn start_which<K: ClauseKind>(
-    task: &Task,
-    store: &Formulas<K>,
-    which: Which,
+// Makes each atom as it is in the initial state.
+fn start_start<K: ClauseKind>(
+    problem: &Problem<'_, K>,
     effect: &Effect<'_>,
     marks: &mut Marks<'_>,
 ) -> bool
-    requires named { IsNamed (length store.now) which }
-    requires over { AreOver store.now (atoms task.now) }
-    requires size { length marks.old.base ≡ atoms task.now }
-    ensures followed { IsFollowed
-        (λ state. in_which task.now (tests_of (formula_at store.now)) which
+    requires size { length marks.old.base ≡ width problem.now }
+    ensures followed { IsFollowed (λ state. is_same (start_state problem.now.task)
         (over effect.now state) ≡ true) marks.old marks.new result }
-    ensures left { result ≡ true → IsLeft task.now (formula_at store.now) effect.now which marks.new
-        0 }
-{
-    match which {
-        Which::Empty => false,
-        Which::Start => start_start(task, effect, marks),
-        Which::Goal => start_goal(task, effect, marks),
-        Which::Set(number) => chase::start(store.set(number).clauses(), effect, marks),
-    }
-}
-
-// Makes each atom as it is in the initial state.
-fn start_start(task: &Task, effect: &Effect<'_>, marks: &mut Marks<'_>) -> bool
-    requires size { length marks.old.base ≡ atoms task.now }
-    ensures followed { IsFollowed (λ state. is_same (start_state task.now) (over effect.now state) ≡
-        true) marks.old marks.new result }
     ensures settled { result ≡ true → AreSettled effect.now
-        (clauses_of_state (atoms task.now) task.now.start) (marks_of marks.new) }
+        (clauses_of_state (width problem.now) problem.now.task.start) (marks_of marks.new) }
 {
-    for atom in 0..task.atoms() {
-        let literal = choices::start_literal(task, atom);
+    for atom in 0..problem.atoms() {
+        let literal = problem.start_literal(atom);
         if !literals::force(literal, effect, marks) {
             return false;
         }
@@ -200,14 +322,18 @@ fn start_start(task: &Task, effect: &Effect<'_>, marks: &mut Marks<'_>) -> bool
 }
 
 // Makes each atom of the goal true.
-fn start_goal(task: &Task, effect: &Effect<'_>, marks: &mut Marks<'_>) -> bool
-    requires size { length marks.old.base ≡ atoms task.now }
-    ensures followed { IsFollowed (λ state. is_goal task.now (over effect.now state) ≡ true)
+fn start_goal<K: ClauseKind>(
+    problem: &Problem<'_, K>,
+    effect: &Effect<'_>,
+    marks: &mut Marks<'_>,
+) -> bool
+    requires size { length marks.old.base ≡ width problem.now }
+    ensures followed { IsFollowed (λ state. is_goal problem.now.task (over effect.now state) ≡ true)
         marks.old marks.new result }
     ensures settled { result ≡ true → AreSettled effect.now
-        (map (λ atom. unit atom true) task.now.goal) (marks_of marks.new) }
+        (map (λ atom. unit atom true) problem.now.task.goal) (marks_of marks.new) }
 {
-    let goal = task.goal().as_slice();
+    let goal = problem.goal().as_slice();
     for atom in goal {
         let literal = choices::goal_literal(*atom);
         if !literals::force(literal, effect, marks) {

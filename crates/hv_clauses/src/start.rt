@@ -2,12 +2,9 @@
 
 ghost use Rattle.std.specs.Prelude.{◌≡◌, ◌<◌, [], Bool, List, MatchOption, IfSome, None, length};
 ghost use Rattle.std.specs.List.{All, Contains};
-ghost use Rattle.hv_task.specs.Strips.{atoms};
-ghost use Rattle.hv_sets.specs.declared.operand.Which.TheVariants as W;
 ghost use Rattle.hv_sets.specs.Query.{IsNamed};
-ghost use Rattle.hv_clauses.specs.Working.Clausal.{InAll};
+ghost use Rattle.hv_clauses.specs.Working.Posed.{InEach, width};
 ghost use Rattle.hv_clauses.specs.Working.Start.{IsSetAmong, IsStart};
-ghost use Rattle.hv_clauses.specs.Store.{AreOver, formula_at};
 
 use crate::base::Base;
 use crate::clause_kind::ClauseKind;
@@ -27,16 +24,11 @@ pub(crate) struct Start<'a> {
 // the effect makes anew, where the operand is asked about after the action. The answer is None only
 // if no state is in the operand.
 pub(crate) fn start_of<'a, K: ClauseKind>(problem: &Problem<'a, K>) -> Option<Start<'a>>
-    requires named { All (λ o. IsNamed (length problem.now.store.now) o.which)
-        problem.now.query.now.positive }
-    requires over { AreOver problem.now.store.now (atoms problem.now.task.now) }
-    ensures { MatchOption result ((state : List Bool) → length state ≡ atoms problem.now.task.now →
-        InAll problem.now.task.now (formula_at problem.now.store.now) problem.now.effect.now
-        problem.now.query.now.positive state → ⊥) (IsStart problem.now.task.now
-        (formula_at problem.now.store.now) problem.now.effect.now problem.now.query.now) }
+    ensures { MatchOption result ((state : List Bool) → length state ≡ width problem.now
+        → InEach problem.now state → ⊥) (IsStart problem.now) }
 {
-    let positive = problem.query.positive.as_slice();
-    match largest(problem.store, positive) {
+    let positive = problem.positive();
+    match largest(problem.store(), positive) {
         None => Some(nothing()),
         Some(operand) => start_at(problem, operand),
     }
@@ -74,19 +66,16 @@ fn largest<K: ClauseKind>(store: &Formulas<K>, operands: &[Operand]) -> Option<O
 
 // What follows from this positive operand.
 fn start_at<'a, K: ClauseKind>(problem: &Problem<'a, K>, operand: Operand) -> Option<Start<'a>>
-    requires among { Contains problem.now.query.now.positive operand }
-    requires named { IsNamed (length problem.now.store.now) operand.which }
-    requires over { AreOver problem.now.store.now (atoms problem.now.task.now) }
-    ensures { MatchOption result ((state : List Bool) → length state ≡ atoms problem.now.task.now →
-        InAll problem.now.task.now (formula_at problem.now.store.now) problem.now.effect.now
-        problem.now.query.now.positive state → ⊥) (IsStart problem.now.task.now
-        (formula_at problem.now.store.now) problem.now.effect.now problem.now.query.now) }
+    requires among { Contains problem.now.query.positive operand }
+    requires named { IsNamed (length problem.now.store) operand.which }
+    ensures { MatchOption result ((state : List Bool) → length state ≡ width problem.now
+        → InEach problem.now state → ⊥) (IsStart problem.now) }
 {
     let Which::Set(number) = operand.which else {
         return Some(nothing());
     };
-    let seen = problem.effect.late(operand.after);
-    match problem.store.set(number).forced() {
+    let seen = problem.seen(operand.after);
+    match problem.set(number).forced() {
         None => None,
         Some(forced) => Some(Start {
             operand: Some(operand),

@@ -3,15 +3,11 @@
 
 ghost use Rattle.std.specs.Prelude.{◌≡◌, ◌<◌, Some, length, slice_index, true};
 ghost use Rattle.std.specs.List.{Contains};
-ghost use Rattle.hv_task.specs.Strips.{atoms};
-ghost use Rattle.hv_sets.specs.Cost.{choices_of};
-ghost use Rattle.hv_clauses.specs.Clausal.{sizes_of};
 ghost use Rattle.hv_clauses.specs.Working.Found.{IsBased, IsFramed, IsMet, IsMetAmong, IsMetBelow};
-ghost use Rattle.hv_clauses.specs.Working.Found.{IsPosed};
 ghost use Rattle.hv_clauses.specs.Working.Occurrences.{AreStanding, entry_or_none, no_literal};
 ghost use Rattle.hv_clauses.specs.Working.Occurrences.{turning_sign};
+ghost use Rattle.hv_clauses.specs.Working.Posed.{choices, formulas, width};
 ghost use Rattle.hv_clauses.specs.Working.Problem.{FitsChoice};
-ghost use Rattle.hv_clauses.specs.Store.{formula_at};
 ghost use Rattle.hv_clauses.specs.Working.Touched.{IsTouched, IsTurnedBy};
 ghost use Rattle.hv_clauses.specs.Working.Trail.{literal_of, marks_of};
 ghost use Rattle.hv_clauses.specs.Units.{value_of};
@@ -40,24 +36,18 @@ pub(crate) fn choose_touched<K: ClauseKind>(
     marks: &mut Marks<'_>,
     state: &mut State,
 ) -> bool
-    requires framed { IsFramed problem.now.query.now operand }
-    requires posed { IsPosed problem.now.task.now problem.now.store.now problem.now.effect.now
-        problem.now.query.now }
-    requires based { IsBased problem.now.task.now (formula_at problem.now.store.now)
-        problem.now.effect.now problem.now.query.now marks.old }
-    requires state { length state.old ≡ atoms problem.now.task.now }
-    ensures met { IsMetBelow result (choices_of problem.now.task.now
-        (sizes_of (formula_at problem.now.store.now)) problem.now.query.now.negative)
-        (atoms problem.now.task.now) (FitsChoice problem.now.task.now
-        (formula_at problem.now.store.now)
-        problem.now.effect.now problem.now.query.now) state.new }
+    requires framed { IsFramed problem.now operand }
+    requires based { IsBased problem.now marks.old }
+    requires state { length state.old ≡ width problem.now }
+    ensures met { IsMetBelow result (choices problem.now)
+        (width problem.now) (FitsChoice problem.now) state.new }
     ensures same { marks.new ≡ marks.old }
     ensures state { length state.new ≡ length state.old }
 {
     let Which::Set(number) = operand.which else {
         return false;
     };
-    let set = problem.store.set(number);
+    let set = problem.set(number);
     let _clauses = set.clauses();
     let touched = Touched {
         operand,
@@ -79,25 +69,17 @@ fn try_value<K: ClauseKind>(
     marks: &mut Marks<'_>,
     state: &mut State,
 ) -> bool
-    requires touched { IsTouched problem.now.task.now (formula_at problem.now.store.now)
-        problem.now.query.now touched.now }
-    requires posed { IsPosed problem.now.task.now problem.now.store.now problem.now.effect.now
-        problem.now.query.now }
-    requires based { IsBased problem.now.task.now (formula_at problem.now.store.now)
-        problem.now.effect.now problem.now.query.now marks.old }
-    requires state { length state.old ≡ atoms problem.now.task.now }
-    ensures met { IsMetAmong result (IsTurnedBy problem.now.effect.now value
-        (turning_sign touched.now.operand.after value)
-        (formula_at problem.now.store.now touched.now.number))
-        (choices_of problem.now.task.now (sizes_of (formula_at problem.now.store.now))
-        problem.now.query.now.negative) (atoms problem.now.task.now)
-        (FitsChoice problem.now.task.now (formula_at problem.now.store.now) problem.now.effect.now
-        problem.now.query.now) state.new }
+    requires touched { IsTouched problem.now touched.now }
+    requires based { IsBased problem.now marks.old }
+    requires state { length state.old ≡ width problem.now }
+    ensures met { IsMetAmong result (IsTurnedBy problem.now.effect value
+        (turning_sign touched.now.operand.after value) (formulas problem.now touched.now.number))
+        (choices problem.now) (width problem.now) (FitsChoice problem.now) state.new }
     ensures same { marks.new ≡ marks.old }
     ensures state { length state.new ≡ length state.old }
 {
     let sign = turning_sign(touched.operand.after, value);
-    let turned = problem.effect.turned(value);
+    let turned = problem.effect().turned(value);
     for atom in turned {
         let own = Literal {
             atom: *atom,
@@ -127,20 +109,12 @@ fn try_listed<K: ClauseKind>(
     marks: &mut Marks<'_>,
     state: &mut State,
 ) -> bool
-    requires standing { AreStanding (formula_at problem.now.store.now touched.now.number)
-        standing.now }
-    requires touched { IsTouched problem.now.task.now (formula_at problem.now.store.now)
-        problem.now.query.now touched.now }
-    requires posed { IsPosed problem.now.task.now problem.now.store.now problem.now.effect.now
-        problem.now.query.now }
-    requires based { IsBased problem.now.task.now (formula_at problem.now.store.now)
-        problem.now.effect.now problem.now.query.now marks.old }
-    requires state { length state.old ≡ atoms problem.now.task.now }
+    requires standing { AreStanding (formulas problem.now touched.now.number) standing.now }
+    requires touched { IsTouched problem.now touched.now }
+    requires based { IsBased problem.now marks.old }
+    requires state { length state.old ≡ width problem.now }
     ensures met { IsMetAmong result (Contains standing.now.places.now)
-        (choices_of problem.now.task.now (sizes_of (formula_at problem.now.store.now))
-        problem.now.query.now.negative) (atoms problem.now.task.now)
-        (FitsChoice problem.now.task.now (formula_at problem.now.store.now) problem.now.effect.now
-        problem.now.query.now) state.new }
+        (choices problem.now) (width problem.now) (FitsChoice problem.now) state.new }
     ensures same { marks.new ≡ marks.old }
     ensures state { length state.new ≡ length state.old }
 {
@@ -162,23 +136,17 @@ fn try_one<K: ClauseKind>(
     marks: &mut Marks<'_>,
     state: &mut State,
 ) -> bool
-    requires standing { AreStanding (formula_at problem.now.store.now touched.now.number)
-        standing.now }
+    requires standing { AreStanding (formulas problem.now touched.now.number) standing.now }
     requires index { index < length standing.now.places.now }
-    requires touched { IsTouched problem.now.task.now (formula_at problem.now.store.now)
-        problem.now.query.now touched.now }
-    requires posed { IsPosed problem.now.task.now problem.now.store.now problem.now.effect.now
-        problem.now.query.now }
-    requires based { IsBased problem.now.task.now (formula_at problem.now.store.now)
-        problem.now.effect.now problem.now.query.now marks.old }
-    requires state { length state.old ≡ atoms problem.now.task.now }
-    ensures met { IsMet result (atoms problem.now.task.now)
-        (FitsChoice problem.now.task.now (formula_at problem.now.store.now) problem.now.effect.now
-        problem.now.query.now (slice_index standing.now.places.now index)) state.new }
+    requires touched { IsTouched problem.now touched.now }
+    requires based { IsBased problem.now marks.old }
+    requires state { length state.old ≡ width problem.now }
+    ensures met { IsMet result (width problem.now)
+        (FitsChoice problem.now (slice_index standing.now.places.now index)) state.new }
     ensures same { marks.new ≡ marks.old }
     ensures state { length state.new ≡ length state.old }
 {
-    let seen = problem.effect.late(touched.operand.after);
+    let seen = problem.seen(touched.operand.after);
     if is_true(standing.entries, index, &seen, marks) {
         return false;
     }

@@ -1,24 +1,22 @@
 -- The clauses of the one negative operand, where its set is a positive operand at the other time.
 use Rattle.std.specs.Prelude.{◌≡◌, ℕ, Bool, List, Some}
-use Rattle.hv_task.specs.Strips.{Strips, atoms}
 use Rattle.hv_sets.specs.declared.literal.Literal.{Literal}
 use Rattle.hv_sets.specs.declared.operand.Which.TheVariants as W
-use Rattle.hv_sets.specs.declared.query.Query.{Query}
 use Rattle.hv_clauses.specs.declared.touched.Touched.{Touched}
 use Rattle.hv_clauses.specs.Clausal.{AreClauses}
 use Rattle.hv_clauses.specs.Marks.{known}
 use Rattle.hv_clauses.specs.Working.Found.{IsFramed}
 use Rattle.hv_clauses.specs.Working.Occurrences.{IsIndexOf}
+use Rattle.hv_clauses.specs.Working.Posed.{Problem, formulas, width}
 use Rattle.hv_clauses.specs.Working.Signed.{StandsAs}
 
 -- the operand is framed by the query, it is the set of this number, the clauses of which speak of
 -- the atoms of the task, and the lists tell where their literals stand
-pub record IsTouched (task : Strips) (formulas : ℕ → List (List Literal)) (query : Query)
-    (touched : Touched) : Type 0 where
-  pub framed : IsFramed query touched.operand
+pub record IsTouched (p : Problem) (touched : Touched) : Type 0 where
+  pub framed : IsFramed p touched.operand
   pub which : touched.operand.which ≡ W.Set touched.number
-  pub below : AreClauses (atoms task) (formulas touched.number)
-  pub index : IsIndexOf (formulas touched.number) touched.occurs.now
+  pub below : AreClauses (width p) (formulas p touched.number)
+  pub index : IsIndexOf (formulas p touched.number) touched.occurs.now
 
 -- in the clause of this number some atom that the effect makes this value stands with this sign
 pub record IsTurnedBy (effect : List ℕ) (value sign : Bool) (clauses : List (List Literal))

@@ -9,26 +9,27 @@ use Rattle.hv_clauses.proofs.alone.meet.Goals as goal
 pub meet_from-requires-clause-marks : goal.meet_from-requires-clause-marks
 meet_from-requires-clause-marks g c =
     ap (λ (k : Knowledge). length k.base) c.over-marks.ensures
-    ∙ (length-marked c.atoms-atoms.result c.as_slice-forced.result.now ∙ c.atoms-atoms.ensures)
+    ∙ (length-marked c.atoms-atoms.result c.in-Some.forced.now
+    ∙ (c.atoms-atoms.ensures ∙ sym c.requires.atoms))
 
 pub meet_from-requires-clause-settled : goal.meet_from-requires-clause-settled
 meet_from-requires-clause-settled g c =
-    let forced = c.requires.closure.forced c.if-closure.false in
-    let settled = subst (λ ls. AreForced (length c.args.state.now) c.args.clauses.now ls)
-    (sym c.as_slice-forced.ensures.value) forced in
-    let at = subst (λ n. AreForced n c.args.clauses.now c.as_slice-forced.result.now)
-    (sym c.atoms-atoms.ensures) settled in
-    subst (λ (k : Knowledge). AreSettled [] c.args.clauses.now (marks_of k))
-    (sym c.over-marks.ensures) at.settled
+    let forced = c.in-Some.forced.now in
+    let clauses = c.alone-alone.result.clauses.now in
+    let at = subst (λ n. AreForced n clauses forced) (sym c.atoms-atoms.ensures)
+    (subst (λ cs. AreForced c.args.set.now.atoms cs forced) (sym c.alone-alone.ensures.clauses)
+    c.in-Some.ensures) in
+    subst (λ (k : Knowledge). AreSettled [] clauses (marks_of k)) (sym c.over-marks.ensures)
+    at.settled
 
 pub meet_from-requires-clause-follows : goal.meet_from-requires-clause-follows
 meet_from-requires-clause-follows g c = λ state size holds.
-    let forced = c.requires.closure.forced c.if-closure.false in
-    let settled = subst (λ ls. AreForced (length c.args.state.now) c.args.clauses.now ls)
-    (sym c.as_slice-forced.ensures.value) forced in
-    let at = subst (λ n. AreForced n c.args.clauses.now c.as_slice-forced.result.now)
-    (sym c.atoms-atoms.ensures) settled in
+    let forced = c.in-Some.forced.now in
+    let clauses = c.alone-alone.result.clauses.now in
+    let at = subst (λ n. AreForced n clauses forced) (sym c.atoms-atoms.ensures)
+    (subst (λ cs. AreForced c.args.set.now.atoms cs forced) (sym c.alone-alone.ensures.clauses)
+    c.in-Some.ensures) in
     let wide = ap (λ (k : Knowledge). length k.base) c.over-marks.ensures
-    ∙ length-marked c.atoms-atoms.result c.as_slice-forced.result.now in
+    ∙ length-marked c.atoms-atoms.result forced in
     subst (λ (k : Knowledge). Agrees (marks_of k) state) (sym c.over-marks.ensures)
     (at.follows state (size ∙ wide) holds)

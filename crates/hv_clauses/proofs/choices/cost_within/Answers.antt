@@ -5,9 +5,8 @@ use Rattle.std.specs.Option.{MatchOption}
 use Rattle.hv_task.specs.Strips.{Strips}
 use Rattle.hv_sets.specs.declared.operand.Operand.{Operand}
 use Rattle.hv_sets.specs.Cost.{choices_of, clauses_of}
-use Rattle.hv_clauses.specs.Clausal.{sizes_of}
 use Rattle.hv_clauses.proofs.Choosing.{choices_more, choices_upto}
-use Rattle.hv_clauses.specs.Store.{formula_at}
+use Rattle.hv_clauses.specs.Working.Posed.{choices, size_in, sizes}
 use Rattle.hv_clauses.proofs.choices.cost_within.Goals as goal
 
 -- without a result the budget is passed
@@ -40,19 +39,26 @@ product_over task sizes operands place d old count budget within some first here
     let upto = choices_upto task sizes operands (place + 1) some in
     omega (arith, same, upto, over)
 
+pub returns-then-has_empty : goal.returns-then-has_empty
+returns-then-has_empty g c =
+    let p = c.args.problem.now in
+    let none : 0 ≡ choices p = sym (c.if-has_empty.ensures.none refl) in
+    (none, omega arith)
+
 pub returns-in_err-cost : goal.returns-in_err-cost
 returns-in_err-cost g c =
-    none_over c.from_residual.result _ _ c.from_residual.ensures (
-    product_over c.args.task.now (sizes_of (formula_at c.args.store.now)) c.args.negative.now
-    c.loop-operand.operand-index _
+    let p = c.args.problem.now in
+    none_over c.from_residual.result _ _ c.from_residual.ensures
+    (subst (λ os. c.args.budget < choices_of p.task (sizes p) os) c.negative-negative.ensures.list
+    (product_over p.task (sizes p) c.negative-negative.result.now c.loop-operand.operand-index _
     c.loop-operand.cost c.count_of.result c.args.budget c.loop-operand-test.true
-    (c.if-has_empty.ensures.some refl)
-    c.loop-operand.invariant c.count_of.ensures c.in_err-cost.ensures
-    )
+    (subst (λ os. All (λ o. 0 < size_in p o.which) os) (sym c.negative-negative.ensures.list)
+    (c.if-has_empty.ensures.some refl)) c.loop-operand.invariant c.count_of.ensures
+    c.in_err-cost.ensures))
 
 pub loop-operand-preserved : goal.loop-operand-preserved
 loop-operand-preserved g c =
-    product_more c.args.task.now (sizes_of (formula_at c.args.store.now)) c.args.negative.now
-    c.loop-operand.operand-index _
+    let p = c.args.problem.now in
+    product_more p.task (sizes p) c.negative-negative.result.now c.loop-operand.operand-index _
     c.loop-operand.cost c.count_of.result c.in_ok-cost.cost c.loop-operand-test.true
     c.loop-operand.invariant c.count_of.ensures c.in_ok-cost.ensures.0

@@ -3,8 +3,7 @@ use Rattle.hv_clauses.specs.Working.Trail.{marks_of}
 use Rattle.hv_clauses.proofs.effect.mark_pre.Goals as goal
 
 pub returns-in-Some-clause-marked : goal.returns-in-Some-clause-marked
-returns-in-Some-clause-marked c =
-    enabled_by c.args.task.now c.args.action c.in-Some.number c.action.result.now
-    c.as_slice.result.now (marks_of c.args.marks.now) (marks_of c.force_in.new.marks)
-    c.force_in.result c.in-Some.is c.action.ensures.named c.as_slice.ensures.items
+returns-in-Some-clause-marked g c =
+    enabled_by _ c.in-Some.action.now c.as_slice.result.now (marks_of c.args.marks.now)
+    (marks_of c.force_in.new.marks) c.force_in.result c.in-Some.ensures.0 c.as_slice.ensures.items
     c.force_in.ensures.marked

@@ -1,22 +1,8 @@
-use Rattle.std.proofs.Common.{◌∙◌, length, take, refl, sym, ap}
-use Rattle.hv_clauses.specs.Store.{formula_at}
+use Rattle.std.proofs.Common.{◌∙◌, take, refl, sym, ap}
 use Rattle.hv_clauses.specs.Working.Trail.{Knowledge}
 use Rattle.hv_clauses.proofs.Chasing.{undone_same}
-use Rattle.hv_clauses.proofs.Deciding.{named_second, some_clauses}
 use Rattle.hv_clauses.proofs.Trailed.{length-marks}
 use Rattle.hv_clauses.proofs.find.decide.Goals as goal
-
-pub is_refuted-requires-clause-named : goal.is_refuted-requires-clause-named
-is_refuted-requires-clause-named g c =
-    let p = c.args.problem.now in
-    named_second (length p.store.now) p.query.now.positive p.query.now.negative p.query.now.negative
-    refl c.requires.posed.ready.named
-
-pub is_refuted-requires-clause-some : goal.is_refuted-requires-clause-some
-is_refuted-requires-clause-some g c =
-    let p = c.args.problem.now in
-    some_clauses p.task.now (formula_at p.store.now) p.effect.now p.query.now p.query.now.negative
-    c.args.number refl c.requires.number
 
 pub returns-then-is_refuted-clause-met : goal.returns-then-is_refuted-clause-met
 returns-then-is_refuted-clause-met g c = λ state size fits.

@@ -1,8 +1,6 @@
 use Rattle.std.proofs.Common.{◌∙◌, length, refl, sym, ap, subst}
 use Rattle.hv_clauses.specs.Working.Start.{IsBasedOn}
-use Rattle.hv_clauses.specs.Store.{formula_at}
 use Rattle.hv_clauses.specs.Working.Trail.{marks_of}
-use Rattle.hv_clauses.proofs.Deciding.{named_first}
 use Rattle.hv_clauses.proofs.Marked.{agrees_extends, extends_then}
 use Rattle.hv_clauses.proofs.Trailed.{length-marks}
 use Rattle.hv_clauses.proofs.find.mark_base.Goals as goal
@@ -14,20 +12,14 @@ returns-then-not-mark_pre-clause-never g c = λ _ state size applies inside.
     (size ∙ sym (length-marks k ∙ c.requires.marks)) applies
     (c.requires.follows state size inside)
 
-pub start_all-requires-clause-named : goal.start_all-requires-clause-named
-start_all-requires-clause-named g c =
-    let p = c.args.problem.now in
-    named_first (length p.store.now) p.query.now.positive p.query.now.negative p.query.now.positive
-    refl c.requires.posed.ready.named
-
 pub start_all-requires-clause-size : goal.start_all-requires-clause-size
 start_all-requires-clause-size g c = ap length c.if-not-mark_pre.ensures.grown.base
     ∙ c.requires.marks
 
 pub start_all-requires-clause-based : goal.start_all-requires-clause-based
 start_all-requires-clause-based g c =
-    subst (λ b. IsBasedOn (formula_at c.args.problem.now.store.now) c.args.problem.now.effect.now
-    c.args.based b) (sym c.if-not-mark_pre.ensures.grown.base) c.requires.based
+    subst (λ b. IsBasedOn c.args.problem.now c.args.based b)
+    (sym c.if-not-mark_pre.ensures.grown.base) c.requires.based
 
 pub returns-then-not-start_all-clause-never : goal.returns-then-not-start_all-clause-never
 returns-then-not-start_all-clause-never g c = λ _ state size applies inside.
@@ -38,14 +30,8 @@ returns-then-not-start_all-clause-never g c = λ _ state size applies inside.
     applies (c.requires.follows state size inside))
 
 pub close-requires-clause-over : goal.close-requires-clause-over
-close-requires-clause-over g c =
-    let p = c.args.problem.now in (
-      ap length c.if-not-start_all.ensures.followed.base
-          ∙ (ap length c.if-not-mark_pre.ensures.grown.base ∙ c.requires.marks),
-      c.requires.posed.over,
-      named_first (length p.store.now) p.query.now.positive p.query.now.negative
-          p.query.now.positive refl c.requires.posed.ready.named,
-    )
+close-requires-clause-over g c = ap length c.if-not-start_all.ensures.followed.base
+    ∙ (ap length c.if-not-mark_pre.ensures.grown.base ∙ c.requires.marks)
 
 pub close-requires-clause-left : goal.close-requires-clause-left
 close-requires-clause-left g c = c.if-not-start_all.ensures.left refl

@@ -1,67 +1,58 @@
-use Rattle.std.proofs.Common.{◌∙◌, ◌+◌, ◌/◌, length, refl, sym, arith, subst}
-use Rattle.hv_sets.specs.Cost.{clauses_of}
-use Rattle.hv_clauses.specs.Clausal.{sizes_of}
+use Rattle.std.proofs.Common.{◌∙◌, ◌+◌, ◌/◌, refl, sym, arith, subst}
 use Rattle.hv_clauses.specs.Working.Front.{IsFront}
-use Rattle.hv_clauses.specs.Store.{formula_at}
+use Rattle.hv_clauses.specs.Working.Posed.{size_in, sizes}
 use Rattle.hv_clauses.specs.Working.Trail.{Knowledge}
-use Rattle.hv_clauses.proofs.Digits.{named_here, open_advanced, open_count, open_few, open_front}
+use Rattle.hv_clauses.proofs.Deciding.{named_some}
+use Rattle.hv_clauses.proofs.Digits.{count_some, open_advanced, open_count, open_few, open_front}
 use Rattle.hv_clauses.proofs.Digits.{open_less, open_more, open_part, open_refuted}
 use Rattle.hv_clauses.proofs.fronts.first_open.Goals as goal
 
 pub count_of-count-requires : goal.count_of-count-requires
 count_of-count-requires g c =
     let p = c.args.problem.now in
-    named_here (length p.store.now) p.query.now.positive p.query.now.negative c.args.place
-    c.args.operand c.requires.here c.requires.posed.ready.named
+    named_some p c.args.operand.which
+    (count_some p.task (sizes p) p.query.negative c.args.place c.args.operand c.requires.here
+    (omega (arith, c.requires.next)))
 
 pub nonzero_div-first : goal.nonzero_div-first
 nonzero_div-first g c =
     let p = c.args.problem.now in
-    open_part p.task.now (formula_at p.store.now) p.effect.now p.query.now c.args.place c.args.next
-    c.args.part _ c.args.operand c.requires.here
+    open_part p c.args.place c.args.next c.args.part _ c.args.operand c.requires.here
     c.requires.part c.count_of-count.ensures c.requires.next
 
 pub nonzero_div-end : goal.nonzero_div-end
 nonzero_div-end g c =
     let p = c.args.problem.now in
-    open_count p.task.now (formula_at p.store.now) p.effect.now p.query.now c.args.place c.args.next
-    c.args.part _ c.args.operand c.requires.here
+    open_count p c.args.place c.args.next c.args.part _ c.args.operand c.requires.here
     c.requires.part c.count_of-count.ensures c.requires.next
 
 pub overflow_mul-end : goal.overflow_mul-end
 overflow_mul-end g c =
     let p = c.args.problem.now in
-    let few = open_few p.task.now (formula_at p.store.now) p.effect.now p.query.now c.args.place
-    c.args.next c.args.part _ c.args.operand c.requires.here
+    let few = open_few p c.args.place c.args.next c.args.part _ c.args.operand c.requires.here
     c.requires.part c.count_of-count.ensures c.requires.next in
     omega (arith, few, c.requires.few)
 
 pub fix-requires-clause-front : goal.fix-requires-clause-front
 fix-requires-clause-front g c =
     let p = c.args.problem.now in
-    subst (λ (k : Knowledge). IsFront p.task.now (formula_at p.store.now) p.effect.now p.query.now
-    (c.args.place + 1)
-    (c.loop-rest.rest / clauses_of p.task.now (sizes_of (formula_at p.store.now))
-    c.args.operand.which) k) (sym c.loop-rest.invariant.same)
-    (subst (λ n. IsFront p.task.now (formula_at p.store.now) p.effect.now p.query.now
-    (c.args.place + 1) n c.args.marks.now)
-    (open_front p.task.now (formula_at p.store.now) p.effect.now p.query.now c.args.place
-    c.args.next c.args.part _ c.args.operand c.requires.here
+    subst (λ (k : Knowledge). IsFront p (c.args.place + 1)
+    (c.loop-rest.rest / size_in p c.args.operand.which) k) (sym c.loop-rest.invariant.same)
+    (subst (λ n. IsFront p (c.args.place + 1) n c.args.marks.now)
+    (open_front p c.args.place c.args.next c.args.part _ c.args.operand c.requires.here
     c.requires.part c.count_of-count.ensures c.requires.next c.loop-rest.rest
     (omega (arith, c.loop-rest.auto.rest)) c.loop-rest-test.true) c.requires.front)
 
 pub first_in-requires-clause-some : goal.first_in-requires-clause-some
 first_in-requires-clause-some g c =
     let p = c.args.problem.now in
-    open_part p.task.now (formula_at p.store.now) p.effect.now p.query.now c.args.place c.args.next
-    c.args.part _ c.args.operand c.requires.here
+    open_part p c.args.place c.args.next c.args.part _ c.args.operand c.requires.here
     c.requires.part c.count_of-count.ensures c.requires.next
 
 pub first_in-requires-clause-few : goal.first_in-requires-clause-few
 first_in-requires-clause-few g c =
     let p = c.args.problem.now in
-    let less = open_less p.task.now (formula_at p.store.now) p.effect.now p.query.now c.args.place
-    c.args.next c.args.part _ c.args.operand c.requires.here
+    let less = open_less p c.args.place c.args.next c.args.part _ c.args.operand c.requires.here
     c.requires.part c.count_of-count.ensures c.requires.next c.loop-rest.rest
     c.loop-rest-test.true in
     omega (arith, less, c.requires.few)
@@ -69,8 +60,7 @@ first_in-requires-clause-few g c =
 pub returns-then-fix-clause-open : goal.returns-then-fix-clause-open
 returns-then-fix-clause-open g c =
     let p = c.args.problem.now in
-    open_advanced p.task.now (formula_at p.store.now) p.effect.now p.query.now c.args.place
-    c.args.next c.args.part _ c.args.operand c.requires.here
+    open_advanced p c.args.place c.args.next c.args.part _ c.args.operand c.requires.here
     c.requires.part c.count_of-count.ensures c.requires.next c.loop-rest.rest c.first_in.result
     c.fix.new.marks
     c.first_in.ensures.ahead c.first_in.ensures.inside c.loop-rest-test.true
@@ -80,8 +70,7 @@ pub loop-rest-preserved : goal.loop-rest-preserved
 loop-rest-preserved g c =
     let p = c.args.problem.now in
     record {
-      none = open_more p.task.now (formula_at p.store.now) p.effect.now p.query.now c.args.place
-          c.args.next c.args.part _ c.args.operand c.requires.here
+      none = open_more p c.args.place c.args.next c.args.part _ c.args.operand c.requires.here
           c.requires.part c.count_of-count.ensures c.requires.next c.loop-rest.rest
           c.loop-rest.invariant.none (c.if-fix.ensures.never refl);
       same = c.if-fix.ensures.same refl ∙ c.loop-rest.invariant.same;
@@ -91,7 +80,6 @@ pub returns-clause-open : goal.returns-clause-open
 returns-clause-open g c =
     let p = c.args.problem.now in
     let end = c.loop-rest-test.false in
-    open_refuted p.task.now (formula_at p.store.now) p.effect.now p.query.now c.args.place
-    c.args.next c.args.part _ c.args.operand c.requires.here
+    open_refuted p c.args.place c.args.next c.args.part _ c.args.operand c.requires.here
     c.requires.part c.count_of-count.ensures c.requires.next c.loop-rest.rest (omega arith)
     c.loop-rest.invariant.none

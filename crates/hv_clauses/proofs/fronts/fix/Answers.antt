@@ -1,32 +1,26 @@
-use Rattle.std.proofs.Common.{◌<◌, ◌∙◌, ◌%◌, length, take, refl, sym, ap, subst}
+use Rattle.std.proofs.Common.{◌<◌, ◌∙◌, ◌%◌, take, refl, sym, ap, subst}
 use Rattle.std.proofs.lemmas.Nat.{mod_below}
-use Rattle.hv_sets.specs.Cost.{clauses_of}
-use Rattle.hv_clauses.specs.Clausal.{sizes_of}
-use Rattle.hv_clauses.specs.Store.{formula_at}
+use Rattle.hv_clauses.specs.Working.Posed.{size_in}
 use Rattle.hv_clauses.specs.Working.Trail.{Knowledge}
 use Rattle.hv_clauses.proofs.Chasing.{undone_same}
-use Rattle.hv_clauses.proofs.Digits.{front_more, named_here, never_more}
+use Rattle.hv_clauses.proofs.Deciding.{named_some}
+use Rattle.hv_clauses.proofs.Digits.{front_more, never_more}
 use Rattle.hv_clauses.proofs.fronts.fix.Goals as goal
 
 pub count_of-requires : goal.count_of-requires
 count_of-requires g c =
-    let p = c.args.problem.now in
-    named_here (length p.store.now) p.query.now.positive p.query.now.negative c.args.place
-    c.args.operand c.requires.here c.requires.posed.ready.named
+    named_some c.args.problem.now c.args.operand.which c.requires.some
 
-pub is_clause_true-requires-clause-place : goal.is_clause_true-requires-clause-place
-is_clause_true-requires-clause-place g c =
+pub is_clause_true-requires : goal.is_clause_true-requires
+is_clause_true-requires g c =
     let p = c.args.problem.now in
-    subst (λ n. c.args.rest % n < clauses_of p.task.now (sizes_of (formula_at p.store.now))
-    c.args.operand.which) (sym c.count_of.ensures)
-    (mod_below c.args.rest (clauses_of p.task.now (sizes_of (formula_at p.store.now))
-    c.args.operand.which) c.requires.some)
+    subst (λ n. c.args.rest % n < size_in p c.args.operand.which) (sym c.count_of.ensures)
+    (mod_below c.args.rest (size_in p c.args.operand.which) c.requires.some)
 
 pub returns-then-is_clause_true-clause-never : goal.returns-then-is_clause_true-clause-never
 returns-then-is_clause_true-clause-never g c = λ _.
     let p = c.args.problem.now in
-    never_more p.task.now (formula_at p.store.now) p.effect.now p.query.now c.args.place c.args.rest
-    c.args.operand c.requires.here _ refl
+    never_more p c.args.place c.args.rest c.args.operand c.requires.here _ refl
     _ (ap (λ n. c.args.rest % n) c.count_of.ensures) c.args.marks.now c.requires.front
     (λ state size inside misses agrees. c.if-is_clause_true.ensures refl state size agrees inside
     misses)
@@ -35,16 +29,14 @@ pub returns-then-deny-clause-front : goal.returns-then-deny-clause-front
 returns-then-deny-clause-front g c = λ _.
     let p = c.args.problem.now in
     let deny = c.if-deny.ensures in
-    front_more p.task.now (formula_at p.store.now) p.effect.now p.query.now c.args.place c.args.rest
-    c.args.operand c.requires.here _ refl
+    front_more p c.args.place c.args.rest c.args.operand c.requires.here _ refl
     _ (ap (λ n. c.args.rest % n) c.count_of.ensures) c.args.marks.now c.requires.front
     c.deny.new.marks deny.grown deny.follows (deny.denied refl) (deny.left refl)
 
 pub returns-clause-never : goal.returns-clause-never
 returns-clause-never g c = λ _.
     let p = c.args.problem.now in
-    never_more p.task.now (formula_at p.store.now) p.effect.now p.query.now c.args.place c.args.rest
-    c.args.operand c.requires.here _ refl
+    never_more p c.args.place c.args.rest c.args.operand c.requires.here _ refl
     _ (ap (λ n. c.args.rest % n) c.count_of.ensures) c.args.marks.now c.requires.front
     (c.if-deny.ensures.never refl)
 

@@ -24,17 +24,17 @@ goal_below bound goal items place literal below same less e =
     (subst (AreBelow bound) (sym same) below place 0 less)
 
 pub force-requires : goal.force-requires
-force-requires c =
+force-requires g c =
     let wide = ap length c.loop-atom.invariant.followed.base in
     let same = c.as_slice-goal.ensures.items in
-    let low = goal_below (atoms c.args.task.now) c.goal.result.now c.as_slice-goal.result.now
-    c.loop-atom.atom-index c.goal_literal-literal.result
+    let low = goal_below (atoms c.args.problem.now.task) c.goal.result.now
+    c.as_slice-goal.result.now c.loop-atom.atom-index c.goal_literal-literal.result
     c.goal.ensures.below same c.loop-atom-test.true c.goal_literal-literal.ensures in
     omega (arith, low, wide, c.requires.size)
 
 pub returns-then-not-force-clause-followed : goal.returns-then-not-force-clause-followed
-returns-then-not-force-clause-followed c =
-    let task = c.args.task.now in
+returns-then-not-force-clause-followed g c =
+    let task = c.args.problem.now.task in
     let e = c.args.effect.now in
     let same = c.as_slice-goal.ensures.items ∙ c.goal.ensures.goal in
     followed_then _ (λ s. in_literal c.goal_literal-literal.result (over e s) ≡ true) _ _ _ _
@@ -46,8 +46,8 @@ returns-then-not-force-clause-followed c =
     c.if-not-force.ensures.grown)
 
 pub loop-atom-preserved : goal.loop-atom-preserved
-loop-atom-preserved c =
-    let task = c.args.task.now in
+loop-atom-preserved g c =
+    let task = c.args.problem.now.task in
     let e = c.args.effect.now in
     let same = c.as_slice-goal.ensures.items ∙ c.goal.ensures.goal in
     record {
@@ -71,8 +71,8 @@ loop-atom-preserved c =
     }
 
 pub returns-clause-settled : goal.returns-clause-settled
-returns-clause-settled c = λ _.
-    let task = c.args.task.now in
+returns-clause-settled g c = λ _.
+    let task = c.args.problem.now.task in
     let long = length-map task.goal (λ atom. unit atom true) in
     let end = c.loop-atom-test.false in
     let same = c.as_slice-goal.ensures.items ∙ c.goal.ensures.goal in

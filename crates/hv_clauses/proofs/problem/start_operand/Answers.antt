@@ -1,23 +1,48 @@
-use Rattle.std.proofs.Common.{◌≡◌, ◌∙◌, true, sym, ap, subst}
-use Rattle.hv_task.specs.Strips.{atoms}
-use Rattle.hv_sets.specs.Query.{in_which}
+use Rattle.std.proofs.Common.{◌≡◌, ◌∙◌, true, false, length, sym, ap, arith, subst}
 use Rattle.hv_sets.specs.Truth.{in_clauses}
+use Rattle.hv_clauses.specs.Clausal.{AreClauses}
+use Rattle.hv_clauses.specs.Marks.{over}
 use Rattle.hv_clauses.specs.Working.Base.{AreSettledBut}
 use Rattle.hv_clauses.specs.Working.Chase.{AreKept, IsFollowed}
-use Rattle.hv_clauses.specs.Clausal.{AreClauses, tests_of}
 use Rattle.hv_clauses.specs.Working.Clausal.{late}
-use Rattle.hv_clauses.specs.Marks.{over}
 use Rattle.hv_clauses.specs.Working.Occurrences.{IsIndexOf}
-use Rattle.hv_clauses.specs.Working.Problem.{IsLeft}
+use Rattle.hv_clauses.specs.Working.Posed.{formulas}
 use Rattle.hv_clauses.specs.Working.Start.{IsBasedOn}
-use Rattle.hv_clauses.specs.Store.{formula_at}
+use Rattle.hv_clauses.proofs.Chasing.{longer}
+use Rattle.hv_clauses.proofs.Problems.{followed_empty, followed_in, kept_earlier, left_in}
 use Rattle.hv_clauses.proofs.problem.start_operand.Goals as goal
+
+pub returns-in-Empty-clause-followed : goal.returns-in-Empty-clause-followed
+returns-in-Empty-clause-followed g c =
+    followed_in c.args.problem.now c.args.operand _ c.in-Empty.is c.seen-seen.result
+    c.seen-seen.ensures c.args.marks.now c.args.marks.now false
+    (followed_empty _ c.args.marks.now (λ state holds. let f : false ≡ true = holds in absurd cc))
+
+pub returns-in-Start-clause-followed : goal.returns-in-Start-clause-followed
+returns-in-Start-clause-followed g c =
+    followed_in c.args.problem.now c.args.operand _ c.in-Start.is c.seen-seen.result
+    c.seen-seen.ensures c.args.marks.now c.start_start.new.marks c.start_start.result
+    c.start_start.ensures.followed
+
+pub returns-in-Start-clause-left : goal.returns-in-Start-clause-left
+returns-in-Start-clause-left g c = λ is.
+    left_in c.args.problem.now c.args.operand _ c.in-Start.is c.seen-seen.result
+    c.seen-seen.ensures c.start_start.new.marks 0 (c.start_start.ensures.settled is)
+
+pub returns-in-Goal-clause-followed : goal.returns-in-Goal-clause-followed
+returns-in-Goal-clause-followed g c =
+    followed_in c.args.problem.now c.args.operand _ c.in-Goal.is c.seen-seen.result
+    c.seen-seen.ensures c.args.marks.now c.start_goal.new.marks c.start_goal.result
+    c.start_goal.ensures.followed
+
+pub returns-in-Goal-clause-left : goal.returns-in-Goal-clause-left
+returns-in-Goal-clause-left g c = λ is.
+    left_in c.args.problem.now c.args.operand _ c.in-Goal.is c.seen-seen.result
+    c.seen-seen.ensures c.start_goal.new.marks 0 (c.start_goal.ensures.settled is)
 
 pub start-requires-clause-clauses : goal.start-requires-clause-clauses
 start-requires-clause-clauses g c =
-    let p = c.args.problem.now in
-    subst (λ n. AreClauses n c.clauses.result.now)
-    (c.set-set.ensures.atoms (atoms p.task.now) c.requires.over ∙ sym c.requires.size)
+    subst (λ n. AreClauses n c.clauses.result.now) (c.set-set.ensures.atoms ∙ sym c.requires.size)
     c.clauses.ensures.below
 
 pub start-requires-clause-index : goal.start-requires-clause-index
@@ -28,52 +53,44 @@ start-requires-clause-index g c =
 pub start-requires-clause-but : goal.start-requires-clause-but
 start-requires-clause-but g c =
     let p = c.args.problem.now in
-    let formulas = formula_at p.store.now in
     let is = c.is_based.ensures c.if-is_based.true in
-    let based = subst (λ b. IsBasedOn formulas p.effect.now b c.args.marks.now.base) is.1
-    c.requires.based in
-    let but : AreSettledBut (late p.effect.now (is.0).after) (formulas c.in-Set.number)
-    c.args.marks.now.base =
-    based c.in-Set.number (sym is.2 ∙ c.in-Set.is) in
-    subst (λ clauses. AreSettledBut c.late-seen.result clauses c.args.marks.now.base)
+    let based = subst (λ b. IsBasedOn p b c.args.marks.now.base) is.1 c.requires.based in
+    let but : AreSettledBut (late p.effect (is.0).after) (formulas p c.in-Set.number)
+    c.args.marks.now.base = based c.in-Set.number (sym is.2 ∙ c.in-Set.is) in
+    subst (λ clauses. AreSettledBut c.seen-seen.result clauses c.args.marks.now.base)
     (sym (c.clauses.ensures.clauses ∙ c.set-set.ensures.clauses))
-    (subst (λ e. AreSettledBut e (formulas c.in-Set.number) c.args.marks.now.base)
-    (sym (c.late-seen.ensures ∙ ap (late p.effect.now) is.3)) but)
+    (subst (λ e. AreSettledBut e (formulas p c.in-Set.number) c.args.marks.now.base)
+    (sym (c.seen-seen.ensures ∙ ap (late p.effect) is.3)) but)
 
 pub returns-then-is_based-clause-followed : goal.returns-then-is_based-clause-followed
 returns-then-is_based-clause-followed g c =
-    let p = c.args.problem.now in
-    let formulas = formula_at p.store.now in
-    subst (λ e. IsFollowed (λ s. in_which p.task.now (tests_of formulas) c.args.operand.which
-    (over e s) ≡ true) c.args.marks.now c.start.new.marks c.start.result) c.late-seen.ensures
-    (subst (λ w. IsFollowed (λ s. in_which p.task.now (tests_of formulas) w
-    (over c.late-seen.result s) ≡ true) c.args.marks.now c.start.new.marks c.start.result)
-    (sym c.in-Set.is)
-    (subst (λ clauses. IsFollowed (λ s. in_clauses clauses (over c.late-seen.result s) ≡ true)
+    followed_in c.args.problem.now c.args.operand _ c.in-Set.is c.seen-seen.result
+    c.seen-seen.ensures c.args.marks.now c.start.new.marks c.start.result
+    (subst (λ clauses. IsFollowed (λ s. in_clauses clauses (over c.seen-seen.result s) ≡ true)
     c.args.marks.now c.start.new.marks c.start.result)
-    (c.clauses.ensures.clauses ∙ c.set-set.ensures.clauses) c.start.ensures.followed))
+    (c.clauses.ensures.clauses ∙ c.set-set.ensures.clauses) c.start.ensures.followed)
 
 pub returns-then-is_based-clause-left : goal.returns-then-is_based-clause-left
 returns-then-is_based-clause-left g c = λ is.
-    let p = c.args.problem.now in
-    let formulas = formula_at p.store.now in
-    subst (λ e. IsLeft p.task.now formulas e c.args.operand.which c.start.new.marks 0)
-    c.late-seen.ensures
-    (subst (λ w. IsLeft p.task.now formulas c.late-seen.result w c.start.new.marks 0)
-    (sym c.in-Set.is)
-    (subst (λ clauses. AreKept c.late-seen.result clauses c.start.new.marks 0)
-    (c.clauses.ensures.clauses ∙ c.set-set.ensures.clauses) (c.start.ensures.kept is)))
+    left_in c.args.problem.now c.args.operand _ c.in-Set.is c.seen-seen.result c.seen-seen.ensures
+    c.start.new.marks 0
+    (subst (λ clauses. AreKept c.seen-seen.result clauses c.start.new.marks 0)
+    (c.clauses.ensures.clauses ∙ c.set-set.ensures.clauses) (c.start.ensures.kept is))
 
-pub returns-clause-followed : goal.returns-clause-followed
-returns-clause-followed g c =
-    let p = c.args.problem.now in
-    subst (λ e. IsFollowed (λ s. in_which p.task.now (tests_of (formula_at p.store.now))
-    c.args.operand.which (over e s) ≡ true) c.args.marks.now c.start_which.new.marks
-    c.start_which.result)
-    c.late-seen.ensures c.start_which.ensures.followed
+pub returns-else-is_based-clause-followed : goal.returns-else-is_based-clause-followed
+returns-else-is_based-clause-followed g c =
+    followed_in c.args.problem.now c.args.operand _ c.in-Set.is c.seen-seen.result
+    c.seen-seen.ensures c.args.marks.now c.start-in-Set.new.marks c.start-in-Set.result
+    (subst (λ clauses. IsFollowed (λ s. in_clauses clauses (over c.seen-seen.result s) ≡ true)
+    c.args.marks.now c.start-in-Set.new.marks c.start-in-Set.result)
+    (c.clauses-in-Set.ensures.clauses ∙ c.set-set.ensures.clauses) c.start-in-Set.ensures.followed)
 
-pub returns-clause-left : goal.returns-clause-left
-returns-clause-left g c = λ is.
-    let p = c.args.problem.now in
-    subst (λ e. IsLeft p.task.now (formula_at p.store.now) e c.args.operand.which
-    c.start_which.new.marks 0) c.late-seen.ensures (c.start_which.ensures.left is)
+pub returns-else-is_based-clause-left : goal.returns-else-is_based-clause-left
+returns-else-is_based-clause-left g c = λ is.
+    left_in c.args.problem.now c.args.operand _ c.in-Set.is c.seen-seen.result c.seen-seen.ensures
+    c.start-in-Set.new.marks 0
+    (subst (λ clauses. AreKept c.seen-seen.result clauses c.start-in-Set.new.marks 0)
+    (c.clauses-in-Set.ensures.clauses ∙ c.set-set.ensures.clauses)
+    (kept_earlier c.seen-seen.result _ c.start-in-Set.new.marks 0 (length c.args.marks.now.trail)
+    (omega arith) (longer _ _ _ _ c.start-in-Set.ensures.followed)
+    (c.start-in-Set.ensures.kept is)))

@@ -14,14 +14,14 @@ use Rattle.hv_clauses.proofs.Problems.{followed_from, start_literal_in, units_se
 use Rattle.hv_clauses.proofs.problem.start_start.Goals as goal
 
 pub force-requires : goal.force-requires
-force-requires c =
+force-requires g c =
     let at = ap (λ (l : Literal). l.atom) c.start_literal-literal.ensures in
     let wide = ap length c.loop-atom.invariant.followed.base in
     omega (arith, at, wide, c.requires.size, c.atoms-atom-end.ensures.atoms, c.loop-atom-test.true)
 
 pub returns-then-not-force-clause-followed : goal.returns-then-not-force-clause-followed
-returns-then-not-force-clause-followed c =
-    let task = c.args.task.now in
+returns-then-not-force-clause-followed g c =
+    let task = c.args.problem.now.task in
     let e = c.args.effect.now in
     let less : c.loop-atom.atom < atoms task = omega (arith, c.atoms-atom-end.ensures.atoms) in
     followed_then _ (λ s. in_literal c.start_literal-literal.result (over e s) ≡ true) _ _ _ _
@@ -32,8 +32,8 @@ returns-then-not-force-clause-followed c =
     c.if-not-force.ensures.grown)
 
 pub loop-atom-preserved : goal.loop-atom-preserved
-loop-atom-preserved c =
-    let task = c.args.task.now in
+loop-atom-preserved g c =
+    let task = c.args.problem.now.task in
     let e = c.args.effect.now in
     let less : c.loop-atom.atom < atoms task = omega (arith, c.atoms-atom-end.ensures.atoms) in
     record {
@@ -54,8 +54,8 @@ loop-atom-preserved c =
     }
 
 pub returns-clause-settled : goal.returns-clause-settled
-returns-clause-settled c = λ _.
-    let task = c.args.task.now in
+returns-clause-settled g c = λ _.
+    let task = c.args.problem.now.task in
     let long = length-clauses_of_state (atoms task) task.start in
     let end = c.loop-atom-test.false in
     units_settled c.args.effect.now (marks_of c.loop-atom.marks)

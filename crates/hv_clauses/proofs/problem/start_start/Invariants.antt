@@ -9,9 +9,9 @@ use Rattle.hv_clauses.specs.Units.{value_of}
 use Rattle.hv_clauses.proofs.problem.start_start.Given as goal
 
 abbrev pub invariant-loop-atom : goal.invariant-loop-atom
-invariant-loop-atom l = record {
-  followed : IsFollowed (λ state. is_same (start_state l.task) (over l.effect state) ≡ true)
+invariant-loop-atom g l = record {
+  followed : IsFollowed (λ state. is_same (start_state l.problem.task) (over l.effect state) ≡ true)
       l.fn.marks l.marks true;
   done : (k : ℕ) → k < l.atom → value_of l.effect (marks_of l.marks)
-      (record { atom = k; positive = names_atom l.task.start k }) ≡ Some true;
+      (record { atom = k; positive = names_atom l.problem.task.start k }) ≡ Some true;
 }

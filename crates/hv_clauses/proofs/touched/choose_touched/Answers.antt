@@ -1,7 +1,7 @@
 use Rattle.std.proofs.Common.{◌∙◌, subst}
 use Rattle.hv_clauses.specs.Clausal.{AreClauses}
 use Rattle.hv_clauses.specs.Working.Occurrences.{IsIndexOf}
-use Rattle.hv_clauses.specs.Store.{formula_at}
+use Rattle.hv_clauses.specs.Working.Posed.{formulas}
 use Rattle.hv_clauses.proofs.Touching.{met_from_touched}
 use Rattle.hv_clauses.proofs.touched.choose_touched.Goals as goal
 
@@ -11,8 +11,7 @@ try_value-requires-clause-touched g c =
     record {
       framed = c.requires.framed;
       which = c.in-Set.is;
-      below = subst (λ n. AreClauses n (formula_at p.store.now c.in-Set.number))
-          (c.set-set.ensures.atoms _ c.requires.posed.over)
+      below = subst (λ n. AreClauses n (formulas p c.in-Set.number)) c.set-set.ensures.atoms
           (subst (λ cs. AreClauses c.set-set.result.now.atoms cs)
           (c.clauses-clauses.ensures.clauses ∙ c.set-set.ensures.clauses)
           c.clauses-clauses.ensures.below);
@@ -26,8 +25,7 @@ try_value-requires-2-clause-touched g c =
     record {
       framed = c.requires.framed;
       which = c.in-Set.is;
-      below = subst (λ n. AreClauses n (formula_at p.store.now c.in-Set.number))
-          (c.set-set.ensures.atoms _ c.requires.posed.over)
+      below = subst (λ n. AreClauses n (formulas p c.in-Set.number)) c.set-set.ensures.atoms
           (subst (λ cs. AreClauses c.set-set.result.now.atoms cs)
           (c.clauses-clauses.ensures.clauses ∙ c.set-set.ensures.clauses)
           c.clauses-clauses.ensures.below);
@@ -38,7 +36,6 @@ try_value-requires-2-clause-touched g c =
 pub returns-clause-met : goal.returns-clause-met
 returns-clause-met g c =
     let p = c.args.problem.now in
-    met_from_touched p.task.now (formula_at p.store.now) p.effect.now p.query.now c.args.operand
-    c.in-Set.number c.requires.framed c.in-Set.is
+    met_from_touched p c.args.operand c.in-Set.number c.requires.framed c.in-Set.is
     c.try_value.new.state c.try_value-2.new.state
     c.if-try_value.ensures.met c.try_value-2.result c.try_value-2.ensures.met

@@ -1,9 +1,8 @@
 use Rattle.std.proofs.Common.{◌≡◌, ◌<◌, ◌∙◌, Bool, List, length, get_or, sym, arith, below_more}
 use Rattle.std.proofs.Common.{subst}
-use Rattle.hv_task.specs.Strips.{atoms}
 use Rattle.hv_clauses.specs.Working.Found.{IsBased}
 use Rattle.hv_clauses.specs.Working.Problem.{FitsChoice}
-use Rattle.hv_clauses.specs.Store.{formula_at}
+use Rattle.hv_clauses.specs.Working.Posed.{formulas, width}
 use Rattle.hv_clauses.specs.Working.Trail.{Knowledge}
 use Rattle.hv_clauses.proofs.Standings.{inside_at}
 use Rattle.hv_clauses.proofs.Touching.{choices_are}
@@ -12,9 +11,8 @@ use Rattle.hv_clauses.proofs.touched.try_listed.Goals as goal
 
 pub try_one-requires-clause-based : goal.try_one-requires-clause-based
 try_one-requires-clause-based g c =
-    let p = c.args.problem.now in
-    subst (λ (k : Knowledge). IsBased p.task.now (formula_at p.store.now) p.effect.now p.query.now
-    k) (sym c.loop-index.invariant.same) c.requires.based
+    subst (λ (k : Knowledge). IsBased c.args.problem.now k) (sym c.loop-index.invariant.same)
+    c.requires.based
 
 pub returns-then-try_one-clause-met : goal.returns-then-try_one-clause-met
 returns-then-try_one-clause-met g c =
@@ -23,14 +21,9 @@ returns-then-try_one-clause-met g c =
     let r = c.requires.touched in
     let met = c.if-try_one.ensures.met in (
       _,
-      (let within = inside_at (formula_at p.store.now t.number) c.args.standing.now
+      (let within = inside_at (formulas p t.number) c.args.standing.now
           c.requires.standing c.loop-index.index c.loop-index-test.true in
-          omega (
-            arith,
-            within,
-            choices_are p.task.now (formula_at p.store.now) p.effect.now
-                p.query.now t.operand t.number r.framed r.which,
-          )),
+          omega (arith, within, choices_are p t.operand t.number r.framed r.which)),
       met.0,
       met.1,
     )
@@ -40,9 +33,8 @@ loop-index-preserved g c =
     let places = c.args.standing.now.places.now in
     let p = c.args.problem.now in
     record {
-      none = below_more (λ k. (state : List Bool) → length state ≡ atoms p.task.now
-          → FitsChoice p.task.now (formula_at p.store.now) p.effect.now p.query.now
-          (get_or places k 0) state → ⊥)
+      none = below_more (λ k. (state : List Bool) → length state ≡ width p
+          → FitsChoice p (get_or places k 0) state → ⊥)
           c.loop-index.index c.loop-index.invariant.none
           (λ state size fits. c.if-try_one.ensures.met state size fits);
       same = c.if-try_one.ensures.same ∙ c.loop-index.invariant.same;
@@ -56,5 +48,5 @@ returns-clause-met g c = λ place has state size fits.
     let within : has.0 < length places = has.1 in
     let end = c.loop-index-test.false in
     c.loop-index.invariant.none has.0 (omega arith) state size
-    (subst (λ n. FitsChoice p.task.now (formula_at p.store.now) p.effect.now p.query.now n state)
+    (subst (λ n. FitsChoice p n state)
     (sym (get_or_default places has.0 0 place within ∙ has.2)) fits)

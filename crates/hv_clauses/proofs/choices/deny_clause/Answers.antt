@@ -1,0 +1,80 @@
+use Rattle.std.proofs.Common.{◌≡◌, ℕ, ◌<◌, ◌∙◌, true, List, Some, ap, arith, get_or, subst, sym}
+use Rattle.std.specs.List.{slice_get}
+use Rattle.std.proofs.lemmas.Option.{get_or_from_slice_get, slice_get_within}
+use Rattle.hv_task.specs.State.{AreBelow}
+use Rattle.hv_task.specs.Strips.{Strips, atoms}
+use Rattle.hv_sets.specs.Cost.{clauses_of}
+use Rattle.hv_sets.specs.declared.literal.Literal.{Literal}
+use Rattle.hv_sets.specs.declared.operand.Which.{Which}
+use Rattle.hv_sets.specs.declared.operand.Which.TheVariants as W
+use Rattle.hv_clauses.specs.Clausal.{clause_at}
+use Rattle.hv_clauses.specs.Working.Clausal.{clauses_in}
+use Rattle.hv_clauses.proofs.Deciding.{set_within}
+use Rattle.hv_clauses.proofs.OperandClauses.{made_goal, made_start, one_below}
+use Rattle.hv_clauses.proofs.OperandRounds.{denied_same}
+use Rattle.hv_clauses.specs.Working.Posed.{formulas, sizes}
+use Rattle.hv_clauses.proofs.choices.deny_clause.Goals as goal
+
+-- a place among the clauses of the initial state is an atom of the task
+place_below : (task : Strips) (sizes : ℕ → ℕ) (which : Which) (place : ℕ)
+    → place < clauses_of task sizes which → which ≡ W.Start
+    → place < atoms task
+place_below task sizes which place less is = subst (λ w. place < clauses_of task sizes w) is less
+
+pub overflow_cast-place : goal.overflow_cast-place
+overflow_cast-place g c =
+    let p = c.args.problem.now in
+    let less = place_below p.task (sizes p) c.args.operand.which c.args.place c.requires.place
+    c.in-Start.is in
+    omega (arith, less, c.atoms-atoms.ensures.task.few_atoms)
+
+pub returns-in-Start-clause-denied : goal.returns-in-Start-clause-denied
+returns-in-Start-clause-denied g c =
+    let p = c.args.problem.now in
+    let less = place_below p.task (sizes p) c.args.operand.which c.args.place
+    c.requires.place c.in-Start.is in
+    denied_same _ _ _ _ _ c.from_ref.result.now _ c.seen-seen.ensures (
+    made_start (atoms p.task) p.task.start c.args.place
+    c.start_literal-literal.result c.from_ref.result.now
+    c.from_ref.ensures.value c.start_literal-literal.ensures less
+    ∙ ap (λ w. clause_at (clauses_in p.task (formulas p) w) c.args.place) (sym c.in-Start.is)
+    ) c.deny.ensures.denied
+
+-- the literal of the goal atom at a place
+goal_literal_is : (items : List ℕ) (place atom : ℕ) (literal : Literal)
+    → slice_get items place ≡ Some atom
+    → literal ≡ record { atom = atom; positive = true }
+    → literal ≡ record { atom = get_or items place 0; positive = true }
+goal_literal_is items place atom literal named e =
+    e ∙ ap {B = Literal} (λ a. record { atom = a; positive = true })
+    (sym (get_or_from_slice_get items place atom 0 named))
+
+goal_atom_below : (bound : ℕ) (items : List ℕ) (place atom : ℕ) → AreBelow bound items
+    → slice_get items place ≡ Some atom
+    → atom < bound
+goal_atom_below bound items place atom below named =
+    subst (λ a. a < bound) (get_or_from_slice_get items place atom 0 named)
+    (below place 0 (slice_get_within items place atom named))
+
+pub deny-requires-in-Goal : goal.deny-requires-in-Goal
+deny-requires-in-Goal g c =
+    let below = goal_atom_below (atoms c.args.problem.now.task) c.goal.result.now c.args.place
+    c.get.result c.goal.ensures.below c.get.ensures in
+    let atom = ap (λ (l : Literal). l.atom) c.goal_literal-literal.ensures in
+    one_below _ _ _ c.from_ref-in-Goal.ensures.value (omega (arith, below, atom, c.requires.size))
+
+pub returns-in-Goal-clause-denied : goal.returns-in-Goal-clause-denied
+returns-in-Goal-clause-denied g c =
+    let p = c.args.problem.now in
+    denied_same _ _ _ _ _ c.from_ref-in-Goal.result.now _ c.seen-seen.ensures (
+    made_goal p.task.goal c.goal.result.now c.args.place _ c.from_ref-in-Goal.result.now
+    c.from_ref-in-Goal.ensures.value
+    (goal_literal_is c.goal.result.now c.args.place c.get.result _ c.get.ensures
+    c.goal_literal-literal.ensures)
+    c.goal.ensures.goal (slice_get_within c.goal.result.now c.args.place c.get.result c.get.ensures)
+    ∙ ap (λ w. clause_at (clauses_in p.task (formulas p) w) c.args.place) (sym c.in-Goal.is)
+    ) c.deny-in-Goal.ensures.denied
+
+pub set-requires : goal.set-requires
+set-requires g c =
+    set_within c.args.problem.now c.args.operand.which _ c.args.place c.in-Set.is c.requires.place

@@ -1,0 +1,14 @@
+use Rattle.std.proofs.Common.{◌∙◌, ap}
+use Rattle.hv_task.specs.State.{names_atom}
+use Rattle.hv_sets.specs.declared.literal.Literal.{Literal}
+use Rattle.hv_clauses.specs.Working.Posed.{Problem}
+use Rattle.hv_clauses.proofs.OperandClauses.{names_from_test}
+use Rattle.hv_clauses.proofs.problem.Problem.start_literal.Goals as goal
+
+pub returns : goal.returns
+returns g c =
+    let p = c.self.inside in
+    ap {B = Literal} (λ positive. record { atom = c.args.atom; positive = positive })
+    (names_from_test c.has.result p.task.now.start c.start.result.now c.args.atom c.has.ensures
+    c.start.ensures.start
+    ∙ ap (λ (q : Problem). names_atom q.task.start c.args.atom) c.self.view_is)
