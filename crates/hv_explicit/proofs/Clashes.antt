@@ -1,6 +1,6 @@
 -- Why what was asked of lists of atoms tells whether a state is a counterexample.
 use Rattle.std.proofs.Common.{◌≡◌, ◌∙◌, ◌<◌, ◌≤◌, ◌&&◌, ◌||◌, ℕ, Bool, true, false, not, List, []}
-use Rattle.std.proofs.Common.{◌∷◌, Option, None, Some, get_or, slice_get, if◌then◌else◌, refl, sym}
+use Rattle.std.proofs.Common.{◌∷◌, Option, None, Some, get_or, if◌then◌else◌, refl, sym}
 use Rattle.std.proofs.Common.{ap, ap₂, arith, inl, inr}
 use Rattle.std.proofs.lemmas.Bool.{cases_lt, and_right, or_from, false_from_ne_true}
 use Rattle.std.proofs.lemmas.List.Elements.{All-contains}
@@ -13,12 +13,12 @@ use Rattle.hv_task.proofs.Places.{has_all-Decides, has_atom_past, has_atom-state
 use Rattle.hv_task.proofs.Places.{has_atom-successor, length-state_of, length-successor}
 use Rattle.hv_task.proofs.Places.{names_atom-Decides, same_state}
 use Rattle.hv_task.proofs.Next.{unnamed}
-use Rattle.hv_sets.specs.Query.{action_of, asked, in_operand, in_which, is_clash, may_apply}
+use Rattle.hv_sets.specs.Query.{action_of, asked, in_operand, may_apply}
 use Rattle.hv_sets.specs.declared.operand.Operand.{Operand}
 use Rattle.hv_explicit.specs.Codes.{IsBelow}
 use Rattle.hv_explicit.specs.Listing.{in_set}
-use Rattle.hv_explicit.specs.Working.Search.{HasJust, in_either, is_fit}
-use Rattle.hv_explicit.specs.declared.search.Search.{Search}
+use Rattle.hv_explicit.specs.Working.Search.{HasJust, ListedSearch, clashes_in, in_either, in_named}
+use Rattle.hv_explicit.specs.Working.Search.{is_fit}
 
 -- an atom past the bound is in no list below it
 past_all : (n : ℕ) (held : List ℕ) (p : ℕ) → AreBelow n held → n ≤ p → names_atom held p ≡ false
@@ -108,51 +108,47 @@ all_same : {X : Type 0} (p q : X → Bool) → ((x : X) → p x ≡ q x) → (xs
 all_same p q same [] = refl
 all_same p q same (x ∷ xs) = ap₂ (λ a b. a && b) (same x) (all_same p q same xs)
 
-module _ (task : Strips) (sets : ℕ → List Bool → Bool) (positive negative : List Operand)
-    (action : Option Action) (state after : List Bool)
+module _ (s : ListedSearch) (action : Option Action) (state after : List Bool)
     (side : (b : Bool) → (if b then after else state) ≡ asked action b state) where
-  one_side : (o : Operand) → in_either task sets state after o ≡ in_operand task sets action state o
-  one_side o = ap (in_which task sets o.which) (side o.after)
+  one_side : (o : Operand)
+      → in_either s state after o ≡ in_operand s.task (in_set s.sets) action state o
+  one_side o = ap (in_named s o.which) (side o.after)
 
-  pub sides : (list_all (in_either task sets state after) positive && list_all
-      (λ o. not (in_either task sets state after o)) negative)
-      ≡ (list_all (λ o. in_operand task sets action state o) positive && list_all
-      (λ o. not (in_operand task sets action state o)) negative)
+  sides : is_fit s state after
+      ≡ (list_all (λ o. in_operand s.task (in_set s.sets) action state o) s.query.positive
+      && list_all (λ o. not (in_operand s.task (in_set s.sets) action state o)) s.query.negative)
   sides =
-      ap₂ (λ a b. a && b) (all_same (in_either task sets state after)
-      (λ o. in_operand task sets action state o) one_side positive)
-      (all_same (λ o. not (in_either task sets state after o))
-      (λ o. not (in_operand task sets action state o)) (λ o. ap not (one_side o)) negative)
+      ap₂ (λ a b. a && b) (all_same (in_either s state after)
+      (λ o. in_operand s.task (in_set s.sets) action state o) one_side s.query.positive)
+      (all_same (λ o. not (in_either s state after o))
+      (λ o. not (in_operand s.task (in_set s.sets) action state o)) (λ o. ap not (one_side o))
+      s.query.negative)
+
+  -- a state is a counterexample where the action is applicable and the two states fit
+  clash_fit : action_of s.task s.query.action ≡ action
+      → (may_apply action state && is_fit s state after) ≡ clashes_in s state
+  clash_fit is =
+      ap (λ b. may_apply action state && b) sides
+      ∙ ap (λ o. may_apply o state && (list_all
+      (λ p. in_operand s.task (in_set s.sets) o state p) s.query.positive
+      && list_all (λ p. not (in_operand s.task (in_set s.sets) o state p)) s.query.negative))
+      (sym is)
 
 -- without an action
-pub clash_alone : (s : Search) (state : List Bool) → s.query.now.action ≡ None
-    → is_fit s state state ≡ is_clash s.task.now (in_set s.sets.now) s.query.now state
-clash_alone s state none =
-    sides s.task.now (in_set s.sets.now) s.query.now.positive s.query.now.negative None state state
-    side
-    ∙ ap (λ o. is_clash s.task.now (in_set s.sets.now)
-    (record { positive = s.query.now.positive; negative = s.query.now.negative; action = o })
-    state) (sym none)
+pub clash_alone : (s : ListedSearch) (state : List Bool)
+    → action_of s.task s.query.action ≡ None → is_fit s state state ≡ clashes_in s state
+clash_alone s state none = clash_fit s None state state side none
   where
     side : (b : Bool) → (if b then state else state) ≡ asked None b state
     side true = refl
     side false = refl
 
 -- with an action
-pub clash_acting : (s : Search) (state : List Bool) (number : ℕ) (action : Action)
-    → s.query.now.action ≡ Some number
-    → slice_get s.task.now.actions number ≡ Some action
-    → (applicable action state && is_fit s state (successor action state))
-    ≡ is_clash s.task.now (in_set s.sets.now) s.query.now state
-clash_acting s state number action acts named =
-    ap (λ b. applicable action state && b)
-    (sides s.task.now (in_set s.sets.now) s.query.now.positive s.query.now.negative
-    (Some action) state (successor action state) side)
-    ∙ ap (λ o. may_apply o state && (list_all
-    (λ p. in_operand s.task.now (in_set s.sets.now) o state p) s.query.now.positive
-    && list_all (λ p. not (in_operand s.task.now (in_set s.sets.now) o state p))
-    s.query.now.negative))
-    (sym (ap (action_of s.task.now) acts ∙ named))
+pub clash_acting : (s : ListedSearch) (state : List Bool) (action : Action)
+    → action_of s.task s.query.action ≡ Some action
+    → (applicable action state && is_fit s state (successor action state)) ≡ clashes_in s state
+clash_acting s state action is =
+    clash_fit s (Some action) state (successor action state) side is
   where
     side : (b : Bool) → (if b then successor action state else state) ≡ asked (Some action) b state
     side true = refl

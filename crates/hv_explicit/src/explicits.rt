@@ -127,11 +127,6 @@ impl Family for Explicits {
         scratch: &mut Scratch,
     ) -> Result<Finding, AllocError> {
         scratch.reserve(task.atoms(), 0, 0)?;
-        let search = Search {
-            task,
-            sets: self,
-            query,
-        };
-        search.answer(alloc, budget, &mut scratch.state)
+        Search::new(task, self, query).answer(alloc, budget, &mut scratch.state)
     }
 }

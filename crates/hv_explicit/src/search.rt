@@ -1,22 +1,27 @@
 //! The search through the states of the anchor.
 
 ghost use Rattle.std.specs.Prelude.{◌≡◌, ◌<◌, ◌↔◌, ◌∷◌, ℕ, Bool, List, [], length, slice_index_or};
-ghost use Rattle.std.specs.Prelude.{slice_get, Some, true, IsTrue, IfOk, IfSome, MatchOption};
+ghost use Rattle.std.specs.Prelude.{slice_get, None, Some, false, true, IsTrue, IfOk, IfSome};
+ghost use Rattle.std.specs.Prelude.{MatchOption};
 ghost use Rattle.std.specs.List.{All, Contains, list_all};
 ghost use Rattle.hv_task.specs.State.{AreBelow, names_atom, state_of};
-ghost use Rattle.hv_task.specs.Strips.{IsOver, IsState, atoms, is_goal};
+ghost use Rattle.hv_task.specs.Strips.{IsOver, IsState, atoms};
 ghost use Rattle.hv_task.specs.Atoms.{is_after};
 ghost use Rattle.std.specs.List.Sorted.{IsStrictlyIncreasing};
 ghost use Rattle.hv_sets.specs.Names.{AsksAbout};
 ghost use Rattle.hv_sets.specs.Cost.{IsAnswer, StatesPass};
-ghost use Rattle.hv_sets.specs.Query.{CanAnchor, IsAnchor, IsNamed, Rises, in_which, is_clash};
+ghost use Rattle.hv_sets.specs.Query.{CanAnchor, IsAnchor, IsNamed, Rises, action_of};
 ghost use Rattle.hv_sets.specs.declared.operand.Operand.{Operand};
-ghost use Rattle.hv_sets.specs.declared.operand.Which.TheVariants as W;
 ghost use Rattle.hv_explicit.specs.Codes.{IsBelow};
 ghost use Rattle.hv_explicit.specs.Working.Codes.{IsSame};
 ghost use Rattle.hv_explicit.specs.Working.Holders.{AreAllBut, listed_places};
-ghost use Rattle.hv_explicit.specs.Listing.{AreRising, AreStates, in_set, states_listed};
+ghost use Rattle.hv_explicit.specs.Working.Owners.{IsOwned};
+ghost use Rattle.hv_explicit.specs.Listing.{AreRising, AreStates, states_listed};
 ghost use Rattle.hv_explicit.specs.Working.Listing.{AreFirsts};
+ghost use Rattle.hv_explicit.specs.Working.Search.{IsFoundListed, IsHit, IsHitBy, HasJust};
+ghost use Rattle.hv_explicit.specs.Working.Search.{IsListedSearch, NamesAnchor, clashes_at};
+ghost use Rattle.hv_explicit.specs.Working.Search.{clashes_in, in_either, in_named, is_fit};
+ghost use Rattle.hv_explicit.specs.Working.Search.{is_in_none};
 
 use crate::explicit::Explicit;
 use crate::explicits::Explicits;
@@ -27,23 +32,130 @@ use crate::sought::{Coded, Outcome, Sought};
 use hv_sets::{Finding, Operand, Query, Which};
 use hv_task::{Action, State, Task, names_all};
 use std::alloc::{AllocError, Global};
+use std::marker::Model;
 
 // To go through so many operands is no dearer than to look up the sets that list a state.
 const FEW: usize = 4;
 
-/// What is asked, of which sets.
-#[derive(Clone, Copy)]
+/// A query, with the task and the sets of which it is asked.
+#[derive(Drop)]
 pub(crate) struct Search<'a> {
-    pub task: &'a Task,
-    pub sets: &'a Explicits,
-    pub query: &'a Query,
+    task: &'a Task,
+    sets: &'a Explicits,
+    query: &'a Query,
+}
+
+impl<'a> Model for Search<'a> {
+    ghost use Rattle.hv_explicit.specs.Working.Search.{IsListedSearch, ListedSearch};
+
+    ghost Value = { ListedSearch };
+
+    ghost view = { λ s. record { task = s.task.now; sets = s.sets.now; query = s.query.now } };
+
+    ghost invariant = { λ s. IsListedSearch record {
+      task = s.task.now;
+      sets = s.sets.now;
+      query = s.query.now;
+    } };
+}
+
+impl<'a> Search<'a> {
+    /// The query, asked of these sets.
+    pub(crate) fn new(task: &'a Task, sets: &'a Explicits, query: &'a Query) -> Search<'a>
+        requires { IsListedSearch record {
+          task = task.now;
+          sets = sets.now;
+          query = query.now;
+        } }
+        ensures { result ≡ record { task = task.now; sets = sets.now; query = query.now } }
+    {
+        Search { task, sets, query }
+    }
+
+    // The set of this number.
+    fn set(&self, number: usize) -> &'a Explicit
+        requires { number < length self.now.sets }
+        ensures named { slice_get self.now.sets number ≡ Some result.now }
+        ensures over { result.now.atoms ≡ atoms self.now.task }
+    {
+        self.sets.get(number)
+    }
+
+    // The initial state, with its code.
+    fn start(&self) -> Coded<'a>
+        ensures start { result.atoms.now ≡ self.now.task.start }
+        ensures below { AreBelow (atoms self.now.task) result.atoms.now }
+    {
+        Coded::new(PLAIN, self.task.start().as_slice())
+    }
+
+    // The action that is asked about, if there is one.
+    fn action(&self) -> Option<&'a Action>
+        ensures { MatchOption result (action_of self.now.task self.now.query.action ≡ None)
+            (λ action. (action_of self.now.task self.now.query.action ≡ Some action.now)
+            × IsOver (atoms self.now.task) action.now) }
+    {
+        match self.query.action {
+            None => None,
+            Some(number) => Some(self.task.action(number)),
+        }
+    }
+
+    // Whether there is an action, without which nothing is asked about after it.
+    fn acts(&self) -> bool
+        ensures { result ≡ false → All (λ o. o.after ≡ false) self.now.query.negative }
+    {
+        self.query.action.is_some()
+    }
+
+    // What the anchor names.
+    fn anchor(&self) -> Which
+        ensures { NamesAnchor self.now result }
+    {
+        match anchor_of(self.query.positive.as_slice()) {
+            Some(anchor) => anchor.which,
+            None => Which::Empty,
+        }
+    }
+
+    // The positive operands.
+    fn positive(&self) -> &'a [Operand]
+        ensures list { result.now ≡ self.now.query.positive }
+        ensures named { All (λ o. IsNamed (length self.now.sets) o.which) result.now }
+    {
+        self.query.positive.as_slice()
+    }
+
+    // The negative operands.
+    fn negative(&self) -> &'a [Operand]
+        ensures list { result.now ≡ self.now.query.negative }
+        ensures named { All (λ o. IsNamed (length self.now.sets) o.which) result.now }
+    {
+        self.query.negative.as_slice()
+    }
+
+    // Whether some negative operand is this set, asked about after the action (true) or before it.
+    fn denies(&self, which: Which, after: bool) -> bool
+        ensures asks { IsTrue result ↔ AsksAbout self.now.query.negative which after }
+        ensures named { IsTrue result → IsNamed (length self.now.sets) which }
+    {
+        self.query.negative.names(which, after)
+    }
+
+    // Whether one of the negative operands, asked about after the action (true) or before it, is a
+    // set that lists the state; or none, where it is no dearer to go through the operands.
+    fn find_owner<A: Sought>(&self, held: &A, after: bool) -> Option<bool>
+        requires { IsBelow (atoms self.now.task) (A.has held.now) }
+        ensures { IfSome result (λ yes. (state : List Bool)
+            → HasJust self.now.task (A.has held.now) state
+            → IsTrue yes ↔ IsOwned self.now.sets self.now.query.negative after state) }
+    {
+        self.sets
+            .find_owner(&self.query.negative, after, held, self.task.atoms())
+    }
 }
 
 impl Search<'_> {
-    ghost use Rattle.hv_explicit.specs.Working.Search.{clashes_at, IsFoundListed, IsHit, IsHitBy};
-    ghost use Rattle.hv_explicit.specs.Working.Search.{IsListedSearch, HasJust, in_either, is_fit};
-    ghost use Rattle.hv_explicit.specs.Working.Search.{is_in_none};
-
     /// The exact answer to the query. The state is overwritten.
     pub(crate) fn answer(
         &self,
@@ -51,42 +163,15 @@ impl Search<'_> {
         budget: u64,
         state: &mut State,
     ) -> Result<Finding, AllocError>
-        requires search { IsListedSearch self.now }
-        requires state { IsState self.now.task.now state.old }
+        requires { IsState self.now.task state.old }
         ensures { IfOk result (λ found. IsAnswer found
-            (StatesPass (states_listed self.now.sets.now) self.now.query.now budget)
-            (atoms self.now.task.now)
-            (is_clash self.now.task.now (in_set self.now.sets.now) self.now.query.now) state.new) }
+            (StatesPass (states_listed self.now.sets) self.now.query budget)
+            (atoms self.now.task) (clashes_in self.now) state.new) }
     {
-        match anchor_of(self.query.positive.as_slice()) {
-            Some(anchor) => self.answer_at(alloc, anchor.which, budget, state),
-            None => Ok(Finding::Empty),
-        }
-    }
-
-    // The answer, where the anchor names this set.
-    fn answer_at(
-        &self,
-        alloc: Global,
-        anchor: Which,
-        budget: u64,
-        state: &mut State,
-    ) -> Result<Finding, AllocError>
-        requires search { IsListedSearch self.now }
-        requires anchor { (o : Operand) × IsAnchor self.now.query.now.positive o
-            × (o.which ≡ anchor) }
-        requires state { IsState self.now.task.now state.old }
-        ensures { IfOk result (λ found. IsAnswer found
-            (StatesPass (states_listed self.now.sets.now) self.now.query.now budget)
-            (atoms self.now.task.now)
-            (is_clash self.now.task.now (in_set self.now.sets.now) self.now.query.now) state.new) }
-    {
+        let anchor = self.anchor();
         match anchor {
             Which::Start => Ok(self.find_start(budget, state)),
-            Which::Set(number) => {
-                let set = self.sets.get(number);
-                self.answer_in(alloc, anchor, set, budget, state)
-            }
+            Which::Set(number) => { self.answer_in(alloc, anchor, self.set(number), budget, state) }
             _ => Ok(Finding::Empty),
         }
     }
@@ -98,14 +183,12 @@ impl Search<'_> {
         alloc: Global,
         set: &'a Explicit,
     ) -> Result<Option<Part<'a>>, AllocError>
-        requires { IsListedSearch self.now }
         ensures { IfOk result (λ o. IfSome o (λ part.
             AreAllBut (clashes_at self.now) set.now.states (listed_places part))) }
     {
-        let Some(number) = self.query.action else {
+        let Some(action) = self.action() else {
             return Ok(None);
         };
-        let action = self.task.action(number);
         set.held_by(alloc, action.pre.as_slice())
     }
 
@@ -118,14 +201,12 @@ impl Search<'_> {
         budget: u64,
         state: &mut State,
     ) -> Result<Finding, AllocError>
-        requires search { IsListedSearch self.now }
-        requires atoms { set.now.atoms ≡ atoms self.now.task.now }
-        requires anchor { All (λ held. in_which self.now.task.now (in_set self.now.sets.now) anchor
-            (state_of (atoms self.now.task.now) held) ≡ true) set.now.states }
-        requires state { IsState self.now.task.now state.old }
-        ensures { IfOk result (λ found. IsFoundListed found budget (atoms self.now.task.now)
-            (is_clash self.now.task.now (in_set self.now.sets.now) self.now.query.now)
-            set.now.states state.new) }
+        requires atoms { set.now.atoms ≡ atoms self.now.task }
+        requires anchor { All (λ held. in_named self.now anchor
+            (state_of (atoms self.now.task) held) ≡ true) set.now.states }
+        requires state { IsState self.now.task state.old }
+        ensures { IfOk result (λ found. IsFoundListed found budget self.now set.now.states
+            state.new) }
     {
         match self.places_in(alloc, set)? {
             Some(part) => Ok(self.find_among(anchor, set, part.as_slice(), budget, state)),
@@ -135,16 +216,13 @@ impl Search<'_> {
 
     // Asks whether the initial state is a counterexample, where the anchor names it.
     fn find_start(&self, budget: u64, state: &mut State) -> Finding
-        requires search { IsListedSearch self.now }
-        requires state { IsState self.now.task.now state.old }
-        ensures { IsFoundListed result budget (atoms self.now.task.now)
-            (is_clash self.now.task.now (in_set self.now.sets.now) self.now.query.now)
-            (self.now.task.now.start ∷ []) state.new }
+        requires { IsState self.now.task state.old }
+        ensures { IsFoundListed result budget self.now (self.now.task.start ∷ []) state.new }
     {
         if budget == 0 {
             return Finding::Over;
         }
-        let held = Coded::new(PLAIN, self.task.start().as_slice());
+        let held = self.start();
         if self.clashes(Which::Start, held) {
             state.hold(held.atoms);
             return Finding::Clash;
@@ -162,15 +240,12 @@ impl Search<'_> {
         budget: u64,
         state: &mut State,
     ) -> Finding
-        requires search { IsListedSearch self.now }
-        requires atoms { set.now.atoms ≡ atoms self.now.task.now }
-        requires anchor { All (λ held. in_which self.now.task.now (in_set self.now.sets.now) anchor
-            (state_of (atoms self.now.task.now) held) ≡ true) set.now.states }
+        requires atoms { set.now.atoms ≡ atoms self.now.task }
+        requires anchor { All (λ held. in_named self.now anchor
+            (state_of (atoms self.now.task) held) ≡ true) set.now.states }
         requires places { AreAllBut (clashes_at self.now) set.now.states places.now }
-        requires state { IsState self.now.task.now state.old }
-        ensures { IsFoundListed result budget (atoms self.now.task.now)
-            (is_clash self.now.task.now (in_set self.now.sets.now) self.now.query.now)
-            set.now.states state.new }
+        requires state { IsState self.now.task state.old }
+        ensures { IsFoundListed result budget self.now set.now.states state.new }
     {
         if set.len() as u64 > budget {
             return Finding::Over;
@@ -187,17 +262,14 @@ impl Search<'_> {
 
     // Whether the state, which is in what the anchor names, is a counterexample.
     fn clashes(&self, anchor: Which, held: Coded<'_>) -> bool
-        requires search { IsListedSearch self.now }
-        requires anchor { in_which self.now.task.now (in_set self.now.sets.now) anchor
-            (state_of (atoms self.now.task.now) held.atoms.now) ≡ true }
-        requires held { AreBelow (atoms self.now.task.now) held.atoms.now }
-        ensures { result ≡ is_clash self.now.task.now (in_set self.now.sets.now) self.now.query.now
-            (state_of (atoms self.now.task.now) held.entry.atoms.now) }
+        requires anchor { in_named self.now anchor
+            (state_of (atoms self.now.task) held.atoms.now) ≡ true }
+        requires held { AreBelow (atoms self.now.task) held.atoms.now }
+        ensures { result ≡ clashes_at self.now held.entry.atoms.now }
     {
-        match self.query.action {
+        match self.action() {
             None => self.fits(anchor, &held, &held),
-            Some(number) => {
-                let action = self.task.action(number);
+            Some(action) => {
                 names_all(held.atoms, action.pre.as_slice())
                     && self.fits_after(anchor, held, action)
             }
@@ -207,13 +279,12 @@ impl Search<'_> {
     // Whether the state and the result of the action fit. Where the action leaves the state as it
     // is, and the anchor is a negative operand that is asked about after it, they don't.
     fn fits_after(&self, anchor: Which, held: Coded<'_>, action: &Action) -> bool
-        requires search { IsListedSearch self.now }
-        requires anchor { in_which self.now.task.now (in_set self.now.sets.now) anchor
-            (state_of (atoms self.now.task.now) held.atoms.now) ≡ true }
-        requires held { AreBelow (atoms self.now.task.now) held.atoms.now }
-        requires over { IsOver (atoms self.now.task.now) action.now }
-        ensures { (b a : List Bool) → HasJust self.now.task.now (names_atom held.entry.atoms.now) b
-            → HasJust self.now.task.now (is_after action.now held.entry.atoms.now) a
+        requires anchor { in_named self.now anchor
+            (state_of (atoms self.now.task) held.atoms.now) ≡ true }
+        requires held { AreBelow (atoms self.now.task) held.atoms.now }
+        requires over { IsOver (atoms self.now.task) action.now }
+        ensures { (b a : List Bool) → HasJust self.now.task (names_atom held.entry.atoms.now) b
+            → HasJust self.now.task (is_after action.now held.entry.atoms.now) a
             → result ≡ is_fit self.now b a }
     {
         let after = Outcome::of(held, action);
@@ -227,28 +298,23 @@ impl Search<'_> {
     // the action leaves the state as it is.
     fn stays(&self, anchor: Which, held: &[u32], action: &Action) -> bool
         requires { IsStrictlyIncreasing held.now }
-        ensures asks { IsTrue result → AsksAbout self.now.query.now.negative anchor true }
+        ensures asks { IsTrue result → AsksAbout self.now.query.negative anchor true }
         ensures left { IsTrue result → IsSame (is_after action.now held.now) held.now }
     {
-        if !self.query.negative.names(anchor, true) {
-            return false;
-        }
-        is_left(held, action)
+        self.denies(anchor, true) && is_left(held, action)
     }
 
     // Whether the states before and after the action are in each positive operand and in no
     // negative one.
     fn fits<B: Sought, A: Sought>(&self, anchor: Which, before: &B, after: &A) -> bool
-        requires search { IsListedSearch self.now }
-        requires anchor { (b : List Bool) → HasJust self.now.task.now (B.has before.now) b
-            → in_which self.now.task.now (in_set self.now.sets.now) anchor b ≡ true }
-        requires before { IsBelow (atoms self.now.task.now) (B.has before.now) }
-        requires after { IsBelow (atoms self.now.task.now) (A.has after.now) }
-        ensures { (b a : List Bool) → HasJust self.now.task.now (B.has before.now) b
-            → HasJust self.now.task.now (A.has after.now) a → result ≡ is_fit self.now b a }
+        requires anchor { (b : List Bool) → HasJust self.now.task (B.has before.now) b
+            → in_named self.now anchor b ≡ true }
+        requires before { IsBelow (atoms self.now.task) (B.has before.now) }
+        requires after { IsBelow (atoms self.now.task) (A.has after.now) }
+        ensures { (b a : List Bool) → HasJust self.now.task (B.has before.now) b
+            → HasJust self.now.task (A.has after.now) a → result ≡ is_fit self.now b a }
     {
-        self.are_all(anchor, self.query.positive.as_slice(), before, after)
-            && self.are_none(before, after)
+        self.are_all(anchor, self.positive(), before, after) && self.are_none(before, after)
     }
 
     fn are_all<B: Sought, A: Sought>(
@@ -258,15 +324,14 @@ impl Search<'_> {
         before: &B,
         after: &A,
     ) -> bool
-        requires search { IsListedSearch self.now }
-        requires anchor { (b : List Bool) → HasJust self.now.task.now (B.has before.now) b
-            → in_which self.now.task.now (in_set self.now.sets.now) anchor b ≡ true }
-        requires operands { All (λ o. IsNamed (length self.now.sets.now) o.which) operands.now }
-        requires before { IsBelow (atoms self.now.task.now) (B.has before.now) }
-        requires after { IsBelow (atoms self.now.task.now) (A.has after.now) }
-        ensures { (b a : List Bool) → HasJust self.now.task.now (B.has before.now) b
-            → HasJust self.now.task.now (A.has after.now) a
-            → result ≡ list_all (in_either self.now.task.now (in_set self.now.sets.now) b a)
+        requires anchor { (b : List Bool) → HasJust self.now.task (B.has before.now) b
+            → in_named self.now anchor b ≡ true }
+        requires operands { All (λ o. IsNamed (length self.now.sets) o.which) operands.now }
+        requires before { IsBelow (atoms self.now.task) (B.has before.now) }
+        requires after { IsBelow (atoms self.now.task) (A.has after.now) }
+        ensures { (b a : List Bool) → HasJust self.now.task (B.has before.now) b
+            → HasJust self.now.task (A.has after.now) a
+            → result ≡ list_all (in_either self.now b a)
             operands.now }
     {
         for operand in operands {
@@ -278,34 +343,28 @@ impl Search<'_> {
     }
 
     fn are_none<B: Sought, A: Sought>(&self, before: &B, after: &A) -> bool
-        requires search { IsListedSearch self.now }
-        requires before { IsBelow (atoms self.now.task.now) (B.has before.now) }
-        requires after { IsBelow (atoms self.now.task.now) (A.has after.now) }
-        ensures { (b a : List Bool) → HasJust self.now.task.now (B.has before.now) b
-            → HasJust self.now.task.now (A.has after.now) a
+        requires before { IsBelow (atoms self.now.task) (B.has before.now) }
+        requires after { IsBelow (atoms self.now.task) (A.has after.now) }
+        ensures { (b a : List Bool) → HasJust self.now.task (B.has before.now) b
+            → HasJust self.now.task (A.has after.now) a
             → result ≡ is_in_none self.now b a }
     {
-        !self.is_hit(before, false) && (self.query.action.is_none() || !self.is_hit(after, true))
+        !self.is_hit(before, false) && (!self.acts() || !self.is_hit(after, true))
     }
 
     // Whether a negative operand that is asked about after the action (true) or before it (false)
     // has the state. Few operands are gone through. Of many only those are asked about that name a
     // set that lists the state, if such sets are fewer.
     fn is_hit<A: Sought>(&self, held: &A, after: bool) -> bool
-        requires search { IsListedSearch self.now }
-        requires below { IsBelow (atoms self.now.task.now) (A.has held.now) }
-        ensures { (state : List Bool) → HasJust self.now.task.now (A.has held.now) state
-            → IsTrue result ↔ IsHit self.now.task.now (in_set self.now.sets.now)
-            self.now.query.now.negative after state }
+        requires { IsBelow (atoms self.now.task) (A.has held.now) }
+        ensures { (state : List Bool) → HasJust self.now.task (A.has held.now) state
+            → IsTrue result ↔ IsHit self.now self.now.query.negative after state }
     {
-        let operands = self.query.negative.as_slice();
+        let operands = self.negative();
         if operands.len() <= FEW {
             return self.is_hit_among(operands, held, after);
         }
-        match self
-            .sets
-            .find_owner(&self.query.negative, after, held, self.task.atoms())
-        {
+        match self.find_owner(held, after) {
             Some(owned) => {
                 owned
                     || self.is_hit_by(Which::Start, held, after)
@@ -316,12 +375,10 @@ impl Search<'_> {
     }
 
     fn is_hit_among<A: Sought>(&self, operands: &[Operand], held: &A, after: bool) -> bool
-        requires search { IsListedSearch self.now }
-        requires operands { All (λ o. IsNamed (length self.now.sets.now) o.which) operands.now }
-        requires below { IsBelow (atoms self.now.task.now) (A.has held.now) }
-        ensures { (state : List Bool) → HasJust self.now.task.now (A.has held.now) state
-            → IsTrue result ↔ IsHit self.now.task.now (in_set self.now.sets.now)
-            operands.now after state }
+        requires operands { All (λ o. IsNamed (length self.now.sets) o.which) operands.now }
+        requires below { IsBelow (atoms self.now.task) (A.has held.now) }
+        ensures { (state : List Bool) → HasJust self.now.task (A.has held.now) state
+            → IsTrue result ↔ IsHit self.now operands.now after state }
     {
         for operand in operands {
             if operand.after == after && self.has(operand.which, held) {
@@ -333,12 +390,11 @@ impl Search<'_> {
 
     // Whether this set is a negative operand and has the state.
     fn is_hit_by<A: Sought>(&self, which: Which, held: &A, after: bool) -> bool
-        requires search { IsListedSearch self.now }
-        requires below { IsBelow (atoms self.now.task.now) (A.has held.now) }
-        ensures { (state : List Bool) → HasJust self.now.task.now (A.has held.now) state
+        requires { IsBelow (atoms self.now.task) (A.has held.now) }
+        ensures { (state : List Bool) → HasJust self.now.task (A.has held.now) state
             → IsTrue result ↔ IsHitBy self.now which after state }
     {
-        self.query.negative.names(which, after) && self.has(which, held)
+        self.denies(which, after) && self.has(which, held)
     }
 
     fn is_in<B: Sought, A: Sought>(
@@ -348,15 +404,14 @@ impl Search<'_> {
         before: &B,
         after: &A,
     ) -> bool
-        requires search { IsListedSearch self.now }
-        requires anchor { (b : List Bool) → HasJust self.now.task.now (B.has before.now) b
-            → in_which self.now.task.now (in_set self.now.sets.now) anchor b ≡ true }
-        requires operand { IsNamed (length self.now.sets.now) operand.now.which }
-        requires before { IsBelow (atoms self.now.task.now) (B.has before.now) }
-        requires after { IsBelow (atoms self.now.task.now) (A.has after.now) }
-        ensures { (b a : List Bool) → HasJust self.now.task.now (B.has before.now) b
-            → HasJust self.now.task.now (A.has after.now) a
-            → result ≡ in_either self.now.task.now (in_set self.now.sets.now) b a operand.now }
+        requires anchor { (b : List Bool) → HasJust self.now.task (B.has before.now) b
+            → in_named self.now anchor b ≡ true }
+        requires operand { IsNamed (length self.now.sets) operand.now.which }
+        requires before { IsBelow (atoms self.now.task) (B.has before.now) }
+        requires after { IsBelow (atoms self.now.task) (A.has after.now) }
+        ensures { (b a : List Bool) → HasJust self.now.task (B.has before.now) b
+            → HasJust self.now.task (A.has after.now) a
+            → result ≡ in_either self.now b a operand.now }
     {
         if operand.after {
             return self.has(operand.which, after);
@@ -365,17 +420,16 @@ impl Search<'_> {
     }
 
     fn has<A: Sought>(&self, which: Which, held: &A) -> bool
-        requires search { IsListedSearch self.now }
-        requires which { IsNamed (length self.now.sets.now) which }
-        requires below { IsBelow (atoms self.now.task.now) (A.has held.now) }
-        ensures { (state : List Bool) → HasJust self.now.task.now (A.has held.now) state
-            → result ≡ in_which self.now.task.now (in_set self.now.sets.now) which state }
+        requires which { IsNamed (length self.now.sets) which }
+        requires below { IsBelow (atoms self.now.task) (A.has held.now) }
+        ensures { (state : List Bool) → HasJust self.now.task (A.has held.now) state
+            → result ≡ in_named self.now which state }
     {
         match which {
             Which::Empty => false,
             Which::Start => is_start(self.task, held),
             Which::Goal => has_goal(self.task, held),
-            Which::Set(number) => self.sets.get(number).has(held),
+            Which::Set(number) => self.set(number).has(held),
         }
     }
 }

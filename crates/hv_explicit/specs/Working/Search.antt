@@ -8,11 +8,42 @@ use Rattle.hv_sets.specs.declared.finding.Finding.{Finding}
 use Rattle.hv_sets.specs.declared.finding.Finding.TheVariants as F
 use Rattle.hv_sets.specs.declared.operand.Operand.{Operand}
 use Rattle.hv_sets.specs.declared.operand.Which.{Which}
+use Rattle.hv_sets.specs.declared.query.Query.{Query}
 use Rattle.hv_sets.specs.Names.{AsksAbout}
-use Rattle.hv_sets.specs.Query.{HasAnchor, IsReady, in_which, is_clash}
+use Rattle.hv_sets.specs.Query.{HasAnchor, IsAnchor, IsNamed, IsReady, in_which, is_clash}
 use Rattle.hv_explicit.specs.Codes.{IsSetOf}
-use Rattle.hv_explicit.specs.Listing.{AreOver, in_set}
-use Rattle.hv_explicit.specs.declared.search.Search.{Search}
+use Rattle.hv_explicit.specs.Listing.{AreOver, Listing, in_set}
+
+-- a query, with the task and the sets of which it is asked
+pub record ListedSearch : Type 0 where
+  pub task : Strips
+  pub sets : List Listing
+  pub query : Query
+
+-- the query can be asked of the sets, which are over the task
+pub record IsListedSearch (s : ListedSearch) : Type 0 where
+  pub over : AreOver s.sets (atoms s.task)
+  pub ready : IsReady (length s.sets) s.query
+  pub anchor : HasAnchor s.query
+  pub action : IfSome s.query.action (λ a. a < length s.task.actions)
+
+-- the state is in what is named
+abbrev pub in_named : ListedSearch → Which → List Bool → Bool
+in_named s which state = in_which s.task (in_set s.sets) which state
+
+-- the state is a counterexample
+abbrev pub clashes_in : ListedSearch → List Bool → Bool
+clashes_in s state = is_clash s.task (in_set s.sets) s.query state
+
+-- the state of these atoms is a counterexample
+abbrev pub clashes_at : ListedSearch → List ℕ → Bool
+clashes_at s held = clashes_in s (state_of (atoms s.task) held)
+
+-- what is named is the anchor: an operand that is the anchor names it, and each that is one does
+pub record NamesAnchor (s : ListedSearch) (which : Which) : Type 0 where
+  pub one : (o : Operand) × IsAnchor s.query.positive o × (o.which ≡ which)
+  pub each : (o : Operand) → IsAnchor s.query.positive o → o.which ≡ which
+  pub named : IsNamed (length s.sets) which
 
 -- the state is a state of the task, and has just these atoms
 pub record HasJust (task : Strips) (held : ℕ → Bool) (state : List Bool) : Type 0 where
@@ -20,52 +51,36 @@ pub record HasJust (task : Strips) (held : ℕ → Bool) (state : List Bool) : T
   pub same : IsSetOf held state
 
 -- the state that is asked about, of those before and after an action, is in what the operand names
-abbrev pub in_either : Strips → (ℕ → List Bool → Bool) → List Bool → List Bool → Operand → Bool
-in_either task sets before after operand =
-    in_which task sets operand.which (if operand.after then after else before)
+abbrev pub in_either : ListedSearch → List Bool → List Bool → Operand → Bool
+in_either s before after operand =
+    in_named s operand.which (if operand.after then after else before)
 
 -- the states before and after the action are in no negative operand
-abbrev pub is_in_none : Search → List Bool → List Bool → Bool
-is_in_none s before after =
-    list_all (λ o. not (in_either s.task.now (in_set s.sets.now) before after o))
-    s.query.now.negative
+abbrev pub is_in_none : ListedSearch → List Bool → List Bool → Bool
+is_in_none s before after = list_all (λ o. not (in_either s before after o)) s.query.negative
 
 -- they are in each positive operand and in no negative one
-abbrev pub is_fit : Search → List Bool → List Bool → Bool
+abbrev pub is_fit : ListedSearch → List Bool → List Bool → Bool
 is_fit s before after =
-    list_all (in_either s.task.now (in_set s.sets.now) before after) s.query.now.positive
-    && is_in_none s before after
+    list_all (in_either s before after) s.query.positive && is_in_none s before after
 
--- some operand of this side is a set that has the state: the operands that are asked about after
--- the action, or the others
-abbrev pub IsHit : Strips → (ℕ → List Bool → Bool) → List Operand → Bool → List Bool → Type 0
-IsHit task sets operands after state =
+-- some of the operands of this side is a set that has the state: of those that are asked about
+-- after the action, or of the others
+abbrev pub IsHit : ListedSearch → List Operand → Bool → List Bool → Type 0
+IsHit s operands after state =
     (operand : Operand) × Contains operands operand × (operand.after ≡ after)
-    × (in_which task sets operand.which state ≡ true)
+    × (in_named s operand.which state ≡ true)
 
 -- the set is a negative operand of this side, and has the state
-abbrev pub IsHitBy : Search → Which → Bool → List Bool → Type 0
+abbrev pub IsHitBy : ListedSearch → Which → Bool → List Bool → Type 0
 IsHitBy s which after state =
-    AsksAbout s.query.now.negative which after
-    × (in_which s.task.now (in_set s.sets.now) which state ≡ true)
+    AsksAbout s.query.negative which after × (in_named s which state ≡ true)
 
 -- the exact answer of a search through listed states: that there are more than the budget, that a
--- state of the task passes the test, or that no listed state does
-abbrev pub IsFoundListed : Finding → ℕ → ℕ → (List Bool → Bool) → List (List ℕ) → List Bool → Type 0
-IsFoundListed F.Over budget atoms test states found = budget < length states
-IsFoundListed F.Clash budget atoms test states found =
-    (length states ≤ budget) × (length found ≡ atoms) × (test found ≡ true)
-IsFoundListed F.Empty budget atoms test states found =
-    (length states ≤ budget) × All (λ held. test (state_of atoms held) ≡ false) states
-
--- the state of these atoms is a counterexample
-abbrev pub clashes_at : Search → List ℕ → Bool
-clashes_at s held =
-    is_clash s.task.now (in_set s.sets.now) s.query.now (state_of (atoms s.task.now) held)
-
--- the query can be asked of the sets, which are over the task
-pub record IsListedSearch (s : Search) : Type 0 where
-  pub over : AreOver s.sets.now (atoms s.task.now)
-  pub ready : IsReady (length s.sets.now) s.query.now
-  pub anchor : HasAnchor s.query.now
-  pub action : IfSome s.query.now.action (λ a. a < length s.task.now.actions)
+-- state of the task is a counterexample, or that no listed state is one
+abbrev pub IsFoundListed : Finding → ℕ → ListedSearch → List (List ℕ) → List Bool → Type 0
+IsFoundListed F.Over budget s states found = budget < length states
+IsFoundListed F.Clash budget s states found =
+    (length states ≤ budget) × IsState s.task found × (clashes_in s found ≡ true)
+IsFoundListed F.Empty budget s states found =
+    (length states ≤ budget) × All (λ held. clashes_at s held ≡ false) states

@@ -2,7 +2,6 @@ use Rattle.std.proofs.Common.{◌∙◌, ◌&&◌, ◌∷◌, [], true, take, sy
 use Rattle.std.proofs.lemmas.List.{take_all, take_more}
 use Rattle.std.proofs.lemmas.List.Folds.{list_all-append, list_all_at}
 use Rattle.std.specs.List.{list_all}
-use Rattle.hv_explicit.specs.Listing.{in_set}
 use Rattle.hv_explicit.specs.Working.Search.{in_either}
 use Rattle.hv_explicit.proofs.search.Search.are_all.Goals as goal
 
@@ -13,7 +12,7 @@ returns-then-not-is_in g c = λ b a stands_b stands_a.
 
 pub loop-operand-preserved : goal.loop-operand-preserved
 loop-operand-preserved g c = λ b a stands_b stands_a.
-    let p = in_either c.args.self.now.task.now (in_set c.args.self.now.sets.now) b a in
+    let p = in_either c.args.self.now b a in
     let xs = c.args.operands.now in
     let i = c.loop-operand.operand-index in
     ap (list_all p) (take_more xs i _ c.loop-operand-test.true)
@@ -23,7 +22,7 @@ loop-operand-preserved g c = λ b a stands_b stands_a.
 
 pub returns : goal.returns
 returns g c = λ b a stands_b stands_a.
-    let p = in_either c.args.self.now.task.now (in_set c.args.self.now.sets.now) b a in
+    let p = in_either c.args.self.now b a in
     sym (ap (list_all p) (sym (take_all c.loop-operand.operand-index c.args.operands.now
     c.loop-operand-test.false))
     ∙ c.loop-operand.invariant b a stands_b stands_a)

@@ -1,22 +1,18 @@
-use Rattle.std.proofs.Common.{◌∙◌, length, sym}
-use Rattle.hv_explicit.specs.Listing.{in_set}
+use Rattle.std.proofs.Common.{◌∙◌, ap, not, sym}
 use Rattle.hv_explicit.proofs.Hits.{none_after, none_hit, not_hit, when_asked}
 use Rattle.hv_explicit.proofs.search.Search.are_none.Goals as goal
 
-pub returns-then-is_none : goal.returns-then-is_none
-returns-then-is_none g c = λ b a stands_b stands_a.
-    c.if-is_none.true
-    ∙ sym (none_hit c.args.self.now.task.now (in_set c.args.self.now.sets.now)
-    c.args.self.now.query.now.negative b a
+pub returns-then-not-acts : goal.returns-then-not-acts
+returns-then-not-acts g c = λ b a stands_b stands_a.
+    let s = c.args.self.now in
+    ap not c.if-not-acts.true
+    ∙ sym (none_hit s s.query.negative b a
     (λ hit. not_hit c.is_hit.result c.if-not-is_hit.true ((c.is_hit.ensures b stands_b).1 hit))
-    (none_after c.args.self.now.task.now (in_set c.args.self.now.sets.now)
-    (length c.args.self.now.sets.now) c.args.self.now.query.now
-    a c.requires.search.ready c.if-is_none.ensures))
+    (none_after s a (c.acts.ensures c.if-not-acts.true)))
 
-pub returns-else-is_none : goal.returns-else-is_none
-returns-else-is_none g c = λ b a stands_b stands_a.
-    when_asked c.args.self.now.task.now (in_set c.args.self.now.sets.now)
-    c.args.self.now.query.now.negative b a
-    c.is_hit-else-is_none.result (λ hit. not_hit c.is_hit.result c.if-not-is_hit.true
-    ((c.is_hit.ensures b stands_b).1 hit))
-    (c.is_hit-else-is_none.ensures a stands_a)
+pub returns-else-not-acts : goal.returns-else-not-acts
+returns-else-not-acts g c = λ b a stands_b stands_a.
+    let s = c.args.self.now in
+    when_asked s s.query.negative b a c.is_hit-else-not-acts.result
+    (λ hit. not_hit c.is_hit.result c.if-not-is_hit.true ((c.is_hit.ensures b stands_b).1 hit))
+    (c.is_hit-else-not-acts.ensures a stands_a)

@@ -2,10 +2,8 @@ use Rattle.std.proofs.Common.{◌≡◌, ◌∙◌, ℕ, [], get_or, ap, sym, su
 use Rattle.std.proofs.Common.{below_more}
 use Rattle.hv_task.specs.State.{AreBelow, state_of}
 use Rattle.hv_task.specs.Strips.{atoms}
-use Rattle.hv_sets.specs.Query.{in_which, is_clash}
-use Rattle.hv_explicit.specs.Listing.{in_set}
 use Rattle.hv_explicit.specs.Working.Listing.{first_at}
-use Rattle.hv_explicit.specs.Working.Search.{clashes_at}
+use Rattle.hv_explicit.specs.Working.Search.{clashes_at, clashes_in, in_named}
 use Rattle.hv_explicit.proofs.Holding.{all_fail}
 use Rattle.hv_explicit.proofs.search.Search.find_among.Goals as goal
 
@@ -21,9 +19,9 @@ clashes-requires-clause-held c =
 
 pub clashes-requires-clause-anchor : goal.clashes-requires-clause-anchor
 clashes-requires-clause-anchor c =
-    let task = c.args.self.now.task.now in
+    let task = c.args.self.now.task in
     let place = get_or c.args.places.now c.loop-place.place-index 0 in
-    subst (λ held. in_which task (in_set c.args.self.now.sets.now) c.args.anchor
+    subst (λ held. in_named c.args.self.now c.args.anchor
     (state_of (atoms task) held) ≡ true) (sym c.at-held.ensures.atoms)
     (c.requires.anchor place []
     (c.requires.places.within c.loop-place.place-index c.loop-place-test.true))
@@ -32,7 +30,7 @@ pub returns-then-clashes : goal.returns-then-clashes
 returns-then-clashes c = (
   (let len = c.len.ensures in omega (arith, c.if-len-budget.false)),
   c.hold.ensures.atoms ∙ c.loop-place.invariant.state,
-  ap (is_clash c.args.self.now.task.now (in_set c.args.self.now.sets.now) c.args.self.now.query.now)
+  ap (clashes_in c.args.self.now)
       (c.hold.ensures.held ∙ ap (λ m. state_of m c.at-held.result.atoms.now)
       c.loop-place.invariant.state)
       ∙ (sym c.clashes.ensures ∙ c.if-clashes.true),
@@ -40,15 +38,13 @@ returns-then-clashes c = (
 
 pub loop-place-preserved : goal.loop-place-preserved
 loop-place-preserved c =
-    let task = c.args.self.now.task.now in
     let s = c.args.self.now in
     record {
       state = c.loop-place.invariant.state;
-      none = below_more (λ e. is_clash task (in_set s.sets.now) s.query.now
-          (state_of (atoms task) (first_at c.args.set.now.states c.args.places.now e)) ≡ false)
+      none = below_more (λ e. clashes_at s (first_at c.args.set.now.states c.args.places.now e)
+          ≡ false)
           c.loop-place.place-index c.loop-place.invariant.none
-          (subst (λ held. is_clash task (in_set s.sets.now) s.query.now
-          (state_of (atoms task) held) ≡ false) c.at-held.ensures.atoms
+          (subst (λ held. clashes_at s held ≡ false) c.at-held.ensures.atoms
           (sym c.clashes.ensures ∙ c.if-clashes.false));
     }
 

@@ -11,15 +11,15 @@ use Rattle.hv_explicit.proofs.search.Search.places_in.Goals as goal
 pub returns : goal.returns
 returns c =
     let s = c.args.self.now in
-    let n = atoms s.task.now in
-    let action = c.action-action.result.now in
+    let n = atoms s.task in
+    let action = c.in-Some.action.now in
     zip_found _ _ _ c.held_by.result c.held_by.ensures c.held_by.ensures (λ part are _.
-    all_but_holders (clashes_at s) c.args.set.now.states c.as_slice.result.now (listed_places part) are
-    (λ k less none.
+    all_but_holders (clashes_at s) c.args.set.now.states c.as_slice.result.now
+    (listed_places part) are (λ k less none.
     let held = get_or c.args.set.now.states k [] in
     let state = state_of n held in
     let no : applicable action state ≡ false =
-    applies_not n held action.pre c.action-action.ensures.over.pre
+    applies_not n held action.pre c.in-Some.ensures.1.pre
     (λ all. none (subst (All (λ p. Contains held p)) (sym c.as_slice.ensures.items) all)) in
-    sym (clash_acting s state c.in-Some.number action c.in-Some.is c.action-action.ensures.named)
+    sym (clash_acting s state action c.in-Some.ensures.0)
     ∙ ap (λ b. b && is_fit s state (successor action state)) no))
