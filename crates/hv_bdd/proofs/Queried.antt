@@ -1,6 +1,6 @@
 -- Why the search through live tuples answers a query.
-use Rattle.std.proofs.Common.{◌≡◌, ℕ, ◌<◌, ◌∙◌, Bool, true, false, List, Result, Ok, Err, IfOk}
-use Rattle.std.proofs.Common.{get_or, length, map, sym, ap, arith, subst}
+use Rattle.std.proofs.Common.{◌≡◌, ℕ, ◌∙◌, Bool, true, false, List, Option, Result, Ok, Err, IfOk}
+use Rattle.std.proofs.Common.{get_or, map, sym, arith, subst}
 use Rattle.std.proofs.lemmas.List.Elements.{All-append, All-map}
 use Rattle.std.proofs.lemmas.Bool.{false_from_ne_true}
 use Rattle.std.specs.List.{All}
@@ -16,35 +16,27 @@ use Rattle.hv_sets.specs.declared.operand.Which.{Which}
 use Rattle.hv_sets.specs.declared.operand.Which.TheVariants as W
 use Rattle.hv_sets.specs.declared.query.Query.{Query}
 use Rattle.hv_bdd.specs.declared.asked.Asked.{Asked}
-use Rattle.hv_bdd.specs.declared.search.Search.{Search}
 use Rattle.hv_bdd.specs.Nodes.{NodeList, in_node, node_count}
 use Rattle.hv_bdd.specs.Reduced.{IsReduced}
 use Rattle.hv_bdd.specs.Live.{LivePass, asked_of, operands_of, tuple_setting_of}
 use Rattle.hv_bdd.specs.Working.Graphs.{IsLiveAnswer}
-use Rattle.hv_bdd.specs.Working.Search.{IsAskable, IsSearchFor, IsTupleSearch, setting}
+use Rattle.hv_bdd.specs.Working.Search.{IsAskable, IsTupleSearch, TupleSearch, search_for}
 use Rattle.hv_bdd.proofs.Asking.{clash_from, suits_from}
 use Rattle.hv_bdd.proofs.Marked.{length-changed_by, length-needed_by}
 use Rattle.hv_bdd.proofs.Explored.{first_and_second}
 
-module _ (list : NodeList) (task : Strips) (query : Query) (s : Search)
-    (for : IsSearchFor list task query s) (t : IsTask task) (size : list.atoms ≡ atoms task) where
-  size_now : s.nodes.now.atoms ≡ atoms task
-  size_now = ap (λ (l : NodeList). l.atoms) for.nodes ∙ size
+module _ (list : NodeList) (task : Strips) (query : Query) (t : IsTask task)
+    (size : list.atoms ≡ atoms task) where
+  abbrev pub it : TupleSearch
+  it = search_for list task query
 
-  askable : (w : Which) → IsNamed (node_count list) w → IsAskable s w
+  askable : (w : Which) → IsNamed (node_count list) w → IsAskable it.setting w
   askable W.Empty named = tt
   askable W.Start named =
-      let few = t.few_atoms in
-      let same = size_now in
-      (ap length for.start ∙ (IsState-start_state task ∙ sym size_now), omega arith)
+      let few = t.few_atoms in (IsState-start_state task ∙ sym size, omega arith)
   askable W.Goal named =
-      let few = t.few_atoms in
-      let same = size_now in (
-        ap length for.goal ∙ (length-state_of (atoms task) task.goal ∙ sym size_now),
-        omega arith,
-      )
-  askable (W.Set number) named =
-      subst (λ l. number < node_count l) (sym for.nodes) named
+      let few = t.few_atoms in (length-state_of (atoms task) task.goal ∙ sym size, omega arith)
+  askable (W.Set number) named = named
 
   all_named : (b : Bool) (os : List Operand)
       → All (λ (o : Operand). IsNamed (node_count list) o.which) os
@@ -52,36 +44,50 @@ module _ (list : NodeList) (task : Strips) (query : Query) (s : Search)
   all_named b os named =
       All-map (λ (o : Asked). IsNamed (node_count list) o.which) (asked_of b) os named
 
+  -- what it is made of
+  pub parts_are : (start goal : List Bool) (needed changed : List (Option Bool))
+      (asked : List Asked)
+      → start ≡ it.setting.start → goal ≡ it.setting.goal → needed ≡ it.setting.needed
+      → changed ≡ it.setting.changed → asked ≡ it.asked
+      → ◌≡◌ {A = TupleSearch} (record {
+        setting = record {
+          list = list;
+          start = start;
+          goal = goal;
+          needed = needed;
+          changed = changed;
+        };
+        asked = asked;
+      }) it
+  parts_are start goal needed changed asked is_start is_goal is_needed is_changed is_asked = λ k.
+      record {
+        setting = record {
+          list = list;
+          start = is_start k;
+          goal = is_goal k;
+          needed = is_needed k;
+          changed = is_changed k;
+        };
+        asked = is_asked k;
+      }
+
   -- the search can be made
-  pub can_search : IsReduced s.nodes.now → IsReady (node_count list) query → IsTupleSearch s
-  can_search reduced ready =
+  pub can_search : (s : TupleSearch) → s ≡ it → IsReduced list → IsReady (node_count list) query
+      → IsTupleSearch s
+  can_search s is reduced ready =
       let parts =
       first_and_second (λ (o : Operand). IsNamed (node_count list) o.which) query.positive
       query.negative ready.named in
-      let named : All (λ (o : Asked). IsNamed (node_count list) o.which) s.asked.now =
-      subst (All (λ (o : Asked). IsNamed (node_count list) o.which)) (sym for.asked)
-      (All-append (λ (o : Asked). IsNamed (node_count list) o.which)
+      let named : All (λ (o : Asked). IsNamed (node_count list) o.which) it.asked =
+      All-append (λ (o : Asked). IsNamed (node_count list) o.which)
       (map (asked_of true) query.positive) (map (asked_of false) query.negative)
-      (all_named true query.positive parts.0) (all_named false query.negative parts.1)) in
-      record {
+      (all_named true query.positive parts.0) (all_named false query.negative parts.1) in
+      subst IsTupleSearch (sym is) record {
         reduced = reduced;
-        needed =
-            ap length for.needed
-            ∙ (length-needed_by (atoms task) (action_of task query.action) ∙ sym size_now);
-        changed =
-            ap length for.changed
-            ∙ (length-changed_by (atoms task) (action_of task query.action) ∙ sym size_now);
-        asked = λ k d less. askable (get_or s.asked.now k d).which (named k d less);
+        needed = length-needed_by (atoms task) (action_of task query.action) ∙ sym size;
+        changed = length-changed_by (atoms task) (action_of task query.action) ∙ sym size;
+        asked = λ k d less. askable (get_or it.asked k d).which (named k d less);
       }
-
-  setting_is : setting s ≡ tuple_setting_of list task query
-  setting_is = λ k. record {
-    list = for.nodes k;
-    start = for.start k;
-    goal = for.goal k;
-    needed = for.needed k;
-    changed = for.changed k;
-  }
 
   by_answer : (found : Finding) (budget : ℕ) (state : List Bool)
       → IsLiveAnswer found (tuple_setting_of list task query) (operands_of query) budget state
@@ -98,13 +104,13 @@ module _ (list : NodeList) (task : Strips) (query : Query) (s : Search)
   )
 
   -- so its answer is that of the query
-  pub answer_is : (found : Result Finding AllocError) (budget : ℕ) (state : List Bool)
-      → IfOk found (λ f. IsLiveAnswer f (setting s) s.asked.now budget state)
+  pub answer_is : (s : TupleSearch) → s ≡ it
+      → (found : Result Finding AllocError) (budget : ℕ) (state : List Bool)
+      → IfOk found (λ f. IsLiveAnswer f s.setting s.asked budget state)
       → IfOk found (λ f.
       IsAnswer f (LivePass list task query budget) (atoms task)
       (is_clash task (in_node list) query) state)
-  answer_is (Ok found) budget state says =
+  answer_is s is (Ok found) budget state says =
       by_answer found budget state
-      (subst (λ os. IsLiveAnswer found (tuple_setting_of list task query) os budget state) for.asked
-      (subst (λ S. IsLiveAnswer found S s.asked.now budget state) setting_is says))
-  answer_is (Err e) budget state says = says
+      (subst (λ (x : TupleSearch). IsLiveAnswer found x.setting x.asked budget state) is says)
+  answer_is s is (Err e) budget state says = says

@@ -22,13 +22,12 @@ use Rattle.hv_sets.specs.declared.finding.Finding.TheVariants as F
 use Rattle.hv_sets.specs.declared.literal.Literal.{Literal}
 use Rattle.hv_sets.specs.declared.operand.Which.TheVariants as W
 use Rattle.hv_bdd.specs.declared.asked.Asked.{Asked}
-use Rattle.hv_bdd.specs.declared.search.Search.{Search}
 use Rattle.hv_bdd.specs.Working.Graphs.{IsLiveAnswer, Suits, limit}
 use Rattle.hv_bdd.specs.Live.{is_marked, bit_mark_of, moves, no_marks, roots}
 use Rattle.hv_bdd.specs.Nodes.{in_node, node_count}
 use Rattle.hv_bdd.specs.Order.{atom_at, place}
 use Rattle.hv_bdd.specs.Reduced.{IsReduced}
-use Rattle.hv_bdd.specs.Working.Search.{IsAskable, IsTupleSearch, SearchesCube, setting}
+use Rattle.hv_bdd.specs.Working.Search.{IsAskable, IsTupleSearch, SearchesCube, TupleSearch}
 use Rattle.hv_bdd.specs.Working.Sets.{mark_literals}
 use Rattle.hv_bdd.specs.Working.Sets.{Finds}
 use Rattle.hv_bdd.specs.Tuples.{IsReached, TuplesPass}
@@ -107,75 +106,77 @@ marks_cube (l ∷ ls) marks s rises below all =
     (λ a less. all a (omega arith)))
 
 -- the search for a state of a cube can be made
-pub can_look : (s : Search) (node : ℕ) (inside : Bool) (cube : List Literal)
-    → SearchesCube node inside cube s → IsReduced s.nodes.now → node < node_count s.nodes.now
-    → length s.changed ≡ s.nodes.now.atoms → IsTupleSearch s
+pub can_look : (s : TupleSearch) (node : ℕ) (inside : Bool) (cube : List Literal)
+    → SearchesCube node inside cube s → IsReduced s.setting.list → node < node_count s.setting.list
+    → length s.setting.changed ≡ s.setting.list.atoms → IsTupleSearch s
 can_look s node inside cube for reduced within changed = record {
   reduced = reduced;
   needed = ap length for.needed
-      ∙ (length-literals cube (no_marks s.nodes.now.atoms) ∙ length-no_marks s.nodes.now.atoms);
+      ∙ (length-literals cube (no_marks s.setting.list.atoms)
+      ∙ length-no_marks s.setting.list.atoms);
   changed = changed;
-  asked = subst (All (λ (o : Asked). IsAskable s o.which)) (sym for.asked)
-      (All-cons (λ (o : Asked). IsAskable s o.which)
+  asked = subst (All (λ (o : Asked). IsAskable s.setting o.which)) (sym for.asked)
+      (All-cons (λ (o : Asked). IsAskable s.setting o.which)
       (record { which = W.Set node; after = false; positive = inside }) [] within
-      (All-nil (λ (o : Asked). IsAskable s o.which)));
+      (All-nil (λ (o : Asked). IsAskable s.setting o.which)));
 }
 
-module _ (s : Search) (search : IsTupleSearch s) (node : ℕ) (inside : Bool) (cube : List Literal)
-    (for : SearchesCube node inside cube s)
-    (rises : IsStrictlyIncreasing (atoms_of cube)) (below : SpeakBelow s.nodes.now.atoms cube) where
+module _ (s : TupleSearch) (search : IsTupleSearch s) (node : ℕ) (inside : Bool)
+    (cube : List Literal) (for : SearchesCube node inside cube s)
+    (rises : IsStrictlyIncreasing (atoms_of cube))
+    (below : SpeakBelow s.setting.list.atoms cube) where
   abbrev pub one : List Asked
   one = record { which = W.Set node; after = false; positive = inside } ∷ []
 
-  marks_size : length (no_marks s.nodes.now.atoms) ≡ s.nodes.now.atoms
-  marks_size = length-no_marks s.nodes.now.atoms
+  marks_size : length (no_marks s.setting.list.atoms) ≡ s.setting.list.atoms
+  marks_size = length-no_marks s.setting.list.atoms
 
   -- a state of the cube on the right side suits the operand
-  suits_for : (state : List Bool) → length state ≡ s.nodes.now.atoms → in_cube cube state ≡ true
-      → in_node s.nodes.now node state ≡ inside
-      → Suits (setting s) one state
+  suits_for : (state : List Bool) → length state ≡ s.setting.list.atoms → in_cube cube state ≡ true
+      → in_node s.setting.list node state ≡ inside
+      → Suits s.setting one state
   suits_for state size in_c is = (
     (
       size,
       λ v less.
-          let at = (order_of s.nodes.now).atom_in v less in
+          let at = (order_of s.setting.list).atom_in v less in
           let len = marks_size in
-          ap (λ m. is_marked (bit_mark_of m (atom_at s.nodes.now v))
-          (has_atom state (atom_at s.nodes.now v))) for.needed
-          ∙ cube_marks cube (no_marks s.nodes.now.atoms) state in_c
+          ap (λ m. is_marked (bit_mark_of m (atom_at s.setting.list v))
+          (has_atom state (atom_at s.setting.list v))) for.needed
+          ∙ cube_marks cube (no_marks s.setting.list.atoms) state in_c
           (λ a within. ap (λ m. is_marked m (has_atom state a))
-          (mark_of-no_marks s.nodes.now.atoms a (omega arith)))
-          (atom_at s.nodes.now v) (omega arith),
+          (mark_of-no_marks s.setting.list.atoms a (omega arith)))
+          (atom_at s.setting.list v) (omega arith),
     ),
     (is, tt),
   )
 
-  in_cube_from : (state : List Bool) → Suits (setting s) one state → in_cube cube state ≡ true
+  in_cube_from : (state : List Bool) → Suits s.setting one state → in_cube cube state ≡ true
   in_cube_from state suits =
       let len = marks_size in
-      marks_cube cube (no_marks s.nodes.now.atoms) state
+      marks_cube cube (no_marks s.setting.list.atoms) state
       (λ i j less end. rises_apart (atoms_of cube) i j rises less end)
       (subst (λ n. SpeakBelow n cube) (sym len) below)
       (λ a less.
-      let within : a < s.nodes.now.atoms = omega arith in
-      let in_order = (order_of s.nodes.now).place_in a within in
-      subst (λ x. is_marked (bit_mark_of (mark_literals cube (no_marks s.nodes.now.atoms)) x)
+      let within : a < s.setting.list.atoms = omega arith in
+      let in_order = (order_of s.setting.list).place_in a within in
+      subst (λ x. is_marked (bit_mark_of (mark_literals cube (no_marks s.setting.list.atoms)) x)
       (has_atom state x) ≡ true)
-      ((order_of s.nodes.now).there a within)
-      (ap (λ m. is_marked (bit_mark_of m (atom_at s.nodes.now (place s.nodes.now a)))
-      (has_atom state (atom_at s.nodes.now (place s.nodes.now a)))) (sym for.needed)
-      ∙ suits.0.1 (place s.nodes.now a) in_order))
+      ((order_of s.setting.list).there a within)
+      (ap (λ m. is_marked (bit_mark_of m (atom_at s.setting.list (place s.setting.list a)))
+      (has_atom state (atom_at s.setting.list (place s.setting.list a)))) (sym for.needed)
+      ∙ suits.0.1 (place s.setting.list a) in_order))
 
   -- there are no more tuples than nodes
-  head_less : (ts : List ℕ) → IsReached (moves (setting s)) s.asked.now
-      (roots (setting s) s.asked.now) ts
-      → (length ts ≡ 1) × (get_or ts 0 0 < node_count s.nodes.now)
+  head_less : (ts : List ℕ) → IsReached (moves s.setting) s.asked
+      (roots s.setting s.asked) ts
+      → (length ts ≡ 1) × (get_or ts 0 0 < node_count s.setting.list)
   head_less ts reached =
       let tuple = reached_tuple s search ts reached in
       let size : length ts ≡ 1 = tuple.size ∙ ap length for.asked in (
         size,
         subst (λ (os : List Asked). get_or ts 0 0
-            < limit (setting s) (get_or os 0 (record
+            < limit s.setting (get_or os 0 (record
             { which = W.Set node; after = false; positive = inside })).which) for.asked
             (tuple.each 0 (record { which = W.Set node; after = false; positive = inside })
             (omega arith)),
@@ -186,13 +187,13 @@ module _ (s : Search) (search : IsTupleSearch s) (node : ℕ) (inside : Bool) (c
   alone (i ∷ []) size = refl
   alone (i ∷ (j ∷ ts)) size = absurd (omega arith)
 
-  pub few_tuples : (budget : ℕ) → node_count s.nodes.now ≤ budget
-      → TuplesPass (moves (setting s)) s.asked.now (roots (setting s) s.asked.now) budget → ⊥
+  pub few_tuples : (budget : ℕ) → node_count s.setting.list ≤ budget
+      → TuplesPass (moves s.setting) s.asked (roots s.setting s.asked) budget → ⊥
   few_tuples budget enough pass =
       let size = length-map pass.0 (λ (ts : List ℕ). get_or ts 0 0) in
       let len = pass.1 in
       let few = length-le_from_distinct_below (map (λ (ts : List ℕ). get_or ts 0 0) pass.0)
-      (node_count s.nodes.now)
+      (node_count s.setting.list)
       (IsDistinct-from_apart eqb (map (λ (ts : List ℕ). get_or ts 0 0) pass.0)
       (λ i j d less within.
       ne_eqb (get_or (map (λ (ts : List ℕ). get_or ts 0 0) pass.0) i d)
@@ -222,16 +223,16 @@ module _ (s : Search) (search : IsTupleSearch s) (node : ℕ) (inside : Bool) (c
   unless false false f = absurd (f refl)
 
   pub found_in : (budget : ℕ) (state : List Bool)
-      → IsLiveAnswer F.Clash (setting s) s.asked.now budget state
-      → Finds inside true s.nodes.now.atoms (in_node s.nodes.now node) cube state
+      → IsLiveAnswer F.Clash s.setting s.asked budget state
+      → Finds inside true s.setting.list.atoms (in_node s.setting.list node) cube state
   found_in budget state says =
-      let suits = subst (λ os. Suits (setting s) os state) for.asked says.1 in
+      let suits = subst (λ os. Suits s.setting os state) for.asked says.1 in
       record { of_task = suits.0.0; of_cube = in_cube_from state suits; of_set = suits.1.0 }
 
   pub none_in : (budget : ℕ) (found : List Bool)
-      → IsLiveAnswer F.Empty (setting s) s.asked.now budget found
-      → Finds inside false s.nodes.now.atoms (in_node s.nodes.now node) cube found
+      → IsLiveAnswer F.Empty s.setting s.asked budget found
+      → Finds inside false s.setting.list.atoms (in_node s.setting.list node) cube found
   none_in budget found says = λ state size in_c.
-      unless (in_node s.nodes.now node state) inside
-      (λ is. says.1 state (subst (λ os. Suits (setting s) os state) (sym for.asked)
+      unless (in_node s.setting.list node state) inside
+      (λ is. says.1 state (subst (λ os. Suits s.setting os state) (sym for.asked)
       (suits_for state size in_c is)))

@@ -38,20 +38,20 @@ impl Family for Diagrams {
         let atoms = task.atoms();
         scratch.reserve(atoms, 0, 0)?;
         let asked = operands_of(alloc, query)?;
-        let search = Search {
-            nodes: self,
-            start: Held::new(atoms, task.start()),
-            goal: Held::new(atoms, task.goal()),
-            needed: needed_by(task, query.action),
-            changed: changed_by(task, query.action),
-            asked: asked.as_slice(),
-        };
+        let search = Search::new(
+            self,
+            Held::new(atoms, task.start()),
+            Held::new(atoms, task.goal()),
+            needed_by(task, query.action),
+            changed_by(task, query.action),
+            asked.as_slice(),
+        );
         search.answer(alloc, task, query, budget, &mut scratch.state)
     }
 }
 
 impl Search<'_> {
-    ghost use Rattle.hv_bdd.specs.Working.Search.{IsSearchFor, IsTupleSearch};
+    ghost use Rattle.hv_bdd.specs.Working.Search.{search_for};
 
     // The answer to the query that it is for.
     fn answer(
@@ -62,13 +62,13 @@ impl Search<'_> {
         budget: u64,
         state: &mut State,
     ) -> Result<Finding, AllocError>
-        requires search { IsTupleSearch self.now }
-        requires query { IsSearchFor self.now.nodes.now task.now query.now self.now }
-        requires task { self.now.nodes.now.atoms ≡ atoms task.now }
+        requires query { self.now ≡ search_for self.now.setting.list task.now query.now }
+        requires task { self.now.setting.list.atoms ≡ atoms task.now }
         requires state { length state.old ≡ atoms task.now }
         ensures { IfOk result (λ found.
-            IsAnswer found (LivePass self.now.nodes.now task.now query.now budget) (atoms task.now)
-            (is_clash task.now (in_node self.now.nodes.now) query.now) state.new) }
+            IsAnswer found (LivePass self.now.setting.list task.now query.now budget)
+            (atoms task.now) (is_clash task.now (in_node self.now.setting.list) query.now)
+            state.new) }
     {
         let _atoms = task.atoms();
         self.find(alloc, budget, state)

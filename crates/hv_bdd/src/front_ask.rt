@@ -5,7 +5,7 @@ ghost use Rattle.hv_bdd.specs.Nodes.{IsNode, in_node};
 ghost use Rattle.hv_bdd.specs.Fronts.{StandsAlong};
 
 use crate::diagrams::Diagrams;
-use crate::level::{Level, deepen};
+use crate::level::{Level, Side, deepen};
 use hv_paths::Asker;
 use hv_sets::{Literal, Scratch};
 use hv_task::State;
@@ -14,7 +14,6 @@ use std::alloc::{AllocError, Global};
 /// A question beside which stands which nodes are met after each literal.
 #[derive(Drop)]
 pub struct FrontAsk<'a, A: Asker + Drop> {
-    alloc: Global,
     asked: A,
     nodes: &'a Diagrams,
     inside: bool,
@@ -54,7 +53,6 @@ impl<'a, A: Asker + Drop> FrontAsk<'a, A> {
         let level = Level::of(alloc, node)?;
         levels.push(level)?;
         Ok(FrontAsk {
-            alloc,
             asked,
             nodes,
             inside,
@@ -91,10 +89,12 @@ impl<'a, A: Asker + Drop> Asker for FrontAsk<'a, A> {
     fn assume(&mut self, literal: Literal) -> Result<(), AllocError> {
         let depth = self.asked.depth();
         self.places.resize(self.bound, 0)?;
+        let side = Side {
+            nodes: self.nodes,
+            inside: self.inside,
+        };
         let none = deepen(
-            self.alloc,
-            self.nodes,
-            self.inside,
+            &side,
             &mut self.levels,
             depth,
             &mut self.places,

@@ -14,6 +14,13 @@ use hv_sets::Literal;
 use std::alloc::{AllocError, Global};
 use std::mem;
 
+/// The nodes of a list, and whether the states that are looked for are in them or outside them.
+#[derive(Clone, Copy)]
+pub(crate) struct Side<'a> {
+    pub nodes: &'a Diagrams,
+    pub inside: bool,
+}
+
 /// The nodes that are met after some literals; and, if it is ready, the same nodes moved down so
 /// that none asks for an atom before the place `upto`.
 #[derive(Drop)]
@@ -64,37 +71,28 @@ impl Level {
 // is met there. The lists of a level that was taken back are filled again; `spare` is one to write
 // to.
 pub(crate) fn deepen(
-    alloc: Global,
-    nodes: &Diagrams,
-    inside: bool,
+    side: &Side<'_>,
     levels: &mut Vec<Level>,
     depth: usize,
     places: &mut Vec<u32>,
     spare: &mut Vec<u32>,
     literal: Literal,
 ) -> Result<bool, AllocError>
-    requires bound { length places.old.items ≤ node_count nodes.now }
+    requires bound { length places.old.items ≤ node_count side.now.nodes.now }
     requires depth { depth < length levels.old.items }
     requires start { (d : Level) → AreBelowBound (length places.old.items)
         (slice_index_or levels.old.items depth d).start.items }
     requires moved { (d : Level) → AreBelowBound (length places.old.items)
         (slice_index_or levels.old.items depth d).moved.items }
-    ensures deeper { OnOk result (GoesDeeper nodes.now inside (length places.old.items) literal
-        depth levels.old.items levels.new.items) }
+    ensures deeper { OnOk result (GoesDeeper side.now.nodes.now side.now.inside
+        (length places.old.items) literal depth levels.old.items levels.new.items) }
     ensures none { IfOk result (λ none. none ≡ true → (d : Level)
         → length (slice_index_or levels.new.items (depth + 1) d).start.items ≡ 0) }
 {
+    let alloc = *levels.allocator();
     make_room(alloc, levels, depth)?;
     let mut next = mem::replace(&mut levels[depth + 1], Level::none(alloc));
-    next_level(
-        nodes,
-        inside,
-        &mut levels[depth],
-        places,
-        spare,
-        literal,
-        &mut next,
-    )?;
+    next_level(side, &mut levels[depth], places, spare, literal, &mut next)?;
     let none = next.is_met_nowhere();
     levels[depth + 1] = next;
     Ok(none)
@@ -116,34 +114,25 @@ fn make_room(alloc: Global, levels: &mut Vec<Level>, depth: usize) -> Result<(),
 
 // Makes the next level that of the nodes that are met after one more literal.
 fn next_level(
-    nodes: &Diagrams,
-    inside: bool,
+    side: &Side<'_>,
     level: &mut Level,
     places: &mut Vec<u32>,
     spare: &mut Vec<u32>,
     literal: Literal,
     next: &mut Level,
 ) -> Result<(), AllocError>
-    requires bound { length places.old.items ≤ node_count nodes.now }
+    requires bound { length places.old.items ≤ node_count side.now.nodes.now }
     requires start { AreBelowBound (length places.old.items) level.old.start.items }
     requires moved { AreBelowBound (length places.old.items) level.old.moved.items }
-    ensures next { OnOk result (IsNextLevel nodes.now inside (length places.old.items) literal
-        level.old level.new next.new) }
+    ensures next { OnOk result (IsNextLevel side.now.nodes.now side.now.inside
+        (length places.old.items) literal level.old level.new next.new) }
 {
-    move_down(
-        nodes,
-        inside,
-        nodes.place(literal.atom),
-        level,
-        places,
-        spare,
-    )?;
+    move_down(side, side.nodes.place(literal.atom), level, places, spare)?;
     next.start.clear();
     next.moved.clear();
     next.ready = false;
     restrict(
-        nodes,
-        inside,
+        side,
         level.moved.as_slice(),
         literal,
         places,
@@ -154,18 +143,18 @@ fn next_level(
 
 // Moves the nodes of the level down to the place, where they aren't moved there.
 fn move_down(
-    nodes: &Diagrams,
-    inside: bool,
+    side: &Side<'_>,
     place: u32,
     level: &mut Level,
     places: &mut Vec<u32>,
     spare: &mut Vec<u32>,
 ) -> Result<(), AllocError>
-    requires bound { length places.old.items ≤ node_count nodes.now }
+    requires bound { length places.old.items ≤ node_count side.now.nodes.now }
     requires start { AreBelowBound (length places.old.items) level.old.start.items }
     requires moved { AreBelowBound (length places.old.items) level.old.moved.items }
     ensures start { OnOk result (level.new.start.items ≡ level.old.start.items) }
-    ensures moved { OnOk result (IsMovedDown nodes.now inside level.old level.new) }
+    ensures moved { OnOk result
+        (IsMovedDown side.now.nodes.now side.now.inside level.old level.new) }
     ensures below { OnOk result
         (AreBelowBound (length places.old.items) level.new.moved.items) }
     ensures places { length places.new.items ≡ length places.old.items }
@@ -175,7 +164,7 @@ fn move_down(
     }
     restart(level, place)?;
     spare.clear();
-    advance(nodes, inside, place, places, &mut level.moved, spare)?;
+    advance(side, place, places, &mut level.moved, spare)?;
     mem::swap(&mut level.moved, spare);
     level.upto = place;
     Ok(())
@@ -245,27 +234,27 @@ fn note_all(places: &mut Vec<u32>, list: &[u32])
 
 // Moves the nodes down, until none asks for an atom before the place.
 fn advance(
-    nodes: &Diagrams,
-    inside: bool,
+    side: &Side<'_>,
     place: u32,
     places: &mut Vec<u32>,
     queue: &mut Vec<u32>,
     out: &mut Vec<u32>,
 ) -> Result<(), AllocError>
-    requires bound { length places.old.items ≤ node_count nodes.now }
+    requires bound { length places.old.items ≤ node_count side.now.nodes.now }
     requires queue { AreBelowBound (length places.old.items) queue.old.items }
     requires out { out.old.items ≡ [] }
-    ensures moves { OnOk result (MovesTo nodes.now inside queue.old.items out.new.items) }
+    ensures moves { OnOk result
+        (MovesTo side.now.nodes.now side.now.inside queue.old.items out.new.items) }
     ensures below { OnOk result (AreBelowBound (length places.old.items) out.new.items) }
     ensures places { length places.new.items ≡ length places.old.items }
 {
     note_all(places, queue.as_slice());
-    let most = queue.len().saturating_add(nodes.count());
+    let most = queue.len().saturating_add(side.nodes.count());
     for at in 0..most {
         if at >= queue.len() {
             return Ok(());
         }
-        move_one(nodes, inside, place, places, queue, at, out)?;
+        move_one(side, place, places, queue, at, out)?;
     }
     // This many are never left.
     out.extend_from_slice(queue.as_slice())?;
@@ -274,56 +263,56 @@ fn advance(
 
 // Moves one node down, or leaves it as it is.
 fn move_one(
-    nodes: &Diagrams,
-    inside: bool,
+    side: &Side<'_>,
     place: u32,
     places: &mut Vec<u32>,
     queue: &mut Vec<u32>,
     at: usize,
     out: &mut Vec<u32>,
 ) -> Result<(), AllocError>
-    requires bound { length places.old.items ≤ node_count nodes.now }
+    requires bound { length places.old.items ≤ node_count side.now.nodes.now }
     requires queue { AreBelowBound (length places.old.items) queue.old.items }
     requires out { AreBelowBound (length places.old.items) out.old.items }
     requires at { at < length queue.old.items }
-    requires ahead { IsAhead nodes.now inside out.old.items queue.old.items at }
-    ensures ahead { OnOk result (IsAhead nodes.now inside out.new.items queue.new.items (at + 1)) }
+    requires ahead { IsAhead side.now.nodes.now side.now.inside out.old.items queue.old.items at }
+    ensures ahead { OnOk result
+        (IsAhead side.now.nodes.now side.now.inside out.new.items queue.new.items (at + 1)) }
     ensures extends { OnOk result (IsContinued queue.old.items queue.new.items) }
     ensures queue { OnOk result (AreBelowBound (length places.old.items) queue.new.items) }
     ensures out { OnOk result (AreBelowBound (length places.old.items) out.new.items) }
     ensures places { length places.new.items ≡ length places.old.items }
 {
     let node = queue[at];
-    let _atoms = nodes.atoms();
-    if node < 2 || nodes.top(node) >= place {
+    let _atoms = side.nodes.atoms();
+    if node < 2 || side.nodes.top(node) >= place {
         out.push(node)?;
         return Ok(());
     }
-    put_live(inside, places, queue, nodes.child(node, false))?;
-    put_live(inside, places, queue, nodes.child(node, true))?;
+    put_live(side.inside, places, queue, side.nodes.child(node, false))?;
+    put_live(side.inside, places, queue, side.nodes.child(node, true))?;
     Ok(())
 }
 
 // Lists where the nodes lead by the literal.
 fn restrict(
-    nodes: &Diagrams,
-    inside: bool,
+    side: &Side<'_>,
     front: &[u32],
     literal: Literal,
     places: &mut Vec<u32>,
     list: &mut Vec<u32>,
 ) -> Result<(), AllocError>
-    requires bound { length places.old.items ≤ node_count nodes.now }
+    requires bound { length places.old.items ≤ node_count side.now.nodes.now }
     requires front { AreBelowBound (length places.old.items) front.now }
     requires list { list.old.items ≡ [] }
-    ensures turns { OnOk result (Turns nodes.now inside literal front.now list.new.items) }
+    ensures turns { OnOk result
+        (Turns side.now.nodes.now side.now.inside literal front.now list.new.items) }
     ensures below { OnOk result (AreBelowBound (length places.old.items) list.new.items) }
     ensures places { length places.new.items ≡ length places.old.items }
 {
-    let _atoms = nodes.atoms();
+    let _atoms = side.nodes.atoms();
     for at in 0..front.len() {
-        let node = turned(nodes, front[at], literal);
-        put_live(inside, places, list, node)?;
+        let node = turned(side.nodes, front[at], literal);
+        put_live(side.inside, places, list, node)?;
     }
     Ok(())
 }

@@ -42,8 +42,8 @@ impl Reached {
 }
 
 impl Search<'_> {
-    ghost use Rattle.hv_bdd.specs.Working.Search.{Explored, IsDone, IsEndTuple, IsTupleSearch};
-    ghost use Rattle.hv_bdd.specs.Working.Search.{IsTuple, setting, tuple_at, tuples_of};
+    ghost use Rattle.hv_bdd.specs.Working.Search.{Explored, IsDone, IsEndTuple, IsTuple, tuple_at};
+    ghost use Rattle.hv_bdd.specs.Working.Search.{tuples_of};
 
     /// Looks for a state that suits the operands.
     pub(crate) fn find(
@@ -52,10 +52,9 @@ impl Search<'_> {
         budget: u64,
         state: &mut State,
     ) -> Result<Finding, AllocError>
-        requires search { IsTupleSearch self.now }
-        requires state { length state.old ≡ self.now.nodes.now.atoms }
+        requires { length state.old ≡ self.now.setting.list.atoms }
         ensures { IfOk result (λ found.
-            IsLiveAnswer found (setting self.now) self.now.asked.now budget state.new) }
+            IsLiveAnswer found self.now.setting self.now.asked budget state.new) }
     {
         let reached = self.reach(alloc, budget)?;
         if reached.tuples.len() as u64 > budget {
@@ -73,9 +72,9 @@ impl Search<'_> {
 
     // All live tuples that are reached, or more of them than the budget.
     fn reach(&self, alloc: Global, budget: u64) -> Result<Reached, AllocError>
-        requires { IsTupleSearch self.now }
         ensures { IfOk result (λ reached. IsDone self.now budget reached) }
     {
+        let _atoms = self.atoms();
         let mut reached = Reached {
             tuples: IndexSet::new(alloc),
             links: Vec::new(alloc),
@@ -92,12 +91,12 @@ impl Search<'_> {
 
     // The tuple of the roots, if it is live.
     fn live_root(&self, alloc: Global) -> Result<Option<Tuple>, AllocError>
-        requires { IsTupleSearch self.now }
         ensures { IfOk result (λ root.
             option_map (λ t. t.items) root
-            ≡ if_live (moves (setting self.now)) self.now.asked.now
-            (roots (setting self.now) self.now.asked.now)) }
+            ≡ if_live (moves self.now.setting) self.now.asked
+            (roots self.now.setting self.now.asked)) }
     {
+        let _atoms = self.atoms();
         let root = self.roots(alloc)?;
         if !self.is_live(root.as_slice()) {
             return Ok(None);
@@ -107,7 +106,6 @@ impl Search<'_> {
 
     // Puts in what the bits lead to from one more tuple.
     fn expand(&self, alloc: Global, done: usize, reached: &mut Reached) -> Result<(), AllocError>
-        requires search { IsTupleSearch self.now }
         requires explored { Explored self.now done reached.old }
         requires done { done < length reached.old.tuples.keys }
         ensures { OnOk result (Explored self.now (done + 1) reached.new) }
@@ -123,14 +121,13 @@ impl Search<'_> {
 
     // The first tuple of ends.
     fn first_end(&self, tuples: &[Tuple]) -> Option<usize>
-        requires search { IsTupleSearch self.now }
-        requires tuples { All (λ t. IsTuple self.now t.items) tuples.now }
+        requires { All (λ t. IsTuple self.now t.items) tuples.now }
         ensures { MatchOption result (All (λ t. IsEndTuple self.now t.items → ⊥) tuples.now) (λ k.
             (k < length tuples.now)
             × IsEndTuple self.now (tuple_at (map (λ t. t.items) tuples.now) k)) }
     {
         for (k, tuple) in tuples.iter().enumerate() {
-            if self.least(tuple.as_slice()) == self.nodes.atoms() {
+            if self.least(tuple.as_slice()) == self.atoms() {
                 return Some(k);
             }
         }
@@ -139,30 +136,28 @@ impl Search<'_> {
 
     // Makes the state the one that has the needed atoms and no other.
     fn fill(&self, state: &mut State)
-        requires search { IsTupleSearch self.now }
-        requires state { length state.old ≡ self.now.nodes.now.atoms }
-        ensures { FitsBits (moves (setting self.now)) state.new }
+        requires { length state.old ≡ self.now.setting.list.atoms }
+        ensures { FitsBits (moves self.now.setting) state.new }
     {
-        for atom in 0..self.nodes.atoms() {
-            state.set(atom, self.needed.read(atom) == Some(true));
+        for atom in 0..self.atoms() {
+            state.set(atom, self.needs(atom) == Some(true));
         }
     }
 
     // Writes the bits into the state that lead to a tuple.
     fn take_bits(&self, reached: &Reached, end: usize, state: &mut State)
-        requires search { IsTupleSearch self.now }
         requires explored { (done : ℕ) × Explored self.now done reached.now }
         requires end { end < length reached.now.tuples.keys }
-        requires fits { FitsBits (moves (setting self.now)) state.old }
-        requires agrees { AgreesWithNodes (in_asked (setting self.now)) (λ o. o.positive) state.old
-            self.now.asked.now (tuple_at (tuples_of reached.now.tuples) end) }
-        ensures { Suits (setting self.now) self.now.asked.now state.new }
+        requires fits { FitsBits (moves self.now.setting) state.old }
+        requires agrees { AgreesWithNodes (in_asked self.now.setting) (λ o. o.positive) state.old
+            self.now.asked (tuple_at (tuples_of reached.now.tuples) end) }
+        ensures { Suits self.now.setting self.now.asked state.new }
     {
         let mut at = end;
         while at > 0 {
             let link = reached.links[at];
             let place = self.least(reached.tuples.as_slice()[link.parent].as_slice());
-            state.set(self.nodes.atom_at(place), link.bit);
+            state.set(self.atom_at(place), link.bit);
             at = link.parent;
         }
     }

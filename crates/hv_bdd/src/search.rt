@@ -1,10 +1,13 @@
 //! The search through live tuples: how a tuple moves.
 
-ghost use Rattle.std.specs.Prelude.{◌≡◌, ◌<◌, ◌≤◌, ◌-◌, true, cond, option_map, IfOk};
+ghost use Rattle.std.specs.Prelude.{◌≡◌, ◌<◌, ◌≤◌, ◌-◌, true, cond, length, option_map, IfOk};
+ghost use Rattle.std.specs.Prelude.{slice_index_or};
+ghost use Rattle.std.specs.List.{All};
 ghost use Rattle.hv_sets.specs.declared.operand.Which.TheVariants as W;
 ghost use Rattle.hv_bdd.specs.Working.Graphs.{limit};
 ghost use Rattle.hv_bdd.specs.Live.{asks_goal, first_asked, graph_child, graph_top, is_marked};
 ghost use Rattle.hv_bdd.specs.Live.{bit_mark_of, moves, or_else, root, roots};
+ghost use Rattle.hv_bdd.specs.Nodes.{node_count};
 ghost use Rattle.hv_bdd.specs.Order.{atom_at};
 ghost use Rattle.hv_bdd.specs.Tuples.{is_live, least, move_all, move_one, next};
 
@@ -14,6 +17,7 @@ use crate::marks::{Held, Marks};
 use hv_sets::Which;
 use smallvec::SmallVec;
 use std::alloc::{AllocError, Global};
+use std::marker::Model;
 
 /// A node for each operand.
 pub(crate) type Tuple = SmallVec<u32, 8>;
@@ -28,27 +32,141 @@ pub(crate) struct Link {
 /// What tuples move through, and the operands that are asked.
 #[derive(Drop)]
 pub(crate) struct Search<'a> {
-    pub nodes: &'a Diagrams,
-    /// The initial state.
-    pub start: Held<'a>,
-    /// The atoms of the goal.
-    pub goal: Held<'a>,
+    nodes: &'a Diagrams,
+    // The initial state.
+    start: Held<'a>,
+    // The atoms of the goal.
+    goal: Held<'a>,
+    // The bit that the state needs at an atom, if it needs one.
+    needed: Marks<'a>,
+    // The bit of an atom after the action, if the action changes it.
+    changed: Marks<'a>,
+    asked: &'a [Asked],
+}
+
+impl<'a> Model for Search<'a> {
+    ghost use Rattle.hv_bdd.specs.Working.Search.{IsTupleSearch, TupleSearch};
+
+    ghost Value = { TupleSearch };
+
+    ghost view = { λ s. record {
+      setting = record {
+        list = s.nodes.now;
+        start = s.start;
+        goal = s.goal;
+        needed = s.needed;
+        changed = s.changed;
+      };
+      asked = s.asked.now;
+    } };
+
+    ghost invariant = { λ s. IsTupleSearch record {
+      setting = record {
+        list = s.nodes.now;
+        start = s.start;
+        goal = s.goal;
+        needed = s.needed;
+        changed = s.changed;
+      };
+      asked = s.asked.now;
+    } };
+}
+
+impl<'a> Search<'a> {
+    ghost use Rattle.hv_bdd.specs.Working.Search.{IsAskable, IsTupleSearch};
+
+    /// The search for these operands.
+    pub(crate) fn new(
+        nodes: &'a Diagrams,
+        start: Held<'a>,
+        goal: Held<'a>,
+        needed: Marks<'a>,
+        changed: Marks<'a>,
+        asked: &'a [Asked],
+    ) -> Search<'a>
+        requires { IsTupleSearch record {
+          setting = record {
+            list = nodes.now;
+            start = start;
+            goal = goal;
+            needed = needed;
+            changed = changed;
+          };
+          asked = asked.now;
+        } }
+        ensures setting { result.setting
+            ≡ record {
+              list = nodes.now;
+              start = start.entry;
+              goal = goal.entry;
+              needed = needed.entry;
+              changed = changed.entry;
+            } }
+        ensures asked { result.asked ≡ asked.now }
+    {
+        Search {
+            nodes,
+            start,
+            goal,
+            needed,
+            changed,
+            asked,
+        }
+    }
+
+    /// How many atoms there are.
+    pub(crate) fn atoms(&self) -> u32
+        ensures atoms { result ≡ self.now.setting.list.atoms }
+        ensures search { IsTupleSearch self.now }
+    {
+        self.nodes.atoms()
+    }
+
+    /// How many nodes there are.
+    pub(crate) fn count(&self) -> usize
+        ensures count { result ≡ node_count self.now.setting.list }
+        ensures search { IsTupleSearch self.now }
+    {
+        self.nodes.count()
+    }
+
+    /// The atom at a place.
+    pub(crate) fn atom_at(&self, place: u32) -> u32
+        ensures atom { result ≡ atom_at self.now.setting.list place }
+        ensures within { place < self.now.setting.list.atoms
+            → result < self.now.setting.list.atoms }
+    {
+        self.nodes.atom_at(place)
+    }
+
     /// The bit that the state needs at an atom, if it needs one.
-    pub needed: Marks<'a>,
-    /// The bit of an atom after the action, if the action changes it.
-    pub changed: Marks<'a>,
-    pub asked: &'a [Asked],
+    pub(crate) fn needs(&self, atom: u32) -> Option<bool>
+        requires { atom < self.now.setting.list.atoms }
+        ensures { result ≡ bit_mark_of self.now.setting.needed atom }
+    {
+        self.needed.read(atom)
+    }
+
+    // The operand of a place of the tuples.
+    fn operand(&self, place: usize) -> &'a Asked
+        requires { place < length self.now.asked }
+        ensures at { result.now ≡ slice_index_or self.now.asked place result.now }
+        ensures askable { IsAskable self.now.setting result.now.which }
+    {
+        let asked = self.asked;
+        &asked[place]
+    }
 }
 
 impl Search<'_> {
-    ghost use Rattle.hv_bdd.specs.Working.Search.{IsAskable, IsTupleSearch, IsTuple, setting};
+    ghost use Rattle.hv_bdd.specs.Working.Search.{IsAskable, IsTuple};
 
     // The root of an operand.
     pub(crate) fn root(&self, which: Which) -> u32
-        requires search { IsTupleSearch self.now }
-        requires askable { IsAskable self.now which }
-        ensures { result ≡ root (setting self.now) which }
+        requires { IsAskable self.now.setting which }
+        ensures { result ≡ root self.now.setting which }
     {
+        let _atoms = self.atoms();
         match which {
             Which::Empty => 0,
             Which::Start => self.start_from(0),
@@ -59,24 +177,22 @@ impl Search<'_> {
 
     // The place for which a node of an operand asks.
     pub(crate) fn top(&self, which: Which, node: u32) -> u32
-        requires search { IsTupleSearch self.now }
-        requires node { node < limit (setting self.now) which }
-        ensures { result ≡ graph_top (setting self.now) which node }
+        requires { node < limit self.now.setting which }
+        ensures { result ≡ graph_top self.now.setting which node }
     {
         match which {
             Which::Set(_) => self.nodes.top(node),
-            _ if node < 2 => self.nodes.atoms(),
+            _ if node < 2 => self.atoms(),
             _ => node - 2,
         }
     }
 
     // The node to which a bit leads.
     pub(crate) fn child(&self, which: Which, node: u32, bit: bool) -> u32
-        requires search { IsTupleSearch self.now }
-        requires askable { IsAskable self.now which }
+        requires askable { IsAskable self.now.setting which }
         requires inner { 2 ≤ node }
-        requires node { node < limit (setting self.now) which }
-        ensures { result ≡ graph_child (setting self.now) which node bit }
+        requires node { node < limit self.now.setting which }
+        ensures { result ≡ graph_child self.now.setting which node bit }
     {
         match which {
             Which::Empty => 0,
@@ -88,23 +204,19 @@ impl Search<'_> {
 
     // The node of the initial state's chain for a place, or node 1 past the last.
     fn start_from(&self, place: u32) -> u32
-        requires askable { IsAskable self.now W.Start }
-        requires place { place ≤ self.now.nodes.now.atoms }
-        ensures { result ≡ first_asked (λ v. true) (self.now.nodes.now.atoms - place) place }
+        requires askable { IsAskable self.now.setting W.Start }
+        requires place { place ≤ self.now.setting.list.atoms }
+        ensures { result ≡ first_asked (λ v. true) (self.now.setting.list.atoms - place) place }
     {
-        if place < self.nodes.atoms() {
-            place + 2
-        } else {
-            1
-        }
+        if place < self.atoms() { place + 2 } else { 1 }
     }
 
     // The first node of the goal's chain from a place on, or node 1 where there is none.
     fn goal_from(&self, place: u32) -> u32
-        requires askable { IsAskable self.now W.Goal }
-        requires place { place ≤ self.now.nodes.now.atoms }
+        requires askable { IsAskable self.now.setting W.Goal }
+        requires place { place ≤ self.now.setting.list.atoms }
         ensures { result
-            ≡ first_asked (asks_goal (setting self.now)) (self.now.nodes.now.atoms - place) place }
+            ≡ first_asked (asks_goal self.now.setting) (self.now.setting.list.atoms - place) place }
     {
         match self.nodes.next_place(&self.goal, place) {
             Some(next) => next + 2,
@@ -113,12 +225,12 @@ impl Search<'_> {
     }
 
     fn start_child(&self, node: u32, bit: bool) -> u32
-        requires askable { IsAskable self.now W.Start }
+        requires askable { IsAskable self.now.setting W.Start }
         requires inner { 2 ≤ node }
-        requires node { node < limit (setting self.now) W.Start }
-        ensures { result ≡ graph_child (setting self.now) W.Start node bit }
+        requires node { node < limit self.now.setting W.Start }
+        ensures { result ≡ graph_child self.now.setting W.Start node bit }
     {
-        if bit == self.start.has(self.nodes.atom_at(node - 2)) {
+        if bit == self.start.has(self.atom_at(node - 2)) {
             self.start_from(node - 1)
         } else {
             0
@@ -126,24 +238,24 @@ impl Search<'_> {
     }
 
     fn goal_child(&self, node: u32, bit: bool) -> u32
-        requires askable { IsAskable self.now W.Goal }
+        requires askable { IsAskable self.now.setting W.Goal }
         requires inner { 2 ≤ node }
-        requires node { node < limit (setting self.now) W.Goal }
-        ensures { result ≡ graph_child (setting self.now) W.Goal node bit }
+        requires node { node < limit self.now.setting W.Goal }
+        ensures { result ≡ graph_child self.now.setting W.Goal node bit }
     {
         if bit { self.goal_from(node - 1) } else { 0 }
     }
 
     // The bit that an operand sees where the state before the action has this bit at a place.
     fn seen(&self, after: bool, place: u32, bit: bool) -> bool
-        requires search { IsTupleSearch self.now }
-        requires place { place < self.now.nodes.now.atoms }
+        requires { place < self.now.setting.list.atoms }
         ensures { result
             ≡ cond after
-            (or_else (bit_mark_of self.now.changed (atom_at self.now.nodes.now place)) bit) bit }
+            (or_else (bit_mark_of self.now.setting.changed
+            (atom_at self.now.setting.list place)) bit) bit }
     {
         if after {
-            or_else(self.changed.read(self.nodes.atom_at(place)), bit)
+            or_else(self.changed.read(self.atom_at(place)), bit)
         } else {
             bit
         }
@@ -151,35 +263,33 @@ impl Search<'_> {
 
     // Whether the state may have this bit at a place.
     fn allows(&self, place: u32, bit: bool) -> bool
-        requires search { IsTupleSearch self.now }
-        requires place { place < self.now.nodes.now.atoms }
+        requires { place < self.now.setting.list.atoms }
         ensures { result
-            ≡ is_marked (bit_mark_of self.now.needed (atom_at self.now.nodes.now place)) bit }
+            ≡ is_marked (bit_mark_of self.now.setting.needed
+            (atom_at self.now.setting.list place)) bit }
     {
-        is_marked(self.needed.read(self.nodes.atom_at(place)), bit)
+        is_marked(self.needs(self.atom_at(place)), bit)
     }
 
     /// The least place for which a node of the tuple asks, or the place past all atoms.
     pub(crate) fn least(&self, tuple: &[u32]) -> u32
-        requires search { IsTupleSearch self.now }
-        requires tuple { IsTuple self.now tuple.now }
-        ensures { result ≡ least (moves (setting self.now)) self.now.asked.now tuple.now }
+        requires { IsTuple self.now tuple.now }
+        ensures { result ≡ least (moves self.now.setting) self.now.asked tuple.now }
     {
-        let mut least = self.nodes.atoms();
+        let mut least = self.atoms();
         for (k, node) in tuple.iter().enumerate() {
-            least = least.min(self.top(self.asked[k].which, *node));
+            least = least.min(self.top(self.operand(k).which, *node));
         }
         least
     }
 
     // Whether no place rules its operand out.
     pub(crate) fn is_live(&self, tuple: &[u32]) -> bool
-        requires search { IsTupleSearch self.now }
-        requires tuple { IsTuple self.now tuple.now }
-        ensures { result ≡ is_live (moves (setting self.now)) self.now.asked.now tuple.now }
+        requires { IsTuple self.now tuple.now }
+        ensures { result ≡ is_live (moves self.now.setting) self.now.asked tuple.now }
     {
         for (k, node) in tuple.iter().enumerate() {
-            if *node == ruled_out(self.asked[k].positive) {
+            if *node == ruled_out(self.operand(k).positive) {
                 return false;
             }
         }
@@ -194,27 +304,25 @@ impl Search<'_> {
         place: u32,
         bit: bool,
     ) -> Result<Tuple, AllocError>
-        requires search { IsTupleSearch self.now }
         requires tuple { IsTuple self.now tuple.now }
-        requires place { place < self.now.nodes.now.atoms }
+        requires place { place < self.now.setting.list.atoms }
         ensures { IfOk result (λ moved.
             moved.items
-            ≡ move_all (moves (setting self.now)) place bit self.now.asked.now tuple.now) }
+            ≡ move_all (moves self.now.setting) place bit self.now.asked tuple.now) }
     {
         let mut moved = SmallVec::new(alloc);
         for (k, node) in tuple.iter().enumerate() {
-            moved.push(self.move_one(&self.asked[k], *node, place, bit))?;
+            moved.push(self.move_one(self.operand(k), *node, place, bit))?;
         }
         Ok(moved)
     }
 
     // The node to which a bit at a place leads.
     fn move_one(&self, asked: &Asked, node: u32, place: u32, bit: bool) -> u32
-        requires search { IsTupleSearch self.now }
-        requires askable { IsAskable self.now asked.now.which }
-        requires node { node < limit (setting self.now) asked.now.which }
-        requires place { place < self.now.nodes.now.atoms }
-        ensures { result ≡ move_one (moves (setting self.now)) place bit asked.now node }
+        requires askable { IsAskable self.now.setting asked.now.which }
+        requires node { node < limit self.now.setting asked.now.which }
+        requires place { place < self.now.setting.list.atoms }
+        ensures { result ≡ move_one (moves self.now.setting) place bit asked.now node }
     {
         if self.top(asked.which, node) == place {
             self.child(asked.which, node, self.seen(asked.after, place, bit))
@@ -231,14 +339,13 @@ impl Search<'_> {
         place: u32,
         bit: bool,
     ) -> Result<Option<Tuple>, AllocError>
-        requires search { IsTupleSearch self.now }
         requires tuple { IsTuple self.now tuple.now }
-        requires least { place ≡ least (moves (setting self.now)) self.now.asked.now tuple.now }
+        requires least { place ≡ least (moves self.now.setting) self.now.asked tuple.now }
         ensures { IfOk result (λ to.
             option_map (λ t. t.items) to
-            ≡ next (moves (setting self.now)) self.now.asked.now tuple.now bit) }
+            ≡ next (moves self.now.setting) self.now.asked tuple.now bit) }
     {
-        if place >= self.nodes.atoms() || !self.allows(place, bit) {
+        if place >= self.atoms() || !self.allows(place, bit) {
             return Ok(None);
         }
         let moved = self.move_all(alloc, tuple, place, bit)?;
@@ -250,8 +357,7 @@ impl Search<'_> {
 
     // The tuple of the roots.
     pub(crate) fn roots(&self, alloc: Global) -> Result<Tuple, AllocError>
-        requires search { IsTupleSearch self.now }
-        ensures { IfOk result (λ tuple. tuple.items ≡ roots (setting self.now) self.now.asked.now) }
+        ensures { IfOk result (λ tuple. tuple.items ≡ roots self.now.setting self.now.asked) }
     {
         let mut tuple = SmallVec::new(alloc);
         for asked in self.asked {

@@ -139,19 +139,19 @@ fn find(
         after: false,
         positive: inside,
     };
-    let search = Search {
+    let search = Search::new(
         nodes,
-        start: Held::new(atoms, &none),
-        goal: Held::new(atoms, &none),
-        needed: Marks::signs(atoms, cube),
-        changed: Marks::none(atoms),
-        asked: slice::from_ref(&asked),
-    };
+        Held::new(atoms, &none),
+        Held::new(atoms, &none),
+        Marks::signs(atoms, cube),
+        Marks::none(atoms),
+        slice::from_ref(&asked),
+    );
     search.finds(alloc, node, cube, inside, state)
 }
 
 impl Search<'_> {
-    ghost use Rattle.hv_bdd.specs.Working.Search.{IsTupleSearch, SearchesCube};
+    ghost use Rattle.hv_bdd.specs.Working.Search.{SearchesCube};
 
     // Whether some state of the cube is in the node or outside it, where the search is for that.
     fn finds(
@@ -162,16 +162,15 @@ impl Search<'_> {
         inside: bool,
         state: &mut State,
     ) -> Result<bool, AllocError>
-        requires search { IsTupleSearch self.now }
         requires within { SearchesCube node inside cube.now self.now }
-        requires cube { SpeakBelow self.now.nodes.now.atoms cube.now }
-        requires state { length state.old ≡ self.now.nodes.now.atoms }
+        requires cube { SpeakBelow self.now.setting.list.atoms cube.now }
+        requires state { length state.old ≡ self.now.setting.list.atoms }
         ensures { IfOk result (λ yes.
-            Finds inside yes self.now.nodes.now.atoms (in_node self.now.nodes.now node) cube.now
-            state.new) }
+            Finds inside yes self.now.setting.list.atoms (in_node self.now.setting.list node)
+            cube.now state.new) }
     {
         let _literals = cube.as_slice();
-        match self.find(alloc, self.nodes.count() as u64, state)? {
+        match self.find(alloc, self.count() as u64, state)? {
             Finding::Clash => Ok(true),
             Finding::Empty => Ok(false),
             Finding::Over => Ok(false),

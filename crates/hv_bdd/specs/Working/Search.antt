@@ -4,9 +4,7 @@ use Rattle.std.specs.Prelude.{Some, length, map, slice_index_or, ⊤}
 use Rattle.std.specs.List.{All, Contains}
 use Rattle.indexmap.specs.IndexSet.{IndexSet}
 use Rattle.smallvec.specs.SmallVec.{SmallVec}
-use Rattle.hv_task.specs.State.{state_of}
-use Rattle.hv_task.specs.Strips.{Strips, atoms, start_state}
-use Rattle.hv_sets.specs.Query.{action_of}
+use Rattle.hv_task.specs.Strips.{Strips}
 use Rattle.hv_sets.specs.declared.literal.Literal.{Literal}
 use Rattle.hv_sets.specs.declared.operand.Which.{Which}
 use Rattle.hv_sets.specs.declared.operand.Which.TheVariants as W
@@ -14,44 +12,38 @@ use Rattle.hv_sets.specs.declared.query.Query.{Query}
 use Rattle.hv_bdd.specs.declared.asked.Asked.{Asked}
 use Rattle.hv_bdd.specs.declared.reach.Reached.{Reached}
 use Rattle.hv_bdd.specs.declared.search.Link.{Link}
-use Rattle.hv_bdd.specs.declared.search.Search.{Search}
 use Rattle.hv_bdd.specs.Nodes.{NodeList, node_count}
 use Rattle.hv_bdd.specs.Reduced.{IsReduced}
-use Rattle.hv_bdd.specs.Live.{TupleSetting, changed_by, moves, needed_by, no_marks, operands_of}
-use Rattle.hv_bdd.specs.Live.{roots}
+use Rattle.hv_bdd.specs.Live.{TupleSetting, moves, no_marks, operands_of, roots}
+use Rattle.hv_bdd.specs.Live.{tuple_setting_of}
 use Rattle.hv_bdd.specs.Working.Graphs.{limit}
 use Rattle.hv_bdd.specs.Working.Sets.{mark_literals}
 use Rattle.hv_bdd.specs.Tuples.{IsReached, Moves, if_live, least, next}
 
--- what the tuples of the search move through
-abbrev pub setting : Search → TupleSetting
-setting s = record {
-  list = s.nodes.now;
-  start = s.start;
-  goal = s.goal;
-  needed = s.needed;
-  changed = s.changed;
-}
+-- what tuples move through, and the operands that are asked
+pub record TupleSearch : Type 0 where
+  pub setting : TupleSetting
+  pub asked : List Asked
 
 -- what is at hand suffices for this operand
-abbrev pub IsAskable : Search → Which → Type 0
+abbrev pub IsAskable : TupleSetting → Which → Type 0
 IsAskable s W.Empty = ⊤
-IsAskable s W.Start = (length s.start ≡ s.nodes.now.atoms) × (s.nodes.now.atoms ≤ 65535)
-IsAskable s W.Goal = (length s.goal ≡ s.nodes.now.atoms) × (s.nodes.now.atoms ≤ 65535)
-IsAskable s (W.Set number) = number < node_count s.nodes.now
+IsAskable s W.Start = (length s.start ≡ s.list.atoms) × (s.list.atoms ≤ 65535)
+IsAskable s W.Goal = (length s.goal ≡ s.list.atoms) × (s.list.atoms ≤ 65535)
+IsAskable s (W.Set number) = number < node_count s.list
 
 -- the search can be made
-pub record IsTupleSearch (s : Search) : Type 0 where
-  pub reduced : IsReduced s.nodes.now
-  pub needed : length s.needed ≡ s.nodes.now.atoms
-  pub changed : length s.changed ≡ s.nodes.now.atoms
-  pub asked : All (λ o. IsAskable s o.which) s.asked.now
+pub record IsTupleSearch (s : TupleSearch) : Type 0 where
+  pub reduced : IsReduced s.setting.list
+  pub needed : length s.setting.needed ≡ s.setting.list.atoms
+  pub changed : length s.setting.changed ≡ s.setting.list.atoms
+  pub asked : All (λ o. IsAskable s.setting o.which) s.asked
 
 -- the tuple has a node of each operand
-pub record IsTuple (s : Search) (nodes : List ℕ) : Type 0 where
-  pub size : length nodes ≡ length s.asked.now
+pub record IsTuple (s : TupleSearch) (nodes : List ℕ) : Type 0 where
+  pub size : length nodes ≡ length s.asked
   pub each : (k : ℕ) (o : Asked) → k < length nodes
-      → slice_index_or nodes k 0 < limit (setting s) (slice_index_or s.asked.now k o).which
+      → slice_index_or nodes k 0 < limit s.setting (slice_index_or s.asked k o).which
 
 -- the tuples of a set, in order
 abbrev pub tuples_of : {H : Type 0} → IndexSet (SmallVec ℕ) H → List (List ℕ)
@@ -97,32 +89,31 @@ pub record IsExplored {O : Type 0} (m : Moves O) (os : List O) (root : List ℕ)
       → next m os (tuple_at tuples (link_at links k).parent) (link_at links k).bit
       ≡ Some (tuple_at tuples k)
 
--- the same of a search
-abbrev pub Explored : Search → ℕ → Reached → Type 0
-Explored s done reached =
-    IsExplored (moves (setting s)) s.asked.now (roots (setting s) s.asked.now) done
-    (tuples_of reached.tuples) reached.links.items
+-- what was found by a search, which can be made, after the moves of so many tuples
+pub record Explored (s : TupleSearch) (done : ℕ) (reached : Reached) : Type 0 where
+  pub search : IsTupleSearch s
+  pub known : IsExplored (moves s.setting) s.asked (roots s.setting s.asked) done
+      (tuples_of reached.tuples) reached.links.items
 
 -- all tuples that are reached were found, or more of them than the budget
-abbrev pub IsDone : Search → ℕ → Reached → Type 0
+abbrev pub IsDone : TupleSearch → ℕ → Reached → Type 0
 IsDone s budget reached =
     (done : ℕ) × Explored s done reached
     × ((budget < length reached.tuples.keys) ⊎ (length reached.tuples.keys ≤ done))
 
 -- a tuple of ends
-abbrev pub IsEndTuple : Search → List ℕ → Type 0
-IsEndTuple s nodes = least (moves (setting s)) s.asked.now nodes ≡ s.nodes.now.atoms
+abbrev pub IsEndTuple : TupleSearch → List ℕ → Type 0
+IsEndTuple s nodes = least (moves s.setting) s.asked nodes ≡ s.setting.list.atoms
 
 -- what a query gives to the search
-pub record IsSearchFor (list : NodeList) (task : Strips) (query : Query) (s : Search) : Type 0 where
-  pub nodes : s.nodes.now ≡ list
-  pub start : s.start ≡ start_state task
-  pub goal : s.goal ≡ state_of (atoms task) task.goal
-  pub needed : s.needed ≡ needed_by (atoms task) (action_of task query.action)
-  pub changed : s.changed ≡ changed_by (atoms task) (action_of task query.action)
-  pub asked : s.asked.now ≡ operands_of query
+abbrev pub search_for : NodeList → Strips → Query → TupleSearch
+search_for list task query = record {
+  setting = tuple_setting_of list task query;
+  asked = operands_of query;
+}
 
 -- the search is for a state of the cube that is in the node or outside it
-pub record SearchesCube (node : ℕ) (inside : Bool) (cube : List Literal) (s : Search) : Type 0 where
-  pub needed : s.needed ≡ mark_literals cube (no_marks s.nodes.now.atoms)
-  pub asked : s.asked.now ≡ record { which = W.Set node; after = false; positive = inside } ∷ []
+pub record SearchesCube (node : ℕ) (inside : Bool) (cube : List Literal) (s : TupleSearch) : Type 0
+  where
+    pub needed : s.setting.needed ≡ mark_literals cube (no_marks s.setting.list.atoms)
+    pub asked : s.asked ≡ record { which = W.Set node; after = false; positive = inside } ∷ []

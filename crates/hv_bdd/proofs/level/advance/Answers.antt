@@ -17,8 +17,9 @@ loop-at-preserved c =
 
 pub returns-clause-moves : goal.returns-clause-moves
 returns-clause-moves c =
-    subst (λ xs. MovesTo c.args.nodes.now c.args.inside c.args.queue.now.items xs)
+    subst (λ xs. MovesTo c.args.side.now.nodes.now c.args.side.now.inside c.args.queue.now.items xs)
     (sym (c.in_ok-extend_from_slice.ensures.items
     ∙ ap (λ xs. c.loop-at.out.items ++ xs) c.as_slice-2.ensures.value))
-    (ahead_rest c.args.nodes.now c.args.inside c.args.queue.now.items c.loop-at.out.items
+    (ahead_rest c.args.side.now.nodes.now c.args.side.now.inside c.args.queue.now.items
+    c.loop-at.out.items
     c.loop-at.queue.items c.loop-at.invariant.3)

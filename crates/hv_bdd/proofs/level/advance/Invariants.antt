@@ -9,4 +9,4 @@ invariant-loop-at l =
     × AreBelowBound (length l.fn.places.items) l.queue.items
     × AreBelowBound (length l.fn.places.items) l.out.items
     × IsContinued l.fn.queue.items l.queue.items
-    × IsAhead l.nodes l.inside l.out.items l.queue.items l.at
+    × IsAhead l.side.nodes.now l.side.inside l.out.items l.queue.items l.at

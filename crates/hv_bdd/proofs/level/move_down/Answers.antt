@@ -5,8 +5,8 @@ use Rattle.hv_bdd.proofs.level.move_down.Goals as goal
 
 pub returns-clause-moved : goal.returns-clause-moved
 returns-clause-moved c =
-    let list = c.args.nodes.now in
-    let side = c.args.inside in
+    let list = c.args.side.now.nodes.now in
+    let side = c.args.side.now.inside in
     let moves = subst (λ (v : Vec ℕ). MovesTo list side c.restart.new.level.moved.items v.items)
     (sym c.swap.ensures.x_after) c.in_ok-advance.ensures.moves in
     elim c.in_ok-restart.ensures.moved [

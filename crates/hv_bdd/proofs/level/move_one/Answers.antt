@@ -7,28 +7,30 @@ use Rattle.hv_bdd.proofs.level.move_one.Goals as goal
 
 pub returns-then-node-lt2-clause-ahead : goal.returns-then-node-lt2-clause-ahead
 returns-then-node-lt2-clause-ahead c =
+    let list = c.args.side.now.nodes.now in
+    let inside = c.args.side.now.inside in
+    let queue = c.args.queue.now.items in
     let node = c.index-node.result.now in
-    let same : get_or c.args.queue.now.items c.args.at 0 ≡ node =
-    get_or_default c.args.queue.now.items c.args.at 0 node c.requires.at
-    ∙ sym c.index-node.ensures in
-    subst (λ xs. IsAhead c.args.nodes.now c.args.inside xs c.args.queue.now.items (c.args.at + 1))
-    (sym c.in_ok-push.ensures.items)
-    (ahead_kept c.args.nodes.now c.args.inside c.args.out.now.items c.args.queue.now.items c.args.at
-    node same c.requires.ahead)
+    let same : get_or queue c.args.at 0 ≡ node =
+    get_or_default queue c.args.at 0 node c.requires.at ∙ sym c.index-node.ensures in
+    subst (λ xs. IsAhead list inside xs queue (c.args.at + 1)) (sym c.in_ok-push.ensures.items)
+    (ahead_kept list inside c.args.out.now.items queue c.args.at node same c.requires.ahead)
 
 pub returns-clause-ahead : goal.returns-clause-ahead
 returns-clause-ahead c =
+    let list = c.args.side.now.nodes.now in
+    let inside = c.args.side.now.inside in
+    let queue = c.args.queue.now.items in
     let node = c.index-node.result.now in
-    let same : get_or c.args.queue.now.items c.args.at 0 ≡ node =
-    get_or_default c.args.queue.now.items c.args.at 0 node c.requires.at
-    ∙ sym c.index-node.ensures in
+    let same : get_or queue c.args.at 0 ≡ node =
+    get_or_default queue c.args.at 0 node c.requires.at ∙ sym c.index-node.ensures in
     let less = c.requires.queue c.args.at c.requires.at in
-    let within : node < node_count c.args.nodes.now = omega (arith, same, less, c.requires.bound) in
-    ahead_moved c.args.nodes.now c.args.inside c.args.out.now.items c.args.queue.now.items
-    c.put_live-2.new.list.items c.args.at node c.requires.at same c.requires.ahead
-    (extends_more c.args.queue.now.items c.put_live.new.list.items c.put_live-2.new.list.items
+    let within : node < node_count list = omega (arith, same, less, c.requires.bound) in
+    ahead_moved list inside c.args.out.now.items queue c.put_live-2.new.list.items c.args.at node
+    c.requires.at same c.requires.ahead
+    (extends_more queue c.put_live.new.list.items c.put_live-2.new.list.items
     c.in_ok-put_live.ensures.extends c.in_ok-put_live-2.ensures.extends)
-    (goes_on c.args.nodes.now c.args.inside c.atoms-atoms.ensures.reduced node c.child.result
+    (goes_on list inside c.atoms-atoms.ensures.reduced node c.child.result
     c.child-2.result c.put_live.new.list.items c.put_live-2.new.list.items
     c.if-node-lt2.false within c.child.ensures.child c.child-2.ensures.child
     c.in_ok-put_live.ensures.put c.in_ok-put_live-2.ensures.extends

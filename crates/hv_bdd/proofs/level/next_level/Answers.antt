@@ -8,7 +8,7 @@ returns c = record {
   next = record {
     same = c.in_ok-move_down.ensures.start;
     moved = c.in_ok-move_down.ensures.moved;
-    turns = subst (λ xs. Turns c.args.nodes.now c.args.inside c.args.literal xs
+    turns = subst (λ xs. Turns c.args.side.now.nodes.now c.args.side.now.inside c.args.literal xs
         c.restrict.new.list.items)
         c.as_slice.ensures.value c.in_ok-restrict.ensures.turns;
     unready = c.clear-2.ensures.items;

@@ -10,5 +10,5 @@ invariant-loop-at l =
     (length l.places.items ≡ length l.fn.places.items)
     × AreBelowBound (length l.fn.places.items) l.list.items
     × ((s : List Bool) (k : ℕ) → in_literal l.literal s ≡ true → k < l.at
-    → in_node l.nodes (slice_index_or l.front k 0) s ≡ l.inside
-    → (y : ℕ) × Contains l.list.items y × (in_node l.nodes y s ≡ l.inside))
+    → in_node l.side.nodes.now (slice_index_or l.front k 0) s ≡ l.side.inside
+    → (y : ℕ) × Contains l.list.items y × (in_node l.side.nodes.now y s ≡ l.side.inside))

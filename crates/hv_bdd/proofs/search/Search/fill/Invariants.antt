@@ -5,6 +5,7 @@ use Rattle.hv_bdd.proofs.search.Search.fill.Given as goal
 
 abbrev pub invariant-loop-atom : goal.invariant-loop-atom
 invariant-loop-atom l = record {
-  size : length l.state ≡ l.self.nodes.now.atoms;
-  done : (a : ℕ) → a < l.atom → is_marked (bit_mark_of l.self.needed a) (has_atom l.state a) ≡ true;
+  size : length l.state ≡ l.self.setting.list.atoms;
+  done : (a : ℕ) → a < l.atom
+      → is_marked (bit_mark_of l.self.setting.needed a) (has_atom l.state a) ≡ true;
 }
