@@ -1,1 +1,1 @@
-pub mod HornClauses
+pub mod HeadedClauses

@@ -1,6 +1,6 @@
 //! Horn formulas: the kind, and the set and the store of it.
 
-ghost use Rattle.std.specs.Prelude.{◌≡◌, ◌↔◌, false, IsTrue};
+ghost use Rattle.std.specs.Prelude.{◌≡◌, true, false};
 ghost use Rattle.hv_sets.specs.Kinds.{IsHornClause};
 ghost use Rattle.hv_clauses.specs.declared.completion.Completion.TheVariants as C;
 ghost use Rattle.hv_clauses.specs.declared.listing.Listing.TheVariants as L;
@@ -8,6 +8,7 @@ ghost use Rattle.hv_horn.specs.Fault.{IsFault, memory_is_fault};
 ghost use Rattle.hv_horn.specs.Working.Laws as laws;
 ghost use Rattle.hv_horn.specs.declared.horn.HornFault.TheVariants as F;
 
+use crate::headed::is_headed;
 use hv_clauses::{ClauseKind, Completion, Formula, Formulas, Listing};
 use hv_sets::Literal;
 use std::alloc::AllocError;
@@ -55,7 +56,7 @@ impl ClauseKind for HornKind {
     ghost is_fault = { IsFault };
 
     fn takes(clause: &[Literal]) -> bool {
-        is_horn(clause)
+        is_headed(true, clause)
     }
 
     fn completion() -> Completion {
@@ -72,19 +73,7 @@ impl ClauseKind for HornKind {
 
     ghost memory_is_fault = { memory_is_fault };
 
-    ghost short_are_of = { laws.short_are_horn };
+    ghost short_are_of = { laws.short_are_headed true };
 
-    ghost completes = { laws.horn_completes };
-}
-
-// Whether the positive literals of a clause are of one atom at most.
-fn is_horn(clause: &[Literal]) -> bool
-    ensures { IsTrue result ↔ IsHornClause clause.now }
-{
-    match clause.iter().find(|literal| literal.positive) {
-        None => true,
-        Some(head) => clause
-            .iter()
-            .all(|literal| !literal.positive || literal.atom == head.atom),
-    }
+    ghost completes = { laws.headed_completes true };
 }

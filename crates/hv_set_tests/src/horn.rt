@@ -33,8 +33,12 @@ fn clause_of_two(alloc: Global, places: [u32; 2]) -> Result<Clause, AllocError>
     Ok(clause)
 }
 
-// The clauses of these places.
-fn clauses_of(alloc: Global, first: [u32; 2], second: [u32; 2]) -> Result<Clauses, AllocError>
+/// The clauses of these places.
+pub(crate) fn clauses_of(
+    alloc: Global,
+    first: [u32; 2],
+    second: [u32; 2],
+) -> Result<Clauses, AllocError>
     ensures { IfOk result (AreClauses 3) }
 {
     let mut clauses = Clauses::new(alloc);

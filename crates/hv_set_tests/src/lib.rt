@@ -4,6 +4,8 @@
 #[cfg(test)]
 mod diagrams;
 #[cfg(test)]
+mod dual_horn;
+#[cfg(test)]
 mod horn;
 #[cfg(test)]
 mod sets;
