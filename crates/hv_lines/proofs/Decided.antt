@@ -212,6 +212,7 @@ module _ (task : Strips) where
     holds_dec acts sets each (E.Constant C.Start) s is_state = same_dec s (start_state task)
     holds_dec acts sets each (E.Constant C.Goal) s is_state = bool_dec (is_goal task s)
     holds_dec acts sets each (E.Horn clauses) s is_state = bool_dec (in_clauses clauses s)
+    holds_dec acts sets each (E.Dual clauses) s is_state = bool_dec (in_clauses clauses s)
     holds_dec acts sets each (E.Two clauses) s is_state = bool_dec (in_clauses clauses s)
     holds_dec acts sets each (E.States states) s is_state = contains_dec
         (map (state_of (atoms task)) states) s

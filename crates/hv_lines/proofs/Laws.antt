@@ -214,6 +214,7 @@ pub ExprRefersBelow-more : (x : Expr) (a b m n : ℕ) → a ≤ b → m ≤ n �
     → ExprRefersBelow b n x
 ExprRefersBelow-more (E.Constant c) a b m n g h refers = tt
 ExprRefersBelow-more (E.Horn cs) a b m n g h refers = tt
+ExprRefersBelow-more (E.Dual cs) a b m n g h refers = tt
 ExprRefersBelow-more (E.Two cs) a b m n g h refers = tt
 ExprRefersBelow-more (E.States xs) a b m n g h refers = tt
 ExprRefersBelow-more (E.Node x) a b m n g h refers = tt
@@ -400,6 +401,7 @@ module _ (task : Strips) (nodes : NodeList) where
   holds_same acts other_acts sets other_sets m n (E.Constant C.Goal) same_acts same_sets refers =
       refl
   holds_same acts other_acts sets other_sets m n (E.Horn cs) same_acts same_sets refers = refl
+  holds_same acts other_acts sets other_sets m n (E.Dual cs) same_acts same_sets refers = refl
   holds_same acts other_acts sets other_sets m n (E.Two cs) same_acts same_sets refers = refl
   holds_same acts other_acts sets other_sets m n (E.States xs) same_acts same_sets refers = refl
   holds_same acts other_acts sets other_sets m n (E.Node x) same_acts same_sets refers = refl

@@ -18,10 +18,17 @@ use Rattle.hv_lines.proofs.WordTable.{premises_few, word_plain}
 
 -- a constant, a node, or a set that is made of earlier ones
 abbrev pub IsMade : Expr → Type 0
+IsMade (E.Constant constant) = Unit {0}
 IsMade (E.Horn clauses) = ⊥
+IsMade (E.Dual clauses) = ⊥
 IsMade (E.Two clauses) = ⊥
 IsMade (E.States states) = ⊥
-IsMade _ = Unit {0}
+IsMade (E.Node node) = Unit {0}
+IsMade (E.Not set) = Unit {0}
+IsMade (E.And left right) = Unit {0}
+IsMade (E.Or left right) = Unit {0}
+IsMade (E.After set by) = Unit {0}
+IsMade (E.Before set by) = Unit {0}
 
 -- the fields of such a set, and of a claim, have few bytes
 
@@ -30,6 +37,7 @@ pub light_made : (id : ℕ) (expr : Expr) → IsMade expr → FitsDecimal id →
 light_made id (E.Constant constant) made at fits = omega
     (arith, decimal_short id at, constant_short constant)
 light_made id (E.Horn clauses) made at fits = absurd made
+light_made id (E.Dual clauses) made at fits = absurd made
 light_made id (E.Two clauses) made at fits = absurd made
 light_made id (E.States states) made at fits = absurd made
 light_made id (E.Node node) made at fits = omega

@@ -3,7 +3,7 @@ use Rattle.std.proofs.Common.{◌≡◌, ℕ, zero, suc, ◌<◌, ◌∙◌, ◌
 use Rattle.std.proofs.Common.{◌∷◌, Option, Some, None, if◌then◌else◌, length, map, refl, sym, ap}
 use Rattle.std.proofs.Common.{subst, inl, inr, arith}
 use Rattle.std.proofs.lemmas.List.Elements.{Contains-append_cases}
-use Rattle.std.proofs.lemmas.Option.{same_Some, slice_get-map}
+use Rattle.std.proofs.lemmas.Option.{slice_get-map}
 use Rattle.std.specs.List.{Contains, slice_get}
 use Rattle.std.specs.Option.{IfSome}
 use Rattle.hv_sets.specs.Query.{ComesBefore, IsNamed, IsReady, Rises}
@@ -11,9 +11,9 @@ use Rattle.hv_sets.specs.declared.operand.Operand.{Operand}
 use Rattle.hv_lines.specs.Literals.{IsPlainExpr, IsPlainSet}
 use Rattle.hv_lines.specs.Meaning.{acts_of}
 use Rattle.hv_lines.specs.Numbering.{IsTable, expr_at, expr_count}
-use Rattle.hv_lines.specs.Queries.{actions_below, NamesNodes, asked_actions, horn_in, two_in}
-use Rattle.hv_lines.specs.Queries.{listed_in, named_by, operand_of, query_of, which_at}
-use Rattle.hv_lines.specs.Working.Queries.{count_of}
+use Rattle.hv_lines.specs.Queries.{actions_below, NamesNodes, asked_actions, count_of, dual_in}
+use Rattle.hv_lines.specs.Queries.{horn_in, listed_in, named_by, operand_of, query_of, two_in}
+use Rattle.hv_lines.specs.Queries.{which_at}
 use Rattle.hv_lines.specs.Shapes.{Askings, AskingsRise, HasSides, IsAsked, IsQuestion, Question}
 use Rattle.hv_lines.specs.Shapes.{asks_sides_after, family_of}
 use Rattle.hv_lines.specs.declared.family.FormulaFamily.{FormulaFamily}
@@ -27,7 +27,7 @@ use Rattle.hv_lines.specs.declared.line.Word.TheVariants as W
 use Rattle.hv_task.specs.Strips.{Strips}
 use Rattle.hv_lines.proofs.Elements.{all_from, got_mapped, in_mapped}
 use Rattle.hv_lines.proofs.Laws.{expr_below}
-use Rattle.hv_lines.proofs.Named.{count_before, found_number, which_is}
+use Rattle.hv_lines.proofs.Named.{count_before, counts_before, family_is, found_number, which_is}
 use Rattle.hv_lines.proofs.Questions.{alone_no_step}
 
 -- lists
@@ -90,41 +90,28 @@ module _ (lines : List Line) (table : IsTable lines) (word : Word) (left right :
       → (family : FormulaFamily) (id : ℕ) (expr : Expr) → expr_at lines id ≡ Some expr
       → IsPlainExpr expr → (family_of expr ≡ None) ⊎ (family_of expr ≡ Some family)
       → IsNamed (count_of lines family nodes)
-      (named_by (count_before horn_in lines id) (count_before two_in lines id)
-      (count_before listed_in lines id) expr)
+      (named_by (counts_before lines id) expr)
   named_within nodes known family id (E.Constant C.Empty) at plain of = tt
   named_within nodes known family id (E.Constant C.Start) at plain of = tt
   named_within nodes known family id (E.Constant C.Goal) at plain of = tt
   named_within nodes known family id (E.Horn clauses) at plain of =
-      elim of [
-        | inl none ↦ absurd (cc (none))
-        | inr some ↦
-            subst (λ f. count_before horn_in lines id < count_of lines f nodes)
-            (same_Some F.Horn family some)
-            (found_number horn_in lines id (E.Horn clauses) clauses [] at refl).0
-      ]
+      subst (λ f. count_before horn_in lines id < count_of lines f nodes)
+      (family_is F.Horn family of)
+      (found_number horn_in lines id (E.Horn clauses) clauses [] at refl).0
+  named_within nodes known family id (E.Dual clauses) at plain of =
+      subst (λ f. count_before dual_in lines id < count_of lines f nodes)
+      (family_is F.Dual family of)
+      (found_number dual_in lines id (E.Dual clauses) clauses [] at refl).0
   named_within nodes known family id (E.Two clauses) at plain of =
-      elim of [
-        | inl none ↦ absurd (cc (none))
-        | inr some ↦
-            subst (λ f. count_before two_in lines id < count_of lines f nodes)
-            (same_Some F.Two family some)
-            (found_number two_in lines id (E.Two clauses) clauses [] at refl).0
-      ]
+      subst (λ f. count_before two_in lines id < count_of lines f nodes)
+      (family_is F.Two family of)
+      (found_number two_in lines id (E.Two clauses) clauses [] at refl).0
   named_within nodes known family id (E.States states) at plain of =
-      elim of [
-        | inl none ↦ absurd (cc (none))
-        | inr some ↦
-            subst (λ f. count_before listed_in lines id < count_of lines f nodes)
-            (same_Some F.States family some)
-            (found_number listed_in lines id (E.States states) states [] at refl).0
-      ]
+      subst (λ f. count_before listed_in lines id < count_of lines f nodes)
+      (family_is F.States family of)
+      (found_number listed_in lines id (E.States states) states [] at refl).0
   named_within nodes known family id (E.Node node) at plain of =
-      elim of [
-        | inl none ↦ absurd (cc (none))
-        | inr some ↦ subst (λ f. node < count_of lines f nodes) (same_Some F.Node family some)
-            (known id node at)
-      ]
+      subst (λ f. node < count_of lines f nodes) (family_is F.Node family of) (known id node at)
   named_within nodes known family id (E.Not set) at plain of = tt
   named_within nodes known family id (E.And x y) at plain of = tt
   named_within nodes known family id (E.Or x y) at plain of = tt

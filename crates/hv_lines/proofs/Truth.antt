@@ -399,6 +399,7 @@ module _ (setting : Setting) (lines : List Line) (table : IsTable lines) where
       ↔ holds setting.task setting.nodes (acts_of lines)
       (sets_of setting.task setting.nodes lines) x state
   formula_holds (E.Horn clauses) family of state = (λ e. e, λ e. e)
+  formula_holds (E.Dual clauses) family of state = (λ e. e, λ e. e)
   formula_holds (E.Two clauses) family of state = (λ e. e, λ e. e)
   formula_holds (E.States states) family of state =
       let tells = in_states-Decides (atoms setting.task) states state in

@@ -3,7 +3,7 @@ use Rattle.std.specs.Prelude.{◌<◌, ℕ, List, [], ◌∷◌, MatchBool, leng
 use Rattle.std.specs.List.{All}
 use Rattle.hv_task.specs.State.{AreBelow}
 use Rattle.hv_task.specs.Strips.{Strips, atoms}
-use Rattle.hv_sets.specs.Kinds.{IsHornClause, IsTwoClause}
+use Rattle.hv_sets.specs.Kinds.{IsDualHornClause, IsHornClause, IsTwoClause}
 use Rattle.hv_sets.specs.declared.literal.Literal.{Literal}
 use Rattle.hv_lines.specs.Spelling.{IsSpelled}
 use Rattle.hv_lines.specs.Numbering.{IsNumbered, RefersBack}
@@ -39,11 +39,17 @@ ClausesAreBelow bound clauses = All (All (λ l. l.atom < bound)) clauses
 
 -- the set names atoms of the task and nodes of the list alone
 abbrev pub ExprIsWithin : Strips → NodeList → Expr → Type 0
+ExprIsWithin task nodes (E.Constant constant) = Unit {0}
 ExprIsWithin task nodes (E.Horn clauses) = ClausesAreBelow (atoms task) clauses
+ExprIsWithin task nodes (E.Dual clauses) = ClausesAreBelow (atoms task) clauses
 ExprIsWithin task nodes (E.Two clauses) = ClausesAreBelow (atoms task) clauses
 ExprIsWithin task nodes (E.States states) = All (AreBelow (atoms task)) states
 ExprIsWithin task nodes (E.Node node) = IsNode nodes node
-ExprIsWithin task nodes _ = Unit {0}
+ExprIsWithin task nodes (E.Not set) = Unit {0}
+ExprIsWithin task nodes (E.And left right) = Unit {0}
+ExprIsWithin task nodes (E.Or left right) = Unit {0}
+ExprIsWithin task nodes (E.After set by) = Unit {0}
+ExprIsWithin task nodes (E.Before set by) = Unit {0}
 
 -- the line names actions and atoms of the task and nodes of the list alone
 abbrev pub NamesWithin : Strips → NodeList → Line → Type 0
@@ -70,12 +76,20 @@ RuleHolds lines (L.Known id statement word premises) = IsRuleWord word
 abbrev pub IsBasicWord : Word → Type 0
 IsBasicWord word = MatchBool (word_row word).is_rule ⊥ (Unit {0})
 
--- the clauses of a Horn formula are Horn clauses, and those of a 2CNF formula have at most two
--- different literals
+-- the clauses of a Horn formula are Horn clauses, those of a dual Horn formula dual Horn clauses,
+-- and those of a 2CNF formula have at most two different literals
 abbrev pub IsOfItsFamily : Expr → Type 0
+IsOfItsFamily (E.Constant constant) = Unit {0}
 IsOfItsFamily (E.Horn clauses) = All IsHornClause clauses
+IsOfItsFamily (E.Dual clauses) = All IsDualHornClause clauses
 IsOfItsFamily (E.Two clauses) = All IsTwoClause clauses
-IsOfItsFamily _ = Unit {0}
+IsOfItsFamily (E.States states) = Unit {0}
+IsOfItsFamily (E.Node node) = Unit {0}
+IsOfItsFamily (E.Not set) = Unit {0}
+IsOfItsFamily (E.And left right) = Unit {0}
+IsOfItsFamily (E.Or left right) = Unit {0}
+IsOfItsFamily (E.After set by) = Unit {0}
+IsOfItsFamily (E.Before set by) = Unit {0}
 
 -- where the line has a formula, its clauses are of the family
 abbrev pub FamilyFits : Line → Type 0

@@ -9,6 +9,7 @@ use Rattle.hv_lines.specs.declared.line.Line.{Line}
 abbrev pub IsFormula : Expr → Type 0
 IsFormula (E.Constant constant) = ⊥
 IsFormula (E.Horn clauses) = Unit {0}
+IsFormula (E.Dual clauses) = Unit {0}
 IsFormula (E.Two clauses) = Unit {0}
 IsFormula (E.States states) = Unit {0}
 IsFormula (E.Node node) = Unit {0}
@@ -22,6 +23,7 @@ IsFormula (E.Before set acts) = ⊥
 abbrev pub IsConstantExpr : Expr → Type 0
 IsConstantExpr (E.Constant constant) = Unit {0}
 IsConstantExpr (E.Horn clauses) = ⊥
+IsConstantExpr (E.Dual clauses) = ⊥
 IsConstantExpr (E.Two clauses) = ⊥
 IsConstantExpr (E.States states) = ⊥
 IsConstantExpr (E.Node node) = ⊥

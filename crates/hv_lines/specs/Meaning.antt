@@ -62,6 +62,7 @@ holds task nodes acts sets (E.Constant C.Empty) state = ⊥
 holds task nodes acts sets (E.Constant C.Start) state = state ≡ start_state task
 holds task nodes acts sets (E.Constant C.Goal) state = is_goal task state ≡ true
 holds task nodes acts sets (E.Horn clauses) state = in_clauses clauses state ≡ true
+holds task nodes acts sets (E.Dual clauses) state = in_clauses clauses state ≡ true
 holds task nodes acts sets (E.Two clauses) state = in_clauses clauses state ≡ true
 holds task nodes acts sets (E.States states) state = InStates (atoms task) states state
 holds task nodes acts sets (E.Node node) state = in_node nodes node state ≡ true

@@ -12,11 +12,17 @@ use Rattle.hv_lines.specs.declared.line.Expr.TheVariants as E
 
 -- the state is in the formula of the line; nothing else is a formula
 abbrev pub in_line_formula : Setting → Expr → List Bool → Bool
+in_line_formula setting (E.Constant constant) state = false
 in_line_formula setting (E.Horn clauses) state = in_clauses clauses state
+in_line_formula setting (E.Dual clauses) state = in_clauses clauses state
 in_line_formula setting (E.Two clauses) state = in_clauses clauses state
 in_line_formula setting (E.States states) state = in_states (atoms setting.task) states state
 in_line_formula setting (E.Node node) state = in_node setting.nodes node state
-in_line_formula setting _ state = false
+in_line_formula setting (E.Not set) state = false
+in_line_formula setting (E.And left right) state = false
+in_line_formula setting (E.Or left right) state = false
+in_line_formula setting (E.After set by) state = false
+in_line_formula setting (E.Before set by) state = false
 
 -- a side of the inclusion: a formula itself (true), or its negation (false)
 abbrev pub Signed : Type 0
@@ -34,19 +40,45 @@ is_between setting left right state =
 
 -- how many states an explicit set lists
 abbrev pub listed_count : Expr → Option ℕ
+listed_count (E.Constant constant) = None
+listed_count (E.Horn clauses) = None
+listed_count (E.Dual clauses) = None
+listed_count (E.Two clauses) = None
 listed_count (E.States states) = Some (length states)
-listed_count _ = None
+listed_count (E.Node node) = None
+listed_count (E.Not set) = None
+listed_count (E.And left right) = None
+listed_count (E.Or left right) = None
+listed_count (E.After set by) = None
+listed_count (E.Before set by) = None
 
--- how many clauses a Horn or 2CNF formula has
+-- how many clauses a Horn, dual Horn or 2CNF formula has
 abbrev pub clause_count : Expr → Option ℕ
+clause_count (E.Constant constant) = None
 clause_count (E.Horn clauses) = Some (length clauses)
+clause_count (E.Dual clauses) = Some (length clauses)
 clause_count (E.Two clauses) = Some (length clauses)
-clause_count _ = None
+clause_count (E.States states) = None
+clause_count (E.Node node) = None
+clause_count (E.Not set) = None
+clause_count (E.And left right) = None
+clause_count (E.Or left right) = None
+clause_count (E.After set by) = None
+clause_count (E.Before set by) = None
 
 -- how many paths lead from a node to the end 0 or 1
 abbrev pub path_count : NodeList → ℕ → Expr → Option ℕ
+path_count nodes end (E.Constant constant) = None
+path_count nodes end (E.Horn clauses) = None
+path_count nodes end (E.Dual clauses) = None
+path_count nodes end (E.Two clauses) = None
+path_count nodes end (E.States states) = None
 path_count nodes end (E.Node node) = Some (length (paths nodes end node))
-path_count nodes end _ = None
+path_count nodes end (E.Not set) = None
+path_count nodes end (E.And left right) = None
+path_count nodes end (E.Or left right) = None
+path_count nodes end (E.After set by) = None
+path_count nodes end (E.Before set by) = None
 
 -- the first of two counts that is there
 abbrev pub either_count : Option ℕ → Option ℕ → Option ℕ

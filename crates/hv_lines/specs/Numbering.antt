@@ -80,6 +80,7 @@ ActsReferBelow acts (A.Both left right) = (left < acts) × (right < acts)
 abbrev pub ExprRefersBelow : ℕ → ℕ → Expr → Type 0
 ExprRefersBelow acts exprs (E.Constant constant) = Unit {0}
 ExprRefersBelow acts exprs (E.Horn clauses) = Unit {0}
+ExprRefersBelow acts exprs (E.Dual clauses) = Unit {0}
 ExprRefersBelow acts exprs (E.Two clauses) = Unit {0}
 ExprRefersBelow acts exprs (E.States states) = Unit {0}
 ExprRefersBelow acts exprs (E.Node node) = Unit {0}

@@ -27,19 +27,59 @@ use Rattle.hv_lines.specs.declared.line.Line.TheVariants as L
 
 -- The stores of a proof: the formulas of each family, in the order of their lines.
 
--- the formulas of one `e` line: its Horn formula, its 2CNF formula or its explicit set, if it is
--- one
+-- the formulas of one `e` line: its Horn formula, its dual Horn formula, its 2CNF formula or its
+-- explicit set, if it is one
 abbrev pub horn_in : Expr → List (List (List Literal))
+horn_in (E.Constant constant) = []
 horn_in (E.Horn clauses) = clauses ∷ []
-horn_in _ = []
+horn_in (E.Dual clauses) = []
+horn_in (E.Two clauses) = []
+horn_in (E.States states) = []
+horn_in (E.Node node) = []
+horn_in (E.Not set) = []
+horn_in (E.And left right) = []
+horn_in (E.Or left right) = []
+horn_in (E.After set by) = []
+horn_in (E.Before set by) = []
+
+abbrev pub dual_in : Expr → List (List (List Literal))
+dual_in (E.Constant constant) = []
+dual_in (E.Horn clauses) = []
+dual_in (E.Dual clauses) = clauses ∷ []
+dual_in (E.Two clauses) = []
+dual_in (E.States states) = []
+dual_in (E.Node node) = []
+dual_in (E.Not set) = []
+dual_in (E.And left right) = []
+dual_in (E.Or left right) = []
+dual_in (E.After set by) = []
+dual_in (E.Before set by) = []
 
 abbrev pub two_in : Expr → List (List (List Literal))
+two_in (E.Constant constant) = []
+two_in (E.Horn clauses) = []
+two_in (E.Dual clauses) = []
 two_in (E.Two clauses) = clauses ∷ []
-two_in _ = []
+two_in (E.States states) = []
+two_in (E.Node node) = []
+two_in (E.Not set) = []
+two_in (E.And left right) = []
+two_in (E.Or left right) = []
+two_in (E.After set by) = []
+two_in (E.Before set by) = []
 
 abbrev pub listed_in : Expr → List (List (List ℕ))
+listed_in (E.Constant constant) = []
+listed_in (E.Horn clauses) = []
+listed_in (E.Dual clauses) = []
+listed_in (E.Two clauses) = []
 listed_in (E.States states) = states ∷ []
-listed_in _ = []
+listed_in (E.Node node) = []
+listed_in (E.Not set) = []
+listed_in (E.And left right) = []
+listed_in (E.Or left right) = []
+listed_in (E.After set by) = []
+listed_in (E.Before set by) = []
 
 -- the formulas of a kind in all lines, of which the newest is the first
 abbrev pub collected : {Formula : Type 0} → (Expr → List Formula) → List Line → List Formula
@@ -48,9 +88,13 @@ collected formula_in (L.Acts id acts ∷ older) = collected formula_in older
 collected formula_in (L.Expr id expr ∷ older) = collected formula_in older ++ formula_in expr
 collected formula_in (L.Known id statement word premises ∷ older) = collected formula_in older
 
--- the Horn formulas, the 2CNF formulas and the explicit sets of the lines, by number from 0
+-- the Horn formulas, the dual Horn formulas, the 2CNF formulas and the explicit sets of the lines,
+-- by number from 0
 abbrev pub horns_of : List Line → List (List (List Literal))
 horns_of lines = collected horn_in lines
+
+abbrev pub duals_of : List Line → List (List (List Literal))
+duals_of lines = collected dual_in lines
 
 abbrev pub twos_of : List Line → List (List (List Literal))
 twos_of lines = collected two_in lines
@@ -58,18 +102,30 @@ twos_of lines = collected two_in lines
 abbrev pub listed_of : List Line → List (List (List ℕ))
 listed_of lines = collected listed_in lines
 
+-- how many sets the store of the family has, where so many are nodes
+abbrev pub count_of : List Line → FormulaFamily → ℕ → ℕ
+count_of lines F.Horn nodes = length (horns_of lines)
+count_of lines F.Dual nodes = length (duals_of lines)
+count_of lines F.Two nodes = length (twos_of lines)
+count_of lines F.States nodes = length (listed_of lines)
+count_of lines F.Node nodes = nodes
+
 -- what an operand names that speaks of the set of an `e` line: a constant, the formula by its
--- number in the store of its family, where so many Horn formulas, 2CNF formulas and explicit sets
--- are in the stores already, or the node
-abbrev pub named_by : ℕ → ℕ → ℕ → Expr → Which
-named_by horns twos listed (E.Constant C.Empty) = S.Empty
-named_by horns twos listed (E.Constant C.Start) = S.Start
-named_by horns twos listed (E.Constant C.Goal) = S.Goal
-named_by horns twos listed (E.Horn clauses) = S.Set horns
-named_by horns twos listed (E.Two clauses) = S.Set twos
-named_by horns twos listed (E.States states) = S.Set listed
-named_by horns twos listed (E.Node node) = S.Set node
-named_by horns twos listed _ = S.Empty
+-- number in the store of its family, where each store has so many formulas already, or the node
+abbrev pub named_by : (FormulaFamily → ℕ) → Expr → Which
+named_by counts (E.Constant C.Empty) = S.Empty
+named_by counts (E.Constant C.Start) = S.Start
+named_by counts (E.Constant C.Goal) = S.Goal
+named_by counts (E.Horn clauses) = S.Set (counts F.Horn)
+named_by counts (E.Dual clauses) = S.Set (counts F.Dual)
+named_by counts (E.Two clauses) = S.Set (counts F.Two)
+named_by counts (E.States states) = S.Set (counts F.States)
+named_by counts (E.Node node) = S.Set node
+named_by counts (E.Not set) = S.Empty
+named_by counts (E.And left right) = S.Empty
+named_by counts (E.Or left right) = S.Empty
+named_by counts (E.After set by) = S.Empty
+named_by counts (E.Before set by) = S.Empty
 
 -- the nodes that the lines name are among so many
 abbrev pub NamesNodes : ℕ → List Line → Type 0
@@ -81,14 +137,15 @@ which_at [] wanted = S.Empty
 which_at (L.Acts id acts ∷ older) wanted = which_at older wanted
 which_at (L.Expr id expr ∷ older) wanted =
     cond (nat_eq wanted id)
-    (named_by (length (horns_of older)) (length (twos_of older)) (length (listed_of older)) expr)
-    (which_at older wanted)
+    (named_by (λ family. count_of older family 0) expr) (which_at older wanted)
 which_at (L.Known id statement word premises ∷ older) wanted = which_at older wanted
 
 -- the state is in the set of this number of the family
 abbrev pub has_of : Setting → List Line → FormulaFamily → ℕ → List Bool → Bool
 has_of setting lines F.Horn number state =
     in_clauses (slice_index_or (horns_of lines) number []) state
+has_of setting lines F.Dual number state =
+    in_clauses (slice_index_or (duals_of lines) number []) state
 has_of setting lines F.Two number state =
     in_clauses (slice_index_or (twos_of lines) number []) state
 has_of setting lines F.States number state =
@@ -99,6 +156,9 @@ has_of setting lines F.Node number state = in_node setting.nodes number state
 abbrev pub PassesBudget : Setting → List Line → FormulaFamily → Query → Type 0
 PassesBudget setting lines F.Horn query =
     ClausesPass setting.task (λ number. length (slice_index_or (horns_of lines) number [])) query
+    setting.budget
+PassesBudget setting lines F.Dual query =
+    ClausesPass setting.task (λ number. length (slice_index_or (duals_of lines) number [])) query
     setting.budget
 PassesBudget setting lines F.Two query =
     ClausesPass setting.task (λ number. length (slice_index_or (twos_of lines) number [])) query
@@ -144,6 +204,7 @@ IsOffered lines question = IsOfferedOver question.family
   where
     IsOfferedOver : FormulaFamily → Type 0
     IsOfferedOver F.Horn = Unit {0}
+    IsOfferedOver F.Dual = Unit {0}
     IsOfferedOver F.Two = Unit {0}
     IsOfferedOver F.States = HasAnchor (query_of lines question None)
     IsOfferedOver F.Node = Unit {0}

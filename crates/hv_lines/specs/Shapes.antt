@@ -17,12 +17,30 @@ use Rattle.hv_lines.specs.declared.line.Word.TheVariants as W
 -- the two parts of an intersection
 abbrev pub and_parts : Expr → Option (ℕ × ℕ)
 and_parts (E.And left right) = Some (left, right)
-and_parts _ = None
+and_parts (E.Constant constant) = None
+and_parts (E.Horn clauses) = None
+and_parts (E.Dual clauses) = None
+and_parts (E.Two clauses) = None
+and_parts (E.States states) = None
+and_parts (E.Node node) = None
+and_parts (E.Not set) = None
+and_parts (E.Or left right) = None
+and_parts (E.After set by) = None
+and_parts (E.Before set by) = None
 
 -- the two parts of a union
 abbrev pub or_parts : Expr → Option (ℕ × ℕ)
 or_parts (E.Or left right) = Some (left, right)
-or_parts _ = None
+or_parts (E.Constant constant) = None
+or_parts (E.Horn clauses) = None
+or_parts (E.Dual clauses) = None
+or_parts (E.Two clauses) = None
+or_parts (E.States states) = None
+or_parts (E.Node node) = None
+or_parts (E.Not set) = None
+or_parts (E.And left right) = None
+or_parts (E.After set by) = None
+or_parts (E.Before set by) = None
 
 -- The leaves of a set: those of both its parts where it has two, and otherwise it alone.
 pub data IsLeaf (parts : Expr → Option (ℕ × ℕ)) (lines : List Line) : ℕ → ℕ → Type 0 where
@@ -45,12 +63,30 @@ IsOrLeaf lines set leaf = IsLeaf or_parts lines set leaf
 -- the set and the action set of a progression
 abbrev pub after_parts : Expr → Option (ℕ × ℕ)
 after_parts (E.After set acts) = Some (set, acts)
-after_parts _ = None
+after_parts (E.Constant constant) = None
+after_parts (E.Horn clauses) = None
+after_parts (E.Dual clauses) = None
+after_parts (E.Two clauses) = None
+after_parts (E.States states) = None
+after_parts (E.Node node) = None
+after_parts (E.Not set) = None
+after_parts (E.And left right) = None
+after_parts (E.Or left right) = None
+after_parts (E.Before set acts) = None
 
 -- the set and the action set of a regression
 abbrev pub before_parts : Expr → Option (ℕ × ℕ)
 before_parts (E.Before set acts) = Some (set, acts)
-before_parts _ = None
+before_parts (E.Constant constant) = None
+before_parts (E.Horn clauses) = None
+before_parts (E.Dual clauses) = None
+before_parts (E.Two clauses) = None
+before_parts (E.States states) = None
+before_parts (E.Node node) = None
+before_parts (E.Not set) = None
+before_parts (E.And left right) = None
+before_parts (E.Or left right) = None
+before_parts (E.After set acts) = None
 
 -- the step that the word asks for on the left: a progression for `b2`, a regression for `b3`; its
 -- set and its action set
@@ -117,11 +153,17 @@ IsAsked lines word left right positive (set, after) =
 
 -- the family of a formula; nothing else has one
 abbrev pub family_of : Expr → Option FormulaFamily
+family_of (E.Constant constant) = None
 family_of (E.Horn clauses) = Some F.Horn
+family_of (E.Dual clauses) = Some F.Dual
 family_of (E.Two clauses) = Some F.Two
 family_of (E.States states) = Some F.States
 family_of (E.Node node) = Some F.Node
-family_of _ = None
+family_of (E.Not set) = None
+family_of (E.And left right) = None
+family_of (E.Or left right) = None
+family_of (E.After set by) = None
+family_of (E.Before set by) = None
 
 -- the set is a formula of the family
 abbrev pub IsOfFamily : List Line → FormulaFamily → ℕ → Type 0

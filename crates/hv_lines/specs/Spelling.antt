@@ -46,6 +46,7 @@ state_fields state = map decimal state ++ codes ";" ∷ []
 abbrev pub expr_fields : Expr → List (List ℕ)
 expr_fields (E.Constant constant) = codes "c" ∷ constant_field constant ∷ []
 expr_fields (E.Horn clauses) = codes "h" ∷ decimal (length clauses) ∷ flat_map clause_fields clauses
+expr_fields (E.Dual clauses) = codes "d" ∷ decimal (length clauses) ∷ flat_map clause_fields clauses
 expr_fields (E.Two clauses) = codes "t" ∷ decimal (length clauses) ∷ flat_map clause_fields clauses
 expr_fields (E.States states) = codes "x" ∷ decimal (length states) ∷ flat_map state_fields states
 expr_fields (E.Node node) = codes "b" ∷ decimal node ∷ []
@@ -109,6 +110,7 @@ ActsFit (A.Both left right) = FitsDecimal left × FitsDecimal right
 abbrev pub ExprFits : Expr → Type 0
 ExprFits (E.Constant constant) = Unit {0}
 ExprFits (E.Horn clauses) = FitsDecimal (length clauses) × All (All FitsLiteral) clauses
+ExprFits (E.Dual clauses) = FitsDecimal (length clauses) × All (All FitsLiteral) clauses
 ExprFits (E.Two clauses) = FitsDecimal (length clauses) × All (All FitsLiteral) clauses
 ExprFits (E.States states) = FitsDecimal (length states) × All IsRising states
 ExprFits (E.Node node) = FitsShortDecimal node

@@ -1,5 +1,4 @@
 -- Definitions that no public contract cites: those of private contracts and of proofs.
 pub mod Setting
 pub mod TableState
-pub mod Queries
 pub mod Good

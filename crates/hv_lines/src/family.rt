@@ -5,6 +5,8 @@
 pub enum FormulaFamily {
     /// Horn formulas.
     Horn,
+    /// Dual Horn formulas.
+    Dual,
     /// 2CNF formulas.
     Two,
     /// Explicit sets.

@@ -23,6 +23,8 @@ pub enum Expr {
     Constant(Constant),
     /// A Horn formula: each clause has at most one positive atom.
     Horn(Clauses),
+    /// A dual Horn formula: each clause has at most one negative atom.
+    Dual(Clauses),
     /// A 2CNF formula: each clause has at most two literals.
     Two(Clauses),
     /// An explicit set: the states are listed.

@@ -270,7 +270,12 @@ fn is_plain(expr: &Expr) -> bool
     ensures { IsTrue result ↔ IsPlainExpr expr.now }
 {
     match expr {
-        Expr::Constant(_) | Expr::Horn(_) | Expr::Two(_) | Expr::States(_) | Expr::Node(_) => true,
+        Expr::Constant(_)
+        | Expr::Horn(_)
+        | Expr::Dual(_)
+        | Expr::Two(_)
+        | Expr::States(_)
+        | Expr::Node(_) => true,
         Expr::Not(_) | Expr::And(..) | Expr::Or(..) | Expr::After(..) | Expr::Before(..) => false,
     }
 }

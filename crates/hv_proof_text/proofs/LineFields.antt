@@ -100,6 +100,8 @@ fields_of_expr (E.Constant C.Start) = refl
 fields_of_expr (E.Constant C.Goal) = refl
 fields_of_expr (E.Horn clauses) = ap (λ fs. codes "h" ∷ decimal (length clauses) ∷ fs)
     (fields_of_clauses clauses)
+fields_of_expr (E.Dual clauses) = ap (λ fs. codes "d" ∷ decimal (length clauses) ∷ fs)
+    (fields_of_clauses clauses)
 fields_of_expr (E.Two clauses) = ap (λ fs. codes "t" ∷ decimal (length clauses) ∷ fs)
     (fields_of_clauses clauses)
 fields_of_expr (E.States states) = ap (λ fs. codes "x" ∷ decimal (length states) ∷ fs)
@@ -195,6 +197,10 @@ short_expr (E.Constant constant) fits =
     (behind_letter (constant_letter constant) [] (All-nil IsToken))
 short_expr (E.Horn clauses) fits =
     behind_letter L.H (number (length clauses) ∷ flat_map clause_tokens clauses)
+    (behind_number (length clauses) (flat_map clause_tokens clauses) fits.0
+    (short_clauses clauses fits.1))
+short_expr (E.Dual clauses) fits =
+    behind_letter L.D (number (length clauses) ∷ flat_map clause_tokens clauses)
     (behind_number (length clauses) (flat_map clause_tokens clauses) fits.0
     (short_clauses clauses fits.1))
 short_expr (E.Two clauses) fits =
@@ -357,6 +363,7 @@ acts_by _ tokens = A.All
 
 abbrev expr_by : Letter → List Token → Expr
 expr_by L.H tokens = E.Horn (unwrap_or (clauses_from [] [] (drop 1 tokens)) [])
+expr_by L.D tokens = E.Dual (unwrap_or (clauses_from [] [] (drop 1 tokens)) [])
 expr_by L.T tokens = E.Two (unwrap_or (clauses_from [] [] (drop 1 tokens)) [])
 expr_by L.X tokens = E.States (unwrap_or (states_from [] [] 0 (drop 1 tokens)) [])
 expr_by L.B tokens = E.Node (value_at tokens 0)
@@ -405,6 +412,9 @@ back_to_expr id (E.Constant C.Start) fits = refl
 back_to_expr id (E.Constant C.Goal) fits = refl
 back_to_expr id (E.Horn clauses) fits =
     ap (λ found. N.Expr id (E.Horn (unwrap_or found [])))
+    (clauses_only (flat_map clause_tokens clauses) clauses (record { short = fits.1; same = refl }))
+back_to_expr id (E.Dual clauses) fits =
+    ap (λ found. N.Expr id (E.Dual (unwrap_or found [])))
     (clauses_only (flat_map clause_tokens clauses) clauses (record { short = fits.1; same = refl }))
 back_to_expr id (E.Two clauses) fits =
     ap (λ found. N.Expr id (E.Two (unwrap_or found [])))

@@ -74,6 +74,12 @@ expr_in L.H tokens expr form short =
       ap (λ ts. letter L.H ∷ number (length form.0) ∷ ts) form.3.same
           ∙ ap (λ ts. letter L.H ∷ ts) (sym form.2),
     )
+expr_in L.D tokens expr form short =
+    subst (ExprIs L.D tokens) (sym form.4) (
+      (first_long (length form.0) form.1 tokens form.2 short, form.3.short),
+      ap (λ ts. letter L.D ∷ number (length form.0) ∷ ts) form.3.same
+          ∙ ap (λ ts. letter L.D ∷ ts) (sym form.2),
+    )
 expr_in L.T tokens expr form short =
     subst (ExprIs L.T tokens) (sym form.4) (
       (first_long (length form.0) form.1 tokens form.2 short, form.3.short),
@@ -205,6 +211,12 @@ expr_out (E.Constant constant) fits = (
 )
 expr_out (E.Horn clauses) fits = (
   L.H,
+  number (length clauses) ∷ flat_map clause_tokens clauses,
+  refl,
+  (clauses, flat_map clause_tokens clauses, refl, record { short = fits.1; same = refl }, refl),
+)
+expr_out (E.Dual clauses) fits = (
+  L.D,
   number (length clauses) ∷ flat_map clause_tokens clauses,
   refl,
   (clauses, flat_map clause_tokens clauses, refl, record { short = fits.1; same = refl }, refl),

@@ -28,6 +28,12 @@ module _ (id : ℕ) (fields : List (List ℕ)) where
   horn_none never line stand =
       let form = stand.2.1 in never form.0 (stand.0, stand.1, (form.1, form.2, form.3))
 
+  pub dual_none : ((clauses : List (List Literal))
+      → StandFor (BeginsWithCount (AreClauseTokens clauses) (length clauses)) fields → ⊥)
+      → (line : Line) → StandFor (λ ts. LineForm L.E id L.D ts line) fields → ⊥
+  dual_none never line stand =
+      let form = stand.2.1 in never form.0 (stand.0, stand.1, (form.1, form.2, form.3))
+
   pub two_none : ((clauses : List (List Literal))
       → StandFor (BeginsWithCount (AreClauseTokens clauses) (length clauses)) fields → ⊥)
       → (line : Line) → StandFor (λ ts. LineForm L.E id L.T ts line) fields → ⊥
@@ -53,6 +59,7 @@ behind_a _ listed e = absurd (cc)
 behind_e : (kind : Letter) (listed : Listed) → listed_by L.E kind ≡ Some listed
     → AreLetters L.E kind listed
 behind_e L.H listed e = subst (AreLetters L.E L.H) (some_injective e) (refl, refl)
+behind_e L.D listed e = subst (AreLetters L.E L.D) (some_injective e) (refl, refl)
 behind_e L.T listed e = subst (AreLetters L.E L.T) (some_injective e) (refl, refl)
 behind_e L.X listed e = subst (AreLetters L.E L.X) (some_injective e) (refl, refl)
 behind_e _ listed e = absurd (cc)

@@ -257,6 +257,13 @@ fn listed_line(
             })),
             None => Ok(None),
         },
+        Listed::Dual => match counted_clauses(alloc, fields)? {
+            Some(clauses) => Ok(Some(Line::Expr {
+                id,
+                expr: Expr::Dual(clauses),
+            })),
+            None => Ok(None),
+        },
         Listed::Two => match counted_clauses(alloc, fields)? {
             Some(clauses) => Ok(Some(Line::Expr {
                 id,

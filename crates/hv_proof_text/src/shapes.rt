@@ -62,6 +62,8 @@ pub(crate) enum Listed {
     Actions,
     /// Clauses of a Horn formula.
     Horn,
+    /// Clauses of a dual Horn formula.
+    Dual,
     /// Clauses of a 2CNF formula.
     Two,
     /// States.
@@ -79,6 +81,7 @@ pub(crate) fn listed_by(letter: Letter, kind: Letter) -> Option<Listed>
         },
         Letter::E => match kind {
             Letter::H => Some(Listed::Horn),
+            Letter::D => Some(Listed::Dual),
             Letter::T => Some(Listed::Two),
             Letter::X => Some(Listed::States),
             _ => None,

@@ -112,6 +112,11 @@ fn push_expr(text: &mut Text, expr: &Expr) -> Result<(), AllocError>
             push_number(text, clauses.len() as u64)?;
             push_clauses(text, clauses)
         }
+        Expr::Dual(clauses) => {
+            push_field(text, b"d")?;
+            push_number(text, clauses.len() as u64)?;
+            push_clauses(text, clauses)
+        }
         Expr::Two(clauses) => {
             push_field(text, b"t")?;
             push_number(text, clauses.len() as u64)?;

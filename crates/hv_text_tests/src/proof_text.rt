@@ -12,7 +12,7 @@ use std::alloc::{AllocError, Global};
 use std::test::Fail;
 
 /// A line of each form, and one of each word.
-static LINES: [&str; 46] = [
+static LINES: [&str; 48] = [
     "a 0 a",
     "a 1 b 0",
     "a 1 b 3 0 7 999999999",
@@ -22,6 +22,8 @@ static LINES: [&str; 46] = [
     "e 2 c g",
     "e 3 h 0",
     "e 3 h 3 0 -1 0 5 -999999999 5 0",
+    "e 4 d 0",
+    "e 4 d 2 1 2 -3 3 0 0",
     "e 4 t 1 -3 2 0",
     "e 5 x 0",
     "e 5 x 3 ; 0 999999999 ; ;",
@@ -62,7 +64,7 @@ static LINES: [&str; 46] = [
 ];
 
 /// What is no line: one byte, number or field more, less or other.
-static NO_LINES: [&str; 51] = [
+static NO_LINES: [&str; 53] = [
     " ",
     "a",
     "a 0",
@@ -101,6 +103,8 @@ static NO_LINES: [&str; 51] = [
     "e 0 i 1",
     "e 0 i 1 2 3",
     "e 0 d 1",
+    "e 0 d 1 -3",
+    "e 0 d 2 -3 0",
     "k 0 s 1 2",
     "k 0 s 1 2 b5",
     "k 0 s 1 2 b1 3",
@@ -221,6 +225,32 @@ fn is_seventh_read(alloc: Global) -> bool {
 #[test]
 fn numbers_atoms_from_one(rt: HostRuntime) {
     assert!(rt; is_seventh_read(rt.alloc()));
+}
+
+/// Whether what was read is line 7, and has a dual Horn formula of these clauses.
+fn is_dual(read: &Result<Option<Line>, LineError>) -> bool {
+    match read {
+        Ok(
+            Some(
+                Line::Expr {
+                    id,
+                    expr: Expr::Dual(clauses),
+                },
+            ),
+        ) => *id == 7 && has_clauses(clauses),
+        _ => false,
+    }
+}
+
+/// Whether a text of such a line is read so.
+fn is_dual_read(alloc: Global) -> bool {
+    let read = read_line(alloc, b"e 7 d 2 -3 1 0 0");
+    is_dual(&read)
+}
+
+#[test]
+fn reads_dual_horn_formulas_as_such(rt: HostRuntime) {
+    assert!(rt; is_dual_read(rt.alloc()));
 }
 
 /// Puts all actions last.

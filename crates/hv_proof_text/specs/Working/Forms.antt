@@ -38,6 +38,10 @@ ExprForm L.H tokens expr =
     (clauses : List (List Literal)) × (items : List Token)
     × (tokens ≡ number (length clauses) ∷ items) × AreClauseTokens clauses items
     × (expr ≡ E.Horn clauses)
+ExprForm L.D tokens expr =
+    (clauses : List (List Literal)) × (items : List Token)
+    × (tokens ≡ number (length clauses) ∷ items) × AreClauseTokens clauses items
+    × (expr ≡ E.Dual clauses)
 ExprForm L.T tokens expr =
     (clauses : List (List Literal)) × (items : List Token)
     × (tokens ≡ number (length clauses) ∷ items) × AreClauseTokens clauses items

@@ -9,6 +9,7 @@ use Rattle.hv_proof_text.specs.declared.token.Letter.TheVariants as L
 abbrev pub listed_by : Letter → Letter → Option Listed
 listed_by L.A L.B = Some D.Actions
 listed_by L.E L.H = Some D.Horn
+listed_by L.E L.D = Some D.Dual
 listed_by L.E L.T = Some D.Two
 listed_by L.E L.X = Some D.States
 listed_by _ _ = None
@@ -17,11 +18,13 @@ listed_by _ _ = None
 abbrev pub listed_letter : Listed → Letter
 listed_letter D.Actions = L.A
 listed_letter D.Horn = L.E
+listed_letter D.Dual = L.E
 listed_letter D.Two = L.E
 listed_letter D.States = L.E
 
 abbrev pub listed_kind : Listed → Letter
 listed_kind D.Actions = L.B
 listed_kind D.Horn = L.H
+listed_kind D.Dual = L.D
 listed_kind D.Two = L.T
 listed_kind D.States = L.X

@@ -87,6 +87,7 @@ state_tokens state = map number state ++ T.End ∷ []
 abbrev pub expr_tokens : Expr → List Token
 expr_tokens (E.Constant constant) = letter L.C ∷ letter (constant_letter constant) ∷ []
 expr_tokens (E.Horn clauses) = letter L.H ∷ number (length clauses) ∷ flat_map clause_tokens clauses
+expr_tokens (E.Dual clauses) = letter L.D ∷ number (length clauses) ∷ flat_map clause_tokens clauses
 expr_tokens (E.Two clauses) = letter L.T ∷ number (length clauses) ∷ flat_map clause_tokens clauses
 expr_tokens (E.States states) = letter L.X ∷ number (length states) ∷ flat_map state_tokens states
 expr_tokens (E.Node node) = letter L.B ∷ number node ∷ []
