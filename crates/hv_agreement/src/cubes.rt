@@ -7,11 +7,11 @@ ghost use Rattle.hv_sets.specs.Cubes.{SpeakBelow};
 ghost use Rattle.hv_sets.specs.Walks.{StepSpeaksBelow};
 
 use crate::three::{
-    bit_if, explicit_of, formula_of, has_bit, is_found, is_horn_code, is_two_code, state_from,
-    states_denied, states_of_clauses, states_of_list, task_of,
+    bit_if, explicit_of, formula_of, has_bit, is_dual_code, is_found, is_horn_code, is_two_code,
+    state_from, states_denied, states_of_clauses, states_of_list, task_of,
 };
 use hv_clauses::{ClauseKind, Formula};
-use hv_horn::HornKind;
+use hv_horn::{DualHornKind, HornKind};
 use hv_sets::{Covering, Cube, Cursor, Inside, Literal, Outside, Scratch, StateSet, Step};
 use hv_task::Task;
 use hv_twocnf::TwoKind;
@@ -455,6 +455,15 @@ fn horn_code_is_right(alloc: Global, code: u32) -> Result<bool, Fail> {
     Ok(alone & beside)
 }
 
+fn dual_code_is_right(alloc: Global, code: u32) -> Result<bool, Fail> {
+    if !is_dual_code(code) {
+        return Ok(true);
+    }
+    let alone = clauses_are_right::<DualHornKind>(alloc, &[code])?;
+    let beside = clauses_are_right::<DualHornKind>(alloc, &[code, 18, 3])?;
+    Ok(alone & beside)
+}
+
 fn two_code_is_right(alloc: Global, code: u32) -> Result<bool, Fail> {
     if !is_two_code(code) {
         return Ok(true);
@@ -469,6 +478,16 @@ fn cubes_of_horn_formulas_are_answered_as_all_states_say(rt: HostRuntime) -> Res
     assert!(rt; clauses_are_right::<HornKind>(rt.alloc(), &[])?);
     for code in 0..128 {
         assert!(rt; horn_code_is_right(rt.alloc(), code)?, "at {code}");
+    }
+    Ok(())
+}
+
+#[test]
+fn cubes_of_dual_horn_formulas_are_answered_as_all_states_say(rt: HostRuntime) -> Result<(), Fail> {
+    assert!(rt; clauses_are_right::<DualHornKind>(rt.alloc(), &[])?);
+    assert!(rt; clauses_are_right::<DualHornKind>(rt.alloc(), &[21, 9, 36, 18])?);
+    for code in 0..128 {
+        assert!(rt; dual_code_is_right(rt.alloc(), code)?, "at {code}");
     }
     Ok(())
 }

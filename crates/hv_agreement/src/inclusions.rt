@@ -5,12 +5,12 @@ ghost use Rattle.hv_task.specs.Strips.{atoms};
 
 use crate::queries::{BUDGETS, Budget, budget_at};
 use crate::three::{
-    ALL, explicit_of, fits, formula_of, is_horn_code, is_two_code, states_of_clauses,
+    ALL, explicit_of, fits, formula_of, is_dual_code, is_horn_code, is_two_code, states_of_clauses,
     states_of_list, task_of,
 };
 use hv_clauses::{ClauseKind, Formula};
 use hv_explicit::Explicit;
-use hv_horn::HornKind;
+use hv_horn::{DualHornKind, HornKind};
 use hv_mixed::{apart, together, within, within_states};
 use hv_paths::{InsideAsked, InsideWalked, OutsideAsked, OutsideWalked};
 use hv_sets::Scratch;
@@ -231,19 +231,19 @@ fn formulas_are_right<L: ClauseKind, R: ClauseKind>(
     both_are_right(alloc, first, second, left, right, &mut scratch)
 }
 
-// The same where the second is a set of these clauses of two literals.
-fn two_are_right(
+// The same where the second is a set of these clauses of its kind.
+fn second_is_right<L: ClauseKind, R: ClauseKind>(
     alloc: Global,
     task: &Task,
-    first: &Formula<HornKind>,
+    first: &Formula<L>,
     left: Side,
-    two: &[u32],
-) -> Result<bool, Fail>
+    clauses: &[u32],
+) -> Result<bool, R::Fault>
     requires task { atoms task.now ≡ 3 }
     requires first { first.now.atoms ≡ 3 }
 {
-    let second = formula_of::<TwoKind>(alloc, task, two)?;
-    Ok(formulas_are_right(alloc, first, &second, left, side_of_clauses(two))?)
+    let second = formula_of::<R>(alloc, task, clauses)?;
+    Ok(formulas_are_right(alloc, first, &second, left, side_of_clauses(clauses))?)
 }
 
 // A set of Horn clauses and one of clauses of two literals.
@@ -251,12 +251,41 @@ fn sets_are_right(alloc: Global, task: &Task, horn: &[u32], two: &[u32]) -> Resu
     requires { atoms task.now ≡ 3 }
 {
     let first = formula_of::<HornKind>(alloc, task, horn)?;
-    two_are_right(alloc, task, &first, side_of_clauses(horn), two)
+    let left = side_of_clauses(horn);
+    let right = second_is_right::<HornKind, TwoKind>(alloc, task, &first, left, two)?;
+    Ok(right)
 }
 
 fn clauses_are_right(alloc: Global, horn: &[u32], two: &[u32]) -> Result<bool, Fail> {
     let task = task_of(alloc, 0)?;
     sets_are_right(alloc, &task, horn, two)
+}
+
+// A set of dual Horn clauses, and one of Horn clauses and one of clauses of two literals.
+fn dual_sets_are_right(
+    alloc: Global,
+    task: &Task,
+    dual: &[u32],
+    horn: &[u32],
+    two: &[u32],
+) -> Result<bool, Fail>
+    requires { atoms task.now ≡ 3 }
+{
+    let first = formula_of::<DualHornKind>(alloc, task, dual)?;
+    let left = side_of_clauses(dual);
+    let one = second_is_right::<DualHornKind, HornKind>(alloc, task, &first, left, horn)?;
+    let other = second_is_right::<DualHornKind, TwoKind>(alloc, task, &first, left, two)?;
+    Ok(one & other)
+}
+
+fn dual_clauses_are_right(
+    alloc: Global,
+    dual: &[u32],
+    horn: &[u32],
+    two: &[u32],
+) -> Result<bool, Fail> {
+    let task = task_of(alloc, 0)?;
+    dual_sets_are_right(alloc, &task, dual, horn, two)
 }
 
 // A set of listed states on the left, and one of clauses of any kind.
@@ -328,13 +357,39 @@ fn row_is_right(alloc: Global, horn: u32) -> Result<bool, Fail> {
     Ok(right)
 }
 
+// The same of the dual Horn clause of the one code, and of the Horn clause and the clause of two
+// literals of the other; where its clause isn't of a kind, an own one of that kind stands for it.
+fn dual_codes_are_right(alloc: Global, dual: u32, other: u32) -> Result<bool, Fail> {
+    if !is_dual_code(dual) {
+        return Ok(true);
+    }
+    let horn = if is_horn_code(other) { other } else { 42 };
+    let two = if is_two_code(other) { other } else { 5 };
+    let alone = dual_clauses_are_right(alloc, &[dual], &[horn], &[two])?;
+    let beside = dual_clauses_are_right(alloc, &[dual, 3, 21], &[horn, 42], &[5, 24, two])?;
+    let turned = dual_clauses_are_right(alloc, &[21, dual | 128], &[horn | 128, 3], &[133, two])?;
+    let full = [165, dual, 22, 149, 25];
+    let full = dual_clauses_are_right(alloc, &full, &[154, horn, 41, 38], &[two | 128, 133])?;
+    Ok(alone & beside & turned & full)
+}
+
+// Whether the dual Horn clause of this code and each clause of the other kinds are.
+fn dual_row_is_right(alloc: Global, dual: u32) -> Result<bool, Fail> {
+    let mut right = true;
+    for other in 0..64 {
+        right &= dual_codes_are_right(alloc, dual, other)?;
+    }
+    Ok(right)
+}
+
 fn empty_is_right(alloc: Global, task: &Task, listing: &Explicit, left: Side) -> Result<bool, Fail>
     requires task { atoms task.now ≡ 3 }
     requires listing { listing.now.atoms ≡ 3 }
 {
     let horn = formula_is_right::<HornKind>(alloc, task, listing, left, &[])?;
+    let dual = formula_is_right::<DualHornKind>(alloc, task, listing, left, &[])?;
     let two = formula_is_right::<TwoKind>(alloc, task, listing, left, &[])?;
-    Ok(horn & two)
+    Ok(horn & dual & two)
 }
 
 fn code_is_right(
@@ -347,16 +402,36 @@ fn code_is_right(
     requires task { atoms task.now ≡ 3 }
     requires listing { listing.now.atoms ≡ 3 }
 {
-    if !is_horn_code(code) | !is_two_code(code) {
-        return Ok(true);
+    let mut right = true;
+    if is_horn_code(code) {
+        right &= formula_is_right::<HornKind>(alloc, task, listing, left, &[3, code])?;
+        right &= formula_is_right::<HornKind>(alloc, task, listing, left, &[170, code | 128])?;
     }
-    let horn = formula_is_right::<HornKind>(alloc, task, listing, left, &[3, code])?;
-    let two = formula_is_right::<TwoKind>(alloc, task, listing, left, &[code, 3])?;
-    let turned = formula_is_right::<HornKind>(alloc, task, listing, left, &[170, code | 128])?;
-    Ok(horn & two & turned)
+    if is_two_code(code) {
+        right &= formula_is_right::<TwoKind>(alloc, task, listing, left, &[code, 3])?;
+    }
+    Ok(right)
 }
 
-// Whether a set of listed states and a set of each clause of both kinds are.
+fn dual_code_is_right(
+    alloc: Global,
+    task: &Task,
+    listing: &Explicit,
+    left: Side,
+    code: u32,
+) -> Result<bool, Fail>
+    requires task { atoms task.now ≡ 3 }
+    requires listing { listing.now.atoms ≡ 3 }
+{
+    if !is_dual_code(code) {
+        return Ok(true);
+    }
+    let dual = formula_is_right::<DualHornKind>(alloc, task, listing, left, &[3, code])?;
+    let turned = formula_is_right::<DualHornKind>(alloc, task, listing, left, &[149, code | 128])?;
+    Ok(dual & turned)
+}
+
+// Whether a set of listed states and a set of each clause of each kind are.
 fn listing_is_right(
     alloc: Global,
     task: &Task,
@@ -369,6 +444,7 @@ fn listing_is_right(
     let mut right = empty_is_right(alloc, task, listing, left)?;
     for code in 0..64 {
         right &= code_is_right(alloc, task, listing, left, code)?;
+        right &= dual_code_is_right(alloc, task, listing, left, code)?;
     }
     Ok(right)
 }
@@ -393,6 +469,17 @@ fn clauses_of_two_kinds_include_each_other_as_all_states_say(rt: HostRuntime) ->
     assert!(rt; clauses_are_right(rt.alloc(), &[], &[])?);
     for horn in 0..64 {
         assert!(rt; row_is_right(rt.alloc(), horn)?, "at {horn}");
+    }
+    Ok(())
+}
+
+#[test]
+fn dual_horn_clauses_and_others_include_each_other_as_all_states_say(
+    rt: HostRuntime,
+) -> Result<(), Fail> {
+    assert!(rt; dual_clauses_are_right(rt.alloc(), &[], &[], &[])?);
+    for dual in 0..64 {
+        assert!(rt; dual_row_is_right(rt.alloc(), dual)?, "at {dual}");
     }
     Ok(())
 }

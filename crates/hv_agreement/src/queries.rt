@@ -14,13 +14,13 @@ ghost use Rattle.hv_agreement.specs.declared.queries.Measure.TheVariants as M;
 
 use crate::operands::{one_operand, operand, two_operands};
 use crate::three::{
-    ALL, GOAL_STATES, START_STATES, explicit_of, fits, formula_of, holding, is_horn_code,
-    is_two_code, leading_to, states_of_clauses, states_of_list, task_of,
+    ALL, GOAL_STATES, START_STATES, explicit_of, fits, formula_of, holding, is_dual_code,
+    is_horn_code, is_two_code, leading_to, states_of_clauses, states_of_list, task_of,
 };
 use crate::tuples::live_tuples;
 use hv_clauses::{ClauseKind, Formulas};
 use hv_explicit::Explicits;
-use hv_horn::HornKind;
+use hv_horn::{DualHornKind, HornKind};
 use hv_sets::{Family, Finding, Operands, Query, Scratch, Which};
 use hv_task::Task;
 use hv_twocnf::TwoKind;
@@ -859,6 +859,20 @@ fn horn_code_is_right(alloc: Global, code: u32) -> Result<bool, Fail> {
     Ok(right)
 }
 
+// The same of dual Horn clauses: implications, and two atoms of which one holds.
+fn beside_dual(code: u32) -> u32 {
+    [0, 3, 18, 24, 17, 20][code as usize % 6]
+}
+
+fn dual_code_is_right(alloc: Global, code: u32) -> Result<bool, Fail> {
+    if !is_dual_code(code) {
+        return Ok(true);
+    }
+    let sets = [code, beside_dual(code)];
+    let right = clauses_are_right::<DualHornKind>(alloc, code / 64, &sets, &sets[1..])?;
+    Ok(right)
+}
+
 fn two_code_is_right(alloc: Global, code: u32) -> Result<bool, Fail> {
     if !is_two_code(code) {
         return Ok(true);
@@ -873,6 +887,22 @@ fn horn_pair_is_right(alloc: Global, one: u32, other: u32) -> Result<bool, Fail>
         return Ok(true);
     }
     let right = pair_is_right::<HornKind>(alloc, &[one, other], &[other])?;
+    Ok(right)
+}
+
+fn dual_pair_is_right(alloc: Global, one: u32, other: u32) -> Result<bool, Fail> {
+    if !is_dual_code(one) | !is_dual_code(other) {
+        return Ok(true);
+    }
+    let right = pair_is_right::<DualHornKind>(alloc, &[one, other], &[other])?;
+    Ok(right)
+}
+
+fn dual_pairs_are_right(alloc: Global, one: u32) -> Result<bool, Fail> {
+    let mut right = true;
+    for other in 0..64 {
+        right &= dual_pair_is_right(alloc, one, other)?;
+    }
     Ok(right)
 }
 
@@ -898,6 +928,23 @@ fn horn_formulas_answer_as_all_states_say(rt: HostRuntime) -> Result<(), Fail> {
 fn all_pairs_of_horn_clauses_answer_as_all_states_say(rt: HostRuntime) -> Result<(), Fail> {
     for one in 0..64 {
         assert!(rt; horn_pairs_are_right(rt.alloc(), one)?, "at {one}");
+    }
+    Ok(())
+}
+
+#[test]
+fn dual_horn_formulas_answer_as_all_states_say(rt: HostRuntime) -> Result<(), Fail> {
+    for code in 0..128 {
+        assert!(rt; dual_code_is_right(rt.alloc(), code)?, "at {code}");
+    }
+    assert!(rt; clauses_are_right::<DualHornKind>(rt.alloc(), 1, &[24, 6, 20], &[])?);
+    Ok(())
+}
+
+#[test]
+fn all_pairs_of_dual_horn_clauses_answer_as_all_states_say(rt: HostRuntime) -> Result<(), Fail> {
+    for one in 0..64 {
+        assert!(rt; dual_pairs_are_right(rt.alloc(), one)?, "at {one}");
     }
     Ok(())
 }

@@ -12,7 +12,7 @@ ghost use Rattle.hv_clauses.specs.Store.{AreOver, formula_at};
 
 use crate::operands::one_operand;
 use hv_clauses::{ClauseKind, Formula, Formulas};
-use hv_horn::{Horn, HornFault, HornKind};
+use hv_horn::{DualHorn, DualHornFault, DualHornKind, Horn, HornFault, HornKind};
 use hv_sets::{Clause, Clauses, Family, Finding, Literal, Query, Scratch, Which};
 use hv_task::{Name, State, Task};
 use hv_twocnf::{TwoCnf, TwoCnfFault, TwoKind};
@@ -122,9 +122,32 @@ fn denials_are_listed(alloc: Global) -> Result<bool, HornFault> {
     Ok(denies_all(&set))
 }
 
+const DUAL_ROWS: [&[u32]; 5] = [&[0, 2, 3], &[1, 1], &[], &[0, 1, 4], &[2, 5, 0]];
+
+// The same for clauses of several positive literals.
+const DENIED_OF_DUAL: [&[usize]; 4] = [&[1, 3], &[0], &[4], &[]];
+
+fn dual_denies(set: &DualHorn, atom: u32, wanted: &[usize]) -> bool {
+    set.occurrences(atom) == wanted
+}
+
+fn dual_denies_all(set: &DualHorn) -> bool {
+    let mut right = true;
+    for atom in 0..4 {
+        right &= dual_denies(set, atom, DENIED_OF_DUAL[atom as usize]);
+    }
+    right
+}
+
+fn denials_of_dual_are_listed(alloc: Global) -> Result<bool, DualHornFault> {
+    let set = set_of::<DualHornKind>(alloc, &DUAL_ROWS)?;
+    Ok(dual_denies_all(&set))
+}
+
 #[test]
 fn the_clauses_that_deny_an_atom_are_listed(rt: HostRuntime) -> Result<(), Fail> {
     assert!(rt; denials_are_listed(rt.alloc())?);
+    assert!(rt; denials_of_dual_are_listed(rt.alloc())?);
     Ok(())
 }
 
@@ -422,6 +445,7 @@ fn is_answered<K: ClauseKind>(alloc: Global, missing: u32) -> Result<bool, K::Fa
 fn chains_of_atoms_are_followed(rt: HostRuntime) -> Result<(), Fail> {
     for missing in [ATOMS, 63] {
         assert!(rt; is_answered::<HornKind>(rt.alloc(), missing)?);
+        assert!(rt; is_answered::<DualHornKind>(rt.alloc(), missing)?);
         assert!(rt; is_answered::<TwoKind>(rt.alloc(), missing)?);
     }
     Ok(())

@@ -371,6 +371,11 @@ pub(crate) fn is_horn_code(clause: u32) -> bool {
     (clause & 21).count_ones() <= 1
 }
 
+// Whether a clause has negative literals of one atom at most.
+pub(crate) fn is_dual_code(clause: u32) -> bool {
+    (clause & 42).count_ones() <= 1
+}
+
 // Whether a clause has at most two different literals.
 pub(crate) fn is_two_code(clause: u32) -> bool {
     (clause & 63).count_ones() <= 2

@@ -10,9 +10,11 @@ use Rattle.hv_lines.specs.Literals.{IsLiteral}
 use Rattle.hv_lines.specs.Shapes.{IsLiteralOf}
 use Rattle.hv_lines.specs.declared.line.Line.{Line}
 use Rattle.hv_lines.proofs.Shaped.{literal_from, literal_once}
-use Rattle.hv_basic.specs.Working.Gathered.{AreGathered, IsGiven, IsThe, sign_on}
+use Rattle.hv_basic.specs.Working.Gathered.{AreGathered, AreOthers, IsGiven, IsThe, sign_on}
 use Rattle.hv_basic.specs.declared.literals.Asking.{Asking}
 use Rattle.hv_basic.specs.declared.literals.Literal.{Literal}
+use Rattle.hv_basic.specs.declared.literals.Others.{Others}
+use Rattle.hv_basic.specs.declared.literals.Others.TheVariants as O
 
 -- one more of a list
 pub take_more : {X : Type 0} (xs : List X) (i : ℕ) (d : X) → i < length xs
@@ -125,3 +127,94 @@ pub gathered_whole : (lines : List Line) (leaves : List ℕ) (i : ℕ) → lengt
     → AreGathered lines leaves on_left after old new
 gathered_whole lines leaves i size on_left after old new is =
     subst (λ ls. AreGathered lines ls on_left after old new) (take_all i leaves size) is
+
+-- the leaves that are no literals
+
+-- a literal is none of them
+pub others_same : (lines : List Line) (before : List ℕ) (leaf : ℕ) (others : Others)
+    → IsLiteral lines leaf → AreOthers lines before others
+    → AreOthers lines (before ++ leaf ∷ []) others
+others_same lines before leaf O.None is all = λ l c.
+    elim (Contains-push_cases before leaf l c) [
+      | inl was ↦ all l was
+      | inr same ↦ subst (IsLiteral lines) same is
+    ]
+others_same lines before leaf (O.One other) is (has, out, rest) = (
+  Contains-append_left before (leaf ∷ []) other has,
+  out,
+  λ l c. elim (Contains-push_cases before leaf l c) [
+    | inl was ↦ rest l was
+    | inr same ↦ inl (subst (IsLiteral lines) same is)
+  ],
+)
+others_same lines before leaf O.More is (first, second, has, also, out, also_out, apart) = (
+  first,
+  second,
+  Contains-append_left before (leaf ∷ []) first has,
+  Contains-append_left before (leaf ∷ []) second also,
+  out,
+  also_out,
+  apart,
+)
+
+-- one more
+pub others_one : (lines : List Line) (before : List ℕ) (leaf : ℕ) → AreOthers lines before O.None
+    → (IsLiteral lines leaf → ⊥) → AreOthers lines (before ++ leaf ∷ []) (O.One leaf)
+others_one lines before leaf all out = (
+  Contains-push before leaf,
+  out,
+  λ l c. elim (Contains-push_cases before leaf l c) [
+    | inl was ↦ inl (all l was)
+    | inr same ↦ inr (sym same)
+  ],
+)
+
+pub others_again : (lines : List Line) (before : List ℕ) (leaf other : ℕ) → other ≡ leaf
+    → AreOthers lines before (O.One other) → AreOthers lines (before ++ leaf ∷ []) (O.One other)
+others_again lines before leaf other same (has, out, rest) = (
+  Contains-append_left before (leaf ∷ []) other has,
+  out,
+  λ l c. elim (Contains-push_cases before leaf l c) [
+    | inl was ↦ rest l was
+    | inr here ↦ inr (sym here ∙ sym same)
+  ],
+)
+
+pub others_two : (lines : List Line) (before : List ℕ) (leaf other : ℕ) → (other ≡ leaf → ⊥)
+    → AreOthers lines before (O.One other) → (IsLiteral lines leaf → ⊥)
+    → AreOthers lines (before ++ leaf ∷ []) O.More
+others_two lines before leaf other apart (has, out, rest) also_out = (
+  other,
+  leaf,
+  Contains-append_left before (leaf ∷ []) other has,
+  Contains-push before leaf,
+  out,
+  also_out,
+  apart,
+)
+
+pub others_more : (lines : List Line) (before : List ℕ) (leaf : ℕ) → AreOthers lines before O.More
+    → AreOthers lines (before ++ leaf ∷ []) O.More
+others_more lines before leaf (first, second, has, also, out, also_out, apart) = (
+  first,
+  second,
+  Contains-append_left before (leaf ∷ []) first has,
+  Contains-append_left before (leaf ∷ []) second also,
+  out,
+  also_out,
+  apart,
+)
+
+-- at a place of a list
+pub others_at : (lines : List Line) (leaves : List ℕ) (i : ℕ) (others : Others) → i < length leaves
+    → AreOthers lines (take i leaves ++ get_or leaves i 0 ∷ []) others
+    → AreOthers lines (take (i + 1) leaves) others
+others_at lines leaves i others within are =
+    let next : i + 1 ≡ suc i = omega arith in
+    subst (λ ls. AreOthers lines ls others)
+    (sym (ap (λ n. take n leaves) next ∙ take_more leaves i 0 within)) are
+
+pub others_whole : (lines : List Line) (leaves : List ℕ) (i : ℕ) (others : Others)
+    → length leaves ≤ i → AreOthers lines (take i leaves) others → AreOthers lines leaves others
+others_whole lines leaves i others size are =
+    subst (λ ls. AreOthers lines ls others) (take_all i leaves size) are

@@ -1,5 +1,6 @@
 -- A line more, and the stores stand for the lines again.
-use Rattle.std.proofs.Common.{◌≡◌, ℕ, ◌<◌, ◌∙◌, ◌++◌, List, [], ◌∷◌, Some, eqb, length, map, sym}
+use Rattle.std.proofs.Common.{◌≡◌, ℕ, ◌<◌, ◌∙◌, ◌++◌, List, [], ◌∷◌, Some, eqb, length, map, refl}
+use Rattle.std.proofs.Common.{sym}
 use Rattle.std.proofs.Common.{ap, subst, inl, inr, arith}
 use Rattle.std.proofs.lemmas.Bool.{cases_lt, cond-true, cond-false, eq-eqb, ne_eqb}
 use Rattle.std.proofs.lemmas.List.{get_or_append_left, get_or_push, length-append, length-map}
@@ -8,12 +9,16 @@ use Rattle.std.proofs.lemmas.Option.{slice_get-get_or}
 use Rattle.std.specs.List.{slice_get}
 use Rattle.hv_task.specs.Strips.{Strips, atoms}
 use Rattle.hv_lines.specs.Numbering.{IsNumbered, expr_count}
-use Rattle.hv_lines.specs.Queries.{horn_in, two_in, listed_in, horns_of, twos_of, listed_of}
-use Rattle.hv_lines.specs.Queries.{named_by, which_at}
+use Rattle.hv_lines.specs.Queries.{dual_in, horn_in, two_in, listed_in, duals_of, horns_of}
+use Rattle.hv_lines.specs.Queries.{twos_of, listed_of}
+use Rattle.hv_lines.specs.Queries.{count_of, named_by, which_at}
+use Rattle.hv_lines.specs.declared.family.FormulaFamily.{FormulaFamily}
+use Rattle.hv_lines.specs.declared.family.FormulaFamily.TheVariants as F
 use Rattle.hv_lines.specs.declared.line.Expr.{Expr}
 use Rattle.hv_lines.specs.declared.line.Line.{Line}
 use Rattle.hv_lines.specs.declared.line.Line.TheVariants as L
-use Rattle.hv_basic.specs.Stores.{IsStoreOf, StoreState, formula, listing, with_expr, with_line}
+use Rattle.hv_basic.specs.Stores.{IsStoreOf, StoreState, formula, listing, stored_counts}
+use Rattle.hv_basic.specs.Stores.{with_expr, with_line}
 
 -- of a list with one more item, the items before it and that item
 got_before : {X : Type 0} (xs : List X) (x : X) (i : ℕ) → i < length xs
@@ -42,14 +47,17 @@ how_many f store old is = ap length is ∙ length-map old f
 
 module _ (task : Strips) (older : List Line) (store : StoreState) (is : IsStoreOf task older store)
   where
-    named_alike : (expr : Expr) → named_by (length store.horns) (length store.twos)
-        (length store.listed) expr
-        ≡ named_by (length (horns_of older)) (length (twos_of older)) (length (listed_of older))
-        expr
-    named_alike expr = λ i.
-        named_by (how_many (formula (atoms task)) store.horns (horns_of older) is.horns i)
-        (how_many (formula (atoms task)) store.twos (twos_of older) is.twos i)
-        (how_many (listing (atoms task)) store.listed (listed_of older) is.listed i) expr
+    counts_alike : (family : FormulaFamily)
+        → stored_counts store family ≡ count_of older family 0
+    counts_alike F.Horn = how_many (formula (atoms task)) store.horns (horns_of older) is.horns
+    counts_alike F.Dual = how_many (formula (atoms task)) store.duals (duals_of older) is.duals
+    counts_alike F.Two = how_many (formula (atoms task)) store.twos (twos_of older) is.twos
+    counts_alike F.States = how_many (listing (atoms task)) store.listed (listed_of older) is.listed
+    counts_alike F.Node = refl
+
+    named_alike : (expr : Expr) → named_by (stored_counts store) expr
+        ≡ named_by (λ family. count_of older family 0) expr
+    named_alike expr = ap (λ counts. named_by counts expr) (λ i family. counts_alike family i)
 
     name_at : (own : ℕ) (expr : Expr) → own ≡ expr_count older → (id : ℕ)
         → id < expr_count (L.Expr own expr ∷ older)
@@ -59,22 +67,19 @@ module _ (task : Strips) (older : List Line) (store : StoreState) (is : IsStoreO
         elim (cases_lt id (expr_count older)) [
           | inl less ↦
               let within : id < length store.names = omega (arith, less, is.each) in
-              got_before store.names (named_by (length store.horns) (length store.twos)
-              (length store.listed) expr) id within
+              got_before store.names (named_by (stored_counts store) expr) id within
               ∙ (is.names id less
               ∙ ap Some (sym (cond-false (eqb id own)
-              (named_by (length (horns_of older)) (length (twos_of older))
-              (length (listed_of older)) expr) (which_at older id)
+              (named_by (λ family. count_of older family 0) expr) (which_at older id)
               (ne_eqb id own (λ same. let both : id ≡ expr_count older = same ∙ numbered in
               omega (arith, less, both))))))
           | inr upto ↦
               let here : id ≡ expr_count older = omega (arith, upto, below) in
               let last : id ≡ length store.names = here ∙ sym is.each in
-              got_last store.names (named_by (length store.horns) (length store.twos)
-              (length store.listed) expr) id last
+              got_last store.names (named_by (stored_counts store) expr) id last
               ∙ ap Some (named_alike expr
-              ∙ sym (cond-true (eqb id own) (named_by (length (horns_of older))
-              (length (twos_of older)) (length (listed_of older)) expr) (which_at older id)
+              ∙ sym (cond-true (eqb id own) (named_by (λ family. count_of older family 0) expr)
+              (which_at older id)
               (eq-eqb id own (here ∙ sym numbered))))
         ]
 
@@ -82,12 +87,13 @@ module _ (task : Strips) (older : List Line) (store : StoreState) (is : IsStoreO
         → IsStoreOf task (L.Expr own expr ∷ older) (with_expr (atoms task) store expr)
     expr_more own expr numbered = record {
       horns = more_of (formula (atoms task)) store.horns (horns_of older) (horn_in expr) is.horns;
+      duals = more_of (formula (atoms task)) store.duals (duals_of older) (dual_in expr) is.duals;
       twos = more_of (formula (atoms task)) store.twos (twos_of older) (two_in expr) is.twos;
       listed = more_of (listing (atoms task)) store.listed (listed_of older) (listed_in expr)
           is.listed;
       each =
           let longer = length-append store.names
-          (named_by (length store.horns) (length store.twos) (length store.listed) expr ∷ []) in
+          (named_by (stored_counts store) expr ∷ []) in
           omega (arith, longer, is.each);
       names = name_at own expr numbered;
     }
@@ -98,6 +104,7 @@ module _ (task : Strips) (older : List Line) (store : StoreState) (is : IsStoreO
     line_more (L.Acts id acts) numbered =
         record {
           horns = is.horns;
+          duals = is.duals;
           twos = is.twos;
           listed = is.listed;
           each = is.each;
@@ -108,6 +115,7 @@ module _ (task : Strips) (older : List Line) (store : StoreState) (is : IsStoreO
     line_more (L.Known id statement word premises) numbered =
         record {
           horns = is.horns;
+          duals = is.duals;
           twos = is.twos;
           listed = is.listed;
           each = is.each;
@@ -116,11 +124,12 @@ module _ (task : Strips) (older : List Line) (store : StoreState) (is : IsStoreO
         }
 
 -- stores without formulas stand for no lines
-pub none_yet : (task : Strips) (store : StoreState) → store.horns ≡ [] → store.twos ≡ []
-    → store.listed ≡ [] → store.names ≡ []
+pub none_yet : (task : Strips) (store : StoreState) → store.horns ≡ [] → store.duals ≡ []
+    → store.twos ≡ [] → store.listed ≡ [] → store.names ≡ []
     → IsStoreOf task [] store
-none_yet task store horns twos listed names = record {
+none_yet task store horns duals twos listed names = record {
   horns = horns;
+  duals = duals;
   twos = twos;
   listed = listed;
   each = ap length names;

@@ -1,61 +1,90 @@
 -- What a left side asks, and the question that it asks together with a right side that is kept.
 use Rattle.std.proofs.Common.{◌≡◌, ℕ, ◌<◌, ◌+◌, ◌≤◌, ◌∙◌, ◌↔◌, Bool, true, false, List, [], Option}
 use Rattle.std.proofs.Common.{Some, None, get_or, length, refl, sym, subst, inl, inr, arith}
-use Rattle.std.proofs.lemmas.List.Elements.{All-contains, Contains-get_or}
+use Rattle.std.proofs.lemmas.List.Elements.{Contains-get_or}
 use Rattle.std.specs.List.{All, Contains}
 use Rattle.hv_sets.specs.declared.operand.Operand.{Operand}
-use Rattle.hv_lines.specs.Literals.{IsLiteral, IsPlainSet}
+use Rattle.hv_lines.specs.Literals.{IsPlainSet}
 use Rattle.std.specs.Option.{IfSome}
 use Rattle.hv_lines.specs.Setting.{Setting}
 use Rattle.hv_lines.specs.Verdicts.{IsVerdict}
 use Rattle.hv_lines.specs.declared.line.Statement.{Statement}
 use Rattle.hv_lines.specs.declared.line.Statement.TheVariants as T
 use Rattle.hv_lines.specs.declared.verdict.Verdict.{Verdict}
-use Rattle.hv_lines.specs.Shapes.{OfSets, Askings, AskingsRise, HasSides, IsAndLeaf, IsAsked}
-use Rattle.hv_lines.specs.Shapes.{IsFamilyOf, IsLeftLeaf, IsLiteralOf, IsOfFamily, IsOrLeaf}
-use Rattle.hv_lines.specs.Shapes.{IsQuestion, IsStep, IsWithinFamily, asks_sides_after}
-use Rattle.hv_lines.specs.Shapes.{most_operands}
+use Rattle.hv_lines.specs.Shapes.{OfSets, Askings, AskingsRise, IsAndLeaf, IsAsked, IsFamilyOf}
+use Rattle.hv_lines.specs.Shapes.{IsLeftLeaf, IsLiteralOf, IsOfFamily, IsOrLeaf, IsQuestion, IsStep}
+use Rattle.hv_lines.specs.Shapes.{IsWithinFamily, asks_sides_after, most_operands}
 use Rattle.hv_lines.specs.declared.family.FormulaFamily.{FormulaFamily}
 use Rattle.hv_lines.specs.declared.line.Line.{Line}
 use Rattle.hv_lines.specs.declared.line.Word.{Word}
+use Rattle.hv_lines.specs.declared.line.Word.TheVariants as W
 use Rattle.hv_lines.specs.Numbering.{IsTable, expr_count}
-use Rattle.hv_lines.proofs.Laws.{expr_below}
 use Rattle.hv_lines.proofs.Questions.{alone_no_step}
 use Rattle.hv_lines.proofs.Shaped.{literal_once, step_no_literal, step_once}
 use Rattle.hv_basic.specs.Working.Asked.{AreChosen}
-use Rattle.hv_basic.specs.Working.Gathered.{AreGathered, IsGiven, IsStepAdded}
+use Rattle.hv_basic.specs.Working.Gathered.{AreGathered, AreLeftAskings, AreOthers, IsGiven}
+use Rattle.hv_basic.specs.Working.Gathered.{IsLeftSide, IsLiteralStep, IsStepAdded}
 use Rattle.hv_basic.specs.Sharing.{ArePlain, IsTheFamily}
-use Rattle.hv_basic.specs.Working.Sharing.{AreLeftAskings, IsFamilyBeside, IsLeftSide}
-use Rattle.hv_basic.specs.Working.Sharing.{IsVerdictOfSub}
+use Rattle.hv_basic.specs.Working.Sharing.{IsFamilyBeside, IsVerdictOfSub}
 use Rattle.hv_basic.specs.declared.literals.Asking.{Asking}
+use Rattle.hv_basic.specs.declared.literals.Others.TheVariants as O
+use Rattle.hv_basic.proofs.Siding.{both_sides, literal_below}
 
 module _ (lines : List Line) (word : Word) (left : ℕ) (lefts : List ℕ)
     (are_lefts : (leaf : ℕ) → Contains lefts leaf ↔ IsAndLeaf lines left leaf) where
-  -- the left side has the shape
-  pub left_side : (acts : Option ℕ) (old new : List Asking)
-      → IsStepAdded lines word lefts acts old new → IsLeftSide lines word left acts
-  left_side None old new added = (
-    added.0,
-    λ leaf of. All-contains (IsLiteral lines) lefts leaf
-        added.1 ((are_lefts leaf).1 of),
-  )
-  left_side (Some acts) old new added = (
-    added.2.step,
-    added.0,
-    (are_lefts added.2.step).0 added.2.among,
-    added.2.is,
-    λ leaf of. added.2.others leaf ((are_lefts leaf).1 of),
-    λ leaf of. All-contains (IsLiteral lines) added.1 leaf added.4 ((added.3 leaf).1 of),
-  )
+  -- where all leaves are literals
+  pub left_alone : AreOthers lines lefts O.None → word ≡ W.B1 → IsLeftSide lines word left None
+  left_alone all b1 = (b1, λ leaf of. all leaf ((are_lefts leaf).1 of))
+
+  pub alone_fails : AreOthers lines lefts O.None → (word ≡ W.B1 → ⊥) → (acts : Option ℕ)
+      → IsLeftSide lines word left acts → ⊥
+  alone_fails all other None side = other side.0
+  alone_fails all other (Some acts) side =
+      step_no_literal lines word side.0 side.1 acts side.3
+      (all side.0 ((are_lefts side.0).1 side.2))
+
+  -- where two leaves are no literals
+  pub more_fails : AreOthers lines lefts O.More → (acts : Option ℕ)
+      → IsLeftSide lines word left acts → ⊥
+  more_fails (first, second, has, also, out, also_out, apart) None side =
+      out (side.1 first ((are_lefts first).0 has))
+  more_fails (first, second, has, also, out, also_out, apart) (Some acts) side =
+      elim (side.4 first ((are_lefts first).0 has)) [
+        | inl literal ↦ out literal
+        | inr same ↦ elim (side.4 second ((are_lefts second).0 also)) [
+          | inl literal ↦ also_out literal
+          | inr too ↦ apart (same ∙ sym too)
+        ]
+      ]
+
+  -- where one leaf alone is no literal
+  module _ (other : ℕ) (found : AreOthers lines lefts (O.One other)) where
+    pub left_step : (acts : ℕ) (old new : List Asking)
+        → IsStepAdded lines word other acts old new → IsLeftSide lines word left (Some acts)
+    left_step acts old new added = (
+      other,
+      added.set,
+      (are_lefts other).0 found.0,
+      added.is.0,
+      λ leaf of. found.2 leaf ((are_lefts leaf).1 of),
+      added.is.1,
+    )
+
+    pub step_fails : ((set acts : ℕ) → IsLiteralStep lines word other set acts → ⊥)
+        → (acts : Option ℕ) → IsLeftSide lines word left acts → ⊥
+    step_fails out None side = found.1 (side.1 other ((are_lefts other).0 found.0))
+    step_fails out (Some acts) side =
+        elim (side.4 other ((are_lefts other).0 found.0)) [
+          | inl literal ↦ found.1 literal
+          | inr same ↦ out side.1 acts
+              (subst (λ s. IsStep lines word s side.1 acts) (sym same) side.3, side.5)
+        ]
 
   module _ (first : List Asking) (gathered : AreGathered lines lefts true (asks_sides_after word) []
       first) where
-    AsksLeft : Asking → Type 0
-    AsksLeft a = (leaf : ℕ) × IsLeftLeaf lines word left leaf a.after
+    from_first : (a : Asking) → Contains first a
+        → (leaf : ℕ) × IsLeftLeaf lines word left leaf a.after
         × IsLiteralOf lines leaf a.set a.positive
-
-    from_first : (a : Asking) → Contains first a → AsksLeft a
-    unfolding AsksLeft
     from_first a c =
         elim ((gathered a).0 c) [
           | inl none ↦ absurd (omega (arith, none.1))
@@ -66,33 +95,31 @@ module _ (lines : List Line) (word : Word) (left : ℕ) (lefts : List ℕ)
     to_first a given = (gathered a).1 (inr given)
 
     -- what was gathered is all that the left side asks
-    pub left_askings : (acts : Option ℕ) (third : List Asking)
-        → IsStepAdded lines word lefts acts first third
-        → AreLeftAskings lines word left third
-    unfolding AsksLeft
-    left_askings None third added a = (
-      λ c. from_first a (subst (λ xs. Contains xs a) added.2 c),
-      λ asks. subst (λ xs. Contains xs a) (sym added.2) (back asks),
-    )
+    pub askings_alone : word ≡ W.B1 → AreLeftAskings lines word left first
+    askings_alone b1 a = (from_first a, back)
       where
         back : (leaf : ℕ) × IsLeftLeaf lines word left leaf a.after
             × IsLiteralOf lines leaf a.set a.positive → Contains first a
         back (leaf, inl (of, after), literal) = to_first a
             (leaf, (are_lefts leaf).1 of, literal, after)
         back (leaf, inr (step, set, acts, of, is_step, leaf_of, after), literal) =
-            absurd (alone_no_step lines word left left step set acts added.0 is_step)
-    left_askings (Some by) third (set, inner, only, are_inner, all, added) a = (
-      λ c. elim ((added a).0 c) [
+            absurd (alone_no_step lines word left left step set acts b1 is_step)
+
+    pub askings_step : (other acts : ℕ) (third : List Asking)
+        → AreOthers lines lefts (O.One other) → IsStepAdded lines word other acts first third
+        → AreLeftAskings lines word left third
+    askings_step other acts third found added a = (
+      λ c. elim ((added.gathered a).0 c) [
         | inl was ↦ from_first a was
         | inr given ↦ (
           given.0,
           inr (
-            only.step,
-            set,
-            by,
-            (are_lefts only.step).0 only.among,
-            only.is,
-            (are_inner given.0).0 given.1,
+            other,
+            added.set,
+            acts,
+            (are_lefts other).0 found.0,
+            added.is.0,
+            (added.leaves given.0).0 given.1,
             given.3,
           ),
           given.2,
@@ -103,18 +130,17 @@ module _ (lines : List Line) (word : Word) (left : ℕ) (lefts : List ℕ)
       where
         back : (leaf : ℕ) × IsLeftLeaf lines word left leaf a.after
             × IsLiteralOf lines leaf a.set a.positive → Contains third a
-        back (leaf, inl (of, after), literal) = (added a).1
+        back (leaf, inl (of, after), literal) = (added.gathered a).1
             (inl (to_first a (leaf, (are_lefts leaf).1 of, literal, after)))
-        back (leaf, inr (step, other, acts, of, is_step, leaf_of, after), literal) =
-            elim (only.others step ((are_lefts step).1 of)) [
-              | inl plain ↦ absurd (step_no_literal lines word step other acts is_step plain)
+        back (leaf, inr (step, set, by, of, is_step, leaf_of, after), literal) =
+            elim (found.2 step ((are_lefts step).1 of)) [
+              | inl plain ↦ absurd (step_no_literal lines word step set by is_step plain)
               | inr same ↦
-                  let one : other ≡ set = (step_once lines word only.step other acts set by
-                  (subst (λ s. IsStep lines word s other acts) same is_step) only.is).0 in
-                  (added a).1 (inr (
+                  let one : set ≡ added.set = (step_once lines word other set by added.set acts
+                  (subst (λ s. IsStep lines word s set by) same is_step) added.is.0).0 in
+                  (added.gathered a).1 (inr (
                     leaf,
-                    (are_inner leaf).1
-                        (subst (λ s. IsAndLeaf lines s leaf) one leaf_of),
+                    (added.leaves leaf).1 (subst (λ s. IsAndLeaf lines s leaf) one leaf_of),
                     literal,
                     after,
                   ))
@@ -129,20 +155,6 @@ module _ (lines : List Line) (word : Word) (left right : ℕ) (askings : List As
     (plus : (a : Asking) → Contains askings a → a.positive ≡ true) where
   right_plain : (leaf : ℕ) → IsOrLeaf lines right leaf → IsPlainSet lines leaf
   right_plain leaf of = (are.plain (leaf, after) ((leaves leaf).1 of)).0
-
-  sides_with : (acts : Option ℕ) → IsLeftSide lines word left acts
-      → HasSides lines word left right acts
-  sides_with None side = (side.0, side.1, λ leaf of. inl (right_plain leaf of))
-  sides_with (Some acts) side = (
-    side.0,
-    side.1,
-    side.2,
-    side.3,
-    side.4,
-    side.5,
-    λ leaf of. inl
-        (right_plain leaf of),
-  )
 
   -- what is asked about with the sign of the left side's formulas
   plus_out : (a : ℕ × Bool) → Contains askings (record { set = a.0; after = a.1; positive = true })
@@ -235,7 +247,7 @@ module _ (lines : List Line) (word : Word) (left right : ℕ) (askings : List As
       → IsQuestion lines word left right (record
       { family = family; positive = positive; negative = asked; acts = acts })
   question_by acts family positive side beside rises chosen few = record {
-    sides = sides_with acts side;
+    sides = both_sides lines word left right acts side (λ leaf of. inl (right_plain leaf of));
     positive = λ a. (λ c. plus_out a ((chosen a).0 c), λ of. (chosen a).1 (plus_in a of));
     negative = λ a. (minus_out a, minus_in a);
     positive_rises = rises;
@@ -251,12 +263,7 @@ pub left_below : (lines : List Line) (word : Word) (left : ℕ) (askings : List 
 left_below lines word left askings table asks k d within =
     let a : Asking = get_or askings k d in
     let said = (asks a).0 (Contains-get_or askings k d within) in
-    below a.set a.positive said.0 said.2
-  where
-    below : (set : ℕ) (sign : Bool) (leaf : ℕ) → IsLiteralOf lines leaf set sign
-        → set < expr_count lines
-    below set true leaf is = expr_below lines set is.1.0 table is.1.1
-    below set false leaf is = expr_below lines set is.1.0 table is.1.1
+    literal_below lines said.0 a.set a.positive table said.2
 
 -- the verdict on the question is that of the statement
 pub verdict_shared : (setting : Setting) (lines : List Line) (statement : Statement) (word : Word)

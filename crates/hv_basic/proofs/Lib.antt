@@ -9,5 +9,6 @@ pub mod Storing
 pub mod Querying
 pub mod Growing
 pub mod Mixing
+pub mod Turning
 pub mod Sharing
 pub mod LeftSides

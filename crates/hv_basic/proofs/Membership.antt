@@ -1,5 +1,5 @@
 -- What holds of each literal, and of the formulas that are asked about.
-use Rattle.std.proofs.Common.{◌≡◌, ℕ, ◌<◌, ◌+◌, ◌∙◌, ◌⊎◌, List, [], Option, Some, None, length}
+use Rattle.std.proofs.Common.{◌≡◌, ℕ, ◌<◌, ◌+◌, ◌∙◌, ◌↔◌, List, [], Option, Some, None, length}
 use Rattle.std.proofs.Common.{get_or, refl, sym, ap, subst, inl, inr, arith}
 use Rattle.std.proofs.lemmas.Bool.{cases_lt}
 use Rattle.std.proofs.lemmas.List.{get_or_default}
@@ -7,18 +7,21 @@ use Rattle.std.proofs.lemmas.List.Elements.{All-contains, Contains-get_or}
 use Rattle.std.proofs.lemmas.Option.{same_Some, unwrap_or-slice_get}
 use Rattle.std.specs.List.{All, Contains, slice_get}
 use Rattle.std.specs.Option.{unwrap_or}
-use Rattle.hv_sets.specs.Kinds.{IsFirstOther, IsHornClause, IsTwoClause}
+use Rattle.hv_sets.specs.Kinds.{IsDualHornClause, IsFirstOther, IsHornClause, IsTwoClause}
 use Rattle.hv_sets.specs.declared.literal.Literal.{Literal}
 use Rattle.hv_horn.specs.Fault.{IsFault as IsHornFault}
 use Rattle.hv_horn.specs.declared.horn.HornFault.{HornFault}
 use Rattle.hv_horn.specs.declared.horn.HornFault.TheVariants as H
+use Rattle.hv_horn.specs.DualFault.{IsFault as IsDualFault}
+use Rattle.hv_horn.specs.declared.dual_horn.DualHornFault.{DualHornFault}
+use Rattle.hv_horn.specs.declared.dual_horn.DualHornFault.TheVariants as D
 use Rattle.hv_twocnf.specs.Fault.{IsFault as IsTwoFault}
 use Rattle.hv_twocnf.specs.declared.two_cnf.TwoCnfFault.{TwoCnfFault}
 use Rattle.hv_twocnf.specs.declared.two_cnf.TwoCnfFault.TheVariants as T
 use Rattle.hv_lines.specs.Literals.{IsLiteral}
 use Rattle.hv_lines.specs.Numbering.{ExprRefersBelow, IsTable, expr_at, expr_count}
-use Rattle.hv_lines.specs.Shapes.{IsOfFamily, IsStep, IsWithinFamily, after_parts, before_parts}
-use Rattle.hv_lines.specs.Shapes.{family_of, asked_step}
+use Rattle.hv_lines.specs.Shapes.{IsAndLeaf, IsOfFamily, IsStep, IsWithinFamily, after_parts}
+use Rattle.hv_lines.specs.Shapes.{asked_step, before_parts, family_of}
 use Rattle.hv_lines.specs.declared.family.FormulaFamily.{FormulaFamily}
 use Rattle.hv_lines.specs.declared.family.FormulaFamily.TheVariants as F
 use Rattle.hv_lines.specs.declared.line.Expr.{Expr}
@@ -27,10 +30,9 @@ use Rattle.hv_lines.specs.declared.line.Line.{Line}
 use Rattle.hv_lines.specs.declared.line.Word.{Word}
 use Rattle.hv_lines.specs.declared.line.Word.TheVariants as W
 use Rattle.hv_lines.proofs.Laws.{expr_within}
-use Rattle.hv_lines.proofs.Shaped.{step_no_literal}
-use Rattle.hv_basic.specs.Working.Gathered.{IsFamilyIn, IsOnlyStep}
+use Rattle.hv_lines.proofs.Shaped.{step_once}
+use Rattle.hv_basic.specs.Working.Gathered.{IsFamilyIn, IsLiteralStep}
 use Rattle.hv_basic.specs.declared.literals.Asking.{Asking}
-use Rattle.hv_basic.specs.declared.literals.Step.{Step}
 
 -- what holds at the places before one and there holds before the next
 module _ {X : Type 0} (P : X → Type 0) (xs : List X) (i : ℕ) (within : i < length xs) where
@@ -50,6 +52,14 @@ pub no_horn_fault : (clauses : List (List Literal)) (fault : HornFault) (place :
     → All IsHornClause clauses → ⊥
 no_horn_fault clauses fault place is found all =
     let first : IsFirstOther IsHornClause clauses place = subst (IsHornFault clauses) is found in
+    first.other (all place [] first.among)
+
+pub no_dual_fault : (clauses : List (List Literal)) (fault : DualHornFault) (place : ℕ)
+    → fault ≡ D.NotDual place → IsDualFault clauses fault
+    → All IsDualHornClause clauses → ⊥
+no_dual_fault clauses fault place is found all =
+    let first : IsFirstOther IsDualHornClause clauses place =
+    subst (IsDualFault clauses) is found in
     first.other (all place [] first.among)
 
 pub no_two_fault : (clauses : List (List Literal)) (fault : TwoCnfFault) (place : ℕ)
@@ -140,57 +150,27 @@ family_missed lines askings family (asking, c, (expr, at, is)) out other of =
         let also : family_of expr ≡ Some other = subst (λ y. family_of y ≡ Some other) one some in
         sym (same_Some family other (sym is ∙ also))
 
--- the only step
+-- the step
 
-pub all_then_no_step : (lines : List Line) (word : Word) (leaves : List ℕ)
-    → All (IsLiteral lines) leaves
-    → (set acts : ℕ) → IsOnlyStep lines word leaves set acts → ⊥
-all_then_no_step lines word leaves all set acts only =
-    step_no_literal lines word only.step set acts only.is
-    (All-contains (IsLiteral lines) leaves only.step all only.among)
-
-the_step : (lines : List Line) (word : Word) (leaves : List ℕ) (leaf set acts : ℕ)
-    → Contains leaves leaf → (IsLiteral lines leaf → ⊥)
-    → (only : IsOnlyStep lines word leaves set acts) → leaf ≡ only.step
-the_step lines word leaves leaf set acts c other only =
-    elim (only.others leaf c) [ inl literal ↦ absurd (other literal) | inr same ↦ same ]
-
-pub others_then_no_step : (lines : List Line) (word : Word) (leaves : List ℕ) (leaf : ℕ)
-    → Contains leaves leaf × (IsLiteral lines leaf → ⊥)
-    → (All (λ l. IsLiteral lines l ⊎ (l ≡ leaf)) leaves → ⊥) → (set acts : ℕ)
-    → IsOnlyStep lines word leaves set acts → ⊥
-others_then_no_step lines word leaves leaf found out set acts only =
-    let same = the_step lines word leaves leaf set acts found.0 found.1 only in
-    out (λ k d below. subst (λ l. IsLiteral lines (get_or leaves k d) ⊎ (get_or leaves k d ≡ l))
-    (sym same)
-    (only.others (get_or leaves k d) (Contains-get_or leaves k d below)))
-
-pub no_step_there : (lines : List Line) (word : Word) (leaves : List ℕ) (leaf : ℕ) (expr : Expr)
-    → Contains leaves leaf × (IsLiteral lines leaf → ⊥)
+pub no_step_there : (lines : List Line) (word : Word) (leaf : ℕ) (expr : Expr)
     → expr_at lines leaf ≡ Some expr → None ≡ asked_step word expr → (set acts : ℕ)
-    → IsOnlyStep lines word leaves set acts → ⊥
-no_step_there lines word leaves leaf expr found at none set acts only =
-    let same = the_step lines word leaves leaf set acts found.0 found.1 only in
-    let is : IsStep lines word leaf set acts = subst
-    (λ l. IsStep lines word l set acts) (sym same) only.is in
-    let one : is.0 ≡ expr = cc (is.1, at) in
+    → IsLiteralStep lines word leaf set acts → ⊥
+no_step_there lines word leaf expr at none set acts step =
+    let one : step.0.0 ≡ expr = cc (step.0.1, at) in
     let some : asked_step word expr ≡ Some (set, acts) = subst
-    (λ y. asked_step word y ≡ Some (set, acts)) one is.2 in
+    (λ y. asked_step word y ≡ Some (set, acts)) one step.0.2 in
     let both : None ≡ Some (set, acts) = none ∙ some in
     cc (both)
 
-pub step_there : (lines : List Line) (word : Word) (leaves : List ℕ) (leaf : ℕ) (expr : Expr)
-    (step : Step)
-    → Contains leaves leaf × (IsLiteral lines leaf → ⊥)
-    → All (λ l. IsLiteral lines l ⊎ (l ≡ leaf)) leaves → expr_at lines leaf ≡ Some expr
-    → Some (step.set, step.acts) ≡ asked_step word expr
-    → IsOnlyStep lines word leaves step.set step.acts
-step_there lines word leaves leaf expr step found all at is = record {
-  step = leaf;
-  among = found.0;
-  is = (expr, at, sym is);
-  others = λ l c. All-contains (λ l. IsLiteral lines l ⊎ (l ≡ leaf)) leaves l all c;
-}
+-- the step has a leaf that is no literal
+pub inner_fails : (lines : List Line) (word : Word) (leaf set acts : ℕ) (inner : List ℕ)
+    → IsStep lines word leaf set acts
+    → ((l : ℕ) → Contains inner l ↔ IsAndLeaf lines set l) → (other : ℕ)
+    → Contains inner other → (IsLiteral lines other → ⊥) → (others by : ℕ)
+    → IsLiteralStep lines word leaf others by → ⊥
+inner_fails lines word leaf set acts inner step are other has out others by (is, all) =
+    let same : set ≡ others = (step_once lines word leaf set acts others by step is).0 in
+    out (all other (subst (λ s. IsAndLeaf lines s other) same ((are other).0 has)))
 
 -- a step refers to earlier lines
 

@@ -1,21 +1,20 @@
 -- Inclusions between formulas of two families: what is found by the walks is what is claimed of the
 -- lines.
-use Rattle.std.proofs.Common.{◌≡◌, ℕ, ◌<◌, ◌∙◌, Bool, List, [], Some, get_or, length, map, refl}
-use Rattle.std.proofs.Common.{sym, ap, arith, subst}
-use Rattle.std.proofs.lemmas.List.{length-map}
-use Rattle.std.proofs.lemmas.Option.{same_Some, slice_get-get_or, slice_get-map}
+use Rattle.std.proofs.Common.{◌≡◌, ℕ, ◌<◌, ◌∙◌, Bool, List, [], ◌∷◌, Some, length, map, refl, sym}
+use Rattle.std.proofs.Common.{ap, subst}
+use Rattle.std.proofs.lemmas.Option.{same_Some, slice_get-get_or, slice_get-map, slice_get_within}
 use Rattle.std.specs.List.{slice_get}
 use Rattle.std.specs.Option.{option_map}
 use Rattle.hv_task.specs.Strips.{Strips, atoms}
 use Rattle.hv_sets.specs.declared.literal.Literal.{Literal}
+use Rattle.hv_sets.specs.declared.operand.Which.{Which}
 use Rattle.hv_sets.specs.declared.operand.Which.TheVariants as S
-use Rattle.hv_clauses.specs.Clausal.{Formula}
-use Rattle.hv_explicit.specs.Listing.{Listing}
 use Rattle.hv_lines.specs.Numbering.{IsTable, expr_at}
-use Rattle.hv_lines.specs.Queries.{horn_in, two_in, listed_in, horns_of, twos_of, listed_of}
+use Rattle.hv_lines.specs.Queries.{collected, dual_in, horn_in, two_in, listed_in, which_at}
 use Rattle.hv_lines.specs.Shapes.{AreOfTwoFamilies, AreTwo, HasShape, IsLiteralOf, OfSets, OfTwo}
 use Rattle.hv_lines.specs.Shapes.{OfActs}
 use Rattle.hv_lines.specs.declared.line.Line.{Line}
+use Rattle.hv_lines.specs.declared.line.Expr.{Expr}
 use Rattle.hv_lines.specs.declared.line.Expr.TheVariants as E
 use Rattle.hv_lines.specs.declared.line.Statement.{Statement}
 use Rattle.hv_lines.specs.declared.line.Statement.TheVariants as T
@@ -53,87 +52,70 @@ two_unshaped lines statement word left right sub b4 none has =
     no_shape lines left right none (subst (λ st. HasShape lines st W.B4) sub
     (subst (λ w. HasShape lines statement w) b4 has))
 
--- of a store that is made of other things, the one at a number
-got_mapped : {X Y : Type 0} (f : X → Y) (store : List Y) (xs : List X) (n : ℕ) (x d : X)
-    → store ≡ map f xs
-    → (n < length xs) × (get_or xs n d ≡ x) → (n < length store) × (slice_get store n ≡ Some (f x))
-got_mapped f store xs n x d is found =
-    let size = length-map xs f in
-    let within = found.0 in
-    subst (λ ys. (n < length ys) × (slice_get ys n ≡ Some (f x))) (sym is) (
-      omega (arith, within, size),
-      slice_get-map f xs n
-          ∙ ap (λ o. option_map f o) (slice_get-get_or xs n d found.0 ∙ ap Some found.1),
-    )
+-- by its name the formula of a line is found in the store of its family
+pub record IsFound {Y : Type 0} (names : List Which) (store : List Y) (id : ℕ) (formula : Y)
+    : Type 0 where
+  pub number : ℕ
+  pub named : slice_get names id ≡ Some (S.Set number)
+  pub there : slice_get store number ≡ Some formula
+
+module _ {Y : Type 0} (names : List Which) (store : List Y) (id : ℕ) (formula : Y)
+    (found : IsFound names store id formula) (sets : List Y) (same : sets ≡ store)
+    (number : ℕ) (named : slice_get names id ≡ Some (S.Set number)) where
+  at_number : slice_get sets number ≡ Some formula
+  at_number =
+      let one : found.number ≡ number = cc (found.named, named) in
+      ap (λ xs. slice_get xs number) same
+      ∙ (ap (slice_get store) (sym one) ∙ found.there)
+
+  pub found_within : number < length sets
+  found_within = slice_get_within sets number formula at_number
+
+  pub found_is : (got : Y) → slice_get sets number ≡ Some got → got ≡ formula
+  found_is got at = same_Some got formula (sym at ∙ at_number)
+
+module _ {X Y : Type 0} (formula_in : Expr → List X) (made : X → Y) (lines : List Line)
+    (names : List Which) (store : List Y) (is : store ≡ map made (collected formula_in lines))
+    (id : ℕ) (named : slice_get names id ≡ Some (which_at lines id)) where
+  found_by : (expr : Expr) (formula : X) → expr_at lines id ≡ Some expr
+      → formula_in expr ≡ formula ∷ []
+      → which_at lines id ≡ S.Set (count_before formula_in lines id)
+      → IsFound names store id (made formula)
+  found_by expr formula at has number =
+      let found = found_number formula_in lines id expr formula formula at has in
+      let n = count_before formula_in lines id in record {
+        number = n;
+        named = named ∙ ap Some number;
+        there =
+            ap (λ xs. slice_get xs n) is
+            ∙ (slice_get-map made (collected formula_in lines) n
+            ∙ ap (λ o. option_map made o)
+            (slice_get-get_or (collected formula_in lines) n formula found.0 ∙ ap Some found.1));
+      }
 
 module _ (task : Strips) (lines : List Line) (store : StoreState) (is : IsStoreOf task lines store)
     (table : IsTable lines) (id : ℕ) where
-  -- a formula stands in the store of its family, by the number by which it is named
-  pub horn_ready : (clauses : List (List Literal)) → expr_at lines id ≡ Some (E.Horn clauses)
-      → (n : ℕ) × (slice_get store.names id ≡ Some (S.Set n)) × (n < length store.horns)
-  horn_ready clauses at = (
-    count_before horn_in lines id,
-    is.names id (expr_below lines id (E.Horn clauses) table at)
-        ∙ ap Some (which_is lines id (E.Horn clauses) at),
-    (got_mapped (formula (atoms task)) store.horns (horns_of lines) (count_before horn_in lines id)
-        clauses [] is.horns
-        (found_number horn_in lines id (E.Horn clauses) clauses [] at refl)).0,
-  )
+  name_of : (expr : Expr) → expr_at lines id ≡ Some expr
+      → slice_get store.names id ≡ Some (which_at lines id)
+  name_of expr at = is.names id (expr_below lines id expr table at)
 
-  pub horn_is : (clauses : List (List Literal)) (set : Formula)
-      → expr_at lines id ≡ Some (E.Horn clauses)
-      → ((n : ℕ) → slice_get store.names id ≡ Some (S.Set n) → slice_get store.horns n ≡ Some set)
-      → set ≡ formula (atoms task) clauses
-  unfolding horn_ready
-  horn_is clauses set at got =
-      same_Some set (formula (atoms task) clauses)
-      (sym (got (horn_ready clauses at).0 (horn_ready clauses at).1)
-      ∙ (got_mapped (formula (atoms task)) store.horns (horns_of lines)
-      (count_before horn_in lines id) clauses [] is.horns
-      (found_number horn_in lines id (E.Horn clauses) clauses [] at refl)).1)
+  -- the families
+  pub horn_found : (clauses : List (List Literal)) → expr_at lines id ≡ Some (E.Horn clauses)
+      → IsFound store.names store.horns id (formula (atoms task) clauses)
+  horn_found clauses at = found_by horn_in (formula (atoms task)) lines store.names store.horns
+      is.horns id (name_of _ at) _ clauses at refl (which_is lines id (E.Horn clauses) at)
 
-  pub two_ready : (clauses : List (List Literal)) → expr_at lines id ≡ Some (E.Two clauses)
-      → (n : ℕ) × (slice_get store.names id ≡ Some (S.Set n)) × (n < length store.twos)
-  two_ready clauses at = (
-    count_before two_in lines id,
-    is.names id (expr_below lines id (E.Two clauses) table at)
-        ∙ ap Some (which_is lines id (E.Two clauses) at),
-    (got_mapped (formula (atoms task)) store.twos (twos_of lines) (count_before two_in lines id)
-        clauses [] is.twos
-        (found_number two_in lines id (E.Two clauses) clauses [] at refl)).0,
-  )
+  pub dual_found : (clauses : List (List Literal)) → expr_at lines id ≡ Some (E.Dual clauses)
+      → IsFound store.names store.duals id (formula (atoms task) clauses)
+  dual_found clauses at = found_by dual_in (formula (atoms task)) lines store.names store.duals
+      is.duals id (name_of _ at) _ clauses at refl (which_is lines id (E.Dual clauses) at)
 
-  pub two_is : (clauses : List (List Literal)) (set : Formula)
-      → expr_at lines id ≡ Some (E.Two clauses)
-      → ((n : ℕ) → slice_get store.names id ≡ Some (S.Set n) → slice_get store.twos n ≡ Some set)
-      → set ≡ formula (atoms task) clauses
-  unfolding two_ready
-  two_is clauses set at got =
-      same_Some set (formula (atoms task) clauses)
-      (sym (got (two_ready clauses at).0 (two_ready clauses at).1)
-      ∙ (got_mapped (formula (atoms task)) store.twos (twos_of lines) (count_before two_in lines id)
-      clauses [] is.twos
-      (found_number two_in lines id (E.Two clauses) clauses [] at refl)).1)
+  pub two_found : (clauses : List (List Literal)) → expr_at lines id ≡ Some (E.Two clauses)
+      → IsFound store.names store.twos id (formula (atoms task) clauses)
+  two_found clauses at = found_by two_in (formula (atoms task)) lines store.names store.twos
+      is.twos id (name_of _ at) _ clauses at refl (which_is lines id (E.Two clauses) at)
 
-  pub listed_ready : (states : List (List ℕ)) → expr_at lines id ≡ Some (E.States states)
-      → (n : ℕ) × (slice_get store.names id ≡ Some (S.Set n)) × (n < length store.listed)
-  listed_ready states at = (
-    count_before listed_in lines id,
-    is.names id (expr_below lines id (E.States states) table at)
-        ∙ ap Some (which_is lines id (E.States states) at),
-    (got_mapped (listing (atoms task)) store.listed (listed_of lines)
-        (count_before listed_in lines id) states [] is.listed
-        (found_number listed_in lines id (E.States states) states [] at refl)).0,
-  )
-
-  pub listed_is : (states : List (List ℕ)) (set : Listing)
-      → expr_at lines id ≡ Some (E.States states)
-      → ((n : ℕ) → slice_get store.names id ≡ Some (S.Set n) → slice_get store.listed n ≡ Some set)
-      → set ≡ listing (atoms task) states
-  unfolding listed_ready
-  listed_is states set at got =
-      same_Some set (listing (atoms task) states)
-      (sym (got (listed_ready states at).0 (listed_ready states at).1)
-      ∙ (got_mapped (listing (atoms task)) store.listed (listed_of lines)
-      (count_before listed_in lines id) states [] is.listed
-      (found_number listed_in lines id (E.States states) states [] at refl)).1)
+  pub listed_found : (states : List (List ℕ)) → expr_at lines id ≡ Some (E.States states)
+      → IsFound store.names store.listed id (listing (atoms task) states)
+  listed_found states at = found_by listed_in (listing (atoms task)) lines store.names store.listed
+      is.listed id (name_of _ at) _ states at refl (which_is lines id (E.States states) at)

@@ -1,18 +1,18 @@
 -- The query of a question, as it is built from the stores.
-use Rattle.std.proofs.Common.{◌≡◌, ℕ, suc, ◌<◌, ◌∙◌, Bool, List, [], ◌∷◌, Option, Some, None}
-use Rattle.std.proofs.Common.{length, map, get_or, refl, sym, ap, ap₂, subst, inl, inr, arith}
+use Rattle.std.proofs.Common.{◌≡◌, ℕ, ◌+◌, ◌<◌, ◌∙◌, Bool, List, [], ◌∷◌, ◌++◌, Option, Some, None}
+use Rattle.std.proofs.Common.{length, map, get_or, take, sym, ap, ap₂, subst}
+use Rattle.std.proofs.lemmas.List.{map_more}
 use Rattle.std.proofs.lemmas.Option.{get_or_from_slice_get, slice_get_within}
 use Rattle.std.specs.List.{Contains, slice_get}
 use Rattle.std.specs.Option.{IfSome}
 use Rattle.hv_task.specs.Strips.{Strips}
 use Rattle.hv_sets.specs.Query.{HasAnchor, IsReady}
 use Rattle.hv_sets.specs.declared.operand.Which.{Which}
-use Rattle.hv_sets.specs.declared.operand.Which.TheVariants as S
+use Rattle.hv_sets.specs.declared.operand.Operand.{Operand}
 use Rattle.hv_sets.specs.declared.query.Query.{Query}
 use Rattle.hv_lines.specs.Numbering.{IsTable, acts_count, expr_count}
 use Rattle.hv_lines.specs.Queries.{IsOffered, NamesNodes, asked_actions, operand_of, queries_of}
-use Rattle.hv_lines.specs.Queries.{query_of, which_at}
-use Rattle.hv_lines.specs.Working.Queries.{count_of}
+use Rattle.hv_lines.specs.Queries.{count_of, query_of, which_at}
 use Rattle.hv_lines.specs.Setting.{Setting}
 use Rattle.hv_lines.specs.Shapes.{Askings, HasSides, IsQuestion, Question}
 use Rattle.hv_lines.specs.Verdicts.{IsVerdictOfSets}
@@ -23,24 +23,31 @@ use Rattle.hv_lines.specs.declared.line.Word.{Word}
 use Rattle.hv_lines.specs.declared.verdict.Verdict.{Verdict}
 use Rattle.hv_lines.specs.declared.verdict.Verdict.TheVariants as V
 use Rattle.hv_lines.proofs.Laws.{refers_below}
-use Rattle.hv_lines.proofs.Ready.{asked_below, asked_exprs, question_ready}
-use Rattle.hv_basic.specs.Working.Asked.{named_operand, with_action}
+use Rattle.hv_lines.proofs.Ready.{asked_below, question_ready}
+use Rattle.hv_basic.specs.Working.Asked.{AreOperands, with_action}
 use Rattle.hv_basic.specs.Working.Deciding.{AreAllReady, IsDecidedOver, IsQueryFor}
 use Rattle.hv_basic.proofs.Membership.{step_refers}
 
--- operands by the stored names are those of the lines
-pub operands_are : (lines : List Line) (names : List Which) (asked : Askings)
-    → length names ≡ expr_count lines
-    → ((id : ℕ) → id < expr_count lines → slice_get names id ≡ Some (which_at lines id))
-    → ((a : ℕ × Bool) → Contains asked a → a.0 < expr_count lines)
-    → map (named_operand names) asked ≡ map (λ a. operand_of lines a) asked
-operands_are lines names [] size named below = refl
-operands_are lines names (a ∷ asked) size named below =
-    let within = below a (0, omega arith, refl) in
-    let which : get_or names a.0 S.Empty ≡ which_at lines a.0 = get_or_from_slice_get names a.0
-    (which_at lines a.0) S.Empty (named a.0 within) in
-    ap₂ (λ x xs. x ∷ xs) (λ i. record { which = which i; id = a.0; after = a.1 })
-    (operands_are lines names asked size named (λ b c. below b (suc c.0, omega (arith, c.1), c.2)))
+-- one operand more
+pub operands_more : (lines : List Line) (asked : Askings) (place : ℕ) (d : ℕ × Bool)
+    (old new : List Operand) (which : Which) → place < length asked
+    → AreOperands lines (take place asked) old
+    → which ≡ which_at lines (get_or asked place d).0
+    → new ≡ old ++ record {
+      which = which;
+      id = (get_or asked place d).0;
+      after = (get_or asked place
+          d).1;
+    } ∷ []
+    → AreOperands lines (take (place + 1) asked) new
+operands_more lines asked place d old new which within are is added =
+    let x = get_or asked place d in
+    added ∙ (ap₂ (λ (os : List Operand) (w : Which). os ++ record {
+      which = w;
+      id = x.0;
+      after = x.1;
+    }
+    ∷ []) are is ∙ sym (map_more (λ a. operand_of lines a) asked place d within))
 
 module _ (lines : List Line) (table : IsTable lines) (word : Word) (left right : ℕ) (q : Question)
     (is : IsQuestion lines word left right q) where
@@ -52,19 +59,15 @@ module _ (lines : List Line) (table : IsTable lines) (word : Word) (left right :
       (sym sides.3.2)
       (refers_below lines sides.0 sides.3.0 table sides.3.1)).1
 
-  module _ (nodes : ℕ) (known : NamesNodes nodes lines) (names : List Which)
-      (size : length names ≡ expr_count lines)
-      (named : (id : ℕ) → id < expr_count lines → slice_get names id ≡ Some (which_at lines id))
-      (query : Query)
-      (positive : query.positive ≡ map (named_operand names) q.positive)
-      (negative : query.negative ≡ map (named_operand names) q.negative) where
+  module _ (nodes : ℕ) (known : NamesNodes nodes lines) (query : Query)
+      (positive : AreOperands lines q.positive query.positive)
+      (negative : AreOperands lines q.negative query.negative) where
     pub query_is : (action : Option ℕ) → with_action query action ≡ query_of lines q action
-    query_is action =
-        let p = positive ∙ operands_are lines names q.positive size named
-        (λ a c. asked_exprs lines table word left right q is a (inl c)) in
-        let n = negative ∙ operands_are lines names q.negative size named
-        (λ a c. asked_exprs lines table word left right q is a (inr c)) in
-        λ i. record { positive = p i; negative = n i; action = action }
+    query_is action = λ i. record {
+      positive = positive i;
+      negative = negative i;
+      action = action;
+    }
 
     pub are_ready : (task : Strips) (actions : List (Option ℕ))
         → actions ≡ asked_actions task lines q.acts
@@ -103,31 +106,17 @@ module _ (lines : List Line) (table : IsTable lines) (word : Word) (left right :
       all = queries_are task actions all;
     }
 
--- what is offered, by the family
-module _ (lines : List Line) (q : Question) where
-  abbrev IsOfferedIn : FormulaFamily → Type 0
-  IsOfferedIn family = IsOffered lines (record
-      { family = family; positive = q.positive; negative = q.negative; acts = q.acts })
+-- the question, were it of this family, is offered
+abbrev pub IsOfferedIn : List Line → Question → FormulaFamily → Type 0
+IsOfferedIn lines q family = IsOffered lines (record
+    { family = family; positive = q.positive; negative = q.negative; acts = q.acts })
 
-  pub offered_horn : q.family ≡ F.Horn → IsOffered lines q
-  offered_horn is = subst IsOfferedIn (sym is) tt
-
-  pub offered_two : q.family ≡ F.Two → IsOffered lines q
-  offered_two is = subst IsOfferedIn (sym is) tt
-
-  pub offered_listed : (query : Query) → with_action query None ≡ query_of lines q None
-      → q.family ≡ F.States → HasAnchor query
-      → IsOffered lines q
-  offered_listed query same is anchor = subst IsOfferedIn (sym is) (subst HasAnchor same anchor)
-
-  pub unoffered_listed : (query : Query) → with_action query None ≡ query_of lines q None
-      → q.family ≡ F.States
-      → (HasAnchor query → ⊥) → IsOffered lines q → ⊥
-  unoffered_listed query same is none offered = none
-      (subst HasAnchor (sym same) (subst IsOfferedIn is offered))
-
-  pub offered_node : q.family ≡ F.Node → IsOffered lines q
-  offered_node is = subst IsOfferedIn (sym is) tt
+-- over explicit sets that goes by the query
+pub unoffered_listed : (lines : List Line) (q : Question) (query : Query)
+    → with_action query None ≡ query_of lines q None → q.family ≡ F.States
+    → (HasAnchor query → ⊥) → IsOffered lines q → ⊥
+unoffered_listed lines q query same is none offered = none
+    (subst HasAnchor (sym same) (subst (IsOfferedIn lines q) is offered))
 
 -- a verdict by the queries is one of the question
 pub verdict_by : (setting : Setting) (lines : List Line) (q : Question) (queries : List Query)
@@ -146,8 +135,8 @@ verdict_by setting lines q queries V.NotOffered offered is decided = absurd deci
 -- the same, by the family
 pub verdict_in : (setting : Setting) (lines : List Line) (q : Question) (family : FormulaFamily)
     (queries : List Query) (verdict : Verdict)
-    → q.family ≡ family → IsOffered lines q → queries ≡ queries_of setting.task lines q
+    → q.family ≡ family → IsOfferedIn lines q family → queries ≡ queries_of setting.task lines q
     → IsDecidedOver setting lines family queries verdict → IsVerdictOfSets setting lines q verdict
 verdict_in setting lines q family queries verdict is offered all decided =
-    verdict_by setting lines q queries verdict offered all
+    verdict_by setting lines q queries verdict (subst (IsOfferedIn lines q) (sym is) offered) all
     (subst (λ f. IsDecidedOver setting lines f queries verdict) (sym is) decided)

@@ -13,9 +13,10 @@ use Rattle.std.specs.Option.{IfSome}
 use Rattle.hv_sets.specs.declared.operand.Operand.{Operand}
 use Rattle.hv_sets.specs.declared.operand.Which.{Which}
 use Rattle.hv_sets.specs.declared.operand.Which.TheVariants as S
+use Rattle.hv_sets.specs.declared.query.Query.{Query}
 use Rattle.hv_lines.specs.Literals.{IsPlainSet}
 use Rattle.hv_lines.specs.Numbering.{MayFollow, IsTable, expr_at, expr_count}
-use Rattle.hv_lines.specs.Queries.{horns_of, listed_of, named_by, operand_of, twos_of, which_at}
+use Rattle.hv_lines.specs.Queries.{count_of, named_by, operand_of, which_at}
 use Rattle.hv_lines.specs.Shapes.{Askings, AskingsRise, IsOfFamily, IsOrLeaf, IsWithinFamily, alone}
 use Rattle.hv_lines.specs.Shapes.{family_of, of_left, of_right, or_parts}
 use Rattle.hv_lines.specs.declared.family.FormulaFamily.{FormulaFamily}
@@ -27,7 +28,7 @@ use Rattle.hv_lines.proofs.Laws.{expr_at_more, expr_below, exprs_grow, refers_be
 use Rattle.hv_lines.proofs.Truth.{or_is}
 use Rattle.hv_lines.proofs.Elements.{cons_cases, head_in, tail_in}
 use Rattle.hv_basic.specs.Sharing.{ArePlain, IsKeptFor, IsNoFormula, IsShared, IsTheFamily}
-use Rattle.hv_basic.specs.Working.Sharing.{AreAddedTo, AreSetNames, IsFamilyWith, IsMadeOf}
+use Rattle.hv_basic.specs.Working.Sharing.{AreAddedTo, IsFamilyWith, IsMadeOf}
 use Rattle.hv_basic.specs.Working.Sharing.{IsPartBeside}
 use Rattle.hv_basic.specs.declared.shared.Kept.{Kept}
 use Rattle.hv_basic.proofs.Leafing.{leaf_parts}
@@ -143,8 +144,7 @@ which_at_more : (line : Line) (older : List Line) (e : ℕ) → MayFollow older 
     → which_at (line ∷ older) e ≡ which_at older e
 which_at_more (L.Acts id x) older e next below = refl
 which_at_more (L.Expr id x) older e next below =
-    cond-false (eqb e id) (named_by (length (horns_of older)) (length (twos_of older))
-    (length (listed_of older)) x) (which_at older e)
+    cond-false (eqb e id) (named_by (λ family. count_of older family 0) x) (which_at older e)
     (ne_eqb e id (λ h. absurd (omega (arith, h, below, next.numbered))))
 which_at_more (L.Known id st w ps) older e next below = refl
 
@@ -382,32 +382,38 @@ after_last asked leaf rises some last a (k, below, is) =
           subst (λ (p : ℕ × Bool). p.0 < leaf) (sym one) last
     ]
 
--- the operand that asks about a leaf
-operand_here : (lines : List Line) (names : List Which) (leaf : ℕ) (after : Bool)
-    → AreSetNames lines names → leaf < expr_count lines
-    → record { which = get_or names leaf S.Empty; id = leaf; after = after }
-    ≡ operand_of lines (leaf, after)
-operand_here lines names leaf after are below =
-    let which : get_or names leaf S.Empty ≡ which_at lines leaf = get_or_from_slice_get names leaf
-    (which_at lines leaf) S.Empty (are.is leaf below) in
-    λ i. record { which = which i; id = leaf; after = after }
-
 pub plain_pushed : (lines : List Line) (names : List Which) (after : Bool)
     (family both : Option FormulaFamily) (asked more : Askings)
-    (operands further : List Operand) (leaf : ℕ) (expr : Expr) → AreSetNames lines names
-    → leaf < expr_count lines
+    (operands further : List Operand) (leaf : ℕ) (which : Which) (expr : Expr)
+    → slice_get names leaf ≡ Some (which_at lines leaf) → slice_get names leaf ≡ Some which
     → ArePlain lines after family asked operands → IsPlainSet lines leaf
     → ((a : ℕ × Bool) → Contains asked a → a.0 < leaf)
     → expr_at lines leaf ≡ Some expr → IsFamilyWith family (family_of expr) both
     → more ≡ asked ++ (leaf, after) ∷ []
-    → further ≡ operands ++ record { which = get_or names leaf S.Empty; id = leaf; after = after }
-    ∷ []
+    → further ≡ operands ++ record { which = which; id = leaf; after = after } ∷ []
     → ArePlain lines after both more further
-plain_pushed lines names after family both asked more operands further leaf expr are below plain is
-    later at with pushed put =
+plain_pushed lines names after family both asked more operands further leaf which expr named found
+    plain is later at with pushed put =
+    let same : which ≡ which_at lines leaf = cc (named, found) in
     subst (λ (xs : Askings). ArePlain lines after both xs further) (sym pushed)
     (subst (λ (xs : List Operand). ArePlain lines after both (asked ++ (leaf, after) ∷ []) xs)
     (sym put)
     (plain_push lines after family both asked operands leaf expr
-    (record { which = get_or names leaf S.Empty; id = leaf; after = after })
-    plain is later at with (operand_here lines names leaf after are below)))
+    (record { which = which; id = leaf; after = after }) plain is later at with
+    (λ i. record { which = same i; id = leaf; after = after })))
+
+-- what is kept stays right where its query has another positive half
+module _ (lines : List Line) (kept : Kept) (query : Query)
+    (same : query.negative ≡ kept.query.negative) where
+  kept_by : (root : Option ℕ) → IfSome root (IsKeptFor lines kept)
+      → IfSome root (IsKeptFor lines (record kept { query = query }))
+  kept_by None right = right
+  kept_by (Some root) right = record {
+    below = right.below;
+    plain = subst (ArePlain lines kept.after kept.family kept.question.negative.items) (sym same)
+        right.plain;
+    leaves = right.leaves;
+  }
+
+  pub shared_asked : IsShared lines kept → IsShared lines (record kept { query = query })
+  shared_asked right = kept_by kept.root right

@@ -1,195 +1,74 @@
--- The two sides of a statement, from their leaves.
-use Rattle.std.proofs.Common.{◌≡◌, ℕ, ◌<◌, ◌+◌, ◌≤◌, ◌↔◌, Bool, true, false, List, [], Option, Some}
-use Rattle.std.proofs.Common.{None, length, sym, ap, subst, inl, inr, arith}
-use Rattle.std.proofs.lemmas.List.Elements.{All-contains}
+-- The two sides of a statement, from its left side and the leaves of its right one.
+use Rattle.std.proofs.Common.{◌≡◌, ℕ, ◌<◌, ◌+◌, ◌≤◌, ◌↔◌, Bool, true, false, List, Option, Some}
+use Rattle.std.proofs.Common.{None}
+use Rattle.std.proofs.Common.{get_or, length, ap, inl, inr, arith}
+use Rattle.std.proofs.lemmas.List.Elements.{Contains-get_or}
 use Rattle.std.specs.List.{All, Contains}
-use Rattle.hv_lines.specs.Literals.{IsLiteral, IsPlainSet}
+use Rattle.hv_lines.specs.Literals.{IsLiteral}
 use Rattle.hv_lines.specs.Numbering.{IsTable, expr_count}
 use Rattle.hv_lines.proofs.Laws.{expr_below}
 use Rattle.hv_basic.specs.Faults.{IsShapeFault}
 use Rattle.hv_basic.specs.declared.shapes.ShapeFault.{ShapeFault}
 use Rattle.hv_basic.specs.declared.shapes.ShapeFault.TheVariants as F
-use Rattle.hv_lines.specs.Shapes.{Askings, AskingsRise, HasSides, IsAndLeaf, IsAsked, IsFamilyOf}
-use Rattle.hv_lines.specs.Shapes.{IsOrLeaf, IsQuestion, IsStep, Question, asks_sides_after}
-use Rattle.hv_lines.specs.Shapes.{most_operands}
+use Rattle.hv_lines.specs.Shapes.{Askings, AskingsRise, HasSides, IsAsked, IsFamilyOf, IsLiteralOf}
+use Rattle.hv_lines.specs.Shapes.{IsOrLeaf, IsQuestion, Question, asks_sides_after, most_operands}
 use Rattle.hv_lines.specs.declared.family.FormulaFamily.{FormulaFamily}
 use Rattle.hv_lines.specs.declared.line.Line.{Line}
 use Rattle.hv_lines.specs.declared.line.Word.{Word}
-use Rattle.hv_lines.specs.declared.line.Word.TheVariants as W
-use Rattle.hv_lines.proofs.Questions.{alone_no_step}
 use Rattle.hv_lines.proofs.Rising.{rising_once}
-use Rattle.hv_lines.proofs.Shaped.{step_no_literal, step_once}
-use Rattle.hv_lines.proofs.Elements.{all_from}
 use Rattle.hv_basic.specs.Working.Asked.{AreChosen}
-use Rattle.hv_basic.specs.Working.Gathered.{AreAskings, AreGathered, HasLeft, IsFamilyIn, IsGiven}
-use Rattle.hv_basic.specs.Working.Gathered.{IsOnlyStep, IsStepAdded}
+use Rattle.hv_basic.specs.Working.Gathered.{AreAskings, AreGathered, AreLeftAskings, IsFamilyIn}
+use Rattle.hv_basic.specs.Working.Gathered.{IsLeftSide}
 use Rattle.hv_basic.specs.declared.literals.Asking.{Asking}
 
--- the set and the action set of the only step are one
-only_once : (lines : List Line) (word : Word) (leaves : List ℕ) (set acts other by : ℕ)
-    → IsOnlyStep lines word leaves set acts
-    → IsOnlyStep lines word leaves other by → (set ≡ other) × (acts ≡ by)
-only_once lines word leaves set acts other by only also =
-    elim (also.others only.step only.among) [
-      | inl literal ↦ absurd (step_no_literal lines word only.step set acts only.is literal)
-      | inr same ↦ step_once lines word also.step set acts other by
-          (subst (λ s. IsStep lines word s set acts) same only.is) also.is
-    ]
-
-module _ (lines : List Line) (word : Word) (leaves : List ℕ) where
-  pub alone_fails : word ≡ W.B1 → (All (IsLiteral lines) leaves → ⊥) → (acts : Option ℕ)
-      → HasLeft lines word leaves acts → ⊥
-  alone_fails b1 out None has = out has.1
-  alone_fails b1 out (Some acts) has = alone_no_step lines word 0 0 has.1.step has.0 acts b1
-      has.1.is
-
-  pub no_step_fails : (word ≡ W.B1 → ⊥) →
-      ((set acts : ℕ) → IsOnlyStep lines word leaves set acts → ⊥)
-      → (acts : Option ℕ) → HasLeft lines word leaves acts → ⊥
-  no_step_fails other none None has = other has.0
-  no_step_fails other none (Some acts) has = none has.0 acts has.1
-
-  pub inner_fails : (word ≡ W.B1 → ⊥) → (set by : ℕ) → IsOnlyStep lines word leaves set by
-      → (inner : List ℕ)
-      → ((leaf : ℕ) → Contains inner leaf ↔ IsAndLeaf lines set leaf)
-      → (All (IsLiteral lines) inner → ⊥)
-      → (acts : Option ℕ) → HasLeft lines word leaves acts → ⊥
-  inner_fails other set by only inner is out None has = other has.0
-  inner_fails other set by only inner is out (Some acts) has =
-      let same : set ≡ has.0 = (only_once lines word leaves set by has.0 acts only has.1).0 in
-      out (all_from (IsLiteral lines) inner
-      (λ leaf c. has.2 leaf (subst (λ s. IsAndLeaf lines s leaf) same ((is leaf).0 c))))
-
-module _ (lines : List Line) (word : Word) (left right : ℕ) (lefts rights : List ℕ)
-    (are_lefts : (leaf : ℕ) → Contains lefts leaf ↔ IsAndLeaf lines left leaf)
-    (are_rights : (leaf : ℕ) → Contains rights leaf ↔ IsOrLeaf lines right leaf) where
-  -- the left side of a statement with the shape
-  pub left_has : (acts : Option ℕ) → HasSides lines word left right acts
-      → HasLeft lines word lefts acts
-  left_has None sides = (
-    sides.0,
-    all_from (IsLiteral lines) lefts
-        (λ leaf c. sides.1 leaf ((are_lefts leaf).0 c)),
-  )
-  left_has (Some acts) sides = (
-    sides.1,
-    record {
-      step = sides.0;
-      among = (are_lefts sides.0).1 sides.2;
-      is = sides.3;
-      others = λ leaf c. sides.4 leaf ((are_lefts leaf).0 c);
-    },
-    sides.5,
-  )
-
-  pub right_fails : (All (IsLiteral lines) rights → ⊥) → (acts : Option ℕ)
-      → HasSides lines word left right acts → ⊥
-  right_fails out None sides = out (all_from (IsLiteral lines) rights
-      (λ leaf c. sides.2 leaf ((are_rights leaf).0 c)))
-  right_fails out (Some acts) sides = out
-      (all_from (IsLiteral lines) rights (λ leaf c. sides.6 leaf ((are_rights leaf).0 c)))
-
-  pub left_fails : ((acts : Option ℕ) → HasLeft lines word lefts acts → ⊥) → (acts : Option ℕ)
-      → HasSides lines word left right acts → ⊥
-  left_fails out acts sides = out acts (left_has acts sides)
-
-  pub sides_from : (acts : Option ℕ) (old new : List Asking) → All (IsLiteral lines) rights
-      → IsStepAdded lines word lefts acts old new
+module _ (lines : List Line) (word : Word) (left right : ℕ) where
+  -- a left side with the shape, beside a right one
+  pub both_sides : (acts : Option ℕ) → IsLeftSide lines word left acts
+      → ((leaf : ℕ) → IsOrLeaf lines right leaf → IsLiteral lines leaf)
       → HasSides lines word left right acts
-  sides_from None old new all added = (
-    added.0,
-    λ leaf of. All-contains (IsLiteral lines) lefts leaf added.1 ((are_lefts leaf).1 of),
-    λ leaf of. All-contains (IsLiteral lines) rights leaf all ((are_rights leaf).1 of),
-  )
-  sides_from (Some acts) old new all added = (
-    added.2.step,
-    added.0,
-    (are_lefts added.2.step).0 added.2.among,
-    added.2.is,
-    λ leaf of. added.2.others leaf ((are_lefts leaf).1 of),
-    λ leaf of. All-contains (IsLiteral lines) added.1 leaf added.4 ((added.3 leaf).1 of),
-    λ leaf of. All-contains (IsLiteral lines) rights leaf all ((are_rights leaf).1 of),
-  )
+  both_sides None side rights = (side.0, side.1, rights)
+  both_sides (Some acts) side rights =
+      (side.0, side.1, side.2, side.3, side.4, side.5, rights)
 
-  module _ (first second : List Asking) (on_left : AreGathered lines lefts true
-      (asks_sides_after word) [] first)
-      (on_right : AreGathered lines rights false (asks_sides_after word) first second) where
-    Asks : Asking → Type 0
-    Asks a = IsAsked lines word left right a.positive (a.set, a.after)
+  pub left_part : (acts : Option ℕ) → HasSides lines word left right acts
+      → IsLeftSide lines word left acts
+  left_part None sides = (sides.0, sides.1)
+  left_part (Some acts) sides = (sides.0, sides.1, sides.2, sides.3, sides.4, sides.5)
 
-    from_second : (a : Asking) → Contains second a → Asks a
-    unfolding Asks
-    from_second a c =
-        elim ((on_right a).0 c) [
-          | inl was ↦ elim ((on_left a).0 was) [
-            | inl none ↦ absurd (omega (arith, none.1))
-            | inr given ↦ (given.0, inl (inl ((are_lefts given.0).0 given.1, given.3), given.2))
-          ]
-          | inr given ↦ (given.0, inr (((are_rights given.0).0 given.1, given.3), given.2))
-        ]
+  right_part : (acts : Option ℕ) → HasSides lines word left right acts → (leaf : ℕ)
+      → IsOrLeaf lines right leaf → IsLiteral lines leaf
+  right_part None sides = sides.2
+  right_part (Some acts) sides = sides.6
 
-    left_second : (a : Asking) → IsGiven lines lefts true (asks_sides_after word) a
-        → Contains second a
-    left_second a given = (on_right a).1 (inl ((on_left a).1 (inr given)))
+  module _ (rights : List ℕ)
+      (are_rights : (leaf : ℕ) → Contains rights leaf ↔ IsOrLeaf lines right leaf) where
+    pub right_fails : (leaf : ℕ) → Contains rights leaf → (IsLiteral lines leaf → ⊥)
+        → (acts : Option ℕ) → HasSides lines word left right acts → ⊥
+    right_fails leaf has other acts sides =
+        other (right_part acts sides leaf ((are_rights leaf).0 has))
 
-    pub askings_from : (acts : Option ℕ) (third : List Asking)
-        → IsStepAdded lines word lefts acts second third
-        → AreAskings lines word left right third
-    unfolding Asks
-    askings_from None third added a = (
-      λ c. from_second a (subst (λ xs. Contains xs a) added.2 c),
-      λ asks. subst (λ xs. Contains xs a) (sym added.2) (back asks),
-    )
-      where
-        back : IsAsked lines word left right a.positive (a.set, a.after) → Contains second a
-        back (leaf, inl (inl (of, after), literal)) = left_second a
-            (leaf, (are_lefts leaf).1 of, literal, after)
-        back (leaf, inl (inr (step, set, acts, of, is_step, leaf_of, after), literal)) =
-            absurd (alone_no_step lines word left right step set acts added.0 is_step)
-        back (leaf, inr ((of, after), literal)) = (on_right a).1
-            (inr (leaf, (are_rights leaf).1 of, literal, after))
-    askings_from (Some by) third (set, inner, only, are_inner, all, gathered) a = (
+    pub sides_from : (acts : Option ℕ) → IsLeftSide lines word left acts
+        → ((leaf : ℕ) → Contains rights leaf → IsLiteral lines leaf)
+        → HasSides lines word left right acts
+    sides_from acts side all = both_sides acts side (λ leaf of. all leaf ((are_rights leaf).1 of))
+
+    -- what the left side asks about and what was gathered on the right is all
+    pub askings_from : (first second : List Asking) → AreLeftAskings lines word left first
+        → AreGathered lines rights false (asks_sides_after word) first second
+        → AreAskings lines word left right second
+    askings_from first second asks gathered a = (
       λ c. elim ((gathered a).0 c) [
-        | inl was ↦ from_second a was
-        | inr given ↦ (
-          given.0,
-          inl (
-            inr (
-              only.step,
-              set,
-              by,
-              (are_lefts only.step).0 only.among,
-              only.is,
-              (are_inner given.0).0 given.1,
-              given.3,
-            ),
-            given.2,
-          ),
-        )
+        | inl was ↦ let h = (asks a).0 was in (h.0, inl (h.1, h.2))
+        | inr given ↦ (given.0, inr (((are_rights given.0).0 given.1, given.3), given.2))
       ],
       back,
     )
       where
-        back : IsAsked lines word left right a.positive (a.set, a.after) → Contains third a
-        back (leaf, inl (inl (of, after), literal)) =
-            (gathered a).1 (inl (left_second a (leaf, (are_lefts leaf).1 of, literal, after)))
-        back (leaf, inl (inr (step, other, acts, of, is_step, leaf_of, after), literal)) =
-            elim (only.others step ((are_lefts step).1 of)) [
-              | inl plain ↦ absurd (step_no_literal lines word step other acts is_step plain)
-              | inr same ↦
-                  let one : other ≡ set = (step_once lines word only.step other acts set by
-                  (subst (λ s. IsStep lines word s other acts) same is_step) only.is).0 in
-                  (gathered a).1 (inr (
-                    leaf,
-                    (are_inner leaf).1
-                        (subst (λ s. IsAndLeaf lines s leaf) one leaf_of),
-                    literal,
-                    after,
-                  ))
-            ]
-        back (leaf, inr ((of, after), literal)) =
-            (gathered a).1 (inl ((on_right a).1
-            (inr (leaf, (are_rights leaf).1 of, literal, after))))
+        back : IsAsked lines word left right a.positive (a.set, a.after) → Contains second a
+        back (leaf, inl (side, literal)) = (gathered a).1
+            (inl ((asks a).1 (leaf, side, literal)))
+        back (leaf, inr ((of, after), literal)) = (gathered a).1
+            (inr (leaf, (are_rights leaf).1 of, literal, after))
 
 module _ (lines : List Line) (word : Word) (left right : ℕ) (askings : List Asking)
     (are : AreAskings lines word left right askings) where
@@ -279,23 +158,24 @@ module _ (lines : List Line) (word : Word) (left right : ℕ) (askings : List As
       omega (arith, many, is.few, p, n)
 
 -- what is asked about has a line
+
+pub literal_below : (lines : List Line) (leaf set : ℕ) (sign : Bool) → IsTable lines
+    → IsLiteralOf lines leaf set sign → set < expr_count lines
+literal_below lines leaf set true table is = expr_below lines set is.1.0 table is.1.1
+literal_below lines leaf set false table is = expr_below lines set is.1.0 table is.1.1
+
 pub asked_lines : (lines : List Line) (word : Word) (left right : ℕ) (askings : List Asking)
     → IsTable lines
     → AreAskings lines word left right askings
     → All (λ asking. asking.set < expr_count lines) askings
-asked_lines lines word left right askings table are =
-    all_from (λ (a : Asking). a.set < expr_count lines) askings
-    (λ a c. below a.positive a ((are a).0 c))
+asked_lines lines word left right askings table are k d within =
+    let a : Asking = get_or askings k d in
+    below a ((are a).0 (Contains-get_or askings k d within))
   where
-    line : (set : ℕ) → IsPlainSet lines set → set < expr_count lines
-    line set plain = expr_below lines set plain.0 table plain.1
-
-    below : (sign : Bool) (a : Asking) → IsAsked lines word left right sign (a.set, a.after)
+    below : (a : Asking) → IsAsked lines word left right a.positive (a.set, a.after)
         → a.set < expr_count lines
-    below true a (leaf, inl (side, literal)) = line a.set literal.1
-    below true a (leaf, inr (side, literal)) = line a.set literal.1
-    below false a (leaf, inl (side, literal)) = line a.set literal.1
-    below false a (leaf, inr (side, literal)) = line a.set literal.1
+    below a (leaf, inl (side, literal)) = literal_below lines leaf a.set _ table literal
+    below a (leaf, inr (side, literal)) = literal_below lines leaf a.set _ table literal
 
 -- a reason that there is no shape
 pub fault_of : (P Q : Type 0) → (P → Q) → (fault : ShapeFault) → IsShapeFault P fault

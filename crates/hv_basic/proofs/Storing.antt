@@ -1,6 +1,6 @@
 -- The stores stand for the formulas of the lines.
 use Rattle.std.proofs.Common.{◌≡◌, ℕ, ◌<◌, ◌∙◌, Bool, List, [], Option, Some, None, length, map}
-use Rattle.std.proofs.Common.{get_or, refl, ap, subst, arith}
+use Rattle.std.proofs.Common.{get_or, refl, sym, ap, subst, arith}
 use Rattle.std.proofs.lemmas.List.{get_or-map, length-map}
 use Rattle.std.proofs.lemmas.Option.{slice_get-map, unwrap_or-slice_get}
 use Rattle.std.specs.List.{slice_get}
@@ -18,6 +18,7 @@ use Rattle.hv_explicit.specs.Listing.{AreOver as AreListedOver}
 use Rattle.hv_lines.specs.Verdicts.{IsDecided}
 use Rattle.hv_lines.specs.declared.verdict.Verdict.{Verdict}
 use Rattle.hv_basic.specs.Stores.{formula, listing}
+use Rattle.hv_basic.specs.Working.Deciding.{AreAllReady}
 
 module _ (n : ℕ) (xs : List (List (List Literal))) where
   clauses_in : (found : Option (List (List Literal)))
@@ -29,25 +30,36 @@ module _ (n : ℕ) (xs : List (List (List Literal))) where
   formulas_are = λ i k. (ap clauses_found (slice_get-map (formula n) xs k)
       ∙ (clauses_in (slice_get xs k) ∙ unwrap_or-slice_get xs k [])) i
 
-  pub are_over : AreOver (map (formula n) xs) n
+  are_over : AreOver (map (formula n) xs) n
   are_over k d below =
       let size = length-map xs (formula n) in
       let within : k < length xs = omega (arith, below, size) in
       ap (λ (f : Formula). f.atoms) (get_or-map (formula n) xs k [] d within)
 
-  -- the verdict of queries of the store is that of the formulas
-  pub formulas_decided : (task : Strips) (budget count : ℕ) (queries : List Query)
-      (verdict : Verdict) (store : List Formula)
-      → store ≡ map (formula n) xs
-      → IsDecided (λ q. ClausesPass task (sizes_of (formula_at store)) q budget)
-      (is_clash task (tests_of (formula_at store))) count queries verdict
-      → IsDecided (λ q. ClausesPass task (λ k. length (get_or xs k [])) q budget)
-      (is_clash task (λ k s. in_clauses (get_or xs k []) s)) count queries verdict
-  formulas_decided task budget count queries verdict store is decided =
-      subst (λ (f : ℕ → List (List Literal)). IsDecided
-      (λ q. ClausesPass task (λ k. length (f k)) q budget)
-      (is_clash task (λ k s. in_clauses (f k) s)) count queries verdict)
-      (ap formula_at is ∙ formulas_are) decided
+  module _ (sets : List Formula) (is : sets ≡ map (formula n) xs) where
+    pub sets_over : AreOver sets n
+    sets_over = subst (λ s. AreOver s n) (sym is) are_over
+
+    -- the queries can be asked of the store
+    pub sets_ready : (count actions : ℕ) (query : Query) (asked : List (Option ℕ))
+        → count ≡ length xs → AreAllReady count actions query asked
+        → AreAllReady (length sets) actions query asked
+    sets_ready count actions query asked same =
+        subst (λ k. AreAllReady k actions query asked)
+        (same ∙ sym (ap length is ∙ length-map xs (formula n)))
+
+    -- their verdict is that of the formulas
+    pub sets_decided : (task : Strips) (budget count : ℕ) (queries : List Query)
+        (verdict : Verdict)
+        → IsDecided (λ q. ClausesPass task (sizes_of (formula_at sets)) q budget)
+        (is_clash task (tests_of (formula_at sets))) count queries verdict
+        → IsDecided (λ q. ClausesPass task (λ k. length (get_or xs k [])) q budget)
+        (is_clash task (λ k s. in_clauses (get_or xs k []) s)) count queries verdict
+    sets_decided task budget count queries verdict =
+        subst (λ (f : ℕ → List (List Literal)). IsDecided
+        (λ q. ClausesPass task (λ k. length (f k)) q budget)
+        (is_clash task (λ k s. in_clauses (f k) s)) count queries verdict)
+        (ap formula_at is ∙ formulas_are)
 
 module _ (n : ℕ) (xs : List (List (List ℕ))) where
   in_listed : (found : Option (List (List ℕ))) (state : List Bool)

@@ -1,5 +1,6 @@
 pub mod Faults
 pub mod Stores
+pub mod Cases
 pub mod Deciding
 pub mod Sharing
 pub mod Working

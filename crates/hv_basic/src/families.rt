@@ -1,11 +1,12 @@
 //! The family of a statement.
 
-ghost use Rattle.std.specs.Prelude.{◌≡◌, ◌<◌, ◌↔◌, ℕ, None, IsTrue, MatchOption};
+ghost use Rattle.std.specs.Prelude.{◌≡◌, ◌<◌, ◌↔◌, ℕ, None, IfSome, IsTrue, MatchOption};
 ghost use Rattle.std.specs.List.{All, Contains};
 ghost use Rattle.hv_lines.specs.Numbering.{expr_count};
 ghost use Rattle.hv_lines.specs.Shapes.{AreOfTwoFamilies, IsOfFamily, IsWithinFamily, family_of};
 ghost use Rattle.hv_lines.specs.declared.family.FormulaFamily.{FormulaFamily};
 ghost use Rattle.hv_basic.specs.Working.Gathered.{IsFamilyIn};
+ghost use Rattle.hv_basic.specs.Working.Sharing.{IsFamilyBeside};
 ghost use Rattle.hv_basic.specs.declared.literals.Asking.{Asking};
 
 use crate::literals::Asking;
@@ -21,6 +22,28 @@ pub(crate) fn one_family(table: &Table, askings: &[Asking]) -> Option<FormulaFam
     let _count = table.expr_count();
     match first_family(table, askings) {
         None => Some(FormulaFamily::Horn),
+        Some(family) => {
+            if are_within(table, askings, family) {
+                Some(family)
+            } else {
+                None
+            }
+        }
+    }
+}
+
+/// The family of the statement, where the formulas of its right side are of this one, if it has
+/// some.
+pub(crate) fn family_beside(
+    table: &Table,
+    askings: &[Asking],
+    kept: Option<FormulaFamily>,
+) -> Option<FormulaFamily>
+    requires { All (λ asking. asking.set < expr_count table.now.lines) askings.now }
+    ensures { IfSome result (IsFamilyBeside table.now.lines askings.now kept) }
+{
+    match kept {
+        None => one_family(table, askings),
         Some(family) => {
             if are_within(table, askings, family) {
                 Some(family)
@@ -90,9 +113,11 @@ pub(crate) fn family_of(expr: &Expr) -> Option<FormulaFamily>
 {
     match expr {
         Expr::Horn(_) => Some(FormulaFamily::Horn),
+        Expr::Dual(_) => Some(FormulaFamily::Dual),
         Expr::Two(_) => Some(FormulaFamily::Two),
         Expr::States(_) => Some(FormulaFamily::States),
         Expr::Node(_) => Some(FormulaFamily::Node),
-        _ => None,
+        Expr::Constant(_) | Expr::Not(_) => None,
+        Expr::And(..) | Expr::Or(..) | Expr::After(..) | Expr::Before(..) => None,
     }
 }

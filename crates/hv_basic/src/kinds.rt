@@ -5,7 +5,7 @@ ghost use Rattle.std.specs.List.{All};
 ghost use Rattle.hv_lines.specs.Good.{IsOfItsFamily};
 
 use hv_clauses::ClauseKind;
-use hv_horn::HornKind;
+use hv_horn::{DualHornKind, HornKind};
 use hv_lines::Expr;
 use hv_sets::{Clauses, Literal};
 use hv_twocnf::TwoKind;
@@ -16,8 +16,10 @@ pub fn is_of_its_family(expr: &Expr) -> bool
 {
     match expr {
         Expr::Horn(clauses) => are_of::<HornKind>(clauses),
+        Expr::Dual(clauses) => are_of::<DualHornKind>(clauses),
         Expr::Two(clauses) => are_of::<TwoKind>(clauses),
-        _ => true,
+        Expr::Constant(_) | Expr::States(_) | Expr::Node(_) | Expr::Not(_) => true,
+        Expr::And(..) | Expr::Or(..) | Expr::After(..) | Expr::Before(..) => true,
     }
 }
 

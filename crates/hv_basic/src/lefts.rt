@@ -1,19 +1,18 @@
-//! What the left side of a statement asks, beside a right side that is kept.
+//! What the left side of a statement asks.
 
-ghost use Rattle.std.specs.Prelude.{◌≡◌, ◌<◌, ℕ, Option, true, IfOk, IfSome};
-ghost use Rattle.std.specs.List.{All, Contains};
+ghost use Rattle.std.specs.Prelude.{◌≡◌, ◌<◌, ℕ, Option, IfErr, IfOk};
+ghost use Rattle.std.specs.List.{All};
 ghost use Rattle.hv_lines.specs.Numbering.{expr_count};
-ghost use Rattle.hv_lines.specs.declared.family.FormulaFamily.{FormulaFamily};
+ghost use Rattle.hv_lines.specs.Shapes.{asked_step, asks_sides_after, asks_step_after};
 ghost use Rattle.hv_basic.specs.Faults.{IsShapeFault};
-ghost use Rattle.hv_basic.specs.Working.Sharing.{AreLeftAskings, IsFamilyBeside, IsLeftSide};
-ghost use Rattle.hv_basic.specs.declared.literals.Asking.{Asking};
+ghost use Rattle.hv_basic.specs.Working.Gathered.{AreLeftAskings, IsLeftSide, IsLiteralStep};
+ghost use Rattle.hv_basic.specs.Working.Gathered.{IsStepAdded};
 
-use crate::families::{are_within, one_family};
 use crate::leaves::{Side, leaves};
-use crate::literals::{Asking, gather};
+use crate::literals::{Asking, Others, gather};
 use crate::shapes::ShapeFault;
-use crate::sides::{Sides, add_step, asks_sides_after};
-use hv_lines::{FormulaFamily, Table, Word};
+use crate::sides::Sides;
+use hv_lines::{Expr, Table, Word};
 use std::alloc::Global;
 
 /// What the left side asks about, where it has the shape of the word.
@@ -29,48 +28,90 @@ pub(crate) fn left_of(
         AreLeftAskings table.now.lines word left sides.askings.items) }
     ensures below { IfOk result (λ sides.
         All (λ asking. asking.set < expr_count table.now.lines) sides.askings.items) }
+    ensures err { IfErr result (IsShapeFault ((acts : Option ℕ)
+        → IsLeftSide table.now.lines word left acts → ⊥)) }
 {
     let _count = table.expr_count();
     let lefts = leaves(alloc, table, Side::Left, left)?;
     let mut askings = Vec::new(alloc);
-    gather(table, &lefts, true, asks_sides_after(word), &mut askings)?;
-    match add_step(alloc, table, word, &lefts, &mut askings) {
-        Ok(acts) => Ok(Sides { askings, acts }),
-        Err(fault) => Err(fault),
+    match gather(table, &lefts, true, asks_sides_after(word), &mut askings)? {
+        Others::None => match word {
+            Word::B1 => Ok(Sides {
+                askings,
+                acts: None,
+            }),
+            _ => Err(ShapeFault::Shape),
+        },
+        Others::One(leaf) => match add_step(alloc, table, word, leaf, &mut askings) {
+            Ok(acts) => Ok(Sides {
+                askings,
+                acts: Some(acts),
+            }),
+            Err(fault) => Err(fault),
+        },
+        Others::More => Err(ShapeFault::Shape),
     }
 }
 
-/// Whether nothing is asked about with the sign of the right side's formulas.
-pub(crate) fn are_positive(askings: &[Asking]) -> bool
-    ensures { result ≡ true → (asking : Asking) → Contains askings.now asking
-        → asking.positive ≡ true }
-{
-    for asking in askings {
-        if !asking.positive {
-            return false;
-        }
-    }
-    true
-}
-
-/// The family of the statement, where the formulas of its right side are of this one, if it has
-/// some.
-pub(crate) fn family_beside(
+/// Adds what the literals of the step ask about, where this leaf is the step that the word asks
+/// for and its leaves are literals; its action set.
+fn add_step(
+    alloc: Global,
     table: &Table,
-    askings: &[Asking],
-    kept: Option<FormulaFamily>,
-) -> Option<FormulaFamily>
-    requires { All (λ asking. asking.set < expr_count table.now.lines) askings.now }
-    ensures { IfSome result (IsFamilyBeside table.now.lines askings.now kept) }
+    word: Word,
+    leaf: usize,
+    into: &mut Vec<Asking>,
+) -> Result<usize, ShapeFault>
+    requires { leaf < expr_count table.now.lines }
+    ensures ok { IfOk result (λ acts.
+        IsStepAdded table.now.lines word leaf acts into.old.items into.new.items) }
+    ensures err { IfErr result (IsShapeFault ((set acts : ℕ)
+        → IsLiteralStep table.now.lines word leaf set acts → ⊥)) }
 {
-    match kept {
-        None => one_family(table, askings),
-        Some(family) => {
-            if are_within(table, askings, family) {
-                Some(family)
-            } else {
-                None
-            }
-        }
+    let Some((set, acts)) = step_of(word, table.expr(leaf)) else {
+        return Err(ShapeFault::Shape);
+    };
+    let inner = leaves(alloc, table, Side::Left, set)?;
+    match gather(table, &inner, true, asks_step_after(word), into)? {
+        Others::None => Ok(acts),
+        Others::One(_) => Err(ShapeFault::Shape),
+        Others::More => Err(ShapeFault::Shape),
+    }
+}
+
+/// The set and the action set of the step, if it is the one that the word asks for.
+fn step_of(word: Word, expr: &Expr) -> Option<(usize, usize)>
+    ensures { result ≡ asked_step word expr.now }
+{
+    match word {
+        Word::B2 => match expr {
+            Expr::After(set, acts) => Some((*set, *acts)),
+            _ => None,
+        },
+        Word::B3 => match expr {
+            Expr::Before(set, acts) => Some((*set, *acts)),
+            _ => None,
+        },
+        _ => None,
+    }
+}
+
+/// Whether the literals beside the step and those on the right are asked about after the action.
+pub(crate) fn asks_sides_after(word: Word) -> bool
+    ensures { result ≡ asks_sides_after word }
+{
+    match word {
+        Word::B2 => true,
+        _ => false,
+    }
+}
+
+/// Whether the literals of the step are asked about after the action.
+fn asks_step_after(word: Word) -> bool
+    ensures { result ≡ asks_step_after word }
+{
+    match word {
+        Word::B3 => true,
+        _ => false,
     }
 }

@@ -1,10 +1,35 @@
 //! Basic statements, which are decided without premises: their shapes, the stores of formulas, and
 //! their verdicts.
+//!
+//! The way of a statement with the word `b2`, which says that a left set, whose leaves are literals
+//! and one progression, is within a right one, whose leaves are literals:
+//!
+//! - `shared_verdicts::verdict_of` takes it, with the `case` that it is judged in (task, lines,
+//!   nodes, stores, budget) and what is kept of the right sides before it (`shared`).
+//! - `rights` keeps the right side, if that is a union of formulas and constants: where it is the
+//!   one before and a further set, only the leaves of that set are looked up.
+//! - `lefts::left_of` reads the left side, in both ways of asking: `leaves` takes it apart,
+//!   `literals` gathers what its literals ask about, and the set of the progression is read like
+//!   it.
+//! - Where what is kept serves, and all that the left side asks about is positive, the question
+//!   stands already: `families` says whose family it is, and `order` puts the left part in order.
+//! - Else `shapes::shape` makes the question: `sides` reads the leaves of the right side too,
+//!   `families` looks for the one family, and `order` puts both parts in order.
+//! - Either way `verdicts::decide_sets` decides the question. It makes the query of it by the names
+//!   that the `store` keeps, and `actions` lists the actions of the progression, by the flags of
+//!   `acts`. For each of them `walk` asks the query of the store of the family, and the first query
+//!   that passes the budget or has a counterexample decides.
+//!
+//! Statements with `b1` and `b3` go the same way, without a step or with a regression. Those with
+//! `b4`, of two families, are decided in `mixed`, over the formulas that `formula` finds, and those
+//! with `b5`, of action sets, in `verdicts`, by the flags of `acts`. `kinds` says whether clauses
+//! are of their family, and `laws` what a verdict says of its statement.
 #![tactic(auto)]
 
 mod actions;
 mod acts;
 pub mod basic;
+pub mod case;
 mod families;
 mod formula;
 pub mod kinds;
@@ -24,6 +49,7 @@ pub mod verdicts;
 mod walk;
 
 pub use basic::Basic;
+pub use case::Case;
 pub use hv_lines::{Clash, Verdict};
 pub use kinds::is_of_its_family;
 pub use laws::laws_of_verdicts;

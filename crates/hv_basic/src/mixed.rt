@@ -6,30 +6,26 @@ ghost use Rattle.hv_sets.specs.Cost.{IsAnswer};
 ghost use Rattle.hv_sets.specs.Room.{KeepsLengths};
 ghost use Rattle.hv_explicit.specs.Listing.{full_cubes, in_listing};
 ghost use Rattle.hv_mixed.specs.Inclusion.{complement, difference};
-ghost use Rattle.hv_bdd.specs.Nodes.{node_count};
 ghost use Rattle.hv_lines.specs.Mixed.{clause_count, cost_of, count_unless, is_between};
 ghost use Rattle.hv_lines.specs.Mixed.{listed_count};
-ghost use Rattle.hv_lines.specs.Queries.{NamesNodes};
-ghost use Rattle.hv_lines.specs.Setting.{most_budget, setting_of};
+ghost use Rattle.hv_lines.specs.Setting.{most_budget};
 ghost use Rattle.hv_lines.specs.Shapes.{AreOfTwoFamilies};
 ghost use Rattle.hv_lines.specs.Verdicts.{IsVerdictOfSides, IsVerdictOfTwo};
-ghost use Rattle.hv_basic.specs.Working.Formulas.{AreApart, IsFormulaFor, IsFoundInclusion};
+ghost use Rattle.hv_basic.specs.Working.Formulas.{AreApart, IsFormulaOn, IsFoundInclusion};
 ghost use Rattle.hv_basic.specs.Working.Formulas.{apart_cost, expr_of, formula_atoms, formula_has};
 ghost use Rattle.hv_basic.specs.Working.Formulas.{inside_count, outside_count, together_cost};
 ghost use Rattle.hv_basic.specs.Working.Formulas.{within_cost};
-ghost use Rattle.hv_basic.specs.Stores.{IsStoreOf};
+ghost use Rattle.hv_basic.specs.Cases.{lines_in, setting_in};
 
+use crate::case::Case;
 use crate::formula::{AnyFormula, formula_of};
 use crate::literals::Literal;
-use crate::store::Store;
 use crate::walk::copy_of;
-use hv_bdd::Diagrams;
 use hv_explicit::Explicit;
-use hv_lines::{Clash, Table, Verdict};
+use hv_lines::{Clash, Verdict};
 use hv_mixed::{apart, together, within, within_states};
 use hv_paths::{InsideWalked, OutsideWalked};
 use hv_sets::{Finding, Scratch};
-use hv_task::Task;
 use std::alloc::{AllocError, Global};
 
 /// A side of an inclusion: a formula, or its negation.
@@ -42,57 +38,45 @@ pub(crate) struct Side<'a> {
 /// The verdict on the inclusion of one formula in another, each plain or negated.
 pub(crate) fn decide_two(
     alloc: Global,
-    task: &Task,
-    table: &Table,
-    diagrams: &Diagrams,
-    store: &Store,
+    case: &Case<'_>,
     left: Literal,
     right: Literal,
-    budget: u64,
     scratch: &mut Scratch,
 ) -> Result<Verdict, AllocError>
-    requires budget { budget ≤ most_budget }
-    requires over { diagrams.now.atoms ≡ atoms task.now }
-    requires nodes { NamesNodes (node_count diagrams.now) table.now.lines }
-    requires store { IsStoreOf task.now table.now.lines store.now }
-    requires families { AreOfTwoFamilies table.now.lines left.set right.set }
-    ensures answer { IfOk result (IsVerdictOfTwo (setting_of task.now diagrams.now budget)
-        table.now.lines (left.set, left.is_plain) (right.set, right.is_plain)) }
+    requires families { AreOfTwoFamilies (lines_in case.now) left.set right.set }
+    ensures answer { IfOk result (IsVerdictOfTwo (setting_in case.now) (lines_in case.now)
+        (left.set, left.is_plain) (right.set, right.is_plain)) }
     ensures lengths { KeepsLengths scratch.old scratch.new }
 {
     let left = Side {
-        formula: formula_of(task, table, diagrams, store, left.set),
+        formula: formula_of(case, left.set),
         is_plain: left.is_plain,
     };
     let right = Side {
-        formula: formula_of(task, table, diagrams, store, right.set),
+        formula: formula_of(case, right.set),
         is_plain: right.is_plain,
     };
-    let verdict = decide_sides(alloc, task, diagrams, &left, &right, budget, scratch)?;
+    let verdict = decide_sides(alloc, case, &left, &right, scratch)?;
     Ok(verdict)
 }
 
 /// The verdict on the inclusion of a side in another.
 fn decide_sides(
     alloc: Global,
-    task: &Task,
-    diagrams: &Diagrams,
+    case: &Case<'_>,
     left: &Side<'_>,
     right: &Side<'_>,
-    budget: u64,
     scratch: &mut Scratch,
 ) -> Result<Verdict, AllocError>
-    requires budget { budget ≤ most_budget }
-    requires over { diagrams.now.atoms ≡ atoms task.now }
-    requires left { IsFormulaFor (atoms task.now) diagrams.now left.now.formula }
-    requires right { IsFormulaFor (atoms task.now) diagrams.now right.now.formula }
+    requires left { IsFormulaOn case.now left.now.formula }
+    requires right { IsFormulaOn case.now right.now.formula }
     requires families { AreApart left.now.formula right.now.formula }
-    ensures answer { IfOk result (IsVerdictOfSides (setting_of task.now diagrams.now budget)
+    ensures answer { IfOk result (IsVerdictOfSides (setting_in case.now)
         (expr_of left.now.formula, left.now.is_plain)
         (expr_of right.now.formula, right.now.is_plain)) }
     ensures lengths { KeepsLengths scratch.old scratch.new }
 {
-    match find_between(alloc, task, diagrams, left, right, budget, scratch)? {
+    match find_between(alloc, case, left, right, scratch)? {
         None => Ok(Verdict::NotOffered),
         Some(Finding::Over) => Ok(Verdict::Over),
         Some(Finding::Empty) => Ok(Verdict::True),
@@ -109,28 +93,22 @@ fn decide_sides(
 /// Whether the left side is within the right one, by the call that its signs ask for.
 fn find_between(
     alloc: Global,
-    task: &Task,
-    diagrams: &Diagrams,
+    case: &Case<'_>,
     left: &Side<'_>,
     right: &Side<'_>,
-    budget: u64,
     scratch: &mut Scratch,
 ) -> Result<Option<Finding>, AllocError>
-    requires budget { budget ≤ most_budget }
-    requires over { diagrams.now.atoms ≡ atoms task.now }
-    requires left { IsFormulaFor (atoms task.now) diagrams.now left.now.formula }
-    requires right { IsFormulaFor (atoms task.now) diagrams.now right.now.formula }
+    requires left { IsFormulaOn case.now left.now.formula }
+    requires right { IsFormulaOn case.now right.now.formula }
     requires families { AreApart left.now.formula right.now.formula }
-    ensures answer { IfOk result (λ found. IsFoundInclusion budget
-        (cost_of diagrams.now (expr_of left.now.formula, left.now.is_plain)
-        (expr_of right.now.formula, right.now.is_plain)) (atoms task.now)
-        (is_between (setting_of task.now diagrams.now budget)
-        (expr_of left.now.formula, left.now.is_plain)
+    ensures answer { IfOk result (λ found. IsFoundInclusion case.now.budget
+        (cost_of case.now.diagrams.now (expr_of left.now.formula, left.now.is_plain)
+        (expr_of right.now.formula, right.now.is_plain)) (atoms case.now.task.now)
+        (is_between (setting_in case.now) (expr_of left.now.formula, left.now.is_plain)
         (expr_of right.now.formula, right.now.is_plain)) found scratch.new.state) }
     ensures lengths { KeepsLengths scratch.old scratch.new }
 {
-    let _ = task;
-    let _ = diagrams;
+    let budget = case.budget;
     match (left.is_plain, right.is_plain) {
         (true, true) => {
             let found = find_within(alloc, &left.formula, &right.formula, budget, scratch)?;
@@ -172,7 +150,7 @@ fn find_within(
             let found = within_by_states(alloc, *set, right, budget, scratch)?;
             Ok(Some(found))
         }
-        _ => {
+        AnyFormula::Horn(_) | AnyFormula::Dual(_) | AnyFormula::Two(_) | AnyFormula::Node(_) => {
             let found = within_by_rest(alloc, left, right, budget, scratch)?;
             Ok(found)
         }
@@ -197,6 +175,7 @@ fn within_by_states(
 {
     match right {
         AnyFormula::Horn(set) => within_states(alloc, left, *set, budget, scratch),
+        AnyFormula::Dual(set) => within_states(alloc, left, *set, budget, scratch),
         AnyFormula::Two(set) => within_states(alloc, left, *set, budget, scratch),
         AnyFormula::Node(set) => within_states(alloc, left, set, budget, scratch),
         AnyFormula::States(_) => unreachable!(),
@@ -220,6 +199,7 @@ fn within_by_rest(
 {
     match right {
         AnyFormula::Horn(set) => Ok(Some(within_rest(alloc, left, *set, budget, scratch)?)),
+        AnyFormula::Dual(set) => Ok(Some(within_rest(alloc, left, *set, budget, scratch)?)),
         AnyFormula::Two(set) => Ok(Some(within_rest(alloc, left, *set, budget, scratch)?)),
         AnyFormula::Node(set) => Ok(Some(within_rest(alloc, left, set, budget, scratch)?)),
         AnyFormula::States(_) => Ok(None),
@@ -243,6 +223,7 @@ fn within_rest<'a, R: OutsideWalked<'a>>(
 {
     match left {
         AnyFormula::Horn(set) => within(alloc, *set, right, budget, scratch),
+        AnyFormula::Dual(set) => within(alloc, *set, right, budget, scratch),
         AnyFormula::Two(set) => within(alloc, *set, right, budget, scratch),
         AnyFormula::States(set) => within(alloc, *set, right, budget, scratch),
         AnyFormula::Node(set) => within(alloc, set, right, budget, scratch),
@@ -284,9 +265,10 @@ fn goes_first(left: &AnyFormula<'_>, right: &AnyFormula<'_>) -> bool
         AnyFormula::States(_) => true,
         AnyFormula::Node(_) => match right {
             AnyFormula::States(_) => false,
-            _ => true,
+            AnyFormula::Horn(_) | AnyFormula::Dual(_) | AnyFormula::Two(_) | AnyFormula::Node(_) =>
+                true,
         },
-        _ => false,
+        AnyFormula::Horn(_) | AnyFormula::Dual(_) | AnyFormula::Two(_) => false,
     }
 }
 
@@ -309,7 +291,7 @@ fn apart_by_left(
     match left {
         AnyFormula::States(set) => Ok(Some(apart_walk(alloc, *set, right, budget, scratch)?)),
         AnyFormula::Node(set) => Ok(Some(apart_walk(alloc, set, right, budget, scratch)?)),
-        AnyFormula::Horn(_) | AnyFormula::Two(_) => Ok(None),
+        AnyFormula::Horn(_) | AnyFormula::Dual(_) | AnyFormula::Two(_) => Ok(None),
     }
 }
 
@@ -330,6 +312,7 @@ fn apart_walk<'a, L: InsideWalked<'a>>(
 {
     match right {
         AnyFormula::Horn(set) => apart(alloc, left, *set, budget, scratch),
+        AnyFormula::Dual(set) => apart(alloc, left, *set, budget, scratch),
         AnyFormula::Two(set) => apart(alloc, left, *set, budget, scratch),
         AnyFormula::States(set) => apart(alloc, left, *set, budget, scratch),
         AnyFormula::Node(set) => apart(alloc, left, set, budget, scratch),
@@ -358,11 +341,15 @@ fn find_together(
             let found = together_by_left(alloc, *set, right, budget, scratch)?;
             Ok(found)
         }
+        AnyFormula::Dual(set) => {
+            let found = together_by_left(alloc, *set, right, budget, scratch)?;
+            Ok(found)
+        }
         AnyFormula::Two(set) => {
             let found = together_by_left(alloc, *set, right, budget, scratch)?;
             Ok(found)
         }
-        _ => {
+        AnyFormula::States(_) | AnyFormula::Node(_) => {
             let found = together_by_right(alloc, left, right, budget, scratch)?;
             Ok(found)
         }
@@ -392,11 +379,15 @@ fn together_by_right(
             let found = together_by_left(alloc, *set, left, budget, scratch)?;
             Ok(found)
         }
+        AnyFormula::Dual(set) => {
+            let found = together_by_left(alloc, *set, left, budget, scratch)?;
+            Ok(found)
+        }
         AnyFormula::Two(set) => {
             let found = together_by_left(alloc, *set, left, budget, scratch)?;
             Ok(found)
         }
-        _ => Ok(None),
+        AnyFormula::States(_) | AnyFormula::Node(_) => Ok(None),
     }
 }
 
@@ -418,6 +409,7 @@ fn together_by_left<'a, L: OutsideWalked<'a>>(
 {
     match right {
         AnyFormula::Horn(set) => Ok(Some(together(alloc, left, *set, budget, scratch)?)),
+        AnyFormula::Dual(set) => Ok(Some(together(alloc, left, *set, budget, scratch)?)),
         AnyFormula::Two(set) => Ok(Some(together(alloc, left, *set, budget, scratch)?)),
         AnyFormula::Node(set) => Ok(Some(together(alloc, left, set, budget, scratch)?)),
         AnyFormula::States(_) => Ok(None),

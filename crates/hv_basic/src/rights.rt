@@ -7,42 +7,42 @@ ghost use Rattle.std.specs.List.{All, Contains};
 ghost use Rattle.hv_lines.specs.Literals.{IsPlainSet};
 ghost use Rattle.hv_lines.specs.Numbering.{expr_count};
 ghost use Rattle.hv_lines.specs.Shapes.{AskingsRise};
-ghost use Rattle.hv_basic.specs.Sharing.{ArePlain, IsShared};
-ghost use Rattle.hv_basic.specs.Working.Sharing.{AreAddedTo, AreSetNames, IsFamilyWith, IsMadeOf};
+ghost use Rattle.hv_basic.specs.Cases.{lines_in};
+ghost use Rattle.hv_basic.specs.Sharing.{IsShared};
+ghost use Rattle.hv_basic.specs.Working.Sharing.{AreAddedTo, AreKeptPlain, IsFamilyWith, IsMadeOf};
 ghost use Rattle.hv_basic.specs.Working.Sharing.{IsPartBeside};
 
+use crate::case::Case;
 use crate::families::family_of;
 use crate::leaves::{Side, leaves};
 use crate::literals::literal_of;
 use crate::shared::Kept;
 use hv_lines::{Expr, FormulaFamily, Table};
-use hv_sets::{Operand, Operands, Which};
+use hv_sets::{Operand, Operands};
 use std::alloc::{AllocError, Global};
 
 /// Has the right side kept, asked about after the action (true) or before it, if it is a union of
 /// formulas and constants of one family: whether it is kept.
 pub(crate) fn keep_right(
     alloc: Global,
-    table: &Table,
-    names: &[Which],
+    case: &Case<'_>,
     kept: &mut Kept,
     root: usize,
     after: bool,
 ) -> Result<bool, AllocError>
-    requires root { root < expr_count table.now.lines }
-    requires names { AreSetNames table.now.lines names.now }
-    requires kept { IsShared table.now.lines kept.old }
-    ensures kept { IsShared table.now.lines kept.new }
+    requires root { root < expr_count (lines_in case.now) }
+    requires kept { IsShared (lines_in case.now) kept.old }
+    ensures kept { IsShared (lines_in case.now) kept.new }
     ensures root { IfOk result (λ yes. yes ≡ true → kept.new.root ≡ Some root) }
     ensures after { IfOk result (λ yes. yes ≡ true → kept.new.after ≡ after) }
 {
     if is_kept(kept, root, after) {
         return Ok(true);
     }
-    if extend(alloc, table, names, kept, root, after)? {
+    if extend(alloc, case, kept, root, after)? {
         return Ok(true);
     }
-    renew(alloc, table, names, kept, root, after)
+    renew(alloc, case, kept, root, after)
 }
 
 fn is_kept(kept: &Kept, root: usize, after: bool) -> bool
@@ -55,50 +55,46 @@ fn is_kept(kept: &Kept, root: usize, after: bool) -> bool
 /// Adds the further set, where the right side is the union of the one that is kept and that set.
 fn extend(
     alloc: Global,
-    table: &Table,
-    names: &[Which],
+    case: &Case<'_>,
     kept: &mut Kept,
     root: usize,
     after: bool,
 ) -> Result<bool, AllocError>
-    requires root { root < expr_count table.now.lines }
-    requires names { AreSetNames table.now.lines names.now }
-    requires kept { IsShared table.now.lines kept.old }
-    ensures kept { IsShared table.now.lines kept.new }
+    requires root { root < expr_count (lines_in case.now) }
+    requires kept { IsShared (lines_in case.now) kept.old }
+    ensures kept { IsShared (lines_in case.now) kept.new }
     ensures root { IfOk result (λ yes. yes ≡ true → kept.new.root ≡ Some root) }
     ensures after { IfOk result (λ yes. yes ≡ true → kept.new.after ≡ after) }
 {
     if kept.after != after {
         return Ok(false);
     }
-    match part_beside(table, kept.root, root) {
+    match part_beside(case.table, kept.root, root) {
         None => Ok(false),
-        Some(part) => grow(alloc, table, names, kept, root, part),
+        Some(part) => grow(alloc, case, kept, root, part),
     }
 }
 
 /// Keeps the union in place of what was kept.
 fn renew(
     alloc: Global,
-    table: &Table,
-    names: &[Which],
+    case: &Case<'_>,
     kept: &mut Kept,
     root: usize,
     after: bool,
 ) -> Result<bool, AllocError>
-    requires root { root < expr_count table.now.lines }
-    requires names { AreSetNames table.now.lines names.now }
-    requires kept { IsShared table.now.lines kept.old }
-    ensures kept { IsShared table.now.lines kept.new }
+    requires root { root < expr_count (lines_in case.now) }
+    requires kept { IsShared (lines_in case.now) kept.old }
+    ensures kept { IsShared (lines_in case.now) kept.new }
     ensures root { IfOk result (λ yes. yes ≡ true → kept.new.root ≡ Some root) }
     ensures after { IfOk result (λ yes. yes ≡ true → kept.new.after ≡ after) }
 {
-    let _count = table.expr_count();
-    if !is_union(table.expr(root)) {
+    let _count = case.table.expr_count();
+    if !is_union(case.table.expr(root)) {
         return Ok(false);
     }
     clear(alloc, kept, after);
-    grow(alloc, table, names, kept, root, root)
+    grow(alloc, case, kept, root, root)
 }
 
 fn is_union(expr: &Expr) -> bool {
@@ -144,33 +140,22 @@ fn part_beside(table: &Table, kept: Option<usize>, root: usize) -> Option<usize>
 /// Adds the leaves of a part, by which what is kept becomes the union's.
 fn grow(
     alloc: Global,
-    table: &Table,
-    names: &[Which],
+    case: &Case<'_>,
     kept: &mut Kept,
     root: usize,
     part: usize,
 ) -> Result<bool, AllocError>
-    requires root { root < expr_count table.now.lines }
-    requires part { part < expr_count table.now.lines }
-    requires names { AreSetNames table.now.lines names.now }
-    requires plain { ArePlain table.now.lines kept.old.after kept.old.family
-        kept.old.question.negative.items kept.old.query.negative }
-    requires made { IsMadeOf table.now.lines kept.old root part }
-    ensures kept { IsShared table.now.lines kept.new }
+    requires root { root < expr_count (lines_in case.now) }
+    requires part { part < expr_count (lines_in case.now) }
+    requires plain { AreKeptPlain (lines_in case.now) kept.old }
+    requires made { IsMadeOf (lines_in case.now) kept.old root part }
+    ensures kept { IsShared (lines_in case.now) kept.new }
     ensures root { IfOk result (λ yes. yes ≡ true → kept.new.root ≡ Some root) }
     ensures after { kept.new.after ≡ kept.old.after }
 {
     kept.root = None;
-    let leaves = leaves(alloc, table, Side::Right, part)?;
-    if !add_all(
-        table,
-        names,
-        kept.after,
-        &leaves,
-        &mut kept.family,
-        &mut kept.question.negative,
-        &mut kept.query.negative,
-    )? {
+    let leaves = leaves(alloc, case.table, Side::Right, part)?;
+    if !add_all(case, kept, &leaves)? {
         return Ok(false);
     }
     kept.root = Some(root);
@@ -178,26 +163,18 @@ fn grow(
 }
 
 /// Adds the leaves, of which the oldest is the last: whether each could be added.
-fn add_all(
-    table: &Table,
-    names: &[Which],
-    after: bool,
-    leaves: &[usize],
-    family: &mut Option<FormulaFamily>,
-    asked: &mut Vec<(usize, bool)>,
-    operands: &mut Operands,
-) -> Result<bool, AllocError>
-    requires leaves { All (λ leaf. leaf < expr_count table.now.lines) leaves.now }
-    requires names { AreSetNames table.now.lines names.now }
-    requires plain { ArePlain table.now.lines after family.old asked.old.items operands.old }
-    ensures plain { IfOk result (λ yes. yes ≡ true
-        → ArePlain table.now.lines after family.new asked.new.items operands.new) }
-    ensures added { IfOk result (λ yes. yes ≡ true
-        → AreAddedTo after leaves.now asked.old.items asked.new.items) }
+fn add_all(case: &Case<'_>, kept: &mut Kept, leaves: &[usize]) -> Result<bool, AllocError>
+    requires leaves { All (λ leaf. leaf < expr_count (lines_in case.now)) leaves.now }
+    requires plain { AreKeptPlain (lines_in case.now) kept.old }
+    ensures plain { IfOk result (λ yes. yes ≡ true → AreKeptPlain (lines_in case.now) kept.new) }
+    ensures added { IfOk result (λ yes. yes ≡ true → AreAddedTo kept.old.after leaves.now
+        kept.old.question.negative.items kept.new.question.negative.items) }
+    ensures root { kept.new.root ≡ kept.old.root }
+    ensures after { kept.new.after ≡ kept.old.after }
 {
     for count in 0..leaves.len() {
         let leaf = leaves[leaves.len() - 1 - count];
-        if !add_one(table, names, after, leaf, family, asked, operands)? {
+        if !add_one(case, kept, leaf)? {
             return Ok(false);
         }
     }
@@ -206,36 +183,30 @@ fn add_all(
 
 /// Adds the leaf, if it is a formula or constant, its identifier comes after those before, and no
 /// other family comes in by it.
-fn add_one(
-    table: &Table,
-    names: &[Which],
-    after: bool,
-    leaf: usize,
-    family: &mut Option<FormulaFamily>,
-    asked: &mut Vec<(usize, bool)>,
-    operands: &mut Operands,
-) -> Result<bool, AllocError>
-    requires leaf { leaf < expr_count table.now.lines }
-    requires names { AreSetNames table.now.lines names.now }
-    requires plain { ArePlain table.now.lines after family.old asked.old.items operands.old }
-    ensures plain { IfOk result (λ yes. yes ≡ true
-        → ArePlain table.now.lines after family.new asked.new.items operands.new) }
-    ensures added { IfOk result (λ yes. yes ≡ true
-        → asked.new.items ≡ asked.old.items ++ (leaf, after) ∷ []) }
+fn add_one(case: &Case<'_>, kept: &mut Kept, leaf: usize) -> Result<bool, AllocError>
+    requires leaf { leaf < expr_count (lines_in case.now) }
+    requires plain { AreKeptPlain (lines_in case.now) kept.old }
+    ensures plain { IfOk result (λ yes. yes ≡ true → AreKeptPlain (lines_in case.now) kept.new) }
+    ensures added { IfOk result (λ yes. yes ≡ true → kept.new.question.negative.items
+        ≡ kept.old.question.negative.items ++ (leaf, kept.old.after) ∷ []) }
+    ensures root { kept.new.root ≡ kept.old.root }
+    ensures after { kept.new.after ≡ kept.old.after }
 {
-    if !is_plain(table, leaf) || !is_later(asked, leaf) {
+    let table = case.table;
+    let store = case.store;
+    if !is_plain(table, leaf) || !is_later(&kept.question.negative, leaf) {
         return Ok(false);
     }
-    let Some(both) = family_with(*family, family_of(table.expr(leaf))) else {
+    let Some(both) = family_with(kept.family, family_of(table.expr(leaf))) else {
         return Ok(false);
     };
-    operands.push(Operand {
-        which: names[leaf],
+    kept.query.negative.push(Operand {
+        which: store.name(leaf),
         id: leaf,
-        after,
+        after: kept.after,
     })?;
-    asked.push((leaf, after))?;
-    *family = both;
+    kept.question.negative.push((leaf, kept.after))?;
+    kept.family = both;
     Ok(true)
 }
 

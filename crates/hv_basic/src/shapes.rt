@@ -15,7 +15,7 @@ use crate::basic::{Basic, Kind, Question};
 use crate::families::{are_of_two_families, one_family};
 use crate::literals::{Literal, literal_of};
 use crate::order::in_order;
-use crate::sides::{Sides, sides_of};
+use crate::sides::{Inclusion, Sides, sides_of};
 use hv_lines::{Statement, Table, Word};
 use std::alloc::{AllocError, Global};
 use thiserror::Error;
@@ -62,12 +62,19 @@ pub fn shape(
                 }),
                 None => Err(ShapeFault::Shape),
             },
-            _ => match question_of(alloc, table, word, *left, *right) {
-                Ok(question) => Ok(Basic {
-                    kind: Kind::Sets(word, question),
-                }),
-                Err(fault) => Err(fault),
-            },
+            _ => {
+                let claim = Inclusion {
+                    word,
+                    left: *left,
+                    right: *right,
+                };
+                match question_of(alloc, table, claim) {
+                    Ok(question) => Ok(Basic {
+                        kind: Kind::Sets(word, question),
+                    }),
+                    Err(fault) => Err(fault),
+                }
+            }
         },
         Statement::ActSub(first, second) => match word {
             Word::B5 => Ok(Basic {
@@ -97,23 +104,17 @@ fn two_of(table: &Table, left: usize, right: usize) -> Option<(Literal, Literal)
 }
 
 /// What the inclusion asks, where it has the shape of the word.
-fn question_of(
-    alloc: Global,
-    table: &Table,
-    word: Word,
-    left: usize,
-    right: usize,
-) -> Result<Question, ShapeFault>
-    requires left { left < expr_count table.now.lines }
-    requires right { right < expr_count table.now.lines }
+fn question_of(alloc: Global, table: &Table, claim: Inclusion) -> Result<Question, ShapeFault>
+    requires left { claim.left < expr_count table.now.lines }
+    requires right { claim.right < expr_count table.now.lines }
     ensures ok { IfOk result (λ question.
-        IsQuestion table.now.lines word left right (question_of question)) }
+        IsQuestion table.now.lines claim.word claim.left claim.right (question_of question)) }
     ensures over { IfOk result (λ question. IsQuestionOver table.now.lines (question_of question)) }
     ensures err { IfErr result (IsShapeFault ((question : AskedQuestion)
-        → IsQuestion table.now.lines word left right question → ⊥)) }
+        → IsQuestion table.now.lines claim.word claim.left claim.right question → ⊥)) }
 {
-    match sides_of(alloc, table, word, left, right) {
-        Ok(sides) => question_from(alloc, table, word, left, right, sides),
+    match sides_of(alloc, table, claim) {
+        Ok(sides) => question_from(alloc, table, claim, sides),
         Err(fault) => Err(fault),
     }
 }
@@ -122,21 +123,20 @@ fn question_of(
 fn question_from(
     alloc: Global,
     table: &Table,
-    word: Word,
-    left: usize,
-    right: usize,
+    claim: Inclusion,
     sides: Sides,
 ) -> Result<Question, ShapeFault>
-    requires sides { HasSides table.now.lines word left right sides.acts }
-    requires askings { AreAskings table.now.lines word left right sides.askings.items }
+    requires sides { HasSides table.now.lines claim.word claim.left claim.right sides.acts }
+    requires askings { AreAskings table.now.lines claim.word claim.left claim.right
+        sides.askings.items }
     requires below { All (λ asking. asking.set < expr_count table.now.lines) sides.askings.items }
     ensures ok { IfOk result (λ question.
-        IsQuestion table.now.lines word left right (question_of question)) }
+        IsQuestion table.now.lines claim.word claim.left claim.right (question_of question)) }
     ensures over { IfOk result (λ question. IsQuestionOver table.now.lines (question_of question)) }
     ensures err { IfErr result (IsShapeFault ((question : AskedQuestion)
-        → IsQuestion table.now.lines word left right question → ⊥)) }
+        → IsQuestion table.now.lines claim.word claim.left claim.right question → ⊥)) }
 {
-    let _ = (word, left, right);
+    let _ = claim;
     let Some(family) = one_family(table, &sides.askings) else {
         return Err(ShapeFault::Shape);
     };

@@ -2,15 +2,16 @@
 
 use crate::basic::Question;
 use hv_lines::FormulaFamily;
-use hv_sets::{Operands, Query};
-use std::alloc::Global;
+use hv_sets::{Operands, Query, Scratch};
+use std::alloc::{AllocError, Global};
 use std::marker::Model;
 
-/// What the right side of an earlier statement asks, where that was a union of formulas and
-/// constants. One value is handed from statement to statement.
+/// What is handed from statement to statement: what the right side of an earlier one asks, where
+/// that was a union of formulas and constants, and room for the work of queries.
 #[derive(Drop)]
 pub struct Shared {
     pub(crate) kept: Kept,
+    pub(crate) scratch: Scratch,
 }
 
 /// A right side, with a question and its query of which it is the negative part.
@@ -35,15 +36,16 @@ impl Model for Shared {
 }
 
 impl Shared {
-    ghost use Rattle.std.specs.Prelude.{List};
+    ghost use Rattle.std.specs.Prelude.{List, ◌∷◌, IfOk};
+    ghost use Rattle.hv_lines.specs.Numbering.{MayFollow};
     ghost use Rattle.hv_lines.specs.declared.line.Line.{Line};
     ghost use Rattle.hv_basic.specs.Sharing.{IsShared};
 
     /// Nothing is kept.
-    pub fn new(alloc: Global) -> Shared
-        ensures { (lines : List Line) → IsShared lines result }
+    pub fn new(alloc: Global) -> Result<Shared, AllocError>
+        ensures { IfOk result (λ shared. (lines : List Line) → IsShared lines shared) }
     {
-        Shared {
+        Ok(Shared {
             kept: Kept {
                 root: None,
                 after: false,
@@ -60,6 +62,14 @@ impl Shared {
                     action: None,
                 },
             },
-        }
+            scratch: Scratch::new(alloc)?,
+        })
     }
+
+    /// Does nothing: its contract states that what is kept for some lines is right for them with a
+    /// further line too.
+    pub fn stays(&self)
+        ensures { (lines : List Line) (line : Line) → MayFollow lines line
+            → IsShared lines self.now → IsShared (line ∷ lines) self.now }
+    {}
 }

@@ -1,37 +1,33 @@
 //! Verdicts of statements whose right sides grow.
 
-ghost use Rattle.std.specs.Prelude.{◌≡◌, ◌<◌, ◌≤◌, List, true, map, IfOk, IfErr, IfSome};
-ghost use Rattle.hv_task.specs.Strips.{atoms};
-ghost use Rattle.hv_sets.specs.Room.{KeepsLengths};
+ghost use Rattle.std.specs.Prelude.{◌≡◌, ◌<◌, List, true, IfOk, IfErr, IfSome};
 ghost use Rattle.hv_lines.specs.Numbering.{SpeaksBelow, acts_count, expr_count};
-ghost use Rattle.hv_bdd.specs.Nodes.{node_count};
-ghost use Rattle.hv_lines.specs.Queries.{NamesNodes, operand_of};
-ghost use Rattle.hv_lines.specs.Setting.{most_budget, setting_of};
 ghost use Rattle.hv_lines.specs.Shapes.{HasShape, asks_sides_after};
 ghost use Rattle.hv_lines.specs.Verdicts.{IsVerdict, IsVerdictOfSets};
-ghost use Rattle.std.specs.List.{All};
+ghost use Rattle.std.specs.List.{All, Contains};
 ghost use Rattle.hv_lines.specs.declared.line.Line.{Line};
 ghost use Rattle.hv_basic.specs.Deciding.{IsQuestionOver};
 ghost use Rattle.hv_basic.specs.Faults.{IsShapeFault};
-ghost use Rattle.hv_basic.specs.Stores.{IsStoreOf};
+ghost use Rattle.hv_basic.specs.Cases.{lines_in, setting_in};
 ghost use Rattle.hv_basic.specs.Sharing.{IsKeptFor, IsShared};
-ghost use Rattle.hv_basic.specs.Working.Sharing.{AreLeftAskings, AreSetNames, IsAskedBy};
-ghost use Rattle.hv_basic.specs.Working.Sharing.{IsLeftSide, IsVerdictOfSub};
+ghost use Rattle.hv_basic.specs.Working.Asked.{AreOperands};
+ghost use Rattle.hv_basic.specs.Working.Gathered.{AreLeftAskings, IsLeftSide};
+ghost use Rattle.hv_basic.specs.Working.Sharing.{IsAskedBy, IsVerdictOfSub};
+ghost use Rattle.hv_basic.specs.declared.literals.Asking.{Asking};
 ghost use Rattle.hv_basic.specs.Working.Views.{question_of};
 
-use crate::actions::asked_actions;
-use crate::lefts::{are_positive, family_beside, left_of};
+use crate::case::Case;
+use crate::families::family_beside;
+use crate::lefts::{asks_sides_after, left_of};
+use crate::literals::Asking;
 use crate::order::in_order;
 use crate::rights::keep_right;
 use crate::shapes::{MOST_OPERANDS, ShapeFault, shape};
 use crate::shared::{Kept, Shared};
-use crate::sides::{Sides, asks_sides_after};
-use crate::store::Store;
-use crate::verdicts::{decide, decide_queries, operands_of};
-use hv_bdd::Diagrams;
+use crate::sides::{Inclusion, Sides};
+use crate::verdicts::{decide_on, decide_sets};
 use hv_lines::{Statement, Table, Verdict, Word};
 use hv_sets::Scratch;
-use hv_task::Task;
 use std::alloc::{AllocError, Global};
 
 /// The verdict of a basic statement with its word, as `shape` and `decide` give it. What the right
@@ -39,80 +35,53 @@ use std::alloc::{AllocError, Global};
 /// one and a further set, only that set is looked at.
 pub fn verdict_of(
     alloc: Global,
-    task: &Task,
-    table: &Table,
-    diagrams: &Diagrams,
-    store: &Store,
+    case: &Case<'_>,
     shared: &mut Shared,
     statement: &Statement,
     word: Word,
-    budget: u64,
-    scratch: &mut Scratch,
 ) -> Result<Verdict, ShapeFault>
-    requires speaks { SpeaksBelow (acts_count table.now.lines) (expr_count table.now.lines)
+    requires speaks { SpeaksBelow (acts_count (lines_in case.now)) (expr_count (lines_in case.now))
         statement.now }
-    requires budget { budget ≤ most_budget }
-    requires over { diagrams.now.atoms ≡ atoms task.now }
-    requires nodes { NamesNodes (node_count diagrams.now) table.now.lines }
-    requires store { IsStoreOf task.now table.now.lines store.now }
-    requires shared { IsShared table.now.lines shared.old }
-    ensures answer { IfOk result (IsVerdict (setting_of task.now diagrams.now budget)
-        table.now.lines statement.now word) }
-    ensures err { IfErr result (IsShapeFault (HasShape table.now.lines statement.now word → ⊥)) }
-    ensures shared { IsShared table.now.lines shared.new }
-    ensures lengths { KeepsLengths scratch.old scratch.new }
+    requires shared { IsShared (lines_in case.now) shared.old }
+    ensures answer { IfOk result (IsVerdict (setting_in case.now) (lines_in case.now)
+        statement.now word) }
+    ensures err { IfErr result (IsShapeFault (HasShape (lines_in case.now) statement.now word
+        → ⊥)) }
+    ensures shared { IsShared (lines_in case.now) shared.new }
 {
     if let Statement::Sub(left, right) = statement {
-        if let Some(verdict) = verdict_by_kept(
-            alloc,
-            task,
-            table,
-            diagrams,
-            store,
-            &mut shared.kept,
-            *left,
-            *right,
+        let claim = Inclusion {
             word,
-            budget,
-            scratch,
-        )? {
+            left: *left,
+            right: *right,
+        };
+        if let Some(verdict) = verdict_by_kept(alloc, case, shared, claim)? {
             return Ok(verdict);
         }
     }
-    let basic = shape(alloc, table, statement, word)?;
-    let verdict = decide(alloc, task, table, diagrams, store, &basic, budget, scratch)?;
+    let basic = shape(alloc, case.table, statement, word)?;
+    let verdict = decide_on(alloc, case, &basic, &mut shared.scratch)?;
     Ok(verdict)
 }
 
 /// The verdict of an inclusion by what is kept, if what its sides ask can be told so.
 fn verdict_by_kept(
     alloc: Global,
-    task: &Task,
-    table: &Table,
-    diagrams: &Diagrams,
-    store: &Store,
-    kept: &mut Kept,
-    left: usize,
-    right: usize,
-    word: Word,
-    budget: u64,
-    scratch: &mut Scratch,
+    case: &Case<'_>,
+    shared: &mut Shared,
+    claim: Inclusion,
 ) -> Result<Option<Verdict>, AllocError>
-    requires left { left < expr_count table.now.lines }
-    requires right { right < expr_count table.now.lines }
-    requires over { diagrams.now.atoms ≡ atoms task.now }
-    requires nodes { NamesNodes (node_count diagrams.now) table.now.lines }
-    requires store { IsStoreOf task.now table.now.lines store.now }
-    requires kept { IsShared table.now.lines kept.old }
-    ensures answer { IfOk result (λ found. IfSome found (IsVerdictOfSub
-        (setting_of task.now diagrams.now budget) table.now.lines word left right)) }
-    ensures kept { IsShared table.now.lines kept.new }
-    ensures lengths { KeepsLengths scratch.old scratch.new }
+    requires left { claim.left < expr_count (lines_in case.now) }
+    requires right { claim.right < expr_count (lines_in case.now) }
+    requires shared { IsShared (lines_in case.now) shared.old }
+    ensures answer { IfOk result (λ found. IfSome found (IsVerdictOfSub (setting_in case.now)
+        (lines_in case.now) claim.word claim.left claim.right)) }
+    ensures shared { IsShared (lines_in case.now) shared.new }
 {
-    if !ask_by_kept(alloc, table, store, kept, left, right, word)? {
+    if !ask_by_kept(alloc, case, &mut shared.kept, claim)? {
         return Ok(None);
     }
-    let verdict = decide_kept(alloc, task, table, diagrams, store, kept, budget, scratch)?;
+    let verdict = decide_kept(alloc, case, &mut shared.kept, &mut shared.scratch)?;
     Ok(Some(verdict))
 }
 
@@ -120,33 +89,23 @@ fn verdict_by_kept(
 /// left side asks about is positive: whether it stands there.
 fn ask_by_kept(
     alloc: Global,
-    table: &Table,
-    store: &Store,
+    case: &Case<'_>,
     kept: &mut Kept,
-    left: usize,
-    right: usize,
-    word: Word,
+    claim: Inclusion,
 ) -> Result<bool, AllocError>
-    requires left { left < expr_count table.now.lines }
-    requires right { right < expr_count table.now.lines }
-    requires names { AreSetNames table.now.lines store.now.names }
-    requires kept { IsShared table.now.lines kept.old }
-    ensures kept { IsShared table.now.lines kept.new }
+    requires left { claim.left < expr_count (lines_in case.now) }
+    requires right { claim.right < expr_count (lines_in case.now) }
+    requires kept { IsShared (lines_in case.now) kept.old }
+    ensures kept { IsShared (lines_in case.now) kept.new }
     ensures asked { IfOk result (λ yes. yes ≡ true
-        → IsAskedBy table.now.lines word left right kept.new) }
+        → IsAskedBy (lines_in case.now) claim.word claim.left claim.right kept.new) }
 {
-    if !keep_right(
-        alloc,
-        table,
-        &store.names,
-        kept,
-        right,
-        asks_sides_after(word),
-    )? {
+    let table = case.table;
+    if !keep_right(alloc, case, kept, claim.right, asks_sides_after(claim.word))? {
         return Ok(false);
     }
-    match left_of(alloc, table, word, left) {
-        Ok(sides) => ask(alloc, table, kept, left, right, word, sides),
+    match left_of(alloc, table, claim.word, claim.left) {
+        Ok(sides) => ask(alloc, table, kept, claim, sides),
         Err(ShapeFault::Shape) => Ok(false),
         Err(ShapeFault::Memory) => Err(AllocError),
     }
@@ -157,22 +116,20 @@ fn ask(
     alloc: Global,
     table: &Table,
     kept: &mut Kept,
-    left: usize,
-    right: usize,
-    word: Word,
+    claim: Inclusion,
     sides: Sides,
 ) -> Result<bool, AllocError>
-    requires right { IsKeptFor table.now.lines kept.old right }
-    requires after { kept.old.after ≡ asks_sides_after word }
-    requires side { IsLeftSide table.now.lines word left sides.acts }
-    requires askings { AreLeftAskings table.now.lines word left sides.askings.items }
+    requires right { IsKeptFor table.now.lines kept.old claim.right }
+    requires after { kept.old.after ≡ asks_sides_after claim.word }
+    requires side { IsLeftSide table.now.lines claim.word claim.left sides.acts }
+    requires askings { AreLeftAskings table.now.lines claim.word claim.left sides.askings.items }
     requires below { All (λ asking. asking.set < expr_count table.now.lines) sides.askings.items }
-    ensures kept { IsKeptFor table.now.lines kept.new right }
+    ensures kept { IsKeptFor table.now.lines kept.new claim.right }
     ensures root { kept.new.root ≡ kept.old.root }
     ensures asked { IfOk result (λ yes. yes ≡ true
-        → IsAskedBy table.now.lines word left right kept.new) }
+        → IsAskedBy table.now.lines claim.word claim.left claim.right kept.new) }
 {
-    let _ = (left, right, word);
+    let _ = claim;
     if !are_positive(&sides.askings) {
         return Ok(false);
     }
@@ -189,42 +146,33 @@ fn ask(
     Ok(true)
 }
 
+/// Whether nothing is asked about with the sign of the right side's formulas.
+fn are_positive(askings: &[Asking]) -> bool
+    ensures { result ≡ true → (asking : Asking) → Contains askings.now asking
+        → asking.positive ≡ true }
+{
+    for asking in askings {
+        if !asking.positive {
+            return false;
+        }
+    }
+    true
+}
+
 /// The verdict on the question that stands beside what is kept.
 fn decide_kept(
     alloc: Global,
-    task: &Task,
-    table: &Table,
-    diagrams: &Diagrams,
-    store: &Store,
+    case: &Case<'_>,
     kept: &mut Kept,
-    budget: u64,
     scratch: &mut Scratch,
 ) -> Result<Verdict, AllocError>
-    requires over { diagrams.now.atoms ≡ atoms task.now }
-    requires nodes { NamesNodes (node_count diagrams.now) table.now.lines }
-    requires store { IsStoreOf task.now table.now.lines store.now }
-    requires question { IsQuestionOver table.now.lines (question_of kept.old.question) }
-    requires negative { kept.old.query.negative
-        ≡ map (λ a. operand_of table.now.lines a) kept.old.question.negative.items }
-    ensures answer { IfOk result (IsVerdictOfSets (setting_of task.now diagrams.now budget)
-        table.now.lines (question_of kept.old.question)) }
+    requires question { IsQuestionOver (lines_in case.now) (question_of kept.old.question) }
+    requires negative { AreOperands (lines_in case.now) kept.old.question.negative.items
+        kept.old.query.negative }
+    ensures answer { IfOk result (IsVerdictOfSets (setting_in case.now) (lines_in case.now)
+        (question_of kept.old.question)) }
     ensures kept { (lines : List Line) → IsShared lines kept.old → IsShared lines kept.new }
-    ensures lengths { KeepsLengths scratch.old scratch.new }
 {
-    let _count = table.expr_count();
-    kept.query.positive = operands_of(alloc, &store.names, &kept.question.positive)?;
-    let actions = asked_actions(alloc, task, table, kept.question.acts)?;
-    let verdict = decide_queries(
-        alloc,
-        task,
-        table,
-        diagrams,
-        store,
-        &kept.question,
-        &mut kept.query,
-        &actions,
-        budget,
-        scratch,
-    )?;
+    let verdict = decide_sets(alloc, case, &kept.question, &mut kept.query, scratch)?;
     Ok(verdict)
 }

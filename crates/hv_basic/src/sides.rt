@@ -1,19 +1,28 @@
 //! The two sides of a statement: whether they have the shape of its word, and what they ask about.
 
-ghost use Rattle.std.specs.Prelude.{◌≡◌, ◌<◌, ℕ, Option, IfOk, IfErr};
+ghost use Rattle.std.specs.Prelude.{◌<◌, ℕ, Option, IfOk, IfErr};
 ghost use Rattle.std.specs.List.{All};
 ghost use Rattle.hv_lines.specs.Numbering.{expr_count};
-ghost use Rattle.hv_lines.specs.Shapes.{HasSides, asks_sides_after, asks_step_after};
+ghost use Rattle.hv_lines.specs.Shapes.{HasSides};
 ghost use Rattle.hv_basic.specs.Faults.{IsShapeFault};
-ghost use Rattle.hv_basic.specs.Working.Gathered.{AreAskings, HasLeft, IsStepAdded};
+ghost use Rattle.hv_basic.specs.Working.Gathered.{AreAskings, AreLeftAskings, IsLeftSide};
 
 use crate::leaves::{Side, leaves};
-use crate::literals::{Asking, are_literals, gather, only_step};
+use crate::lefts::{asks_sides_after, left_of};
+use crate::literals::{Asking, Others, gather};
 use crate::shapes::ShapeFault;
 use hv_lines::{Table, Word};
 use std::alloc::Global;
 
-/// What the two sides ask about, and the action set of the step.
+/// The claim that the left set is within the right one, with its word.
+#[derive(Clone, Copy)]
+pub(crate) struct Inclusion {
+    pub word: Word,
+    pub left: usize,
+    pub right: usize,
+}
+
+/// What sides ask about, and the action set of the step.
 #[derive(Drop)]
 pub(crate) struct Sides {
     pub askings: Vec<Asking>,
@@ -21,84 +30,57 @@ pub(crate) struct Sides {
 }
 
 /// What the two sides of the statement ask about, where they have the shape of the word.
-pub(crate) fn sides_of(
-    alloc: Global,
-    table: &Table,
-    word: Word,
-    left: usize,
-    right: usize,
-) -> Result<Sides, ShapeFault>
-    requires left { left < expr_count table.now.lines }
-    requires right { right < expr_count table.now.lines }
-    ensures sides { IfOk result (λ sides. HasSides table.now.lines word left right sides.acts) }
+pub(crate) fn sides_of(alloc: Global, table: &Table, claim: Inclusion) -> Result<Sides, ShapeFault>
+    requires left { claim.left < expr_count table.now.lines }
+    requires right { claim.right < expr_count table.now.lines }
+    ensures sides { IfOk result (λ sides.
+        HasSides table.now.lines claim.word claim.left claim.right sides.acts) }
     ensures askings { IfOk result (λ sides.
-        AreAskings table.now.lines word left right sides.askings.items) }
+        AreAskings table.now.lines claim.word claim.left claim.right sides.askings.items) }
     ensures below { IfOk result (λ sides.
         All (λ asking. asking.set < expr_count table.now.lines) sides.askings.items) }
     ensures err { IfErr result (IsShapeFault ((acts : Option ℕ)
-        → HasSides table.now.lines word left right acts → ⊥)) }
+        → HasSides table.now.lines claim.word claim.left claim.right acts → ⊥)) }
 {
-    let _count = table.expr_count();
-    let lefts = leaves(alloc, table, Side::Left, left)?;
-    let rights = leaves(alloc, table, Side::Right, right)?;
-    if !are_literals(table, &rights) {
-        return Err(ShapeFault::Shape);
-    }
-    let mut askings = Vec::new(alloc);
-    gather(table, &lefts, true, asks_sides_after(word), &mut askings)?;
-    gather(table, &rights, false, asks_sides_after(word), &mut askings)?;
-    match add_step(alloc, table, word, &lefts, &mut askings) {
-        Ok(acts) => Ok(Sides { askings, acts }),
+    match left_of(alloc, table, claim.word, claim.left) {
+        Ok(sides) => with_right(alloc, table, claim, sides),
         Err(fault) => Err(fault),
     }
 }
 
-/// Adds what the literals of the step ask about, where the left side, which has these leaves, has
-/// the shape of the word; the action set of the step.
-pub(crate) fn add_step(
+/// What the left side asks about, and what the right one asks besides, where its leaves are
+/// literals.
+fn with_right(
     alloc: Global,
     table: &Table,
-    word: Word,
-    lefts: &[usize],
-    into: &mut Vec<Asking>,
-) -> Result<Option<usize>, ShapeFault>
-    requires { All (λ leaf. leaf < expr_count table.now.lines) lefts.now }
-    ensures ok { IfOk result (λ acts.
-        IsStepAdded table.now.lines word lefts.now acts into.old.items into.new.items) }
+    claim: Inclusion,
+    sides: Sides,
+) -> Result<Sides, ShapeFault>
+    requires right { claim.right < expr_count table.now.lines }
+    requires side { IsLeftSide table.now.lines claim.word claim.left sides.acts }
+    requires askings { AreLeftAskings table.now.lines claim.word claim.left sides.askings.items }
+    ensures sides { IfOk result (λ sides.
+        HasSides table.now.lines claim.word claim.left claim.right sides.acts) }
+    ensures askings { IfOk result (λ sides.
+        AreAskings table.now.lines claim.word claim.left claim.right sides.askings.items) }
+    ensures below { IfOk result (λ sides.
+        All (λ asking. asking.set < expr_count table.now.lines) sides.askings.items) }
     ensures err { IfErr result (IsShapeFault ((acts : Option ℕ)
-        → HasLeft table.now.lines word lefts.now acts → ⊥)) }
+        → HasSides table.now.lines claim.word claim.left claim.right acts → ⊥)) }
 {
-    if let Word::B1 = word {
-        if are_literals(table, lefts) {
-            return Ok(None);
-        }
-        return Err(ShapeFault::Shape);
-    }
-    let Some(step) = only_step(table, lefts, word) else {
-        return Err(ShapeFault::Shape);
-    };
-    let inner = leaves(alloc, table, Side::Left, step.set)?;
-    if !are_literals(table, &inner) {
-        return Err(ShapeFault::Shape);
-    }
-    gather(table, &inner, true, asks_step_after(word), into)?;
-    Ok(Some(step.acts))
-}
-
-pub(crate) fn asks_sides_after(word: Word) -> bool
-    ensures { result ≡ asks_sides_after word }
-{
-    match word {
-        Word::B2 => true,
-        _ => false,
-    }
-}
-
-fn asks_step_after(word: Word) -> bool
-    ensures { result ≡ asks_step_after word }
-{
-    match word {
-        Word::B3 => true,
-        _ => false,
+    let _count = table.expr_count();
+    let acts = sides.acts;
+    let mut askings = sides.askings;
+    let rights = leaves(alloc, table, Side::Right, claim.right)?;
+    match gather(
+        table,
+        &rights,
+        false,
+        asks_sides_after(claim.word),
+        &mut askings,
+    )? {
+        Others::None => Ok(Sides { askings, acts }),
+        Others::One(_) => Err(ShapeFault::Shape),
+        Others::More => Err(ShapeFault::Shape),
     }
 }

@@ -1,12 +1,14 @@
 //! The formulas of a proof, each in the store of its family.
 
-ghost use Rattle.std.specs.Prelude.{◌≡◌, ℕ, List, [], ◌∷◌, IfOk, OnOk, OnErr};
+ghost use Rattle.std.specs.Prelude.{◌≡◌, ◌<◌, ℕ, List, [], ◌∷◌, Some, IfOk, OnOk, OnErr};
+ghost use Rattle.std.specs.Prelude.{length, slice_get};
 ghost use Rattle.std.specs.List.{All};
 ghost use Rattle.hv_task.specs.Strips.{Strips, atoms};
-ghost use Rattle.hv_sets.specs.Kinds.{IsHornClause, IsTwoClause};
+ghost use Rattle.hv_sets.specs.Kinds.{IsDualHornClause, IsHornClause, IsTwoClause};
 ghost use Rattle.hv_clauses.specs.Clausal.{AreClauses};
 ghost use Rattle.hv_lines.specs.Numbering.{IsNumbered, expr_count};
 ghost use Rattle.hv_lines.specs.Queries.{named_by};
+ghost use Rattle.hv_lines.specs.declared.family.FormulaFamily.{FormulaFamily};
 ghost use Rattle.hv_lines.specs.declared.line.Expr.TheVariants as E;
 ghost use Rattle.hv_lines.specs.declared.line.Line.{Line};
 ghost use Rattle.hv_lines.specs.declared.line.Line.TheVariants as L;
@@ -15,7 +17,7 @@ ghost use Rattle.hv_basic.specs.Stores.{with_expr, with_line};
 ghost use Rattle.hv_basic.specs.Working.Stores.{IsUnstored};
 
 use hv_explicit::{Explicit, Explicits};
-use hv_horn::{Horn, HornFault, Horns};
+use hv_horn::{DualHorn, DualHornFault, DualHorns, Horn, HornFault, Horns};
 use hv_lines::{Constant, Expr, Line};
 use hv_sets::{Clauses, Which};
 use hv_task::Task;
@@ -28,6 +30,7 @@ use std::marker::Model;
 pub struct Store {
     alloc: Global,
     pub(crate) horns: Horns,
+    pub(crate) duals: DualHorns,
     pub(crate) twos: TwoCnfs,
     pub(crate) listed: Explicits,
     /// What the set of each `e` line is named by in the store of its family.
@@ -41,6 +44,7 @@ impl Model for Store {
 
     ghost view = { λ s. record {
       horns = s.horns;
+      duals = s.duals;
       twos = s.twos;
       listed = s.listed;
       names = s.names.items;
@@ -51,6 +55,7 @@ impl Store {
     /// A store without formulas.
     pub fn new(alloc: Global) -> Store
         ensures horns { result.horns ≡ [] }
+        ensures duals { result.duals ≡ [] }
         ensures twos { result.twos ≡ [] }
         ensures listed { result.listed ≡ [] }
         ensures names { result.names ≡ [] }
@@ -59,6 +64,7 @@ impl Store {
         Store {
             alloc,
             horns: Horns::new(alloc),
+            duals: DualHorns::new(alloc),
             twos: TwoCnfs::new(alloc),
             listed: Explicits::new(alloc),
             names: Vec::new(alloc),
@@ -99,6 +105,42 @@ impl Store {
         Ok(())
     }
 
+    /// The Horn formulas.
+    pub(crate) fn horns(&self) -> &Horns
+        ensures { result.now ≡ self.now.horns }
+    {
+        &self.horns
+    }
+
+    /// The dual Horn formulas.
+    pub(crate) fn duals(&self) -> &DualHorns
+        ensures { result.now ≡ self.now.duals }
+    {
+        &self.duals
+    }
+
+    /// The 2CNF formulas.
+    pub(crate) fn twos(&self) -> &TwoCnfs
+        ensures { result.now ≡ self.now.twos }
+    {
+        &self.twos
+    }
+
+    /// The explicit sets.
+    pub(crate) fn listed(&self) -> &Explicits
+        ensures { result.now ≡ self.now.listed }
+    {
+        &self.listed
+    }
+
+    /// What the set of an `e` line is named by.
+    pub(crate) fn name(&self, id: usize) -> Which
+        requires { id < length self.now.names }
+        ensures { slice_get self.now.names id ≡ Some result }
+    {
+        self.names[id]
+    }
+
     // The same by itself, without the lines before.
     fn put(&mut self, task: &Task, expr: &Expr) -> Result<(), AllocError>
         requires { CanBeStored (atoms task.now) expr.now }
@@ -110,6 +152,12 @@ impl Store {
             Expr::Horn(clauses) => {
                 let set = horn_of(self.alloc, task, clauses)?;
                 let number = self.horns.add(set)?;
+                self.names.push_reserved(Which::Set(number));
+                Ok(())
+            }
+            Expr::Dual(clauses) => {
+                let set = dual_of(self.alloc, task, clauses)?;
+                let number = self.duals.add(set)?;
                 self.names.push_reserved(Which::Set(number));
                 Ok(())
             }
@@ -125,7 +173,13 @@ impl Store {
                 self.names.push_reserved(Which::Set(number));
                 Ok(())
             }
-            _ => {
+            Expr::Constant(_)
+            | Expr::Node(_)
+            | Expr::Not(_)
+            | Expr::And(..)
+            | Expr::Or(..)
+            | Expr::After(..)
+            | Expr::Before(..) => {
                 self.names.push_reserved(name_of(expr));
                 Ok(())
             }
@@ -136,17 +190,20 @@ impl Store {
 /// What the set is named by that isn't put into a store.
 fn name_of(expr: &Expr) -> Which
     requires { IsUnstored expr.now }
-    ensures { (horns twos listed : ℕ) → result ≡ named_by horns twos listed expr.now }
+    ensures { (counts : FormulaFamily → ℕ) → result ≡ named_by counts expr.now }
 {
     match expr {
         Expr::Node(node) => Which::Set(*node as usize),
         Expr::Constant(constant) => constant_of(*constant),
-        _ => Which::Empty,
+        Expr::Not(_) | Expr::And(..) | Expr::Or(..) | Expr::After(..) | Expr::Before(..) => {
+            Which::Empty
+        }
+        Expr::Horn(_) | Expr::Dual(_) | Expr::Two(_) | Expr::States(_) => unreachable!(),
     }
 }
 
 fn constant_of(constant: Constant) -> Which
-    ensures { (horns twos listed : ℕ) → result ≡ named_by horns twos listed (E.Constant constant) }
+    ensures { (counts : FormulaFamily → ℕ) → result ≡ named_by counts (E.Constant constant) }
 {
     match constant {
         Constant::Empty => Which::Empty,
@@ -164,6 +221,18 @@ fn horn_of(alloc: Global, task: &Task, clauses: &Clauses) -> Result<Horn, AllocE
         Ok(set) => Ok(set),
         Err(HornFault::Memory) => Err(AllocError),
         Err(HornFault::NotHorn(_)) => unreachable!(),
+    }
+}
+
+fn dual_of(alloc: Global, task: &Task, clauses: &Clauses) -> Result<DualHorn, AllocError>
+    requires below { AreClauses (atoms task.now) clauses.now }
+    requires dual { All IsDualHornClause clauses.now }
+    ensures { IfOk result (λ set. set ≡ formula (atoms task.now) clauses.now) }
+{
+    match DualHorn::new(alloc, task, clauses) {
+        Ok(set) => Ok(set),
+        Err(DualHornFault::Memory) => Err(AllocError),
+        Err(DualHornFault::NotDual(_)) => unreachable!(),
     }
 }
 

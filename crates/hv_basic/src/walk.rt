@@ -8,35 +8,36 @@ ghost use Rattle.hv_lines.specs.Verdicts.{IsDecided};
 ghost use Rattle.hv_basic.specs.Working.Asked.{with_action};
 ghost use Rattle.hv_basic.specs.Working.Deciding.{AreAllReady};
 
+use crate::case::Case;
 use hv_lines::{Clash, Verdict};
 use hv_sets::{Family, Finding, Query, Scratch};
-use hv_task::{State, Task};
+use hv_task::State;
 use std::alloc::{AllocError, Global};
 
 /// The verdict of the queries for these actions: the first that passes the budget or has a
 /// counterexample decides.
 pub(crate) fn walk<F: Family>(
     alloc: Global,
-    task: &Task,
+    case: &Case<'_>,
     sets: &F,
     query: &mut Query,
     actions: &[Option<u32>],
-    budget: u64,
     scratch: &mut Scratch,
 ) -> Result<Verdict, AllocError>
     requires ready { AreAllReady (F.count sets.now)
-        (length task.now.actions) query.old actions.now }
+        (length case.now.task.now.actions) query.old actions.now }
     requires anchor { F.wants_anchor sets.now → HasAnchor query.old }
-    requires task { F.is_over sets.now (atoms task.now) }
-    ensures answer { IfOk result (IsDecided (λ q. F.passes sets.now task.now q budget)
-        (is_clash task.now (F.has sets.now)) (atoms task.now)
+    requires task { F.is_over sets.now (atoms case.now.task.now) }
+    ensures answer { IfOk result (IsDecided
+        (λ q. F.passes sets.now case.now.task.now q case.now.budget)
+        (is_clash case.now.task.now (F.has sets.now)) (atoms case.now.task.now)
         (map (with_action query.old) actions.now)) }
     ensures lengths { KeepsLengths scratch.old scratch.new }
     ensures kept { query.new.negative ≡ query.old.negative }
 {
     for action in actions {
         query.action = *action;
-        match sets.find(alloc, task, query, budget, scratch)? {
+        match sets.find(alloc, case.task, query, case.budget, scratch)? {
             Finding::Empty => {}
             Finding::Over => return Ok(Verdict::Over),
             Finding::Clash => {

@@ -1,13 +1,13 @@
 -- What is asked about with one sign, and the operands and queries that ask it.
-use Rattle.std.specs.Prelude.{◌≡◌, ◌↔◌, ℕ, Bool, true, List, Option, slice_index_or}
+use Rattle.std.specs.Prelude.{◌≡◌, ◌↔◌, ℕ, Bool, true, List, Option, map}
 use Rattle.std.specs.BTreeSet.{BTreeSet, contains}
 use Rattle.std.specs.List.{Contains}
 use Rattle.std.specs.Ordering.{bool_cmp, nat_cmp, ordering_then}
 use Rattle.std.specs.declared.cmp.Ordering.{Ordering}
 use Rattle.hv_sets.specs.declared.operand.Operand.{Operand}
-use Rattle.hv_sets.specs.declared.operand.Which.{Which}
-use Rattle.hv_sets.specs.declared.operand.Which.TheVariants as S
 use Rattle.hv_sets.specs.declared.query.Query.{Query}
+use Rattle.hv_lines.specs.Queries.{operand_of}
+use Rattle.hv_lines.specs.declared.line.Line.{Line}
 use Rattle.hv_basic.specs.declared.literals.Asking.{Asking}
 
 -- these are all that is asked about with the sign
@@ -28,13 +28,9 @@ AreKeys askings positive keys =
     → (contains order keys asked ≡ true)
     ↔ Contains askings (record { set = asked.0; after = asked.1; positive = positive })
 
--- the operand that asks this, where the sets are named so by their identifiers
-abbrev pub named_operand : List Which → ℕ × Bool → Operand
-named_operand names asked = record {
-  which = slice_index_or names asked.0 S.Empty;
-  id = asked.0;
-  after = asked.1;
-}
+-- the operands ask this
+abbrev pub AreOperands : List Line → List (ℕ × Bool) → List Operand → Type 0
+AreOperands lines asked operands = operands ≡ map (λ a. operand_of lines a) asked
 
 -- the query with another action
 abbrev pub with_action : Query → Option ℕ → Query

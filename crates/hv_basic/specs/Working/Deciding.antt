@@ -1,10 +1,13 @@
 -- Working definitions beside those of `Deciding`: for private contracts and proofs.
-use Rattle.std.specs.Prelude.{◌≡◌, ◌<◌, ℕ, List, Option, Some, IfSome, length, map, slice_get}
+use Rattle.std.specs.Prelude.{◌≡◌, ◌<◌, ℕ, List, [], Option, Some, IfSome, length, map, slice_get}
+use Rattle.std.specs.Prelude.{slice_index_or}
 use Rattle.hv_task.specs.Strips.{Strips, atoms}
+use Rattle.hv_sets.specs.Cost.{ClausesPass}
 use Rattle.hv_sets.specs.Query.{IsReady, is_clash}
+use Rattle.hv_sets.specs.Truth.{in_clauses}
+use Rattle.hv_sets.specs.declared.literal.Literal.{Literal}
 use Rattle.hv_sets.specs.declared.query.Query.{Query}
-use Rattle.hv_lines.specs.Queries.{PassesBudget, has_of, queries_of, query_of}
-use Rattle.hv_lines.specs.Working.Queries.{count_of}
+use Rattle.hv_lines.specs.Queries.{PassesBudget, count_of, has_of, queries_of, query_of}
 use Rattle.hv_lines.specs.Verdicts.{IsDecided}
 use Rattle.hv_lines.specs.declared.family.FormulaFamily.{FormulaFamily}
 use Rattle.hv_lines.specs.declared.verdict.Verdict.{Verdict}
@@ -26,6 +29,14 @@ abbrev pub IsDecidedOver : Setting → List Line → FormulaFamily → List Quer
 IsDecidedOver setting lines family queries verdict =
     IsDecided (PassesBudget setting lines family)
     (is_clash setting.task (has_of setting lines family)) (atoms setting.task) queries verdict
+
+-- the verdict of queries over formulas in clauses, by number
+abbrev pub IsDecidedIn : Setting → List (List (List Literal)) → List Query → Verdict → Type 0
+IsDecidedIn setting lists queries verdict =
+    IsDecided (λ query. ClausesPass setting.task (λ number. length (slice_index_or lists number []))
+    query setting.budget)
+    (is_clash setting.task (λ number state. in_clauses (slice_index_or lists number []) state))
+    (atoms setting.task) queries verdict
 
 -- the query, with each of these actions in turn, asks what the question asks; so many nodes there
 -- are

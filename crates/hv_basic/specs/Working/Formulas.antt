@@ -1,4 +1,4 @@
--- Formulas of the four families, and what is found of an inclusion between two of them.
+-- Formulas of the five families, and what is found of an inclusion between two of them.
 use Rattle.std.specs.Prelude.{◌≡◌, ◌<◌, ℕ, Bool, List, Option, None, Some, length}
 use Rattle.hv_sets.specs.Cost.{IsAnswer}
 use Rattle.hv_sets.specs.declared.finding.Finding.{Finding}
@@ -11,12 +11,15 @@ use Rattle.hv_lines.specs.Mixed.{clause_count, count_unless, either_count, liste
 use Rattle.hv_lines.specs.Shapes.{family_of}
 use Rattle.hv_lines.specs.declared.line.Expr.{Expr}
 use Rattle.hv_lines.specs.declared.line.Expr.TheVariants as E
+use Rattle.hv_task.specs.Strips.{atoms}
+use Rattle.hv_basic.specs.declared.case.Case.{Case}
 use Rattle.hv_basic.specs.declared.formula.AnyFormula.{AnyFormula}
 use Rattle.hv_basic.specs.declared.formula.AnyFormula.TheVariants as M
 
 -- what an `e` line with this formula says
 abbrev pub expr_of : AnyFormula → Expr
 expr_of (M.Horn set) = E.Horn set.now.clauses
+expr_of (M.Dual set) = E.Dual set.now.clauses
 expr_of (M.Two set) = E.Two set.now.clauses
 expr_of (M.States set) = E.States set.now.states
 expr_of (M.Node set) = E.Node set.node
@@ -24,6 +27,7 @@ expr_of (M.Node set) = E.Node set.node
 -- how many atoms the task has of whose states it is a set
 abbrev pub formula_atoms : AnyFormula → ℕ
 formula_atoms (M.Horn set) = set.now.atoms
+formula_atoms (M.Dual set) = set.now.atoms
 formula_atoms (M.Two set) = set.now.atoms
 formula_atoms (M.States set) = set.now.atoms
 formula_atoms (M.Node set) = set.nodes.now.atoms
@@ -31,6 +35,7 @@ formula_atoms (M.Node set) = set.nodes.now.atoms
 -- the state is in the formula
 abbrev pub formula_has : AnyFormula → List Bool → Bool
 formula_has (M.Horn set) state = in_formula set.now state
+formula_has (M.Dual set) state = in_formula set.now state
 formula_has (M.Two set) state = in_formula set.now state
 formula_has (M.States set) state = in_listing set.now state
 formula_has (M.Node set) state = in_node set.nodes.now set.node state
@@ -38,6 +43,7 @@ formula_has (M.Node set) state = in_node set.nodes.now set.node state
 -- how many steps the walk over the states outside the formula has, where there is one
 abbrev pub outside_count : AnyFormula → Option ℕ
 outside_count (M.Horn set) = Some (length (steps_of set.now))
+outside_count (M.Dual set) = Some (length (steps_of set.now))
 outside_count (M.Two set) = Some (length (steps_of set.now))
 outside_count (M.States set) = None
 outside_count (M.Node set) = Some (length (path_cubes set.nodes.now 0 set.node))
@@ -45,6 +51,7 @@ outside_count (M.Node set) = Some (length (path_cubes set.nodes.now 0 set.node))
 -- how many cubes the walk over the states of the formula has, where there is one
 abbrev pub inside_count : AnyFormula → Option ℕ
 inside_count (M.Horn set) = None
+inside_count (M.Dual set) = None
 inside_count (M.Two set) = None
 inside_count (M.States set) = Some (length (full_cubes set.now))
 inside_count (M.Node set) = Some (length (path_cubes set.nodes.now 1 set.node))
@@ -52,9 +59,14 @@ inside_count (M.Node set) = Some (length (path_cubes set.nodes.now 1 set.node))
 -- the formula is over so many atoms, or it is one of these nodes
 abbrev pub IsFormulaFor : ℕ → NodeList → AnyFormula → Type 0
 IsFormulaFor atoms nodes (M.Horn set) = set.now.atoms ≡ atoms
+IsFormulaFor atoms nodes (M.Dual set) = set.now.atoms ≡ atoms
 IsFormulaFor atoms nodes (M.Two set) = set.now.atoms ≡ atoms
 IsFormulaFor atoms nodes (M.States set) = set.now.atoms ≡ atoms
 IsFormulaFor atoms nodes (M.Node set) = set.nodes.now ≡ nodes
+
+-- the formula is one for the task or the nodes
+abbrev pub IsFormulaOn : Case → AnyFormula → Type 0
+IsFormulaOn case formula = IsFormulaFor (atoms case.task.now) case.diagrams.now formula
 
 -- the two formulas are of different families
 abbrev pub AreApart : AnyFormula → AnyFormula → Type 0

@@ -1,9 +1,9 @@
 -- What the literals of a statement ask about.
 use Rattle.std.specs.Prelude.{◌≡◌, ◌↔◌, ◌⊎◌, ℕ, Bool, true, false, not, List, Option, None, Some}
-use Rattle.std.specs.List.{All, Contains}
+use Rattle.std.specs.List.{Contains}
 use Rattle.hv_lines.specs.Literals.{IsLiteral}
-use Rattle.hv_lines.specs.Shapes.{IsAndLeaf, IsAsked, IsLiteralOf, IsStep, IsWithinFamily}
-use Rattle.hv_lines.specs.Shapes.{IsOfFamily, asks_step_after}
+use Rattle.hv_lines.specs.Shapes.{IsAndLeaf, IsAsked, IsLeftLeaf, IsLiteralOf, IsOfFamily, IsStep}
+use Rattle.hv_lines.specs.Shapes.{IsWithinFamily, asks_step_after}
 use Rattle.hv_lines.specs.declared.family.FormulaFamily.{FormulaFamily}
 use Rattle.hv_lines.specs.declared.family.FormulaFamily.TheVariants as F
 use Rattle.hv_lines.specs.declared.line.Line.{Line}
@@ -11,6 +11,8 @@ use Rattle.hv_lines.specs.declared.line.Word.{Word}
 use Rattle.hv_lines.specs.declared.line.Word.TheVariants as W
 use Rattle.hv_basic.specs.declared.literals.Asking.{Asking}
 use Rattle.hv_basic.specs.declared.literals.Literal.{Literal}
+use Rattle.hv_basic.specs.declared.literals.Others.{Others}
+use Rattle.hv_basic.specs.declared.literals.Others.TheVariants as O
 
 -- the leaf is the literal
 abbrev pub IsThe : List Line → ℕ → Literal → Type 0
@@ -41,13 +43,45 @@ AreAskings lines word left right askings =
     (asking : Asking) → Contains askings asking
     ↔ IsAsked lines word left right asking.positive (asking.set, asking.after)
 
--- the step of the left side, whose leaves these are: one is the step, each other one a literal
-pub record IsOnlyStep (lines : List Line) (word : Word) (leaves : List ℕ) (set acts : ℕ)
+-- the leaves that are no literals: none, this one alone, or two different ones at least
+abbrev pub AreOthers : List Line → List ℕ → Others → Type 0
+AreOthers lines leaves O.None = (leaf : ℕ) → Contains leaves leaf → IsLiteral lines leaf
+AreOthers lines leaves (O.One other) =
+    Contains leaves other × (IsLiteral lines other → ⊥)
+    × ((leaf : ℕ) → Contains leaves leaf → IsLiteral lines leaf ⊎ (leaf ≡ other))
+AreOthers lines leaves O.More =
+    (first : ℕ) × (second : ℕ) × Contains leaves first × Contains leaves second
+    × (IsLiteral lines first → ⊥) × (IsLiteral lines second → ⊥) × (first ≡ second → ⊥)
+
+-- the left side has the shape of the word, with the action set of its step if it has one
+abbrev pub IsLeftSide : List Line → Word → ℕ → Option ℕ → Type 0
+IsLeftSide lines word left None =
+    (word ≡ W.B1) × ((leaf : ℕ) → IsAndLeaf lines left leaf → IsLiteral lines leaf)
+IsLeftSide lines word left (Some acts) =
+    (step : ℕ) × (set : ℕ) × IsAndLeaf lines left step × IsStep lines word step set acts
+    × ((leaf : ℕ) → IsAndLeaf lines left leaf → IsLiteral lines leaf ⊎ (leaf ≡ step))
+    × ((leaf : ℕ) → IsAndLeaf lines set leaf → IsLiteral lines leaf)
+
+-- these are all that the left side asks about
+abbrev pub AreLeftAskings : List Line → Word → ℕ → List Asking → Type 0
+AreLeftAskings lines word left askings = (asking : Asking) → Contains askings asking
+    ↔ ((leaf : ℕ) × IsLeftLeaf lines word left leaf asking.after
+    × IsLiteralOf lines leaf asking.set asking.positive)
+
+-- the leaf is the step that the word asks for, and the intersection leaves of its set are literals
+abbrev pub IsLiteralStep : List Line → Word → ℕ → ℕ → ℕ → Type 0
+IsLiteralStep lines word step set acts =
+    IsStep lines word step set acts
+    × ((leaf : ℕ) → IsAndLeaf lines set leaf → IsLiteral lines leaf)
+
+-- the leaf is the step that the word asks for, and what the literals of its set ask about was added
+pub record IsStepAdded (lines : List Line) (word : Word) (step acts : ℕ) (old new : List Asking)
     : Type 0 where
-  pub step : ℕ
-  pub among : Contains leaves step
-  pub is : IsStep lines word step set acts
-  pub others : (leaf : ℕ) → Contains leaves leaf → IsLiteral lines leaf ⊎ (leaf ≡ step)
+  pub set : ℕ
+  pub is : IsLiteralStep lines word step set acts
+  pub inner : List ℕ
+  pub leaves : (leaf : ℕ) → Contains inner leaf ↔ IsAndLeaf lines set leaf
+  pub gathered : AreGathered lines inner true (asks_step_after word) old new
 
 -- the formulas among what is asked about are of the family; where there is none it is Horn
 pub record IsFamilyIn (lines : List Line) (askings : List Asking) (family : FormulaFamily)
@@ -55,20 +89,3 @@ pub record IsFamilyIn (lines : List Line) (askings : List Asking) (family : Form
   pub within : (asking : Asking) → Contains askings asking → IsWithinFamily lines family asking.set
   pub some : (family ≡ F.Horn) ⊎ ((asking : Asking) × Contains askings asking
       × IsOfFamily lines family asking.set)
-
--- the left side, whose leaves these are, has the shape of the word, with the action set of its step
--- if it has one
-abbrev pub HasLeft : List Line → Word → List ℕ → Option ℕ → Type 0
-HasLeft lines word leaves None = (word ≡ W.B1) × All (IsLiteral lines) leaves
-HasLeft lines word leaves (Some acts) =
-    (set : ℕ) × IsOnlyStep lines word leaves set acts
-    × ((leaf : ℕ) → IsAndLeaf lines set leaf → IsLiteral lines leaf)
-
--- the left side has the shape, and what the literals of its step ask about was added
-abbrev pub IsStepAdded : List Line → Word → List ℕ → Option ℕ → List Asking → List Asking → Type 0
-IsStepAdded lines word leaves None old new = (word ≡ W.B1) × All (IsLiteral lines) leaves
-    × (new ≡ old)
-IsStepAdded lines word leaves (Some acts) old new =
-    (set : ℕ) × (inner : List ℕ) × IsOnlyStep lines word leaves set acts
-    × ((leaf : ℕ) → Contains inner leaf ↔ IsAndLeaf lines set leaf) × All (IsLiteral lines) inner
-    × AreGathered lines inner true (asks_step_after word) old new

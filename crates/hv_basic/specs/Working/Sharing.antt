@@ -16,15 +16,17 @@ use Rattle.hv_lines.specs.declared.line.Word.TheVariants as W
 use Rattle.hv_lines.specs.Setting.{Setting}
 use Rattle.hv_lines.specs.Verdicts.{IsVerdictOfSets}
 use Rattle.hv_lines.specs.declared.verdict.Verdict.{Verdict}
+use Rattle.hv_basic.specs.Sharing.{ArePlain}
+use Rattle.hv_basic.specs.Working.Asked.{AreOperands}
 use Rattle.hv_basic.specs.Working.Gathered.{IsFamilyIn}
 use Rattle.hv_basic.specs.Working.Views.{question_of}
 use Rattle.hv_basic.specs.declared.literals.Asking.{Asking}
 use Rattle.hv_basic.specs.declared.shared.Kept.{Kept}
 
--- the names are those by which operands speak of the sets of these lines
-pub record AreSetNames (lines : List Line) (names : List Which) : Type 0 where
-  pub each : length names ≡ expr_count lines
-  pub is : (id : ℕ) → id < expr_count lines → slice_get names id ≡ Some (which_at lines id)
+-- what is kept are formulas and constants, with their family and the operands that ask about them
+abbrev pub AreKeptPlain : List Line → Kept → Type 0
+AreKeptPlain lines kept =
+    ArePlain lines kept.after kept.family kept.question.negative.items kept.query.negative
 
 -- what the family of one more set makes of the family of those before it
 abbrev pub IsFamilyWith : Option FormulaFamily → Option FormulaFamily → Option FormulaFamily
@@ -49,21 +51,6 @@ IsPartBeside lines kept root part = (part < expr_count lines) × ((first : ℕ) 
     × ((expr_at lines root ≡ Some (E.Or first part))
     ⊎ (expr_at lines root ≡ Some (E.Or part first))))
 
--- the left side has the shape of the word, with the action set of its step if it has one
-abbrev pub IsLeftSide : List Line → Word → ℕ → Option ℕ → Type 0
-IsLeftSide lines word left None =
-    (word ≡ W.B1) × ((leaf : ℕ) → IsAndLeaf lines left leaf → IsLiteral lines leaf)
-IsLeftSide lines word left (Some acts) =
-    (step : ℕ) × (set : ℕ) × IsAndLeaf lines left step × IsStep lines word step set acts
-    × ((leaf : ℕ) → IsAndLeaf lines left leaf → IsLiteral lines leaf ⊎ (leaf ≡ step))
-    × ((leaf : ℕ) → IsAndLeaf lines set leaf → IsLiteral lines leaf)
-
--- these are all that the left side asks about
-abbrev pub AreLeftAskings : List Line → Word → ℕ → List Asking → Type 0
-AreLeftAskings lines word left askings = (asking : Asking) → Contains askings asking
-    ↔ ((leaf : ℕ) × IsLeftLeaf lines word left leaf asking.after
-    × IsLiteralOf lines leaf asking.set asking.positive)
-
 -- the family of a statement, of whose right side this is the family
 abbrev pub IsFamilyBeside : List Line → List Asking → Option FormulaFamily → FormulaFamily → Type 0
 IsFamilyBeside lines askings None family = IsFamilyIn lines askings family
@@ -75,8 +62,7 @@ IsFamilyBeside lines askings (Some kept) family =
 -- one
 pub record IsAskedBy (lines : List Line) (word : Word) (left right : ℕ) (kept : Kept) : Type 0 where
   pub is : IsQuestion lines word left right (question_of kept.question)
-  pub negative : kept.query.negative
-      ≡ map (λ a. operand_of lines a) kept.question.negative.items
+  pub negative : AreOperands lines kept.question.negative.items kept.query.negative
 
 -- the verdict is that of the statement that the left set is within the right one, which has the
 -- shape of the word

@@ -1,21 +1,23 @@
-use Rattle.std.proofs.Common.{true, subst}
+use Rattle.std.proofs.Common.{◌≡◌, ℕ, true, subst}
 use Rattle.hv_lines.specs.Shapes.{asks_sides_after}
-use Rattle.hv_basic.specs.Working.Gathered.{AreGathered, IsStepAdded}
-use Rattle.hv_basic.proofs.LeftSides.{left_askings, left_below, left_side}
+use Rattle.hv_basic.specs.Working.Gathered.{AreGathered, AreOthers}
+use Rattle.hv_basic.specs.declared.literals.Others.TheVariants as O
+use Rattle.hv_basic.proofs.LeftSides.{alone_fails, askings_alone, askings_step, left_alone}
+use Rattle.hv_basic.proofs.LeftSides.{left_below, left_step, more_fails, step_fails}
+use Rattle.hv_basic.proofs.Siding.{fault_of}
 use Rattle.hv_basic.proofs.lefts.left_of.Goals as goal
 
-pub returns-in-Ok-clause-side : goal.returns-in-Ok-clause-side
-returns-in-Ok-clause-side c =
-    left_side c.args.table.now.lines c.args.word c.args.left c.in_ok-lefts.lefts.items
-    c.in_ok-lefts.ensures.leaves c.in-Ok.acts
-    c.gather.new.into.items c.add_step.new.into.items
-    (subst (λ xs. IsStepAdded c.args.table.now.lines c.args.word xs c.in-Ok.acts
-    c.gather.new.into.items c.add_step.new.into.items)
-    c.deref-2.ensures.value c.in-Ok.ensures.ok)
+pub returns-in-B1-clause-side : goal.returns-in-B1-clause-side
+returns-in-B1-clause-side c =
+    left_alone c.args.table.now.lines c.args.word c.args.left c.in_ok-lefts.lefts.items
+    c.in_ok-lefts.ensures.leaves
+    (subst (λ xs. AreOthers c.args.table.now.lines xs O.None) c.deref.ensures.value
+    (subst (AreOthers c.args.table.now.lines c.deref.result.now) c.in-None.is
+    c.in_ok-gather.ensures.others)) c.in-B1.is
 
-pub returns-in-Ok-clause-askings : goal.returns-in-Ok-clause-askings
-returns-in-Ok-clause-askings c =
-    left_askings c.args.table.now.lines c.args.word c.args.left c.in_ok-lefts.lefts.items
+pub returns-in-B1-clause-askings : goal.returns-in-B1-clause-askings
+returns-in-B1-clause-askings c =
+    askings_alone c.args.table.now.lines c.args.word c.args.left c.in_ok-lefts.lefts.items
     c.in_ok-lefts.ensures.leaves c.gather.new.into.items
     (subst (λ old. AreGathered c.args.table.now.lines c.in_ok-lefts.lefts.items true
     (asks_sides_after c.args.word) old c.gather.new.into.items) c.new-askings.ensures.items
@@ -23,17 +25,65 @@ returns-in-Ok-clause-askings c =
     c.new-askings.result.items c.gather.new.into.items) c.deref.ensures.value
     (subst (λ b. AreGathered c.args.table.now.lines c.deref.result.now true b
     c.new-askings.result.items c.gather.new.into.items) c.asks_sides_after.ensures
-    c.in_ok-gather.ensures)))
-    c.in-Ok.acts c.add_step.new.into.items
-    (subst (λ xs. IsStepAdded c.args.table.now.lines c.args.word xs c.in-Ok.acts
-    c.gather.new.into.items c.add_step.new.into.items)
-    c.deref-2.ensures.value c.in-Ok.ensures.ok)
+    c.in_ok-gather.ensures.gathered))) c.in-B1.is
+
+pub returns-in-B1-clause-below : goal.returns-in-B1-clause-below
+returns-in-B1-clause-below c =
+    left_below c.args.table.now.lines c.args.word c.args.left c.gather.new.into.items
+    c.expr_count-count.ensures.table
+    (askings_alone c.args.table.now.lines c.args.word c.args.left c.in_ok-lefts.lefts.items
+    c.in_ok-lefts.ensures.leaves c.gather.new.into.items
+    (subst (λ old. AreGathered c.args.table.now.lines c.in_ok-lefts.lefts.items true
+    (asks_sides_after c.args.word) old c.gather.new.into.items) c.new-askings.ensures.items
+    (subst (λ xs. AreGathered c.args.table.now.lines xs true (asks_sides_after c.args.word)
+    c.new-askings.result.items c.gather.new.into.items) c.deref.ensures.value
+    (subst (λ b. AreGathered c.args.table.now.lines c.deref.result.now true b
+    c.new-askings.result.items c.gather.new.into.items) c.asks_sides_after.ensures
+    c.in_ok-gather.ensures.gathered))) c.in-B1.is)
+
+pub returns-in-None : goal.returns-in-None
+returns-in-None c = record {
+  side = tt;
+  askings = tt;
+  below = tt;
+  err = alone_fails c.args.table.now.lines c.args.word c.args.left c.in_ok-lefts.lefts.items
+      c.in_ok-lefts.ensures.leaves
+      (subst (λ xs. AreOthers c.args.table.now.lines xs O.None) c.deref.ensures.value
+      (subst (AreOthers c.args.table.now.lines c.deref.result.now) c.in-None.is
+      c.in_ok-gather.ensures.others)) c.in_default.not-B1;
+}
+
+pub returns-in-Ok-clause-side : goal.returns-in-Ok-clause-side
+returns-in-Ok-clause-side c =
+    left_step c.args.table.now.lines c.args.word c.args.left c.in_ok-lefts.lefts.items
+    c.in_ok-lefts.ensures.leaves c.in-One.leaf
+    (subst (λ xs. AreOthers c.args.table.now.lines xs (O.One c.in-One.leaf)) c.deref.ensures.value
+    (subst (AreOthers c.args.table.now.lines c.deref.result.now) c.in-One.is
+    c.in_ok-gather.ensures.others))
+    c.in-Ok.acts c.gather.new.into.items c.add_step.new.into.items c.in-Ok.ensures.ok
+
+pub returns-in-Ok-clause-askings : goal.returns-in-Ok-clause-askings
+returns-in-Ok-clause-askings c =
+    askings_step c.args.table.now.lines c.args.word c.args.left c.in_ok-lefts.lefts.items
+    c.in_ok-lefts.ensures.leaves c.gather.new.into.items
+    (subst (λ old. AreGathered c.args.table.now.lines c.in_ok-lefts.lefts.items true
+    (asks_sides_after c.args.word) old c.gather.new.into.items) c.new-askings.ensures.items
+    (subst (λ xs. AreGathered c.args.table.now.lines xs true (asks_sides_after c.args.word)
+    c.new-askings.result.items c.gather.new.into.items) c.deref.ensures.value
+    (subst (λ b. AreGathered c.args.table.now.lines c.deref.result.now true b
+    c.new-askings.result.items c.gather.new.into.items) c.asks_sides_after.ensures
+    c.in_ok-gather.ensures.gathered)))
+    c.in-One.leaf c.in-Ok.acts c.add_step.new.into.items
+    (subst (λ xs. AreOthers c.args.table.now.lines xs (O.One c.in-One.leaf)) c.deref.ensures.value
+    (subst (AreOthers c.args.table.now.lines c.deref.result.now) c.in-One.is
+    c.in_ok-gather.ensures.others))
+    c.in-Ok.ensures.ok
 
 pub returns-in-Ok-clause-below : goal.returns-in-Ok-clause-below
 returns-in-Ok-clause-below c =
     left_below c.args.table.now.lines c.args.word c.args.left c.add_step.new.into.items
     c.expr_count-count.ensures.table
-    (left_askings c.args.table.now.lines c.args.word c.args.left c.in_ok-lefts.lefts.items
+    (askings_step c.args.table.now.lines c.args.word c.args.left c.in_ok-lefts.lefts.items
     c.in_ok-lefts.ensures.leaves c.gather.new.into.items
     (subst (λ old. AreGathered c.args.table.now.lines c.in_ok-lefts.lefts.items true
     (asks_sides_after c.args.word) old c.gather.new.into.items) c.new-askings.ensures.items
@@ -41,8 +91,28 @@ returns-in-Ok-clause-below c =
     c.new-askings.result.items c.gather.new.into.items) c.deref.ensures.value
     (subst (λ b. AreGathered c.args.table.now.lines c.deref.result.now true b
     c.new-askings.result.items c.gather.new.into.items) c.asks_sides_after.ensures
-    c.in_ok-gather.ensures)))
-    c.in-Ok.acts c.add_step.new.into.items
-    (subst (λ xs. IsStepAdded c.args.table.now.lines c.args.word xs c.in-Ok.acts
-    c.gather.new.into.items c.add_step.new.into.items)
-    c.deref-2.ensures.value c.in-Ok.ensures.ok))
+    c.in_ok-gather.ensures.gathered)))
+    c.in-One.leaf c.in-Ok.acts c.add_step.new.into.items
+    (subst (λ xs. AreOthers c.args.table.now.lines xs (O.One c.in-One.leaf)) c.deref.ensures.value
+    (subst (AreOthers c.args.table.now.lines c.deref.result.now) c.in-One.is
+    c.in_ok-gather.ensures.others))
+    c.in-Ok.ensures.ok)
+
+pub returns-in-One-clause-err : goal.returns-in-One-clause-err
+returns-in-One-clause-err c =
+    fault_of _ _ (λ out. step_fails c.args.table.now.lines c.args.word c.args.left
+    c.in_ok-lefts.lefts.items
+    c.in_ok-lefts.ensures.leaves
+    c.in-One.leaf
+    (subst (λ xs. AreOthers c.args.table.now.lines xs (O.One c.in-One.leaf)) c.deref.ensures.value
+    (subst (AreOthers c.args.table.now.lines c.deref.result.now) c.in-One.is
+    c.in_ok-gather.ensures.others))
+    out) c.in-Err.fault c.in-Err.ensures.err
+
+pub returns-clause-err : goal.returns-clause-err
+returns-clause-err c =
+    more_fails c.args.table.now.lines c.args.word c.args.left c.in_ok-lefts.lefts.items
+    c.in_ok-lefts.ensures.leaves
+    (subst (λ xs. AreOthers c.args.table.now.lines xs O.More) c.deref.ensures.value
+    (subst (AreOthers c.args.table.now.lines c.deref.result.now) c.in-More.is
+    c.in_ok-gather.ensures.others))

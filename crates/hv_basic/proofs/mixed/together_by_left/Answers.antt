@@ -14,6 +14,16 @@ returns-in_ok-together-in-Horn-clause-answer g c =
     (Some c.in_ok-together-in-Horn.field-0) c.together.new.scratch.state) (sym c.in-Horn.is)
     (length (g.L.Outside.outside c.args.left.now), refl, c.in_ok-together-in-Horn.ensures.answer)
 
+pub returns-in_ok-together-in-Dual-clause-answer : goal.returns-in_ok-together-in-Dual-clause-answer
+returns-in_ok-together-in-Dual-clause-answer g c =
+    subst (λ f. IsFoundInclusion c.args.budget
+    (count_unless (listed_count (expr_of f))
+    (Some (length (g.L.Outside.outside c.args.left.now))))
+    (g.L.StateSet.atoms c.args.left.now) (difference (complement (g.L.StateSet.has c.args.left.now))
+    (formula_has f))
+    (Some c.in_ok-together-in-Dual.field-0) c.together-in-Dual.new.scratch.state) (sym c.in-Dual.is)
+    (length (g.L.Outside.outside c.args.left.now), refl, c.in_ok-together-in-Dual.ensures.answer)
+
 pub returns-in_ok-together-in-Two-clause-answer : goal.returns-in_ok-together-in-Two-clause-answer
 returns-in_ok-together-in-Two-clause-answer g c =
     subst (λ f. IsFoundInclusion c.args.budget

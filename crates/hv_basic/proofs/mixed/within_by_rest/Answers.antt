@@ -17,6 +17,15 @@ returns-in_ok-within_rest-in-Horn-clause-answer c =
     (Some c.in_ok-within_rest-in-Horn.field-0) c.within_rest.new.scratch.state) (sym c.in-Horn.is)
     (length (steps_of c.in-Horn.set.now), refl, c.in_ok-within_rest-in-Horn.ensures.answer)
 
+pub returns-in_ok-within_rest-in-Dual-clause-answer :
+    goal.returns-in_ok-within_rest-in-Dual-clause-answer
+returns-in_ok-within_rest-in-Dual-clause-answer c =
+    subst (λ f. IsFoundInclusion c.args.budget (outside_count f) (formula_atoms c.args.left.now)
+    (difference (formula_has c.args.left.now) (formula_has f))
+    (Some c.in_ok-within_rest-in-Dual.field-0) c.within_rest-in-Dual.new.scratch.state)
+    (sym c.in-Dual.is)
+    (length (steps_of c.in-Dual.set.now), refl, c.in_ok-within_rest-in-Dual.ensures.answer)
+
 pub returns-in_ok-within_rest-in-Two-clause-answer :
     goal.returns-in_ok-within_rest-in-Two-clause-answer
 returns-in_ok-within_rest-in-Two-clause-answer c =

@@ -6,14 +6,15 @@ use Rattle.hv_basic.proofs.shapes.question_from.Goals as goal
 
 pub returns-in_default-clause-err : goal.returns-in_default-clause-err
 returns-in_default-clause-err c =
-    family_fails c.args.table.now.lines c.args.word c.args.left c.args.right
+    family_fails c.args.table.now.lines c.args.claim.word c.args.claim.left c.args.claim.right
     c.args.sides.askings.items c.requires.askings
     (λ family is. c.in_default.ensures family
     (subst (λ xs. IsFamilyIn c.args.table.now.lines xs family) (sym c.deref.ensures.value) is))
 
 pub returns-then-len-gt-MOST_OPERANDS-clause-err : goal.returns-then-len-gt-MOST_OPERANDS-clause-err
 returns-then-len-gt-MOST_OPERANDS-clause-err c =
-    few_fails c.args.table.now.lines c.args.word c.args.left c.args.right c.args.sides.askings.items
+    few_fails c.args.table.now.lines c.args.claim.word c.args.claim.left c.args.claim.right
+    c.args.sides.askings.items
     c.requires.askings
     c.in_ok-positive.positive.items c.in_ok-negative.negative.items c.in_ok-positive.ensures.rises
     c.in_ok-negative.ensures.rises
@@ -25,7 +26,7 @@ returns-then-len-gt-MOST_OPERANDS-clause-err c =
 
 pub returns-clause-ok : goal.returns-clause-ok
 returns-clause-ok c =
-    question_from c.args.table.now.lines c.args.word c.args.left c.args.right
+    question_from c.args.table.now.lines c.args.claim.word c.args.claim.left c.args.claim.right
     c.args.sides.askings.items c.requires.askings
     c.args.sides.acts c.in-Some.family c.in_ok-positive.positive.items
     c.in_ok-negative.negative.items c.requires.sides
@@ -40,11 +41,11 @@ returns-clause-ok c =
 
 pub returns-clause-over : goal.returns-clause-over
 returns-clause-over c = record {
-  word = c.args.word;
-  left = c.args.left;
-  right = c.args.right;
+  word = c.args.claim.word;
+  left = c.args.claim.left;
+  right = c.args.claim.right;
   is =
-      question_from c.args.table.now.lines c.args.word c.args.left c.args.right
+      question_from c.args.table.now.lines c.args.claim.word c.args.claim.left c.args.claim.right
       c.args.sides.askings.items c.requires.askings
       c.args.sides.acts c.in-Some.family c.in_ok-positive.positive.items
       c.in_ok-negative.negative.items c.requires.sides

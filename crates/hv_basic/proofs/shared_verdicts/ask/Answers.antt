@@ -9,7 +9,7 @@ use Rattle.hv_basic.proofs.shared_verdicts.ask.Goals as goal
 pub returns-clause-asked : goal.returns-clause-asked
 returns-clause-asked c = λ _. record {
   is =
-      question_by c.args.table.now.lines c.args.word c.args.left c.args.right
+      question_by c.args.table.now.lines c.args.claim.word c.args.claim.left c.args.claim.right
       c.args.sides.askings.items c.args.kept.now.after c.args.kept.now.family
       c.args.kept.now.question.negative.items c.args.kept.now.query.negative c.requires.right.plain
       c.requires.right.leaves c.requires.after

@@ -1,7 +1,8 @@
 use Rattle.std.proofs.Common.{ℕ, ◌<◌}
 use Rattle.hv_lines.specs.Verdicts.{IsOutside}
+use Rattle.hv_basic.specs.Cases.{lines_in}
 use Rattle.hv_basic.proofs.verdicts.decide_acts.Given as goal
 
 abbrev pub invariant-loop-action : goal.invariant-loop-action
 invariant-loop-action l = (lower : ℕ) → lower < l.action
-    → IsOutside l.task l.table.lines l.first l.second lower → ⊥
+    → IsOutside l.case.task.now (lines_in l.case) l.first l.second lower → ⊥

@@ -1,23 +1,23 @@
-use Rattle.std.proofs.Common.{◌∙◌, ap, map, subst, sym}
+use Rattle.std.proofs.Common.{◌∙◌, map, subst, sym}
 use Rattle.hv_task.specs.Strips.{atoms}
 use Rattle.hv_explicit.specs.Listing.{AreOver}
 use Rattle.hv_lines.specs.Queries.{listed_of}
 use Rattle.hv_basic.specs.Working.Asked.{with_action}
-use Rattle.hv_basic.specs.Stores.{StoreState}
 use Rattle.hv_basic.proofs.Storing.{listed_over, listed_decided}
 use Rattle.hv_basic.proofs.verdicts.decide_listed.Goals as goal
 
 pub walk-requires-clause-task : goal.walk-requires-clause-task
 walk-requires-clause-task c =
-    subst (λ s. AreOver s (atoms c.args.task.now))
-    (sym (ap (λ (s : StoreState). s.listed) c.store.view_is ∙ c.requires.store.listed))
-    (listed_over (atoms c.args.task.now) (listed_of c.args.table.now.lines))
+    subst (λ s. AreOver s (atoms c.args.case.now.task.now))
+    (sym (c.listed-sets.ensures ∙ c.args.case.now.stored.listed))
+    (listed_over (atoms c.args.case.now.task.now) (listed_of c.args.case.now.table.now.lines))
 
 pub returns-clause-answer : goal.returns-clause-answer
 returns-clause-answer c =
-    listed_decided (atoms c.args.task.now) (listed_of c.args.table.now.lines) c.args.task.now
-    c.args.budget (atoms c.args.task.now)
+    listed_decided (atoms c.args.case.now.task.now) (listed_of c.args.case.now.table.now.lines)
+    c.args.case.now.task.now
+    c.args.case.now.budget (atoms c.args.case.now.task.now)
     (map (with_action c.args.query.now) c.args.actions.now) c.in_ok-verdict.verdict
-    c.store.inside.listed
-    (ap (λ (s : StoreState). s.listed) c.store.view_is ∙ c.requires.store.listed)
+    c.listed-sets.result.now
+    (c.listed-sets.ensures ∙ c.args.case.now.stored.listed)
     c.in_ok-verdict.ensures.answer

@@ -27,14 +27,18 @@ pub returns-in-Over-clause-answer : goal.returns-in-Over-clause-answer
 returns-in-Over-clause-answer g c =
     let a : Option ℕ = get_or c.args.actions.now c.loop-action.action-index None in (
       with_action c.args.query.now a,
-      first_at (λ q. g.F.Family.passes c.args.sets.now c.args.task.now q c.args.budget)
-          (is_clash c.args.task.now (g.F.Family.has c.args.sets.now)) (atoms c.args.task.now)
+      first_at (λ q. g.F.Family.passes c.args.sets.now c.args.case.now.task.now q
+          c.args.case.now.budget)
+          (is_clash c.args.case.now.task.now (g.F.Family.has c.args.sets.now)) (atoms
+          c.args.case.now.task.now)
           c.args.query.now c.args.actions.now c.loop-action.action-index a
           c.loop-action.invariant.settled
           (slice_get-get_or c.args.actions.now c.loop-action.action-index None
           c.loop-action-test.true),
-      over_here (λ q. g.F.Family.passes c.args.sets.now c.args.task.now q c.args.budget)
-          (is_clash c.args.task.now (g.F.Family.has c.args.sets.now)) (atoms c.args.task.now)
+      over_here (λ q. g.F.Family.passes c.args.sets.now c.args.case.now.task.now q
+          c.args.case.now.budget)
+          (is_clash c.args.case.now.task.now (g.F.Family.has c.args.sets.now)) (atoms
+          c.args.case.now.task.now)
           (with_action c.loop-action.query a) (with_action c.args.query.now a)
           (same_query c.args.query.now c.loop-action.query a c.loop-action.invariant.positive
           c.loop-action.invariant.negative)
@@ -45,8 +49,10 @@ pub returns-in-Clash-clause-answer : goal.returns-in-Clash-clause-answer
 returns-in-Clash-clause-answer g c =
     let a : Option ℕ = get_or c.args.actions.now c.loop-action.action-index None in
     let found =
-    clash_here (λ q. g.F.Family.passes c.args.sets.now c.args.task.now q c.args.budget)
-    (is_clash c.args.task.now (g.F.Family.has c.args.sets.now)) (atoms c.args.task.now)
+    clash_here (λ q. g.F.Family.passes c.args.sets.now c.args.case.now.task.now q
+    c.args.case.now.budget)
+    (is_clash c.args.case.now.task.now (g.F.Family.has c.args.sets.now)) (atoms
+    c.args.case.now.task.now)
     (with_action c.loop-action.query a) (with_action c.args.query.now a)
     (same_query c.args.query.now c.loop-action.query a c.loop-action.invariant.positive
     c.loop-action.invariant.negative)
@@ -54,8 +60,10 @@ returns-in-Clash-clause-answer g c =
     let same : c.in_ok-state-in-Clash.state
     ≡ c.find.new.scratch.state = c.in_ok-state-in-Clash.ensures ∙ c.state.ensures in (
       with_action c.args.query.now a,
-      first_at (λ q. g.F.Family.passes c.args.sets.now c.args.task.now q c.args.budget)
-          (is_clash c.args.task.now (g.F.Family.has c.args.sets.now)) (atoms c.args.task.now)
+      first_at (λ q. g.F.Family.passes c.args.sets.now c.args.case.now.task.now q
+          c.args.case.now.budget)
+          (is_clash c.args.case.now.task.now (g.F.Family.has c.args.sets.now)) (atoms
+          c.args.case.now.task.now)
           c.args.query.now c.args.actions.now c.loop-action.action-index a
           c.loop-action.invariant.settled
           (slice_get-get_or c.args.actions.now c.loop-action.action-index None
@@ -81,14 +89,18 @@ loop-action-preserved g c =
       positive = c.loop-action.invariant.positive;
       negative = c.loop-action.invariant.negative;
       settled =
-          settled_more (λ q. g.F.Family.passes c.args.sets.now c.args.task.now q c.args.budget)
-          (is_clash c.args.task.now (g.F.Family.has c.args.sets.now)) (atoms c.args.task.now)
+          settled_more (λ q. g.F.Family.passes c.args.sets.now c.args.case.now.task.now q
+          c.args.case.now.budget)
+          (is_clash c.args.case.now.task.now (g.F.Family.has c.args.sets.now)) (atoms
+          c.args.case.now.task.now)
           c.args.query.now c.args.actions.now c.loop-action.action-index a
           c.loop-action.invariant.settled
           (slice_get-get_or c.args.actions.now c.loop-action.action-index None
           c.loop-action-test.true)
-          (settled_here (λ q. g.F.Family.passes c.args.sets.now c.args.task.now q c.args.budget)
-          (is_clash c.args.task.now (g.F.Family.has c.args.sets.now)) (atoms c.args.task.now)
+          (settled_here (λ q. g.F.Family.passes c.args.sets.now c.args.case.now.task.now q
+          c.args.case.now.budget)
+          (is_clash c.args.case.now.task.now (g.F.Family.has c.args.sets.now)) (atoms
+          c.args.case.now.task.now)
           (with_action c.loop-action.query a) (with_action c.args.query.now a)
           (same_query c.args.query.now c.loop-action.query a c.loop-action.invariant.positive
           c.loop-action.invariant.negative)
@@ -97,7 +109,9 @@ loop-action-preserved g c =
 
 pub returns-clause-answer : goal.returns-clause-answer
 returns-clause-answer g c =
-    all_settled (λ q. g.F.Family.passes c.args.sets.now c.args.task.now q c.args.budget)
-    (is_clash c.args.task.now (g.F.Family.has c.args.sets.now)) (atoms c.args.task.now)
+    all_settled (λ q. g.F.Family.passes c.args.sets.now c.args.case.now.task.now q
+    c.args.case.now.budget)
+    (is_clash c.args.case.now.task.now (g.F.Family.has c.args.sets.now)) (atoms
+    c.args.case.now.task.now)
     c.args.query.now c.args.actions.now c.loop-action.action-index c.loop-action-test.false
     c.loop-action.invariant.settled

@@ -14,6 +14,7 @@ invariant-loop-action g l = record {
   negative : l.query.negative ≡ l.fn.query.negative;
   settled : (place : ℕ) (action : Option ℕ) → place < l.action-index
       → slice_get l.actions place ≡ Some action
-      → DecidesNothing (λ q. g.F.Family.passes l.sets l.task q l.budget)
-      (is_clash l.task (g.F.Family.has l.sets)) (atoms l.task) (with_action l.fn.query action);
+      → DecidesNothing (λ q. g.F.Family.passes l.sets l.case.task.now q l.case.budget)
+      (is_clash l.case.task.now (g.F.Family.has l.sets)) (atoms l.case.task.now) (with_action
+      l.fn.query action);
 }
