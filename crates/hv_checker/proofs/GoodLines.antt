@@ -94,6 +94,7 @@ module _ (setting : Setting) where
   expr_stored : (x : Expr) → ExprIsWithin setting.task setting.nodes x → IsOfItsFamily x
       → CanBeStored (atoms setting.task) x
   expr_stored (E.Horn clauses) within family = (within, family)
+  expr_stored (E.Dual clauses) within family = (within, family)
   expr_stored (E.Two clauses) within family = (within, family)
   expr_stored (E.States states) within family = within
   expr_stored (E.Constant constant) within family = tt

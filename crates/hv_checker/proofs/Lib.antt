@@ -4,3 +4,4 @@ mod PieceReasons
 mod Standing
 mod Told
 mod Faults
+pub mod Benches

@@ -1,2 +1,3 @@
 -- Definitions that no public contract cites: those of private contracts and of proofs.
 pub mod Heard
+pub mod Bench

@@ -11,14 +11,12 @@ ghost use Rattle.hv_lines.specs.Setting.{most_budget, setting_of};
 ghost use Rattle.hv_checker.specs.Stopping.{stop_after};
 ghost use Rattle.hv_checker.specs.declared.stop.Stop.TheVariants as S;
 
-use crate::judge::{Bench, accept};
+use crate::judge::Bench;
 use crate::piece::{End, Fed, Piece};
 use crate::stop::Stop;
-use hv_basic::{Shared, Store};
 use hv_bdd::Diagrams;
 use hv_lines::{Reason, Statement, Table};
 use hv_proof_text::LineReader;
-use hv_sets::Scratch;
 use hv_task::Task;
 use std::alloc::{AllocError, Global};
 use std::marker::Model;
@@ -28,40 +26,23 @@ use std::marker::Model;
 /// want of memory that it met.
 #[derive(Drop)]
 pub struct Checker<'a> {
-    alloc: Global,
-    task: &'a Task,
-    diagrams: &'a Diagrams,
-    budget: u64,
+    bench: Bench<'a>,
     reader: LineReader,
-    table: Table,
-    store: Store,
-    shared: Shared,
-    scratch: Scratch,
     fed: u64,
     stop: Stop,
 }
 
 impl<'a> Model for Checker<'a> {
-    ghost use Rattle.hv_lines.specs.Good.{AreGood};
-    ghost use Rattle.hv_lines.specs.Setting.{setting_of};
-    ghost use Rattle.hv_lines.specs.Working.Setting.{IsSetting};
-    ghost use Rattle.hv_basic.specs.Sharing.{IsShared};
-    ghost use Rattle.hv_basic.specs.Stores.{IsStoreOf};
     ghost use Rattle.hv_checker.specs.Stands.{CheckerState};
 
     ghost Value = { CheckerState };
 
     ghost view = { λ c. record {
-      setting = setting_of c.task.now c.diagrams.now c.budget;
-      lines = c.table.lines;
+      setting = c.bench.setting;
+      lines = c.bench.lines;
       fed = c.fed;
       stop = c.stop;
     } };
-
-    ghost invariant = { λ c.
-        let setting = setting_of c.task.now c.diagrams.now c.budget in
-        IsSetting setting × AreGood setting c.table.lines
-        × IsStoreOf c.task.now c.table.lines c.store × IsShared c.table.lines c.shared };
 }
 
 impl<'a> Checker<'a> {
@@ -87,15 +68,8 @@ impl<'a> Checker<'a> {
         ensures stands { IfOk result (λ c. Stands c []) }
     {
         Ok(Checker {
-            alloc,
-            task,
-            diagrams,
-            budget,
+            bench: Bench::new(alloc, task, diagrams, budget)?,
             reader: LineReader::new(alloc),
-            table: Table::new(alloc),
-            store: Store::new(alloc),
-            shared: Shared::new(alloc),
-            scratch: Scratch::new(alloc)?,
             fed: 0,
             stop: Stop::Going,
         })
@@ -130,21 +104,7 @@ impl<'a> Checker<'a> {
             return Ok(Fed::Stopped);
         }
         self.fed += 1;
-        let bench = Bench {
-            alloc: self.alloc,
-            task: self.task,
-            diagrams: self.diagrams,
-            budget: self.budget,
-        };
-        match accept(
-            &bench,
-            &mut self.reader,
-            &mut self.table,
-            &mut self.store,
-            &mut self.shared,
-            &mut self.scratch,
-            piece,
-        ) {
+        match self.bench.accept(&mut self.reader, piece) {
             Ok(outcome) => {
                 self.stop = outcome.stop;
                 Ok(outcome.fed)
@@ -167,7 +127,7 @@ impl<'a> Checker<'a> {
             Stop::Refused(_) => End::Refused(self.fed),
             Stop::Memory => End::Memory,
             Stop::Going => {
-                if concludes(&self.table) {
+                if concludes(self.bench.table()) {
                     End::Unsolvable
                 } else {
                     End::NoConclusion
@@ -193,7 +153,7 @@ impl<'a> Checker<'a> {
         ensures sound { AllTrue self.now.setting.task self.now.setting.nodes self.now.lines }
         ensures each { AreTrue self.now.setting.task self.now.setting.nodes self.now.lines }
     {
-        &self.table
+        self.bench.table()
     }
 }
 

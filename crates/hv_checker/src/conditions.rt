@@ -74,7 +74,12 @@ fn expr_refers_below(acts: usize, exprs: usize, expr: &Expr) -> bool
     ensures { IsTrue result ↔ ExprRefersBelow acts exprs expr.now }
 {
     match expr {
-        Expr::Constant(_) | Expr::Horn(_) | Expr::Two(_) | Expr::States(_) | Expr::Node(_) => true,
+        Expr::Constant(_)
+        | Expr::Horn(_)
+        | Expr::Dual(_)
+        | Expr::Two(_)
+        | Expr::States(_)
+        | Expr::Node(_) => true,
         Expr::Not(set) => *set < exprs,
         Expr::And(left, right) | Expr::Or(left, right) => *left < exprs && *right < exprs,
         Expr::After(set, by) | Expr::Before(set, by) => *set < exprs && *by < acts,
@@ -127,10 +132,13 @@ fn expr_is_within(task: &Task, diagrams: &Diagrams, expr: &Expr) -> bool
     ensures { IsTrue result ↔ ExprIsWithin task.now diagrams.now expr.now }
 {
     match expr {
-        Expr::Horn(clauses) | Expr::Two(clauses) => clauses_are_below(task.atoms(), clauses),
+        Expr::Horn(clauses) | Expr::Dual(clauses) | Expr::Two(clauses) => {
+            clauses_are_below(task.atoms(), clauses)
+        }
         Expr::States(states) => states_are_below(task.atoms(), states),
         Expr::Node(node) => (*node as usize) < diagrams.count(),
-        _ => true,
+        Expr::Constant(_) | Expr::Not(_) => true,
+        Expr::And(..) | Expr::Or(..) | Expr::After(..) | Expr::Before(..) => true,
     }
 }
 

@@ -3,7 +3,7 @@ use Rattle.std.specs.Prelude.{◌≡◌, List, Option, Some, None}
 use Rattle.hv_lines.specs.Good.{IsGood}
 use Rattle.hv_lines.specs.Working.Good.{IsReasonOf}
 use Rattle.hv_lines.specs.Judged.{LineText, IsPassedOver, IsReason}
-use Rattle.hv_lines.specs.Setting.{Setting, setting_of}
+use Rattle.hv_lines.specs.Setting.{Setting}
 use Rattle.hv_lines.specs.Shapes.{HasShape}
 use Rattle.hv_lines.specs.Verdicts.{IsVerdict}
 use Rattle.hv_lines.specs.declared.line.Line.{Line}
@@ -13,14 +13,9 @@ use Rattle.hv_lines.specs.declared.reason.Reason.{Reason}
 use Rattle.hv_lines.specs.declared.reason.Reason.TheVariants as R
 use Rattle.hv_lines.specs.declared.verdict.Verdict.{Verdict}
 use Rattle.hv_lines.specs.declared.verdict.Verdict.TheVariants as V
-use Rattle.hv_checker.specs.declared.judge.Bench.{Bench}
 use Rattle.hv_checker.specs.declared.judge.Heard.{Heard}
 use Rattle.hv_checker.specs.declared.judge.Heard.TheVariants as H
 use Rattle.hv_checker.specs.Heard.{IsSpelledBy}
-
--- what a bench judges by
-abbrev pub setting_on : Bench → Setting
-setting_on bench = setting_of bench.task.now bench.diagrams.now bench.budget
 
 -- what is heard of a piece: that it is skipped, a good line, or the reason why it isn't good
 abbrev pub IsHeard : Setting → List Line → LineText → Heard → Type 0

@@ -21,6 +21,6 @@ returns-in-Ok-clause-stands c = λ pieces stands.
     stands_fed c.args.self.now _ pieces (text_of c.args.piece) c.in-Ok.outcome.fed
     (sym (ap (λ (s : CheckerState). s.stop) c.self.view_is)
     ∙ c.is_going.ensures.0 c.if-not-is_going.false)
-    (ap (λ (s : CheckerState). s.setting) c.self.view_is)
+    (c.in-Ok.ensures.setting ∙ ap (λ (s : CheckerState). s.setting) c.self.view_is)
     (ap (λ (s : CheckerState). s.fed + 1) c.self.view_is) c.in-Ok.ensures.stop
     (rw (← c.self.view_is) c.in-Ok.ensures.accepted) stands
