@@ -19,9 +19,8 @@ use Rattle.hv_explicit.specs.Listing.{Listing, in_listing}
 use Rattle.hv_explicit.proofs.Clashes.{applies, applies_not, stands_after, stands_list}
 use Rattle.hv_replay.specs.Closed.{IsGoalFree, state_in}
 use Rattle.hv_replay.specs.Working.Following.{StaysListed}
-use Rattle.hv_replay.specs.Logs.{SearchLog, StandsInLog}
+use Rattle.hv_replay.specs.Logs.{LogEntry, SearchLog, StandsInLog}
 use Rattle.hv_replay.specs.Working.Waiting.{AreWaiting, IsIn}
-use Rattle.hv_replay.specs.declared.log.Entry.{Entry}
 use Rattle.hv_replay.proofs.Followed.{same_entry}
 
 -- a list has all of these atoms exactly where its state has
@@ -31,8 +30,8 @@ holds_all n held wanted below over true tells = sym (applies n held wanted below
 holds_all n held wanted below over false tells =
     sym (applies_not n held wanted over (λ all. let f : false ≡ true = tells.1 all in absurd cc))
 
-pub goal_free : (task : Strips) (log : SearchLog) (place : ℕ) (x : Entry) → StandsInLog log place x
-    → x.expanded ≡ true → (has : Bool)
+pub goal_free : (task : Strips) (log : SearchLog) (place : ℕ) (x : LogEntry)
+    → StandsInLog log place x → x.expanded ≡ true → (has : Bool)
     → has ≡ is_goal task (state_in log x) → (not has ≡ true) ↔ IsGoalFree task log place
 goal_free task log place x stands expanded true same = (
   λ no. let f : false ≡ true = no in absurd cc,

@@ -52,6 +52,7 @@ pub listed_plain : (expr : Expr) → IsListedExpr expr → IsPlainExpr expr
 listed_plain (E.Constant constant) is = inr tt
 listed_plain (E.States states) is = inl tt
 listed_plain (E.Horn clauses) is = absurd is
+listed_plain (E.Dual clauses) is = absurd is
 listed_plain (E.Two clauses) is = absurd is
 listed_plain (E.Node node) is = absurd is
 listed_plain (E.Not set) is = absurd is
@@ -65,6 +66,7 @@ pub listed_family : (expr : Expr) → IsListedExpr expr
 listed_family (E.Constant constant) is = inl refl
 listed_family (E.States states) is = inr refl
 listed_family (E.Horn clauses) is = absurd is
+listed_family (E.Dual clauses) is = absurd is
 listed_family (E.Two clauses) is = absurd is
 listed_family (E.Node node) is = absurd is
 listed_family (E.Not set) is = absurd is

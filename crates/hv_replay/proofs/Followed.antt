@@ -10,13 +10,12 @@ use Rattle.hv_sets.proofs.Listed.{in_states-Decides}
 use Rattle.hv_explicit.specs.Listing.{Listing, in_listing}
 use Rattle.hv_replay.specs.Closed.{IsFirstWithout, IsGoalFree, IsLogged, LeadsOn, state_in}
 use Rattle.hv_replay.specs.Working.Following.{HasExpanded, ListsLog, StaysListed}
-use Rattle.hv_replay.specs.Logs.{SearchLog, StandsInLog}
-use Rattle.hv_replay.specs.declared.log.Entry.{Entry}
+use Rattle.hv_replay.specs.Logs.{LogEntry, SearchLog, StandsInLog}
 
 -- one entry stands at a place
-pub same_entry : (log : SearchLog) (place : ℕ) (a b : Entry) → StandsInLog log place a
+pub same_entry : (log : SearchLog) (place : ℕ) (a b : LogEntry) → StandsInLog log place a
     → StandsInLog log place b → a ≡ b
-same_entry log place a b p q = let e : ◌≡◌ {A = Option Entry} (Some a) (Some b) = sym p ∙ q in cc
+same_entry log place a b p q = let e : ◌≡◌ {A = Option LogEntry} (Some a) (Some b) = sym p ∙ q in cc
 
 atoms_of_listing : (n : ℕ) (states : List (List ℕ)) (set : Listing) (state : List Bool)
     → set.atoms ≡ n → set.states ≡ states
@@ -26,21 +25,21 @@ atoms_of_listing n states set state a s = ap (λ m. in_states m set.states state
 
 module _ (log : SearchLog) (set : Listing) (are : ListsLog log set) (state : List Bool) where
   abbrev states : List (List ℕ)
-  states = map (λ (entry : Entry). entry.state) log.entries
+  states = map (λ (entry : LogEntry). entry.state) log.entries
 
   found_at : (k : ℕ) → k < length (map (state_of log.atoms) states)
       → get_or (map (state_of log.atoms) states) k state ≡ state → IsLogged log state
   found_at k within is =
       let size = length-map states (state_of log.atoms) in
-      let many = length-map log.entries (λ (entry : Entry). entry.state) in
+      let many = length-map log.entries (λ (entry : LogEntry). entry.state) in
       elim (slice_get_cases log.entries k).1 [
         | inl w ↦ (
           k,
           w.0,
           w.2,
-          ap (λ (x : Entry). state_of log.atoms x.state) (sym w.3)
+          ap (λ (x : LogEntry). state_of log.atoms x.state) (sym w.3)
               ∙ (ap (state_of log.atoms) (sym (get_or-map
-              (λ (entry : Entry). entry.state) log.entries k w.0 w.0.state w.1))
+              (λ (entry : LogEntry). entry.state) log.entries k w.0 w.0.state w.1))
               ∙ (sym (get_or-map (state_of log.atoms) states k w.0.state state (omega arith))
               ∙ is)),
         )
@@ -57,11 +56,11 @@ module _ (log : SearchLog) (set : Listing) (are : ListsLog log set) (state : Lis
   pub from_listed : IsLogged log state → in_listing set state ≡ true
   from_listed (k, x, stands, same) =
       let size = length-map states (state_of log.atoms) in
-      let many = length-map log.entries (λ (entry : Entry). entry.state) in
+      let many = length-map log.entries (λ (entry : LogEntry). entry.state) in
       let within = slice_get_within log.entries k x stands in
       let here : get_or states k x.state ≡ x.state =
-      get_or-map (λ (entry : Entry). entry.state) log.entries k x x.state within
-      ∙ ap (λ (y : Entry). y.state) (get_or_from_slice_get log.entries k x x stands) in
+      get_or-map (λ (entry : LogEntry). entry.state) log.entries k x x.state within
+      ∙ ap (λ (y : LogEntry). y.state) (get_or_from_slice_get log.entries k x x stands) in
       atoms_of_listing log.atoms states set state are.over are.states
       ∙ (in_states-Decides log.atoms states state).1 (
         k,
@@ -70,7 +69,7 @@ module _ (log : SearchLog) (set : Listing) (are : ListsLog log set) (state : Lis
             ∙ (ap (state_of log.atoms) here ∙ same),
       )
 
-module _ (task : Strips) (log : SearchLog) (place : ℕ) (x : Entry)
+module _ (task : Strips) (log : SearchLog) (place : ℕ) (x : LogEntry)
     (stands : StandsInLog log place x) where
   module _ (set : Listing) (are : ListsLog log set) (holds : x.expanded ≡ true) where
     pub leads_from : (number : ℕ) → StaysListed task set (state_in log x) number
@@ -130,12 +129,12 @@ module _ (task : Strips) (log : SearchLog) where
       ∙ from_listed log set are state holds in absurd cc
 
 -- where every action leads on from an expanded state, it does from the same state at another place
-pub leads_again : (task : Strips) (log : SearchLog) (old place : ℕ) (held : List ℕ) (x : Entry)
+pub leads_again : (task : Strips) (log : SearchLog) (old place : ℕ) (held : List ℕ) (x : LogEntry)
     → HasExpanded log old held → ((action : ℕ) → LeadsOn task log old action)
     → StandsInLog log place x → held ≡ x.state → (action : ℕ) → LeadsOn task log place action
 leads_again task log old place held x again leads stands same action = λ e a at holds is can.
     let here : again.0.state ≡ e.state =
-    again.3 ∙ (same ∙ ap (λ (y : Entry). y.state) (same_entry log place x e stands at)) in
+    again.3 ∙ (same ∙ ap (λ (y : LogEntry). y.state) (same_entry log place x e stands at)) in
     let state : state_of log.atoms again.0.state ≡ state_of log.atoms e.state =
     ap (state_of log.atoms) here in
     subst (λ s. IsLogged log (successor a s)) state

@@ -1,11 +1,11 @@
-pub mod Pushed
+pub mod Passed
+pub mod Taken
 pub mod Fields
-pub mod Turned
 pub mod Followed
 pub mod Rows
 pub mod Kept
 pub mod Exits
-pub mod Lines
+pub mod Joined
 pub mod OneAnswer
 pub mod OneHole
 pub mod Steps

@@ -40,6 +40,7 @@ module _ (setting : Setting) (lines : List Line) where
   formula_in : (expr : Expr) → IsFormula expr → (state : List Bool)
       → (in_line_formula setting expr state ≡ true) ↔ Inside expr state
   formula_in (E.Horn clauses) is state = (λ e. e, λ e. e)
+  formula_in (E.Dual clauses) is state = (λ e. e, λ e. e)
   formula_in (E.Two clauses) is state = (λ e. e, λ e. e)
   formula_in (E.States states) is state = in_states-Decides (atoms setting.task) states state
   formula_in (E.Node node) is state = (λ e. e, λ e. e)

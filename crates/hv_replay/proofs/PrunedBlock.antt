@@ -205,6 +205,7 @@ module _ (task : Strips) (is_task : IsTask task) (old : List Line) (good : IsGoo
   by_plain (E.Constant constant) plain at = by_listed (E.Constant constant) tt at refl
   by_plain (E.States states) plain at = by_listed (E.States states) tt at refl
   by_plain (E.Horn clauses) plain at = by_formula (E.Horn clauses) F.Horn (tt, refl, λ e. cc (e)) at
+  by_plain (E.Dual clauses) plain at = by_formula (E.Dual clauses) F.Dual (tt, refl, λ e. cc (e)) at
   by_plain (E.Two clauses) plain at = by_formula (E.Two clauses) F.Two (tt, refl, λ e. cc (e)) at
   by_plain (E.Node node) plain at = by_formula (E.Node node) F.Node (tt, refl, λ e. cc (e)) at
   by_plain (E.Not set) plain at = elim plain
@@ -250,6 +251,8 @@ module _ (task : Strips) (is_task : IsTask task) (old : List Line) (good : IsGoo
         out_listed (E.States states) tt at (omega
         (arith, listed_states B1 inner states at, few states refl))
     by_negated (E.Horn clauses) plain at few = out_formula (E.Horn clauses) F.Horn
+        (tt, refl, λ e. cc (e)) at
+    by_negated (E.Dual clauses) plain at few = out_formula (E.Dual clauses) F.Dual
         (tt, refl, λ e. cc (e)) at
     by_negated (E.Two clauses) plain at few = out_formula (E.Two clauses) F.Two
         (tt, refl, λ e. cc (e)) at

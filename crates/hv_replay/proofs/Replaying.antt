@@ -31,7 +31,7 @@ use Rattle.hv_replay.specs.ClosingLines.{closing_lines}
 use Rattle.hv_replay.specs.Working.ClosingLines.{IsClosedSearch}
 use Rattle.hv_replay.specs.Expanded.{expanded_states}
 use Rattle.hv_replay.specs.Working.Expanded.{IsExpanded}
-use Rattle.hv_replay.specs.Logs.{IsAtomSet, IsLogEntry, IsLog, SearchLog, StandsInLog}
+use Rattle.hv_replay.specs.Logs.{IsAtomSet, IsLog, IsLogEntry, LogEntry, SearchLog, StandsInLog}
 use Rattle.hv_replay.specs.Progress.{IsProof}
 use Rattle.hv_replay.specs.Working.Progress.{IsProgress}
 use Rattle.hv_replay.specs.PrunedLines.{pruned_lines, pruned_word}
@@ -40,7 +40,6 @@ use Rattle.hv_replay.specs.Replayed.{ArePruned, after_pruned, none, one_more, pr
 use Rattle.hv_replay.specs.Replayed.{union_after}
 use Rattle.hv_replay.specs.declared.hole.ReplayFault.{ReplayFault}
 use Rattle.hv_replay.specs.declared.hole.ReplayFault.TheVariants as H
-use Rattle.hv_replay.specs.declared.log.Entry.{Entry}
 use Rattle.hv_lines.specs.declared.note.Note.{Note}
 use Rattle.hv_lines.proofs.Elements.{nothing_in}
 use Rattle.hv_replay.proofs.Steps.{either, expanded_out, log_goalless, log_starts}
@@ -128,42 +127,43 @@ module _ (task : Strips) (old now new : List Line) (held : List ℕ) (by : ℕ) 
 
 -- entries, and the pruned ones of them
 
-abbrev pick : Bool → Entry → List Entry → List (List ℕ)
+abbrev pick : Bool → LogEntry → List LogEntry → List (List ℕ)
 pick b x entries =
-    map (λ (e : Entry). e.state) (cond (not b) (x ∷ filter (λ (e : Entry). not e.expanded) entries)
-    (filter (λ (e : Entry). not e.expanded) entries))
+    map (λ (e : LogEntry). e.state)
+    (cond (not b) (x ∷ filter (λ (e : LogEntry). not e.expanded) entries)
+    (filter (λ (e : LogEntry). not e.expanded) entries))
 
-stays_in : (x : Entry) (entries : List Entry) (held : List ℕ) (b : Bool)
+stays_in : (x : LogEntry) (entries : List LogEntry) (held : List ℕ) (b : Bool)
     → Contains (pruned_in entries) held → Contains (pick b x entries) held
 stays_in x entries held true c = c
 stays_in x entries held false c = Contains-append_right (x.state ∷ []) (pruned_in entries) held c
 
-comes_first : (x : Entry) (entries : List Entry) (b : Bool) → b ≡ false
+comes_first : (x : LogEntry) (entries : List LogEntry) (b : Bool) → b ≡ false
     → Contains (pick b x entries) x.state
 comes_first x entries false is = Contains-append_left (x.state ∷ []) (pruned_in entries) x.state
     (Contains-push [] x.state)
 comes_first x entries true is = absurd cc
 
-pruned_has : (entries : List Entry) (place : ℕ) (entry : Entry)
+pruned_has : (entries : List LogEntry) (place : ℕ) (entry : LogEntry)
     → slice_get entries place ≡ Some entry → entry.expanded ≡ false
     → Contains (pruned_in entries) entry.state
 pruned_has [] place entry at is = absurd cc
 pruned_has (x ∷ entries) zero entry at is =
     let same : x ≡ entry = cc in
-    subst (λ (e : Entry). Contains (pruned_in (x ∷ entries)) e.state) same
-    (comes_first x entries x.expanded (ap (λ (e : Entry). e.expanded) same ∙ is))
+    subst (λ (e : LogEntry). Contains (pruned_in (x ∷ entries)) e.state) same
+    (comes_first x entries x.expanded (ap (λ (e : LogEntry). e.expanded) same ∙ is))
 pruned_has (x ∷ entries) (suc place) entry at is = stays_in x entries entry.state x.expanded
     (pruned_has entries place entry at is)
 
 -- one entry more
-pub entries_next : (log : SearchLog) (place : ℕ) (entry : Entry) → StandsInLog log place entry
+pub entries_next : (log : SearchLog) (place : ℕ) (entry : LogEntry) → StandsInLog log place entry
     → take (place + 1) log.entries ≡ take place log.entries ++ entry ∷ []
 entries_next log place entry at =
     take_more log.entries place entry (slice_get_within log.entries place entry at)
     ∙ ap (λ x. take place log.entries ++ x ∷ [])
     (get_or_from_slice_get log.entries place entry entry at)
 
-pub progress_next : (task : Strips) (log : SearchLog) (place : ℕ) (entry : Entry)
+pub progress_next : (task : Strips) (log : SearchLog) (place : ℕ) (entry : LogEntry)
     (lines : List Line) (union : Note) → StandsInLog log place entry
     → IsProgress task (pruned_in (take place log.entries ++ entry ∷ [])) lines union
     → IsProgress task (pruned_in (take (place + 1) log.entries)) lines union
@@ -202,7 +202,7 @@ module _ (task : Strips) (log : SearchLog) (P Q : List Bool → Type 0)
   }
 
 module _ (log : SearchLog) (n : ℕ) (over : log.atoms ≡ n) (P : List Bool → Type 0) (place : ℕ)
-    (entry : Entry) (stands : StandsInLog log place entry)
+    (entry : LogEntry) (stands : StandsInLog log place entry)
     (before : (k : ℕ) → k < place → IsJustified log P k) where
   pub first_uncovered : entry.expanded ≡ false → (P (state_of n entry.state) → ⊥)
       → IsFirstWithout (IsJustified log P) place
@@ -213,11 +213,11 @@ module _ (log : SearchLog) (n : ℕ) (over : log.atoms ≡ n) (P : List Bool →
 
   justified_here : (entry.expanded ≡ false → P (state_of n entry.state)) → IsJustified log P place
   justified_here covered = λ e at plain.
-      let same : entry ≡ e = let is : ◌≡◌ {A = Option Entry} (Some entry) (Some e) = sym stands
+      let same : entry ≡ e = let is : ◌≡◌ {A = Option LogEntry} (Some entry) (Some e) = sym stands
       ∙ at in cc in
       subst (λ x. P (state_in log x)) same
       (subst (λ m. P (state_of m entry.state)) (sym over)
-      (covered (ap (λ (x : Entry). x.expanded) same ∙ plain)))
+      (covered (ap (λ (x : LogEntry). x.expanded) same ∙ plain)))
 
   pub next_justified : (entry.expanded ≡ false → P (state_of n entry.state)) → (k : ℕ)
       → k < place + 1 → IsJustified log P k
@@ -240,9 +240,9 @@ justified_all log P n whole all place = λ entry at plain.
 pub pruned_few : (log : SearchLog) → IsLog log.atoms log.entries
     → length (pruned_in log.entries) ≤ most_pruned
 pruned_few log is =
-    let size = length-map (filter (λ (e : Entry). not e.expanded) log.entries)
-    (λ (e : Entry). e.state) in
-    let many = length-filter (λ (e : Entry). not e.expanded) log.entries in
+    let size = length-map (filter (λ (e : LogEntry). not e.expanded) log.entries)
+    (λ (e : LogEntry). e.state) in
+    let many = length-filter (λ (e : LogEntry). not e.expanded) log.entries in
     omega (arith, size, many, is.few.pruned)
 
 module _ (task : Strips) (log : SearchLog) (is : IsLog log.atoms log.entries)
@@ -252,7 +252,7 @@ module _ (task : Strips) (log : SearchLog) (is : IsLog log.atoms log.entries)
   abbrev Pruned : List Bool → Type 0
   Pruned = states_in task lines union.set
 
-  noted : (place : ℕ) (entry : Entry) → StandsInLog log place entry → entry.expanded ≡ false
+  noted : (place : ℕ) (entry : LogEntry) → StandsInLog log place entry → entry.expanded ≡ false
       → Pruned (state_in log entry)
   noted place entry at plain =
       subst (λ n. Pruned (state_of n entry.state)) (sym over)
@@ -269,16 +269,16 @@ module _ (task : Strips) (log : SearchLog) (is : IsLog log.atoms log.entries)
 
   sets : All (IsAtomSet (atoms task)) (expanded_states log)
   sets =
-      All-map (IsAtomSet (atoms task)) (λ (e : Entry). e.state)
-      (filter (λ (e : Entry). e.expanded) log.entries)
-      (All-filter (λ (e : Entry). e.expanded) (IsLogEntry (atoms task)) log.entries
+      All-map (IsAtomSet (atoms task)) (λ (e : LogEntry). e.state)
+      (filter (λ (e : LogEntry). e.expanded) log.entries)
+      (All-filter (λ (e : LogEntry). e.expanded) (IsLogEntry (atoms task)) log.entries
       (subst (λ n. All (IsLogEntry n) log.entries) over is.each))
 
   expanded_few : length (expanded_states log) ≤ 1000000
   expanded_few =
-      let size = length-map (filter (λ (e : Entry). e.expanded) log.entries)
-      (λ (e : Entry). e.state) in
-      let many = length-filter (λ (e : Entry). e.expanded) log.entries in
+      let size = length-map (filter (λ (e : LogEntry). e.expanded) log.entries)
+      (λ (e : LogEntry). e.state) in
+      let many = length-filter (λ (e : LogEntry). e.expanded) log.entries in
       omega (arith, size, many, is.few.expanded)
 
   pub closed_search : IsClosedSearch task (expanded_states log) Pruned

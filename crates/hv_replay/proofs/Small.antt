@@ -10,9 +10,8 @@ use Rattle.hv_lines.specs.declared.line.Expr.TheVariants as E
 use Rattle.hv_lines.specs.declared.line.Line.TheVariants as L
 use Rattle.hv_lines.proofs.Lengths.{decimal_short, short_by, weight, weight-append}
 use Rattle.hv_replay.specs.Expanded.{expanded_states}
-use Rattle.hv_replay.specs.Logs.{IsLog, SearchLog, entry_line, expanded_count, letter_of}
+use Rattle.hv_replay.specs.Logs.{IsLog, LogEntry, SearchLog, entry_line, expanded_count, letter_of}
 use Rattle.hv_replay.specs.Logs.{listed_bytes}
-use Rattle.hv_replay.specs.declared.log.Entry.{Entry}
 
 -- joined fields have one byte less than the fields with one more for each
 length-joined : (field : List ℕ) (fields : List (List ℕ))
@@ -31,7 +30,7 @@ length-letter true = omega arith
 length-letter false = omega arith
 
 -- an entry's state has in a proof at most one byte more than the entry's line
-state_small : (entry : Entry) → weight (state_fields entry.state) ≤ length (entry_line entry) + 1
+state_small : (entry : LogEntry) → weight (state_fields entry.state) ≤ length (entry_line entry) + 1
 state_small entry =
     omega (
       arith,
@@ -41,13 +40,13 @@ state_small entry =
     )
 
 -- the expanded ones of the entries, in order
-abbrev expanded_in : List Entry → List Entry
-expanded_in entries = filter (λ (entry : Entry). entry.expanded) entries
+abbrev expanded_in : List LogEntry → List LogEntry
+expanded_in entries = filter (λ (entry : LogEntry). entry.expanded) entries
 
-abbrev states_in : List Entry → List (List ℕ)
-states_in entries = map (λ (entry : Entry). entry.state) entries
+abbrev states_in : List LogEntry → List (List ℕ)
+states_in entries = map (λ (entry : LogEntry). entry.state) entries
 
-with_entry : (expanded : Bool) (entry : Entry) (entries : List Entry) (most : ℕ)
+with_entry : (expanded : Bool) (entry : LogEntry) (entries : List LogEntry) (most : ℕ)
     → weight (flat_map state_fields (states_in entries)) ≤ most
     → weight (flat_map state_fields (states_in (cond expanded (entry ∷ entries) entries)))
     ≤ length (entry_line entry) + cond expanded 1 0 + most
@@ -62,7 +61,7 @@ with_entry true entry entries most rest =
 with_entry false entry entries most rest = omega (arith, rest)
 
 -- the expanded states of entries have in a proof at most one byte more each than the entries' lines
-states_small : (entries : List Entry) → weight
+states_small : (entries : List LogEntry) → weight
     (flat_map state_fields (states_in (expanded_in entries)))
     ≤ listed_bytes entries + expanded_count entries
 states_small [] = omega arith
@@ -71,15 +70,15 @@ states_small (entry ∷ entries) =
       arith,
       with_entry entry.expanded entry (expanded_in entries)
           (listed_bytes entries + expanded_count entries) (states_small entries),
-      sum_by-cons (λ (x : Entry). length (entry_line x)) entry entries,
-      sum_by-cons (λ (x : Entry). cond x.expanded 1 0) entry entries,
+      sum_by-cons (λ (x : LogEntry). length (entry_line x)) entry entries,
+      sum_by-cons (λ (x : LogEntry). cond x.expanded 1 0) entry entries,
     )
 
-expanded_few : (entries : List Entry) → length (states_in (expanded_in entries))
+expanded_few : (entries : List LogEntry) → length (states_in (expanded_in entries))
     ≡ expanded_count entries
 expanded_few entries =
-    let states = length-map (expanded_in entries) (λ (entry : Entry). entry.state) in
-    let kept = length-filter (λ (entry : Entry). entry.expanded) entries in
+    let states = length-map (expanded_in entries) (λ (entry : LogEntry). entry.state) in
+    let kept = length-filter (λ (entry : LogEntry). entry.expanded) entries in
     omega arith
 
 -- the line of the expanded states of a log is short

@@ -5,30 +5,29 @@ use Rattle.hv_task.specs.declared.action.Action.{Action}
 use Rattle.hv_task.specs.State.{applicable, state_of, successor}
 use Rattle.hv_task.specs.Strips.{Strips, is_goal, start_state}
 use Rattle.hv_lines.specs.Meaning.{StateSet}
-use Rattle.hv_replay.specs.Logs.{SearchLog, StandsInLog}
+use Rattle.hv_replay.specs.Logs.{LogEntry, SearchLog, StandsInLog}
 use Rattle.hv_replay.specs.declared.hole.ReplayFault.{ReplayFault}
 use Rattle.hv_replay.specs.declared.hole.ReplayFault.TheVariants as H
-use Rattle.hv_replay.specs.declared.log.Entry.{Entry}
 
 -- the state of an entry
-abbrev pub state_in : SearchLog → Entry → List Bool
+abbrev pub state_in : SearchLog → LogEntry → List Bool
 state_in log entry = state_of log.atoms entry.state
 
 -- the state is listed: as expanded, as pruned, or as both
 abbrev pub IsLogged : SearchLog → List Bool → Type 0
 IsLogged log state =
-    (place : ℕ) × (entry : Entry) × StandsInLog log place entry × (state_in log entry ≡ state)
+    (place : ℕ) × (entry : LogEntry) × StandsInLog log place entry × (state_in log entry ≡ state)
 
 -- an expanded state at this place doesn't hold the goal
 abbrev pub IsGoalFree : Strips → SearchLog → ℕ → Type 0
 IsGoalFree task log place =
-    (entry : Entry) → StandsInLog log place entry → entry.expanded ≡ true
+    (entry : LogEntry) → StandsInLog log place entry → entry.expanded ≡ true
     → is_goal task (state_in log entry) ≡ false
 
 -- where the action is applicable in an expanded state at this place, its result is listed
 abbrev pub LeadsOn : Strips → SearchLog → ℕ → ℕ → Type 0
 LeadsOn task log place number =
-    (entry : Entry) (action : Action) → StandsInLog log place entry → entry.expanded ≡ true
+    (entry : LogEntry) (action : Action) → StandsInLog log place entry → entry.expanded ≡ true
     → slice_get task.actions number ≡ Some action
     → applicable action (state_in log entry) ≡ true
     → IsLogged log (successor action (state_in log entry))
@@ -36,7 +35,7 @@ LeadsOn task log place number =
 -- a pruned state at this place is covered
 abbrev pub IsJustified : SearchLog → StateSet → ℕ → Type 0
 IsJustified log covered place =
-    (entry : Entry) → StandsInLog log place entry → entry.expanded ≡ false
+    (entry : LogEntry) → StandsInLog log place entry → entry.expanded ≡ false
     → covered (state_in log entry)
 
 -- the search is followed to its end, but for its pruned states: the initial state is listed, no

@@ -1,4 +1,5 @@
 pub mod Logs
+pub mod LogFile
 pub mod LogText
 pub mod Closed
 pub mod Expanded

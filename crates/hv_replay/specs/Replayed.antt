@@ -8,15 +8,15 @@ use Rattle.hv_lines.specs.declared.line.Line.{Line}
 use Rattle.hv_lines.specs.declared.line.Statement.TheVariants as T
 use Rattle.hv_replay.specs.ClosingLines.{closing_lines}
 use Rattle.hv_replay.specs.Expanded.{expanded_states}
-use Rattle.hv_replay.specs.Logs.{SearchLog}
+use Rattle.hv_replay.specs.Logs.{LogEntry, SearchLog}
 use Rattle.hv_replay.specs.PrunedLines.{pruned_lines, pruned_word}
-use Rattle.hv_replay.specs.declared.log.Entry.{Entry}
 use Rattle.hv_lines.specs.declared.note.Note.{Note}
 
 -- the pruned ones of these entries, in order
-abbrev pub pruned_in : List Entry → List (List ℕ)
+abbrev pub pruned_in : List LogEntry → List (List ℕ)
 pruned_in entries =
-    map (λ (entry : Entry). entry.state) (filter (λ (entry : Entry). not entry.expanded) entries)
+    map (λ (entry : LogEntry). entry.state)
+    (filter (λ (entry : LogEntry). not entry.expanded) entries)
 
 -- the five lines of a pruned state, put after these lines, which say that `holder` is dead
 abbrev pub after_pruned : List Line → List ℕ → Note → Note → List Line

@@ -1,5 +1,6 @@
 -- Definitions that no public contract cites: those of private contracts and of proofs.
 pub mod Logs
+pub mod LogText
 pub mod Reading
 pub mod Expanded
 pub mod Following

@@ -1,10 +1,9 @@
 //! How many entries a log has, and how many bytes.
 
-ghost use Rattle.std.specs.Prelude.{◌≡◌, ◌∷◌, ◌++◌, [], List, MatchResult};
-ghost use Rattle.hv_replay.specs.Logs.{AreFew};
+ghost use Rattle.std.specs.Prelude.{◌≡◌, ◌∷◌, ◌++◌, [], List, MatchResult, Some};
+ghost use Rattle.hv_replay.specs.Logs.{AreFew, LogEntry};
 ghost use Rattle.hv_replay.specs.Working.Logs.{counts_of};
-ghost use Rattle.hv_replay.specs.LogText.{PassesCount};
-ghost use Rattle.hv_replay.specs.declared.log.Entry.{Entry};
+ghost use Rattle.hv_replay.specs.LogFile.{passed_limit};
 
 use crate::fault::LogLimit;
 
@@ -24,10 +23,10 @@ pub struct Counts {
 impl Counts {
     /// The counts with one state more, or the limit that it passes.
     pub fn with(self, expanded: bool) -> Result<Counts, LogLimit>
-        ensures { (entries : List Entry) (entry : Entry) → self ≡ counts_of entries
+        ensures { (entries : List LogEntry) (entry : LogEntry) → self ≡ counts_of entries
             → entry.expanded ≡ expanded → AreFew entries → MatchResult result
             (λ more. (more ≡ counts_of (entries ++ entry ∷ [])) × AreFew (entries ++ entry ∷ []))
-            (λ limit. PassesCount (entries ++ entry ∷ []) limit) }
+            (λ limit. passed_limit (entries ++ entry ∷ []) ≡ Some limit) }
     {
         if expanded {
             if self.expanded >= MOST_EXPANDED {

@@ -2,9 +2,10 @@
 
 ghost use Rattle.std.specs.Prelude.{◌≡◌};
 ghost use Rattle.hv_replay.specs.declared.fault.LogFault.TheVariants as F;
+ghost use Rattle.hv_replay.specs.LogFile.{log_fault};
 ghost use Rattle.hv_replay.specs.Words.{limit_word};
 
-use hv_bytes::Failed;
+use hv_grammar::ParseFault;
 use std::alloc::AllocError;
 use thiserror::Error;
 
@@ -17,6 +18,15 @@ pub enum LogLimit {
     Expanded,
     /// More than 65,000 pruned states.
     Pruned,
+}
+
+/// Why a line of a log is refused.
+#[derive(Clone, Copy, Debug, PartialEq, Eq)]
+pub enum LogRefusal {
+    /// No line of a log is there: neither a state nor the end, or a line behind the end.
+    Place,
+    /// The line is that of a state, and passes this limit.
+    Limit(LogLimit),
 }
 
 /// Why a log isn't read. Lines are counted from 1; at the end of the input the line is the one
@@ -45,11 +55,17 @@ impl From<AllocError> for LogFault {
     }
 }
 
-impl From<Failed> for LogFault {
-    ghost from_gives = { λ _ fault. fault ≡ F.ReadFault };
+impl From<ParseFault<LogRefusal>> for LogFault {
+    ghost from_gives = { λ given fault. fault ≡ log_fault given };
 
-    fn from(_error: Failed) -> LogFault {
-        LogFault::ReadFault
+    fn from(given: ParseFault<LogRefusal>) -> LogFault {
+        match given {
+            ParseFault::Refused(line, LogRefusal::Place) => LogFault::Place(line),
+            ParseFault::Refused(line, LogRefusal::Limit(limit)) => LogFault::Limit(line, limit),
+            ParseFault::Long(line) => LogFault::Limit(line, LogLimit::Bytes),
+            ParseFault::ReadFault => LogFault::ReadFault,
+            ParseFault::Memory => LogFault::Memory,
+        }
     }
 }
 

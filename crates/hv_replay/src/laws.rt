@@ -1,19 +1,22 @@
-//! That a file has one answer and a log one first hole, as contracts of functions that do nothing.
+//! That a file has one answer, and what it is, and that a log has one first hole, as contracts of
+//! functions that do nothing.
 
-ghost use Rattle.std.specs.Prelude.{◌≡◌, ◌≤◌, ℕ, List};
+ghost use Rattle.std.specs.Prelude.{◌≡◌, ◌+◌, ◌≤◌, ◌⊎◌, ℕ, List, [], length};
 ghost use Rattle.std.specs.List.{Any};
-ghost use Rattle.hv_bytes.specs.Pieces.{Piece};
+ghost use Rattle.hv_bytes.specs.Pieces.{Piece, pieces_of};
+ghost use Rattle.hv_grammar.specs.Parsers.{parsed};
 ghost use Rattle.hv_task.specs.Strips.{Strips};
 ghost use Rattle.hv_replay.specs.Closed.{IsClosed, IsFirstHole};
 ghost use Rattle.hv_replay.specs.Logs.{SearchLog};
-ghost use Rattle.hv_replay.specs.LogText.{AreTextOf, IsFirstFault};
+ghost use Rattle.hv_replay.specs.LogFile.{log_file};
+ghost use Rattle.hv_replay.specs.LogText.{AreTextOf, IsFirstFault, log_limits};
 ghost use Rattle.hv_replay.specs.declared.fault.LogFault.{LogFault};
 ghost use Rattle.hv_replay.specs.declared.hole.ReplayFault.{ReplayFault};
 
 use hv_lines::Pruner;
 
 /// The pieces of a log have one answer: they are the text of one log at most, a text has no fault,
-/// and the first fault is one.
+/// and the first fault is one. Those of a file are a text, or have a first fault.
 pub fn one_answer()
     ensures one_log { (atoms : ℕ) (pieces : List Piece) (s t : SearchLog)
         → atoms ≤ 65535 → AreTextOf atoms pieces s → AreTextOf atoms pieces t → s ≡ t }
@@ -21,6 +24,20 @@ pub fn one_answer()
         → atoms ≤ 65535 → AreTextOf atoms pieces log → IsFirstFault atoms pieces fault → ⊥ }
     ensures one_fault { (atoms : ℕ) (pieces : List Piece) (f g : LogFault)
         → atoms ≤ 65535 → IsFirstFault atoms pieces f → IsFirstFault atoms pieces g → f ≡ g }
+    ensures answered { (atoms : ℕ) (bytes : List ℕ)
+        → ((log : SearchLog) × AreTextOf atoms (pieces_of log_limits bytes) log)
+        ⊎ ((fault : LogFault) × IsFirstFault atoms (pieces_of log_limits bytes) fault) }
+{}
+
+/// What comes of the pieces of a log is a log exactly where they are the text of this log: told of
+/// the pieces of a file, since a file within the limits has no more bytes than a log may have.
+pub fn text_by_lines()
+    ensures text { (atoms : ℕ) (pieces : List Piece) (log : SearchLog) → atoms ≤ 65535
+        → AreTextOf atoms pieces log
+        → log_file atoms 0 pieces ≡ parsed log (length log.entries + 1) [] }
+    ensures value { (atoms : ℕ) (bytes : List ℕ) (log : SearchLog) (n : ℕ) (rest : List Piece)
+        → log_file atoms 0 (pieces_of log_limits bytes) ≡ parsed log n rest
+        → AreTextOf atoms (pieces_of log_limits bytes) log }
 {}
 
 /// For whatever pruners, a log has one first hole at most, and none where it is closed.

@@ -4,6 +4,7 @@
 mod boxes;
 mod closing;
 mod counts;
+mod entries;
 pub mod fault;
 pub mod hole;
 pub mod laws;
@@ -13,12 +14,11 @@ mod open;
 pub mod proof;
 mod pruned;
 pub mod read;
-mod reader;
 mod waiting;
 
-pub use fault::{LogFault, LogLimit};
+pub use fault::{LogFault, LogLimit, LogRefusal};
 pub use hole::ReplayFault;
-pub use laws::{one_answer, one_first_hole};
+pub use laws::{one_answer, one_first_hole, text_by_lines};
 pub use log::Log;
 pub use proof::replay;
 pub use read::read_log;

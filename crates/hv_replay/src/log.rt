@@ -1,87 +1,17 @@
 //! Logs of a search.
 
-ghost use Rattle.std.specs.Prelude.{◌≡◌, ◌<◌, ◌≤◌, [], ◌∷◌, ◌++◌, length, IfOk, OnErr, OnOk};
+ghost use Rattle.std.specs.Prelude.{◌≡◌, ◌<◌, length, IfOk};
 ghost use Rattle.std.specs.List.Sorted.{IsStrictlyIncreasing};
 ghost use Rattle.hv_task.specs.Strips.{atoms};
 ghost use Rattle.hv_replay.specs.Working.Following.{ListsLog};
-ghost use Rattle.hv_replay.specs.Logs.{AreFew, IsAtomSet, IsLogEntry, IsLog, StandsInLog};
-ghost use Rattle.hv_replay.specs.Logs.{listed_bytes};
-ghost use Rattle.hv_replay.specs.Working.Logs.{no_entries};
-ghost use Rattle.hv_replay.specs.declared.log.Entry.{Entry};
+ghost use Rattle.hv_replay.specs.Logs.{IsAtomSet, IsLog, LogEntry, StandsInLog};
+ghost use Rattle.hv_replay.specs.Working.Reading.{IsReading, log_of};
 
+use crate::entries::Entries;
 use hv_explicit::Explicit;
-use hv_sets::StateList;
-use hv_task::{AtomList, Task};
+use hv_task::Task;
 use std::alloc::{AllocError, Global};
 use std::marker::Model;
-
-/// A state of a log, by the atoms that it holds: an expanded one or a pruned one.
-#[derive(Drop)]
-pub struct Entry {
-    pub expanded: bool,
-    pub state: AtomList,
-}
-
-/// The entries of a log that is being read.
-#[derive(Drop)]
-pub(crate) struct Entries {
-    atoms: u32,
-    states: StateList,
-    // For each state whether it is an expanded one.
-    expanded: Vec<bool>,
-}
-
-impl Model for Entries {
-    ghost use Rattle.std.specs.Prelude.{◌≡◌, length};
-    ghost use Rattle.hv_replay.specs.Logs.{IsLog, SearchLog};
-    ghost use Rattle.hv_replay.specs.Working.Logs.{entries_of};
-
-    ghost Value = { SearchLog };
-
-    ghost view = { λ l. record {
-      atoms = l.atoms;
-      entries = entries_of l.expanded.items l.states;
-    } };
-
-    ghost invariant = { λ l. IsLog l.atoms (entries_of l.expanded.items l.states)
-        × (length l.expanded.items ≡ length l.states) };
-}
-
-impl Entries {
-    /// No entry, of a task with so many atoms.
-    pub(crate) fn empty(alloc: Global, atoms: u32) -> Entries
-        ensures { result ≡ no_entries atoms }
-    {
-        Entries {
-            atoms,
-            states: StateList::new(alloc),
-            expanded: Vec::new(alloc),
-        }
-    }
-
-    /// Puts an entry last.
-    pub(crate) fn push(&mut self, entry: Entry) -> Result<(), AllocError>
-        requires entry { IsLogEntry self.old.atoms entry }
-        requires few { AreFew (self.old.entries ++ entry ∷ []) }
-        requires small { listed_bytes (self.old.entries ++ entry ∷ []) ≤ 8388608 }
-        ensures ok { OnOk result
-            (self.new ≡ record self.old { entries = self.old.entries ++ entry ∷ [] }) }
-        ensures err { OnErr result (self.new ≡ self.old) }
-    {
-        let Entry { expanded, state } = entry;
-        self.expanded.reserve(1)?;
-        self.states.push(state)?;
-        self.expanded.push_reserved(expanded);
-        Ok(())
-    }
-
-    /// How many atoms the task has.
-    pub(crate) fn atoms(&self) -> u32
-        ensures { result ≡ self.now.atoms }
-    {
-        self.atoms
-    }
-}
 
 /// The log of a search: the states that it expanded and those that it pruned, in order. The entry
 /// at place i is that of line i + 1. It has at most 1,000,000 expanded and 65,000 pruned states,
@@ -113,14 +43,11 @@ impl Model for Log {
 impl Log {
     /// The log of these entries, of states of the task.
     pub(crate) fn new(task: &Task, entries: Entries) -> Result<Log, AllocError>
-        requires { entries.atoms ≡ atoms task.now }
-        ensures { IfOk result (λ log. log ≡ entries) }
+        requires ready { IsReading entries }
+        requires atoms { entries.atoms ≡ atoms task.now }
+        ensures { IfOk result (λ log. log ≡ log_of entries) }
     {
-        let Entries {
-            atoms: _,
-            states,
-            expanded,
-        } = entries;
+        let (states, expanded) = entries.lists();
         let alloc = *expanded.allocator();
         let states = Explicit::from_list(alloc, task, states)?;
         Ok(Log { states, expanded })
@@ -144,7 +71,7 @@ impl Log {
     /// Whether the entry at this place is an expanded state.
     pub fn expanded(&self, place: usize) -> bool
         requires { place < length self.now.entries }
-        ensures { (entry : Entry) → StandsInLog self.now place entry → result ≡ entry.expanded }
+        ensures { (entry : LogEntry) → StandsInLog self.now place entry → result ≡ entry.expanded }
     {
         self.expanded[place]
     }
@@ -152,7 +79,7 @@ impl Log {
     /// The state of the entry at this place, by the atoms that it holds, rising.
     pub fn state(&self, place: usize) -> &[u32]
         requires { place < length self.now.entries }
-        ensures state { (entry : Entry) → StandsInLog self.now place entry
+        ensures state { (entry : LogEntry) → StandsInLog self.now place entry
             → result.now ≡ entry.state }
         ensures rises { IsStrictlyIncreasing result.now }
     {
@@ -162,7 +89,7 @@ impl Log {
     // The same; it is a state of the task.
     pub(crate) fn held(&self, place: usize) -> &[u32]
         requires { place < length self.now.entries }
-        ensures stands { (entry : Entry) → StandsInLog self.now place entry
+        ensures stands { (entry : LogEntry) → StandsInLog self.now place entry
             → result.now ≡ entry.state }
         ensures legal { IsAtomSet self.now.atoms result.now }
     {

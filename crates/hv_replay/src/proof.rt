@@ -12,12 +12,11 @@ ghost use Rattle.hv_lines.specs.declared.line.Line.{Line};
 ghost use Rattle.hv_replay.specs.Boxes.{CoverAlike};
 ghost use Rattle.hv_replay.specs.Closed.{IsClosed, IsFirstHole, IsSearchFollowed, IsJustified};
 ghost use Rattle.hv_replay.specs.Expanded.{expanded_in, expanded_states};
-ghost use Rattle.hv_replay.specs.Logs.{IsAtomSet, IsLog, StandsInLog};
+ghost use Rattle.hv_replay.specs.Logs.{IsAtomSet, IsLog, LogEntry, StandsInLog};
 ghost use Rattle.hv_replay.specs.Working.PrunedLines.{IsPrunedUnion};
 ghost use Rattle.hv_replay.specs.Progress.{IsProof};
 ghost use Rattle.hv_replay.specs.Working.Progress.{IsProgress, IsUncovered};
 ghost use Rattle.hv_replay.specs.Replayed.{IsReplayed, pruned_in};
-ghost use Rattle.hv_replay.specs.declared.log.Entry.{Entry};
 ghost use Rattle.hv_replay.specs.declared.hole.ReplayFault.TheVariants as H;
 
 use crate::boxes::{ask, begin_all};
@@ -197,14 +196,14 @@ fn put_one(
     requires fits { (lines : List Line) → Extends task.now draft.old.lines lines
         → All (λ b. fits b task.now lines) pruners.old }
     ensures state { IsState task.now state.new }
-    ensures covered { (entry : Entry) → StandsInLog log.now place entry
+    ensures covered { (entry : LogEntry) → StandsInLog log.now place entry
         → IfOk result (λ found. MatchOption found
         ((entry.expanded ≡ false) × (Any (λ b. covers b task.now
         (state_of (atoms task.now) entry.state)) pruners.old → ⊥))
         (λ _. entry.expanded ≡ false → Any (λ b. covers b task.now
         (state_of (atoms task.now) entry.state)) pruners.old)) }
-    ensures progress { (entry : Entry) → StandsInLog log.now place entry
-        → IfOk result (λ found. IfSome found (λ more. (before : List Entry)
+    ensures progress { (entry : LogEntry) → StandsInLog log.now place entry
+        → IfOk result (λ found. IfSome found (λ more. (before : List LogEntry)
         → IsProgress task.now (pruned_in before) draft.old.lines union
         → IsProgress task.now (pruned_in (before ++ entry ∷ [])) draft.new.lines more)) }
     ensures fits { (lines : List Line) → Extends task.now draft.new.lines lines
@@ -272,7 +271,7 @@ fn expanded_states(alloc: Global, log: &Log) -> Result<StateList, AllocError>
 // Puts the state of an entry last, where it is an expanded one.
 fn put_expanded(log: &Log, place: usize, states: &mut StateList) -> Result<(), AllocError>
     requires { place < length log.now.entries }
-    ensures { (entry : Entry) → StandsInLog log.now place entry → OnOk result
+    ensures { (entry : LogEntry) → StandsInLog log.now place entry → OnOk result
         (states.new ≡ states.old ++ expanded_in (entry ∷ [])) }
 {
     if !log.expanded(place) {

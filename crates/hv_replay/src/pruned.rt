@@ -156,7 +156,8 @@ fn word_of_formula(expr: &Expr) -> Word
 {
     match expr {
         Expr::Constant(_) | Expr::States(_) => Word::B1,
-        Expr::Horn(_) | Expr::Two(_) | Expr::Node(_) | Expr::Not(_) => Word::B4,
+        Expr::Horn(_) | Expr::Dual(_) | Expr::Two(_) => Word::B4,
+        Expr::Node(_) | Expr::Not(_) => Word::B4,
         Expr::And(..) | Expr::Or(..) | Expr::After(..) | Expr::Before(..) => Word::B4,
     }
 }

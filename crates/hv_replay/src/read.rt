@@ -1,32 +1,30 @@
 //! Logs from a shelf, line by line.
 
-ghost use Rattle.std.specs.Prelude.{◌≡◌, ◌+◌, ◌≤◌, ◌^◌, IsTrue, IfOk, IfSome, IsErrOf};
+ghost use Rattle.std.specs.Prelude.{◌≡◌, ◌+◌, ◌≤◌, [], IsTrue, IfOk, IfSome, IsErrOf, OnOk, false};
 ghost use Rattle.hv_bytes.specs.Devices.{Rose};
 ghost use Rattle.hv_bytes.specs.Files.{bytes_of};
+ghost use Rattle.hv_bytes.specs.States.{no_lines};
+ghost use Rattle.hv_grammar.specs.Parsers.{line, many_till};
+ghost use Rattle.hv_grammar.specs.Positions.{CanRead};
+ghost use Rattle.hv_grammar.specs.Reads.{Reads};
 ghost use Rattle.hv_task.specs.Strips.{atoms};
-ghost use Rattle.hv_replay.specs.LogText.{IsReadFrom};
-ghost use Rattle.hv_replay.specs.Working.Reading.{line_fault_at};
+ghost use Rattle.hv_replay.specs.LogFile.{log_file, log_line};
+ghost use Rattle.hv_replay.specs.Logs.{listed_bytes};
+ghost use Rattle.hv_replay.specs.LogText.{IsReadFrom, log_limits};
+ghost use Rattle.hv_replay.specs.Working.Reading.{IsReading, as_entries, as_log, entries_in};
+ghost use Rattle.hv_replay.specs.Working.Reading.{going_on};
+ghost use Rattle.hv_replay.specs.declared.fault.LogRefusal.TheVariants as Refusal;
 
-use crate::fault::{LogFault, LogLimit};
+use crate::entries::Entries;
+use crate::fault::{LogFault, LogRefusal};
 use crate::log::Log;
-use crate::reader::Reader;
-use hv_bytes::{Limits, LineFault, Lines, MOST_LINE_BYTES, Next, Shelf};
+use hv_bytes::{Limits, MOST_LINE_BYTES, Shelf};
+use hv_grammar::{ParseFault, Reader, Source, end_of_input, next_line, open};
 use hv_task::Task;
 use std::alloc::Global;
 
 /// The most bytes of a log. A line that is longer ends past them.
 const MOST_BYTES: u64 = 8_388_608;
-
-// The fault of the line of this number, which can't be had.
-fn line_fault(fault: LineFault, number: u64) -> LogFault
-    ensures { result ≡ line_fault_at number fault }
-{
-    match fault {
-        LineFault::Long => LogFault::Limit(number, LogLimit::Bytes),
-        LineFault::Failed => LogFault::ReadFault,
-        LineFault::Memory => LogFault::Memory,
-    }
-}
 
 /// Reads the log of this name, of states of the task. It answers with the log exactly where the
 /// file is the text of one within the limits, and otherwise with its first fault. A line that ends
@@ -56,18 +54,68 @@ pub fn read_log<S: Shelf>(
         line: MOST_LINE_BYTES,
         file: MOST_BYTES,
     };
-    shelf.open(name)?;
-    let mut lines = Lines::new(alloc, limits)?;
-    let mut reader = Reader::new(alloc, task.atoms());
-    'reading: loop {
-        match lines.next(shelf) {
-            Ok(Next::Line) => {
-                if let Err(error) = reader.feed(alloc, lines.line()) {
-                    return Err(error.at(lines.number()));
-                }
-            }
-            Ok(Next::End) => return reader.end(task, lines.number() + 1),
-            Err(fault) => return Err(line_fault(fault, lines.number() + 1)),
-        }
-    }
+    let mut lines = open(alloc, shelf, name, limits)?;
+    let mut reader = Reader::new(&mut lines, shelf);
+    let entries = whole(alloc, &mut reader, task.atoms())?;
+    let log = Log::new(task, entries)?;
+    Ok(log)
+}
+
+// The whole file, of a task with so many atoms.
+fn whole<R: Source>(
+    alloc: Global,
+    reader: &mut R,
+    atoms: u32,
+) -> Result<Entries, ParseFault<LogRefusal>>
+    requires few { atoms ≤ 65535 }
+    requires fresh { (R.position reader.old).lines ≡ no_lines log_limits }
+    ensures reads { Reads (log_file atoms)
+        (R.position reader.old) (R.position reader.new) (as_log result) }
+    ensures ready { IfOk result IsReading }
+    ensures atoms { IfOk result (λ entries. entries.atoms ≡ atoms) }
+{
+    let entries = entries(alloc, reader, atoms)?;
+    end_of_input(reader, LogRefusal::Place)?;
+    Ok(entries)
+}
+
+// The entries, up to the last line.
+fn entries<R: Source>(
+    alloc: Global,
+    reader: &mut R,
+    atoms: u32,
+) -> Result<Entries, ParseFault<LogRefusal>>
+    requires few { atoms ≤ 65535 }
+    requires fresh { (R.position reader.old).lines ≡ no_lines log_limits }
+    ensures reads { Reads (many_till Refusal.Place (log_line atoms) [])
+        (R.position reader.old) (R.position reader.new) (as_entries result) }
+    ensures ready { IfOk result IsReading }
+    ensures atoms { IfOk result (λ entries. entries.atoms ≡ atoms) }
+{
+    let mut entries = Entries::new(alloc, atoms);
+    'lines: while next_entry(reader, &mut entries)? {}
+    Ok(entries)
+}
+
+// One more entry. The answer is false where its line is the last one.
+fn next_entry<R: Source>(
+    reader: &mut R,
+    entries: &mut Entries,
+) -> Result<bool, ParseFault<LogRefusal>>
+    requires can { CanRead (R.position reader.old) }
+    requires limits { (R.position reader.old).lines.limits ≡ log_limits }
+    requires ready { IsReading entries.old }
+    requires bytes { listed_bytes (entries_in entries.old) ≤ (R.position reader.old).lines.earlier }
+    ensures reads { Reads (line Refusal.Place (log_line entries.old.atoms (entries_in entries.old)))
+        (R.position reader.old) (R.position reader.new) (going_on entries.new result) }
+    ensures ready { OnOk result (IsReading entries.new) }
+    ensures atoms { OnOk result (entries.new.atoms ≡ entries.old.atoms) }
+    ensures bytes { OnOk result (listed_bytes (entries_in entries.new)
+        ≤ (R.position reader.new).lines.earlier) }
+    ensures same { result ≡ Ok false → entries_in entries.new ≡ entries_in entries.old }
+    ensures next { OnOk result ((R.position reader.new).lines.number
+        ≡ (R.position reader.old).lines.number + 1) }
+{
+    next_line(reader, LogRefusal::Place)?;
+    entries.take_line(reader.line(), reader.number())
 }

@@ -7,15 +7,14 @@ use Rattle.hv_task.specs.State.{applicable, successor}
 use Rattle.hv_task.specs.Strips.{Strips}
 use Rattle.hv_explicit.specs.Listing.{Listing, in_listing}
 use Rattle.hv_replay.specs.Closed.{IsFirstHole, IsFirstWithout, IsSearchFollowed, LeadsOn}
-use Rattle.hv_replay.specs.Logs.{SearchLog, StandsInLog}
+use Rattle.hv_replay.specs.Logs.{LogEntry, SearchLog, StandsInLog}
 use Rattle.hv_replay.specs.declared.hole.ReplayFault.{ReplayFault}
 use Rattle.hv_replay.specs.declared.hole.ReplayFault.TheVariants as H
-use Rattle.hv_replay.specs.declared.log.Entry.{Entry}
 
 -- the set has just the states of the log
 pub record ListsLog (log : SearchLog) (set : Listing) : Type 0 where
   pub over : set.atoms ≡ log.atoms
-  pub states : set.states ≡ map (λ (entry : Entry). entry.state) log.entries
+  pub states : set.states ≡ map (λ (entry : LogEntry). entry.state) log.entries
 
 -- where the action of this number is applicable in the state, its result is in the set
 abbrev pub StaysListed : Strips → Listing → List Bool → ℕ → Type 0
@@ -26,7 +25,8 @@ StaysListed task set state number =
 -- the entry at this place is an expanded state of these atoms
 abbrev pub HasExpanded : SearchLog → ℕ → List ℕ → Type 0
 HasExpanded log place held =
-    (entry : Entry) × StandsInLog log place entry × (entry.expanded ≡ true) × (entry.state ≡ held)
+    (entry : LogEntry) × StandsInLog log place entry × (entry.expanded ≡ true)
+    × (entry.state ≡ held)
 
 -- from the entries at these places every action leads on
 abbrev pub LeadAllOn : Strips → SearchLog → List ℕ → Type 0

@@ -1,81 +1,70 @@
--- What the reader of logs does with one line, and at the end.
-use Rattle.std.specs.Prelude.{◌≡◌, ◌≤◌, ◌++◌, ℕ, Bool, true, false, List, [], ◌∷◌, Option, None}
-use Rattle.std.specs.Prelude.{Some, Result, Ok, Err, decimal, map}
-use Rattle.std.specs.List.Sorted.{IsStrictlyIncreasing}
+-- What the reader of logs holds, and what it does with one line.
+use Rattle.std.specs.Prelude.{◌≡◌, ◌≤◌, ℕ, Bool, true, false, List, [], Option, None}
+use Rattle.std.specs.Prelude.{Some, Result, Ok, Err, length}
 use Rattle.hv_bytes.specs.Fields.{cut_fields}
-use Rattle.hv_bytes.specs.declared.cutting.LineFault.{LineFault}
-use Rattle.hv_bytes.specs.declared.cutting.LineFault.TheVariants as L
-use Rattle.hv_task.specs.State.{AreBelow}
-use Rattle.hv_replay.specs.Logs.{IsLog, SearchLog}
-use Rattle.hv_replay.specs.Working.Logs.{counts_of}
-use Rattle.hv_replay.specs.LogText.{Beginning, FailsLine, PassesCount, PassesLimit, at_end}
-use Rattle.hv_replay.specs.LogText.{at_entry, lines_before}
-use Rattle.hv_replay.specs.declared.fault.LogFault.{LogFault}
-use Rattle.hv_replay.specs.declared.fault.LogFault.TheVariants as F
-use Rattle.hv_replay.specs.declared.fault.LogLimit.TheVariants as W
-use Rattle.hv_replay.specs.declared.log.Entry.{Entry}
-use Rattle.hv_replay.specs.declared.reader.FeedError.{FeedError}
-use Rattle.hv_replay.specs.declared.reader.FeedError.TheVariants as E
-use Rattle.hv_replay.specs.declared.reader.Reader.{Reader}
+use Rattle.hv_grammar.specs.declared.fault.ParseFault.{ParseFault}
+use Rattle.hv_grammar.specs.declared.fault.ParseFault.TheVariants as P
+use Rattle.hv_sets.specs.Gathered.{Gathered}
+use Rattle.hv_replay.specs.Logs.{IsLog, LogEntry, SearchLog}
+use Rattle.hv_replay.specs.Working.Logs.{counts_of, entries_of}
+use Rattle.hv_replay.specs.declared.entries.Entries.{Entries}
+use Rattle.hv_replay.specs.declared.fault.LogRefusal.{LogRefusal}
 
 -- the fields of what is left of a line, if anything is
 abbrev pub fields_in : {A : Type 0} → Option A → (A → List ℕ) → List (List ℕ)
 fields_in None now = []
 fields_in (Some rest) now = cut_fields (now rest)
 
--- the fields name these atoms, which rise and are below the bound
-pub record AreAtoms (atoms : ℕ) (fields : List (List ℕ)) (held : List ℕ) : Type 0 where
-  pub spelled : fields ≡ map decimal held
-  pub below : AreBelow atoms held
-  pub rises : IsStrictlyIncreasing held
+-- the state that is begun, where it was put
+abbrev pub begun_where : Bool → Gathered ℕ → Option (List ℕ)
+begun_where true states = Some states.begun
+begun_where false states = None
 
--- the beginning that the reader has read
-abbrev pub begun : Bool → List Entry → Beginning
-begun true entries = at_end entries
-begun false entries = at_entry entries
+-- the entries that were read
+abbrev pub entries_in : Entries → List LogEntry
+entries_in r = entries_of r.expanded.items r.states.whole
 
-abbrev pub begun_by : Reader → Beginning
-begun_by r = begun r.ended r.log.entries
+abbrev pub log_of : Entries → SearchLog
+log_of r = record { atoms = r.atoms; entries = entries_in r }
 
--- what the reader's methods ask of it
-pub record IsReading (r : Reader) : Type 0 where
-  pub legal : IsLog r.log.atoms r.log.entries
-  pub counts : r.counts ≡ counts_of r.log.entries
-  pub few_atoms : r.log.atoms ≤ 65535
+-- the entry that is begun
+abbrev pub begun_entry : Bool → Entries → LogEntry
+begun_entry expanded r = record { expanded = expanded; state = r.states.begun }
 
--- what the reader answers to one line: it takes it; or the form isn't there; or it is there and
--- passes a limit
-abbrev pub Feeds : Result (Unit {0}) FeedError → Reader → List ℕ → Reader → Type 0
-Feeds (Ok _) r line new =
-    IsReading new × (new.log.atoms ≡ r.log.atoms)
-    × (lines_before (begun_by new) ≡ lines_before (begun_by r) ++ line ∷ [])
-Feeds (Err E.Place) r line new = FailsLine r.log.atoms (begun_by r) line
-Feeds (Err (E.Limit limit)) r line new = PassesLimit r.log.atoms (begun_by r) line limit
-Feeds (Err E.Memory) r line new = Unit {0}
+-- what was read is the beginning of a log, and is counted
+pub record HoldsLog (r : Entries) : Type 0 where
+  pub legal : IsLog r.atoms (entries_in r)
+  pub counts : r.counts ≡ counts_of (entries_in r)
+  pub few_atoms : r.atoms ≤ 65535
+  pub size : length r.expanded.items ≡ length r.states.whole
 
--- the same for the entry of a line, which is there
-abbrev pub TakesEntry : Result (Unit {0}) FeedError → Reader → Entry → Reader → Type 0
-TakesEntry (Ok _) r entry new =
-    IsReading new × (new.log ≡ record r.log { entries = r.log.entries ++ entry ∷ [] })
-    × (new.ended ≡ r.ended)
-TakesEntry (Err E.Place) r entry new = ⊥
-TakesEntry (Err (E.Limit limit)) r entry new = PassesCount (r.log.entries ++ entry ∷ []) limit
-TakesEntry (Err E.Memory) r entry new = Unit {0}
+-- what the reader's methods ask of it: besides, no state is begun
+pub record IsReading (r : Entries) : Type 0 where
+  pub holds : HoldsLog r
+  pub none : r.states.begun ≡ []
 
--- the fault of a line of this number that isn't taken
-abbrev pub fault_at : ℕ → FeedError → LogFault
-fault_at number E.Place = F.Place number
-fault_at number (E.Limit limit) = F.Limit number limit
-fault_at number E.Memory = F.Memory
+-- what a line came to: one more entry, or none where it was the last one
+abbrev pub going_on : Entries → Result Bool (ParseFault LogRefusal)
+    → Result (Option (List LogEntry)) (ParseFault LogRefusal)
+going_on r (Ok true) = Ok (Some (entries_in r))
+going_on r (Ok false) = Ok None
+going_on r (Err e) = Err e
 
--- what the reader answers where no line is left, before the line of this number
-abbrev pub Ends : Result SearchLog LogFault → Reader → ℕ → Type 0
-Ends (Ok log) r number = (r.ended ≡ true) × (log ≡ r.log)
-Ends (Err F.Memory) r number = Unit {0}
-Ends (Err fault) r number = (r.ended ≡ false) × (fault ≡ F.Place number)
+-- what many lines came to
+abbrev pub as_entries : Result Entries (ParseFault LogRefusal)
+    → Result (List LogEntry) (ParseFault LogRefusal)
+as_entries (Ok r) = Ok (entries_in r)
+as_entries (Err e) = Err e
 
--- the fault of a line of this number that can't be had
-abbrev pub line_fault_at : ℕ → LineFault → LogFault
-line_fault_at number L.Long = F.Limit number W.Bytes
-line_fault_at number L.Failed = F.ReadFault
-line_fault_at number L.Memory = F.Memory
+abbrev pub as_log : Result Entries (ParseFault LogRefusal)
+    → Result SearchLog (ParseFault LogRefusal)
+as_log (Ok r) = Ok (log_of r)
+as_log (Err e) = Err e
+
+-- this was said of the line of this number, or memory ran out
+abbrev pub IsSaid : {A B : Type 0} → ℕ → Result A B → Result A (ParseFault B) → Type 0
+IsSaid number said (Ok a) = said ≡ Ok a
+IsSaid number said (Err (P.Refused n b)) = (n ≡ number) × (said ≡ Err b)
+IsSaid number said (Err (P.Long n)) = ⊥
+IsSaid number said (Err P.ReadFault) = ⊥
+IsSaid number said (Err P.Memory) = Unit {0}

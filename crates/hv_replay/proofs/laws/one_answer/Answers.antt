@@ -1,5 +1,5 @@
 use Rattle.std.proofs.Common.{arith}
-use Rattle.hv_replay.proofs.OneAnswer.{one_fault, one_log, text_or_fault}
+use Rattle.hv_replay.proofs.OneAnswer.{answered, one_fault, one_log, text_or_fault}
 use Rattle.hv_replay.proofs.laws.one_answer.Goals as goal
 
 pub returns-clause-one_log : goal.returns-clause-one_log
@@ -12,3 +12,6 @@ returns-clause-text_or_fault c = λ atoms pieces log fault small p q. text_or_fa
 pub returns-clause-one_fault : goal.returns-clause-one_fault
 returns-clause-one_fault c = λ atoms pieces f g small p q. one_fault atoms (omega arith) pieces f g
     p q
+
+pub returns-clause-answered : goal.returns-clause-answered
+returns-clause-answered c = λ atoms bytes. answered atoms bytes

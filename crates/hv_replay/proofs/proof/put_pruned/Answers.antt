@@ -9,7 +9,7 @@ use Rattle.hv_replay.proofs.Alike.{alike_same, alike_then, any_alike}
 use Rattle.hv_replay.proofs.Several.{AnyOf, found_some, match_none, match_some}
 use Rattle.hv_replay.specs.Working.Progress.{IsProgress}
 use Rattle.hv_replay.specs.Replayed.{pruned_in}
-use Rattle.hv_replay.specs.declared.log.Entry.{Entry}
+use Rattle.hv_replay.specs.Logs.{LogEntry}
 use Rattle.hv_lines.specs.declared.note.Note.{Note}
 use Rattle.std.proofs.Common.{List, ◌++◌, ◌∷◌, [], take}
 use Rattle.hv_replay.proofs.proof.put_pruned.Goals as goal
@@ -75,7 +75,7 @@ loop-place-preserved g c =
           c.put_one.new.draft.lines c.in-Some.more
           w.1
           (found_some c.in_ok-more.field-0 c.in-Some.more
-          (λ (more : Note). (before : List Entry)
+          (λ (more : Note). (before : List LogEntry)
           → IsProgress c.args.task.now (pruned_in before) c.loop-place.draft.lines
           c.loop-place.union
           → IsProgress c.args.task.now (pruned_in (before ++ w.0 ∷ [])) c.put_one.new.draft.lines

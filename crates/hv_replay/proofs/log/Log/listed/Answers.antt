@@ -1,6 +1,5 @@
 use Rattle.std.proofs.Common.{◌∙◌, ap, map, sym}
-use Rattle.hv_replay.specs.Logs.{SearchLog}
-use Rattle.hv_replay.specs.declared.log.Entry.{Entry}
+use Rattle.hv_replay.specs.Logs.{LogEntry, SearchLog}
 use Rattle.hv_replay.proofs.Kept.{entries_states}
 use Rattle.hv_replay.proofs.log.Log.listed.Goals as goal
 
@@ -10,5 +9,5 @@ returns-clause-listed c =
     record {
       over = ap (λ (l : SearchLog). l.atoms) c.self.view_is;
       states = sym (entries_states s.expanded.items s.states.states c.self.invariant.1)
-          ∙ ap (λ (l : SearchLog). map (λ (e : Entry). e.state) l.entries) c.self.view_is;
+          ∙ ap (λ (l : SearchLog). map (λ (e : LogEntry). e.state) l.entries) c.self.view_is;
     }
