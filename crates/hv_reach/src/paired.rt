@@ -91,7 +91,6 @@ pub(crate) fn pairs_reason(
 
 /// The formula of the states that hold no other pairs than these.
 pub(crate) fn pairs_formula(alloc: Global, atoms: u32, pairs: &Pairs) -> Result<Clauses, AllocError>
-    requires { length pairs.now ≡ atoms }
     ensures { IfOk result (λ clauses. clauses ≡ pairs_formula atoms (has_pair pairs.now)) }
 {
     let mut clauses = Clauses::new(alloc);
@@ -103,8 +102,7 @@ pub(crate) fn pairs_formula(alloc: Global, atoms: u32, pairs: &Pairs) -> Result<
 
 // Puts the clauses that deny the unreached pairs of the atom with itself and with greater ones.
 fn deny_row(clauses: &mut Clauses, atoms: u32, pairs: &Pairs, first: u32) -> Result<(), AllocError>
-    requires size { length pairs.now ≡ atoms }
-    requires first { first < atoms }
+    requires { first < atoms }
     ensures { OnOk result
         (clauses.new ≡ clauses.old ++ row_clauses atoms (has_pair pairs.now) first) }
 {
@@ -121,8 +119,6 @@ fn deny_pair(
     first: u32,
     second: u32,
 ) -> Result<(), AllocError>
-    requires first { first < length pairs.now }
-    requires second { second < length pairs.now }
     ensures { OnOk result
         (clauses.new ≡ clauses.old ++ pair_clauses (has_pair pairs.now) first second) }
 {

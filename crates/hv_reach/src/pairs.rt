@@ -1,6 +1,6 @@
 //! The pairs of atoms that are reached from a state.
 
-ghost use Rattle.std.specs.Prelude.{◌≡◌, ◌<◌, ◌≤◌, ◌↔◌, ℕ, true, false, length, IfOk};
+ghost use Rattle.std.specs.Prelude.{◌≡◌, ◌≤◌, ◌⊎◌, ◌↔◌, ℕ, true, false, length, IfOk};
 ghost use Rattle.hv_task.specs.Strips.{IsState, atoms};
 ghost use Rattle.hv_task.specs.State.{AreBelow};
 ghost use Rattle.hv_reach.specs.Index.{IsTaskIndex};
@@ -34,13 +34,16 @@ impl Model for Pairs {
 }
 
 impl Pairs {
-    /// Whether the pair is in the set.
+    /// Whether the pair is in the set. A number past the atoms is in no pair.
     pub fn has(&self, first: u32, second: u32) -> bool
-        requires first { first < length self.now }
-        requires second { second < length self.now }
         ensures has { result ≡ has_pair self.now first second }
         ensures even { result ≡ has_pair self.now second first }
+        ensures past { (length self.now ≤ first) ⊎ (length self.now ≤ second) → result ≡ false }
     {
+        let atoms = self.rows.len();
+        if first as usize >= atoms || second as usize >= atoms {
+            return false;
+        }
         self.rows[first as usize].has(second)
     }
 
