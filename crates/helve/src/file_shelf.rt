@@ -1,20 +1,22 @@
 //! The files of the system as a shelf.
 
-ghost use Rattle.std.specs.Prelude.{◌≤◌};
-ghost use Rattle.hv_bytes.specs.Devices.{Rose};
+ghost use Rattle.std.specs.Io.{ReadsAtMost};
+ghost use Rattle.hv_bytes.specs.Devices.{HasCause};
 
+use crate::faults::Faults;
 use hv_bytes::{Failed, Shelf};
 use std::fs::File;
 use std::io::Read;
 
-/// The files of the system. Each error of the system, whatever its cause, counts as a fault;
-/// nothing is told of what files hold.
+/// The files of the system. Each error of the system, whatever its cause, counts as a fault; a call
+/// that was interrupted is tried again, and any other error is answered, also that of a descriptor
+/// which has nothing to give at once and doesn't wait. Nothing is told of what files hold.
 #[derive(Drop)]
 pub(crate) struct FileShelf<'a> {
     rt: &'a HostRuntime,
     /// The open file; a read before the first open gives no bytes.
     file: Option<File>,
-    faults: u64,
+    faults: Faults,
 }
 
 impl<'a> FileShelf<'a> {
@@ -22,17 +24,8 @@ impl<'a> FileShelf<'a> {
         FileShelf {
             rt,
             file: None,
-            faults: 0,
+            faults: Faults::new(),
         }
-    }
-
-    // Counts a fault. The count stays at its greatest value once there.
-    fn fault(&mut self) -> Failed
-        ensures rose { Rose self.old.faults self.new.faults }
-        ensures later { self.old.faults ≤ self.new.faults }
-    {
-        self.faults = self.faults.saturating_add(1);
-        Failed
     }
 }
 
@@ -45,23 +38,39 @@ impl Shelf for FileShelf<'_> {
 
     ghost allows = { λ _ _. true };
 
-    ghost faults = { λ s. s.faults };
+    ghost faults = { λ s. s.faults.count };
 
     fn open(&mut self, name: &str) -> Result<(), Failed> {
-        let Ok(file) = File::open(self.rt, name) else {
-            return Err(self.fault());
-        };
-        self.file = Some(file);
-        Ok(())
+        for _ in 0..u64::MAX {
+            match File::open(self.rt, name) {
+                Ok(file) => {
+                    self.file = Some(file);
+                    return Ok(());
+                }
+                Err(error) => self.faults.error(&error)?,
+            }
+        }
+        Err(self.faults.fault())
     }
 
     fn read(&mut self, into: &mut [u8]) -> Result<usize, Failed> {
-        let Some(file) = &mut self.file else {
-            return Ok(0);
-        };
-        match file.read(into) {
-            Ok(count) => Ok(count),
-            Err(_) => Err(self.fault()),
+        match &mut self.file {
+            Some(file) => read_some(file, &mut self.faults, into),
+            None => Ok(0),
         }
     }
+}
+
+// Reads the next bytes of the file into the front of `into`, and says how many.
+fn read_some(file: &mut File, faults: &mut Faults, into: &mut [u8]) -> Result<usize, Failed>
+    ensures bound { ReadsAtMost result into.new }
+    ensures cause { HasCause faults.old.count faults.new.count result }
+{
+    for _ in 0..u64::MAX {
+        match file.read(into) {
+            Ok(count) => return Ok(count),
+            Err(error) => faults.error(&error)?,
+        }
+    }
+    Err(faults.fault())
 }

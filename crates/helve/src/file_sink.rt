@@ -1,18 +1,24 @@
 //! Standard output as a sink.
 
+use crate::faults::Faults;
 use hv_bytes::{Failed, Sink};
 
 /// Standard output. Each error of the system, whatever its cause, counts as a fault, and so does a
-/// write that takes nothing.
+/// write that takes nothing; a call that was interrupted is tried again, and any other error is
+/// answered, also that of a descriptor which can't take anything at once and doesn't wait. A write
+/// goes to the system at once, so nothing is kept that would have to be flushed.
 #[derive(Drop)]
 pub(crate) struct FileSink<'a> {
     rt: &'a HostRuntime,
-    faults: u64,
+    faults: Faults,
 }
 
 impl<'a> FileSink<'a> {
     pub(crate) fn new(rt: &'a HostRuntime) -> FileSink<'a> {
-        FileSink { rt, faults: 0 }
+        FileSink {
+            rt,
+            faults: Faults::new(),
+        }
     }
 }
 
@@ -21,15 +27,16 @@ impl Sink for FileSink<'_> {
 
     ghost taken = { λ _. None };
 
-    ghost faults = { λ s. s.faults };
+    ghost faults = { λ s. s.faults.count };
 
     fn write(&mut self, bytes: &[u8]) -> Result<usize, Failed> {
-        match self.rt.write_some(bytes) {
-            Ok(count) if count > 0 => Ok(count),
-            _ => {
-                self.faults = self.faults.saturating_add(1);
-                Err(Failed)
+        for _ in 0..u64::MAX {
+            match self.rt.write_some(bytes) {
+                Ok(0) => return Err(self.faults.fault()),
+                Ok(count) => return Ok(count),
+                Err(error) => self.faults.error(&error)?,
             }
         }
+        Err(self.faults.fault())
     }
 }

@@ -1,10 +1,12 @@
 //! The program: real files, words, exit status.
 #![tactic(auto)]
 
+mod faults;
 mod file_shelf;
 mod file_sink;
 #[cfg(test)]
 mod tests;
+mod words;
 
 use file_shelf::FileShelf;
 use file_sink::FileSink;
@@ -13,9 +15,8 @@ use hv_lines::Pruner;
 use hv_reach::{PairPruner, RelaxedPruner};
 use hv_trap::TrapPruner;
 use std::alloc::AllocError;
-use std::env;
-use std::io::ErrorKind;
 use std::process::ExitCode;
+use words::words;
 
 fn main(rt: HostRuntime) -> ExitCode {
     let status = match words(&rt) {
@@ -35,27 +36,4 @@ fn run_words(rt: &HostRuntime, words: &Words) -> Result<Status, AllocError> {
     pruners.push(Box::new(alloc, TrapPruner::new(alloc))?)?;
     let (mut shelf, mut sink) = (FileShelf::new(rt), FileSink::new(rt));
     Ok(run(alloc, words, &mut shelf, &mut sink, pruners))
-}
-
-// The words after the program's name. Words that aren't text are no job; want of memory is told as
-// such.
-fn words(rt: &HostRuntime) -> Result<Words, Status> {
-    let mut words = Words::new(rt.alloc());
-    match env::args(rt) {
-        Ok(args) => {
-            for word in args.skip(1) {
-                if words.push(word.as_str()).is_err() {
-                    return Err(Status::Memory);
-                }
-            }
-            Ok(words)
-        }
-        Err(error) => {
-            if error.kind() == ErrorKind::OutOfMemory {
-                Err(Status::Memory)
-            } else {
-                Err(Status::Usage)
-            }
-        }
-    }
 }

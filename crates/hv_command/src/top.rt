@@ -65,12 +65,15 @@ pub fn run<S: Shelf, K: Sink>(
         → Rose (S.faults shelf.old) (S.faults shelf.new) }
     ensures read_nothing { result ≡ Status.ReadFault → out.new ≡ out.old }
 
-    // faults of the sink
+    // faults of the sink: what was written is a beginning of the answer, or all of it, and what
+    // the answer says is true
     ensures write_fault { result ≡ Status.WriteFault → Rose (K.faults out.old) (K.faults out.new) }
     ensures write_front { result ≡ Status.WriteFault → (status : StatusOf) × (text : List ℕ)
         × IsAnswered status
         × AnswersTold (λ task state. Any (λ b. covers b task state) pruners.items)
         (job_of words.now) (S.held shelf.old) status text
+        × IsAcceptedTold (job_of words.now) (S.held shelf.old) status text
+        × IsSoundTold (job_of words.now) (S.held shelf.old) status
         × AppendsFront (K.taken out.old) (K.taken out.new) text }
 
     // want of memory

@@ -1,0 +1,5 @@
+use Rattle.std.proofs.Common.{◌≤◌}
+use Rattle.helve.proofs.file_shelf.FileShelfShelf.open.Given as goal
+
+abbrev pub invariant-loop : goal.invariant-loop
+invariant-loop l = l.initial.self.faults.count ≤ l.self.faults.count
