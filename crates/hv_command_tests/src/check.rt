@@ -1,11 +1,10 @@
 //! The worked examples of the formats, and faults of the devices.
 
 use crate::short::{
-    GOAL_AT_THE_START, KEY_TASK, all_told, is_done, tells, told, told_with_fault, written,
+    Files, GOAL_AT_THE_START, KEY_TASK, all_told, is_done, tells, told, told_with_fault, written,
 };
 use hv_command::Status;
 use std::alloc::{AllocError, Global};
-use std::ops::Range;
 use std::process::Abort;
 use std::test::Fail;
 
@@ -391,12 +390,25 @@ fn is_bad(alloc: Global, task: &[u8], proof: &[u8]) -> Result<bool, AllocError> 
     Ok(told.as_slice().starts_with(b"3 task line "))
 }
 
+// Whether this part of the proof is judged so: it shows that the task is unsolvable, or is refused.
+fn is_part_judged(
+    alloc: Global,
+    task: &[u8],
+    proof: &[u8],
+    whole: bool,
+) -> Result<bool, AllocError> {
+    let told = told(alloc, CHECK, task, proof)?;
+    let done = told.as_slice() == b"0 unsolvable\n".as_slice();
+    let refused = told.as_slice().starts_with(b"1 ");
+    Ok((done == whole) & (refused != whole))
+}
+
 // Whether only the whole proof, and the whole without its last LF, shows that the task is
-// unsolvable.
+// unsolvable, and every other part is refused.
 fn needs_the_proof(alloc: Global, task: &[u8], proof: &[u8]) -> Result<bool, AllocError> {
     let mut right = true;
     for end in 0..proof.len() + 1 {
-        right &= is_done(alloc, CHECK, task, &proof[..end])? == (end + 1 >= proof.len());
+        right &= is_part_judged(alloc, task, &proof[..end], end + 1 >= proof.len())?;
     }
     Ok(right)
 }
@@ -438,65 +450,6 @@ fn needs_the_whole_files(rt: HostRuntime) -> Result<(), Fail> {
     Ok(())
 }
 
-// Whether these words tell exactly this where the shelf's call and the sink's write of these
-// numbers fail.
-fn tells_by(
-    alloc: Global,
-    words: &str,
-    proof: &str,
-    call: u64,
-    write: u64,
-    text: &[u8],
-) -> Result<bool, AllocError> {
-    let told = told_with_fault(alloc, words, proof, call, write)?;
-    Ok(told.as_slice() == text)
-}
-
-// The same of `check` of this proof, where a call fails.
-fn tells_failing_call(
-    alloc: Global,
-    proof: &str,
-    call: u64,
-    text: &[u8],
-) -> Result<bool, AllocError> {
-    tells_by(alloc, CHECK, proof, call, 0, text)
-}
-
-// The same of the explicit proof, where a write fails.
-fn tells_failing_write(alloc: Global, write: u64, text: &[u8]) -> Result<bool, AllocError> {
-    tells_by(alloc, CHECK, TWO_STATES, 0, write, text)
-}
-
-// Asserts that each of these calls is told where it fails.
-fn all_calls_told(rt: &impl Abort, alloc: Global, calls: Range<u64>) -> Result<(), Fail> {
-    for call in calls {
-        assert!(rt;
-            tells_failing_call(alloc, TWO_STATES, call, b"4 ")?,
-            "call {call}"
-        );
-    }
-    Ok(())
-}
-
-// The task has 251 bytes and the proof 184: with reads of 7 bytes these are two opens, 36 and 27
-// reads that give bytes, and two that give none.
-#[test]
-fn tells_each_failing_read(rt: HostRuntime) -> Result<(), Fail> {
-    all_calls_told(&rt, rt.alloc(), 1..2 + 36 + 27 + 2 + 1)?;
-    assert!(rt; tells_failing_call(rt.alloc(), TWO_STATES, 68, b"0 unsolvable\n")?);
-    Ok(())
-}
-
-#[test]
-fn tells_each_failing_write(rt: HostRuntime) -> Result<(), Fail> {
-    assert!(rt; tells_failing_write(rt.alloc(), 1, b"5 ")?);
-    assert!(rt; tells_failing_write(rt.alloc(), 2, b"5 unsolvable")?);
-    assert!(rt; tells_failing_write(rt.alloc(), 3, b"0 unsolvable\n")?);
-    let words = "produce relaxed task";
-    assert!(rt; tells_by(rt.alloc(), words, "", 0, 2, b"5 a 0 a\ne 0 ")?);
-    Ok(())
-}
-
 // Puts so many copies of this text last.
 fn put_copies(text: &mut String, copies: u32, copy: &str) -> Result<(), AllocError> {
     for _copy in 0..copies {
@@ -505,12 +458,24 @@ fn put_copies(text: &mut String, copies: u32, copy: &str) -> Result<(), AllocErr
     Ok(())
 }
 
-// Whether `check` tells exactly this where the call of this number fails, of a proof whose first
-// line is refused; the rest are comments.
+// What `check` tells of the key task and this proof where the call of this number fails.
+fn told_failing_call(alloc: Global, proof: &[u8], call: u64) -> Result<Vec<u8>, AllocError> {
+    let task = written(alloc, KEY_TASK)?;
+    let task = task.as_slice();
+    let files = Files {
+        task,
+        proof,
+        nodes: b"",
+    };
+    told_with_fault(alloc, CHECK, files, call, 0)
+}
+
+// Whether it tells exactly this of a proof whose first line is refused; the rest are comments.
 fn early_tells(alloc: Global, call: u64, text: &[u8]) -> Result<bool, AllocError> {
-    let mut proof = String::from_str(alloc, "e 1 c e/")?;
-    put_copies(&mut proof, 1000, "# x/")?;
-    tells_failing_call(alloc, proof.as_str(), call, text)
+    let mut proof = String::from_str(alloc, "e 1 c e\n")?;
+    put_copies(&mut proof, 1000, "# x\n")?;
+    let told = told_failing_call(alloc, proof.as_bytes(), call)?;
+    Ok(told.as_slice() == text)
 }
 
 // The task takes an open, 36 reads that give bytes and one that gives none; the proof is opened

@@ -5,40 +5,13 @@ use std::alloc::{AllocError, Global};
 use std::process::Abort;
 use std::test::Fail;
 
-// A lamp that is off at the start, and a switch that turns it on, as a translator writes it.
-static LAMP: [&str; 31] = [
-    "begin_version",
-    "3",
-    "end_version",
-    "begin_metric",
-    "0",
-    "end_metric",
-    "1",
-    "begin_variable",
-    "var0",
-    "-1",
-    "2",
-    "Atom lit()",
-    "NegatedAtom lit()",
-    "end_variable",
-    "0",
-    "begin_state",
-    "1",
-    "end_state",
-    "begin_goal",
-    "1",
-    "0 0",
-    "end_goal",
-    "1",
-    "begin_operator",
-    "switch",
-    "0",
-    "1",
-    "0 0 1 0",
-    "5",
-    "end_operator",
-    "0",
-];
+/// A lamp that is off at the start, and a switch that turns it on, as a translator writes it; the
+/// lines are parted by `/`.
+pub(crate) const LAMP: &str = concat!(
+    "begin_version/3/end_version/begin_metric/0/end_metric/1/begin_variable/var0/-1/2/Atom lit()/",
+    "NegatedAtom lit()/end_variable/0/begin_state/1/end_state/begin_goal/1/0 0/end_goal/1/",
+    "begin_operator/switch/0/1/0 0 1 0/5/end_operator/0"
+);
 
 // Puts a line and an LF last.
 fn put_line(text: &mut Vec<u8>, line: &str) -> Result<(), AllocError> {
@@ -49,7 +22,7 @@ fn put_line(text: &mut Vec<u8>, line: &str) -> Result<(), AllocError> {
 
 // Puts the lines of the lamp last, but for the line of this number, from 1, which is another.
 fn put_lamp(text: &mut Vec<u8>, number: usize, other: &str) -> Result<(), AllocError> {
-    for (place, line) in LAMP.iter().enumerate() {
+    for (place, line) in LAMP.split('/').enumerate() {
         let is_other = place.saturating_add(1) == number;
         put_line(text, if is_other { other } else { line })?;
     }
@@ -126,8 +99,8 @@ fn makes_tasks_of_translators_tasks(rt: HostRuntime) -> Result<(), Fail> {
     all_made(&rt, rt.alloc(), &LAMPS)
 }
 
-// The key task with the goal that the robot is at the other place.
-const OTHER_PLACE: &str = concat!(
+/// The key task with the goal that the robot is at the other place.
+pub(crate) const OTHER_PLACE: &str = concat!(
     "begin_atoms:3/Atom at(r, a)/Atom at(r, b)/Atom have(key)/end_atoms/begin_init/0/end_init/",
     "begin_goal/1/end_goal/begin_actions:2/begin_action/go a b/cost:1/PRE:0/ADD:1/DEL:0/",
     "end_action/begin_action/go b a/cost:1/PRE:1/ADD:0/DEL:1/end_action/end_actions/"

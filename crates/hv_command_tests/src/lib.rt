@@ -4,13 +4,21 @@
 #[cfg(test)]
 mod check;
 #[cfg(test)]
+mod dual_horn;
+#[cfg(test)]
 mod explain;
 #[cfg(test)]
+mod failing;
+#[cfg(test)]
 mod fronts;
+#[cfg(test)]
+mod hostile;
 #[cfg(test)]
 mod produce;
 #[cfg(test)]
 mod pruners;
+#[cfg(test)]
+mod refusing;
 #[cfg(test)]
 mod replay;
 #[cfg(test)]

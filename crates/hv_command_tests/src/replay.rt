@@ -8,7 +8,7 @@ use crate::short::{KEY_TASK, is_done, is_text, tells, told_by, written};
 use hv_bytes::{Limits, SureShelf, Text};
 use hv_lines::Pruner;
 use hv_proof_text::write_proof;
-use hv_replay::{Log, read_log, replay};
+use hv_replay::{Log, ReplayFault, read_log, replay};
 use hv_task::Task;
 use hv_task_text::read_task;
 use std::alloc::{AllocError, Global};
@@ -167,7 +167,8 @@ fn asks_three_pruners_in_order(rt: HostRuntime) -> Result<(), Fail> {
     Ok(())
 }
 
-// Appends the proof that the log becomes with these pruners; nothing where it becomes none.
+// Appends the proof that the log becomes with these pruners, or that memory was refused; nothing
+// where it becomes none.
 fn put_draft(
     alloc: Global,
     task: &Task,
@@ -179,6 +180,7 @@ fn put_draft(
 {
     match replay(alloc, task, log, pruners) {
         Ok(draft) => write_proof(alloc, draft.table(), text),
+        Err(ReplayFault::Memory) => text.push_bytes(b"memory"),
         Err(_) => Ok(()),
     }
 }
@@ -229,8 +231,9 @@ fn shelf_of(alloc: Global, log: &str) -> Result<SureShelf, AllocError> {
     Ok(shelf)
 }
 
-// Puts the proof that a log of the key task becomes with these pruners.
-fn put_proof_of(
+/// Appends the proof that a log of the key task becomes with these pruners, or that memory was
+/// refused; nothing where it becomes none.
+pub(crate) fn put_proof_of(
     alloc: Global,
     log: &str,
     pruners: &mut Vec<Box<dyn Pruner>>,
@@ -252,8 +255,8 @@ fn writes(
     Ok(told.strip_prefix(b"0 ") == Some(text.as_bytes()))
 }
 
-// Whether these pruners write of the log what new ones do.
-fn is_the_same(
+/// Whether these pruners write of the log what new ones do.
+pub(crate) fn is_the_same(
     alloc: Global,
     log: &str,
     pruners: &mut Vec<Box<dyn Pruner>>,

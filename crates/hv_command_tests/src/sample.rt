@@ -31,8 +31,8 @@ fn tells(alloc: Global, words: &str, answer: &str) -> Result<bool, AllocError> {
     is_text(alloc, told.as_slice(), answer)
 }
 
-// The text of the sample of 64 rooms.
-fn rooms_text(alloc: Global) -> Result<Text, AllocError> {
+/// The text of the sample of 64 rooms.
+pub(crate) fn rooms_text(alloc: Global) -> Result<Text, AllocError> {
     let task = sample_task(alloc, 64)?;
     write_task(alloc, &task)
 }

@@ -3,9 +3,10 @@
 
 ghost use Rattle.std.specs.Prelude.{◌≤◌};
 
-use crate::pruners::pruners_of;
+use crate::pruners::{pruners_of, three_pruners};
 use hv_bytes::{MemoryShelf, MemorySink};
 use hv_command::{Status, Words, run};
+use hv_lines::Pruner;
 use std::alloc::{AllocError, Global};
 use std::process::Abort;
 use std::test::Fail;
@@ -82,42 +83,33 @@ pub(crate) fn put_names(task: &mut String, atoms: u32) -> Result<(), AllocError>
     Ok(())
 }
 
+/// The files of a run: a task, a proof, and nodes.
+#[derive(Clone, Copy)]
+pub(crate) struct Files<'a> {
+    pub(crate) task: &'a [u8],
+    pub(crate) proof: &'a [u8],
+    pub(crate) nodes: &'a [u8],
+}
+
 // Adds these three files.
-fn add_files(
-    shelf: &mut MemoryShelf,
-    task: &[u8],
-    proof: &[u8],
-    nodes: &[u8],
-) -> Result<(), AllocError> {
-    shelf.add("task", task)?;
-    shelf.add("proof", proof)?;
-    shelf.add("nodes", nodes)
+fn add_files(shelf: &mut MemoryShelf, files: Files<'_>) -> Result<(), AllocError> {
+    shelf.add("task", files.task)?;
+    shelf.add("proof", files.proof)?;
+    shelf.add("nodes", files.nodes)
 }
 
 // A shelf with these three files.
-fn shelf_of(
-    alloc: Global,
-    step: usize,
-    task: &[u8],
-    proof: &[u8],
-    nodes: &[u8],
-) -> Result<MemoryShelf, AllocError>
+fn shelf_of(alloc: Global, step: usize, files: Files<'_>) -> Result<MemoryShelf, AllocError>
     requires { 1 ≤ step }
 {
     let mut shelf = MemoryShelf::new(alloc, step);
-    add_files(&mut shelf, task, proof, nodes)?;
+    add_files(&mut shelf, files)?;
     Ok(shelf)
 }
 
-// A shelf with a task and a proof, of which 7 bytes are read at once and the call of this number
-// fails.
-fn faulty_shelf(
-    alloc: Global,
-    task: &[u8],
-    proof: &[u8],
-    call: u64,
-) -> Result<MemoryShelf, AllocError> {
-    let mut shelf = shelf_of(alloc, 7, task, proof, b"")?;
+// A shelf with these files, of which 7 bytes are read at once and the call of this number fails.
+fn faulty_shelf(alloc: Global, files: Files<'_>, call: u64) -> Result<MemoryShelf, AllocError> {
+    let mut shelf = shelf_of(alloc, 7, files)?;
     shelf.fail_at(call)?;
     Ok(shelf)
 }
@@ -140,29 +132,17 @@ pub(crate) fn put_words(words: &mut Words, text: &str) -> Result<(), AllocError>
     Ok(())
 }
 
-// Runs these words.
-fn run_words(
-    alloc: Global,
-    words: &Words,
-    shelf: &mut MemoryShelf,
-    sink: &mut MemorySink,
-    pruned: bool,
-) -> Result<Status, AllocError> {
-    let pruners = pruners_of(alloc, pruned)?;
-    Ok(run(alloc, words, shelf, sink, pruners))
-}
-
 // Runs the words of a text.
 fn run_text(
     alloc: Global,
     text: &str,
     shelf: &mut MemoryShelf,
     sink: &mut MemorySink,
-    pruned: bool,
+    pruners: Vec<Box<dyn Pruner>>,
 ) -> Result<Status, AllocError> {
     let mut words = Words::new(alloc);
     put_words(&mut words, text)?;
-    run_words(alloc, &words, shelf, sink, pruned)
+    Ok(run(alloc, &words, shelf, sink, pruners))
 }
 
 // Puts the number of the status, a space, and what was printed last.
@@ -186,9 +166,9 @@ fn answer(
     words: &str,
     shelf: &mut MemoryShelf,
     sink: &mut MemorySink,
-    pruned: bool,
+    pruners: Vec<Box<dyn Pruner>>,
 ) -> Result<Vec<u8>, AllocError> {
-    let status = run_text(alloc, words, shelf, sink, pruned)?;
+    let status = run_text(alloc, words, shelf, sink, pruners)?;
     told_text(alloc, status, sink.bytes())
 }
 
@@ -197,14 +177,25 @@ fn told_of_shelf(
     alloc: Global,
     words: &str,
     shelf: &mut MemoryShelf,
-    pruned: bool,
+    pruners: Vec<Box<dyn Pruner>>,
 ) -> Result<Vec<u8>, AllocError> {
     let mut sink = MemorySink::new(alloc, 10, 65536)?;
-    answer(alloc, words, shelf, &mut sink, pruned)
+    answer(alloc, words, shelf, &mut sink, pruners)
 }
 
-/// What these words tell of the three files, with the three pruners or with none: the number of the
-/// status, a space, and what was printed.
+/// What these words tell of these files with these pruners: the number of the status, a space, and
+/// what was printed.
+pub(crate) fn told_with(
+    alloc: Global,
+    words: &str,
+    files: Files<'_>,
+    pruners: Vec<Box<dyn Pruner>>,
+) -> Result<Vec<u8>, AllocError> {
+    let mut shelf = shelf_of(alloc, 4096, files)?;
+    told_of_shelf(alloc, words, &mut shelf, pruners)
+}
+
+/// The same with the three pruners or with none.
 pub(crate) fn told_by(
     alloc: Global,
     words: &str,
@@ -213,8 +204,8 @@ pub(crate) fn told_by(
     nodes: &[u8],
     pruned: bool,
 ) -> Result<Vec<u8>, AllocError> {
-    let mut shelf = shelf_of(alloc, 4096, task, proof, nodes)?;
-    told_of_shelf(alloc, words, &mut shelf, pruned)
+    let pruners = pruners_of(alloc, pruned)?;
+    told_with(alloc, words, Files { task, proof, nodes }, pruners)
 }
 
 /// The same without pruners and nodes.
@@ -235,35 +226,22 @@ fn told_to_faulty(
     write: u64,
 ) -> Result<Vec<u8>, AllocError> {
     let mut sink = faulty_sink(alloc, write)?;
-    answer(alloc, words, shelf, &mut sink, false)
+    let pruners = three_pruners(alloc)?;
+    answer(alloc, words, shelf, &mut sink, pruners)
 }
 
-// What the words tell of these files where the shelf's call and the sink's write of these numbers
-// fail.
-fn told_on(
-    alloc: Global,
-    words: &str,
-    task: &[u8],
-    proof: &[u8],
-    call: u64,
-    write: u64,
-) -> Result<Vec<u8>, AllocError> {
-    let mut shelf = faulty_shelf(alloc, task, proof, call)?;
-    told_to_faulty(alloc, words, &mut shelf, write)
-}
-
-/// The same for the key task. The shelf reads 7 bytes at once, and the sink takes 10. No call has
-/// the number 0.
+/// What the words tell of these files, with the three pruners, where the shelf's call and the
+/// sink's write of these numbers fail. The shelf reads 7 bytes at once, and the sink takes 10. No
+/// call has the number 0.
 pub(crate) fn told_with_fault(
     alloc: Global,
     words: &str,
-    proof: &str,
+    files: Files<'_>,
     call: u64,
     write: u64,
 ) -> Result<Vec<u8>, AllocError> {
-    let task = written(alloc, KEY_TASK)?;
-    let proof = written(alloc, proof)?;
-    told_on(alloc, words, task.as_slice(), proof.as_slice(), call, write)
+    let mut shelf = faulty_shelf(alloc, files, call)?;
+    told_to_faulty(alloc, words, &mut shelf, write)
 }
 
 /// Whether what was told is the text of this short form and an LF.

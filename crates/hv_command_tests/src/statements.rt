@@ -224,8 +224,12 @@ fn tells_within(
     tells(alloc, words.as_str(), KEY_TASK, proof, answers)
 }
 
-// Asserts that each proof for the key task is answered within its budget.
-fn all_within(rt: &impl Abort, alloc: Global, rows: &[(&str, &str, &str)]) -> Result<(), Fail> {
+/// Asserts that each proof for the key task is answered within its budget.
+pub(crate) fn all_within(
+    rt: &impl Abort,
+    alloc: Global,
+    rows: &[(&str, &str, &str)],
+) -> Result<(), Fail> {
     for (budget, proof, answers) in rows {
         assert!(rt; tells_within(alloc, budget, proof, answers)?, "{proof}");
     }
@@ -251,20 +255,21 @@ fn judges_basic_statements(rt: HostRuntime) -> Result<(), Fail> {
     all_of_tasks(&rt, rt.alloc(), &OTHER_TASKS)
 }
 
-// Puts sixty unions of the last set with itself last.
+// Puts 59 unions of the last set with itself last.
 fn put_doublings(proof: &mut String) -> Result<(), AllocError> {
-    for part in 0..60 {
+    for part in 0..59 {
         let set = part + 1;
         write!(proof, "e {set} u {part} {part}\n")?;
     }
     Ok(())
 }
 
-// Puts a set under these unions last: one leaf, though 2^60 ways lead to it.
-fn put_shared_proof(proof: &mut String) -> Result<(), AllocError> {
+// Puts a set under these unions last, and one more of the last set with this one. Of the last set
+// itself that makes one leaf, though 2^60 ways lead to it.
+fn put_shared_proof(proof: &mut String, part: u32) -> Result<(), AllocError> {
     proof.push_str("e 0 h 1 -1 0\n")?;
     put_doublings(proof)?;
-    proof.push_str("k 0 s 0 60 b1\n")
+    write!(proof, "e 60 u {part} 59\nk 0 s 0 60 b1\n")
 }
 
 // 65,536 formulas without clauses.
@@ -305,9 +310,9 @@ fn answers(alloc: Global, task: &str, proof: &String, answer: &str) -> Result<bo
     answers_of(alloc, task.as_slice(), proof.as_bytes(), answer)
 }
 
-fn shared_answers(alloc: Global, answer: &str) -> Result<bool, AllocError> {
+fn shared_answers(alloc: Global, part: u32, answer: &str) -> Result<bool, AllocError> {
     let mut proof = String::new(alloc);
-    put_shared_proof(&mut proof)?;
+    put_shared_proof(&mut proof, part)?;
     answers(alloc, KEY_TASK, &proof, answer)
 }
 
@@ -321,7 +326,8 @@ fn wide_answers(alloc: Global, asked: u32, answer: &str) -> Result<bool, AllocEr
 // are just as many as may be.
 #[test]
 fn a_statement_has_operands_up_to_the_limit(rt: HostRuntime) -> Result<(), Fail> {
-    assert!(rt; shared_answers(rt.alloc(), "1 no conclusion")?);
+    assert!(rt; shared_answers(rt.alloc(), 59, "1 no conclusion")?);
+    assert!(rt; shared_answers(rt.alloc(), 60, "1 line 61: unknown")?);
     assert!(rt; wide_answers(rt.alloc(), 131070, "1 line 131072: shape")?);
     assert!(rt; wide_answers(rt.alloc(), 131069, "1 no conclusion")?);
     Ok(())
@@ -831,8 +837,8 @@ fn is_right_both_ways(
     Ok(right & turned)
 }
 
-// Asserts that each inclusion is answered rightly, both ways.
-fn all_right(
+/// Asserts that each inclusion is answered rightly, both ways.
+pub(crate) fn all_right(
     rt: &impl Abort,
     alloc: Global,
     rows: &[(&str, &str, &str, &str)],
@@ -848,8 +854,12 @@ fn judges_inclusions_between_two_families(rt: HostRuntime) -> Result<(), Fail> {
     all_right(&rt, rt.alloc(), &TWO_ROWS)
 }
 
-// Asserts that none of these inclusions is offered.
-fn none_offered(rt: &impl Abort, alloc: Global, rows: &[(&str, &str, &str)]) -> Result<(), Fail> {
+/// Asserts that none of these inclusions is offered.
+pub(crate) fn none_offered(
+    rt: &impl Abort,
+    alloc: Global,
+    rows: &[(&str, &str, &str)],
+) -> Result<(), Fail> {
     for (sides, first, second) in rows {
         let answers = "1 line 5: not offered";
         assert!(rt; tells_inclusion(alloc, sides, (*first, *second), "2", answers)?);
