@@ -1,8 +1,16 @@
 """Decision diagrams as the usual packages keep them, with complement edges, and their node file.
 
 An edge is a node's number and a bit: the edge 2 * node + 1 stands for the complement of the edge
-2 * node. Node 0 is the one leaf, so edge 0 is true and edge 1 is false.
+2 * node. Node 0 is the one leaf, so edge 0 is true and edge 1 is false. The walk that numbers the
+nodes is that of `tools/nodes`.
 """
+import os
+import sys
+
+TOP = os.path.dirname(os.path.dirname(os.path.abspath(__file__)))
+sys.dont_write_bytecode = True
+sys.path.insert(0, os.path.join(TOP, "tools"))
+import formats  # noqa: E402
 
 TRUE, FALSE = 0, 1
 
@@ -33,15 +41,7 @@ def node_file(package, root):
 
     Children come before parents. A node and its complement become two nodes, each once.
     """
-    numbers, lines = {FALSE: 0, TRUE: 1}, []
-
-    def number_of(edge):
-        if edge not in numbers:
-            atom, low, high = package.parts(edge)
-            line = "%d %d %d" % (atom, number_of(low), number_of(high))
-            lines.append(line)
-            numbers[edge] = len(lines) + 1
-        return numbers[edge]
-
-    number = number_of(root)
-    return "\n".join(["nodes %d" % len(lines)] + lines) + "\n", number
+    numbers = formats.no_numbers(len(package.nodes) - 1)
+    lines = list(formats.node_lines(package.parts, [root], numbers))
+    text = b"nodes %d\n" % len(lines) + b"".join(lines)
+    return text.decode(), numbers[root]

@@ -1,5 +1,5 @@
-"""Proofs of the puzzles that are written without a replay: by a formula, by a diagram, and by a
-search whose dead ends are shown by formulas."""
+"""Proofs of the puzzles that are written without a replay: by a formula, forwards or backwards, by
+a diagram, and by a search whose dead ends are shown by formulas."""
 import itertools
 
 import diagrams
@@ -26,6 +26,19 @@ def doors_formula(puzzle, rooms):
     for one, other in itertools.combinations(ways, 2):
         clauses += [no(*first + second) for first in ways[one] for second in ways[other]]
     return texts.proof_text(texts.clauses_line("h", clauses))
+
+
+def lights_formula(puzzle, cliffs, lamps):
+    """From no state does the ship come in unless each cliff has a light, or a lamp that burns.
+
+    Backwards, by a dual Horn formula: for each cliff the ship is in, or one of these atoms holds.
+    """
+    clauses = []
+    for side in range(1, cliffs + 1):
+        names = ["lamp %d.%d" % (side, number) for number in range(1, lamps + 1)]
+        atoms = [puzzle.atom(name) for name in ["ship is in", "light on cliff %d" % side] + names]
+        clauses.append(" ".join(str(atom + 1) for atom in atoms) + " 0")
+    return texts.backwards_text(texts.clauses_line("d", clauses))
 
 
 def pegs_diagram(puzzle, wide, high):

@@ -1,4 +1,4 @@
-"""Four puzzles without a solution, and a forward search that writes its log.
+"""Five puzzles without a solution, and a forward search that writes its log.
 
 A puzzle has named atoms, a start, a goal, and named actions; a state is an integer with a bit for
 each atom that holds.
@@ -170,6 +170,28 @@ def delivery(places, packages, fuel):
     return puzzle
 
 
+def lights(cliffs, lamps):
+    """A ship comes in where each cliff round a harbour shows a light, which some lamp there gives.
+
+    The keeper walks round the harbour. When he has lit a lamp on one cliff, all lamps on the next
+    one have burnt down. So there always is a cliff without a light.
+    """
+    puzzle, sides = Puzzle(), range(1, cliffs + 1)
+    shows, lamp = (lambda side: "light on cliff %d" % side), (lambda *at: "lamp %d.%d" % at)
+    on = {side: [lamp(side, number) for number in range(1, lamps + 1)] for side in sides}
+    puzzle.number(["ship is in"])
+    for side in sides:
+        puzzle.number([shows(side)] + on[side])
+    puzzle.goal = puzzle.mask(["ship is in"])
+    for side in sides:
+        following = side % cliffs + 1
+        for name in on[side]:
+            puzzle.act("kindle " + name, [], [name], [shows(following)] + on[following])
+            puzzle.act("show " + name, [name], [shows(side)], [])
+    puzzle.act("come in", [shows(side) for side in sides], ["ship is in"], [])
+    return puzzle
+
+
 # the search
 
 
@@ -237,4 +259,5 @@ PUZZLES = {
     "pegs": (pegs, "WIDE HIGH", True),
     "doors": (doors, "ROOMS", True),
     "delivery": (delivery, "PLACES PACKAGES FUEL", True),
+    "lights": (lights, "CLIFFS LAMPS", True),
 }

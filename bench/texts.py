@@ -4,6 +4,8 @@ import random
 PRELUDE = "a 0 a\ne 0 c e\ne 1 c i\ne 2 c g\nk 0 d 0 ed\n"
 NO_WAY_OUT = "e 4 p 3 0\ne 5 u 3 0\ne 6 i 3 2\nk 1 s 4 5 b2\nk 2 s 6 0 b1\nk 3 d 6 sd 2 0\nk 4 d 3 pg 1 0 3\n"
 CONCLUSION = "k 5 s 1 3 b1\nk 6 d 1 sd 5 4\nk 7 u ci 6\n"
+NO_WAY_IN = "e 4 r 3 0\ne 5 u 3 0\ne 6 n 3\nk 1 s 4 5 b3\nk 2 s 1 6 b1\nk 3 d 3 ri 1 0 2\n"
+BACKWARDS = NO_WAY_IN + "k 4 s 2 3 b1\nk 5 d 2 sd 4 3\nk 6 u cg 5\n"
 TRAP_CLOSED = "e 4 n 3\ne 5 r 3 0\ne 6 u 3 0\ne 7 i 4 2\nk 1 s 5 6 b3\nk 2 s 7 0 b1\nk 3 d 7 sd 2 0\nk 4 d 4 rg 1 0 3\n"
 TRAP_CONCLUSION = "k 5 s 1 4 b1\nk 6 d 1 sd 5 4\nk 7 u ci 6\n"
 
@@ -27,8 +29,13 @@ def proof_text(dead):
     return PRELUDE + dead + "\n" + NO_WAY_OUT + CONCLUSION
 
 
+def backwards_text(unreached):
+    """The proof that no action leads into a set, which is line `e 3` and holds the goal states and not the initial state."""
+    return PRELUDE + unreached + "\n" + BACKWARDS
+
+
 def clauses_line(letter, clauses):
-    return "e 3 %s %d %s" % (letter, len(clauses), " ".join(clauses))
+    return " ".join(["e 3", letter, str(len(clauses)), *clauses])
 
 
 def states_line(number, states):
@@ -42,23 +49,40 @@ def rooms(count):
     return task_text(count + 1, [0], [count], moves), proof_text(states_line(3, states))
 
 
-def chain(atoms, actions):
-    """Atoms of which each is got from the one before; the second isn't reached. The atoms that aren't reached, as clauses."""
+def chain_task(atoms, actions):
+    """Atoms of which each is got from the one before; the second isn't reached."""
     numbers = random.Random(1)
     steps = [numbers.randrange(1, atoms - 1) for _ in range(actions)]
-    task = task_text(atoms, [0], [atoms - 1], [([step], [step + 1], []) for step in steps])
-    return task, proof_text(clauses_line("h", ["-%d 0" % (atom + 1) for atom in range(1, atoms)]))
+    return atoms, [0], [atoms - 1], [([step], [step + 1], []) for step in steps]
 
 
-def pairs(rooms_count, actions, letter):
-    """A robot goes between rooms, and nothing gives it the key: the pairs of atoms that aren't reached, as clauses."""
+def chain(atoms, actions):
+    """The atoms of a chain that aren't reached, as clauses."""
+    clauses = ["-%d 0" % (atom + 1) for atom in range(1, atoms)]
+    return task_text(*chain_task(atoms, actions)), proof_text(clauses_line("h", clauses))
+
+
+def turned_round(atoms, start, goal, actions):
+    """The task whose regression goes as the progression of this one, with the signs exchanged."""
+    start, goal = set(start), set(goal)
+    others = [[atom for atom in range(atoms) if atom not in some] for some in (goal, start)]
+    return atoms, *others, [(delete, add, pre) for pre, add, delete in actions]
+
+
+def pairs_task(rooms_count, actions):
+    """A robot goes between rooms, and nothing gives it the key."""
     numbers = random.Random(1)
     ways = []
     for _ in range(actions):
         left = numbers.randrange(rooms_count)
         right = (left + numbers.randrange(1, rooms_count)) % rooms_count
         ways.append(([left], [right], [left]))
-    task = task_text(rooms_count + 1, [0], [rooms_count], ways)
+    return rooms_count + 1, [0], [rooms_count], ways
+
+
+def pairs(rooms_count, actions, letter):
+    """The pairs of atoms that aren't reached, as clauses."""
+    task = task_text(*pairs_task(rooms_count, actions))
     clauses = ["-%d -%d 0" % (left + 1, right + 1) for left in range(rooms_count) for right in range(left + 1, rooms_count)]
     return task, proof_text(clauses_line(letter, clauses + ["-%d 0" % (rooms_count + 1)]))
 
