@@ -15,8 +15,7 @@ import sources  # noqa: E402
 
 
 ROLES = """
-AreTextOf Beginning Ends fault_at Feeds IsFirstFault IsLegal
-IsReadFrom IsReading IsTextOf kind_word LacksForm limit_word line_fault_at lines_before PassesNext
+AreTextOf IsFirstFault IsReadFrom IsReading IsTextOf kind_word limit_word
 IsChain IsEnd IsLinked slot_at slot_of
 AreOver IsEither IsFault or_else
 IsModest IsOutcome with_budget
