@@ -71,6 +71,7 @@ check_texts (task ∷ proof ∷ options) =
     (option_map (with_arguments task proof) (option_texts options)) None
 check_texts _ = None
 
+-- the words of a check, each as its bytes
 abbrev pub texts_of : CheckWords → CheckTexts
 texts_of words = record {
   task = words.task.now;

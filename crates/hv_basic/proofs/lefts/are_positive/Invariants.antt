@@ -1,7 +1,0 @@
-use Rattle.std.proofs.Common.{◌≡◌, ◌<◌, ℕ, true, get_or}
-use Rattle.hv_basic.specs.declared.literals.Asking.{Asking}
-use Rattle.hv_basic.proofs.lefts.are_positive.Given as goal
-
-abbrev pub invariant-loop-asking : goal.invariant-loop-asking
-invariant-loop-asking l = (k : ℕ) (d : Asking) → k < l.asking-index
-    → (get_or l.askings k d).positive ≡ true
