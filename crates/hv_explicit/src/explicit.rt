@@ -53,7 +53,8 @@ impl Model for Explicit {
 
 impl Explicit {
     /// The set of these states of the task, which are shared where the list is, and else copied.
-    /// More than 4,294,967,295 states are answered as want of memory.
+    /// More than 4,294,967,295 states are answered as want of memory; a line has fewer than
+    /// 8,388,608, since a state takes two bytes at least.
     pub fn new(alloc: Global, task: &Task, states: &StateList) -> Result<Explicit, AllocError>
         requires { AreStates (atoms task.now) states.now }
         ensures { IfOk result (λ set.

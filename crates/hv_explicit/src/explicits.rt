@@ -48,17 +48,13 @@ impl Explicits {
         }
     }
 
-    /// Adds a set, and gives its number. A number above 4,294,967,295 is answered as want of
-    /// memory.
+    /// Adds a set, and gives its number.
     pub fn add(&mut self, set: Explicit) -> Result<usize, AllocError>
         ensures number { IfOk result (λ number. number ≡ length self.old) }
         ensures ok { IfOk result (λ _. self.new ≡ self.old ++ set ∷ []) }
         ensures err { OnErr result (self.new ≡ self.old) }
     {
         let number = self.sets.len();
-        if number > u32::MAX as usize {
-            return Err(AllocError);
-        }
         let alloc = *self.sets.allocator();
         take_in(alloc, &mut self.owners, self.sets.as_slice(), &set)?;
         self.sets.push(set)?;

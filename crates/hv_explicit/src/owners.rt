@@ -64,18 +64,21 @@ impl Owners {
 }
 
 /// Takes in the states of one set more, the last one. After want of memory what was known of the
-/// others still is.
+/// others still is. Of more than 4,294,967,296 sets nothing is known.
 pub(crate) fn take_in(
     alloc: Global,
     owners: &mut Owners,
     sets: &[Explicit],
     last: &Explicit,
 ) -> Result<(), AllocError>
-    requires few { length sets.now < 2 ^ 32 }
     requires owners { IsOwnerIndex owners.old sets.now }
     ensures ok { OnOk result (IsOwnerIndex owners.new (sets.now ++ last.now ∷ [])) }
     ensures err { OnErr result (IsOwnerIndex owners.new sets.now) }
 {
+    if sets.len() > u32::MAX as usize {
+        owners.known = false;
+        return Ok(());
+    }
     if !owners.known && sets.len() != FEW {
         return Ok(());
     }

@@ -65,7 +65,8 @@ impl Clauses {
         Ok(Clauses { alloc, pieces })
     }
 
-    /// Puts the item last. More than 4,294,967,295 literals in all are answered as want of memory.
+    /// Puts the item last. More than 4,294,967,295 literals in all are answered as want
+    /// of memory; a line has fewer than 8,388,608.
     pub fn push(&mut self, item: Clause) -> Result<(), AllocError>
         ensures ok { OnOk result (self.new ≡ self.old ++ item ∷ []) }
         ensures err { OnErr result (self.new ≡ self.old) }
@@ -74,7 +75,8 @@ impl Clauses {
     }
 
     /// Puts the clause of these literals last. Copies that are shared stay as they are. More than
-    /// 4,294,967,295 literals in all are answered as want of memory.
+    /// 4,294,967,295 literals in all are answered as want of memory; a line has fewer than
+    /// 8,388,608.
     pub fn push_literals(&mut self, literals: &[Literal]) -> Result<(), AllocError>
         ensures ok { OnOk result (self.new ≡ self.old ++ literals.now ∷ []) }
         ensures err { OnErr result (self.new ≡ self.old) }
@@ -157,7 +159,8 @@ impl ClausesBuilder {
     }
 
     /// Ends the clause that is begun; without a literal it is the empty one. More than
-    /// 4,294,967,295 literals in all are answered as want of memory.
+    /// 4,294,967,295 literals in all are answered as want of memory; a line has fewer than
+    /// 8,388,608.
     pub fn end(&mut self) -> Result<(), AllocError>
         ensures ok { OnOk result
             (self.new ≡ record { whole = self.old.whole ++ self.old.begun ∷ []; begun = [] }) }

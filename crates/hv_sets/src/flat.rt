@@ -1,4 +1,7 @@
-//! Lists of lists in one list, with the end of each.
+//! Lists of lists in one list, with the end of each, as a number of 32 bits. What `run` reads or
+//! writes has no such list of more items: a literal or an atom takes two bytes at least, its space
+//! among them, so a line of 16,777,216 bytes has fewer than 8,388,608, and a log fewer than half as
+//! many; and the largest formula that is written has 524,800 clauses of two literals.
 
 ghost use Rattle.std.specs.Prelude.{◌≡◌, ◌<◌, ◌≤◌, ◌+◌, [], ◌∷◌, ◌++◌, length, slice_get};
 ghost use Rattle.std.specs.Prelude.{slice_range, IfOk, IfSome, Some, OnOk, OnErr};
@@ -59,7 +62,7 @@ impl<T: Copy> Flat<T> {
     }
 
     /// Ends the piece that is begun. More than 4,294,967,295 items in all are answered as want of
-    /// memory.
+    /// memory; no line has so many.
     pub(crate) fn end(&mut self) -> Result<(), AllocError>
         ensures ok { OnOk result
             (self.new ≡ record { whole = self.old.whole ++ self.old.begun ∷ []; begun = [] }) }
@@ -73,7 +76,7 @@ impl<T: Copy> Flat<T> {
     }
 
     /// Puts the piece of these items last, where none is begun. More than 4,294,967,295 items in
-    /// all are answered as want of memory.
+    /// all are answered as want of memory; no line has so many.
     pub(crate) fn push(&mut self, items: &[T]) -> Result<(), AllocError>
         requires { self.old.begun ≡ [] }
         ensures ok { OnOk result

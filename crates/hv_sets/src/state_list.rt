@@ -69,7 +69,8 @@ impl StateList {
         Ok(StateList { alloc, pieces })
     }
 
-    /// Puts the item last. More than 4,294,967,295 atoms in all are answered as want of memory.
+    /// Puts the item last. More than 4,294,967,295 atoms in all are answered as want
+    /// of memory; a line has fewer than 8,388,608.
     pub fn push(&mut self, item: AtomList) -> Result<(), AllocError>
         ensures ok { OnOk result (self.new ≡ self.old ++ item ∷ []) }
         ensures err { OnErr result (self.new ≡ self.old) }
@@ -78,7 +79,8 @@ impl StateList {
     }
 
     /// Puts the state of these atoms last. Copies that are shared stay as they are. More than
-    /// 4,294,967,295 atoms in all are answered as want of memory.
+    /// 4,294,967,295 atoms in all are answered as want of memory; a line has fewer than
+    /// 8,388,608.
     pub fn push_atoms(&mut self, atoms: &[u32]) -> Result<(), AllocError>
         requires { IsStrictlyIncreasing atoms.now }
         ensures ok { OnOk result (self.new ≡ self.old ++ atoms.now ∷ []) }
@@ -170,7 +172,8 @@ impl StateListBuilder {
     }
 
     /// Ends the state that is begun; without an atom it is the one that holds none. More than
-    /// 4,294,967,295 atoms in all are answered as want of memory.
+    /// 4,294,967,295 atoms in all are answered as want of memory; a line has fewer than
+    /// 8,388,608.
     pub fn end(&mut self) -> Result<(), AllocError>
         ensures ok { OnOk result
             (self.new ≡ record { whole = self.old.whole ++ self.old.begun ∷ []; begun = [] }) }
