@@ -10,8 +10,8 @@ use Rattle.std.specs.List.Sorted.{IsNonDecreasingBy, IsStrictlyIncreasing}
 use Rattle.std.specs.Prelude.{slice_range}
 use Rattle.hv_task.proofs.Rising.{rises_apart}
 use Rattle.hv_clauses.specs.Rows.{IsRow}
-use Rattle.hv_clauses.specs.Working.Rows.{AreCoded, AreHeads, IsEndBefore, IsPartOf}
-use Rattle.hv_clauses.specs.Working.Rows.{code, key_of, place_of_code}
+use Rattle.hv_clauses.specs.Working.Rows.{AreCoded, AreHeads, IsEndBefore, IsFirstHead}
+use Rattle.hv_clauses.specs.Working.Rows.{IsPartOf, code, key_of, place_of_code}
 use Rattle.hv_clauses.specs.declared.rows.Head.{Head}
 
 -- the two parts of a code
@@ -154,10 +154,18 @@ pub coded_size : (Pair : ℕ → ℕ → Type 0) (codes numbers : List ℕ) → 
 coded_size Pair codes numbers rows = sym
     (ap length rows.numbers_are ∙ length-map codes place_of_code)
 
+-- where a head is of a greater key, so are those after it
+pub more_after : (heads : List Head) (key place : ℕ) (e : Head)
+    → IsNonDecreasingBy (λ h. h.key) heads → place < length heads → key < (get_or heads place e).key
+    → (k : ℕ) (d : Head) → place ≤ k → k < length heads → key + 1 ≤ (get_or heads k d).key
+more_after heads key place e rises less more k d late within =
+    let order = rises place k d late within in
+    let same = ap (λ (h : Head). h.key) (get_or_default heads place d e less) in
+    omega arith
+
 -- Heads among which so many are of lesser keys.
 module _ (codes : List ℕ) (heads : List Head) (are : AreHeads codes heads) (key place : ℕ)
-    (before : (k : ℕ) (d : Head) → k < place → (get_or heads k d).key < key)
-    (after : (k : ℕ) (d : Head) → place ≤ k → k < length heads → key ≤ (get_or heads k d).key) where
+    (first : IsFirstHead key heads place) where
   none : Head
   none = record { key = 0; start = 0 }
 
@@ -174,14 +182,14 @@ module _ (codes : List ℕ) (heads : List Head) (are : AreHeads codes heads) (ke
             let found = are.all k (omega arith) in
             let same = found.2 d in
             elim (cases_lt found.0 place) [
-              | inl first ↦ let lower = before found.0 d first in omega arith
+              | inl early ↦ let lower = first.before found.0 d early in omega arith
               | inr later ↦
                   let upto = are.rises place found.0 d later found.1 in
                   absurd (omega arith)
             ];
         after = λ k late within.
             let high = own.after k late within in
-            let upto = after place d (omega arith) less in
+            let upto = first.after place d (omega arith) less in
             omega arith;
       }
 
@@ -193,7 +201,7 @@ module _ (codes : List ℕ) (heads : List Head) (are : AreHeads codes heads) (ke
         let found = are.all k less in
         let same = found.2 none in
         let within : found.0 < length heads = found.1 in
-        let lower = before found.0 none (omega arith) in
+        let lower = first.before found.0 none (omega arith) in
         omega arith;
     after = λ k late within. absurd (omega arith);
   }

@@ -10,18 +10,22 @@ use Rattle.std.specs.List.{All, Contains}
 use Rattle.std.specs.Option.{option_map}
 use Rattle.hv_task.specs.State.{has_atom}
 use Rattle.hv_sets.specs.declared.literal.Literal.{Literal}
+use Rattle.hv_sets.specs.Truth.{in_clauses}
 use Rattle.hv_clauses.specs.Working.Base.{AreSettledBut, put_unless, untouched}
-use Rattle.hv_clauses.specs.Working.Chase.{AreKept, IsKept}
+use Rattle.hv_clauses.specs.Working.Chase.{AreKept, IsFollowed, IsKept}
+use Rattle.hv_clauses.specs.Working.Closure.{AreForced, AreNever}
 use Rattle.hv_clauses.specs.Clausal.{clause_at}
 use Rattle.hv_clauses.specs.Marks.{known, over}
 use Rattle.hv_clauses.specs.Working.Marks.{Agrees, mark_for}
 use Rattle.hv_clauses.specs.Working.Trail.{Knowledge, marked, written}
 use Rattle.hv_clauses.specs.Units.{first_of, value_of}
 use Rattle.hv_clauses.specs.Working.Units.{AreSettled}
-use Rattle.hv_clauses.proofs.Chasing.{kept_on}
-use Rattle.hv_clauses.proofs.Marked.{has_atom-over_none, known_past}
+use Rattle.hv_clauses.proofs.Chasing.{followed_none, kept_on}
+use Rattle.hv_clauses.proofs.Marked.{has_atom-over_none, has_atom-over_some, known_past}
+use Rattle.hv_clauses.proofs.Marked.{known_within, length-over}
 use Rattle.hv_clauses.proofs.Touching.{turned_by, turned_or}
 use Rattle.hv_clauses.proofs.Trailed.{known-replicate, known-set_other, known-set_same}
+use Rattle.hv_clauses.proofs.Trailed.{length-marked}
 
 pub untouched_nil : (ls : List Literal) → untouched [] ls ≡ ls
 untouched_nil [] = refl
@@ -216,3 +220,57 @@ pub kept_either : (e : List ℕ) (clauses : List (List Literal)) (k : Knowledge)
     → l.positive ≡ not v → IsKept e (clause_at clauses place) k 0
 kept_either e clauses k out in_ true place l less has made sign = in_ place l less has made sign
 kept_either e clauses k out in_ false place l less has made sign = out place l less has made sign
+
+-- a literal that the effect makes false is false whatever is known
+pub value_made : (e m : List ℕ) (l : Literal) → known e l.atom ≡ Some (not l.positive)
+    → value_of e m l ≡ Some false
+value_made e m l made =
+    ap (λ o. option_map (λ value. cond l.positive value (not value))
+    (first_of o (known m l.atom))) made
+    ∙ ap (λ (b : Bool). Some b) (by l.positive)
+  where
+    by : (sign : Bool) → cond sign (not sign) (not (not sign)) ≡ false
+    by true = refl
+    by false = refl
+
+-- where no state meets the condition, nothing is left
+followed_out : (Holds : List Bool → Type 0) (k : Knowledge)
+    → ((state : List Bool) → length state ≡ length k.base → Holds state → ⊥)
+    → IsFollowed Holds k k false
+followed_out Holds k out = record {
+  base = none.base;
+  more = none.more;
+  grows = none.grows;
+  follows = λ state size holds agrees. agrees;
+  broken = λ is state size holds agrees. out state size holds;
+}
+  where
+    none : IsFollowed Holds k k true
+    none = followed_none Holds k
+
+pub followed_never : (e : List ℕ) (clauses : List (List Literal)) (n : ℕ) (k : Knowledge)
+    → length k.base ≡ n → AreNever n clauses
+    → IsFollowed (λ s. in_clauses clauses (over e s) ≡ true) k k false
+followed_never e clauses n k size never = followed_out _ k
+    (λ state same holds. never (over e state) (length-over e state ∙ (same ∙ size)) holds)
+
+-- so it is where the effect makes a literal false that the clauses force
+pub followed_forced : (e : List ℕ) (clauses : List (List Literal)) (forced : List Literal)
+    (k : Knowledge) (l : Literal)
+    → AreForced (length k.base) clauses forced → known e l.atom ≡ Some (not l.positive)
+    → known (marked (length k.base) forced) l.atom ≡ Some l.positive
+    → IsFollowed (λ s. in_clauses clauses (over e s) ≡ true) k k false
+followed_forced e clauses forced k l are made said = followed_out _ k
+    (λ state size holds. clash l.positive
+    (sym (are.follows (over e state) (length-over e state ∙ size) holds l.atom l.positive said)
+    ∙ has_atom-over_some e state l.atom (not l.positive) (within state size) made))
+  where
+    within : (state : List Bool) → length state ≡ length k.base → l.atom < length state
+    within state size =
+        let less = known_within (marked (length k.base) forced) l.atom l.positive said in
+        let wide = length-marked (length k.base) forced in
+        omega arith
+
+    clash : (sign : Bool) → sign ≡ not sign → ⊥
+    clash true same = cc (same)
+    clash false same = cc (same)

@@ -31,7 +31,8 @@ impl Arranged {
         }
     }
 
-    // That of so many clauses, of which none is told of.
+    // That of so many clauses, of which none is told of. More than 4,294,967,295 are taken as want
+    // of memory; a line has fewer than 8,388,608.
     fn rising(alloc: Global, count: usize) -> Result<Arranged, AllocError>
         ensures arranged { IfOk result (IsArranged count) }
         ensures none { IfOk result (λ a. a.done ≡ 0) }

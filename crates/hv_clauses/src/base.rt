@@ -67,7 +67,7 @@ impl<'a> Base<'a> {
 }
 
 // What literals by rising atoms say of an atom.
-fn said(base: &[Literal], atoms: usize, atom: u32) -> Option<bool>
+pub(crate) fn said(base: &[Literal], atoms: usize, atom: u32) -> Option<bool>
     requires rises { IsStrictlyIncreasing (atoms_of base.now) }
     requires atom { atom < atoms }
     ensures { result ≡ known (marked atoms base.now) atom }

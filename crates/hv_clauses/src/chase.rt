@@ -89,7 +89,7 @@ pub(crate) fn visit(
 }
 
 // Looks again at each clause that has a literal that was found false.
-fn visit_all(
+pub(crate) fn visit_all(
     clauses: &Clauses,
     standing: &Standing<'_>,
     effect: &Effect<'_>,

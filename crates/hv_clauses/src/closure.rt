@@ -34,7 +34,8 @@ pub(crate) struct Closure {
 
 impl Closure {
     /// What follows from these clauses, which speak of so many atoms. More than 2^32 clauses are
-    /// taken as want of memory.
+    /// taken as want of memory. No line has so many: a clause takes two bytes at least, its space
+    /// among them, and so does a literal, so a line of 16,777,216 bytes has fewer than 8,388,608.
     pub(crate) fn of(alloc: Global, atoms: usize, clauses: &Clauses) -> Result<Closure, AllocError>
         requires few { atoms ≤ 2 ^ 31 }
         requires clauses { AreClauses atoms clauses.now }

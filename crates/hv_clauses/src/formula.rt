@@ -60,7 +60,7 @@ impl<K: ClauseKind> Model for Formula<K> {
 impl<K: ClauseKind> Formula<K> {
     /// The formula of these clauses over the states of the task. More than 4,294,967,296 clauses
     /// are answered as want of memory, and so are more than 4,294,967,295 literals of one sign or
-    /// implications.
+    /// implications. A formula that is read stands in a line, which has fewer than 8,388,608.
     pub fn new(alloc: Global, task: &Task, clauses: &Clauses) -> Result<Formula<K>, K::Fault>
         requires { AreClauses (atoms task.now) clauses.now }
         ensures ok { IfOk result
@@ -71,6 +71,16 @@ impl<K: ClauseKind> Formula<K> {
         if let Some(place) = first_other::<K>(clauses) {
             return Err(K::other(place));
         }
+        Ok(Formula::of_kind(alloc, task, clauses)?)
+    }
+
+    /// The same of clauses that are known to be of the kind, which are not tested for it.
+    pub fn of_kind(alloc: Global, task: &Task, clauses: &Clauses) -> Result<Formula<K>, AllocError>
+        requires below { AreClauses (atoms task.now) clauses.now }
+        requires kind { All K.is_of clauses.now }
+        ensures { IfOk result
+            (λ set. set ≡ record { atoms = atoms task.now; clauses = clauses.now }) }
+    {
         let atoms = task.atoms();
         let copy = clauses.copy(alloc)?;
         let lists = Lists::new(alloc, K::listing(), clauses)?;

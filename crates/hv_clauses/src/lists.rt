@@ -22,7 +22,8 @@ pub(crate) struct Lists {
 }
 
 impl Lists {
-    // The lists of these clauses. More than 2^32 implications are taken as want of memory.
+    // The lists of these clauses. More than 2^32 implications are taken as want of memory. No line
+    // has so many: a clause makes two at most, of four bytes at least: fewer than 8,388,608.
     pub(crate) fn new(
         alloc: Global,
         listing: Listing,

@@ -50,7 +50,8 @@ impl Mates {
         }
     }
 
-    // Those of these clauses. More than 4,294,967,295 are taken as want of memory.
+    // Those of these clauses. More than 4,294,967,295 are taken as want of memory; a line has fewer
+    // than 8,388,608.
     pub(crate) fn of(alloc: Global, atoms: u32, clauses: &Clauses) -> Result<Mates, AllocError>
         requires { AreClauses atoms clauses.now }
         ensures { IfOk result (AreMates atoms clauses.now (length clauses.now)) }

@@ -42,7 +42,7 @@ pub(crate) struct Standing<'a> {
 
 impl Occurrences {
     /// Where the literals of these clauses stand. More than 2^32 literals of one sign are taken as
-    /// want of memory.
+    /// want of memory; a line has fewer than 8,388,608 literals.
     pub(crate) fn new(alloc: Global, clauses: &Clauses) -> Result<Occurrences, AllocError>
         requires few { length clauses.now ≤ 2 ^ 32 }
         requires below { All (SpeakBelow (2 ^ 31)) clauses.now }
@@ -98,12 +98,11 @@ impl Signed {
             → AreOccurrences literal.positive clauses self.now → AreStanding clauses result }
     {
         let len = self.places.len();
-        let from = rows::begin_of(&self.heads, len, literal.atom as u64);
-        let upto = rows::begin_of(&self.heads, len, literal.atom as u64 + 1);
+        let own = rows::part_of(&self.heads, len, literal.atom);
         Standing {
             literal,
-            places: &self.places[from..upto],
-            entries: part(&self.beside, from, upto),
+            places: &self.places[own.from..own.upto],
+            entries: part(&self.beside, own.from, own.upto),
         }
     }
 }

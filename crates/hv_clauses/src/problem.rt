@@ -8,8 +8,9 @@ ghost use Rattle.hv_task.specs.Strips.{IsTask, atoms, is_goal, start_state};
 ghost use Rattle.hv_sets.specs.declared.operand.Operand.{Operand as OperandOf};
 ghost use Rattle.hv_sets.specs.Names.{AsksAbout};
 ghost use Rattle.hv_sets.specs.Query.{IsNamed, IsReady, action_of};
-ghost use Rattle.hv_sets.specs.Truth.{is_same};
-ghost use Rattle.hv_clauses.specs.Working.Chase.{IsFollowed};
+ghost use Rattle.hv_sets.specs.Truth.{in_clauses, is_same};
+ghost use Rattle.hv_clauses.specs.Working.Base.{AreSettledBut};
+ghost use Rattle.hv_clauses.specs.Working.Chase.{AreKept, IsFollowed};
 ghost use Rattle.hv_clauses.specs.Working.Clausal.{Completes, clauses_of_state, late, unit};
 ghost use Rattle.hv_clauses.specs.Marks.{over};
 ghost use Rattle.hv_clauses.specs.Working.Posed.{InEach, IsPosed, formulas, size_in, width};
@@ -282,11 +283,25 @@ fn start_operand<K: ClauseKind>(
         Which::Set(number) => {
             let set = problem.set(number);
             if is_based(operand, based) {
-                return turned::start(set.clauses(), set.occurs(), &seen, marks);
+                return start_turned(set, &seen, marks);
             }
             chase::start(set.clauses(), &seen, marks)
         }
     }
+}
+
+// Looks at each clause of a set of which the effect makes a literal false.
+fn start_turned<K: ClauseKind>(set: &Formula<K>, effect: &Effect<'_>, marks: &mut Marks<'_>) -> bool
+    requires size { length marks.old.base ≡ set.now.atoms }
+    requires but { AreSettledBut effect.now set.now.clauses marks.old.base }
+    ensures followed { IsFollowed (λ state. in_clauses set.now.clauses (over effect.now state)
+        ≡ true) marks.old marks.new result }
+    ensures kept { result ≡ true → AreKept effect.now set.now.clauses marks.new 0 }
+{
+    let Some(forced) = set.forced() else {
+        return false;
+    };
+    turned::start(set.clauses(), set.occurs(), forced, effect, marks)
 }
 
 // Whether the operand is that on which all is based.

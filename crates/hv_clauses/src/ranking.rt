@@ -8,7 +8,8 @@ use crate::rows;
 use hv_sets::{Clauses, Literal};
 use std::alloc::{AllocError, Global};
 
-// Places and ranks are below these numbers.
+// Places and ranks are below these numbers. A line of 16,777,216 bytes has fewer than 8,388,608
+// clauses, and fewer literals, since each takes two bytes at least; so no place comes near 2^28.
 const PLACES: usize = 1 << 28;
 
 const RANKS: usize = 1 << 34;

@@ -2,13 +2,12 @@
 //! each key begin. On the way there a key and a number have a code: the key times 2^32 plus the
 //! number.
 
-ghost use Rattle.std.specs.Prelude.{◌≡◌, ◌<◌, ◌≤◌, ◌↔◌, ℕ, List, length, map, true, IfOk, OnOk};
-ghost use Rattle.std.specs.Prelude.{slice_index_or};
+ghost use Rattle.std.specs.Prelude.{◌≡◌, ◌+◌, ◌↔◌, ℕ, List, length, map, true, IfOk, OnOk};
 ghost use Rattle.std.specs.List.{Contains};
 ghost use Rattle.std.specs.List.Sorted.{IsNonDecreasingBy, IsStrictlyIncreasing};
 ghost use Rattle.hv_clauses.specs.declared.rows.Head.{Head};
-ghost use Rattle.hv_clauses.specs.Working.Rows.{AreHeads, HasHeads, IsEndBefore, IsPartOf};
-ghost use Rattle.hv_clauses.specs.Working.Rows.{PutsHead, code, key_of, place_of_code};
+ghost use Rattle.hv_clauses.specs.Working.Rows.{AreHeads, HasHeads, IsEndBefore, IsFirstHead};
+ghost use Rattle.hv_clauses.specs.Working.Rows.{IsPartOf, PutsHead, code, key_of, place_of_code};
 
 use std::alloc::{AllocError, Global};
 
@@ -21,6 +20,13 @@ pub(crate) struct Head {
     pub key: u32,
     /// The place of its first number.
     pub start: u32,
+}
+
+/// Where the numbers of a key stand: from a place up to another one.
+#[derive(Clone, Copy, Debug, PartialEq, Eq)]
+pub(crate) struct Part {
+    pub from: usize,
+    pub upto: usize,
 }
 
 // The code of a key and a number.
@@ -88,7 +94,8 @@ pub(crate) fn numbers_of(alloc: Global, codes: &[usize]) -> Result<Vec<u32>, All
     Ok(numbers)
 }
 
-// Where the numbers of each key begin. More than 2^32 codes are taken as want of memory.
+// Where the numbers of each key begin. More than 2^32 codes are taken as want of memory; a line
+// has fewer than 8,388,608 literals, or implications.
 pub(crate) fn heads_of(alloc: Global, codes: &[usize]) -> Result<Vec<Head>, AllocError>
     requires { IsStrictlyIncreasing codes.now }
     ensures { IfOk result (λ heads. AreHeads codes.now heads.items) }
@@ -123,27 +130,53 @@ fn put_head(heads: &mut Vec<Head>, head: Head) -> Result<(), AllocError>
     Ok(())
 }
 
-// Where the numbers of the keys from this one on begin, among so many numbers.
-pub(crate) fn begin_of(heads: &[Head], len: usize, key: u64) -> usize
+// Where the numbers of a key stand among so many.
+pub(crate) fn part_of(heads: &[Head], len: usize, key: u32) -> Part
     requires { HasHeads heads.now len }
-    ensures { (codes : List ℕ) → AreHeads codes heads.now → length codes ≡ len
-        → IsEndBefore key codes result }
+    ensures from { (codes : List ℕ) → AreHeads codes heads.now → length codes ≡ len
+        → IsEndBefore key codes result.from }
+    ensures upto { (codes : List ℕ) → AreHeads codes heads.now → length codes ≡ len
+        → IsEndBefore (key + 1) codes result.upto }
 {
-    match heads.get(count_below(heads, key)) {
+    let first = count_below(heads, key);
+    let next = count_upto(heads, first, key);
+    Part {
+        from: begin_at(heads, len, first),
+        upto: begin_at(heads, len, next),
+    }
+}
+
+// Where the numbers of the head at a place begin, or the end of so many.
+fn begin_at(heads: &[Head], len: usize, place: usize) -> usize
+    ensures { (codes : List ℕ) (key : ℕ) → AreHeads codes heads.now → length codes ≡ len
+        → IsFirstHead key heads.now place → IsEndBefore key codes result }
+{
+    match heads.get(place) {
         Some(head) => head.start as usize,
         None => len,
     }
 }
 
 // How many heads are of lesser keys.
-fn count_below(heads: &[Head], key: u64) -> usize
+fn count_below(heads: &[Head], key: u32) -> usize
     requires { IsNonDecreasingBy (λ h. h.key) heads.now }
-    ensures within { result ≤ length heads.now }
-    ensures before { (k : ℕ) (d : Head) → k < result → (slice_index_or heads.now k d).key < key }
-    ensures after { (k : ℕ) (d : Head) → result ≤ k → k < length heads.now
-        → key ≤ (slice_index_or heads.now k d).key }
+    ensures { IsFirstHead key heads.now result }
 {
-    heads.partition_point(|head| (head.key as u64) < key)
+    heads.partition_point(|head| head.key < key)
+}
+
+// How many heads are of this key or lesser ones, where so many are of lesser ones.
+fn count_upto(heads: &[Head], from: usize, key: u32) -> usize
+    requires rises { IsNonDecreasingBy (λ h. h.key) heads.now }
+    requires from { IsFirstHead key heads.now from }
+    ensures { IsFirstHead (key + 1) heads.now result }
+{
+    for place in from..heads.len() {
+        if heads[place].key > key {
+            return place;
+        }
+    }
+    heads.len()
 }
 
 // The part of the numbers that are of the key.
@@ -152,7 +185,6 @@ pub(crate) fn numbers_at<'a>(heads: &[Head], numbers: &'a [u32], key: u32) -> &'
     ensures { (codes : List ℕ) → AreHeads codes heads.now → length codes ≡ length numbers.now
         → IsPartOf key codes numbers.now result.now }
 {
-    let from = begin_of(heads, numbers.len(), key as u64);
-    let upto = begin_of(heads, numbers.len(), key as u64 + 1);
-    &numbers[from..upto]
+    let part = part_of(heads, numbers.len(), key);
+    &numbers[part.from..part.upto]
 }

@@ -1,11 +1,9 @@
 use Rattle.std.proofs.Common.{◌≡◌, ◌∙◌, true, false, length, sym, ap, arith, subst}
 use Rattle.hv_sets.specs.Truth.{in_clauses}
-use Rattle.hv_clauses.specs.Clausal.{AreClauses}
 use Rattle.hv_clauses.specs.Marks.{over}
 use Rattle.hv_clauses.specs.Working.Base.{AreSettledBut}
 use Rattle.hv_clauses.specs.Working.Chase.{AreKept, IsFollowed}
 use Rattle.hv_clauses.specs.Working.Clausal.{late}
-use Rattle.hv_clauses.specs.Working.Occurrences.{IsIndexOf}
 use Rattle.hv_clauses.specs.Working.Posed.{formulas}
 use Rattle.hv_clauses.specs.Working.Start.{IsBasedOn}
 use Rattle.hv_clauses.proofs.Chasing.{longer}
@@ -40,57 +38,50 @@ returns-in-Goal-clause-left g c = λ is.
     left_in c.args.problem.now c.args.operand _ c.in-Goal.is c.seen-seen.result
     c.seen-seen.ensures c.start_goal.new.marks 0 (c.start_goal.ensures.settled is)
 
-pub start-requires-clause-clauses : goal.start-requires-clause-clauses
-start-requires-clause-clauses g c =
-    subst (λ n. AreClauses n c.clauses.result.now) (c.set-set.ensures.atoms ∙ sym c.requires.size)
-    c.clauses.ensures.below
+pub start_turned-requires-clause-size : goal.start_turned-requires-clause-size
+start_turned-requires-clause-size g c = c.requires.size ∙ sym c.set-set.ensures.atoms
 
-pub start-requires-clause-index : goal.start-requires-clause-index
-start-requires-clause-index g c =
-    subst (λ clauses. IsIndexOf clauses c.occurs.result.now) (sym c.clauses.ensures.clauses)
-    c.occurs.ensures
-
-pub start-requires-clause-but : goal.start-requires-clause-but
-start-requires-clause-but g c =
+pub start_turned-requires-clause-but : goal.start_turned-requires-clause-but
+start_turned-requires-clause-but g c =
     let p = c.args.problem.now in
     let is = c.is_based.ensures c.if-is_based.true in
     let based = subst (λ b. IsBasedOn p b c.args.marks.now.base) is.1 c.requires.based in
     let but : AreSettledBut (late p.effect (is.0).after) (formulas p c.in-Set.number)
     c.args.marks.now.base = based c.in-Set.number (sym is.2 ∙ c.in-Set.is) in
     subst (λ clauses. AreSettledBut c.seen-seen.result clauses c.args.marks.now.base)
-    (sym (c.clauses.ensures.clauses ∙ c.set-set.ensures.clauses))
+    (sym c.set-set.ensures.clauses)
     (subst (λ e. AreSettledBut e (formulas p c.in-Set.number) c.args.marks.now.base)
     (sym (c.seen-seen.ensures ∙ ap (late p.effect) is.3)) but)
 
 pub returns-then-is_based-clause-followed : goal.returns-then-is_based-clause-followed
 returns-then-is_based-clause-followed g c =
     followed_in c.args.problem.now c.args.operand _ c.in-Set.is c.seen-seen.result
+    c.seen-seen.ensures c.args.marks.now c.start_turned.new.marks c.start_turned.result
+    (subst (λ clauses. IsFollowed (λ s. in_clauses clauses (over c.seen-seen.result s) ≡ true)
+    c.args.marks.now c.start_turned.new.marks c.start_turned.result)
+    c.set-set.ensures.clauses c.start_turned.ensures.followed)
+
+pub returns-then-is_based-clause-left : goal.returns-then-is_based-clause-left
+returns-then-is_based-clause-left g c = λ is.
+    left_in c.args.problem.now c.args.operand _ c.in-Set.is c.seen-seen.result c.seen-seen.ensures
+    c.start_turned.new.marks 0
+    (subst (λ clauses. AreKept c.seen-seen.result clauses c.start_turned.new.marks 0)
+    c.set-set.ensures.clauses (c.start_turned.ensures.kept is))
+
+pub returns-else-is_based-clause-followed : goal.returns-else-is_based-clause-followed
+returns-else-is_based-clause-followed g c =
+    followed_in c.args.problem.now c.args.operand _ c.in-Set.is c.seen-seen.result
     c.seen-seen.ensures c.args.marks.now c.start.new.marks c.start.result
     (subst (λ clauses. IsFollowed (λ s. in_clauses clauses (over c.seen-seen.result s) ≡ true)
     c.args.marks.now c.start.new.marks c.start.result)
     (c.clauses.ensures.clauses ∙ c.set-set.ensures.clauses) c.start.ensures.followed)
 
-pub returns-then-is_based-clause-left : goal.returns-then-is_based-clause-left
-returns-then-is_based-clause-left g c = λ is.
-    left_in c.args.problem.now c.args.operand _ c.in-Set.is c.seen-seen.result c.seen-seen.ensures
-    c.start.new.marks 0
-    (subst (λ clauses. AreKept c.seen-seen.result clauses c.start.new.marks 0)
-    (c.clauses.ensures.clauses ∙ c.set-set.ensures.clauses) (c.start.ensures.kept is))
-
-pub returns-else-is_based-clause-followed : goal.returns-else-is_based-clause-followed
-returns-else-is_based-clause-followed g c =
-    followed_in c.args.problem.now c.args.operand _ c.in-Set.is c.seen-seen.result
-    c.seen-seen.ensures c.args.marks.now c.start-in-Set.new.marks c.start-in-Set.result
-    (subst (λ clauses. IsFollowed (λ s. in_clauses clauses (over c.seen-seen.result s) ≡ true)
-    c.args.marks.now c.start-in-Set.new.marks c.start-in-Set.result)
-    (c.clauses-in-Set.ensures.clauses ∙ c.set-set.ensures.clauses) c.start-in-Set.ensures.followed)
-
 pub returns-else-is_based-clause-left : goal.returns-else-is_based-clause-left
 returns-else-is_based-clause-left g c = λ is.
     left_in c.args.problem.now c.args.operand _ c.in-Set.is c.seen-seen.result c.seen-seen.ensures
-    c.start-in-Set.new.marks 0
-    (subst (λ clauses. AreKept c.seen-seen.result clauses c.start-in-Set.new.marks 0)
-    (c.clauses-in-Set.ensures.clauses ∙ c.set-set.ensures.clauses)
-    (kept_earlier c.seen-seen.result _ c.start-in-Set.new.marks 0 (length c.args.marks.now.trail)
-    (omega arith) (longer _ _ _ _ c.start-in-Set.ensures.followed)
-    (c.start-in-Set.ensures.kept is)))
+    c.start.new.marks 0
+    (subst (λ clauses. AreKept c.seen-seen.result clauses c.start.new.marks 0)
+    (c.clauses.ensures.clauses ∙ c.set-set.ensures.clauses)
+    (kept_earlier c.seen-seen.result _ c.start.new.marks 0 (length c.args.marks.now.trail)
+    (omega arith) (longer _ _ _ _ c.start.ensures.followed)
+    (c.start.ensures.kept is)))

@@ -3,19 +3,15 @@ use Rattle.std.proofs.lemmas.List.Sorted.{IsPartitionPoint-from_clause, IsPartit
 use Rattle.hv_clauses.specs.declared.rows.Head.{Head}
 use Rattle.hv_clauses.proofs.rows.count_below.Goals as goal
 
-pub returns-clause-before : goal.returns-clause-before
-returns-clause-before c =
+pub returns : goal.returns
+returns c =
     let parted = IsPartitionedBy-ltb (λ (h : Head). h.key) _ c.args.key c.requires in
     let point = IsPartitionPoint-from_clause
     (λ (h : Head). ltb h.key c.args.key) _ _ c.partition_point.ensures.partitioned
     parted (λ a r q k. search rules) in
-    λ k d less. ltb-true _ _ (point.0 k d (omega (arith, less, c.partition_point.ensures.bound))
-    less)
-
-pub returns-clause-after : goal.returns-clause-after
-returns-clause-after c =
-    let parted = IsPartitionedBy-ltb (λ (h : Head). h.key) _ c.args.key c.requires in
-    let point = IsPartitionPoint-from_clause
-    (λ (h : Head). ltb h.key c.args.key) _ _ c.partition_point.ensures.partitioned
-    parted (λ a r q k. search rules) in
-    λ k d from within. ltb-false _ _ (point.1 k d from within)
+    record {
+      within = c.partition_point.ensures.bound;
+      before = λ k d less. ltb-true _ _
+          (point.0 k d (omega (arith, less, c.partition_point.ensures.bound)) less);
+      after = λ k d from within. ltb-false _ _ (point.1 k d from within);
+    }

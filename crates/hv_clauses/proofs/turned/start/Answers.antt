@@ -1,6 +1,7 @@
 use Rattle.std.proofs.Common.{◌≡◌, ◌∙◌, Bool, true, length, refl, sym, ap, arith, subst, List}
 use Rattle.hv_sets.specs.Truth.{in_clauses}
 use Rattle.hv_clauses.specs.Working.Base.{AreSettledBut}
+use Rattle.hv_clauses.specs.Working.Closure.{AreForced}
 use Rattle.hv_clauses.specs.Clausal.{clause_at, AreClauses}
 use Rattle.hv_clauses.specs.Marks.{over}
 use Rattle.hv_clauses.proofs.Chasing.{followed_then, kept_on}
@@ -11,6 +12,11 @@ pub start_value-requires-2-clause-clauses : goal.start_value-requires-2-clause-c
 start_value-requires-2-clause-clauses c =
     subst (λ n. AreClauses n c.args.clauses.now)
     (sym (ap length c.if-not-start_value.ensures.followed.base)) c.requires.clauses
+
+pub start_value-requires-2-clause-forced : goal.start_value-requires-2-clause-forced
+start_value-requires-2-clause-forced c =
+    subst (λ n. AreForced n c.args.clauses.now c.args.forced.now)
+    (sym (ap length c.if-not-start_value.ensures.followed.base)) c.requires.forced
 
 pub returns-clause-followed : goal.returns-clause-followed
 returns-clause-followed c =
