@@ -94,6 +94,7 @@ module _ (list : NodeList) (inside : Bool) where
   along_same atoms atoms' w v ls ls' bound levels refuted e same f is =
       subst (λ n. StandsAlong list inside n v ls' bound levels refuted) (sym e)
       (subst (λ xs. StandsAlong list inside atoms v xs bound levels refuted) (sym f) (record {
+        over = is.over;
         few = is.few;
         sizes = is.sizes;
         each = λ i d less.
@@ -116,6 +117,7 @@ module _ (list : NodeList) (inside : Bool) where
     along_back ls bound levels refuted depth less is =
         let few = length-take-le depth ls (omega (arith, less)) in
         record {
+          over = is.over;
           few = is.few;
           sizes = omega (arith, few, is.sizes, less);
           each = λ i d upto.
@@ -138,6 +140,7 @@ module _ (list : NodeList) (inside : Bool) where
         → length (get_or levels' (length ls + 1) d).start.items ≡ 0)
         → StandsAlong list inside atoms wanted (ls ++ l ∷ []) bound levels' refuted'
     along_more ls l bound levels levels' refuted refuted' is deeper none = record {
+      over = is.over;
       few = is.few;
       sizes = omega (arith, deeper.size, more);
       each = each;

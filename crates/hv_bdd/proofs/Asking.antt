@@ -24,6 +24,7 @@ use Rattle.hv_sets.specs.declared.query.Query.{Query}
 use Rattle.hv_bdd.specs.declared.asked.Asked.{Asked}
 use Rattle.hv_bdd.specs.Nodes.{NodeList, in_node}
 use Rattle.hv_bdd.specs.Order.{atom_at, place}
+use Rattle.hv_bdd.specs.Reduced.{IsReduced}
 use Rattle.hv_bdd.specs.Live.{TupleSetting, asked_of, asks_goal, changed_by, is_marked, bit_mark_of}
 use Rattle.hv_bdd.specs.Live.{needed_by, operands_of, root, roots, tuple_setting_of, start_bit}
 use Rattle.hv_bdd.specs.Working.Graphs.{AgreesWithNodes, Suits, in_asked, in_graph, matches}
@@ -32,7 +33,8 @@ use Rattle.hv_bdd.proofs.Chained.{first_is, match_at, match_from}
 use Rattle.hv_bdd.proofs.Marked.{mark_of-needed, mark_of-no_marks, over_action, over_none}
 use Rattle.hv_bdd.specs.Working.Ordered.{order_of}
 
-module _ (list : NodeList) (task : Strips) (query : Query) (size : list.atoms ≡ atoms task) where
+module _ (list : NodeList) (reduced : IsReduced list) (task : Strips) (query : Query)
+    (size : list.atoms ≡ atoms task) where
   abbrev pub S : TupleSetting
   S = tuple_setting_of list task query
 
@@ -51,8 +53,8 @@ module _ (list : NodeList) (task : Strips) (query : Query) (size : list.atoms �
             (λ a less.
             let len = IsState-start_state task in
             let within : a < list.atoms = omega arith in
-            let in_order = (order_of list).place_in a within in
-            let there = (order_of list).there a within in
+            let in_order = (order_of list reduced).place_in a within in
+            let there = (order_of list reduced).there a within in
             let m = match_at list.atoms (atom_at list)
             (λ v. true) (start_bit S) s list.atoms 0 (place list a) e (omega arith)
             (omega arith) refl in
@@ -81,8 +83,8 @@ module _ (list : NodeList) (task : Strips) (query : Query) (size : list.atoms �
             let in_task : a < atoms task = All-get_or
             (λ n. n < atoms task) task.goal k 0 less below in
             let within : a < list.atoms = omega arith in
-            let in_order = (order_of list).place_in a within in
-            let there = (order_of list).there a within in
+            let in_order = (order_of list reduced).place_in a within in
+            let there = (order_of list reduced).there a within in
             let named = (names_atom-Decides task.goal a).1 (Contains-get_or task.goal k 0 less) in
             let asked : asks_goal S (place list a) ≡ true =
             ap (has_atom (state_of (atoms task) task.goal)) there
@@ -93,7 +95,7 @@ module _ (list : NodeList) (task : Strips) (query : Query) (size : list.atoms �
             ((booleans_Decides (has_atom s (atom_at list (place list a))) true).0 m)),
         λ all. match_from list.atoms (atom_at list) (asks_goal S) (λ v. true) s list.atoms 0
             (λ w from upto asked.
-            let within = (order_of list).atom_in w (omega arith) in
+            let within = (order_of list reduced).atom_in w (omega arith) in
             let named = sym (has_atom-state_of (atoms task) task.goal (atom_at list w)
             (omega arith)) ∙ asked in
             (booleans_Decides (has_atom s (atom_at list w)) true).1
@@ -255,7 +257,7 @@ module _ (list : NodeList) (task : Strips) (query : Query) (size : list.atoms �
       parts.1 in (
         (
           in_s,
-          λ v less. let at = (order_of list).atom_in v less in
+          λ v less. let at = (order_of list reduced).atom_in v less in
               needs (action_of task query.action) s (atom_at list v) (omega arith) parts.0,
         ),
         both_sides (map (asked_of true) query.positive) (map (asked_of false) query.negative) s
@@ -276,10 +278,10 @@ module _ (list : NodeList) (task : Strips) (query : Query) (size : list.atoms �
       (applies (action_of task query.action) s (below_of t query.action)
       (λ a less.
       let within : a < list.atoms = omega arith in
-      let in_order = (order_of list).place_in a within in
+      let in_order = (order_of list reduced).place_in a within in
       subst (λ x. is_marked (bit_mark_of (needed_by (atoms task) (action_of task query.action)) x)
       (has_atom s x) ≡ true)
-      ((order_of list).there a within) (suits.0.1 (place list a) in_order)))
+      ((order_of list reduced).there a within) (suits.0.1 (place list a) in_order)))
       (and_from (list_all (λ o. in_operand task sets (action_of task query.action) s o)
       query.positive)
       (list_all (λ o. not (in_operand task sets (action_of task query.action) s o)) query.negative)

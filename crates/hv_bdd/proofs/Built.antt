@@ -1,7 +1,7 @@
 -- A reduced ordered list stays one with a further node that has no fault.
 use Rattle.std.proofs.Common.{◌≡◌, ℕ, zero, suc, ◌<◌, ◌≤◌, ◌+◌, ◌-◌, ◌∙◌, ◌&&◌, Bool, true, false}
-use Rattle.std.proofs.Common.{[], ◌∷◌, ◌++◌, Option, None, Some, cond, eqb, ltb, length, refl, sym}
-use Rattle.std.proofs.Common.{ap, arith, inl, inr, subst}
+use Rattle.std.proofs.Common.{List, [], ◌∷◌, ◌++◌, Option, None, Some, ap, arith, cond, eqb}
+use Rattle.std.proofs.Common.{inl, inr, length, ltb, refl, subst, sym}
 use Rattle.std.proofs.lemmas.Bool.{and_from, and_parts, cases_lt, eq-eqb, eqb-false, ltb-true}
 use Rattle.std.proofs.lemmas.List.{get_or_append_left, get_or_at, length-append}
 use Rattle.std.proofs.lemmas.List.Folds.{list_any_at}
@@ -11,9 +11,11 @@ use Rattle.hv_bdd.specs.declared.fault.NodeKind.{NodeKind}
 use Rattle.hv_bdd.specs.declared.fault.NodeKind.TheVariants as N
 use Rattle.hv_bdd.specs.Building.{fault_of, is_later, or_twin, same_node}
 use Rattle.hv_bdd.specs.Working.Building.{with_node}
+use Rattle.hv_bdd.specs.Working.NodeText.{list_over}
 use Rattle.hv_bdd.specs.Nodes.{NodeList, node_count}
-use Rattle.hv_bdd.specs.Order.{place}
+use Rattle.hv_bdd.specs.Order.{IsOrder, place}
 use Rattle.hv_bdd.specs.Reduced.{IsReduced, node_at, top}
+use Rattle.hv_bdd.specs.Working.Ordered.{rising_order, same_order, same_place as place_alike}
 use Rattle.hv_bdd.specs.Working.Walking.{top_inner}
 
 -- what a node without faults passes
@@ -80,8 +82,7 @@ module _ (list : NodeList) (node : Node) where
           (let f : length list.nodes ≡ i - 2 = omega arith in f)
 
       same_place : (a : ℕ) → place (with_node list node) a ≡ place list a
-      unfolding place
-      same_place a = refl
+      same_place a = place_alike list.atoms list.order list.nodes (list.nodes ++ node ∷ []) a
 
       old_top : (i : ℕ) → i < node_count list → top (with_node list node) i ≡ top list i
       old_top i within =
@@ -133,6 +134,8 @@ module _ (list : NodeList) (node : Node) where
       reduced_more =
           let n = size in
           record {
+            ordered = same_order list.atoms list.order list.nodes (list.nodes ++ node ∷ [])
+                reduced.ordered;
             atom = either (λ i. (node_at (with_node list node) i).atom < list.atoms)
                 (λ i le less. subst (λ (m : Node). m.atom < list.atoms) (sym (old i le less))
                 (reduced.atom i le less))
@@ -194,3 +197,22 @@ module _ (list : NodeList) (node : Node) where
                 ];
             few = omega arith;
           }
+
+-- a list without nodes is reduced, whatever its order
+pub bare_reduced : (atoms : ℕ) (order : Option (List ℕ)) → IsOrder (list_over atoms order [])
+    → IsReduced (list_over atoms order [])
+bare_reduced atoms order is = record {
+  ordered = is;
+  atom = λ i le less. absurd (omega arith);
+  low = λ i le less. absurd (omega arith);
+  high = λ i le less. absurd (omega arith);
+  low_later = λ i le less. absurd (omega arith);
+  high_later = λ i le less. absurd (omega arith);
+  apart = λ i le less e. absurd (omega arith);
+  twinless = λ i j le less le2 less2 e. absurd (omega arith);
+  few = omega arith;
+}
+
+-- and where its atoms rise
+pub none_reduced : (atoms : ℕ) → IsReduced (list_over atoms None [])
+none_reduced atoms = bare_reduced atoms None (rising_order atoms [])

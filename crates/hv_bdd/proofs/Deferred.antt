@@ -21,7 +21,7 @@ use Rattle.hv_bdd.specs.NodeFile.{next_node_line, node_in, or_fault, with_next}
 use Rattle.hv_bdd.specs.Nodes.{NodeList}
 use Rattle.hv_bdd.specs.Working.Listing.{FailsTried, Tried, at_node_line, behind_tried, then_listed}
 use Rattle.hv_bdd.specs.Working.Building.{as_node, with_node}
-use Rattle.hv_bdd.specs.Working.Listing.{Finishes, read_count, tried, tried_by}
+use Rattle.hv_bdd.specs.Working.Listing.{Finishes, next_line_of, read_count, tried, tried_by}
 use Rattle.hv_bdd.specs.declared.listing.Listing.{Listing}
 use Rattle.hv_bdd.specs.declared.numbers.Triple.{Triple}
 
@@ -40,6 +40,7 @@ tried_more so_far (y ∷ xs) x = tried_more (then_listed so_far y) xs x
 pub record Grew (list : NodeList) (xs : List Node) (new : NodeList) : Type 0 where
   pub size : length new.nodes ≡ length list.nodes + length xs
   pub atoms : new.atoms ≡ list.atoms
+  pub order : new.order ≡ list.order
 
 not_failed : (so_far : Tried) (e : ℕ × NodeRefusal) (new : NodeList) → so_far ≡ Err e
     → so_far ≡ Ok new → ⊥
@@ -47,7 +48,7 @@ not_failed so_far e new a b = absurd cc
 
 grew_by : (list : NodeList) (x : Node) (xs : List Node) (new : NodeList) (f : Option NodeKind)
     → ((more : NodeList) → tried (Ok more) xs ≡ Ok new → Grew more xs new)
-    → tried (at_node_line (length list.nodes + 2) (or_fault list x f)) xs ≡ Ok new
+    → tried (at_node_line (next_line_of list) (or_fault list x f)) xs ≡ Ok new
     → Grew list (x ∷ xs) new
 grew_by list x xs new None rest e =
     let g = rest (with_node list x) e in
@@ -55,11 +56,12 @@ grew_by list x xs new None rest e =
     record {
       size = omega (arith, size, length-append list.nodes (x ∷ []));
       atoms = g.atoms;
+      order = g.order;
     }
 grew_by list x xs new (Some kind) rest e =
-    absurd (not_failed (tried (Err (length list.nodes + 2, R.Place kind)) xs)
-    (length list.nodes + 2, R.Place kind) new
-    (tried_failed (length list.nodes + 2, R.Place kind) xs) e)
+    absurd (not_failed (tried (Err (next_line_of list, R.Place kind)) xs)
+    (next_line_of list, R.Place kind) new
+    (tried_failed (next_line_of list, R.Place kind) xs) e)
 
 pub tried_grew : (list : NodeList) (xs : List Node) (new : NodeList)
     → tried (Ok list) xs ≡ Ok new → Grew list xs new
@@ -69,6 +71,7 @@ tried_grew list [] new e =
     record {
       size = omega (arith, size);
       atoms = sym (ap (λ (l : NodeList). l.atoms) same);
+      order = sym (ap (λ (l : NodeList). l.order) same);
     }
 tried_grew list (x ∷ xs) new e =
     grew_by list x xs new (fault_of list x) (λ more. tried_grew more xs new) e
@@ -77,15 +80,15 @@ tried_grew list (x ∷ xs) new e =
 pub tried_next : (list new : NodeList) (x : Node) (xs : List Node) → fault_of list x ≡ None
     → new ≡ with_node list x → tried (Ok list) (x ∷ xs) ≡ tried (Ok new) xs
 tried_next list new x xs good is =
-    ap (λ f. tried (at_node_line (length list.nodes + 2) (or_fault list x f)) xs) good
+    ap (λ f. tried (at_node_line (next_line_of list) (or_fault list x f)) xs) good
     ∙ ap (λ (l : NodeList). tried (Ok l) xs) (sym is)
 
 pub tried_bad : (list : NodeList) (x : Node) (xs : List Node) (kind : NodeKind)
     → fault_of list x ≡ Some kind
-    → tried (Ok list) (x ∷ xs) ≡ Err (length list.nodes + 2, R.Place kind)
+    → tried (Ok list) (x ∷ xs) ≡ Err (next_line_of list, R.Place kind)
 tried_bad list x xs kind bad =
-    ap (λ f. tried (at_node_line (length list.nodes + 2) (or_fault list x f)) xs) bad
-    ∙ tried_failed (length list.nodes + 2, R.Place kind) xs
+    ap (λ f. tried (at_node_line (next_line_of list) (or_fault list x f)) xs) bad
+    ∙ tried_failed (next_line_of list, R.Place kind) xs
 
 -- as many nodes as were read
 pub listed_total : (r : Listing) (list : NodeList) → tried_by r ≡ Ok list
@@ -93,6 +96,11 @@ pub listed_total : (r : Listing) (list : NodeList) → tried_by r ≡ Ok list
 listed_total r list e =
     let size = (tried_grew r.list (map as_node r.waiting.items) list e).size in
     omega (arith, size, length-map r.waiting.items as_node)
+
+-- in the same order
+pub listed_order : (r : Listing) (list : NodeList) → tried_by r ≡ Ok list
+    → list.order ≡ r.list.order
+listed_order r list e = (tried_grew r.list (map as_node r.waiting.items) list e).order
 
 -- none waits
 pub none_waits : (list : NodeList) (waiting : List Triple) → waiting ≡ []
@@ -119,12 +127,12 @@ checked k i m qs (Err b) e = ap (λ j. refused j b) e
 
 step : (so_far : Tried) (x : Node) (k n m : ℕ) (ps qs : List Piece)
     → line (R.Place K.Node) node_in n ps ≡ parsed x m qs
-    → ((list : NodeList) → so_far ≡ Ok list → m ≡ length list.nodes + 2)
+    → ((list : NodeList) → so_far ≡ Ok list → m ≡ next_line_of list)
     → behind_tried so_far (iterate (suc k) next_node_line) n ps
     ≡ behind_tried (then_listed so_far x) (iterate k next_node_line) m qs
 step (Ok list) x k n m ps qs h number =
     ap (λ o. after (after o (check (with_next list))) (λ b. iterate k next_node_line b)) h
-    ∙ checked k (length list.nodes + 2) m qs (with_next list x) (number list refl)
+    ∙ checked k (next_line_of list) m qs (with_next list x) (number list refl)
 step (Err e) x k n m ps qs h number = refl
 
 module _ {A : Type 0} (whole : Parser NodeRefusal A) (old mid new : Position) where
@@ -157,7 +165,7 @@ module _ (whole : Parser NodeRefusal NodeList) (old mid new : Position) where
   pub goes_on : (so_far : Tried) (x : Node) (k : ℕ)
       → Goes whole old (behind_tried so_far (iterate (suc k) next_node_line)) mid
       → Reads (line (R.Place K.Node) node_in) mid new (Ok x)
-      → ((list : NodeList) → so_far ≡ Ok list → new.lines.number ≡ length list.nodes + 2)
+      → ((list : NodeList) → so_far ≡ Ok list → new.lines.number ≡ next_line_of list)
       → Goes whole old (behind_tried (then_listed so_far x) (iterate k next_node_line)) new
   goes_on so_far x k g r number =
       moves whole (behind_tried so_far (iterate (suc k) next_node_line))

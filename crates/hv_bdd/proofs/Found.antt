@@ -99,8 +99,8 @@ module _ (s : TupleSearch) (done : ℕ) (reached : Reached) (e : Explored s done
 
       pub atom_less : atom < s.setting.list.atoms
       atom_less =
-          let less = (order_of s.setting.list).atom_in (least (moves s.setting) s.asked v.items)
-          says.0 in
+          let place = least (moves s.setting) s.asked v.items in
+          let less = (order_of s.setting.list e.search.reduced).atom_in place says.0 in
           let same = atom_here in omega arith
 
       pub fits_back : (state new : List Bool) → new ≡ set state atom link.bit

@@ -30,11 +30,6 @@ module _ (S : TupleSetting) where
   abbrev pub in_graph : Which → List Bool → ℕ → Bool
   in_graph = in_graph_of S
 
-  pub places_apart : (v w : ℕ) → v < S.list.atoms → w < S.list.atoms
-      → atom_at S.list v ≡ atom_at S.list w → v ≡ w
-  places_apart v w in_v in_w same =
-      sym ((order_of S.list).back v in_v) ∙ (ap (place S.list) same ∙ (order_of S.list).back w in_w)
-
   pub graph_outer : (w : Which) (i : ℕ) → i < 2 → graph_top S w i ≡ S.list.atoms
   graph_outer W.Empty i end = chain_top_end S.list.atoms (atom_at S.list)
       (λ v. true) (start_bit S) i end
@@ -45,6 +40,12 @@ module _ (S : TupleSetting) where
   graph_outer (W.Set number) i end = top_end S.list i end
 
   module _ (reduced : IsReduced S.list) where
+    pub places_apart : (v w : ℕ) → v < S.list.atoms → w < S.list.atoms
+        → atom_at S.list v ≡ atom_at S.list w → v ≡ w
+    places_apart v w in_v in_w same =
+        let order = order_of S.list reduced in
+        sym (order.back v in_v) ∙ (ap (place S.list) same ∙ order.back w in_w)
+
     graph_ends : (w : Which) (s : List Bool) (i : ℕ) → i < 2 → in_graph w s i ≡ eqb i 1
     graph_ends W.Empty s i end = refl
     graph_ends W.Start s i end = chain_end S.list.atoms (atom_at S.list)
@@ -174,7 +175,7 @@ module _ (S : TupleSetting) where
 
     pub is_true_to : IsTrueTo Asked (moves S) (λ o. limit o.which) truth
     is_true_to = record {
-      place = λ v less. (order_of S.list).atom_in v less;
+      place = λ v less. (order_of S.list reduced).atom_in v less;
       apart = places_apart;
       ends = λ o s i end within. graph_ends o.which (side o.after s) i end;
       outer = λ o i end. graph_outer o.which i end;
@@ -186,6 +187,6 @@ module _ (S : TupleSetting) where
           graph_step o.which (side o.after s) i inner within
           ∙ ap (λ x. in_graph o.which (side o.after s) (graph_child S o.which i x))
           (bit_side o.after s (atom_at S.list (graph_top S o.which i)) size
-          ((order_of S.list).atom_in (graph_top S o.which i) less));
+          ((order_of S.list reduced).atom_in (graph_top S o.which i) less));
       free = λ o s i v b size within less. free_side o.which o.after s i v b size within less;
     }

@@ -3,7 +3,8 @@ use Rattle.std.proofs.Common.{◌≡◌, ℕ, zero, suc, ◌+◌, ◌<◌, ◌�
 use Rattle.std.proofs.Common.{None, Some, Result, Ok, Err, length, map, refl, sym, ◌∙◌, ap, subst}
 use Rattle.std.proofs.Common.{Bool, true, false, arith, decimal, cond, nat_le, append_assoc}
 use Rattle.std.proofs.Common.{append-nil, length-append}
-use Rattle.std.specs.Prelude.{IfSome, IsErrAnd, codes, option_and_then}
+use Rattle.std.specs.Prelude.{IfOk, IfSome, IsErrAnd, codes, option_and_then}
+use Rattle.std.proofs.lemmas.List.{length-map}
 use Rattle.std.proofs.lemmas.Bool.{le-leb, leb-true}
 use Rattle.std.proofs.lemmas.List.Elements.{All-head, All-tail}
 use Rattle.std.specs.List.{All}
@@ -11,14 +12,15 @@ use Rattle.hv_bytes.specs.Fields.{cut_fields}
 use Rattle.hv_bytes.specs.Files.{Names, bytes_of}
 use Rattle.hv_bytes.specs.Pieces.{Piece, as_pieces, pieces_of}
 use Rattle.hv_bytes.specs.declared.cutting.Limits.{Limits}
-use Rattle.hv_grammar.specs.Reads.{IsOfNoLine}
+use Rattle.hv_grammar.specs.Reads.{IsOfNoLine, at_number}
 use Rattle.hv_grammar.specs.Working.Reads.{IsReadAs}
 use Rattle.hv_grammar.specs.declared.fault.ParseFault.{ParseFault}
 use Rattle.hv_grammar.specs.declared.fault.ParseFault.TheVariants as P
 use Rattle.hv_bdd.specs.declared.fault.NodesFault.{NodesFault}
-use Rattle.hv_grammar.specs.Forms.{at_most, decimal_of, number_behind, numbered_in, or_refused}
+use Rattle.hv_grammar.specs.Forms.{at_most, decimal_of, number_behind, or_refused}
 use Rattle.hv_grammar.specs.Forms.{rest_behind}
-use Rattle.hv_grammar.specs.Parsers.{Outcome, after, check, end_of_input, iterate, long, parsed}
+use Rattle.hv_grammar.specs.Parsers.{Outcome, Parser, after, check, end_of_input, iterate, long}
+use Rattle.hv_grammar.specs.Parsers.{parsed}
 use Rattle.hv_grammar.specs.Parsers.{pure, refused, tested, ◌>>=◌, ◌>>◌}
 use Rattle.hv_grammar.proofs.Numerals.{behind_append, behind_some, decimal_of_is, is_decimal_of}
 use Rattle.hv_bdd.specs.declared.fault.NodeKind.{NodeKind}
@@ -26,21 +28,26 @@ use Rattle.hv_bdd.specs.declared.fault.NodeKind.TheVariants as K
 use Rattle.hv_bdd.specs.declared.fault.NodeLimit.TheVariants as W
 use Rattle.hv_bdd.specs.declared.fault.NodeRefusal.{NodeRefusal}
 use Rattle.hv_bdd.specs.declared.fault.NodeRefusal.TheVariants as R
+use Rattle.hv_bdd.specs.declared.first.FirstLine.{FirstLine}
+use Rattle.hv_bdd.specs.declared.first.FirstLine.TheVariants as L
 use Rattle.hv_bdd.specs.declared.node.Node.{Node}
 use Rattle.hv_bdd.specs.Building.{fault_of}
+use Rattle.hv_bdd.specs.NodeFile.{as_counted, as_listed, behind_first, count_in, first_in}
 use Rattle.hv_bdd.specs.NodeFile.{next_node_line, node_file, node_in, node_of_fields, or_fault}
-use Rattle.hv_bdd.specs.NodeFile.{fault_in, nodes_fault, three_numbers, with_next}
-use Rattle.hv_bdd.specs.NodeText.{AreTextOf, IsReadFrom, header_line, node_line}
-use Rattle.hv_bdd.specs.Nodes.{NodeList, no_nodes}
+use Rattle.hv_bdd.specs.NodeFile.{fault_in, nodes_fault, so_many, three_numbers, with_next}
+use Rattle.hv_bdd.specs.NodeText.{AreTextOf, IsReadFrom, first_lines, header_line, node_line}
+use Rattle.hv_bdd.specs.NodeText.{node_lines}
+use Rattle.hv_bdd.specs.Nodes.{NodeList}
+use Rattle.hv_bdd.specs.Order.{IsOrder}
+use Rattle.hv_bdd.specs.OrderLine.{begins_with, order_line, order_of_fields}
+use Rattle.hv_bdd.specs.Working.Ordered.{same_order}
 use Rattle.hv_bdd.specs.Reduced.{IsReduced}
 use Rattle.hv_bdd.specs.Working.Building.{with_node}
-use Rattle.hv_bdd.specs.Working.NodeText.{IsHeader, IsTriple, list_over}
-use Rattle.hv_bdd.proofs.Built.{passes_from, reduced_more}
+use Rattle.hv_bdd.specs.Working.NodeText.{IsBegun, IsHeader, IsTriple, list_over}
+use Rattle.hv_bdd.proofs.Built.{bare_reduced, none_reduced, passes_from, reduced_more}
 use Rattle.hv_bdd.proofs.Prefixed.{IsShort, are_short, next_good}
+use Rattle.hv_bdd.proofs.Ranked.{begins_line, order_is, order_of_line}
 use Rattle.hv_bdd.proofs.Tripled.{cut_triple, triple_from}
-
-abbrev said_of_header : List ℕ → Result ℕ NodeRefusal
-said_of_header = numbered_in (codes "nodes ") 16777216 (R.Place K.Header) (R.Limit W.Nodes)
 
 node_read : (x : Node) → IsShort x → node_of_fields (cut_fields (node_line x)) ≡ Some x
 node_read x short =
@@ -61,29 +68,31 @@ node_taken : (list : NodeList) (x : Node) → fault_of list x ≡ None
     → with_next list x ≡ Ok (with_node list x)
 node_taken list x good = ap (or_fault list x) good
 
-nodes_read : (atoms : ℕ) (front rest : List Node) (n : ℕ)
-    → IsReduced (list_over atoms (front ++ rest)) → All IsShort rest
-    → iterate (length rest) next_node_line (list_over atoms front) n
+nodes_read : (atoms : ℕ) (order : Option (List ℕ)) (front rest : List Node) (n : ℕ)
+    → IsReduced (list_over atoms order (front ++ rest)) → All IsShort rest
+    → iterate (length rest) next_node_line (list_over atoms order front) n
     (as_pieces (map node_line rest))
-    ≡ parsed (list_over atoms (front ++ rest)) (n + length rest) []
-nodes_read atoms front [] n reduced short =
-    ap (λ ns. parsed (list_over atoms ns) n []) (sym (append-nil front))
-    ∙ ap (λ k. parsed (list_over atoms (front ++ [])) k []) (let e : n ≡ n + 0 = omega arith in e)
-nodes_read atoms front (x ∷ rest) n reduced short =
+    ≡ parsed (list_over atoms order (front ++ rest)) (n + length rest) []
+nodes_read atoms order front [] n reduced short =
+    let same : n ≡ n + 0 = omega arith in
+    ap (λ ns. parsed (list_over atoms order ns) n []) (sym (append-nil front))
+    ∙ ap (λ k. parsed (list_over atoms order (front ++ [])) k []) same
+nodes_read atoms order front (x ∷ rest) n reduced short =
     let same : (front ++ x ∷ []) ++ rest ≡ front ++ x ∷ rest = append_assoc front (x ∷ []) rest in
-    let good : fault_of (list_over atoms front) x ≡ None = next_good atoms front rest x reduced in
-    let more = nodes_read atoms (front ++ x ∷ []) rest (n + 1)
-    (subst (λ ns. IsReduced (list_over atoms ns)) (sym same) reduced)
+    let good = next_good atoms order front rest x reduced in
+    let more = nodes_read atoms order (front ++ x ∷ []) rest (n + 1)
+    (subst (λ ns. IsReduced (list_over atoms order ns)) (sym same) reduced)
     (All-tail IsShort x rest short) in
     ap (λ r. after
     (after (tested (n + 1) (as_pieces (map node_line rest)) r)
-    (check (with_next (list_over atoms front)))) (λ l. iterate (length rest) next_node_line l))
+    (check (with_next (list_over atoms order front))))
+    (λ l. iterate (length rest) next_node_line l))
     (line_taken x (All-head IsShort x rest short))
     ∙ ap (λ r. after (tested (n + 1) (as_pieces (map node_line rest)) r)
-    (λ l. iterate (length rest) next_node_line l)) (node_taken (list_over atoms front) x good)
+    (λ l. iterate (length rest) next_node_line l)) (node_taken (list_over atoms order front) x good)
     ∙ more
-    ∙ ap (λ ns. parsed (list_over atoms ns) ((n + 1) + length rest) []) same
-    ∙ ap (λ k. parsed (list_over atoms (front ++ x ∷ rest)) k [])
+    ∙ ap (λ ns. parsed (list_over atoms order ns) ((n + 1) + length rest) []) same
+    ∙ ap (λ k. parsed (list_over atoms order (front ++ x ∷ rest)) k [])
     (let e : (n + 1) + length rest ≡ n + suc (length rest) = omega arith in e)
 
 header_number : (k : ℕ) → k < 10 ^ 18 → number_behind (codes "nodes ") (header_line k) ≡ Some k
@@ -91,25 +100,65 @@ header_number k short =
     ap (option_and_then decimal_of) (behind_append (codes "nodes ") (decimal k))
     ∙ decimal_of_is (decimal k) k (record { spelled = refl; short = short })
 
-header_taken : (k : ℕ) → k ≤ 16777216 → said_of_header (header_line k) ≡ Ok k
+header_taken : (k : ℕ) → k ≤ 16777216 → count_in (header_line k) ≡ Ok k
 header_taken k few =
     ap (at_most 16777216 (R.Place K.Header) (R.Limit W.Nodes)) (header_number k (omega arith))
     ∙ rw (le-leb k 16777216 few) refl
 
+abbrev at_end : NodeList → Parser NodeRefusal NodeList
+at_end list = end_of_input (R.Place K.End) >> pure list
+
+first_counted : (atoms k : ℕ) → k ≤ 16777216 → first_in atoms (header_line k) ≡ Ok (L.Counted k)
+first_counted atoms k few = ap as_counted (header_taken k few)
+
+first_listed : (atoms : ℕ) (order : List ℕ) → atoms < 10 ^ 18
+    → IsOrder (list_over atoms (Some order) [])
+    → first_in atoms (order_line order) ≡ Ok (L.Listed order)
+first_listed atoms order small is =
+    ap (λ t. cond t (as_listed (order_of_fields atoms (cut_fields (order_line order))))
+    (as_counted (count_in (order_line order)))) (begins_line order)
+    ∙ ap as_listed (order_of_line atoms order small is)
+
+text_by : (atoms : ℕ) (order : Option (List ℕ)) (nodes : List Node) → atoms < 10 ^ 18
+    → IsReduced (list_over atoms order nodes)
+    → node_file atoms 0 (as_pieces (node_lines (list_over atoms order nodes)))
+    ≡ parsed (list_over atoms order nodes)
+    (length (as_pieces (node_lines (list_over atoms order nodes)))) []
+text_by atoms None nodes small reduced =
+    let ps = as_pieces (map node_line nodes) in
+    let size = length-map (map node_line nodes) (λ (l : List ℕ). Some l) in
+    let count = length-map nodes node_line in
+    let read = nodes_read atoms None [] nodes 1 reduced
+    (are_short atoms None nodes small reduced) in
+    ap (λ t. after (tested 1 ps t) (λ first. behind_first atoms first >>= at_end))
+    (first_counted atoms (length nodes) reduced.few)
+    ∙ ap (λ o. after o at_end) read
+    ∙ ap (λ k. parsed (list_over atoms None nodes) k [])
+    (let e : 1 + length nodes ≡ suc (length ps) = omega arith in e)
+text_by atoms (Some order) nodes small reduced =
+    let ps = as_pieces (map node_line nodes) in
+    let size = length-map (map node_line nodes) (λ (l : List ℕ). Some l) in
+    let count = length-map nodes node_line in
+    let is = same_order atoms (Some order) nodes [] reduced.ordered in
+    let read = nodes_read atoms (Some order) [] nodes 2 reduced
+    (are_short atoms (Some order) nodes small reduced) in
+    ap (λ t. after (tested 1 (Some (header_line (length nodes)) ∷ ps) t)
+    (λ first. behind_first atoms first >>= at_end)) (first_listed atoms order small is)
+    ∙ ap (λ t. after (after (tested 2 ps t) (so_many (list_over atoms (Some order) []))) at_end)
+    (header_taken (length nodes) reduced.few)
+    ∙ ap (λ o. after o at_end) read
+    ∙ ap (λ k. parsed (list_over atoms (Some order) nodes) k [])
+    (let e : 2 + length nodes ≡ suc (suc (length ps)) = omega arith in e)
+
 -- a text of a list is read as this list
 pub text_is_read : (atoms : ℕ) (pieces : List Piece) (list : NodeList) → atoms < 10 ^ 18
-    → AreTextOf atoms pieces list → node_file atoms 0 pieces ≡ parsed list
-    (length list.nodes + 1) []
+    → AreTextOf atoms pieces list → node_file atoms 0 pieces ≡ parsed list (length pieces) []
 text_is_read atoms pieces list small (over, text) =
-    let few = text.reduced.few in
-    let reduced = subst (λ n. IsReduced (list_over n list.nodes)) over text.reduced in
-    let read = nodes_read atoms [] list.nodes 1 reduced
-    (are_short atoms list.nodes small reduced) in
-    ap (node_file atoms 0) (sym text.spelled)
-    ∙ rw (header_taken (length list.nodes) few) (rw read (
-    ap (λ n. parsed (list_over n list.nodes) (1 + length list.nodes) []) (sym over)
-    ∙ ap (λ k. parsed list k []) (let e : 1 + length list.nodes ≡ length list.nodes + 1 =
-    omega arith in e)))
+    subst (λ ps. node_file atoms 0 ps ≡ parsed list (length ps) []) text.spelled
+    (subst (λ n. node_file n 0 (as_pieces (node_lines list))
+    ≡ parsed list (length (as_pieces (node_lines list))) []) over
+    (text_by list.atoms list.order list.nodes
+    (subst (λ n. n < 10 ^ 18) (sym over) small) text.reduced))
 
 -- And back: what comes of a file is the list of which it is the text.
 
@@ -138,10 +187,10 @@ triple_read l (a ∷ b ∷ d ∷ f ∷ fs) x c e = absurd cc
 
 -- so many nodes were read behind the first ones
 record Reading
-    (atoms k : ℕ) (front : List Node) (ps : List Piece) (list : NodeList) (qs : List Piece)
-    (rest : List Node) : Type 0
+    (atoms : ℕ) (order : Option (List ℕ)) (k : ℕ) (front : List Node) (ps : List Piece)
+    (list : NodeList) (qs : List Piece) (rest : List Node) : Type 0
   where
-    pub list_is : list ≡ list_over atoms (front ++ rest)
+    pub list_is : list ≡ list_over atoms order (front ++ rest)
     pub size : length rest ≡ k
     pub reduced : IsReduced list
     pub pieces : ps ≡ as_pieces (map node_line rest) ++ qs
@@ -151,12 +200,12 @@ same_got : (a b : NodeList) (n m : ℕ) (ps qs : List Piece)
 same_got a b n m ps qs e = (cc, cc)
 
 -- the same of any first nodes
-abbrev Reads : ℕ → ℕ → Type 0
-Reads atoms k =
+abbrev Reads : ℕ → Option (List ℕ) → ℕ → Type 0
+Reads atoms order k =
     (front : List Node) (n m : ℕ) (ps qs : List Piece) (list : NodeList)
-    → IsReduced (list_over atoms front) → length front + k ≤ 16777216
-    → iterate k next_node_line (list_over atoms front) n ps ≡ parsed list m qs
-    → (rest : List Node) × Reading atoms k front ps list qs rest
+    → IsReduced (list_over atoms order front) → length front + k ≤ 16777216
+    → iterate k next_node_line (list_over atoms order front) n ps ≡ parsed list m qs
+    → (rest : List Node) × Reading atoms order k front ps list qs rest
 
 good_node : (list : NodeList) (x : Node) (f : Option NodeKind) (n : ℕ) (ps : List Piece)
     (k m : ℕ) (qs : List Piece) (new : NodeList)
@@ -165,51 +214,52 @@ good_node : (list : NodeList) (x : Node) (f : Option NodeKind) (n : ℕ) (ps : L
 good_node list x None n ps k m qs new e = (refl, e)
 good_node list x (Some kind) n ps k m qs new e = absurd cc
 
-turn_is : (atoms k : ℕ) → Reads atoms k → (front : List Node) (n m : ℕ) (l : List ℕ)
-    (ps qs : List Piece) (list : NodeList) (o : Option Node)
-    → IsReduced (list_over atoms front) → length front + suc k ≤ 16777216
+turn_is : (atoms : ℕ) (order : Option (List ℕ)) (k : ℕ) → Reads atoms order k
+    → (front : List Node) (n m : ℕ) (l : List ℕ) (ps qs : List Piece) (list : NodeList)
+    (o : Option Node)
+    → IsReduced (list_over atoms order front) → length front + suc k ≤ 16777216
     → node_of_fields (cut_fields l) ≡ o
     → after
     (after (tested (n + 1) ps (or_refused (R.Place K.Node) o)) (check (with_next
-    (list_over atoms front))))
+    (list_over atoms order front))))
     (λ b. iterate k next_node_line b) ≡ parsed list m qs
-    → (rest : List Node) × Reading atoms (suc k) front (Some l ∷ ps) list qs rest
-turn_is atoms k ih front n m l ps qs list None reduced few t e = absurd cc
-turn_is atoms k ih front n m l ps qs list (Some x) reduced few t e =
-    let w = good_node (list_over atoms front) x (fault_of (list_over atoms front) x) (n + 1) ps k m
-    qs list e in
+    → (rest : List Node) × Reading atoms order (suc k) front (Some l ∷ ps) list qs rest
+turn_is atoms order k ih front n m l ps qs list None reduced few t e = absurd cc
+turn_is atoms order k ih front n m l ps qs list (Some x) reduced few t e =
+    let old = list_over atoms order front in
+    let w = good_node old x (fault_of old x) (n + 1) ps k m qs list e in
     let triple = triple_read l (cut_fields l) x refl t in
     let size : length (front ++ x ∷ []) ≡ length front + 1 = length-append front (x ∷ []) in
-    let more = reduced_more (list_over atoms front) x reduced
-    (passes_from (list_over atoms front) x w.0) (omega arith) in
+    let more = reduced_more (list_over atoms order front) x reduced
+    (passes_from (list_over atoms order front) x w.0) (omega arith) in
     let r = ih (front ++ x ∷ []) (n + 1) m ps qs list more (omega arith) w.1 in
     let others = r.1.size in
     let same = r.1.pieces in (
       x ∷ r.0,
       record {
-        list_is = r.1.list_is ∙ ap (list_over atoms) (append_assoc front (x ∷ []) r.0);
+        list_is = r.1.list_is ∙ ap (list_over atoms order) (append_assoc front (x ∷ []) r.0);
         size = ap suc others;
         reduced = r.1.reduced;
         pieces = ap (λ z. Some z ∷ ps) triple.spelled ∙ ap (λ z. Some (node_line x) ∷ z) same;
       },
     )
 
-nodes_are : (atoms k : ℕ) → Reads atoms k
-nodes_are atoms zero front n m ps qs list reduced few e =
-    let w = same_got (list_over atoms front) list n m ps qs e in (
+nodes_are : (atoms : ℕ) (order : Option (List ℕ)) (k : ℕ) → Reads atoms order k
+nodes_are atoms order zero front n m ps qs list reduced few e =
+    let w = same_got (list_over atoms order front) list n m ps qs e in (
       [],
       record {
-        list_is = sym w.0 ∙ ap (list_over atoms) (sym (append-nil front));
+        list_is = sym w.0 ∙ ap (list_over atoms order) (sym (append-nil front));
         size = refl;
         reduced = subst IsReduced w.0 reduced;
         pieces = w.1;
       },
     )
-nodes_are atoms (suc k) front n m [] qs list reduced few e = absurd cc
-nodes_are atoms (suc k) front n m (None ∷ ps) qs list reduced few e = absurd cc
-nodes_are atoms (suc k) front n m (Some l ∷ ps) qs list reduced few e =
-    turn_is atoms k (nodes_are atoms k) front n m l ps qs list (node_of_fields (cut_fields l))
-    reduced few refl e
+nodes_are atoms order (suc k) front n m [] qs list reduced few e = absurd cc
+nodes_are atoms order (suc k) front n m (None ∷ ps) qs list reduced few e = absurd cc
+nodes_are atoms order (suc k) front n m (Some l ∷ ps) qs list reduced few e =
+    turn_is atoms order k (nodes_are atoms order k) front n m l ps qs list
+    (node_of_fields (cut_fields l)) reduced few refl e
 
 nothing_behind : (o : Outcome NodeRefusal NodeList) (list : NodeList) (n : ℕ) (rest : List Piece)
     → after o (λ l. end_of_input (R.Place K.End) >> pure l) ≡ parsed list n rest
@@ -246,48 +296,145 @@ count_is l (Some n) k c e =
     let w = within_is n (nat_le n 16777216) k refl e in
     (header_from l (rest_behind (codes "nodes ") l) k refl (c ∙ ap (λ j. Some j) w.0), w.1)
 
-file_is : (atoms : ℕ) (l : List ℕ) (ps : List Piece) (list : NodeList) (n : ℕ) (rest : List Piece)
-    (t : Result ℕ NodeRefusal) → IsReduced (list_over atoms []) → said_of_header l ≡ t
-    → after (tested 1 ps t)
-    (λ k. iterate k next_node_line (no_nodes atoms) >>= λ b.
-    end_of_input (R.Place K.End) >> pure b) ≡ parsed list n rest
+-- what the nodes of a file are, behind the lines before them
+record Listed (atoms : ℕ) (order : Option (List ℕ)) (k : ℕ) (ps : List Piece) (list : NodeList)
+    : Type 0
+  where
+    pub atoms_are : list.atoms ≡ atoms
+    pub order_is : list.order ≡ order
+    pub size : length list.nodes ≡ k
+    pub reduced : IsReduced list
+    pub pieces : ps ≡ as_pieces (map node_line list.nodes)
+
+nodes_listed : (atoms : ℕ) (order : Option (List ℕ)) (k n : ℕ) (ps : List Piece) (list : NodeList)
+    (m : ℕ) (rest : List Piece) → IsReduced (list_over atoms order []) → k ≤ 16777216
+    → after (iterate k next_node_line (list_over atoms order []) n ps) at_end ≡ parsed list m rest
+    → Listed atoms order k ps list
+nodes_listed atoms order k n ps list m rest none few e =
+    let o = nothing_behind (iterate k next_node_line (list_over atoms order []) n ps) list m rest e
+    in
+    let w = nodes_are atoms order k [] n o.0 ps [] list none (omega arith) o.1 in
+    let nodes = ap (λ (x : NodeList). x.nodes) w.1.list_is in
+    record {
+      atoms_are = ap (λ (x : NodeList). x.atoms) w.1.list_is;
+      order_is = ap (λ (x : NodeList). x.order) w.1.list_is;
+      size = ap length nodes ∙ w.1.size;
+      reduced = w.1.reduced;
+      pieces = w.1.pieces ∙ append-nil (as_pieces (map node_line w.0))
+          ∙ ap (λ ns. as_pieces (map node_line ns)) (sym nodes);
+    }
+
+-- what a first line says
+counted_is : (t : Bool) (o : Option (List ℕ)) (c : Result ℕ NodeRefusal) (k : ℕ)
+    → cond t (as_listed o) (as_counted c) ≡ Ok (L.Counted k) → c ≡ Ok k
+counted_is true None c k e = absurd cc
+counted_is true (Some order) c k e = absurd cc
+counted_is false o (Ok j) k e = cc
+counted_is false o (Err b) k e = absurd cc
+
+listed_is : (t : Bool) (o : Option (List ℕ)) (c : Result ℕ NodeRefusal) (order : List ℕ)
+    → cond t (as_listed o) (as_counted c) ≡ Ok (L.Listed order) → o ≡ Some order
+listed_is true None c order e = absurd cc
+listed_is true (Some other) c order e = cc
+listed_is false o (Ok j) order e = absurd cc
+listed_is false o (Err b) order e = absurd cc
+
+module _ (atoms : ℕ) (l : List ℕ) where
+  count_said : (k : ℕ) → first_in atoms l ≡ Ok (L.Counted k) → IsHeader l k × (k ≤ 16777216)
+  count_said k e =
+      count_is l (number_behind (codes "nodes ") l) k refl
+      (counted_is (begins_with (codes "order") l) (order_of_fields atoms (cut_fields l))
+      (count_in l) k e)
+
+  order_said : (order : List ℕ) → first_in atoms l ≡ Ok (L.Listed order)
+      → (l ≡ order_line order) × IsOrder (list_over atoms (Some order) [])
+  order_said order e =
+      order_is atoms l order
+      (listed_is (begins_with (codes "order") l) (order_of_fields atoms (cut_fields l))
+      (count_in l) order e)
+
+  -- so it says an order, or a number that a file may have
+  begun : (first : FirstLine) → first_in atoms l ≡ Ok first → IsBegun atoms first
+  begun (L.Counted k) e = (count_said k e).1
+  begun (L.Listed order) e = (order_said order e).1
+
+  pub begun_by : (n : ℕ) (said : Result FirstLine NodeRefusal)
+      (result : Result FirstLine (ParseFault NodeRefusal)) → said ≡ first_in atoms l
+      → result ≡ at_number n said → IfOk result (IsBegun atoms)
+  begun_by n (Ok first) (Ok found) is e =
+      begun found (sym is ∙ ap (λ (f : FirstLine). Ok f) (let same : first ≡ found = cc in same))
+  begun_by n (Ok first) (Err fault) is e = tt
+  begun_by n (Err b) (Ok found) is e = absurd cc
+  begun_by n (Err b) (Err fault) is e = tt
+
+counted_text : (atoms : ℕ) (l : List ℕ) (ps : List Piece) (list : NodeList) (n k : ℕ)
+    (rest : List Piece) → IsHeader l k × (k ≤ 16777216)
+    → after (iterate k next_node_line (list_over atoms None []) 1 ps) at_end ≡ parsed list n rest
     → AreTextOf atoms (Some l ∷ ps) list
-file_is atoms l ps list n rest (Err b) none t e = absurd cc
-file_is atoms l ps list n rest (Ok k) none t e =
-    let h = count_is l (number_behind (codes "nodes ") l) k refl t in
-    let o = nothing_behind (iterate k next_node_line (no_nodes atoms) 1 ps) list n rest e in
-    let few = h.1 in
-    let w = nodes_are atoms k [] 1 o.0 ps [] list none (omega arith) o.1 in
-    let nodes = ap (λ (x : NodeList). x.nodes) w.1.list_is in (
-      ap (λ (x : NodeList). x.atoms) w.1.list_is,
+counted_text atoms l ps list n k rest h e =
+    let w = nodes_listed atoms None k 1 ps list n rest (none_reduced atoms) h.1 e in (
+      w.atoms_are,
       record {
-        reduced = w.1.reduced;
-        spelled = ap (λ ns. as_pieces (header_line (length ns) ∷ map node_line ns)) nodes
-            ∙ ap (λ j. Some (header_line j) ∷ as_pieces (map node_line w.0)) w.1.size
-            ∙ ap (λ z. Some z ∷ as_pieces (map node_line w.0)) (sym h.0.spelled)
-            ∙ ap (λ z. Some l ∷ z) (sym (w.1.pieces ∙ append-nil (as_pieces (map node_line w.0))));
+        reduced = w.reduced;
+        spelled = ap (λ o. as_pieces (first_lines o ++ header_line (length list.nodes)
+            ∷ map node_line list.nodes)) w.order_is
+            ∙ ap (λ j. Some (header_line j) ∷ as_pieces (map node_line list.nodes)) w.size
+            ∙ ap (λ z. Some z ∷ as_pieces (map node_line list.nodes)) (sym h.0.spelled)
+            ∙ ap (λ z. Some l ∷ z) (sym w.pieces);
       },
     )
 
-pub read_is_text : (atoms : ℕ) (pieces : List Piece) (list : NodeList) (n : ℕ) (rest : List Piece)
-    → IsReduced (list_over atoms []) → node_file atoms 0 pieces ≡ parsed list n rest
-    → AreTextOf atoms pieces list
-read_is_text atoms [] list n rest none e = absurd cc
-read_is_text atoms (None ∷ ps) list n rest none e = absurd cc
-read_is_text atoms (Some l ∷ ps) list n rest none e =
-    file_is atoms l ps list n rest (said_of_header l) none refl e
+listed_text : (atoms : ℕ) (l : List ℕ) (order : List ℕ) (ps : List Piece) (list : NodeList)
+    (n : ℕ) (rest : List Piece) (h : List ℕ) (t : Result ℕ NodeRefusal)
+    → (l ≡ order_line order) × IsOrder (list_over atoms (Some order) []) → count_in h ≡ t
+    → after (after (tested 2 ps t) (so_many (list_over atoms (Some order) []))) at_end
+    ≡ parsed list n rest
+    → AreTextOf atoms (Some l ∷ Some h ∷ ps) list
+listed_text atoms l order ps list n rest h (Err b) is t e = absurd cc
+listed_text atoms l order ps list n rest h (Ok k) is t e =
+    let c = count_is h (number_behind (codes "nodes ") h) k refl t in
+    let w = nodes_listed atoms (Some order) k 2 ps list n rest
+    (bare_reduced atoms (Some order) is.1) c.1 e in (
+      w.atoms_are,
+      record {
+        reduced = w.reduced;
+        spelled = ap (λ o. as_pieces (first_lines o ++ header_line (length list.nodes)
+            ∷ map node_line list.nodes)) w.order_is
+            ∙ ap (λ j. Some (order_line order) ∷ Some (header_line j)
+            ∷ as_pieces (map node_line list.nodes)) w.size
+            ∙ ap (λ z. Some (order_line order) ∷ Some z ∷ as_pieces (map node_line list.nodes))
+            (sym c.0.spelled)
+            ∙ ap (λ z. Some z ∷ Some h ∷ as_pieces (map node_line list.nodes)) (sym is.0)
+            ∙ ap (λ z. Some l ∷ Some h ∷ z) (sym w.pieces);
+      },
+    )
 
-pub none_reduced : (atoms : ℕ) → IsReduced (list_over atoms [])
-none_reduced atoms = record {
-  atom = λ i le less. absurd (omega arith);
-  low = λ i le less. absurd (omega arith);
-  high = λ i le less. absurd (omega arith);
-  low_later = λ i le less. absurd (omega arith);
-  high_later = λ i le less. absurd (omega arith);
-  apart = λ i le less e. absurd (omega arith);
-  twinless = λ i j le less le2 less2 e. absurd (omega arith);
-  few = omega arith;
-}
+order_text : (atoms : ℕ) (l : List ℕ) (order : List ℕ) (ps : List Piece) (list : NodeList)
+    (n : ℕ) (rest : List Piece)
+    → (l ≡ order_line order) × IsOrder (list_over atoms (Some order) [])
+    → after (behind_first atoms (L.Listed order) 1 ps) at_end ≡ parsed list n rest
+    → AreTextOf atoms (Some l ∷ ps) list
+order_text atoms l order [] list n rest is e = absurd cc
+order_text atoms l order (None ∷ ps) list n rest is e = absurd cc
+order_text atoms l order (Some h ∷ ps) list n rest is e =
+    listed_text atoms l order ps list n rest h (count_in h) is refl e
+
+file_is : (atoms : ℕ) (l : List ℕ) (ps : List Piece) (list : NodeList) (n : ℕ) (rest : List Piece)
+    (t : Result FirstLine NodeRefusal) → first_in atoms l ≡ t
+    → after (tested 1 ps t) (λ first. behind_first atoms first >>= at_end) ≡ parsed list n rest
+    → AreTextOf atoms (Some l ∷ ps) list
+file_is atoms l ps list n rest (Err b) t e = absurd cc
+file_is atoms l ps list n rest (Ok (L.Counted k)) t e =
+    counted_text atoms l ps list n k rest (count_said atoms l k t) e
+file_is atoms l ps list n rest (Ok (L.Listed order)) t e =
+    order_text atoms l order ps list n rest (order_said atoms l order t) e
+
+pub read_is_text : (atoms : ℕ) (pieces : List Piece) (list : NodeList) (n : ℕ) (rest : List Piece)
+    → node_file atoms 0 pieces ≡ parsed list n rest → AreTextOf atoms pieces list
+read_is_text atoms [] list n rest e = absurd cc
+read_is_text atoms (None ∷ ps) list n rest e = absurd cc
+read_is_text atoms (Some l ∷ ps) list n rest e =
+    file_is atoms l ps list n rest (first_in atoms l) refl e
 
 -- What is answered, by what comes of the whole file.
 
@@ -298,7 +445,7 @@ pub answers_list : (files : Option Names) (name : List ℕ) (limits : Limits) (a
     → IfSome files (λ f. IsReadFrom limits atoms (bytes_of f name) (Ok list))
 answers_list None name limits atoms list h = tt
 answers_list (Some f) name limits atoms list h =
-    read_is_text atoms (pieces_of limits (bytes_of f name)) list h.0 h.1 (none_reduced atoms) h.2
+    read_is_text atoms (pieces_of limits (bytes_of f name)) list h.0 h.1 h.2
 
 fault_is : (limits : Limits) (atoms : ℕ) (bytes : List ℕ) (e : ParseFault NodeRefusal)
     → IsReadAs (node_file atoms 0 (pieces_of limits bytes)) (Err e)

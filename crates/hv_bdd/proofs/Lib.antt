@@ -20,6 +20,10 @@ pub mod Tripled
 pub mod Deferred
 pub mod Parted
 pub mod Prefixed
+pub mod Permuted
+pub mod Noted
+pub mod Ranked
+pub mod Placed
 pub mod Joined
 pub mod OneAnswer
 pub mod Advanced

@@ -1,6 +1,6 @@
 -- One answer to the pieces of a node file: the list is one, a list and a fault exclude each other,
 -- and the first fault is one.
-use Rattle.std.proofs.Common.{◌≡◌, ℕ, ◌+◌, ◌<◌, ◌^◌, ◌∙◌, List, Option, None, Some, [], length}
+use Rattle.std.proofs.Common.{◌≡◌, ℕ, ◌<◌, ◌^◌, ◌∙◌, List, Option, None, Some, [], length}
 use Rattle.std.proofs.Common.{sym, ap}
 use Rattle.hv_bytes.specs.Pieces.{Piece}
 use Rattle.hv_grammar.specs.Parsers.{Outcome, parsed}
@@ -24,7 +24,7 @@ no_fault f e = absurd cc
 module _ (atoms : ℕ) (small : atoms < 10 ^ 18) (pieces : List Piece) where
   pub one_list : (s t : NodeList) → AreTextOf atoms pieces s → AreTextOf atoms pieces t → s ≡ t
   one_list s t p q =
-      same_list s t (length s.nodes + 1) (length t.nodes + 1) [] []
+      same_list s t (length pieces) (length pieces) [] []
       (sym (text_is_read atoms pieces s small p) ∙ text_is_read atoms pieces t small q)
 
   pub text_or_fault : (list : NodeList) (fault : NodesFault) → AreTextOf atoms pieces list

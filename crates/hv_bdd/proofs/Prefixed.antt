@@ -1,7 +1,7 @@
 -- What a reduced ordered list says of its first nodes: the next one has no fault, and all numbers
 -- are short.
 use Rattle.std.proofs.Common.{◌≡◌, ℕ, zero, suc, ◌<◌, ◌≤◌, ◌+◌, ◌-◌, ◌^◌, ◌∙◌, ◌&&◌, Bool, true}
-use Rattle.std.proofs.Common.{false, List, ◌∷◌, ◌++◌, None, Some, cond, eqb, get_or, ltb}
+use Rattle.std.proofs.Common.{false, List, ◌∷◌, ◌++◌, Option, None, Some, cond, eqb, get_or, ltb}
 use Rattle.std.proofs.Common.{length, refl, sym, ap, arith, inl, inr, subst}
 use Rattle.std.proofs.lemmas.Bool.{and_from, and_parts, cases_lt, eqb-true, lt-ltb, ne_eqb}
 use Rattle.std.proofs.lemmas.List.{get_or_append_left, get_or_at, get_or_default, length-append}
@@ -14,6 +14,7 @@ use Rattle.hv_bdd.specs.Working.NodeText.{list_over}
 use Rattle.hv_bdd.specs.Nodes.{NodeList, node_count}
 use Rattle.hv_bdd.specs.Order.{place}
 use Rattle.hv_bdd.specs.Reduced.{IsReduced, node_at, top}
+use Rattle.hv_bdd.specs.Working.Ordered.{same_place as place_alike}
 use Rattle.hv_bdd.specs.Working.Walking.{top_inner}
 use Rattle.hv_bdd.proofs.Built.{Passes}
 use Rattle.hv_bdd.proofs.Tripled.{same_node as node_by_parts}
@@ -48,12 +49,12 @@ none_from list node good =
     (ne_eqb node.low node.high good.apart)
     ∙ ap (λ t. cond t (Some N.Twin) None) good.new)))
 
-module _ (atoms : ℕ) (nodes more : List Node) (n : Node) where
+module _ (atoms : ℕ) (order : Option (List ℕ)) (nodes more : List Node) (n : Node) where
   abbrev short : NodeList
-  short = list_over atoms nodes
+  short = list_over atoms order nodes
 
   abbrev long : NodeList
-  long = list_over atoms (nodes ++ n ∷ more)
+  long = list_over atoms order (nodes ++ n ∷ more)
 
   size : length (nodes ++ n ∷ more) ≡ length nodes + suc (length more)
   size = length-append nodes (n ∷ more)
@@ -67,8 +68,7 @@ module _ (atoms : ℕ) (nodes more : List Node) (n : Node) where
       (omega arith)
 
   same_place : (a : ℕ) → place long a ≡ place short a
-  unfolding place
-  same_place a = refl
+  same_place a = place_alike atoms order nodes (nodes ++ n ∷ more) a
 
   old_top : (i : ℕ) → i < node_count short → top long i ≡ top short i
   old_top i within =
@@ -150,11 +150,11 @@ pub record IsShort (node : Node) : Type 0 where
   pub low : node.low < 10 ^ 18
   pub high : node.high < 10 ^ 18
 
-pub are_short : (atoms : ℕ) (nodes : List Node) → atoms < 10 ^ 18
-    → IsReduced (list_over atoms nodes) → All IsShort nodes
-are_short atoms nodes few reduced = λ k d less.
+pub are_short : (atoms : ℕ) (order : Option (List ℕ)) (nodes : List Node) → atoms < 10 ^ 18
+    → IsReduced (list_over atoms order nodes) → All IsShort nodes
+are_short atoms order nodes few reduced = λ k d less.
     let i = k + 2 in
-    let e : node_at (list_over atoms nodes) i ≡ get_or nodes k d =
+    let e : node_at (list_over atoms order nodes) i ≡ get_or nodes k d =
     ap (λ j. get_or nodes j (record { atom = 0; low = 0; high = 0 }))
     (let f : (k + 2) - 2 ≡ k = omega arith in f)
     ∙ get_or_default nodes k (record { atom = 0; low = 0; high = 0 }) d less in

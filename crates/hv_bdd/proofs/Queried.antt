@@ -89,28 +89,28 @@ module _ (list : NodeList) (task : Strips) (query : Query) (t : IsTask task)
         asked = λ k d less. askable (get_or it.asked k d).which (named k d less);
       }
 
-  by_answer : (found : Finding) (budget : ℕ) (state : List Bool)
+  by_answer : IsReduced list → (found : Finding) (budget : ℕ) (state : List Bool)
       → IsLiveAnswer found (tuple_setting_of list task query) (operands_of query) budget state
       → IsAnswer found (LivePass list task query budget) (atoms task)
       (is_clash task (in_node list) query) state
-  by_answer F.Over budget state says = says
-  by_answer F.Clash budget state says =
-      (says.0, says.1.0.0 ∙ size, clash_from list task query size state t says.1)
-  by_answer F.Empty budget state says = (
+  by_answer reduced F.Over budget state says = says
+  by_answer reduced F.Clash budget state says =
+      (says.0, says.1.0.0 ∙ size, clash_from list reduced task query size state t says.1)
+  by_answer reduced F.Empty budget state says = (
     says.0,
     λ x in_x.
         false_from_ne_true (is_clash task (in_node list) query x) (λ clash.
-        says.1 x (suits_from list task query size x t (in_x ∙ sym size) clash)),
+        says.1 x (suits_from list reduced task query size x t (in_x ∙ sym size) clash)),
   )
 
   -- so its answer is that of the query
-  pub answer_is : (s : TupleSearch) → s ≡ it
+  pub answer_is : (s : TupleSearch) → s ≡ it → IsReduced list
       → (found : Result Finding AllocError) (budget : ℕ) (state : List Bool)
       → IfOk found (λ f. IsLiveAnswer f s.setting s.asked budget state)
       → IfOk found (λ f.
       IsAnswer f (LivePass list task query budget) (atoms task)
       (is_clash task (in_node list) query) state)
-  answer_is s is (Ok found) budget state says =
-      by_answer found budget state
+  answer_is s is reduced (Ok found) budget state says =
+      by_answer reduced found budget state
       (subst (λ (x : TupleSearch). IsLiveAnswer found x.setting x.asked budget state) is says)
-  answer_is s is (Err e) budget state says = says
+  answer_is s is reduced (Err e) budget state says = says

@@ -139,7 +139,7 @@ module _ (s : TupleSearch) (search : IsTupleSearch s) (node : ℕ) (inside : Boo
     (
       size,
       λ v less.
-          let at = (order_of s.setting.list).atom_in v less in
+          let at = (order_of s.setting.list search.reduced).atom_in v less in
           let len = marks_size in
           ap (λ m. is_marked (bit_mark_of m (atom_at s.setting.list v))
           (has_atom state (atom_at s.setting.list v))) for.needed
@@ -159,10 +159,10 @@ module _ (s : TupleSearch) (search : IsTupleSearch s) (node : ℕ) (inside : Boo
       (subst (λ n. SpeakBelow n cube) (sym len) below)
       (λ a less.
       let within : a < s.setting.list.atoms = omega arith in
-      let in_order = (order_of s.setting.list).place_in a within in
+      let in_order = (order_of s.setting.list search.reduced).place_in a within in
       subst (λ x. is_marked (bit_mark_of (mark_literals cube (no_marks s.setting.list.atoms)) x)
       (has_atom state x) ≡ true)
-      ((order_of s.setting.list).there a within)
+      ((order_of s.setting.list search.reduced).there a within)
       (ap (λ m. is_marked (bit_mark_of m (atom_at s.setting.list (place s.setting.list a)))
       (has_atom state (atom_at s.setting.list (place s.setting.list a)))) (sym for.needed)
       ∙ suits.0.1 (place s.setting.list a) in_order))

@@ -31,6 +31,7 @@ pub record IsLevel (list : NodeList) (inside : Bool) (wanted : List Bool → Boo
 pub record StandsAlong (list : NodeList) (inside : Bool) (atoms : ℕ) (wanted : List Bool → Bool)
     (literals : List Literal) (bound : ℕ) (levels : List Level)
     (refuted : Bool) : Type 0 where
+  pub over : atoms ≡ list.atoms
   pub few : bound ≤ node_count list
   pub sizes : length literals < length levels
   pub each : (i : ℕ) (d : Level) → i ≤ length literals

@@ -5,6 +5,7 @@ pub mod NodeFile
 pub mod NodeText
 pub mod Nodes
 pub mod Order
+pub mod OrderLine
 pub mod Paths
 pub mod Reduced
 pub mod Tuples

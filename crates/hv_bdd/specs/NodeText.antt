@@ -1,7 +1,7 @@
 -- Node files: which pieces of a file are the text of a list of nodes, and otherwise their first
 -- fault.
-use Rattle.std.specs.Prelude.{◌≡◌, ◌++◌, ℕ, List, ◌∷◌, Some, Result, Ok, Err, codes, decimal}
-use Rattle.std.specs.Prelude.{length, map}
+use Rattle.std.specs.Prelude.{◌≡◌, ◌++◌, ℕ, List, [], ◌∷◌, Option, None, Some, Result, Ok, Err}
+use Rattle.std.specs.Prelude.{codes, decimal, length, map}
 use Rattle.hv_bytes.specs.declared.cutting.Limits.{Limits}
 use Rattle.hv_bytes.specs.Pieces.{Piece, as_pieces, pieces_of}
 use Rattle.hv_bdd.specs.declared.fault.NodesFault.{NodesFault}
@@ -9,9 +9,15 @@ use Rattle.hv_bdd.specs.declared.fault.NodesFault.TheVariants as F
 use Rattle.hv_bdd.specs.declared.node.Node.{Node}
 use Rattle.hv_bdd.specs.NodeFile.{fault_in, node_file}
 use Rattle.hv_bdd.specs.Nodes.{NodeList}
+use Rattle.hv_bdd.specs.OrderLine.{order_line}
 use Rattle.hv_bdd.specs.Reduced.{IsReduced}
 
--- the first line of a file with so many nodes
+-- the first lines of a file: where an order of the atoms is listed, its line
+abbrev pub first_lines : Option (List ℕ) → List (List ℕ)
+first_lines None = []
+first_lines (Some order) = order_line order ∷ []
+
+-- the line that says how many nodes follow
 abbrev pub header_line : ℕ → List ℕ
 header_line count = codes "nodes " ++ decimal count
 
@@ -19,10 +25,15 @@ header_line count = codes "nodes " ++ decimal count
 abbrev pub node_line : Node → List ℕ
 node_line node = decimal node.atom ++ 32 ∷ (decimal node.low ++ 32 ∷ decimal node.high)
 
+-- the lines of the text of a list of nodes
+abbrev pub node_lines : NodeList → List (List ℕ)
+node_lines list =
+    first_lines list.order ++ header_line (length list.nodes) ∷ map node_line list.nodes
+
 -- the pieces are the text of this list, which is reduced and ordered; so none of its lines is long
 pub record IsTextOf (pieces : List Piece) (list : NodeList) : Type 0 where
   pub reduced : IsReduced list
-  pub spelled : as_pieces (header_line (length list.nodes) ∷ map node_line list.nodes) ≡ pieces
+  pub spelled : as_pieces (node_lines list) ≡ pieces
 
 -- the same of a list over so many atoms
 abbrev pub AreTextOf : ℕ → List Piece → NodeList → Type 0

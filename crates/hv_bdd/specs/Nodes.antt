@@ -8,11 +8,17 @@ use Rattle.hv_bdd.specs.declared.node.Node.{Node}
 -- numbered from 2 on
 pub record NodeList : Type 0 where
   pub atoms : ℕ
+  -- the atoms in the order in which nodes ask for them; without one they rise
+  pub order : Option (List ℕ)
   pub nodes : List Node
 
--- the nodes 0 and 1 alone, over so many atoms: those of a task without a node file
+-- the nodes 0 and 1 alone, over so many atoms in rising order: those of a task without a node file
 abbrev pub no_nodes : ℕ → NodeList
-no_nodes atoms = record { atoms = atoms; nodes = [] }
+no_nodes atoms = record { atoms = atoms; order = None; nodes = [] }
+
+-- the same where the atoms come in this order
+abbrev pub no_nodes_by : ℕ → List ℕ → NodeList
+no_nodes_by atoms order = record { atoms = atoms; order = Some order; nodes = [] }
 
 -- how many nodes there are, 0 and 1 among them
 abbrev pub node_count : NodeList → ℕ

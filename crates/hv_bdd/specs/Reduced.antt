@@ -3,7 +3,7 @@ use Rattle.std.specs.Prelude.{◌≡◌, ◌<◌, ◌≤◌, ◌-◌, ℕ, Bool,
 use Rattle.std.specs.Prelude.{slice_index_or}
 use Rattle.hv_bdd.specs.declared.node.Node.{Node}
 use Rattle.hv_bdd.specs.Nodes.{NodeList, in_node, node_count}
-use Rattle.hv_bdd.specs.Order.{place}
+use Rattle.hv_bdd.specs.Order.{IsOrder, place}
 
 -- the listed node of this number
 abbrev pub node_at : NodeList → ℕ → Node
@@ -20,6 +20,8 @@ child list node bit = cond bit (node_at list node).high (node_at list node).low
 
 -- the list is reduced and ordered, and no longer than a node file may be
 pub record IsReduced (list : NodeList) : Type 0 where
+  -- its order is one of the atoms
+  pub ordered : IsOrder list
   -- each node asks for an atom of the task
   pub atom : (i : ℕ) → 2 ≤ i → i < node_count list → (node_at list i).atom < list.atoms
   -- its children are listed before it

@@ -7,6 +7,7 @@ use Rattle.hv_bdd.specs.declared.fault.NodeLimit.TheVariants as W
 
 -- the word of a kind of place
 abbrev pub kind_word : NodeKind → List ℕ
+kind_word K.Permutation = codes "permutation"
 kind_word K.Header = codes "header"
 kind_word K.Node = codes "node"
 kind_word K.Atom = codes "atom"

@@ -1,5 +1,4 @@
 -- Definitions that no public contract cites: those of private contracts and of proofs.
-pub mod Order
 pub mod Graphs
 pub mod Sets
 pub mod Marked
@@ -11,6 +10,7 @@ pub mod Turning
 pub mod Listing
 pub mod NodeText
 pub mod Ordered
+pub mod Inverse
 pub mod Walking
 pub mod Cubed
 pub mod Laws

@@ -1,21 +1,24 @@
 //! Lists of nodes of decision diagrams, and which states a node holds.
 
 ghost use Rattle.std.specs.Prelude.{◌≡◌, ◌<◌, ◌≤◌, ◌↔◌, ◌&&◌, None, Some, IfSome, IsTrue};
-ghost use Rattle.std.specs.Prelude.{MatchResult, OnErr, OnOk, length, nat_lt};
+ghost use Rattle.std.specs.Prelude.{IfOk, MatchResult, OnErr, OnOk, is_some, length, nat_lt};
 ghost use Rattle.hv_task.specs.Atoms.{IsNext};
 ghost use Rattle.hv_task.specs.State.{has_atom};
 ghost use Rattle.hv_bdd.specs.Building.{fault_of, is_later, plain_fault};
 ghost use Rattle.hv_bdd.specs.Working.Building.{as_node, with_node};
-ghost use Rattle.hv_bdd.specs.Nodes.{IsNode, in_node, no_nodes, node_count};
-ghost use Rattle.hv_bdd.specs.Order.{atom_at, place};
+ghost use Rattle.hv_bdd.specs.Working.NodeText.{node_start};
+ghost use Rattle.hv_bdd.specs.Working.Search.{HasPlaces};
+ghost use Rattle.hv_bdd.specs.Nodes.{IsNode, in_node, no_nodes, no_nodes_by, node_count};
+ghost use Rattle.hv_bdd.specs.Order.{IsOrder, atom_at, place};
 ghost use Rattle.hv_bdd.specs.Reduced.{AreOneSet, IsReduced, child, node_at, top};
 
 use crate::fault::NodeKind;
 use crate::marks::Held;
 use crate::node::Node;
 use crate::numbers::Triple;
+use crate::order::Order;
 use crate::set::DiagramSet;
-use hv_task::State;
+use hv_task::{AtomList, AtomSet, State};
 use std::alloc::{AllocError, Global};
 use std::marker::Model;
 
@@ -25,6 +28,8 @@ use std::marker::Model;
 #[derive(Drop)]
 pub struct Diagrams {
     atoms: u32,
+    // The order in which nodes ask for atoms, where it isn't the rising one.
+    order: Option<Order>,
     nodes: Vec<Node>,
 }
 
@@ -34,9 +39,13 @@ impl Model for Diagrams {
 
     ghost Value = { NodeList };
 
-    ghost view = { λ d. record { atoms = d.atoms; nodes = d.nodes.items } };
+    ghost view = { λ d. record { atoms = d.atoms; order = d.order; nodes = d.nodes.items } };
 
-    ghost invariant = { λ d. IsReduced record { atoms = d.atoms; nodes = d.nodes.items } };
+    ghost invariant = { λ d. IsReduced record {
+      atoms = d.atoms;
+      order = d.order;
+      nodes = d.nodes.items;
+    } };
 }
 
 impl Diagrams {
@@ -46,7 +55,30 @@ impl Diagrams {
     {
         Diagrams {
             atoms,
+            order: None,
             nodes: Vec::new(alloc),
+        }
+    }
+
+    // The same where the atoms come in this order.
+    pub(crate) fn by_order(alloc: Global, atoms: u32, order: Order) -> Diagrams
+        requires { IsOrder (no_nodes_by atoms order) }
+        ensures { result ≡ no_nodes_by atoms order }
+    {
+        Diagrams {
+            atoms,
+            order: Some(order),
+            nodes: Vec::new(alloc),
+        }
+    }
+
+    // The number of the line of the first node in a file of the list.
+    pub(crate) fn node_start(&self) -> u64
+        ensures { result ≡ node_start self.now.order }
+    {
+        match &self.order {
+            None => 2,
+            Some(_order) => 3,
         }
     }
 
@@ -132,25 +164,58 @@ impl Diagrams {
         requires { IsNode self.now node }
         ensures { result ≡ top self.now node }
     {
+        let atoms = self.atoms();
         if node < 2 {
-            self.atoms()
+            atoms
         } else {
             self.place(self.node(node).atom)
         }
     }
 
-    // The place of an atom in the order.
-    pub(crate) fn place(&self, atom: u32) -> u32
+    /// The place of an atom in the order, from 0.
+    pub fn place(&self, atom: u32) -> u32
+        requires { atom < self.now.atoms }
         ensures { result ≡ place self.now atom }
     {
-        atom
+        match &self.order {
+            None => atom,
+            Some(order) => order.place(atom),
+        }
     }
 
     // The atom at a place.
     pub(crate) fn atom_at(&self, place: u32) -> u32
+        requires { place < self.now.atoms }
         ensures { result ≡ atom_at self.now place }
     {
-        place
+        match &self.order {
+            None => place,
+            Some(order) => order.atom_at(place),
+        }
+    }
+
+    // Whether an order of the atoms is listed.
+    pub(crate) fn lists_order(&self) -> bool
+        ensures { result ≡ is_some self.now.order }
+    {
+        self.order.is_some()
+    }
+
+    // The places of the atoms that are held, in a list that rises.
+    pub(crate) fn places_of(&self, alloc: Global, held: &Held<'_>) -> Result<AtomList, AllocError>
+        requires { length held.now ≡ self.now.atoms }
+        ensures { IfOk result (HasPlaces self.now held.now) }
+    {
+        let _atoms = self.atoms();
+        let mut places = AtomSet::new(alloc);
+        let mut from = 0;
+        'sorting: loop {
+            let Some(atom) = held.next(from) else {
+                return places.take(alloc);
+            };
+            places.insert(self.place(atom))?;
+            from = atom + 1;
+        }
     }
 
     // The least place from this one on whose atom is held.
@@ -159,7 +224,10 @@ impl Diagrams {
         ensures next { IsNext (λ v. has_atom held.now (atom_at self.now v)) from result }
         ensures within { IfSome result (λ v. v < self.now.atoms) }
     {
-        held.next(from)
+        match &self.order {
+            None => held.next(from),
+            Some(order) => order.next(held, from, self.atoms),
+        }
     }
 
     // The node of these numbers, or the first of its faults that can be seen from it alone.
@@ -199,6 +267,7 @@ impl Diagrams {
 
     // Whether its children ask for later atoms.
     fn are_later(&self, node: &Node) -> bool
+        requires atom { node.now.atom < self.now.atoms }
         requires low { IsNode self.now node.now.low }
         requires high { IsNode self.now node.now.high }
         ensures { result

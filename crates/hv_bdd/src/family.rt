@@ -9,6 +9,7 @@ ghost use Rattle.hv_bdd.specs.Live.{LivePass, asked_of, changed_by, needed_by, o
 
 use crate::asked::Asked;
 use crate::diagrams::Diagrams;
+use crate::goal::Goal;
 use crate::marks::{Held, Marks};
 use crate::search::Search;
 use hv_sets::{Family, Finding, Operand, Query, Scratch};
@@ -38,13 +39,16 @@ impl Family for Diagrams {
         let atoms = task.atoms();
         scratch.reserve(atoms, 0, 0)?;
         let asked = operands_of(alloc, query)?;
+        let operands = asked.as_slice();
+        let held = Held::new(atoms, task.goal());
+        let goal = Goal::of(alloc, self, held, operands)?;
         let search = Search::new(
             self,
             Held::new(atoms, task.start()),
-            Held::new(atoms, task.goal()),
+            goal,
             needed_by(task, query.action),
             changed_by(task, query.action),
-            asked.as_slice(),
+            operands,
         );
         search.answer(alloc, task, query, budget, &mut scratch.state)
     }
@@ -71,6 +75,7 @@ impl Search<'_> {
             state.new) }
     {
         let _atoms = task.atoms();
+        let _nodes = self.count();
         self.find(alloc, budget, state)
     }
 }

@@ -12,7 +12,9 @@ use thiserror::Error;
 /// What isn't as it should be at a place of a node file, in the order in which a line is tested.
 #[derive(Clone, Copy, Debug, PartialEq, Eq)]
 pub enum NodeKind {
-    /// The first line doesn't say how many nodes follow.
+    /// The first line begins as that of an order, and doesn't have each atom once.
+    Permutation,
+    /// The first line, or that behind an order, doesn't say how many nodes follow.
     Header,
     /// The line isn't three decimals, or it isn't there.
     Node,
@@ -94,6 +96,7 @@ impl NodeKind {
         ensures { result.now ≡ kind_word self.now }
     {
         match self {
+            NodeKind::Permutation => "permutation",
             NodeKind::Header => "header",
             NodeKind::Node => "node",
             NodeKind::Atom => "atom",

@@ -39,6 +39,7 @@ impl<'a, A: Asker + Drop> FrontAsk<'a, A> {
     ) -> Result<FrontAsk<'a, A>, AllocError>
         requires node { IsNode nodes.now node }
         requires asked { A.stands asked }
+        requires over { A.atoms asked ≡ nodes.now.atoms }
         requires first { A.assumed asked ≡ [] }
         requires wanted { (s : List Bool) → A.wanted asked s ≡ true
             → in_node nodes.now node s ≡ inside }

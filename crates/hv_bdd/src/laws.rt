@@ -23,7 +23,7 @@ pub fn one_answer()
 pub fn text_by_lines()
     ensures text { (atoms : ℕ) (pieces : List Piece) (list : NodeList) → atoms < 2 ^ 32
         → AreTextOf atoms pieces list
-        → node_file atoms 0 pieces ≡ parsed list (length list.nodes + 1) [] }
+        → node_file atoms 0 pieces ≡ parsed list (length pieces) [] }
     ensures value { (atoms : ℕ) (pieces : List Piece) (list : NodeList) (n : ℕ)
         (rest : List Piece) → node_file atoms 0 pieces ≡ parsed list n rest
         → AreTextOf atoms pieces list }

@@ -78,6 +78,7 @@ pub(crate) fn deepen(
     spare: &mut Vec<u32>,
     literal: Literal,
 ) -> Result<bool, AllocError>
+    requires atom { literal.atom < side.now.nodes.now.atoms }
     requires bound { length places.old.items ≤ node_count side.now.nodes.now }
     requires depth { depth < length levels.old.items }
     requires start { (d : Level) → AreBelowBound (length places.old.items)
@@ -121,6 +122,7 @@ fn next_level(
     literal: Literal,
     next: &mut Level,
 ) -> Result<(), AllocError>
+    requires atom { literal.atom < side.now.nodes.now.atoms }
     requires bound { length places.old.items ≤ node_count side.now.nodes.now }
     requires start { AreBelowBound (length places.old.items) level.old.start.items }
     requires moved { AreBelowBound (length places.old.items) level.old.moved.items }

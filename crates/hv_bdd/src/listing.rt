@@ -1,7 +1,6 @@
 //! Nodes that come one after another, and are tested in blocks.
 
 ghost use Rattle.std.specs.Prelude.{◌≡◌, ◌<◌, ◌≤◌, ◌+◌, [], OnOk, length, map};
-ghost use Rattle.hv_bdd.specs.Nodes.{no_nodes};
 ghost use Rattle.hv_bdd.specs.Working.Building.{as_node};
 ghost use Rattle.hv_bdd.specs.Working.Chains.{IsChained};
 ghost use Rattle.hv_bdd.specs.Working.Listing.{IsEarliest, IsListing, ListsAll, MakesRoom};
@@ -31,13 +30,14 @@ pub struct Listing {
 
 impl Listing {
     /// No node yet.
-    pub fn new(alloc: Global, atoms: u32) -> Listing
+    pub fn new(alloc: Global, list: Diagrams) -> Listing
+        requires { list.nodes ≡ [] }
         ensures ready { IsListing result }
-        ensures list { result.list ≡ no_nodes atoms }
+        ensures list { result.list ≡ list }
         ensures waiting { result.waiting.items ≡ [] }
     {
         Listing {
-            list: Diagrams::none(alloc, atoms),
+            list,
             seen: Chains::new(alloc),
             waiting: Vec::new(alloc),
         }
@@ -113,7 +113,7 @@ fn add_all(
 {
     for triple in triples {
         if let Some(kind) = add(list, seen, triple)? {
-            let line = list.listed().len() as u64 + 2;
+            let line = list.listed().len() as u64 + list.node_start();
             return Err(ParseFault::Refused(line, NodeRefusal::Place(kind)));
         }
     }

@@ -1,28 +1,28 @@
 //! Node files from a shelf, line by line.
 
-ghost use Rattle.std.specs.Prelude.{◌≡◌, ◌+◌, ◌≤◌, ◌^◌, codes, IsTrue, IfOk, IfSome, IsErrOf};
+ghost use Rattle.std.specs.Prelude.{◌≡◌, ◌+◌, ◌≤◌, ◌^◌, [], IsTrue, IfOk, IfSome, IsErrOf};
 ghost use Rattle.hv_bytes.specs.Devices.{Rose};
 ghost use Rattle.hv_bytes.specs.Files.{bytes_of};
-ghost use Rattle.hv_grammar.specs.Parsers.{iterate, line};
+ghost use Rattle.hv_grammar.specs.Parsers.{line};
 ghost use Rattle.hv_grammar.specs.Positions.{CanRead};
 ghost use Rattle.hv_grammar.specs.Reads.{Reads};
 ghost use Rattle.hv_bdd.specs.declared.fault.NodeKind.TheVariants as K;
 ghost use Rattle.hv_bdd.specs.declared.fault.NodeRefusal.TheVariants as Refusal;
-ghost use Rattle.hv_bdd.specs.NodeFile.{next_node_line, node_file, node_in};
+ghost use Rattle.hv_bdd.specs.NodeFile.{behind_first, behind_order, first_in, node_file, node_in};
+ghost use Rattle.hv_bdd.specs.NodeFile.{so_many};
 ghost use Rattle.hv_bdd.specs.NodeText.{IsReadFrom};
-ghost use Rattle.hv_bdd.specs.Nodes.{no_nodes};
-ghost use Rattle.hv_bdd.specs.Working.NodeText.{as_nodes};
+ghost use Rattle.hv_bdd.specs.Working.NodeText.{IsBegun, as_nodes, node_start};
 
 use crate::diagrams::Diagrams;
 use crate::fault::{NodeKind, NodeLimit, NodeRefusal, NodesFault};
+use crate::first::{FirstLine, MOST_NODES, first_in};
 use crate::listing::Listing;
 use crate::numbers::{Triple, triple_of};
 use hv_bytes::{Limits, Shelf};
-use hv_grammar::{ParseFault, Reader, Source, end_of_input, next_line, numbered_line, open};
+use hv_grammar::{
+    ParseFault, Reader, Source, at_line, end_of_input, next_line, numbered_line, open,
+};
 use std::alloc::Global;
-
-/// The most nodes of a file.
-const MOST_NODES: u64 = 16_777_216;
 
 /// Reads the node file of this name, over so many atoms. It answers with the diagrams exactly where
 /// the file is the text of a reduced ordered list of nodes within the limits, and otherwise with
@@ -70,6 +70,65 @@ fn whole<R: Source>(
     ensures reads { Reads (node_file atoms) (R.position reader.old) (R.position reader.new) result }
     ensures atoms { IfOk result (λ list. list.atoms ≡ atoms) }
 {
+    let first = first_line(alloc, reader, atoms)?;
+    let list = behind_first(alloc, reader, atoms, first)?;
+    end_of_input(reader, NodeRefusal::Place(NodeKind::End))?;
+    Ok(list)
+}
+
+// The first line.
+fn first_line<R: Source>(
+    alloc: Global,
+    reader: &mut R,
+    atoms: u32,
+) -> Result<FirstLine, ParseFault<NodeRefusal>>
+    requires { CanRead (R.position reader.old) }
+    ensures reads { Reads (line (Refusal.Place K.Header) (first_in atoms))
+        (R.position reader.old) (R.position reader.new) result }
+    ensures next { IfOk result (λ _. (R.position reader.new).lines.number
+        ≡ (R.position reader.old).lines.number + 1) }
+    ensures begun { IfOk result (IsBegun atoms) }
+{
+    next_line(reader, NodeRefusal::Place(NodeKind::Header))?;
+    let said = first_in(alloc, reader.line(), atoms)?;
+    at_line(reader, said)
+}
+
+// What stands behind the first line.
+fn behind_first<R: Source>(
+    alloc: Global,
+    reader: &mut R,
+    atoms: u32,
+    first: FirstLine,
+) -> Result<Diagrams, ParseFault<NodeRefusal>>
+    requires can { CanRead (R.position reader.old) }
+    requires start { (R.position reader.old).lines.number ≡ 1 }
+    requires begun { IsBegun atoms first }
+    ensures reads { Reads (behind_first atoms first)
+        (R.position reader.old) (R.position reader.new) result }
+    ensures atoms { IfOk result (λ list. list.atoms ≡ atoms) }
+{
+    match first {
+        FirstLine::Listed(order) => {
+            behind_order(alloc, reader, Diagrams::by_order(alloc, atoms, order))
+        }
+        FirstLine::Counted(count) => nodes(alloc, reader, Diagrams::none(alloc, atoms), count),
+    }
+}
+
+// What stands behind an order, by which this list has no nodes yet.
+fn behind_order<R: Source>(
+    alloc: Global,
+    reader: &mut R,
+    list: Diagrams,
+) -> Result<Diagrams, ParseFault<NodeRefusal>>
+    requires can { CanRead (R.position reader.old) }
+    requires start { (R.position reader.old).lines.number + 2 ≡ node_start list.order }
+    requires none { list.nodes ≡ [] }
+    ensures reads { Reads (behind_order list)
+        (R.position reader.old) (R.position reader.new) result }
+    ensures atoms { IfOk result (λ read. read.atoms ≡ list.atoms) }
+{
     let count = numbered_line(
         reader,
         b"nodes ",
@@ -77,26 +136,25 @@ fn whole<R: Source>(
         NodeRefusal::Place(NodeKind::Header),
         NodeRefusal::Limit(NodeLimit::Nodes),
     )?;
-    let list = nodes(alloc, reader, atoms, count)?;
-    end_of_input(reader, NodeRefusal::Place(NodeKind::End))?;
-    Ok(list)
+    nodes(alloc, reader, list, count)
 }
 
-// So many nodes.
+// So many nodes, behind none.
 fn nodes<R: Source>(
     alloc: Global,
     reader: &mut R,
-    atoms: u32,
+    list: Diagrams,
     count: u64,
 ) -> Result<Diagrams, ParseFault<NodeRefusal>>
     requires can { CanRead (R.position reader.old) }
-    requires start { (R.position reader.old).lines.number ≡ 1 }
+    requires start { (R.position reader.old).lines.number + 1 ≡ node_start list.order }
     requires few { count ≤ 16777216 }
-    ensures reads { Reads (iterate count next_node_line (no_nodes atoms))
+    requires none { list.nodes ≡ [] }
+    ensures reads { Reads (so_many list count)
         (R.position reader.old) (R.position reader.new) result }
-    ensures atoms { IfOk result (λ list. list.atoms ≡ atoms) }
+    ensures atoms { IfOk result (λ read. read.atoms ≡ list.atoms) }
 {
-    let mut listing = Listing::new(alloc, atoms);
+    let mut listing = Listing::new(alloc, list);
     for done in 0..count {
         let _ = done;
         match node(reader) {

@@ -1,8 +1,10 @@
 //! The search through live tuples: how a tuple moves.
 
 ghost use Rattle.std.specs.Prelude.{◌≡◌, ◌<◌, ◌≤◌, ◌-◌, true, cond, length, option_map, IfOk};
-ghost use Rattle.std.specs.Prelude.{slice_index_or};
+ghost use Rattle.std.specs.Prelude.{IfSome, slice_index_or};
 ghost use Rattle.std.specs.List.{All};
+ghost use Rattle.hv_task.specs.Atoms.{IsNext};
+ghost use Rattle.hv_task.specs.State.{names_atom};
 ghost use Rattle.hv_sets.specs.declared.operand.Which.TheVariants as W;
 ghost use Rattle.hv_bdd.specs.Working.Graphs.{limit};
 ghost use Rattle.hv_bdd.specs.Live.{asks_goal, first_asked, graph_child, graph_top, is_marked};
@@ -13,8 +15,10 @@ ghost use Rattle.hv_bdd.specs.Tuples.{is_live, least, move_all, move_one, next};
 
 use crate::asked::Asked;
 use crate::diagrams::Diagrams;
+use crate::goal::Goal;
 use crate::marks::{Held, Marks};
 use hv_sets::Which;
+use hv_task::{AtomList, Atoms, Hint};
 use smallvec::SmallVec;
 use std::alloc::{AllocError, Global};
 use std::marker::Model;
@@ -36,7 +40,7 @@ pub(crate) struct Search<'a> {
     // The initial state.
     start: Held<'a>,
     // The atoms of the goal.
-    goal: Held<'a>,
+    goal: Goal<'a>,
     // The bit that the state needs at an atom, if it needs one.
     needed: Marks<'a>,
     // The bit of an atom after the action, if the action changes it.
@@ -45,7 +49,8 @@ pub(crate) struct Search<'a> {
 }
 
 impl<'a> Model for Search<'a> {
-    ghost use Rattle.hv_bdd.specs.Working.Search.{IsTupleSearch, TupleSearch};
+    ghost use Rattle.std.specs.Prelude.{IfSome};
+    ghost use Rattle.hv_bdd.specs.Working.Search.{HasPlaces, IsTupleSearch, TupleSearch};
 
     ghost Value = { TupleSearch };
 
@@ -53,7 +58,7 @@ impl<'a> Model for Search<'a> {
       setting = record {
         list = s.nodes.now;
         start = s.start;
-        goal = s.goal;
+        goal = s.goal.held;
         needed = s.needed;
         changed = s.changed;
       };
@@ -64,41 +69,42 @@ impl<'a> Model for Search<'a> {
       setting = record {
         list = s.nodes.now;
         start = s.start;
-        goal = s.goal;
+        goal = s.goal.held;
         needed = s.needed;
         changed = s.changed;
       };
       asked = s.asked.now;
-    } };
+    } × IfSome s.goal.places (HasPlaces s.nodes.now s.goal.held) };
 }
 
 impl<'a> Search<'a> {
-    ghost use Rattle.hv_bdd.specs.Working.Search.{IsAskable, IsTupleSearch};
+    ghost use Rattle.hv_bdd.specs.Working.Search.{HasPlaces, IsAskable, IsTupleSearch};
 
     /// The search for these operands.
     pub(crate) fn new(
         nodes: &'a Diagrams,
         start: Held<'a>,
-        goal: Held<'a>,
+        goal: Goal<'a>,
         needed: Marks<'a>,
         changed: Marks<'a>,
         asked: &'a [Asked],
     ) -> Search<'a>
-        requires { IsTupleSearch record {
+        requires tuples { IsTupleSearch record {
           setting = record {
             list = nodes.now;
             start = start;
-            goal = goal;
+            goal = goal.held;
             needed = needed;
             changed = changed;
           };
           asked = asked.now;
         } }
+        requires places { IfSome goal.places (HasPlaces nodes.now goal.held) }
         ensures setting { result.setting
             ≡ record {
               list = nodes.now;
               start = start.entry;
-              goal = goal.entry;
+              goal = goal.entry.held;
               needed = needed.entry;
               changed = changed.entry;
             } }
@@ -132,9 +138,9 @@ impl<'a> Search<'a> {
 
     /// The atom at a place.
     pub(crate) fn atom_at(&self, place: u32) -> u32
+        requires { place < self.now.setting.list.atoms }
         ensures atom { result ≡ atom_at self.now.setting.list place }
-        ensures within { place < self.now.setting.list.atoms
-            → result < self.now.setting.list.atoms }
+        ensures within { result < self.now.setting.list.atoms }
     {
         self.nodes.atom_at(place)
     }
@@ -218,9 +224,21 @@ impl Search<'_> {
         ensures { result
             ≡ first_asked (asks_goal self.now.setting) (self.now.setting.list.atoms - place) place }
     {
-        match self.nodes.next_place(&self.goal, place) {
+        match self.next_of_goal(place) {
             Some(next) => next + 2,
             None => 1,
+        }
+    }
+
+    // The least place from this one on whose atom is one of the goal.
+    fn next_of_goal(&self, from: u32) -> Option<u32>
+        requires { IsAskable self.now.setting W.Goal }
+        ensures next { IsNext (asks_goal self.now.setting) from result }
+        ensures within { IfSome result (λ v. v < self.now.setting.list.atoms) }
+    {
+        match &self.goal.places {
+            Some(places) => next_named(places, from),
+            None => self.nodes.next_place(&self.goal.held, from),
         }
     }
 
@@ -365,6 +383,14 @@ impl Search<'_> {
         }
         Ok(tuple)
     }
+}
+
+// The least of these places from this one on.
+fn next_named(places: &AtomList, from: u32) -> Option<u32>
+    ensures { IsNext (names_atom places.now) from result }
+{
+    let mut hint = Hint::default();
+    places.next(from, &mut hint)
 }
 
 fn or_else(mark: Option<bool>, bit: bool) -> bool

@@ -12,6 +12,7 @@ ghost use Rattle.hv_bdd.specs.Working.Laws as laws;
 use crate::asked::Asked;
 use crate::counts::path_count;
 use crate::diagrams::Diagrams;
+use crate::goal::Goal;
 use crate::marks::{Held, Marks};
 use crate::search::Search;
 use crate::walk::next;
@@ -142,7 +143,10 @@ fn find(
     let search = Search::new(
         nodes,
         Held::new(atoms, &none),
-        Held::new(atoms, &none),
+        Goal {
+            held: Held::new(atoms, &none),
+            places: None,
+        },
         Marks::signs(atoms, cube),
         Marks::none(atoms),
         slice::from_ref(&asked),

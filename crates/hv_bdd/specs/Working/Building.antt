@@ -10,4 +10,5 @@ as_node triple = record { atom = triple.atom; low = triple.low; high = triple.hi
 
 -- the list with one node more
 abbrev pub with_node : NodeList → Node → NodeList
-with_node list node = record { atoms = list.atoms; nodes = list.nodes ++ node ∷ [] }
+with_node list node =
+    record { atoms = list.atoms; order = list.order; nodes = list.nodes ++ node ∷ [] }

@@ -11,6 +11,7 @@ use Rattle.hv_bdd.specs.NodeFile.{with_next}
 use Rattle.hv_bdd.specs.Nodes.{NodeList}
 use Rattle.hv_bdd.specs.Working.Building.{as_node}
 use Rattle.hv_bdd.specs.Working.Chains.{IsChained}
+use Rattle.hv_bdd.specs.Working.NodeText.{node_start}
 
 -- a list of nodes, or the line of the first of them that is refused, and in which way
 abbrev pub Tried : Type 0
@@ -20,9 +21,13 @@ abbrev pub at_node_line : ℕ → Result NodeList NodeRefusal → Tried
 at_node_line line (Ok list) = Ok list
 at_node_line line (Err b) = Err (line, b)
 
--- the same with one node more: the first node stands in line 2
+-- the number of the line of the next node
+abbrev pub next_line_of : NodeList → ℕ
+next_line_of list = length list.nodes + node_start list.order
+
+-- the same with one node more
 abbrev pub then_listed : Tried → Node → Tried
-then_listed (Ok list) node = at_node_line (length list.nodes + 2) (with_next list node)
+then_listed (Ok list) node = at_node_line (next_line_of list) (with_next list node)
 then_listed (Err e) node = Err e
 
 -- the same with these nodes more
@@ -67,6 +72,7 @@ pub record KeepsNodes (old new : Listing) : Type 0 where
   pub same : tried_by new ≡ tried_by old
   pub size : read_count new ≡ read_count old
   pub atoms : new.list.atoms ≡ old.list.atoms
+  pub order : new.list.order ≡ old.list.order
 
 -- room was made for one more, or a node that was read is refused
 abbrev pub MakesRoom : Result (Unit {0}) (ParseFault NodeRefusal) → Listing → Listing → Type 0
@@ -84,6 +90,7 @@ pub record TakesNode (old : Listing) (node : Node) (new : Listing) : Type 0 wher
   pub more : tried_by new ≡ then_listed (tried_by old) node
   pub size : read_count new ≡ read_count old + 1
   pub atoms : new.list.atoms ≡ old.list.atoms
+  pub order : new.list.order ≡ old.list.order
 
 -- one more node was taken, or an earlier one is refused
 abbrev pub PutsNode : Result (Unit {0}) (ParseFault NodeRefusal) → Listing → Triple → Listing

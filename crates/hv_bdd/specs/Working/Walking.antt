@@ -33,8 +33,8 @@ module _ (list : NodeList) (reduced : IsReduced list) where
   pub top_less : (i : ℕ) → 2 ≤ i → i < node_count list → top list i < list.atoms
   top_less i le within =
       let e = top_inner list i le in
-      let less = (order_of list).place_in (node_at list i).atom (reduced.atom i le within) in omega
-      arith
+      let under = reduced.atom i le within in
+      let less = (order_of list reduced).place_in (node_at list i).atom under in omega arith
 
   pub top_upto : (i : ℕ) → i < node_count list → top list i ≤ list.atoms
   top_upto i within =
@@ -47,7 +47,7 @@ module _ (list : NodeList) (reduced : IsReduced list) where
   pub atom_at_top : (i : ℕ) → 2 ≤ i → i < node_count list
       → atom_at list (top list i) ≡ (node_at list i).atom
   atom_at_top i le within = ap (atom_at list) (top_inner list i le)
-      ∙ (order_of list).there (node_at list i).atom (reduced.atom i le within)
+      ∙ (order_of list reduced).there (node_at list i).atom (reduced.atom i le within)
 
   module _ (s : List Bool) where
     next_end : (i : ℕ) → i < 2 → next_node list s i ≡ i
@@ -105,7 +105,7 @@ module _ (list : NodeList) (reduced : IsReduced list) where
         | inr inner ↦
             let upto = top_upto i within in
             let other : (node_at list i).atom ≡ atom_at list v → ⊥ = λ same.
-            let e = ap (place list) same ∙ (order_of list).back v (omega arith) in
+            let e = ap (place list) same ∙ (order_of list reduced).back v (omega arith) in
             let f = top_inner list i inner in omega arith in
             let bit = get_or-set_other s (atom_at list v) (node_at list i).atom b false other in
             let below = child_less i (has_atom s (node_at list i).atom) inner within in

@@ -2,13 +2,13 @@ use Rattle.std.proofs.Common.{◌≡◌, ◌+◌, ◌∙◌, None, Some, Ok, Err
 use Rattle.std.proofs.Common.{length, map, subst, sym}
 use Rattle.std.specs.Prelude.{IfSome}
 use Rattle.std.proofs.lemmas.List.{drop_more, length_push}
-use Rattle.hv_bdd.specs.declared.node.Node.{Node}
 use Rattle.hv_bdd.specs.declared.numbers.Triple.{Triple}
 use Rattle.hv_bdd.specs.declared.fault.NodeRefusal.TheVariants as R
 use Rattle.hv_bdd.specs.Building.{fault_of}
 use Rattle.hv_bdd.specs.Nodes.{NodeList}
 use Rattle.hv_bdd.specs.Working.Building.{as_node, with_node}
-use Rattle.hv_bdd.specs.Working.Listing.{tried}
+use Rattle.hv_bdd.specs.Working.Listing.{next_line_of, tried}
+use Rattle.hv_bdd.specs.Working.NodeText.{node_start}
 use Rattle.hv_bdd.proofs.Deferred.{tried_bad, tried_next}
 use Rattle.hv_bdd.proofs.listing.add_all.Goals as goal
 
@@ -24,12 +24,17 @@ returns-in-Some-clause-lists c =
     c.in_ok-kind.ensures.refused in
     let bad : fault_of list (as_node t) ≡ Some c.in-Some.kind = sym c.in_ok-kind.ensures.fault
     ∙ c.in-Some.is in
+    let nodes = ap (λ (l : NodeList). length l.nodes) same in
+    let start = ap (λ (l : NodeList). node_start l.order) same in
+    let count = ap length c.listed.ensures in
+    let from = c.node_start.ensures in
     c.loop-triple.invariant.lists
     ∙ ap (λ (ts : List Triple). tried (Ok list) (map as_node ts))
     (drop_more triples k d c.loop-triple-test.true)
     ∙ tried_bad list (as_node t) (map as_node (drop (k + 1) triples)) c.in-Some.kind bad
-    ∙ ap (λ (ns : List Node). Err (length ns + 2, R.Place c.in-Some.kind))
-    (sym (c.listed.ensures ∙ ap (λ (l : NodeList). l.nodes) same))
+    ∙ ap (λ n. Err (n, R.Place c.in-Some.kind))
+    (let e : next_line_of list ≡ length c.listed.result.now + c.node_start.result =
+    omega arith in e)
 
 pub loop-triple-preserved : goal.loop-triple-preserved
 loop-triple-preserved c =

@@ -1,11 +1,12 @@
-use Rattle.std.proofs.Common.{◌+◌, ◌-◌, ◌∙◌, arith, subst, sym}
+use Rattle.std.proofs.Common.{◌+◌, ◌-◌, ◌∙◌, ap, arith, subst, sym}
 use Rattle.hv_grammar.specs.Parsers.{iterate}
 use Rattle.hv_grammar.proofs.Going.{Goes}
-use Rattle.hv_bdd.specs.NodeFile.{next_node_line}
-use Rattle.hv_bdd.specs.Nodes.{no_nodes}
+use Rattle.hv_bdd.specs.NodeFile.{next_node_line, so_many}
 use Rattle.hv_bdd.specs.Working.Building.{as_node}
 use Rattle.hv_bdd.specs.Working.Listing.{Tried, behind_tried, tried_by}
-use Rattle.hv_bdd.proofs.Deferred.{finished_atoms, goes_on, listed_total, node_stops, one_left}
+use Rattle.hv_bdd.specs.Working.NodeText.{node_start}
+use Rattle.hv_bdd.proofs.Deferred.{finished_atoms, goes_on, listed_order, listed_total, node_stops}
+use Rattle.hv_bdd.proofs.Deferred.{one_left}
 use Rattle.hv_bdd.proofs.read.nodes.Goals as goal
 
 pub loop-done-preserved : goal.loop-done-preserved
@@ -13,7 +14,7 @@ loop-done-preserved g c =
     let i = c.loop-done.invariant in
     let node = c.in-Ok.ensures in
     let put = c.in_ok-put-in-Ok.ensures in
-    let whole = iterate c.args.count next_node_line (no_nodes c.args.atoms) in
+    let whole = so_many c.args.list c.args.count in
     let old = g.R.Source.position c.args.reader.now in
     let new = g.R.Source.position c.node.new.reader in
     let left = c.args.count - (c.loop-done.done + 1) in
@@ -30,17 +31,20 @@ loop-done-preserved g c =
           (tried_by c.loop-done.listing) (c.args.count - c.loop-done.done) left i.goes
           (omega arith))
           node.reads (λ list is.
-          let size = listed_total c.loop-done.listing list is in omega arith));
+          let size = listed_total c.loop-done.listing list is in
+          let from = ap node_start (listed_order c.loop-done.listing list is ∙ i.order) in
+          omega arith));
       can = node.reads.can;
       ready = put.ready;
       total = let size = put.size in omega arith;
       number = omega arith;
       atoms = put.atoms ∙ i.atoms;
+      order = put.order ∙ i.order;
     }
 
 pub returns-in-Err-clause-reads : goal.returns-in-Err-clause-reads
 returns-in-Err-clause-reads g c =
-    let whole = iterate c.args.count next_node_line (no_nodes c.args.atoms) in
+    let whole = so_many c.args.list c.args.count in
     let old = g.R.Source.position c.args.reader.now in
     let mid = g.R.Source.position c.loop-done.reader in
     let left = c.args.count - (c.loop-done.done + 1) in
@@ -52,5 +56,6 @@ returns-in-Err-clause-reads g c =
 
 pub returns-clause-atoms : goal.returns-clause-atoms
 returns-clause-atoms g c =
-    finished_atoms c.loop-done.listing c.finish.result c.args.atoms c.loop-done.invariant.atoms
+    finished_atoms c.loop-done.listing c.finish.result c.args.list.atoms
+    c.loop-done.invariant.atoms
     c.finish.ensures

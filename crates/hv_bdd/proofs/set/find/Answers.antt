@@ -5,8 +5,8 @@ use Rattle.hv_bdd.proofs.Marked.{length-no_marks}
 use Rattle.hv_bdd.proofs.Within.{can_look}
 use Rattle.hv_bdd.proofs.set.find.Goals as goal
 
-pub new-search-requires : goal.new-search-requires
-new-search-requires c =
+pub new-search-requires-clause-tuples : goal.new-search-requires-clause-tuples
+new-search-requires-clause-tuples c =
     can_look _ c.args.node c.args.inside c.args.cube.now (record {
       needed = c.signs.ensures
           ∙ ap (λ n. mark_literals c.args.cube.now (no_marks n)) c.atoms-atoms.ensures.atoms;

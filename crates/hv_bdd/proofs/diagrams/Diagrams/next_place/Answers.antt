@@ -1,11 +1,25 @@
-use Rattle.std.proofs.Common.{◌<◌, subst}
-use Rattle.std.specs.Prelude.{IfSome}
-use Rattle.hv_bdd.specs.Order.{atom_at}
+use Rattle.std.proofs.Common.{subst, sym}
+use Rattle.hv_task.specs.Atoms.{IsNext}
+use Rattle.hv_task.specs.State.{has_atom}
+use Rattle.hv_bdd.specs.Nodes.{NodeList}
+use Rattle.hv_bdd.specs.Order.{atom_at, atom_by}
 use Rattle.hv_bdd.proofs.diagrams.Diagrams.next_place.Goals as goal
 
-pub returns : goal.returns
+pub returns-in-None-clause-next : goal.returns-in-None-clause-next
 unfolding atom_at
-returns c = record {
-  next = c.next.ensures.next;
-  within = subst (λ n. IfSome c.next.result (λ v. v < n)) c.requires c.next.ensures.within;
-}
+returns-in-None-clause-next c =
+    subst (λ (list : NodeList).
+    IsNext (λ v. has_atom c.args.held.now (atom_at list v)) c.args.from c.next.result)
+    c.self.view_is
+    (subst (λ o. IsNext (λ v. has_atom c.args.held.now (atom_by o v)) c.args.from c.next.result)
+    (sym c.in-None.is) c.next.ensures.next)
+
+pub returns-in-Some-clause-next : goal.returns-in-Some-clause-next
+unfolding atom_at
+returns-in-Some-clause-next c =
+    subst (λ (list : NodeList).
+    IsNext (λ v. has_atom c.args.held.now (atom_at list v)) c.args.from c.next-in-Some.result)
+    c.self.view_is
+    (subst (λ o. IsNext (λ v. has_atom c.args.held.now (atom_by o v)) c.args.from
+    c.next-in-Some.result)
+    (sym c.in-Some.is) c.next-in-Some.ensures.next)

@@ -7,9 +7,16 @@ use Rattle.hv_bdd.proofs.diagrams.Diagrams.push.Goals as goal
 
 pub invariant_of-self-2 : goal.invariant_of-self-2
 invariant_of-self-2 c =
-    let list : NodeList = record { atoms = c.self.inside.atoms; nodes = c.self.inside.nodes.items }
-    in
-    subst (λ nodes. IsReduced (record { atoms = c.self.inside.atoms; nodes = nodes }))
+    let list : NodeList = record {
+      atoms = c.self.inside.atoms;
+      order = c.self.inside.order;
+      nodes = c.self.inside.nodes.items;
+    } in
+    subst (λ nodes. IsReduced (record {
+      atoms = c.self.inside.atoms;
+      order = c.self.inside.order;
+      nodes = nodes;
+    }))
     (sym c.in_ok-push.ensures.items)
     (reduced_more list c.args.node c.self.invariant
     (passes_from list c.args.node (subst (λ (l : NodeList). fault_of l c.args.node ≡ None)

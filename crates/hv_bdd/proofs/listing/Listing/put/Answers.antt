@@ -19,4 +19,5 @@ returns-in-Ok c =
           ∙ ap (λ (t : Tried). then_listed t (as_node c.args.triple)) s.same;
       size = omega arith;
       atoms = s.atoms;
+      order = s.order;
     }

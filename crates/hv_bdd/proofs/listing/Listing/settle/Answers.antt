@@ -17,13 +17,15 @@ returns c =
     let few = c.requires.few in
     let size = a.size in
     let count = ap length waiting in
-    let gone = ap length none in (
+    let gone = ap length none in
+    let grew = tried_grew c.args.self.now.list (map as_node c.args.self.now.waiting.items)
+    c.add_all.new.list lists in (
       record {
         ready = record { seen = a.seen; few = omega arith };
         same = none_waits c.add_all.new.list c.clear.new.self.items none ∙ sym lists;
         size = omega arith;
-        atoms = (tried_grew c.args.self.now.list (map as_node c.args.self.now.waiting.items)
-            c.add_all.new.list lists).atoms;
+        atoms = grew.atoms;
+        order = grew.order;
       },
       none,
     )

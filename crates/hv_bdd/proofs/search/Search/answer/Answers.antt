@@ -5,4 +5,5 @@ pub returns : goal.returns
 returns c =
     answer_is c.args.self.now.setting.list c.args.task.now c.args.query.now
     c.atoms-atoms.ensures.task c.requires.task c.args.self.now c.requires.query
+    c.count-nodes.ensures.search.reduced
     c.find.result c.args.budget c.find.new.state c.find.ensures

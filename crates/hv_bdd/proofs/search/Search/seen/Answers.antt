@@ -4,6 +4,6 @@ use Rattle.hv_bdd.proofs.search.Search.seen.Goals as goal
 
 pub read-requires : goal.read-requires
 read-requires c =
-    let within = c.atom_at.ensures.within c.requires in
+    let within = c.atom_at.ensures.within in
     let same = ap (λ (s : TupleSearch). s.setting.list.atoms) c.self.view_is in
-    let size = c.self.invariant.changed in omega arith
+    let size = c.self.invariant.0.changed in omega arith
