@@ -2,6 +2,7 @@ pub mod GoodLines
 pub mod OneJudgement
 mod PieceReasons
 mod Standing
+mod TwoVersions
 mod Told
 mod Faults
 pub mod Benches

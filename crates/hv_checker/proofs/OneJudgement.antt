@@ -6,11 +6,12 @@ use Rattle.hv_lines.specs.Spelling.{Spells, IsSkipped}
 use Rattle.hv_lines.specs.Good.{IsGood, IsRefutedBy}
 use Rattle.hv_lines.specs.Judged.{Accepts, Concludes, IsReason, IsRefused, IsShownBy}
 use Rattle.hv_lines.specs.Judged.{IsJudgedUnsolvable, IsInconclusive, Judged, Judgement, LineText}
-use Rattle.hv_lines.specs.Judged.{Passes, outline_of}
+use Rattle.hv_lines.specs.Judged.{JudgedInOrder, Passes, outline_of}
 use Rattle.hv_lines.specs.Judged as J
 use Rattle.hv_lines.specs.Order.{Test, without_state}
 use Rattle.hv_lines.specs.Order as O
 use Rattle.hv_lines.specs.Setting.{Setting}
+use Rattle.hv_lines.specs.Versions.{judged_whole}
 use Rattle.hv_lines.specs.declared.line.Line.{Line}
 use Rattle.hv_lines.specs.declared.reason.Clash.{Clash}
 use Rattle.hv_lines.specs.declared.reason.Reason.{Reason}
@@ -28,11 +29,11 @@ rest_of [] = []
 rest_of (x ∷ xs) = xs
 
 -- of two cuts of a list at an item, they are one, or the one is in the front of the other
-Cuts : {X : Type 0} → List X → X → List X → X → Type 0
+unfoldable pub Cuts : {X : Type 0} → List X → X → List X → X → Type 0
 Cuts {X} f b g c = ((f ≡ g) × (b ≡ c)) ⊎
     (((more : List X) × (f ≡ g ++ c ∷ more)) ⊎ ((more : List X) × (g ≡ f ++ b ∷ more)))
 
-cut_cases : {X : Type 0} → (f g : List X) (b c : X) (r s : List X) → f ++ b ∷ r ≡ g ++ c ∷ s
+pub cut_cases : {X : Type 0} → (f g : List X) (b c : X) (r s : List X) → f ++ b ∷ r ≡ g ++ c ∷ s
     → Cuts f b g c
 unfolding Cuts first_of rest_of
 cut_cases [] [] b c r s h = inl (refl, ap (λ xs. first_of b xs) h)
@@ -77,7 +78,7 @@ module _ (setting : Setting) where
   good_passes lines bytes line spells good test = inr (line, spells, good test)
 
   -- a piece with a reason isn't accepted
-  not_accepted : (older : List LineText) (bad : LineText) (lines all : List Line) (r : Reason)
+  pub not_accepted : (older : List LineText) (bad : LineText) (lines all : List Line) (r : Reason)
       → Accepts setting older lines
       → IsReason setting lines bad r → Accepts setting (bad ∷ older) all → ⊥
   not_accepted older None lines all r accepts reason takes = takes
@@ -91,7 +92,7 @@ module _ (setting : Setting) where
       (λ ls. IsGood setting ls line) (accepts_once older before lines takes accepts) good))
 
   -- what is accepted of a list is begun by what is accepted of a beginning
-  begins_with : (newer older : List LineText) (all : List Line)
+  pub begins_with : (newer older : List LineText) (all : List Line)
       → Accepts setting (newer ++ older) all
       → (lines : List Line) × Accepts setting older lines
   begins_with [] older all accepts = (all, accepts)
@@ -108,7 +109,7 @@ module _ (setting : Setting) where
       ∙ append_assoc (reverse more) (bad ∷ []) (reverse front))
 
   -- no list with a refused piece is accepted
-  never : (front more : List LineText) (bad : LineText) (lines all : List Line) (r : Reason)
+  pub never : (front more : List LineText) (bad : LineText) (lines all : List Line) (r : Reason)
       → Accepts setting (reverse front) lines → IsReason setting lines bad r
       → Accepts setting (reverse (front ++ bad ∷ more)) all → ⊥
   never front more bad lines all r accepts reason takes =
@@ -125,7 +126,7 @@ module _ (setting : Setting) where
       (subst (λ ps. Accepts setting (reverse ps) all) refused.cut takes)
 
   -- the counterexamples to what a piece spells are one, but for the state
-  shown_once : (lines : List Line) (piece : LineText) (a b : Clash)
+  pub shown_once : (lines : List Line) (piece : LineText) (a b : Clash)
       → IsShownBy setting lines piece a → IsShownBy setting lines piece b
       → without_state (R.False a) ≡ without_state (R.False b)
   shown_once lines None a b x y = absurd x
@@ -164,21 +165,26 @@ module _ (setting : Setting) where
       (accepts_once (reverse pieces) yes_so.lines open_so.lines yes_so.accepted open_so.accepted)
       yes_so.concludes)
 
+  in_order_once : (pieces : List LineText) (a b : Judgement) → JudgedInOrder setting pieces a
+      → JudgedInOrder setting pieces b
+      → outline_of a ≡ outline_of b
+  in_order_once pieces J.Unsolvable J.Unsolvable x y = refl
+  in_order_once pieces J.Unsolvable (J.Refused q s) x y = absurd
+      (refused_alone pieces q s x.lines y x.accepted)
+  in_order_once pieces J.Unsolvable J.NoConclusion x y = absurd (yes_or_open pieces x y)
+  in_order_once pieces (J.Refused p r) J.Unsolvable x y = absurd
+      (refused_alone pieces p r y.lines x y.accepted)
+  in_order_once pieces (J.Refused p r) (J.Refused q s) x y =
+      let same = refused_once pieces p q r s x y in
+      ap (λ n. J.Refused n (without_state r)) same.0 ∙ ap (λ t. J.Refused q t) same.1
+  in_order_once pieces (J.Refused p r) J.NoConclusion x y = absurd
+      (refused_alone pieces p r y.lines x y.accepted)
+  in_order_once pieces J.NoConclusion J.Unsolvable x y = absurd (yes_or_open pieces y x)
+  in_order_once pieces J.NoConclusion (J.Refused q s) x y = absurd
+      (refused_alone pieces q s x.lines y x.accepted)
+  in_order_once pieces J.NoConclusion J.NoConclusion x y = refl
+
   pub judged_once : (pieces : List LineText) (a b : Judgement) → Judged setting pieces a
       → Judged setting pieces b
       → outline_of a ≡ outline_of b
-  judged_once pieces J.Unsolvable J.Unsolvable x y = refl
-  judged_once pieces J.Unsolvable (J.Refused q s) x y = absurd
-      (refused_alone pieces q s x.lines y x.accepted)
-  judged_once pieces J.Unsolvable J.NoConclusion x y = absurd (yes_or_open pieces x y)
-  judged_once pieces (J.Refused p r) J.Unsolvable x y = absurd
-      (refused_alone pieces p r y.lines x y.accepted)
-  judged_once pieces (J.Refused p r) (J.Refused q s) x y =
-      let same = refused_once pieces p q r s x y in
-      ap (λ n. J.Refused n (without_state r)) same.0 ∙ ap (λ t. J.Refused q t) same.1
-  judged_once pieces (J.Refused p r) J.NoConclusion x y = absurd
-      (refused_alone pieces p r y.lines x y.accepted)
-  judged_once pieces J.NoConclusion J.Unsolvable x y = absurd (yes_or_open pieces y x)
-  judged_once pieces J.NoConclusion (J.Refused q s) x y = absurd
-      (refused_alone pieces q s x.lines y x.accepted)
-  judged_once pieces J.NoConclusion J.NoConclusion x y = refl
+  judged_once pieces a b x y = in_order_once (judged_whole pieces) a b x y

@@ -8,5 +8,6 @@ use Rattle.hv_checker.specs.declared.stop.Stop.TheVariants as S
 abbrev pub stop_after : Stop → Fed → Stop
 stop_after before F.Skipped = before
 stop_after before F.Good = before
+stop_after before F.Marked = before
 stop_after before (F.Refused reason) = S.Refused reason
 stop_after before F.Stopped = before

@@ -8,31 +8,39 @@ ghost use Rattle.hv_lines.specs.Meaning.{AllTrue, AreTrue};
 ghost use Rattle.hv_lines.specs.Good.{AreGood};
 ghost use Rattle.hv_lines.specs.Judged.{Concludes, LineText};
 ghost use Rattle.hv_lines.specs.Setting.{most_budget, setting_of};
+ghost use Rattle.hv_lines.specs.Versions.{part_after};
+ghost use Rattle.hv_lines.specs.declared.part.Part.TheVariants as P;
 ghost use Rattle.hv_checker.specs.Stopping.{stop_after};
 ghost use Rattle.hv_checker.specs.declared.stop.Stop.TheVariants as S;
 
 use crate::judge::Bench;
+use crate::marks::{is_mark, judged_as, part_after};
 use crate::piece::{End, Fed, Piece};
 use crate::stop::Stop;
 use hv_bdd::Diagrams;
-use hv_lines::{Reason, Statement, Table};
+use hv_lines::{Part, Reason, Statement, Table};
 use hv_proof_text::LineReader;
 use hv_task::Task;
 use std::alloc::{AllocError, Global};
 use std::marker::Model;
 
 /// Judges the lines of a proof one after another, for a task, the nodes of a node file and a
-/// budget. It keeps the accepted lines, the number of pieces that it was fed, and the refusal or
-/// want of memory that it met.
+/// budget. It keeps the accepted lines, the number of pieces that it was fed, the version of the
+/// proof and whether its line `end` was passed, and the refusal or want of memory that it met.
 #[derive(Drop)]
 pub struct Checker<'a> {
     bench: Bench<'a>,
     reader: LineReader,
     fed: u64,
+    part: Part,
     stop: Stop,
+    // Why a closed proof without its line `end` is refused: `reason` lends it.
+    missing_end: Reason,
 }
 
 impl<'a> Model for Checker<'a> {
+    ghost use Rattle.std.specs.Prelude.{◌≡◌, ◌≤◌, ◌^◌};
+    ghost use Rattle.hv_lines.specs.declared.reason.Reason.TheVariants as R;
     ghost use Rattle.hv_checker.specs.Stands.{CheckerState};
 
     ghost Value = { CheckerState };
@@ -41,8 +49,11 @@ impl<'a> Model for Checker<'a> {
       setting = c.bench.setting;
       lines = c.bench.lines;
       fed = c.fed;
+      part = c.part;
       stop = c.stop;
     } };
+
+    ghost invariant = { λ c. (c.fed ≤ 2 ^ 62) × (c.missing_end ≡ R.Grammar) };
 }
 
 impl<'a> Checker<'a> {
@@ -64,6 +75,7 @@ impl<'a> Checker<'a> {
         ensures setting { IfOk result (λ c. c.setting ≡ setting_of task.now diagrams.now budget) }
         ensures lines { IfOk result (λ c. c.lines ≡ []) }
         ensures fed { IfOk result (λ c. c.fed ≡ 0) }
+        ensures part { IfOk result (λ c. c.part ≡ P.AtStart) }
         ensures stop { IfOk result (λ c. c.stop ≡ S.Going) }
         ensures stands { IfOk result (λ c. Stands c []) }
     {
@@ -71,7 +83,9 @@ impl<'a> Checker<'a> {
             bench: Bench::new(alloc, task, diagrams, budget)?,
             reader: LineReader::new(alloc),
             fed: 0,
+            part: Part::AtStart,
             stop: Stop::Going,
+            missing_end: Reason::Grammar,
         })
     }
 
@@ -83,13 +97,18 @@ impl<'a> Checker<'a> {
         self.fed
     }
 
-    /// Judges one more piece. After a refusal and after want of memory the accepted lines are as
-    /// before the call, and every later piece is answered by `Stopped`.
+    /// Judges one more piece. The marks of a closed proof are its line 1 `helve 2` and its first
+    /// line `end` behind that; behind this one only empty lines and comments may come. After a
+    /// refusal and after want of memory the accepted lines are as before the call, and every later
+    /// piece is answered by `Stopped`.
     pub fn feed(&mut self, piece: Piece<'_>) -> Result<Fed, AllocError>
         requires { self.old.fed < 2 ^ 62 }
         ensures same { self.new.setting ≡ self.old.setting }
         ensures answers { self.old.stop ≡ S.Going → IfOk result (λ fed.
-            FeedsOn self.old.setting self.old.lines self.new.lines (text_of piece.entry) fed) }
+            FeedsOn self.old.setting self.old.part self.old.lines self.new.lines
+            (text_of piece.entry) fed) }
+        ensures part { self.old.stop ≡ S.Going
+            → self.new.part ≡ part_after self.old.part (text_of piece.entry) }
         ensures stop { IfOk result (λ fed. self.new.stop ≡ stop_after self.old.stop fed) }
         ensures stopped { self.old.stop ≢ S.Going → (result ≡ Ok Fed.Stopped)
             × (self.new ≡ self.old) }
@@ -104,7 +123,12 @@ impl<'a> Checker<'a> {
             return Ok(Fed::Stopped);
         }
         self.fed += 1;
-        match self.bench.accept(&mut self.reader, piece) {
+        let part = self.part;
+        self.part = part_after(part, piece);
+        if is_mark(part, piece) {
+            return Ok(Fed::Marked);
+        }
+        match self.bench.accept(&mut self.reader, judged_as(part, piece)) {
             Ok(outcome) => {
                 self.stop = outcome.stop;
                 Ok(outcome.fed)
@@ -116,7 +140,8 @@ impl<'a> Checker<'a> {
         }
     }
 
-    /// What is said of the pieces fed so far as a whole proof.
+    /// What is said of the pieces fed so far as a whole proof. While a closed proof has no line
+    /// `end` and nothing was refused, it is refused at the next piece, as no line of a proof.
     pub fn end(&self) -> End
         ensures judged { (pieces : List LineText) → Stands self.now pieces
             → SaysEnd self.now pieces result }
@@ -127,7 +152,9 @@ impl<'a> Checker<'a> {
             Stop::Refused(_) => End::Refused(self.fed),
             Stop::Memory => End::Memory,
             Stop::Going => {
-                if concludes(self.bench.table()) {
+                if is_before_end(self.part) {
+                    End::Refused(self.fed + 1)
+                } else if concludes(self.bench.table()) {
                     End::Unsolvable
                 } else {
                     End::NoConclusion
@@ -136,12 +163,13 @@ impl<'a> Checker<'a> {
         }
     }
 
-    /// Why a piece was refused, where one was.
+    /// Why a piece was refused, where one was, or why the pieces fed so far are as a whole proof.
     pub fn reason(&self) -> Option<&Reason>
         ensures { option_copied result ≡ option_map (λ r. r.reason) (refusal_of self.now) }
     {
         match &self.stop {
             Stop::Refused(reason) => Some(reason),
+            Stop::Going if is_before_end(self.part) => Some(&self.missing_end),
             Stop::Going | Stop::Memory => None,
         }
     }
@@ -163,6 +191,16 @@ fn is_going(stop: &Stop) -> bool
     match stop {
         Stop::Going => true,
         Stop::Refused(_) | Stop::Memory => false,
+    }
+}
+
+/// Whether a closed proof is read, but not its line `end`.
+fn is_before_end(part: Part) -> bool
+    ensures { IsTrue result ↔ (part ≡ P.BeforeEnd) }
+{
+    match part {
+        Part::BeforeEnd => true,
+        Part::AtStart | Part::Open | Part::PastEnd => false,
     }
 }
 

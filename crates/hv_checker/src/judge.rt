@@ -7,9 +7,8 @@ ghost use Rattle.hv_lines.specs.Good.{AreGood, IsGood};
 ghost use Rattle.hv_lines.specs.Working.Good.{IsFormed, IsReasonOf};
 ghost use Rattle.hv_lines.specs.Setting.{setting_of};
 ghost use Rattle.hv_lines.specs.Working.Setting.{IsSetting};
-ghost use Rattle.hv_checker.specs.Heard.{FeedsOn};
 ghost use Rattle.hv_checker.specs.Working.Heard.{IsBasicFault, IsLineFault, IsHeard, IsJudgedLine};
-ghost use Rattle.hv_checker.specs.Working.Heard.{fault_by};
+ghost use Rattle.hv_checker.specs.Working.Heard.{TakesOn, fault_by};
 ghost use Rattle.hv_checker.specs.Stopping.{stop_after};
 ghost use Rattle.hv_checker.specs.Texts.{text_of};
 ghost use Rattle.hv_checker.specs.declared.stop.Stop.TheVariants as S;
@@ -115,7 +114,7 @@ impl Bench<'_> {
         piece: Piece<'_>,
     ) -> Result<Outcome, AllocError>
         ensures setting { self.new.setting ≡ self.old.setting }
-        ensures accepted { IfOk result (λ o. FeedsOn self.old.setting
+        ensures accepted { IfOk result (λ o. TakesOn self.old.setting
             self.old.lines self.new.lines (text_of piece.entry) o.fed) }
         ensures stop { IfOk result (λ o. o.stop ≡ stop_after S.Going o.fed) }
         ensures lines { OnErr result (self.new.lines ≡ self.old.lines) }

@@ -1,8 +1,13 @@
-//! That pieces have one judgement, as the contract of a function that does nothing.
+//! Laws of judging, as contracts of functions that do nothing.
 
-ghost use Rattle.std.specs.Prelude.{◌≡◌, List};
-ghost use Rattle.hv_lines.specs.Judged.{Judged, Judgement, LineText, outline_of};
+ghost use Rattle.std.specs.Prelude.{◌≡◌, ◌↔◌, ◌++◌, ◌∷◌, [], List, Some};
+ghost use Rattle.std.specs.List.{All};
+ghost use Rattle.hv_lines.specs.Judged.{IsPassedOver, Judged, JudgedInOrder, Judgement, LineText};
+ghost use Rattle.hv_lines.specs.Judged.{outline_of};
 ghost use Rattle.hv_lines.specs.Setting.{Setting};
+ghost use Rattle.hv_lines.specs.Versions.{first_mark, last_mark, part_of};
+ghost use Rattle.hv_lines.specs.declared.reason.Reason.TheVariants as R;
+ghost use Rattle.hv_checker.specs.Versions.{JudgedUpTo, NoneEnds, proof_version, reason_behind};
 
 /// Does nothing: its contract states that a list of pieces is judged in one way. Where two
 /// judgements hold of it, they are one, but for the state of a counterexample: the place of the
@@ -12,4 +17,33 @@ pub fn one_judgement()
     ensures { (setting : Setting) (pieces : List LineText) (a b : Judgement)
         → Judged setting pieces a
         → Judged setting pieces b → outline_of a ≡ outline_of b }
+{}
+
+/// Does nothing: its contract states how a proof is judged by its version.
+///
+/// It has version 2 exactly where its line 1 is `helve 2`. A proof of version 1 is judged line by
+/// line. In version 2 line 1 and the first line `end` are passed over, as empty lines are, and the
+/// lines between them are judged line by line. A line behind `end` that isn't skipped is refused,
+/// as too long or as no line of a proof. Where no line is `end`, what would come behind the last
+/// line is refused, as no line of a proof. In both cases an earlier line that isn't good is refused
+/// in its place.
+pub fn two_versions()
+    ensures version { (pieces : List LineText) → (proof_version (part_of pieces) ≡ 2)
+        ↔ ((rest : List LineText) × (pieces ≡ Some first_mark ∷ rest)) }
+    ensures first { (setting : Setting) (pieces : List LineText) (judgement : Judgement)
+        → proof_version (part_of pieces) ≡ 1
+        → Judged setting pieces judgement ↔ JudgedInOrder setting pieces judgement }
+    ensures second { (setting : Setting) (body quiet : List LineText) (judgement : Judgement)
+        → NoneEnds body → All IsPassedOver quiet
+        → Judged setting (Some first_mark ∷ body ++ Some last_mark ∷ quiet) judgement
+        ↔ JudgedInOrder setting (Some [] ∷ body) judgement }
+    ensures behind { (setting : Setting) (body quiet rest : List LineText) (bad : LineText)
+        (judgement : Judgement)
+        → NoneEnds body → All IsPassedOver quiet → (IsPassedOver bad → ⊥)
+        → Judged setting (Some first_mark ∷ body ++ Some last_mark ∷ quiet ++ bad ∷ rest) judgement
+        ↔ JudgedUpTo setting (Some [] ∷ body ++ Some [] ∷ quiet) (reason_behind bad) judgement }
+    ensures unended { (setting : Setting) (body : List LineText) (judgement : Judgement)
+        → NoneEnds body
+        → Judged setting (Some first_mark ∷ body) judgement
+        ↔ JudgedUpTo setting (Some [] ∷ body) R.Grammar judgement }
 {}

@@ -5,11 +5,12 @@ pub mod checker;
 mod conditions;
 mod judge;
 pub mod laws;
+mod marks;
 pub mod piece;
 pub mod stop;
 
 pub use checker::Checker;
 pub use hv_lines::Reason;
-pub use laws::one_judgement;
+pub use laws::{one_judgement, two_versions};
 pub use piece::{End, Fed, Piece};
 pub use stop::Stop;

@@ -17,6 +17,8 @@ pub enum Piece<'b> {
 pub enum Fed {
     /// An empty line or a comment.
     Skipped,
+    /// The first line of a closed proof, `helve 2`, or its last one, `end`.
+    Marked,
     /// The line is good, and was accepted.
     Good,
     /// The line isn't good, for this reason. Every later piece is answered by `Stopped`.
@@ -31,7 +33,7 @@ pub enum End {
     /// Every line is good, and one says that the task is unsolvable.
     Unsolvable,
     /// The piece with this number, counted from 1, is the first that isn't good; `Checker::reason`
-    /// says why.
+    /// says why. Where a closed proof has no line `end`, it is the one behind the last piece.
     Refused(u64),
     /// Every line is good, and none says that the task is unsolvable.
     NoConclusion,

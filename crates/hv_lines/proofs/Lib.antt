@@ -15,6 +15,7 @@ pub mod Named
 pub mod Truth
 pub mod Ready
 pub mod Judging
+pub mod Versions
 pub mod Lengths
 pub mod Brief
 pub mod Budgets

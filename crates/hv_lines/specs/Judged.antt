@@ -8,6 +8,7 @@ use Rattle.hv_lines.specs.Good.{IsGood, IsRefutedBy, LinePasses}
 use Rattle.hv_lines.specs.Order.{Test, IsReasonBy, without_state}
 use Rattle.hv_lines.specs.Order as O
 use Rattle.hv_lines.specs.Setting.{Setting}
+use Rattle.hv_lines.specs.Versions.{judged_whole}
 use Rattle.hv_lines.specs.declared.line.Line.{Line}
 use Rattle.hv_lines.specs.declared.line.Statement.TheVariants as T
 use Rattle.hv_lines.specs.declared.reason.Clash.{Clash}
@@ -87,11 +88,15 @@ pub data Judgement : Type 0 where
   Refused : ℕ → Reason → Judgement
   NoConclusion : Judgement
 
--- what is said of a list of pieces
+-- what is said of pieces that are judged in order, as those of an open proof are
+abbrev pub JudgedInOrder : Setting → List LineText → Judgement → Type 0
+JudgedInOrder setting pieces Unsolvable = IsJudgedUnsolvable setting pieces
+JudgedInOrder setting pieces (Refused place reason) = IsRefused setting pieces place reason
+JudgedInOrder setting pieces NoConclusion = IsInconclusive setting pieces
+
+-- what is said of the pieces of a proof, open or closed
 abbrev pub Judged : Setting → List LineText → Judgement → Type 0
-Judged setting pieces Unsolvable = IsJudgedUnsolvable setting pieces
-Judged setting pieces (Refused place reason) = IsRefused setting pieces place reason
-Judged setting pieces NoConclusion = IsInconclusive setting pieces
+Judged setting pieces judgement = JudgedInOrder setting (judged_whole pieces) judgement
 
 -- what is said of the bytes of a proof, cut into lines; a line that is long by the limits is the
 -- last piece, and is refused

@@ -12,6 +12,7 @@ pub mod Mixed
 pub mod Verdicts
 pub mod Order
 pub mod Good
+pub mod Versions
 pub mod Judged
 pub mod Drafts
 pub mod Pruning

@@ -11,6 +11,8 @@ pub mod family;
 pub mod line;
 /// What pruners note.
 pub mod note;
+/// How far a proof was read.
+pub mod part;
 /// The premises of a line.
 pub mod premises;
 /// Pruners: they show of states that these are dead.
@@ -29,6 +31,7 @@ pub use draft::{Draft, conclusion};
 pub use family::FormulaFamily;
 pub use line::{Acts, Constant, Expr, Line, Statement, Word};
 pub use note::Note;
+pub use part::Part;
 pub use premises::Premises;
 pub use pruner::Pruner;
 pub use reason::{Clash, Reason};

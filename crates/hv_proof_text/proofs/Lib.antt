@@ -6,5 +6,6 @@ pub mod LineFields
 pub mod LineForms
 pub mod ListedForms
 pub mod ReadBack
+pub mod ClosedBack
 pub mod Rising
 pub mod TokenLists

@@ -18,8 +18,10 @@ use Rattle.hv_lines.specs.Judged.{Accepts, Concludes, JudgedBytes, LineText, Uns
 use Rattle.hv_lines.specs.Order as O
 use Rattle.hv_lines.specs.Setting.{Setting}
 use Rattle.hv_lines.specs.Spelling.{IsSpelled, fields_of, proof_text, spelling_of}
+use Rattle.hv_lines.specs.Versions.{judged_whole}
 use Rattle.hv_lines.specs.declared.line.Line.{Line}
 use Rattle.hv_lines.proofs.Drafting.{good_of}
+use Rattle.hv_lines.proofs.Versions.{none_first, open_whole}
 use Rattle.hv_proof_text.specs.Working.Tokens.{IsToken, field_of, tokens_of}
 use Rattle.hv_proof_text.specs.declared.token.Token.{Token}
 use Rattle.hv_proof_text.proofs.Decoding.{IsVisible, visible_field}
@@ -64,7 +66,7 @@ proof_lines (line ∷ lines) spelled =
     (spelling_clean line (All-head IsSpelled line lines spelled))
     ∙ ap (λ ls. spelling_of line ∷ ls) (proof_lines lines (All-tail IsSpelled line lines spelled)))
 
-text_size : (line : Line) (lines : List Line)
+pub text_size : (line : Line) (lines : List Line)
     → length (proof_text (line ∷ lines)) ≡ suc (length (spelling_of line)) + length
     (proof_text lines)
 text_size line lines =
@@ -107,17 +109,18 @@ accepted setting (line ∷ older) good =
           setting older good.1,
     )
 
-reverse_cons : {X : Type 0} (x : X) (xs : List X) → reverse (x ∷ xs) ≡ reverse xs ++ x ∷ []
+pub reverse_cons : {X : Type 0} (x : X) (xs : List X) → reverse (x ∷ xs) ≡ reverse xs ++ x ∷ []
 reverse_cons x xs = reverse-append (x ∷ []) xs
 
-All-reversed : {X : Type 0} (P : X → Type 0) (xs : List X) → All P xs → All P (reverse xs)
+pub All-reversed : {X : Type 0} (P : X → Type 0) (xs : List X) → All P xs → All P (reverse xs)
 All-reversed P [] all = All-nil P
 All-reversed P (x ∷ xs) all =
     subst (All P) (sym (reverse_cons x xs))
     (All-append P (reverse xs) (x ∷ []) (All-reversed P xs (All-tail P x xs all))
     (All-cons P x [] (All-head P x xs all) (All-nil P)))
 
-map_reversed : {X Y : Type 0} (f : X → Y) (xs : List X) → reverse (map f (reverse xs)) ≡ map f xs
+pub map_reversed : {X Y : Type 0} (f : X → Y) (xs : List X)
+    → reverse (map f (reverse xs)) ≡ map f xs
 map_reversed f [] = refl
 map_reversed f (x ∷ xs) =
     ap (λ ys. reverse (map f ys)) (reverse_cons x xs)
@@ -136,26 +139,49 @@ draft_short task [] good = All-nil IsShortLine
 draft_short task (line ∷ older) good = All-cons IsShortLine line older good.0.short
     (draft_short task older good.1)
 
--- the text of a good draft is accepted, line by line
+-- the text of a good draft is cut into the spellings of its lines
+draft_cut : (task : Strips) (lines : List Line) → IsGoodTable task lines
+    → length (proof_text (reverse lines)) ≤ most_file_bytes
+    → pieces_of standard (proof_text (reverse lines)) ≡ map piece_of (reverse lines)
+draft_cut task lines good small =
+    ap (pieces_after standard 0) (proof_lines (reverse lines)
+    (All-reversed IsSpelled lines (draft_spelled task lines good)))
+    ∙ proof_pieces 0 (reverse lines) (All-reversed IsShortLine lines (draft_short task lines good))
+    (omega (arith, small))
+
+-- it is accepted, line by line
 pub draft_accepted : (task : Strips) (lines : List Line) → IsGoodTable task lines
     → length (proof_text (reverse lines)) ≤ most_file_bytes
     → Accepts (draft_setting task) (reverse (pieces_of standard (proof_text (reverse lines)))) lines
 draft_accepted task lines good small =
-    let cut : pieces_of standard (proof_text (reverse lines)) ≡ map piece_of (reverse lines) =
-    ap (pieces_after standard 0) (proof_lines (reverse lines)
-    (All-reversed IsSpelled lines (draft_spelled task lines good)))
-    ∙ proof_pieces 0 (reverse lines) (All-reversed IsShortLine lines (draft_short task lines good))
-    (omega (arith, small)) in
     subst (λ ps. Accepts (draft_setting task) ps lines)
-    (sym (ap reverse cut ∙ map_reversed piece_of lines))
+    (sym (ap reverse (draft_cut task lines good small) ∙ map_reversed piece_of lines))
     (accepted (draft_setting task) lines (good_of task lines good))
+
+-- as an open proof, since no line spells the mark of a closed one
+
+spelled_open : (lines : List Line) → judged_whole (map piece_of lines) ≡ map piece_of lines
+spelled_open [] = refl
+spelled_open (line ∷ lines) = open_whole (piece_of line) (map piece_of lines) (none_first line)
+
+draft_open : (task : Strips) (lines : List Line) → IsGoodTable task lines
+    → length (proof_text (reverse lines)) ≤ most_file_bytes
+    → judged_whole (pieces_of standard (proof_text (reverse lines)))
+    ≡ pieces_of standard (proof_text (reverse lines))
+draft_open task lines good small =
+    subst (λ ps. judged_whole ps ≡ ps) (sym (draft_cut task lines good small))
+    (spelled_open (reverse lines))
 
 -- and judged by it, where some line concludes
 pub draft_judged : (task : Strips) (lines : List Line) → IsGoodTable task lines → Concludes lines
     → length (proof_text (reverse lines)) ≤ most_file_bytes
     → JudgedBytes (draft_setting task) standard (proof_text (reverse lines)) Unsolvable
-draft_judged task lines good concludes small =
-    record { lines = lines; accepted = draft_accepted task lines good small; concludes = concludes }
+draft_judged task lines good concludes small = record {
+  lines = lines;
+  accepted = subst (λ ps. Accepts (draft_setting task) (reverse ps) lines)
+      (sym (draft_open task lines good small)) (draft_accepted task lines good small);
+  concludes = concludes;
+}
 
 -- so few short lines are no more than a file holds
 

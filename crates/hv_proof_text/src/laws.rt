@@ -6,8 +6,11 @@ ghost use Rattle.hv_bytes.specs.Standard.{most_file_bytes, standard};
 ghost use Rattle.hv_task.specs.Strips.{Strips};
 ghost use Rattle.hv_lines.specs.Drafts.{IsGoodTable, draft_setting};
 ghost use Rattle.hv_lines.specs.Judged.{Accepts, Concludes, JudgedBytes, Unsolvable};
+ghost use Rattle.hv_lines.specs.Setting.{Setting};
 ghost use Rattle.hv_lines.specs.Spelling.{IsSkipped, Spells, proof_text};
+ghost use Rattle.hv_lines.specs.Versions.{judged_so_far, judged_whole};
 ghost use Rattle.hv_lines.specs.declared.line.Line.{Line};
+ghost use Rattle.hv_proof_text.specs.Closed.{closed_text};
 
 /// No bytes spell two lines, and a line that is skipped spells none.
 pub fn one_line()
@@ -29,4 +32,19 @@ pub fn read_back()
         → JudgedBytes (draft_setting task) standard (proof_text (reverse lines)) Unsolvable }
     ensures small { (task : Strips) (lines : List Line) → IsGoodTable task lines
         → length lines ≤ 65535 → length (proof_text (reverse lines)) ≤ most_file_bytes }
+{}
+
+/// Lines that are accepted of some text are accepted of the text of the closed proof that has them;
+/// so where one of them says that there is no plan, that text is judged by it, with the same task,
+/// nodes and budget.
+pub fn closed_back()
+    ensures accepted { (setting : Setting) (bytes : List ℕ) (lines : List Line)
+        → Accepts setting (reverse (judged_so_far (pieces_of standard bytes))) lines
+        → length (closed_text (reverse lines)) ≤ most_file_bytes
+        → Accepts setting
+        (reverse (judged_whole (pieces_of standard (closed_text (reverse lines))))) lines }
+    ensures judged { (setting : Setting) (bytes : List ℕ) (lines : List Line)
+        → Accepts setting (reverse (judged_so_far (pieces_of standard bytes))) lines
+        → Concludes lines → length (closed_text (reverse lines)) ≤ most_file_bytes
+        → JudgedBytes setting standard (closed_text (reverse lines)) Unsolvable }
 {}

@@ -10,6 +10,6 @@ mod shapes;
 mod token;
 pub mod write;
 
-pub use laws::{one_line, read_back};
+pub use laws::{closed_back, one_line, read_back};
 pub use read::{LineError, LineReader, read_line};
 pub use write::{write_line, write_proof};

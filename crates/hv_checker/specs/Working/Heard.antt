@@ -1,5 +1,5 @@
 -- Working definitions beside those of `Heard`: for private contracts and proofs.
-use Rattle.std.specs.Prelude.{◌≡◌, List, Option, Some, None}
+use Rattle.std.specs.Prelude.{◌≡◌, List, ◌∷◌, Option, Some, None}
 use Rattle.hv_lines.specs.Good.{IsGood}
 use Rattle.hv_lines.specs.Working.Good.{IsReasonOf}
 use Rattle.hv_lines.specs.Judged.{LineText, IsPassedOver, IsReason}
@@ -16,12 +16,23 @@ use Rattle.hv_lines.specs.declared.verdict.Verdict.TheVariants as V
 use Rattle.hv_checker.specs.declared.judge.Heard.{Heard}
 use Rattle.hv_checker.specs.declared.judge.Heard.TheVariants as H
 use Rattle.hv_checker.specs.Heard.{IsSpelledBy}
+use Rattle.hv_checker.specs.declared.piece.Fed.{Fed}
+use Rattle.hv_checker.specs.declared.piece.Fed.TheVariants as F
 
 -- what is heard of a piece: that it is skipped, a good line, or the reason why it isn't good
 abbrev pub IsHeard : Setting → List Line → LineText → Heard → Type 0
 IsHeard setting lines piece H.Skipped = IsPassedOver piece
 IsHeard setting lines piece (H.Good line) = IsSpelledBy piece line × IsGood setting lines line
 IsHeard setting lines piece (H.Refused reason) = IsReason setting lines piece reason
+
+-- what the answer to a piece that is judged as it is says of the accepted lines before and after
+abbrev pub TakesOn : Setting → List Line → List Line → LineText → Fed → Type 0
+TakesOn setting old new piece F.Marked = ⊥
+TakesOn setting old new piece F.Skipped = IsPassedOver piece × (new ≡ old)
+TakesOn setting old new piece F.Good =
+    (line : Line) × IsSpelledBy piece line × IsGood setting old line × (new ≡ line ∷ old)
+TakesOn setting old new piece (F.Refused reason) = IsReason setting old piece reason × (new ≡ old)
+TakesOn setting old new piece F.Stopped = ⊥
 
 -- what is found of a line that has a spelling: nothing where it is good, or the reason why it isn't
 abbrev pub IsLineFault : Setting → List Line → Line → Option Reason → Type 0
