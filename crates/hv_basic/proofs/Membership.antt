@@ -1,5 +1,5 @@
 -- What holds of each literal, and of the formulas that are asked about.
-use Rattle.std.proofs.Common.{◌≡◌, ℕ, ◌<◌, ◌+◌, ◌∙◌, ◌↔◌, List, [], Option, Some, None, length}
+use Rattle.std.proofs.Common.{◌≡◌, ℕ, ◌<◌, ◌+◌, ◌∙◌, ◌↔◌, List, Option, Some, None, length}
 use Rattle.std.proofs.Common.{get_or, refl, sym, ap, subst, inl, inr, arith}
 use Rattle.std.proofs.lemmas.Bool.{cases_lt}
 use Rattle.std.proofs.lemmas.List.{get_or_default}
@@ -7,17 +7,6 @@ use Rattle.std.proofs.lemmas.List.Elements.{All-contains, Contains-get_or}
 use Rattle.std.proofs.lemmas.Option.{same_Some, unwrap_or-slice_get}
 use Rattle.std.specs.List.{All, Contains, slice_get}
 use Rattle.std.specs.Option.{unwrap_or}
-use Rattle.hv_sets.specs.Kinds.{IsDualHornClause, IsFirstOther, IsHornClause, IsTwoClause}
-use Rattle.hv_sets.specs.declared.literal.Literal.{Literal}
-use Rattle.hv_horn.specs.Fault.{IsFault as IsHornFault}
-use Rattle.hv_horn.specs.declared.horn.HornFault.{HornFault}
-use Rattle.hv_horn.specs.declared.horn.HornFault.TheVariants as H
-use Rattle.hv_horn.specs.DualFault.{IsFault as IsDualFault}
-use Rattle.hv_horn.specs.declared.dual_horn.DualHornFault.{DualHornFault}
-use Rattle.hv_horn.specs.declared.dual_horn.DualHornFault.TheVariants as D
-use Rattle.hv_twocnf.specs.Fault.{IsFault as IsTwoFault}
-use Rattle.hv_twocnf.specs.declared.two_cnf.TwoCnfFault.{TwoCnfFault}
-use Rattle.hv_twocnf.specs.declared.two_cnf.TwoCnfFault.TheVariants as T
 use Rattle.hv_lines.specs.Literals.{IsLiteral}
 use Rattle.hv_lines.specs.Numbering.{ExprRefersBelow, IsTable, expr_at, expr_count}
 use Rattle.hv_lines.specs.Shapes.{IsAndLeaf, IsOfFamily, IsStep, IsWithinFamily, after_parts}
@@ -45,29 +34,6 @@ module _ {X : Type 0} (P : X → Type 0) (xs : List X) (i : ℕ) (within : i < l
             let same : i ≡ k = omega (arith, upto, below) in
             subst (λ j. P (get_or xs j d)) same (subst P (get_or_default xs i e d within) here)
       ]
-
--- of what is at hand, none is of another kind
-pub no_horn_fault : (clauses : List (List Literal)) (fault : HornFault) (place : ℕ)
-    → fault ≡ H.NotHorn place → IsHornFault clauses fault
-    → All IsHornClause clauses → ⊥
-no_horn_fault clauses fault place is found all =
-    let first : IsFirstOther IsHornClause clauses place = subst (IsHornFault clauses) is found in
-    first.other (all place [] first.among)
-
-pub no_dual_fault : (clauses : List (List Literal)) (fault : DualHornFault) (place : ℕ)
-    → fault ≡ D.NotDual place → IsDualFault clauses fault
-    → All IsDualHornClause clauses → ⊥
-no_dual_fault clauses fault place is found all =
-    let first : IsFirstOther IsDualHornClause clauses place =
-    subst (IsDualFault clauses) is found in
-    first.other (all place [] first.among)
-
-pub no_two_fault : (clauses : List (List Literal)) (fault : TwoCnfFault) (place : ℕ)
-    → fault ≡ T.NotTwo place → IsTwoFault clauses fault
-    → All IsTwoClause clauses → ⊥
-no_two_fault clauses fault place is found all =
-    let first : IsFirstOther IsTwoClause clauses place = subst (IsTwoFault clauses) is found in
-    first.other (all place [] first.among)
 
 -- the one family
 
@@ -151,16 +117,6 @@ family_missed lines askings family (asking, c, (expr, at, is)) out other of =
         sym (same_Some family other (sym is ∙ also))
 
 -- the step
-
-pub no_step_there : (lines : List Line) (word : Word) (leaf : ℕ) (expr : Expr)
-    → expr_at lines leaf ≡ Some expr → None ≡ asked_step word expr → (set acts : ℕ)
-    → IsLiteralStep lines word leaf set acts → ⊥
-no_step_there lines word leaf expr at none set acts step =
-    let one : step.0.0 ≡ expr = cc (step.0.1, at) in
-    let some : asked_step word expr ≡ Some (set, acts) = subst
-    (λ y. asked_step word y ≡ Some (set, acts)) one step.0.2 in
-    let both : None ≡ Some (set, acts) = none ∙ some in
-    cc (both)
 
 -- the step has a leaf that is no literal
 pub inner_fails : (lines : List Line) (word : Word) (leaf set acts : ℕ) (inner : List ℕ)

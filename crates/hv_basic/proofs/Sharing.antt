@@ -12,7 +12,6 @@ use Rattle.std.specs.List.{Contains, slice_get}
 use Rattle.std.specs.Option.{IfSome}
 use Rattle.hv_sets.specs.declared.operand.Operand.{Operand}
 use Rattle.hv_sets.specs.declared.operand.Which.{Which}
-use Rattle.hv_sets.specs.declared.operand.Which.TheVariants as S
 use Rattle.hv_sets.specs.declared.query.Query.{Query}
 use Rattle.hv_lines.specs.Literals.{IsPlainSet}
 use Rattle.hv_lines.specs.Numbering.{MayFollow, IsTable, expr_at, expr_count}
@@ -337,7 +336,7 @@ made_of lines kept root part shared (below, (first, same, or)) leaf =
     (λ r. IfSome r (IsKeptFor lines kept)) same shared in
     elim or [
       | inl at ↦ (
-        λ of. elim (leaf_parts or_parts lines root leaf (E.Or first part) (first, part) at refl of) [
+        λ o. elim (leaf_parts or_parts lines root leaf (E.Or first part) (first, part) at refl o) [
           | inl left ↦ inl ((is.leaves leaf).1 left)
           | inr right ↦ inr right
         ],
@@ -348,7 +347,7 @@ made_of lines kept root part shared (below, (first, same, or)) leaf =
         ],
       )
       | inr at ↦ (
-        λ of. elim (leaf_parts or_parts lines root leaf (E.Or part first) (part, first) at refl of) [
+        λ o. elim (leaf_parts or_parts lines root leaf (E.Or part first) (part, first) at refl o) [
           | inl left ↦ inr left
           | inr right ↦ inl ((is.leaves leaf).1 right)
         ],

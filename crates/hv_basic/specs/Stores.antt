@@ -27,10 +27,11 @@ pub record StoreState : Type 0 where
   pub listed : List Listing
   pub names : List Which
 
--- the formula of these clauses, and the explicit set of these states, over so many atoms
+-- the formula of these clauses, over so many atoms
 abbrev pub formula : ℕ → List (List Literal) → Formula
 formula count clauses = record { atoms = count; clauses = clauses }
 
+-- the explicit set of these states, over so many atoms
 abbrev pub listing : ℕ → List (List ℕ) → Listing
 listing count states = record { atoms = count; states = states }
 

@@ -16,10 +16,15 @@ use hv_task::Task;
 /// nodes that they may name, and what a query may cost.
 #[derive(Clone, Copy)]
 pub struct Case<'a> {
+    /// The task.
     pub task: &'a Task,
+    /// The lines so far.
     pub table: &'a Table,
+    /// The nodes that they may name.
     pub diagrams: &'a Diagrams,
+    /// The formulas of the lines.
     pub store: &'a Store,
+    /// What a query may cost.
     pub budget: u64,
     pub ghost over: { diagrams.now.atoms ≡ atoms task.now },
     pub ghost small: { budget ≤ most_budget },

@@ -72,7 +72,7 @@ fn first_family(table: &Table, askings: &[Asking]) -> Option<FormulaFamily>
 }
 
 /// Whether each formula is of the family.
-pub(crate) fn are_within(table: &Table, askings: &[Asking], family: FormulaFamily) -> bool
+fn are_within(table: &Table, askings: &[Asking], family: FormulaFamily) -> bool
     requires { All (λ asking. asking.set < expr_count table.now.lines) askings.now }
     ensures { IsTrue result ↔ All (λ asking.
         IsWithinFamily table.now.lines family asking.set) askings.now }

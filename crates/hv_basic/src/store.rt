@@ -1,27 +1,24 @@
 //! The formulas of a proof, each in the store of its family.
 
-ghost use Rattle.std.specs.Prelude.{◌≡◌, ◌<◌, ℕ, List, [], ◌∷◌, Some, IfOk, OnOk, OnErr};
+ghost use Rattle.std.specs.Prelude.{◌≡◌, ◌<◌, ℕ, List, [], ◌∷◌, Some, OnOk, OnErr};
 ghost use Rattle.std.specs.Prelude.{length, slice_get};
-ghost use Rattle.std.specs.List.{All};
 ghost use Rattle.hv_task.specs.Strips.{Strips, atoms};
-ghost use Rattle.hv_sets.specs.Kinds.{IsDualHornClause, IsHornClause, IsTwoClause};
-ghost use Rattle.hv_clauses.specs.Clausal.{AreClauses};
 ghost use Rattle.hv_lines.specs.Numbering.{IsNumbered, expr_count};
 ghost use Rattle.hv_lines.specs.Queries.{named_by};
 ghost use Rattle.hv_lines.specs.declared.family.FormulaFamily.{FormulaFamily};
 ghost use Rattle.hv_lines.specs.declared.line.Expr.TheVariants as E;
 ghost use Rattle.hv_lines.specs.declared.line.Line.{Line};
 ghost use Rattle.hv_lines.specs.declared.line.Line.TheVariants as L;
-ghost use Rattle.hv_basic.specs.Stores.{CanBeStored, IsStoreOf, LineCanBeStored, formula};
+ghost use Rattle.hv_basic.specs.Stores.{CanBeStored, IsStoreOf, LineCanBeStored};
 ghost use Rattle.hv_basic.specs.Stores.{with_expr, with_line};
 ghost use Rattle.hv_basic.specs.Working.Stores.{IsUnstored};
 
 use hv_explicit::{Explicit, Explicits};
-use hv_horn::{DualHorn, DualHornFault, DualHorns, Horn, HornFault, Horns};
+use hv_horn::{DualHorn, DualHorns, Horn, Horns};
 use hv_lines::{Constant, Expr, Line};
-use hv_sets::{Clauses, Which};
+use hv_sets::Which;
 use hv_task::Task;
-use hv_twocnf::{TwoCnf, TwoCnfFault, TwoCnfs};
+use hv_twocnf::{TwoCnf, TwoCnfs};
 use std::alloc::{AllocError, Global};
 use std::marker::Model;
 
@@ -29,12 +26,12 @@ use std::marker::Model;
 #[derive(Drop)]
 pub struct Store {
     alloc: Global,
-    pub(crate) horns: Horns,
-    pub(crate) duals: DualHorns,
-    pub(crate) twos: TwoCnfs,
-    pub(crate) listed: Explicits,
-    /// What the set of each `e` line is named by in the store of its family.
-    pub(crate) names: Vec<Which>,
+    horns: Horns,
+    duals: DualHorns,
+    twos: TwoCnfs,
+    listed: Explicits,
+    // What the set of each `e` line is named by in the store of its family.
+    names: Vec<Which>,
 }
 
 impl Model for Store {
@@ -141,7 +138,7 @@ impl Store {
         self.names[id]
     }
 
-    // The same by itself, without the lines before.
+    // What `add` does, without what it says of the lines before.
     fn put(&mut self, task: &Task, expr: &Expr) -> Result<(), AllocError>
         requires { CanBeStored (atoms task.now) expr.now }
         ensures ok { OnOk result (self.new ≡ with_expr (atoms task.now) self.old expr.now) }
@@ -150,19 +147,19 @@ impl Store {
         self.names.reserve(1)?;
         match expr {
             Expr::Horn(clauses) => {
-                let set = horn_of(self.alloc, task, clauses)?;
+                let set = Horn::of_kind(self.alloc, task, clauses)?;
                 let number = self.horns.add(set)?;
                 self.names.push_reserved(Which::Set(number));
                 Ok(())
             }
             Expr::Dual(clauses) => {
-                let set = dual_of(self.alloc, task, clauses)?;
+                let set = DualHorn::of_kind(self.alloc, task, clauses)?;
                 let number = self.duals.add(set)?;
                 self.names.push_reserved(Which::Set(number));
                 Ok(())
             }
             Expr::Two(clauses) => {
-                let set = two_of(self.alloc, task, clauses)?;
+                let set = TwoCnf::of_kind(self.alloc, task, clauses)?;
                 let number = self.twos.add(set)?;
                 self.names.push_reserved(Which::Set(number));
                 Ok(())
@@ -209,41 +206,5 @@ fn constant_of(constant: Constant) -> Which
         Constant::Empty => Which::Empty,
         Constant::Start => Which::Start,
         Constant::Goal => Which::Goal,
-    }
-}
-
-fn horn_of(alloc: Global, task: &Task, clauses: &Clauses) -> Result<Horn, AllocError>
-    requires below { AreClauses (atoms task.now) clauses.now }
-    requires horn { All IsHornClause clauses.now }
-    ensures { IfOk result (λ set. set ≡ formula (atoms task.now) clauses.now) }
-{
-    match Horn::new(alloc, task, clauses) {
-        Ok(set) => Ok(set),
-        Err(HornFault::Memory) => Err(AllocError),
-        Err(HornFault::NotHorn(_)) => unreachable!(),
-    }
-}
-
-fn dual_of(alloc: Global, task: &Task, clauses: &Clauses) -> Result<DualHorn, AllocError>
-    requires below { AreClauses (atoms task.now) clauses.now }
-    requires dual { All IsDualHornClause clauses.now }
-    ensures { IfOk result (λ set. set ≡ formula (atoms task.now) clauses.now) }
-{
-    match DualHorn::new(alloc, task, clauses) {
-        Ok(set) => Ok(set),
-        Err(DualHornFault::Memory) => Err(AllocError),
-        Err(DualHornFault::NotDual(_)) => unreachable!(),
-    }
-}
-
-fn two_of(alloc: Global, task: &Task, clauses: &Clauses) -> Result<TwoCnf, AllocError>
-    requires below { AreClauses (atoms task.now) clauses.now }
-    requires two { All IsTwoClause clauses.now }
-    ensures { IfOk result (λ set. set ≡ formula (atoms task.now) clauses.now) }
-{
-    match TwoCnf::new(alloc, task, clauses) {
-        Ok(set) => Ok(set),
-        Err(TwoCnfFault::Memory) => Err(AllocError),
-        Err(TwoCnfFault::NotTwo(_)) => unreachable!(),
     }
 }

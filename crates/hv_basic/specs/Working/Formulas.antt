@@ -79,16 +79,17 @@ IsFoundInclusion budget cost atoms clash None state = cost ≡ None
 IsFoundInclusion budget cost atoms clash (Some found) state =
     (steps : ℕ) × (cost ≡ Some steps) × IsAnswer found (budget < steps) atoms clash state
 
--- the costs of inclusions, by the walks: the one formula within the other, no state in both, and
--- each state in one of them
+-- what it costs to decide, by the walks, that the one formula is within the other
 abbrev pub within_cost : AnyFormula → AnyFormula → Option ℕ
 within_cost x y = either_count (listed_count (expr_of x)) (outside_count y)
 
+-- what it costs to decide that no state is in both
 abbrev pub apart_cost : AnyFormula → AnyFormula → Option ℕ
 apart_cost x y =
     either_count (listed_count (expr_of x))
     (either_count (listed_count (expr_of y)) (either_count (inside_count x) (inside_count y)))
 
+-- what it costs to decide that each state is in one of them
 abbrev pub together_cost : AnyFormula → AnyFormula → Option ℕ
 together_cost x y =
     count_unless (listed_count (expr_of x))

@@ -1,18 +1,13 @@
 -- Working definitions beside those of `Sharing`: for private contracts and proofs.
-use Rattle.std.specs.Prelude.{◌≡◌, ◌<◌, ◌⊎◌, ◌↔◌, ℕ, Bool, List, Option, None, Some, length, map}
-use Rattle.std.specs.Prelude.{slice_get}
+use Rattle.std.specs.Prelude.{◌≡◌, ◌<◌, ◌⊎◌, ◌↔◌, ℕ, Bool, List, Option, None, Some}
 use Rattle.std.specs.List.{Contains}
-use Rattle.hv_sets.specs.declared.operand.Which.{Which}
-use Rattle.hv_lines.specs.Literals.{IsLiteral}
 use Rattle.hv_lines.specs.Numbering.{expr_at, expr_count}
-use Rattle.hv_lines.specs.Queries.{operand_of, which_at}
-use Rattle.hv_lines.specs.Shapes.{Askings, IsAndLeaf, IsLeftLeaf, IsLiteralOf, IsOrLeaf, IsQuestion}
-use Rattle.hv_lines.specs.Shapes.{IsStep, IsWithinFamily, Question}
+use Rattle.hv_lines.specs.Shapes.{Askings, IsOrLeaf, IsQuestion}
+use Rattle.hv_lines.specs.Shapes.{IsWithinFamily, Question}
 use Rattle.hv_lines.specs.declared.family.FormulaFamily.{FormulaFamily}
 use Rattle.hv_lines.specs.declared.line.Expr.TheVariants as E
 use Rattle.hv_lines.specs.declared.line.Line.{Line}
 use Rattle.hv_lines.specs.declared.line.Word.{Word}
-use Rattle.hv_lines.specs.declared.line.Word.TheVariants as W
 use Rattle.hv_lines.specs.Setting.{Setting}
 use Rattle.hv_lines.specs.Verdicts.{IsVerdictOfSets}
 use Rattle.hv_lines.specs.declared.verdict.Verdict.{Verdict}

@@ -1,4 +1,4 @@
-use Rattle.std.proofs.Common.{◌≡◌, ℕ, true, subst}
+use Rattle.std.proofs.Common.{true, subst}
 use Rattle.hv_lines.specs.Shapes.{asks_sides_after}
 use Rattle.hv_basic.specs.Working.Gathered.{AreGathered, AreOthers}
 use Rattle.hv_basic.specs.declared.literals.Others.TheVariants as O

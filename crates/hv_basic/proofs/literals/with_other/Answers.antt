@@ -1,4 +1,4 @@
-use Rattle.std.proofs.Common.{◌++◌, [], ◌∷◌, subst, sym}
+use Rattle.std.proofs.Common.{subst}
 use Rattle.hv_basic.specs.Working.Gathered.{AreOthers}
 use Rattle.hv_basic.proofs.Gathering.{others_again, others_more, others_one, others_two}
 use Rattle.hv_basic.proofs.literals.with_other.Goals as goal

@@ -8,9 +8,10 @@ use Rattle.hv_basic.proofs.mixed.find_within.Goals as goal
 
 pub returns-in_ok-found-in-States-clause-answer : goal.returns-in_ok-found-in-States-clause-answer
 returns-in_ok-found-in-States-clause-answer c =
-    subst (λ f. IsFoundInclusion c.args.budget (within_cost f c.args.right.now) (formula_atoms f)
-    (difference (formula_has f) (formula_has c.args.right.now))
-    (Some c.in_ok-found-in-States.found) c.within_by_states.new.scratch.state) (sym c.in-States.is) (
+    let right = c.args.right.now in
+    subst (λ f. IsFoundInclusion c.args.budget (within_cost f right) (formula_atoms f)
+    (difference (formula_has f) (formula_has right)) (Some c.in_ok-found-in-States.found)
+    c.within_by_states.new.scratch.state) (sym c.in-States.is) (
       length (full_cubes c.in-States.set.now),
       ap Some (sym (length-map c.in-States.set.now.states
           (λ held. full_cube c.in-States.set.now.atoms held))),

@@ -1,6 +1,5 @@
 use Rattle.std.proofs.Common.{◌≡◌, ◌+◌, ◌-◌, ◌∙◌, ◌++◌, [], ◌∷◌, ap, arith, drop, get_or, length}
 use Rattle.std.proofs.Common.{subst}
-use Rattle.hv_lines.specs.Shapes.{Askings}
 use Rattle.hv_basic.specs.Working.Sharing.{AreAddedTo}
 use Rattle.hv_basic.proofs.Sharing.{added_more}
 use Rattle.hv_basic.proofs.rights.add_all.Goals as goal
