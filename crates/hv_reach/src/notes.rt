@@ -14,42 +14,70 @@ use hv_sets::Clauses;
 use hv_task::{State, Task};
 use std::alloc::{AllocError, Global};
 
+/// What was written, in order, and for each note a row of the atoms that were reached.
+#[derive(Drop)]
+pub(crate) struct Noted {
+    pub(crate) notes: Vec<Note>,
+    pub(crate) rows: NoteRows,
+}
+
+impl Noted {
+    /// No notes.
+    pub(crate) fn new(alloc: Global) -> Noted
+        ensures notes { result.notes.items ≡ [] }
+        ensures rows { result.rows.rows ≡ [] }
+    {
+        Noted {
+            notes: Vec::new(alloc),
+            rows: NoteRows::new(alloc),
+        }
+    }
+
+    /// Takes all notes out.
+    pub(crate) fn clear(&mut self)
+        ensures notes { self.new.notes.items ≡ [] }
+        ensures rows { self.new.rows.rows ≡ [] }
+    {
+        self.notes.clear();
+        self.rows.clear();
+    }
+}
+
 /// Writes the block which shows that the states of the formula are dead, and notes it with this row
 /// of atoms. All memory is taken before the first line is written.
 pub(crate) fn write_block(
     alloc: Global,
     task: &Task,
     draft: &mut Draft,
-    notes: &mut Vec<Note>,
+    noted: &mut Noted,
     clauses: Clauses,
-    rows: &mut NoteRows,
     row: State,
 ) -> Result<usize, AllocError>
     requires good { IsGoodTable task.now draft.old.lines }
     requires dead { IsDeadEnd task.now clauses }
-    requires over { AreRowsOver (length row) rows.old.rows }
+    requires over { AreRowsOver (length row) noted.old.rows.rows }
     ensures lines { OnOk result (draft.new.lines ≡ onto (dead_block (expr_count draft.old.lines)
         (known_count draft.old.lines) clauses) draft.old.lines) }
     ensures line { IfOk result (λ line. line ≡ known_count draft.old.lines + 3) }
-    ensures notes { OnOk result (notes.new.items ≡ notes.old.items ++ record {
+    ensures notes { OnOk result (noted.new.notes.items ≡ noted.old.notes.items ++ record {
       set = expr_count draft.old.lines;
       line = known_count draft.old.lines + 3;
     } ∷ []) }
-    ensures rows { OnOk result (rows.new.rows ≡ rows.old.rows ++ row ∷ []) }
+    ensures rows { OnOk result (noted.new.rows.rows ≡ noted.old.rows.rows ++ row ∷ []) }
     ensures good { OnOk result (IsGoodTable task.now draft.new.lines) }
     ensures err_draft { OnErr result (draft.new ≡ draft.old) }
-    ensures err_notes { OnErr result (notes.new.items ≡ notes.old.items) }
-    ensures err_rows { OnErr result (rows.new.rows ≡ rows.old.rows) }
+    ensures err_notes { OnErr result (noted.new.notes.items ≡ noted.old.notes.items) }
+    ensures err_rows { OnErr result (noted.new.rows.rows ≡ noted.old.rows.rows) }
 {
     let _atoms = task.atoms();
     let set = draft.table().expr_count();
     let id = draft.table().known_count();
     let block = dead_block(alloc, set, id, clauses)?;
-    notes.reserve(1)?;
-    rows.reserve(alloc, row.atoms())?;
+    noted.notes.reserve(1)?;
+    noted.rows.reserve(alloc, row.atoms())?;
     draft.reserve(8)?;
     draft.push_all(task, block);
-    rows.push_reserved(row);
-    notes.push_reserved(Note { set, line: id + 3 });
+    noted.rows.push_reserved(row);
+    noted.notes.push_reserved(Note { set, line: id + 3 });
     Ok(id + 3)
 }

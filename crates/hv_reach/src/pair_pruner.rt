@@ -13,14 +13,21 @@ ghost use Rattle.hv_reach.specs.Pruners.{IsPairsBlock, PairsCover};
 ghost use Rattle.hv_reach.specs.Working.Pruners.{AreDiagonals, IsOutcome};
 
 use crate::index::index;
-use crate::note_rows::NoteRows;
-use crate::notes::write_block;
+use crate::notes::{Noted, write_block};
 use crate::paired::{MOST_ATOMS, pairs_formula, pairs_reason};
 use crate::pairs::Pairs;
-use hv_lines::{Draft, Note, Pruner};
+use hv_lines::{Draft, Pruner};
 use hv_task::{State, Task};
 use std::alloc::{AllocError, Global};
 use std::marker::Model;
+
+// What was written, with the atoms that were reached in a pair with themselves, and for each note
+// the pairs that were reached.
+#[derive(Drop)]
+struct NotedPairs {
+    noted: Noted,
+    reached: Vec<Pairs>,
+}
 
 /// A pruner that covers the states from which some pair of goal atoms, possibly equal, isn't
 /// reached, in tasks of at most 1,024 atoms. For such a state it writes that the states are dead
@@ -31,12 +38,7 @@ use std::marker::Model;
 /// were reached.
 #[derive(Drop)]
 pub struct PairPruner {
-    // What was written, in order.
-    notes: Vec<Note>,
-    // The pairs that were reached, for each note.
-    reached: Vec<Pairs>,
-    // The atoms that were reached in a pair with themselves, for each note.
-    rows: NoteRows,
+    kept: NotedPairs,
     // Which actions ask for an atom, from the first question on.
     index: Option<Vec<Vec<u32>>>,
 }
@@ -48,12 +50,12 @@ impl Model for PairPruner {
     ghost Value = { PairNotes };
 
     ghost view = { λ p. record {
-      notes = p.notes.items;
-      reached = p.reached.items;
+      notes = p.kept.noted.notes.items;
+      reached = p.kept.reached.items;
       index = items_in p.index;
     } };
 
-    ghost invariant = { λ p. AreDiagonals p.rows.rows p.reached.items };
+    ghost invariant = { λ p. AreDiagonals p.kept.noted.rows.rows p.kept.reached.items };
 }
 
 impl PairPruner {
@@ -62,9 +64,10 @@ impl PairPruner {
         ensures { result ≡ record { notes = []; reached = []; index = None } }
     {
         PairPruner {
-            notes: Vec::new(alloc),
-            reached: Vec::new(alloc),
-            rows: NoteRows::new(alloc),
+            kept: NotedPairs {
+                noted: Noted::new(alloc),
+                reached: Vec::new(alloc),
+            },
             index: None,
         }
     }
@@ -99,28 +102,10 @@ impl PairPruner {
             return Ok(None);
         }
         match &self.index {
-            Some(index) => pairs_answer(
-                alloc,
-                task,
-                draft,
-                &mut self.notes,
-                &mut self.reached,
-                &mut self.rows,
-                index,
-                state,
-            ),
+            Some(index) => pairs_answer(alloc, task, draft, &mut self.kept, index, state),
             None => {
                 let index = index(alloc, task)?;
-                let found = pairs_answer(
-                    alloc,
-                    task,
-                    draft,
-                    &mut self.notes,
-                    &mut self.reached,
-                    &mut self.rows,
-                    &index,
-                    state,
-                )?;
+                let found = pairs_answer(alloc, task, draft, &mut self.kept, &index, state)?;
                 self.index = Some(index);
                 Ok(found)
             }
@@ -137,9 +122,8 @@ impl Pruner for PairPruner {
     ghost fits = { λ kept task lines. FitPairs task lines kept };
 
     fn begin(&mut self) {
-        self.notes.clear();
-        self.reached.clear();
-        self.rows.clear();
+        self.kept.noted.clear();
+        self.kept.reached.clear();
         self.index = None;
     }
 
@@ -162,53 +146,43 @@ fn pairs_answer(
     alloc: Global,
     task: &Task,
     draft: &mut Draft,
-    notes: &mut Vec<Note>,
-    reached: &mut Vec<Pairs>,
-    rows: &mut NoteRows,
+    kept: &mut NotedPairs,
     index: &Vec<Vec<u32>>,
     state: &State,
 ) -> Result<Option<usize>, AllocError>
     requires few { atoms task.now ≤ 1024 }
     requires good { IsGoodTable task.now draft.old.lines }
     requires fits { AreHornNotes task.now (PairsCover task.now)
-        draft.old.lines notes.old.items }
+        draft.old.lines kept.old.noted.notes.items }
     requires described { AreDescribed HoldsPairsOf task.now
-        draft.old.lines notes.old.items reached.old.items }
-    requires diagonals { AreDiagonals rows.old.rows reached.old.items }
+        draft.old.lines kept.old.noted.notes.items kept.old.reached.items }
+    requires diagonals { AreDiagonals kept.old.noted.rows.rows kept.old.reached.items }
     requires index { IsTaskIndex task.now index.now.items }
     requires state { IsState task.now state.now }
     ensures outcome { IfOk result (λ found. IsOutcome task.now (PairsCover task.now)
         (IsPairsBlock task.now state.now draft.old.lines) state.now found
-        notes.old.items draft.old notes.new.items draft.new) }
+        kept.old.noted.notes.items draft.old kept.new.noted.notes.items draft.new) }
     ensures described { IfOk result (λ _. AreDescribed HoldsPairsOf task.now
-        draft.new.lines notes.new.items reached.new.items) }
-    ensures diagonals { AreDiagonals rows.new.rows reached.new.items }
+        draft.new.lines kept.new.noted.notes.items kept.new.reached.items) }
+    ensures diagonals { AreDiagonals kept.new.noted.rows.rows kept.new.reached.items }
     ensures err_draft { OnErr result (draft.new ≡ draft.old) }
-    ensures err_notes { OnErr result (notes.new.items ≡ notes.old.items) }
-    ensures err_reached { OnErr result (reached.new.items ≡ reached.old.items) }
+    ensures err_notes { OnErr result
+        (kept.new.noted.notes.items ≡ kept.old.noted.notes.items) }
+    ensures err_reached { OnErr result (kept.new.reached.items ≡ kept.old.reached.items) }
 {
     let mut held = Vec::new(alloc);
     state.list_atoms(&mut held)?;
-    let noted = first_noted(
-        alloc,
-        task,
-        draft,
-        notes,
-        reached,
-        rows,
-        state,
-        held.as_slice(),
-    )?;
+    let noted = first_noted(alloc, task, draft, kept, state, held.as_slice())?;
     if noted.is_some() {
         return Ok(noted);
     }
     match pairs_reason(alloc, task, index, state)? {
         Some(pairs) => {
             let clauses = pairs_formula(alloc, task.atoms(), &pairs)?;
-            reached.reserve(1)?;
+            kept.reached.reserve(1)?;
             let row = pairs.diagonal(alloc, task.atoms())?;
-            let line = write_block(alloc, task, draft, notes, clauses, rows, row)?;
-            reached.push_reserved(pairs);
+            let line = write_block(alloc, task, draft, &mut kept.noted, clauses, row)?;
+            kept.reached.push_reserved(pairs);
             Ok(Some(line))
         }
         None => Ok(None),
@@ -221,27 +195,26 @@ fn first_noted(
     alloc: Global,
     task: &Task,
     draft: &Draft,
-    notes: &Vec<Note>,
-    reached: &Vec<Pairs>,
-    rows: &NoteRows,
+    kept: &NotedPairs,
     state: &State,
     held: &[u32],
 ) -> Result<Option<usize>, AllocError>
     requires state { IsState task.now state.now }
     requires held { IsListOf state.now held.now }
     requires described { AreDescribed HoldsPairsOf task.now
-        draft.now.lines notes.now.items reached.now.items }
-    requires diagonals { AreDiagonals rows.now.rows reached.now.items }
+        draft.now.lines kept.now.noted.notes.items kept.now.reached.items }
+    requires diagonals { AreDiagonals kept.now.noted.rows.rows kept.now.reached.items }
     ensures { IfOk result (λ found. MatchOption found
-        (NoneNoted task.now draft.now.lines notes.now.items state.now)
-        (λ line. IsFirstNoted task.now draft.now.lines notes.now.items state.now line)) }
+        (NoneNoted task.now draft.now.lines kept.now.noted.notes.items state.now)
+        (λ line. IsFirstNoted task.now draft.now.lines kept.now.noted.notes.items state.now
+        line)) }
 {
     let _ = task;
     let _ = draft;
     let mut from = 0;
-    while let Some(place) = rows.first(alloc, held, from)? {
-        if reached[place].has_all(state.atoms(), held) {
-            return Ok(Some(notes[place].line));
+    while let Some(place) = kept.noted.rows.first(alloc, held, from)? {
+        if kept.reached[place].has_all(state.atoms(), held) {
+            return Ok(Some(kept.noted.notes[place].line));
         }
         from = place + 1;
     }

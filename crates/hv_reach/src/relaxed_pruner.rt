@@ -14,10 +14,9 @@ ghost use Rattle.hv_reach.specs.Working.Pruners.{IsOutcome};
 ghost use Rattle.hv_reach.specs.Written.{RelaxedExcludesFrom};
 
 use crate::atoms::AtomSearch;
-use crate::note_rows::NoteRows;
-use crate::notes::write_block;
+use crate::notes::{Noted, write_block};
 use crate::relaxed::{relaxed_formula, relaxed_reason};
-use hv_lines::{Draft, Note, Pruner};
+use hv_lines::{Draft, Pruner};
 use hv_task::{State, Task};
 use std::alloc::{AllocError, Global};
 use std::marker::Model;
@@ -29,10 +28,8 @@ use std::marker::Model;
 /// note whose row has each atom of the state answers.
 #[derive(Drop)]
 pub struct RelaxedPruner {
-    // What was written, in order.
-    notes: Vec<Note>,
-    // The atoms that were reached, for each note.
-    reached: NoteRows,
+    // What was written, with the atoms that were reached.
+    noted: Noted,
     // What the search for reached atoms goes by, from the first question on.
     search: Option<AtomSearch>,
 }
@@ -43,8 +40,8 @@ impl Model for RelaxedPruner {
     ghost Value = { RelaxedNotes };
 
     ghost view = { λ p. record {
-      notes = p.notes.items;
-      reached = p.reached.rows;
+      notes = p.noted.notes.items;
+      reached = p.noted.rows.rows;
       search = p.search;
     } };
 }
@@ -55,8 +52,7 @@ impl RelaxedPruner {
         ensures { result ≡ record { notes = []; reached = []; search = None } }
     {
         RelaxedPruner {
-            notes: Vec::new(alloc),
-            reached: NoteRows::new(alloc),
+            noted: Noted::new(alloc),
             search: None,
         }
     }
@@ -89,23 +85,14 @@ impl RelaxedPruner {
         ensures err_notes { OnErr result (self.new ≡ self.old) }
     {
         match &mut self.search {
-            Some(search) => relaxed_answer(
-                alloc,
-                task,
-                draft,
-                &mut self.notes,
-                &mut self.reached,
-                search,
-                state,
-            ),
+            Some(search) => relaxed_answer(alloc, task, draft, &mut self.noted, search, state),
             None => {
                 let mut search = AtomSearch::new(alloc, task)?;
                 let found = relaxed_answer(
                     alloc,
                     task,
                     draft,
-                    &mut self.notes,
-                    &mut self.reached,
+                    &mut self.noted,
                     &mut search,
                     state,
                 )?;
@@ -126,8 +113,7 @@ impl Pruner for RelaxedPruner {
     ghost fits = { λ kept task lines. FitRelaxed task lines kept };
 
     fn begin(&mut self) {
-        self.notes.clear();
-        self.reached.clear();
+        self.noted.clear();
         self.search = None;
     }
 
@@ -150,39 +136,38 @@ fn relaxed_answer(
     alloc: Global,
     task: &Task,
     draft: &mut Draft,
-    notes: &mut Vec<Note>,
-    reached: &mut NoteRows,
+    noted: &mut Noted,
     search: &mut AtomSearch,
     state: &State,
 ) -> Result<Option<usize>, AllocError>
     requires good { IsGoodTable task.now draft.old.lines }
     requires fits { AreHornNotes task.now (RelaxedExcludesFrom task.now)
-        draft.old.lines notes.old.items }
+        draft.old.lines noted.old.notes.items }
     requires described { AreDescribed HoldsAtomsOf task.now
-        draft.old.lines notes.old.items reached.old.rows }
+        draft.old.lines noted.old.notes.items noted.old.rows.rows }
     requires search { AreSearchRowsOf task.now search.old }
     requires state { IsState task.now state.now }
     ensures outcome { IfOk result (λ found. IsOutcome task.now (RelaxedExcludesFrom task.now)
         (IsRelaxedBlock task.now state.now draft.old.lines) state.now found
-        notes.old.items draft.old notes.new.items draft.new) }
+        noted.old.notes.items draft.old noted.new.notes.items draft.new) }
     ensures described { IfOk result (λ _. AreDescribed HoldsAtomsOf task.now
-        draft.new.lines notes.new.items reached.new.rows) }
+        draft.new.lines noted.new.notes.items noted.new.rows.rows) }
     ensures err_draft { OnErr result (draft.new ≡ draft.old) }
-    ensures err_notes { OnErr result (notes.new.items ≡ notes.old.items) }
-    ensures err_reached { OnErr result (reached.new.rows ≡ reached.old.rows) }
+    ensures err_notes { OnErr result (noted.new.notes.items ≡ noted.old.notes.items) }
+    ensures err_reached { OnErr result (noted.new.rows.rows ≡ noted.old.rows.rows) }
     ensures search { search.new ≡ search.old }
 {
     let _atoms = task.atoms();
     let mut held = Vec::new(alloc);
     state.list_atoms(&mut held)?;
-    let noted = first_noted(alloc, task, draft, notes, reached, state, held.as_slice())?;
-    if noted.is_some() {
-        return Ok(noted);
+    let told = first_noted(alloc, task, draft, noted, state, held.as_slice())?;
+    if told.is_some() {
+        return Ok(told);
     }
     match relaxed_reason(alloc, task, search, state)? {
         Some(row) => {
             let clauses = relaxed_formula(alloc, &row)?;
-            let line = write_block(alloc, task, draft, notes, clauses, reached, row)?;
+            let line = write_block(alloc, task, draft, noted, clauses, row)?;
             Ok(Some(line))
         }
         None => Ok(None),
@@ -195,24 +180,23 @@ fn first_noted(
     alloc: Global,
     task: &Task,
     draft: &Draft,
-    notes: &Vec<Note>,
-    reached: &NoteRows,
+    noted: &Noted,
     state: &State,
     held: &[u32],
 ) -> Result<Option<usize>, AllocError>
     requires state { IsState task.now state.now }
     requires held { IsListOf state.now held.now }
     requires described { AreDescribed HoldsAtomsOf task.now
-        draft.now.lines notes.now.items reached.now.rows }
+        draft.now.lines noted.now.notes.items noted.now.rows.rows }
     ensures { IfOk result (λ found. MatchOption found
-        (NoneNoted task.now draft.now.lines notes.now.items state.now)
-        (λ line. IsFirstNoted task.now draft.now.lines notes.now.items state.now line)) }
+        (NoneNoted task.now draft.now.lines noted.now.notes.items state.now)
+        (λ line. IsFirstNoted task.now draft.now.lines noted.now.notes.items state.now line)) }
 {
     let _ = task;
     let _ = draft;
     let _ = state;
-    match reached.first(alloc, held, 0)? {
-        Some(place) => Ok(Some(notes[place].line)),
+    match noted.rows.first(alloc, held, 0)? {
+        Some(place) => Ok(Some(noted.notes[place].line)),
         None => Ok(None),
     }
 }

@@ -66,12 +66,11 @@ fn settle(
     ensures seen { length seen.new ≡ atoms task.now }
     ensures least { PairsGrowWithin (KeepAllPairs task.now.actions) rows.old.items rows.new.items }
 {
-    let few = 16 * task.actions() / (task.atoms() + 1);
     let mut moved = false;
     for round in 0..task.atoms() {
         let _ = round;
         moved |= chase(task, index, rows, flags, mask, seen);
-        let more = sweep_short(task, index, rows, flags, mask, few);
+        let more = sweep_short(task, index, rows, flags, mask);
         moved |= more;
         if !more {
             return moved;
@@ -80,14 +79,13 @@ fn settle(
     moved
 }
 
-// One turn for each atom that so many actions at most ask for.
+// One turn for each atom that few actions ask for.
 fn sweep_short(
     task: &Task,
     index: &Vec<Vec<u32>>,
     rows: &mut Vec<State>,
     flags: &mut State,
     mask: &mut State,
-    few: u32,
 ) -> bool
     requires index { IsTaskIndex task.now index.now.items }
     requires table { IsPairTable (atoms task.now) rows.old.items }
@@ -102,12 +100,13 @@ fn sweep_short(
 {
     let mut moved = false;
     for atom in 0..task.atoms() {
-        moved |= turn_short(task, index, rows, flags, mask, atom, few);
+        moved |= turn_short(task, index, rows, flags, mask, atom);
     }
     moved
 }
 
-// A turn for the flag where it stands for so many actions at most.
+// A turn for the flag where it stands for few actions: at most sixteen times as many as there are
+// for an atom.
 fn turn_short(
     task: &Task,
     index: &Vec<Vec<u32>>,
@@ -115,7 +114,6 @@ fn turn_short(
     flags: &mut State,
     mask: &mut State,
     flag: u32,
-    few: u32,
 ) -> bool
     requires flag { flag ≤ atoms task.now }
     requires index { IsTaskIndex task.now index.now.items }
@@ -129,6 +127,7 @@ fn turn_short(
     ensures mask { length mask.new ≡ atoms task.now }
     ensures least { PairsGrowWithin (KeepAllPairs task.now.actions) rows.old.items rows.new.items }
 {
+    let few = 16 * task.actions() / (task.atoms() + 1);
     if index[flag as usize].len() > few as usize {
         return false;
     }

@@ -1,6 +1,6 @@
 -- Logs and the set of their states: what the search for the first hole rests on.
-use Rattle.std.proofs.Common.{◌≡◌, ℕ, ◌<◌, ◌≤◌, ◌∙◌, Bool, true, false, List, Option, None, Some}
-use Rattle.std.proofs.Common.{MatchOption, get_or, inl, inr, length, map, sym, ap, subst, arith}
+use Rattle.std.proofs.Common.{◌≡◌, ℕ, ◌<◌, ◌≤◌, ◌∙◌, Bool, true, false, List, Option, Some}
+use Rattle.std.proofs.Common.{get_or, inl, inr, length, map, sym, ap, subst, arith}
 use Rattle.std.proofs.lemmas.List.{get_or-map, length-map}
 use Rattle.std.proofs.lemmas.Option.{get_or_from_slice_get, slice_get_cases, slice_get_within}
 use Rattle.hv_task.specs.State.{applicable, state_of, successor}
@@ -98,19 +98,6 @@ module _ (task : Strips) (log : SearchLog) (place : ℕ) (x : LogEntry)
         → LeadsOn task log place number
     all_from all number = leads_from number
         (λ a is can. all number (slice_get_within task.actions number a is) a is can)
-
-    -- the least action that leads out of the set is the least one that leads out of the log
-    pub open_result : (state : List Bool) (r : Option ℕ) → state ≡ state_in log x
-        → MatchOption r ((number : ℕ) → number < length task.actions
-        → StaysListed task set state number)
-        (λ number. IsFirstWithout (StaysListed task set state) number)
-        → MatchOption r ((number : ℕ) → LeadsOn task log place number)
-        (λ number. IsFirstWithout (LeadsOn task log place) number)
-    open_result state None is all = all_from
-        (subst (λ s. (number : ℕ) → number < length task.actions → StaysListed task set s number) is
-        all)
-    open_result state (Some number) is first = first_from number
-        (subst (λ s. IsFirstWithout (StaysListed task set s) number) is first)
 
 module _ (task : Strips) (log : SearchLog) where
   -- what holds of each entry holds of each place

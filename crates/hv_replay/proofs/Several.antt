@@ -1,11 +1,9 @@
 -- Lists of which one element changes: what holds of some, of none and of all of their elements.
-use Rattle.std.proofs.Common.{Option, Some, None, MatchOption, Result, Ok, Err, IfNone, IfOk}
-use Rattle.std.proofs.Common.{IfSome, ◌++◌, take, ◌≡◌, ◌≢◌, ℕ, ◌+◌, ◌<◌, ◌≤◌, ◌∙◌, ◌↔◌, List}
-use Rattle.std.proofs.Common.{get_or, set, length, inl, inr, sym, ap, subst, arith}
+use Rattle.std.proofs.Common.{Bool, false, true, Option, Some, None, MatchOption, Result, Ok, Err}
+use Rattle.std.proofs.Common.{IfNone, IfOk, IfSome, ◌++◌, take, ◌≡◌, ℕ, ◌+◌, ◌<◌, ◌≤◌, ◌∙◌, List}
+use Rattle.std.proofs.Common.{get_or, set, length, sym, subst, arith}
 use Rattle.std.specs.List.{All, AllWithin, Any}
-use Rattle.std.proofs.lemmas.Bool.{cases_order}
-use Rattle.std.proofs.lemmas.List.{get_or-set_other, get_or-set_same, get_or_default, length-set}
-use Rattle.std.proofs.lemmas.List.{take-append-le, take_all}
+use Rattle.std.proofs.lemmas.List.{get_or_default, take-append-le, take_all}
 use Rattle.std.proofs.lemmas.List.Elements.{All-set, AllWithin-more_set}
 
 pub any_at : {X : Type 0} (xs : List X) (i : ℕ) (d : X) (P : X → Type 0) → i < length xs
@@ -31,47 +29,6 @@ all_within xs n P whole each = λ k d less. each k d (omega arith) (omega (arith
 -- the element at a place is replaced
 module _ {X : Type 0} (xs : List X) (i : ℕ) (d y : X) (P : X → Type 0) (within : i < length xs)
   where
-    any_to : (P y → P (get_or xs i d)) → Any P (set xs i y) → Any P xs
-    any_to to (k, x, less, at, holds) =
-        let size = length-set xs i y in
-        elim (cases_order k i) [
-          | inl same ↦
-              let is : y ≡ x = sym (get_or-set_same xs i y x within)
-              ∙ (ap (λ j. get_or (set xs i y) j x) (sym same) ∙ at) in
-              any_at xs i d P within (to (subst P (sym is) holds))
-          | inr (inl lower) ↦
-              let no : k ≢ i = λ e. omega (arith, e, lower) in
-              (k, x, omega (arith, size, less), sym (get_or-set_other xs i k y x no) ∙ at, holds)
-          | inr (inr upper) ↦
-              let no : k ≢ i = λ e. omega (arith, e, upper) in
-              (k, x, omega (arith, size, less), sym (get_or-set_other xs i k y x no) ∙ at, holds)
-        ]
-
-    any_back : (P (get_or xs i d) → P y) → Any P xs → Any P (set xs i y)
-    any_back back (k, x, less, at, holds) =
-        let size = length-set xs i y in
-        elim (cases_order k i) [
-          | inl same ↦
-              let is : get_or xs i d ≡ x = get_or_default xs i d x within
-              ∙ (ap (λ j. get_or xs j x) (sym same) ∙ at) in (
-                i,
-                y,
-                omega (arith, size, within),
-                get_or-set_same xs i y y within,
-                back
-                    (subst P (sym is) holds),
-              )
-          | inr (inl lower) ↦
-              let no : k ≢ i = λ e. omega (arith, e, lower) in
-              (k, x, omega (arith, size, less), get_or-set_other xs i k y x no ∙ at, holds)
-          | inr (inr upper) ↦
-              let no : k ≢ i = λ e. omega (arith, e, upper) in
-              (k, x, omega (arith, size, less), get_or-set_other xs i k y x no ∙ at, holds)
-        ]
-
-    pub any_set : (P y ↔ P (get_or xs i d)) → Any P (set xs i y) ↔ Any P xs
-    any_set same = (any_to same.0, any_back same.1)
-
     pub none_set : AllWithin (λ x. P x → ⊥) xs 0 i → (P y → ⊥)
         → AllWithin (λ x. P x → ⊥) (set xs i y) 0 (i + 1)
     none_set no_one not_y = AllWithin-more_set xs i y within (λ x. P x → ⊥) no_one not_y
@@ -110,14 +67,6 @@ pub found_some : {T : Type 0} (found : Option T) (one : T) (P : T → Type 0) �
     → IfSome found P → P one
 found_some found one P is kept = subst (λ f. IfSome f P) is kept
 
-pub match_some : {T : Type 0} (found : Option T) (one : T) (A B : Type 0) → found ≡ Some one
-    → MatchOption found A (λ _. B) → B
-match_some found one A B is h = subst (λ f. MatchOption f A (λ _. B)) is h
-
-pub match_none : {T : Type 0} (found : Option T) (A B : Type 0) → found ≡ None
-    → MatchOption found A (λ _. B) → A
-match_none found A B is h = subst (λ f. MatchOption f A (λ _. B)) is h
-
 -- a list that equals another, and one that was written back to its place
 
 pub over_list : {X : Type 0} (xs ys : List X) (F : List X → Type 0) → xs ≡ ys → F xs → F ys
@@ -129,10 +78,13 @@ written_back n new rest size = take-append-le n new rest (omega (arith, size))
     ∙ take_all n new (omega (arith, size))
 
 -- what is told of a state is told of the same one by another list
-pub covered_at : {E A : Type 0} (r : Result (Option A) E) (Q : List ℕ → Type 0) (x y : List ℕ)
-    (P : Type 0) → x ≡ y → P
-    → IfOk r (λ found. MatchOption found (Q x → ⊥) (λ _. Q x))
-    → IfOk r (λ found. MatchOption found (P × (Q y → ⊥)) (λ _. P → Q y))
-covered_at (Ok None) Q x y P e p h = (p, λ q. h (subst Q (sym e) q))
-covered_at (Ok (Some a)) Q x y P e p h = λ _. subst Q e h
-covered_at (Err f) Q x y P e p h = tt
+pub covered_at : {E : Type 0} (r : Result Bool E) (Q : List ℕ → Type 0) (x y : List ℕ)
+    (P : Type 0) → x ≡ y → IfOk r (λ b. b ≡ true → Q x) → IfOk r (λ b. b ≡ true → P → Q y)
+covered_at (Ok b) Q x y P e h = λ is _. subst Q e (h is)
+covered_at (Err f) Q x y P e h = tt
+
+pub uncovered_at : {E : Type 0} (r : Result Bool E) (Q : List ℕ → Type 0) (x y : List ℕ)
+    (P : Type 0) → x ≡ y → P → IfOk r (λ b. b ≡ false → Q x → ⊥)
+    → IfOk r (λ b. b ≡ false → P × (Q y → ⊥))
+uncovered_at (Ok b) Q x y P e p h = λ is. (p, λ q. h is (subst Q (sym e) q))
+uncovered_at (Err f) Q x y P e p h = tt

@@ -28,10 +28,11 @@ pub record IsAtomSet (atoms : ℕ) (held : List ℕ) : Type 0 where
 abbrev pub IsLogEntry : ℕ → LogEntry → Type 0
 IsLogEntry atoms entry = IsAtomSet atoms entry.state
 
--- how many entries are expanded states, and how many are pruned ones
+-- how many entries are expanded states
 abbrev pub expanded_count : List LogEntry → ℕ
 expanded_count entries = count_by (λ e. e.expanded) entries
 
+-- how many entries are pruned states
 abbrev pub pruned_count : List LogEntry → ℕ
 pruned_count entries = count_by (λ e. not e.expanded) entries
 

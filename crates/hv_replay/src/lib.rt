@@ -11,6 +11,7 @@ pub mod laws;
 mod line;
 pub mod log;
 mod open;
+mod origin;
 pub mod proof;
 mod pruned;
 pub mod read;

@@ -6,10 +6,12 @@ ghost use Rattle.hv_task.specs.State.{AreBelow, has_atom, state_of};
 ghost use Rattle.hv_task.specs.Strips.{IsState, atoms};
 ghost use Rattle.hv_replay.specs.Closed.{IsFirstWithout, LeadsOn};
 ghost use Rattle.hv_replay.specs.Logs.{IsAtomSet};
-ghost use Rattle.hv_replay.specs.Working.Following.{HasExpanded, IsOpen, LeadAllOn, StaysListed};
+ghost use Rattle.hv_replay.specs.Working.Following.{HasExpanded, IsOpen, LeadAllOn, StaysFrom};
+ghost use Rattle.hv_replay.specs.Working.Following.{StaysListed};
 ghost use Rattle.hv_replay.specs.Working.Waiting.{AreWaiting, IsIn};
 
 use crate::log::Log;
+use crate::origin::Origin;
 use hv_explicit::Explicit;
 use hv_task::{State, Task};
 use std::alloc::{AllocError, Global};
@@ -129,9 +131,15 @@ fn least_exit(
 {
     state.hold(held);
     let count = task.actions();
-    let mut least = least_in(task, listed, rows, state, held, task.atoms(), count);
+    let origin = Origin {
+        task,
+        listed,
+        state: &*state,
+        held,
+    };
+    let mut least = least_in(&origin, rows, task.atoms(), count);
     for atom in held {
-        least = least_in(task, listed, rows, state, held, *atom, least);
+        least = least_in(&origin, rows, *atom, least);
     }
     if least == count {
         return None;
@@ -139,104 +147,59 @@ fn least_exit(
     Some(least)
 }
 
-// Of the bound and the actions of a row, the least that leads from the state of these atoms to one
-// that isn't listed; of the bound that isn't asked.
-fn least_in(
-    task: &Task,
-    listed: &Explicit,
-    rows: &Vec<Vec<u32>>,
-    state: &State,
-    held: &[u32],
-    place: u32,
-    bound: u32,
-) -> u32
-    requires state { state.now ≡ state_of (atoms task.now) held.now }
-    requires atoms { listed.now.atoms ≡ atoms task.now }
-    requires rows { AreWaiting (atoms task.now) task.now.actions rows.now.items }
-    requires held { IsAtomSet (atoms task.now) held.now }
-    requires place { place ≤ atoms task.now }
+// Of the bound and the actions of a row, the least that leads to a state that isn't listed; of the
+// bound that isn't asked.
+fn least_in(origin: &Origin<'_>, rows: &Vec<Vec<u32>>, place: u32, bound: u32) -> u32
+    requires rows { AreWaiting (atoms origin.now.task.now) origin.now.task.now.actions
+        rows.now.items }
+    requires place { place ≤ atoms origin.now.task.now }
     ensures upto { result ≤ bound }
     ensures stay { (action : ℕ) → IsIn rows.now.items place action → action < result
-        → StaysListed task.now listed.now (state_of (atoms task.now) held.now) action }
-    ensures exit { result < bound
-        → StaysListed task.now listed.now (state_of (atoms task.now) held.now) result → ⊥ }
+        → StaysFrom origin.now action }
+    ensures exit { result < bound → StaysFrom origin.now result → ⊥ }
 {
-    least_among(
-        task,
-        listed,
-        rows[place as usize].as_slice(),
-        state,
-        held,
-        bound,
-    )
+    least_among(origin, rows[place as usize].as_slice(), bound)
 }
 
 // The same for the actions of this row.
-fn least_among(
-    task: &Task,
-    listed: &Explicit,
-    row: &[u32],
-    state: &State,
-    held: &[u32],
-    bound: u32,
-) -> u32
-    requires state { state.now ≡ state_of (atoms task.now) held.now }
-    requires atoms { listed.now.atoms ≡ atoms task.now }
-    requires row { AreBelow (length task.now.actions) row.now }
-    requires held { IsAtomSet (atoms task.now) held.now }
+fn least_among(origin: &Origin<'_>, row: &[u32], bound: u32) -> u32
+    requires { AreBelow (length origin.now.task.now.actions) row.now }
     ensures upto { result ≤ bound }
     ensures stay { (action : ℕ) → Contains row.now action → action < result
-        → StaysListed task.now listed.now (state_of (atoms task.now) held.now) action }
-    ensures exit { result < bound
-        → StaysListed task.now listed.now (state_of (atoms task.now) held.now) result → ⊥ }
+        → StaysFrom origin.now action }
+    ensures exit { result < bound → StaysFrom origin.now result → ⊥ }
 {
     let mut least = bound;
     for action in row {
-        least = lesser_exit(task, listed, *action, state, held, least);
+        least = lesser_exit(origin, *action, least);
     }
     least
 }
 
-// The action, where it is less than the bound and leads from the state of these atoms to one that
-// isn't listed, and otherwise the bound.
-fn lesser_exit(
-    task: &Task,
-    listed: &Explicit,
-    action: u32,
-    state: &State,
-    held: &[u32],
-    bound: u32,
-) -> u32
-    requires state { state.now ≡ state_of (atoms task.now) held.now }
-    requires atoms { listed.now.atoms ≡ atoms task.now }
-    requires action { action < length task.now.actions }
-    requires held { IsAtomSet (atoms task.now) held.now }
+// The action, where it is less than the bound and leads to a state that isn't listed, and otherwise
+// the bound.
+fn lesser_exit(origin: &Origin<'_>, action: u32, bound: u32) -> u32
+    requires { action < length origin.now.task.now.actions }
     ensures upto { result ≤ bound }
-    ensures stays { action < result
-        → StaysListed task.now listed.now (state_of (atoms task.now) held.now) action }
-    ensures exit { result < bound
-        → StaysListed task.now listed.now (state_of (atoms task.now) held.now) result → ⊥ }
+    ensures stays { action < result → StaysFrom origin.now action }
+    ensures exit { result < bound → StaysFrom origin.now result → ⊥ }
 {
-    if action >= bound || stays(task, listed, action, state, held) {
+    if action >= bound || stays(origin, action) {
         return bound;
     }
     action
 }
 
-// Whether the action isn't applicable in the state of these atoms, or its result is listed.
-fn stays(task: &Task, listed: &Explicit, number: u32, state: &State, held: &[u32]) -> bool
-    requires state { state.now ≡ state_of (atoms task.now) held.now }
-    requires atoms { listed.now.atoms ≡ atoms task.now }
-    requires number { number < length task.now.actions }
-    requires held { IsAtomSet (atoms task.now) held.now }
-    ensures { IsTrue result
-        ↔ StaysListed task.now listed.now (state_of (atoms task.now) held.now) number }
+// Whether the action isn't applicable in the state, or its result is listed.
+fn stays(origin: &Origin<'_>, number: u32) -> bool
+    requires { number < length origin.now.task.now.actions }
+    ensures { IsTrue result ↔ StaysFrom origin.now number }
 {
-    let action = task.action(number);
-    if !holds_each(state, action.pre.as_slice()) {
+    let action = origin.task.action(number);
+    if !holds_each(origin.state, action.pre.as_slice()) {
         return true;
     }
-    listed.lists_after(held, action)
+    origin.listed.lists_after(origin.held, action)
 }
 
 // Whether the state holds each of these atoms.

@@ -1,7 +1,7 @@
 //! Proofs of logs.
 
-ghost use Rattle.std.specs.Prelude.{◌≡◌, ◌<◌, ◌++◌, ◌∷◌, ℕ, false, [], List, IfErr, IfOk, IfSome};
-ghost use Rattle.std.specs.Prelude.{MatchOption, OnOk, length};
+ghost use Rattle.std.specs.Prelude.{◌≡◌, ◌<◌, ◌++◌, ◌∷◌, ℕ, false, true, [], List, IfErr, IfOk};
+ghost use Rattle.std.specs.Prelude.{OnOk, length};
 ghost use Rattle.std.specs.List.{All, Any};
 ghost use Rattle.hv_task.specs.State.{state_of};
 ghost use Rattle.hv_task.specs.Strips.{IsState, atoms};
@@ -92,36 +92,50 @@ fn replay_begun(
     ensures covers { CoverAlike (λ b. covers b) pruners.new pruners.old }
 {
     follow(alloc, task, log)?;
-    let mut draft = Draft::new(alloc, task)?;
-    put_all(alloc, task, log, &mut draft, pruners)?;
-    Ok(draft)
+    let draft = Draft::new(alloc, task)?;
+    put_all(alloc, task, log, draft, pruners)
 }
 
-// Puts all lines of the proof of a log last that is followed, after those with which every draft
-// begins.
+// What is written of a proof: a draft, the union of the pruned states in it, and a state to write
+// to.
+#[derive(Drop)]
+struct Writing {
+    draft: Draft,
+    union: Note,
+    state: State,
+}
+
+// The proof of a log that is followed, from a draft on that has only the lines with which every
+// draft begins.
 fn put_all(
     alloc: Global,
     task: &Task,
     log: &Log,
-    draft: &mut Draft,
+    draft: Draft,
     pruners: &mut [Box<dyn Pruner>],
-) -> Result<(), ReplayFault>
+) -> Result<Draft, ReplayFault>
     requires atoms { log.now.atoms ≡ atoms task.now }
     requires followed { IsSearchFollowed task.now log.now }
-    requires draft { draft.old.lines ≡ onto prelude [] }
-    requires good { IsGoodTable task.now draft.old.lines }
+    requires draft { draft.lines ≡ onto prelude [] }
+    requires good { IsGoodTable task.now draft.lines }
     requires fits { (lines : List Line) → All (λ b. fits b task.now lines) pruners.old }
-    ensures justified { OnOk result ((place : ℕ) → IsJustified log.now
+    ensures justified { IfOk result (λ _. (place : ℕ) → IsJustified log.now
         (λ state. Any (λ b. covers b task.now state) pruners.old) place) }
     ensures uncovered { IfErr result (IsUncovered log.now
         (λ state. Any (λ b. covers b task.now state) pruners.old)) }
-    ensures proof { OnOk result (IsProof task.now log.now draft.new.lines) }
+    ensures proof { IfOk result (λ whole. IsProof task.now log.now whole.lines) }
     ensures covers { CoverAlike (λ b. covers b) pruners.new pruners.old }
 {
-    let mut state = task.start_state(alloc)?;
-    let union = put_pruned(alloc, task, log, draft, &mut state, pruners)?;
-    put_end(alloc, task, log, draft, union)?;
-    Ok(())
+    let state = task.start_state(alloc)?;
+    let union = Note { set: 0, line: 0 };
+    let mut writing = Writing {
+        draft,
+        union,
+        state,
+    };
+    put_pruned(alloc, task, log, &mut writing, pruners)?;
+    put_end(alloc, task, log, &mut writing.draft, writing.union)?;
+    Ok(writing.draft)
 }
 
 // Puts the lines last with which the proof ends; `union` is the union of all pruned states.
@@ -143,113 +157,113 @@ fn put_end(
     push_closing(alloc, draft, task, states, union)
 }
 
-// Puts the lines of all pruned states last, and answers with their union; `state` is one to write
-// to.
+// Puts the lines of all pruned states last.
 fn put_pruned(
     alloc: Global,
     task: &Task,
     log: &Log,
-    draft: &mut Draft,
-    state: &mut State,
+    writing: &mut Writing,
     pruners: &mut [Box<dyn Pruner>],
-) -> Result<Note, ReplayFault>
+) -> Result<(), ReplayFault>
     requires atoms { log.now.atoms ≡ atoms task.now }
-    requires state { IsState task.now state.old }
-    requires draft { draft.old.lines ≡ onto prelude [] }
-    requires good { IsGoodTable task.now draft.old.lines }
+    requires state { IsState task.now writing.old.state }
+    requires draft { writing.old.draft.lines ≡ onto prelude [] }
+    requires union { writing.old.union ≡ record { set = 0; line = 0 } }
+    requires good { IsGoodTable task.now writing.old.draft.lines }
     requires fits { (lines : List Line) → All (λ b. fits b task.now lines) pruners.old }
-    ensures justified { IfOk result (λ _. (place : ℕ) → IsJustified log.now
+    ensures justified { OnOk result ((place : ℕ) → IsJustified log.now
         (λ state. Any (λ b. covers b task.now state) pruners.old) place) }
     ensures uncovered { IfErr result (IsUncovered log.now
         (λ state. Any (λ b. covers b task.now state) pruners.old)) }
-    ensures progress { IfOk result
-        (IsProgress task.now (pruned_in log.now.entries) draft.new.lines) }
+    ensures progress { OnOk result (IsProgress task.now (pruned_in log.now.entries)
+        writing.new.draft.lines writing.new.union) }
     ensures covers { CoverAlike (λ b. covers b) pruners.new pruners.old }
 {
-    let mut union = Note { set: 0, line: 0 };
     for place in 0..log.len() {
-        match put_one(alloc, task, log, place, draft, state, pruners, union)? {
-            Some(more) => union = more,
-            None => return Err(ReplayFault::Unjustified(line_of(log, place))),
+        let covered = put_one(alloc, task, log, place, writing, pruners)?;
+        if !covered {
+            return Err(ReplayFault::Unjustified(line_of(log, place)));
         }
     }
-    Ok(union)
+    Ok(())
 }
 
-// Puts the lines of an entry last, where it is a pruned state, and answers with the union of the
-// pruned states with it; or with nothing where the state isn't covered.
+// Puts the lines of an entry last, where it is a pruned state, unless this isn't covered. Says
+// whether it isn't an uncovered pruned state.
 fn put_one(
     alloc: Global,
     task: &Task,
     log: &Log,
     place: usize,
-    draft: &mut Draft,
-    state: &mut State,
+    writing: &mut Writing,
     pruners: &mut [Box<dyn Pruner>],
-    union: Note,
-) -> Result<Option<Note>, AllocError>
+) -> Result<bool, AllocError>
     requires atoms { log.now.atoms ≡ atoms task.now }
     requires place { place < length log.now.entries }
-    requires state { IsState task.now state.old }
-    requires good { IsGoodTable task.now draft.old.lines }
-    requires union { (pruned : ℕ) × IsPrunedUnion task.now draft.old.lines pruned union }
-    requires fits { (lines : List Line) → Extends task.now draft.old.lines lines
+    requires state { IsState task.now writing.old.state }
+    requires good { IsGoodTable task.now writing.old.draft.lines }
+    requires union { (pruned : ℕ)
+        × IsPrunedUnion task.now writing.old.draft.lines pruned writing.old.union }
+    requires fits { (lines : List Line) → Extends task.now writing.old.draft.lines lines
         → All (λ b. fits b task.now lines) pruners.old }
-    ensures state { IsState task.now state.new }
+    ensures state { IsState task.now writing.new.state }
     ensures covered { (entry : LogEntry) → StandsInLog log.now place entry
-        → IfOk result (λ found. MatchOption found
-        ((entry.expanded ≡ false) × (Any (λ b. covers b task.now
-        (state_of (atoms task.now) entry.state)) pruners.old → ⊥))
-        (λ _. entry.expanded ≡ false → Any (λ b. covers b task.now
-        (state_of (atoms task.now) entry.state)) pruners.old)) }
+        → IfOk result (λ covered. covered ≡ true → entry.expanded ≡ false
+        → Any (λ b. covers b task.now (state_of (atoms task.now) entry.state)) pruners.old) }
+    ensures uncovered { (entry : LogEntry) → StandsInLog log.now place entry
+        → IfOk result (λ covered. covered ≡ false → (entry.expanded ≡ false)
+        × (Any (λ b. covers b task.now (state_of (atoms task.now) entry.state)) pruners.old
+        → ⊥)) }
     ensures progress { (entry : LogEntry) → StandsInLog log.now place entry
-        → IfOk result (λ found. IfSome found (λ more. (before : List LogEntry)
-        → IsProgress task.now (pruned_in before) draft.old.lines union
-        → IsProgress task.now (pruned_in (before ++ entry ∷ [])) draft.new.lines more)) }
-    ensures fits { (lines : List Line) → Extends task.now draft.new.lines lines
+        → IfOk result (λ covered. covered ≡ true → (before : List LogEntry)
+        → IsProgress task.now (pruned_in before) writing.old.draft.lines writing.old.union
+        → IsProgress task.now (pruned_in (before ++ entry ∷ [])) writing.new.draft.lines
+        writing.new.union) }
+    ensures fits { (lines : List Line) → Extends task.now writing.new.draft.lines lines
         → All (λ b. fits b task.now lines) pruners.new }
     ensures covers { CoverAlike (λ b. covers b) pruners.new pruners.old }
 {
     if log.expanded(place) {
-        return Ok(Some(union));
+        return Ok(true);
     }
-    put_state(alloc, task, log.held(place), draft, state, pruners, union)
+    put_state(alloc, task, log.held(place), writing, pruners)
 }
 
-// Puts the lines of a pruned state last, and answers with the union of the pruned states with it;
-// or with nothing where the state isn't covered.
+// Puts the lines of a pruned state last, where it is covered, and says whether it is.
 fn put_state(
     alloc: Global,
     task: &Task,
     held: &[u32],
-    draft: &mut Draft,
-    state: &mut State,
+    writing: &mut Writing,
     pruners: &mut [Box<dyn Pruner>],
-    union: Note,
-) -> Result<Option<Note>, AllocError>
+) -> Result<bool, AllocError>
     requires held { IsAtomSet (atoms task.now) held.now }
-    requires state { IsState task.now state.old }
-    requires good { IsGoodTable task.now draft.old.lines }
-    requires union { (pruned : ℕ) × IsPrunedUnion task.now draft.old.lines pruned union }
-    requires fits { (lines : List Line) → Extends task.now draft.old.lines lines
+    requires state { IsState task.now writing.old.state }
+    requires good { IsGoodTable task.now writing.old.draft.lines }
+    requires union { (pruned : ℕ)
+        × IsPrunedUnion task.now writing.old.draft.lines pruned writing.old.union }
+    requires fits { (lines : List Line) → Extends task.now writing.old.draft.lines lines
         → All (λ b. fits b task.now lines) pruners.old }
-    ensures state { IsState task.now state.new }
-    ensures covered { IfOk result (λ found. MatchOption found
-        (Any (λ b. covers b task.now (state_of (atoms task.now) held.now)) pruners.old → ⊥)
-        (λ _. Any (λ b. covers b task.now (state_of (atoms task.now) held.now)) pruners.old)) }
-    ensures progress { IfOk result (λ found. IfSome found (λ more. (states : List (List ℕ))
-        → IsProgress task.now states draft.old.lines union
-        → IsProgress task.now (states ++ held.now ∷ []) draft.new.lines more)) }
-    ensures fits { (lines : List Line) → Extends task.now draft.new.lines lines
+    ensures state { IsState task.now writing.new.state }
+    ensures covered { IfOk result (λ covered. covered ≡ true
+        → Any (λ b. covers b task.now (state_of (atoms task.now) held.now)) pruners.old) }
+    ensures uncovered { IfOk result (λ covered. covered ≡ false
+        → Any (λ b. covers b task.now (state_of (atoms task.now) held.now)) pruners.old → ⊥) }
+    ensures progress { IfOk result (λ covered. covered ≡ true → (states : List (List ℕ))
+        → IsProgress task.now states writing.old.draft.lines writing.old.union
+        → IsProgress task.now (states ++ held.now ∷ []) writing.new.draft.lines
+        writing.new.union) }
+    ensures fits { (lines : List Line) → Extends task.now writing.new.draft.lines lines
         → All (λ b. fits b task.now lines) pruners.new }
     ensures covers { CoverAlike (λ b. covers b) pruners.new pruners.old }
 {
-    state.hold(held);
-    match ask(alloc, task, draft, state, pruners)? {
-        None => Ok(None),
+    writing.state.hold(held);
+    match ask(alloc, task, &mut writing.draft, &writing.state, pruners)? {
+        None => Ok(false),
         Some(by) => {
-            let more = push_pruned(alloc, draft, task, held, by, union)?;
-            Ok(Some(more))
+            let more = push_pruned(alloc, &mut writing.draft, task, held, by, writing.union)?;
+            writing.union = more;
+            Ok(true)
         }
     }
 }

@@ -8,10 +8,11 @@ use Rattle.hv_sets.specs.declared.literal.Literal.{Literal}
 
 -- A conjunction is a list of its literals.
 
--- the literal of an atom, and the one that denies it
+-- the literal of an atom
 abbrev pub affirms : ℕ → Literal
 affirms p = record { atom = p; positive = true }
 
+-- the literal that denies an atom
 abbrev pub denies : ℕ → Literal
 denies p = record { atom = p; positive = false }
 

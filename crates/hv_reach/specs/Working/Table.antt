@@ -43,10 +43,11 @@ abbrev pub missing_cells : List (List Bool) → ℕ
 missing_cells [] = 0
 missing_cells (row ∷ rows) = missing row + missing_cells rows
 
--- the table with one cell set, and with a pair set both ways
+-- the table with one cell set
 abbrev pub set_at : List (List Bool) → ℕ → ℕ → List (List Bool)
 set_at rows p q = slice_set rows p (slice_set (slice_index_or rows p []) q true)
 
+-- the table with a pair set both ways
 abbrev pub set_both : List (List Bool) → ℕ → ℕ → List (List Bool)
 set_both rows p q = set_at (set_at rows p q) q p
 

@@ -3,13 +3,14 @@ use Rattle.std.specs.Prelude.{◌≡◌, ◌<◌, ℕ, Bool, true, List, Option,
 use Rattle.std.specs.Prelude.{MatchOption, length, slice_get}
 use Rattle.std.specs.List.{All}
 use Rattle.hv_task.specs.declared.action.Action.{Action}
-use Rattle.hv_task.specs.State.{applicable, successor}
-use Rattle.hv_task.specs.Strips.{Strips}
+use Rattle.hv_task.specs.State.{applicable, state_of, successor}
+use Rattle.hv_task.specs.Strips.{Strips, atoms}
 use Rattle.hv_explicit.specs.Listing.{Listing, in_listing}
 use Rattle.hv_replay.specs.Closed.{IsFirstHole, IsFirstWithout, IsSearchFollowed, LeadsOn}
 use Rattle.hv_replay.specs.Logs.{LogEntry, SearchLog, StandsInLog}
 use Rattle.hv_replay.specs.declared.hole.ReplayFault.{ReplayFault}
 use Rattle.hv_replay.specs.declared.hole.ReplayFault.TheVariants as H
+use Rattle.hv_replay.specs.declared.origin.Origin.{Origin}
 
 -- the set has just the states of the log
 pub record ListsLog (log : SearchLog) (set : Listing) : Type 0 where
@@ -21,6 +22,13 @@ abbrev pub StaysListed : Strips → Listing → List Bool → ℕ → Type 0
 StaysListed task set state number =
     (action : Action) → slice_get task.actions number ≡ Some action
     → applicable action state ≡ true → in_listing set (successor action state) ≡ true
+
+-- where the action of this number is applicable in the state from which it is asked, its result is
+-- listed
+abbrev pub StaysFrom : Origin → ℕ → Type 0
+StaysFrom origin number =
+    StaysListed origin.task.now origin.listed.now
+    (state_of (atoms origin.task.now) origin.held.now) number
 
 -- the entry at this place is an expanded state of these atoms
 abbrev pub HasExpanded : SearchLog → ℕ → List ℕ → Type 0

@@ -24,6 +24,7 @@ begun_where false states = None
 abbrev pub entries_in : Entries → List LogEntry
 entries_in r = entries_of r.expanded.items r.states.whole
 
+-- the log of what was read
 abbrev pub log_of : Entries → SearchLog
 log_of r = record { atoms = r.atoms; entries = entries_in r }
 
@@ -56,6 +57,7 @@ abbrev pub as_entries : Result Entries (ParseFault LogRefusal)
 as_entries (Ok r) = Ok (entries_in r)
 as_entries (Err e) = Err e
 
+-- the same as a log
 abbrev pub as_log : Result Entries (ParseFault LogRefusal)
     → Result SearchLog (ParseFault LogRefusal)
 as_log (Ok r) = Ok (log_of r)

@@ -16,6 +16,7 @@ pub record Enclose (task : Strips) (set : List Literal → Bool) (clauses : List
   pub greatest : (c : List Literal) → InGreatestTrap task c → set c ≡ true
   pub listed : clauses ≡ denials set (atoms task)
 
+-- the same, for conjunctions that the clauses tell
 abbrev pub EncloseTrap : Strips → List (List Literal) → Type 0
 EncloseTrap task clauses = (set : List Literal → Bool) × Enclose task set clauses
 

@@ -5,8 +5,8 @@ use Rattle.hv_reach.proofs.pair_pruner.first_noted.Given as goal
 
 abbrev pub invariant-loop-place : goal.invariant-loop-place
 invariant-loop-place l =
-    (k : ℕ) (note : Note) → k < l.from → slice_get l.notes.items k ≡ Some note
+    (k : ℕ) (note : Note) → k < l.from → slice_get l.kept.noted.notes.items k ≡ Some note
     → states_in l.task l.draft.lines note.set l.state → ⊥
 
 abbrev pub decreases-loop-place : goal.decreases-loop-place
-decreases-loop-place l = length l.rows.rows - l.from
+decreases-loop-place l = length l.kept.noted.rows.rows - l.from

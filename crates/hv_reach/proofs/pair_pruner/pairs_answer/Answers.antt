@@ -16,8 +16,8 @@ pub returns-then-is_some-clause-outcome : goal.returns-then-is_some-clause-outco
 returns-then-is_some-clause-outcome c =
     outcome_told c.args.task.now (PairsCover c.args.task.now)
     (IsPairsBlock c.args.task.now c.args.state.now c.args.draft.now.lines)
-    c.args.state.now c.args.notes.now.items c.args.draft.now c.requires.state c.requires.good
-    c.requires.fits
+    c.args.state.now c.args.kept.now.noted.notes.items c.args.draft.now c.requires.state
+    c.requires.good c.requires.fits
     c.in_ok-noted.noted (sym c.is_some.ensures ∙ c.if-is_some.true) c.in_ok-noted.ensures
 
 pub write_block-requires-clause-dead : goal.write_block-requires-clause-dead
@@ -47,7 +47,7 @@ returns-in-Some-clause-outcome c =
     let out = c.in_ok-pairs.ensures.some.0
     (ap (λ (f : Option (List (List Bool))). is_some f) c.in-Some.is) in
     let lines = c.args.draft.now.lines in
-    let notes = c.args.notes.now.items in
+    let notes = c.args.kept.now.noted.notes.items in
     let clauses = c.in_ok-clauses-in-Some.clauses in
     let none = none_told task lines notes state c.in_ok-noted.noted
     (sym c.is_some.ensures ∙ c.if-is_some.false)
@@ -55,7 +55,7 @@ returns-in-Some-clause-outcome c =
     let wrote = c.in_ok-line-in-Some.ensures in
     subst (λ n. IsOutcome task (PairsCover task) (IsPairsBlock task state lines) state (Some n)
     notes c.args.draft.now
-    c.write_block.new.notes.items c.write_block.new.draft) (sym wrote.line)
+    c.write_block.new.noted.notes.items c.write_block.new.draft) (sym wrote.line)
     (outcome_written task lines clauses (expr_count lines) (known_count lines)
     (subst (IsGoodTable task) wrote.lines wrote.good)
     (PairsCover task) state (pairs_found_reason task c.in-Some.pairs state each
@@ -68,7 +68,7 @@ returns-in-Some-clause-outcome c =
           c.atoms.result c.atoms.ensures.atoms c.in_ok-clauses-in-Some.ensures,
       (refl, refl, refl),
     )
-    none c.args.draft.now c.write_block.new.draft c.write_block.new.notes.items refl
+    none c.args.draft.now c.write_block.new.draft c.write_block.new.noted.notes.items refl
     wrote.lines wrote.notes)
 
 pub returns-in-Some-clause-described : goal.returns-in-Some-clause-described
@@ -87,11 +87,11 @@ returns-in-Some-clause-described c =
     let wrote = c.in_ok-line-in-Some.ensures in
     written_described task lines clauses (expr_count lines) (known_count lines)
     (subst (IsGoodTable task) wrote.lines wrote.good)
-    HoldsPairsOf (PairsCover task) c.args.notes.now.items c.args.reached.now.items c.in-Some.pairs
-    c.requires.fits c.requires.described size
+    HoldsPairsOf (PairsCover task) c.args.kept.now.noted.notes.items c.args.kept.now.reached.items
+    c.in-Some.pairs c.requires.fits c.requires.described size
     (pairs_found_holds task c.in-Some.pairs state each c.in_ok-clauses-in-Some.clauses
     c.atoms.result c.atoms.ensures.atoms c.in_ok-clauses-in-Some.ensures)
-    c.write_block.new.draft.lines c.write_block.new.notes.items c.push_reserved.new.self.items
+    c.write_block.new.draft.lines c.write_block.new.noted.notes.items c.push_reserved.new.self.items
     wrote.lines wrote.notes
     (c.push_reserved.ensures.items ∙ ap (λ (xs : List (List (List Bool))). xs ++ c.in-Some.pairs
     ∷ []) c.reserve.ensures.items)
@@ -101,16 +101,17 @@ write_block-requires-clause-over c = λ k less.
     let task = c.args.task.now in
     let size = subst (λ (f : Option (List (List Bool))). IfSome f (λ r. length r ≡ atoms task))
     c.in-Some.is c.in_ok-pairs.ensures.size in
-    diagonals_over task c.args.draft.now.lines c.args.notes.now.items c.args.reached.now.items
-    c.requires.described c.args.rows.now.rows c.requires.diagonals k less
+    diagonals_over task c.args.draft.now.lines c.args.kept.now.noted.notes.items
+    c.args.kept.now.reached.items
+    c.requires.described c.args.kept.now.noted.rows.rows c.requires.diagonals k less
     ∙ sym (c.in_ok-row-in-Some.ensures.0 ∙ size)
 
 pub returns-in-Some-clause-diagonals : goal.returns-in-Some-clause-diagonals
 returns-in-Some-clause-diagonals c =
     let wrote = c.in_ok-line-in-Some.ensures in
     subst (λ rs. AreDiagonals rs c.push_reserved.new.self.items) (sym wrote.rows)
-    (subst (AreDiagonals (c.args.rows.now.rows ++ c.in_ok-row-in-Some.row ∷ []))
+    (subst (AreDiagonals (c.args.kept.now.noted.rows.rows ++ c.in_ok-row-in-Some.row ∷ []))
     (sym (c.push_reserved.ensures.items ∙ ap
     (λ (xs : List (List (List Bool))). xs ++ c.in-Some.pairs ∷ []) c.reserve.ensures.items))
-    (diagonals_pushed c.args.rows.now.rows c.args.reached.now.items c.in_ok-row-in-Some.row
-    c.in-Some.pairs c.requires.diagonals c.in_ok-row-in-Some.ensures))
+    (diagonals_pushed c.args.kept.now.noted.rows.rows c.args.kept.now.reached.items
+    c.in_ok-row-in-Some.row c.in-Some.pairs c.requires.diagonals c.in_ok-row-in-Some.ensures))

@@ -6,28 +6,28 @@ use Rattle.hv_reach.proofs.relaxed_pruner.first_noted.Goals as goal
 
 pub first-requires : goal.first-requires
 first-requires c =
-    atoms_below c.args.task.now c.args.draft.now.lines c.args.notes.now.items
-    c.args.reached.now.rows c.requires.described c.args.state.now c.requires.state
+    atoms_below c.args.task.now c.args.draft.now.lines c.args.noted.now.notes.items
+    c.args.noted.now.rows.rows c.requires.described c.args.state.now c.requires.state
     c.args.held.now c.requires.held
 
 pub returns-in-Some : goal.returns-in-Some
 returns-in-Some c =
-    let rows = c.args.reached.now.rows in
+    let rows = c.args.noted.now.rows.rows in
     let told : IsFirstPlace (RowHas rows c.args.held.now) (length rows) 0 (Some c.in-Some.place) =
     subst (IsFirstPlace (RowHas rows c.args.held.now) (length rows) 0) c.in-Some.is
     c.in_ok-place.ensures in
-    let less : c.in-Some.place < length c.args.notes.now.items = let same =
+    let less : c.in-Some.place < length c.args.noted.now.notes.items = let same =
     c.requires.described.0 in let below = told.1 in omega (arith, same, below) in
-    first_of_rows c.args.task.now c.args.draft.now.lines c.args.notes.now.items rows
+    first_of_rows c.args.task.now c.args.draft.now.lines c.args.noted.now.notes.items rows
     c.requires.described c.args.state.now c.requires.state
     c.args.held.now c.requires.held c.in-Some.place c.index.result.now
-    (slice_get_at c.args.notes.now.items c.in-Some.place c.index.result.now less c.index.ensures)
-    told
+    (slice_get_at c.args.noted.now.notes.items c.in-Some.place c.index.result.now less
+    c.index.ensures) told
 
 pub returns-in-None : goal.returns-in-None
 returns-in-None c =
-    let rows = c.args.reached.now.rows in
-    none_of_rows c.args.task.now c.args.draft.now.lines c.args.notes.now.items rows
+    let rows = c.args.noted.now.rows.rows in
+    none_of_rows c.args.task.now c.args.draft.now.lines c.args.noted.now.notes.items rows
     c.requires.described c.args.state.now c.requires.state
     c.args.held.now c.requires.held (subst
     (IsFirstPlace (RowHas rows c.args.held.now) (length rows) 0) c.in-None.is
@@ -35,7 +35,7 @@ returns-in-None c =
 
 pub index-requires : goal.index-requires
 index-requires c =
-    let rows = c.args.reached.now.rows in
+    let rows = c.args.noted.now.rows.rows in
     let told : IsFirstPlace (RowHas rows c.args.held.now) (length rows) 0 (Some c.in-Some.place) =
     subst (IsFirstPlace (RowHas rows c.args.held.now) (length rows) 0) c.in-Some.is
     c.in_ok-place.ensures in

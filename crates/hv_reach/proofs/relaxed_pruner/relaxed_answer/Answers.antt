@@ -18,9 +18,9 @@ pub returns-then-is_some-clause-outcome : goal.returns-then-is_some-clause-outco
 returns-then-is_some-clause-outcome c =
     outcome_told c.args.task.now (RelaxedExcludesFrom c.args.task.now)
     (IsRelaxedBlock c.args.task.now c.args.state.now c.args.draft.now.lines)
-    c.args.state.now c.args.notes.now.items c.args.draft.now c.requires.state c.requires.good
+    c.args.state.now c.args.noted.now.notes.items c.args.draft.now c.requires.state c.requires.good
     c.requires.fits
-    c.in_ok-noted.noted (sym c.is_some.ensures ∙ c.if-is_some.true) c.in_ok-noted.ensures
+    c.in_ok-told.told (sym c.is_some.ensures ∙ c.if-is_some.true) c.in_ok-told.ensures
 
 pub write_block-requires-clause-dead : goal.write_block-requires-clause-dead
 write_block-requires-clause-dead c =
@@ -49,15 +49,15 @@ returns-in-Some-clause-outcome c =
     let out = c.in_ok-row.ensures.some.0 (ap (λ (f : Option (List Bool)). is_some f) c.in-Some.is)
     in
     let lines = c.args.draft.now.lines in
-    let notes = c.args.notes.now.items in
+    let notes = c.args.noted.now.notes.items in
     let clauses = c.in_ok-clauses-in-Some.clauses in
-    let none = none_told task lines notes state c.in_ok-noted.noted
+    let none = none_told task lines notes state c.in_ok-told.told
     (sym c.is_some.ensures ∙ c.if-is_some.false)
-    c.in_ok-noted.ensures in
+    c.in_ok-told.ensures in
     let wrote = c.in_ok-line-in-Some.ensures in
     subst (λ n. IsOutcome task (RelaxedExcludesFrom task) (IsRelaxedBlock task state lines) state
     (Some n) notes c.args.draft.now
-    c.write_block.new.notes.items c.write_block.new.draft) (sym wrote.line)
+    c.write_block.new.noted.notes.items c.write_block.new.draft) (sym wrote.line)
     (outcome_written task lines clauses (expr_count lines) (known_count lines)
     (subst (IsGoodTable task) wrote.lines wrote.good)
     (RelaxedExcludesFrom task) state (relaxed_found_reason task c.in-Some.row size state each
@@ -69,7 +69,7 @@ returns-in-Some-clause-outcome c =
           c.in_ok-clauses-in-Some.clauses c.in_ok-clauses-in-Some.ensures,
       (refl, refl, refl),
     ) none
-    c.args.draft.now c.write_block.new.draft c.write_block.new.notes.items refl
+    c.args.draft.now c.write_block.new.draft c.write_block.new.noted.notes.items refl
     wrote.lines wrote.notes)
 
 pub returns-in-Some-clause-described : goal.returns-in-Some-clause-described
@@ -88,17 +88,17 @@ returns-in-Some-clause-described c =
     let wrote = c.in_ok-line-in-Some.ensures in
     written_described task lines clauses (expr_count lines) (known_count lines)
     (subst (IsGoodTable task) wrote.lines wrote.good)
-    HoldsAtomsOf (RelaxedExcludesFrom task) c.args.notes.now.items c.args.reached.now.rows
+    HoldsAtomsOf (RelaxedExcludesFrom task) c.args.noted.now.notes.items c.args.noted.now.rows.rows
     c.in-Some.row c.requires.fits c.requires.described size
     (relaxed_found_holds task c.in-Some.row size state each c.in_ok-clauses-in-Some.clauses
     c.in_ok-clauses-in-Some.ensures)
-    c.write_block.new.draft.lines c.write_block.new.notes.items c.write_block.new.rows.rows
-    wrote.lines wrote.notes wrote.rows
+    c.write_block.new.draft.lines c.write_block.new.noted.notes.items
+    c.write_block.new.noted.rows.rows wrote.lines wrote.notes wrote.rows
 
 pub write_block-requires-clause-over : goal.write_block-requires-clause-over
 write_block-requires-clause-over c = λ k less.
     let task = c.args.task.now in
     let size = subst (λ (f : Option (List Bool)). IfSome f (λ r. length r ≡ atoms task))
     c.in-Some.is c.in_ok-row.ensures.size in
-    described_over HoldsAtomsOf task c.args.draft.now.lines c.args.notes.now.items
-    c.args.reached.now.rows c.requires.described k less ∙ sym size
+    described_over HoldsAtomsOf task c.args.draft.now.lines c.args.noted.now.notes.items
+    c.args.noted.now.rows.rows c.requires.described k less ∙ sym size

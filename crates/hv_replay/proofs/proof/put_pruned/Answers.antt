@@ -1,4 +1,4 @@
-use Rattle.std.proofs.Common.{◌≡◌, ◌<◌, ◌≤◌, false, arith, length}
+use Rattle.std.proofs.Common.{◌≡◌, ◌<◌, ◌≤◌, rules, false, true, arith, length, subst, sym}
 use Rattle.std.proofs.lemmas.Option.{slice_get_within}
 use Rattle.hv_task.specs.State.{state_of}
 use Rattle.hv_task.specs.Strips.{atoms}
@@ -6,45 +6,38 @@ use Rattle.hv_replay.proofs.Kept.{entry_there}
 use Rattle.hv_replay.proofs.Replaying.{first_uncovered, justified_all, next_justified}
 use Rattle.hv_replay.proofs.Replaying.{progress_begins, progress_next}
 use Rattle.hv_replay.proofs.Alike.{alike_same, alike_then, any_alike}
-use Rattle.hv_replay.proofs.Several.{AnyOf, found_some, match_none, match_some}
+use Rattle.hv_replay.proofs.Several.{AnyOf}
 use Rattle.hv_replay.specs.Working.Progress.{IsProgress}
-use Rattle.hv_replay.specs.Replayed.{pruned_in}
-use Rattle.hv_replay.specs.Logs.{LogEntry}
-use Rattle.hv_lines.specs.declared.note.Note.{Note}
-use Rattle.std.proofs.Common.{List, ◌++◌, ◌∷◌, [], take}
+use Rattle.std.proofs.Common.{[], take}
 use Rattle.hv_replay.proofs.proof.put_pruned.Goals as goal
 
 pub loop-place-init : goal.loop-place-init
 loop-place-init g c = record {
   state = c.requires.state;
-  progress = progress_begins c.args.task.now c.args.draft.now.lines c.requires.draft
-      c.requires.good;
+  progress = subst (IsProgress c.args.task.now [] c.args.writing.now.draft.lines)
+      (sym c.requires.union)
+      (progress_begins c.args.task.now c.args.writing.now.draft.lines c.requires.draft
+      c.requires.good);
   justified = λ before less. absurd (omega (arith, less));
   covers = alike_same c.args.pruners.now (λ b. (goal.Pruner-dyn g (b.vtable, b.value)).covers
       b.value);
   fits = λ lines extends. c.requires.fits lines;
 }
 
-pub returns-in_err-more-clause-covers : goal.returns-in_err-more-clause-covers
-returns-in_err-more-clause-covers g c =
+pub returns-in_err-covered-clause-covers : goal.returns-in_err-covered-clause-covers
+returns-in_err-covered-clause-covers g c =
     alike_then c.put_one.new.pruners (λ b. (goal.Pruner-dyn g (b.vtable, b.value)).covers b.value)
     c.loop-place.pruners c.args.pruners.now
     c.put_one.ensures.covers c.loop-place.invariant.covers
 
-pub returns-in-None-clause-uncovered : goal.returns-in-None-clause-uncovered
-returns-in-None-clause-uncovered g c =
+pub returns-then-not-covered-clause-uncovered : goal.returns-then-not-covered-clause-uncovered
+returns-then-not-covered-clause-uncovered g c =
     let within : c.loop-place.place < length c.args.log.now.entries = omega
     (arith, c.len-place-end.ensures, c.loop-place-test.true) in
     let w = entry_there c.args.log.now c.loop-place.place within in
     let here = state_of (atoms c.args.task.now) w.0.state in
-    let is = match_none c.in_ok-more.field-0
-    ((w.0.expanded ≡ false)
-    × (AnyOf c.loop-place.pruners (λ b. (goal.Pruner-dyn g (b.vtable, b.value)).covers b.value
-    c.args.task.now here) → ⊥))
-    (w.0.expanded ≡ false
-    → AnyOf c.loop-place.pruners (λ b. (goal.Pruner-dyn g (b.vtable, b.value)).covers b.value
-    c.args.task.now here))
-    c.in-None.is (c.in_ok-more.ensures.covered w.0 w.1) in (
+    let no : c.in_ok-covered.covered ≡ false = search rules in
+    let is = c.in_ok-covered.ensures.uncovered w.0 w.1 no in (
       c.loop-place.place,
       c.line_of.ensures,
       slice_get_within c.args.log.now.entries c.loop-place.place w.0 w.1,
@@ -57,8 +50,8 @@ returns-in-None-clause-uncovered g c =
           c.loop-place.invariant.covers c.args.task.now here).1 any)),
     )
 
-pub returns-in-None-clause-covers : goal.returns-in-None-clause-covers
-returns-in-None-clause-covers g c =
+pub returns-then-not-covered-clause-covers : goal.returns-then-not-covered-clause-covers
+returns-then-not-covered-clause-covers g c =
     alike_then c.put_one.new.pruners (λ b. (goal.Pruner-dyn g (b.vtable, b.value)).covers b.value)
     c.loop-place.pruners c.args.pruners.now
     c.put_one.ensures.covers c.loop-place.invariant.covers
@@ -69,18 +62,12 @@ loop-place-preserved g c =
     (arith, c.len-place-end.ensures, c.loop-place-test.true) in
     let w = entry_there c.args.log.now c.loop-place.place within in
     let here = state_of (atoms c.args.task.now) w.0.state in
+    let yes : c.in_ok-covered.covered ≡ true = search rules in
     record {
       state = c.put_one.ensures.state;
       progress = progress_next c.args.task.now c.args.log.now c.loop-place.place w.0
-          c.put_one.new.draft.lines c.in-Some.more
-          w.1
-          (found_some c.in_ok-more.field-0 c.in-Some.more
-          (λ (more : Note). (before : List LogEntry)
-          → IsProgress c.args.task.now (pruned_in before) c.loop-place.draft.lines
-          c.loop-place.union
-          → IsProgress c.args.task.now (pruned_in (before ++ w.0 ∷ [])) c.put_one.new.draft.lines
-          more)
-          c.in-Some.is (c.in_ok-more.ensures.progress w.0 w.1)
+          c.put_one.new.writing.draft.lines c.put_one.new.writing.union w.1
+          (c.in_ok-covered.ensures.progress w.0 w.1 yes
           (take c.loop-place.place c.args.log.now.entries) c.loop-place.invariant.progress);
       justified = next_justified c.args.log.now (atoms c.args.task.now) c.requires.atoms
           (λ state. AnyOf c.args.pruners.now (λ b. (goal.Pruner-dyn g (b.vtable, b.value)).covers
@@ -90,14 +77,7 @@ loop-place-preserved g c =
           (any_alike c.loop-place.pruners (λ b. (goal.Pruner-dyn g (b.vtable, b.value)).covers
           b.value) c.args.pruners.now
           c.loop-place.invariant.covers c.args.task.now here).0
-          (match_some c.in_ok-more.field-0 c.in-Some.more
-          ((w.0.expanded ≡ false)
-          × (AnyOf c.loop-place.pruners (λ b. (goal.Pruner-dyn g (b.vtable, b.value)).covers b.value
-          c.args.task.now here) → ⊥))
-          (w.0.expanded ≡ false
-          → AnyOf c.loop-place.pruners (λ b. (goal.Pruner-dyn g (b.vtable, b.value)).covers b.value
-          c.args.task.now here))
-          c.in-Some.is (c.in_ok-more.ensures.covered w.0 w.1) plain));
+          (c.in_ok-covered.ensures.covered w.0 w.1 yes plain));
       covers = alike_then c.put_one.new.pruners
           (λ b. (goal.Pruner-dyn g (b.vtable, b.value)).covers b.value) c.loop-place.pruners
           c.args.pruners.now c.put_one.ensures.covers c.loop-place.invariant.covers;

@@ -11,13 +11,14 @@ use Rattle.hv_replay.proofs.proof.put_pruned.Given as goal
 
 abbrev pub invariant-loop-place : goal.invariant-loop-place
 invariant-loop-place g l = record {
-  state : IsState l.task l.state;
-  progress : IsProgress l.task (pruned_in (take l.place l.log.entries)) l.draft.lines l.union;
+  state : IsState l.task l.writing.state;
+  progress : IsProgress l.task (pruned_in (take l.place l.log.entries)) l.writing.draft.lines
+      l.writing.union;
   justified : (before : ℕ) → before < l.place → IsJustified l.log
       (λ state. AnyOf l.initial.pruners (λ b. (goal.Pruner-dyn g (b.vtable, b.value)).covers b.value
       l.task state)) before;
   covers : AlikeOf l.pruners l.initial.pruners
       (λ b. (goal.Pruner-dyn g (b.vtable, b.value)).covers b.value);
-  fits : (lines : List Line) → Extends l.task l.draft.lines lines
+  fits : (lines : List Line) → Extends l.task l.writing.draft.lines lines
       → AllOf l.pruners (λ b. (goal.Pruner-dyn g (b.vtable, b.value)).fits b.value l.task lines);
 }

@@ -11,15 +11,15 @@ use Rattle.hv_replay.proofs.proof.put_state.Goals as goal
 pub push_pruned-requires-clause-union : goal.push_pruned-requires-clause-union
 push_pruned-requires-clause-union g c = (
   c.requires.union.0,
-  union_extended c.args.task.now c.args.draft.now.lines c.ask.new.draft.lines c.requires.union.0
-      c.args.union c.ask.ensures.extends c.requires.union.1,
+  union_extended c.args.task.now c.args.writing.now.draft.lines c.ask.new.draft.lines
+      c.requires.union.0 c.args.writing.now.union c.ask.ensures.extends c.requires.union.1,
 )
 
-pub returns-in-None-clause-covered : goal.returns-in-None-clause-covered
-returns-in-None-clause-covered g c =
+pub returns-in-None-clause-uncovered : goal.returns-in-None-clause-uncovered
+returns-in-None-clause-uncovered g c =
     let at : c.hold.new.self ≡ state_of (atoms c.args.task.now) c.args.held.now =
     c.hold.ensures.held ∙ ap (λ n. state_of n c.args.held.now) c.requires.state in
-    λ any.
+    λ _ any.
     covered_none c.in_ok-ask.field-0
     (AnyOf c.args.pruners.now (λ b. (goal.Pruner-dyn g (b.vtable, b.value)).covers b.value
     c.args.task.now c.hold.new.self)) c.in-None.is
@@ -31,6 +31,7 @@ pub returns-in_ok-more-in-Some-clause-covered : goal.returns-in_ok-more-in-Some-
 returns-in_ok-more-in-Some-clause-covered g c =
     let at : c.hold.new.self ≡ state_of (atoms c.args.task.now) c.args.held.now =
     c.hold.ensures.held ∙ ap (λ n. state_of n c.args.held.now) c.requires.state in
+    λ _.
     subst (λ s. AnyOf c.args.pruners.now (λ b. (goal.Pruner-dyn g (b.vtable, b.value)).covers
     b.value c.args.task.now s)) at
     (covered_some c.in_ok-ask.field-0 c.in-Some.by
@@ -50,9 +51,9 @@ returns-in_ok-more-in-Some-clause-progress g c =
     (found_some c.in_ok-ask.field-0 c.in-Some.by
     (λ line. IsDeadBy task c.ask.new.draft.lines c.hold.new.self line) c.in-Some.is
     c.in_ok-ask.ensures.dead) in
-    λ states before.
-    progress_more task c.args.draft.now.lines c.ask.new.draft.lines c.push_pruned.new.draft.lines
-    held c.in-Some.by c.args.union more
+    λ _ states before.
+    progress_more task c.args.writing.now.draft.lines c.ask.new.draft.lines
+    c.push_pruned.new.draft.lines held c.in-Some.by c.args.writing.now.union more
     c.ask.ensures.extends dead c.in_ok-more-in-Some.ensures.lines
     c.in_ok-more-in-Some.ensures.number c.push_pruned.ensures.extends
     c.in_ok-more-in-Some.ensures.union c.in_ok-more-in-Some.ensures.inside

@@ -41,12 +41,13 @@ returns-in_err-found-in-None-clause-fits c =
     c.requires.fits in (
       fits_after c.args.task.now (PairsCover c.args.task.now)
           (IsPairsBlock c.args.task.now c.args.state.now c.args.draft.now.lines) c.args.state.now
-          c.self.inside.notes.items c.args.draft.now n.notes.items n.draft
+          c.self.inside.kept.noted.notes.items c.args.draft.now n.kept.noted.notes.items n.draft
           c.pairs_answer-in-None.result
           e.outcome e.err_draft e.err_notes fits.0,
       described_after HoldsPairsOf c.args.task.now c.args.draft.now n.draft
-          c.self.inside.notes.items n.notes.items c.self.inside.reached.items
-          n.reached.items c.pairs_answer-in-None.result e.described e.err_draft e.err_notes
+          c.self.inside.kept.noted.notes.items n.kept.noted.notes.items
+          c.self.inside.kept.reached.items
+          n.kept.reached.items c.pairs_answer-in-None.result e.described e.err_draft e.err_notes
           e.err_reached fits.1,
       fits.2,
     )
@@ -59,12 +60,13 @@ returns-in-Some-clause-fits c =
     c.requires.fits in (
       fits_after c.args.task.now (PairsCover c.args.task.now)
           (IsPairsBlock c.args.task.now c.args.state.now c.args.draft.now.lines) c.args.state.now
-          c.self.inside.notes.items c.args.draft.now n.notes.items n.draft c.pairs_answer.result
-          e.outcome e.err_draft e.err_notes fits.0,
+          c.self.inside.kept.noted.notes.items c.args.draft.now n.kept.noted.notes.items n.draft
+          c.pairs_answer.result e.outcome e.err_draft e.err_notes fits.0,
       described_after HoldsPairsOf c.args.task.now c.args.draft.now n.draft
-          c.self.inside.notes.items n.notes.items c.self.inside.reached.items
-          n.reached.items c.pairs_answer.result e.described e.err_draft e.err_notes e.err_reached
-          fits.1,
+          c.self.inside.kept.noted.notes.items n.kept.noted.notes.items
+          c.self.inside.kept.reached.items
+          n.kept.reached.items c.pairs_answer.result e.described e.err_draft e.err_notes
+          e.err_reached fits.1,
       fits.2,
     )
 

@@ -46,12 +46,12 @@ returns-in_err-found-in-None-clause-fits c =
     c.requires.fits in (
       fits_after c.args.task.now (RelaxedExcludesFrom c.args.task.now)
           (IsRelaxedBlock c.args.task.now c.args.state.now c.args.draft.now.lines) c.args.state.now
-          c.self.inside.notes.items c.args.draft.now n.notes.items n.draft
+          c.self.inside.noted.notes.items c.args.draft.now n.noted.notes.items n.draft
           c.relaxed_answer-in-None.result
           e.outcome e.err_draft e.err_notes fits.0,
       described_after HoldsAtomsOf c.args.task.now c.args.draft.now n.draft
-          c.self.inside.notes.items n.notes.items c.self.inside.reached.rows
-          n.reached.rows c.relaxed_answer-in-None.result e.described e.err_draft e.err_notes
+          c.self.inside.noted.notes.items n.noted.notes.items c.self.inside.noted.rows.rows
+          n.noted.rows.rows c.relaxed_answer-in-None.result e.described e.err_draft e.err_notes
           e.err_reached fits.1,
       fits.2,
     )
@@ -64,12 +64,12 @@ returns-in-Some-clause-fits c =
     c.requires.fits in (
       fits_after c.args.task.now (RelaxedExcludesFrom c.args.task.now)
           (IsRelaxedBlock c.args.task.now c.args.state.now c.args.draft.now.lines) c.args.state.now
-          c.self.inside.notes.items c.args.draft.now n.notes.items n.draft c.relaxed_answer.result
-          e.outcome e.err_draft e.err_notes fits.0,
+          c.self.inside.noted.notes.items c.args.draft.now n.noted.notes.items n.draft
+          c.relaxed_answer.result e.outcome e.err_draft e.err_notes fits.0,
       described_after HoldsAtomsOf c.args.task.now c.args.draft.now n.draft
-          c.self.inside.notes.items n.notes.items c.self.inside.reached.rows
-          n.reached.rows c.relaxed_answer.result e.described e.err_draft e.err_notes e.err_reached
-          fits.1,
+          c.self.inside.noted.notes.items n.noted.notes.items c.self.inside.noted.rows.rows
+          n.noted.rows.rows c.relaxed_answer.result e.described e.err_draft e.err_notes
+          e.err_reached fits.1,
       subst (AreSearchRowsOf c.args.task.now) (sym e.search)
           (subst (λ s. IfSome s (AreSearchRowsOf c.args.task.now)) c.in-Some.is fits.2),
     )
