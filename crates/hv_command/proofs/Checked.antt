@@ -29,6 +29,7 @@ use Rattle.hv_bdd.specs.declared.fault.NodesFault.{NodesFault}
 use Rattle.hv_bdd.specs.declared.fault.NodesFault.TheVariants as N
 use Rattle.hv_bytes.specs.Pieces.{pieces_of}
 use Rattle.hv_lines.specs.Setting.{Setting, setting_of}
+use Rattle.hv_lines.specs.Versions.{judged_so_far}
 use Rattle.hv_checker.proofs.OneJudgement.{judged_once}
 use Rattle.hv_replay.specs.Logs.{SearchLog}
 use Rattle.hv_replay.specs.LogText.{AreTextOf as AreTextOfLog, IsFirstFault as IsFirstLogFault}
@@ -43,8 +44,8 @@ use Rattle.hv_bound.specs.PlanFile.{IsPlanRead, plan_answer, plan_file, plan_in,
 use Rattle.hv_bound.specs.declared.fault.PlanFault.{PlanFault}
 use Rattle.hv_bound.specs.declared.fault.PlanFault.TheVariants as B
 use Rattle.hv_command.specs.Answer.{AfterLog, AfterPlan, AfterSas, AfterTask, AfterText, Answer}
-use Rattle.hv_command.specs.Answer.{AnswersPieces, AnswersProof, AnswersTask, AnswersTold, Covered}
-use Rattle.hv_command.specs.Answer.{IsTold}
+use Rattle.hv_command.specs.Answer.{AnswersCheck, AnswersPieces, AnswersProof, AnswersTask}
+use Rattle.hv_command.specs.Answer.{AnswersTold, Covered, IsTold}
 use Rattle.hv_command.specs.Replies.{judgement_status, log_fault_text, nodes_fault_text}
 use Rattle.hv_command.specs.Replies.{plan_fault_text, refused_text, sas_fault_text}
 use Rattle.hv_command.specs.Replies.{task_fault_text, unsolvable_text}
@@ -296,11 +297,28 @@ module _ (report : Report) (task : Strips) (proof_name nodes_name : List ℕ) (b
       first (Some h) N.ReadFault told is = absurd is
       first (Some h) N.Memory told is = absurd is
 
+-- the answer to the proof of a file, by what that file is
+pub of_file : (held : Option Names) (task_name : List ℕ) (nodes_name : Option (List ℕ))
+    (status : Status) (text : List ℕ) {report other : Report} {name proof_name : List ℕ}
+    {most budget : ℕ}
+    → other ≡ report → proof_name ≡ name → budget ≡ most
+    → IfSome held (λ h. AnswersCheck other task_name proof_name nodes_name budget h status text)
+    → IfSome held (λ h. AnswersCheck report task_name name nodes_name most h status text)
+of_file held task_name nodes_name status text {report} {other} {name} {proof_name} {most} {budget}
+    same_report same_name same_budget answers =
+    subst (λ (r : Report). IfSome held (λ h. AnswersCheck r task_name name nodes_name most h
+    status text)) same_report
+    (subst (λ n. IfSome held (λ h. AnswersCheck other task_name n nodes_name most h status text))
+    same_name
+    (subst (λ b. IfSome held (λ h. AnswersCheck other task_name proof_name nodes_name b h
+    status text)) same_budget answers))
+
 -- the lines of a checker that refused nothing are those that are accepted of all pieces
 pub all_accepted : (checker : CheckerState) (stop : Stop) (pieces : List LineText)
-    → refusal_at checker.fed stop ≡ None → (stop ≡ C.Memory → ⊥)
-    → StandsAt checker stop pieces → Accepts checker.setting (reverse pieces) checker.lines
-all_accepted checker C.Going pieces none found stands = stands.1
+    → refusal_at checker.fed checker.part stop ≡ None → (stop ≡ C.Memory → ⊥)
+    → StandsAt checker stop pieces
+    → Accepts checker.setting (reverse (judged_so_far pieces)) checker.lines
+all_accepted checker C.Going pieces none found stands = stands.2
 all_accepted checker (C.Refused reason) pieces none found stands = absurd (cc)
 all_accepted checker C.Memory pieces none found stands = absurd (found refl)
 
@@ -334,20 +352,25 @@ judged_unsolvable setting pieces status text judged (other, also, status_is, tol
 
 -- the file `proof` is judged so, without a node file and within the default budget
 pub file_unsolvable : (task : Strips) (nodes : NodeList) (count : ℕ) (held : Names) (name : List ℕ)
-    (status : Status) (text : List ℕ)
+    (budget : ℕ) (report : Report) (status : Status) (text : List ℕ)
     → JudgedBytes (draft_setting task) standard (bytes_of held (codes "proof")) Unsolvable
     → count ≡ atoms task → nodes ≡ no_nodes count
-    → name ≡ codes "proof" → AnswersProof P.Verdict (setting_of task nodes default_budget)
-    (bytes_of held name) status text
+    → name ≡ codes "proof" → budget ≡ default_budget → report ≡ P.Verdict
+    → AnswersProof report (setting_of task nodes budget) (bytes_of held name) status text
     → (status ≡ S.Done) × (text ≡ unsolvable_text)
-file_unsolvable task nodes count held name status text judged count_is nodes_is name_is answers =
+file_unsolvable task nodes count held name budget report status text judged count_is nodes_is
+    name_is budget_is report_is answers =
     judged_unsolvable (draft_setting task) (pieces_of standard (bytes_of held (codes "proof")))
     status text judged
     (subst (λ list. AnswersProof P.Verdict (setting_of task list default_budget)
     (bytes_of held (codes "proof")) status text)
     (nodes_is ∙ ap no_nodes count_is)
     (subst (λ n. AnswersProof P.Verdict (setting_of task nodes default_budget) (bytes_of held n)
-    status text) name_is answers))
+    status text) name_is
+    (subst (λ b. AnswersProof P.Verdict (setting_of task nodes b) (bytes_of held name) status text)
+    budget_is
+    (subst (λ (r : Report). AnswersProof r (setting_of task nodes budget) (bytes_of held name)
+    status text) report_is answers))))
 
 -- a good proof by a Horn formula is judged so from its text
 pub horn_judged : (task : Strips) (lines : List Line) → IsHornProof lines → IsGoodTable task lines

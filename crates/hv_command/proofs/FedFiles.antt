@@ -53,13 +53,14 @@ fed_line file old new line before after number was is so_far takes passes fits s
 refused_longer : (checker : CheckerState) (reason : Reason) (pieces rest : List Piece)
     → StandsAt checker (S.Refused reason) pieces
     → StandsAt checker (S.Refused reason) (pieces ++ rest)
-refused_longer checker reason pieces rest (front, bad, behind, cut, counted, accepts, why) = (
+refused_longer checker reason pieces rest (front, bad, behind, cut, counted, part, accepts, why) = (
   front,
   bad,
   behind ++ rest,
   ap (λ ps. ps ++ rest) cut
       ∙ append_assoc front (bad ∷ behind) rest,
   counted,
+  part,
   accepts,
   why,
 )
@@ -108,5 +109,6 @@ pub goes_on : (before : Stop) (fed : Fed) → ((reason : Reason) → fed ≡ F.R
     → stop_after before fed ≡ before
 goes_on before F.Skipped other = refl
 goes_on before F.Good other = refl
+goes_on before F.Marked other = refl
 goes_on before (F.Refused reason) other = absurd (other reason refl)
 goes_on before F.Stopped other = refl

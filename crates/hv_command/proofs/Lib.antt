@@ -3,6 +3,7 @@ pub mod Numbers
 pub mod Checked
 pub mod Computed
 pub mod FedFiles
+pub mod Renewed
 pub mod OneAnswer
 pub mod SoundAnswers
 pub mod Produced

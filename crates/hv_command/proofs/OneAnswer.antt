@@ -18,6 +18,7 @@ use Rattle.hv_lines.specs.Judged.{Judgement, LineText, Unsolvable, Refused, NoCo
 use Rattle.hv_lines.specs.Judged.{outline_of}
 use Rattle.hv_lines.specs.Order.{without_state}
 use Rattle.hv_lines.specs.Setting.{Setting, setting_of}
+use Rattle.hv_lines.specs.Versions.{judged_so_far}
 use Rattle.hv_lines.specs.declared.reason.Clash.{Clash}
 use Rattle.hv_lines.specs.declared.reason.Reason.{Reason}
 use Rattle.hv_lines.specs.declared.reason.Reason.TheVariants as R
@@ -25,6 +26,7 @@ use Rattle.hv_checker.proofs.OneJudgement.{accepts_once, judged_once}
 use Rattle.hv_explain.proofs.OneText.{one_explanation}
 use Rattle.hv_explain.specs.Explained.{IsExplanation}
 use Rattle.hv_lines.specs.declared.line.Line.{Line}
+use Rattle.hv_proof_text.specs.Closed.{closed_text}
 use Rattle.hv_replay.specs.Logs.{SearchLog}
 use Rattle.hv_replay.specs.LogText.{AreTextOf as AreTextOfLog, IsFirstFault as IsFirstLogFault}
 use Rattle.hv_replay.specs.LogText.{log_limits}
@@ -49,6 +51,7 @@ use Rattle.hv_command.specs.declared.job.Report.{Report}
 use Rattle.hv_command.specs.declared.job.Report.TheVariants as P
 use Rattle.hv_command.proofs.Computed.{one_fault_of, one_value_of, value_or_fault_of}
 use Rattle.hv_command.proofs.Produced.{one_produced}
+use Rattle.hv_command.proofs.Renewed.{few_atoms}
 use Rattle.hv_command.specs.declared.status.Status.{Status}
 use Rattle.hv_command.specs.declared.status.Status.TheVariants as S
 
@@ -156,7 +159,12 @@ one_told setting pieces Unsolvable Unsolvable P.Verdict t v e x y = inl (x ∙ s
 one_told setting pieces Unsolvable Unsolvable P.Explanation t v e x y =
     inl (one_explanation y.0 t v
     (subst (λ (ls : List Line). IsExplanation ls t)
-    (accepts_once setting (reverse pieces) x.0 y.0 x.1 y.1) x.2) y.2)
+    (accepts_once setting (reverse (judged_so_far pieces)) x.0 y.0 x.1 y.1) x.2) y.2)
+one_told setting pieces Unsolvable Unsolvable P.Renewal t v e x y =
+    inl (x.2
+    ∙ (ap (λ ls. closed_text (reverse ls))
+    (accepts_once setting (reverse (judged_so_far pieces)) x.0 y.0 x.1 y.1)
+    ∙ sym y.2))
 one_told setting pieces Unsolvable (Refused q r) report t v e x y = absurd (cc)
 one_told setting pieces Unsolvable NoConclusion report t v e x y = absurd (cc)
 one_told setting pieces (Refused p r) Unsolvable report t v e x y = absurd (cc)
@@ -176,13 +184,6 @@ one_proof : (report : Report) (setting : Setting) (pieces : List LineText) (s u 
 one_proof report setting pieces s u t v (a, judged, s_is, told) (b, other, u_is, says) =
     let e = judged_once setting pieces a b judged other in
     (s_is ∙ ((one_text a b e).0 ∙ sym u_is), one_told setting pieces a b report t v e told says)
-
--- a task text names few atoms
-few_atoms : (pieces : List Piece) (task : Strips) → AreTextOf pieces task → atoms task < 10 ^ 18
-few_atoms pieces task text =
-    let few = text.2.legal.is_head.names.few in
-    let same = ap (λ (t : Strips). atoms t) text.2.says in
-    omega (arith, few, same)
 
 -- one status and one text
 abbrev AreOne : Status → Status → List ℕ → List ℕ → Type 0
@@ -364,6 +365,8 @@ one_answer covered (Some (J.Check task proof nodes budget)) held s u t v x y =
     in_any_case s u t v _ (one_check P.Verdict task proof nodes budget held s u t v x y)
 one_answer covered (Some (J.Explain task proof nodes budget)) held s u t v x y =
     in_any_case s u t v _ (one_check P.Explanation task proof nodes budget held s u t v x y)
+one_answer covered (Some (J.Upgrade task proof nodes budget)) held s u t v x y =
+    in_any_case s u t v _ (one_check P.Renewal task proof nodes budget held s u t v x y)
 one_answer covered (Some (J.Produce kind task)) held s u t v x y =
     in_any_case s u t v _ (one_proof_answer kind task held s u t v x y)
 one_answer covered (Some (J.Replay task log)) held s u t v x y = one_replay_answer covered task log

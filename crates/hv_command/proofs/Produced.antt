@@ -40,6 +40,7 @@ use Rattle.hv_command.specs.declared.job.Kind.{Kind}
 use Rattle.hv_command.specs.declared.job.Kind.TheVariants as K
 use Rattle.hv_command.specs.declared.status.Status.{Status}
 use Rattle.hv_command.specs.declared.status.Status.TheVariants as S
+use Rattle.hv_command.proofs.Renewed.{upgraded}
 use Rattle.hv_task_text.proofs.TaskTexts.{is_task}
 
 module _ (task : Strips) (is : IsTask task) where
@@ -168,6 +169,8 @@ pub accepted : (covered : Covered) (job : Option Job) (held : Names) (status : S
 accepted covered None held status text answers = tt
 accepted covered (Some (J.Check task proof nodes budget)) held status text answers = tt
 accepted covered (Some (J.Explain task proof nodes budget)) held status text answers = tt
+accepted covered (Some (J.Upgrade task proof nodes budget)) held status text answers =
+    upgraded task proof nodes budget held status text answers
 accepted covered (Some (J.Produce kind name)) held status text (inl (fault, first, bad, said)) = λ
     done task is_text. absurd (cc)
 accepted covered (Some (J.Produce kind name)) held status text (inr (other, other_text, answers)) =

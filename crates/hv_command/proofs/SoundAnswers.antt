@@ -10,6 +10,7 @@ use Rattle.hv_task_text.specs.TaskText.{TaskText}
 use Rattle.hv_task_text.proofs.OneAnswer.{one_task}
 use Rattle.hv_lines.specs.Judged.{Judged, Judgement, LineText, Unsolvable, Refused, NoConclusion}
 use Rattle.hv_lines.specs.Setting.{Setting, setting_of}
+use Rattle.hv_lines.specs.Versions.{judged_so_far, judged_whole}
 use Rattle.hv_checker.proofs.GoodLines.{accepts_good, good_concludes, good_true}
 use Rattle.hv_command.specs.Answer.{AfterTask, AnswersCheck, AnswersProduce, AnswersReplay}
 use Rattle.hv_command.specs.Answer.{AnswersTask, AnswersTold, Covered, IsSoundCheck, IsSoundProof}
@@ -30,8 +31,8 @@ yes_unsolvable : (setting : Setting) (pieces : List LineText) (judgement : Judge
     → Judged setting pieces judgement
     → judgement_status judgement ≡ S.Done → IsUnsolvable setting.task
 yes_unsolvable setting pieces Unsolvable judged done =
-    good_concludes setting judged.lines (accepts_good setting (reverse pieces) judged.lines
-    judged.accepted) judged.concludes
+    good_concludes setting judged.lines (accepts_good setting (reverse (judged_whole pieces))
+    judged.lines judged.accepted) judged.concludes
 yes_unsolvable setting pieces (Refused line reason) judged done = absurd (cc)
 yes_unsolvable setting pieces NoConclusion judged done = absurd (cc)
 
@@ -67,7 +68,7 @@ module _ (report : Report) (task_name proof_name : List ℕ) (nodes_name : Optio
     λ done. done_unsolvable answers task is_text done,
     λ nodes front rest lines has cut accepts.
         good_true (setting_of task nodes budget) lines
-        (accepts_good (setting_of task nodes budget) (reverse front) lines accepts),
+        (accepts_good (setting_of task nodes budget) (reverse (judged_so_far front)) lines accepts),
   )
 
 sound_produce : (kind : Kind) (name : List ℕ) (held : Names) (status : Status) (text : List ℕ)
@@ -104,6 +105,8 @@ sound_told covered (Some (J.Check task proof nodes budget)) (Some held) status t
     sound_check P.Verdict task proof nodes budget held status text answers
 sound_told covered (Some (J.Explain task proof nodes budget)) (Some held) status text answers =
     sound_check P.Explanation task proof nodes budget held status text answers
+sound_told covered (Some (J.Upgrade task proof nodes budget)) (Some held) status text answers =
+    sound_check P.Renewal task proof nodes budget held status text answers
 sound_told covered (Some (J.Produce kind task)) (Some held) status text answers = sound_produce kind
     task held status text answers
 sound_told covered (Some (J.Replay task log)) (Some held) status text answers =

@@ -13,10 +13,12 @@ use Rattle.hv_lines.specs.Judged.{LineText, Accepts, Judged, JudgedBytes, Judgem
 use Rattle.hv_lines.specs.Judged.{Refused, NoConclusion}
 use Rattle.hv_lines.specs.Meaning.{AllTrue, StateSet}
 use Rattle.hv_lines.specs.Setting.{Setting, setting_of}
+use Rattle.hv_lines.specs.Versions.{judged_so_far}
 use Rattle.hv_lines.specs.declared.line.Line.{Line}
 use Rattle.hv_lines.specs.Drafts.{draft_setting}
 use Rattle.hv_lines.specs.Spelling.{proof_text}
 use Rattle.hv_explain.specs.Explained.{IsExplanation}
+use Rattle.hv_proof_text.specs.Closed.{closed_text}
 use Rattle.hv_reach.specs.Written.{IsPairsProof, IsRelaxedProof, PairsExclude, RelaxedExcludes}
 use Rattle.hv_replay.specs.Closed.{IsClosed, IsFirstHole}
 use Rattle.hv_replay.specs.Logs.{SearchLog}
@@ -76,13 +78,21 @@ AfterNodes task (Some name) held Answers status text =
 -- the text tells which of the lines that are accepted of the pieces are needed
 abbrev pub IsExplained : Setting → List LineText → List ℕ → Type 0
 IsExplained setting pieces text =
-    (lines : List Line) × Accepts setting (reverse pieces) lines × IsExplanation lines text
+    (lines : List Line) × Accepts setting (reverse (judged_so_far pieces)) lines
+    × IsExplanation lines text
+
+-- the text is that of the closed proof which has the lines that are accepted of the pieces
+abbrev pub IsRenewed : Setting → List LineText → List ℕ → Type 0
+IsRenewed setting pieces text =
+    (lines : List Line) × Accepts setting (reverse (judged_so_far pieces)) lines
+    × (text ≡ closed_text (reverse lines))
 
 -- the text that tells what the pieces are judged: where they show that the task has no plan, that
--- they do, or which lines are needed
+-- they do, or which lines are needed, or the lines as a closed proof
 abbrev pub IsTold : Setting → List LineText → Judgement → Report → List ℕ → Type 0
 IsTold setting pieces Unsolvable P.Verdict text = text ≡ judgement_text Unsolvable
 IsTold setting pieces Unsolvable P.Explanation text = IsExplained setting pieces text
+IsTold setting pieces Unsolvable P.Renewal text = IsRenewed setting pieces text
 IsTold setting pieces (Refused line reason) report text =
     text ≡ judgement_text (Refused line reason)
 IsTold setting pieces NoConclusion report text = text ≡ judgement_text NoConclusion
@@ -211,6 +221,8 @@ Answer covered (Some (J.Check task proof nodes budget)) held status text =
     AnswersCheck P.Verdict task proof nodes budget held status text
 Answer covered (Some (J.Explain task proof nodes budget)) held status text =
     AnswersCheck P.Explanation task proof nodes budget held status text
+Answer covered (Some (J.Upgrade task proof nodes budget)) held status text =
+    AnswersCheck P.Renewal task proof nodes budget held status text
 Answer covered (Some (J.Produce kind task)) held status text =
     AfterTask (bytes_of held task) (AnswersProduce kind) status text
 Answer covered (Some (J.Replay task log)) held status text =
@@ -253,7 +265,7 @@ IsSoundCheck task_name proof_name nodes_name budget held status =
     × ((nodes : NodeList) (front rest : List LineText) (lines : List Line)
     → HasNodes task nodes_name held nodes
     → front ++ rest ≡ pieces_of standard (bytes_of held proof_name)
-    → Accepts (setting_of task nodes budget) (reverse front) lines
+    → Accepts (setting_of task nodes budget) (reverse (judged_so_far front)) lines
     → AllTrue task nodes lines)
 
 -- the same of a proof that is written: no list of actions is a plan of the task
@@ -268,6 +280,8 @@ IsSound None held status = Unit {0}
 IsSound (Some (J.Check task proof nodes budget)) held status =
     IsSoundCheck task proof nodes budget held status
 IsSound (Some (J.Explain task proof nodes budget)) held status =
+    IsSoundCheck task proof nodes budget held status
+IsSound (Some (J.Upgrade task proof nodes budget)) held status =
     IsSoundCheck task proof nodes budget held status
 IsSound (Some (J.Produce kind task)) held status = IsSoundProof task held status
 IsSound (Some (J.Replay task log)) held status = IsSoundProof task held status
@@ -288,6 +302,14 @@ IsAcceptedProof task_name held text =
     (task : Strips) → TaskText standard (bytes_of held task_name) task
     → JudgedBytes (draft_setting task) standard text Unsolvable
 
+-- the text is judged to show that the task of this file has no plan, with the nodes of that file
+-- and within this budget
+abbrev pub IsUpgradedProof : List ℕ → Option (List ℕ) → ℕ → Names → List ℕ → Type 0
+IsUpgradedProof task_name nodes_name budget held text =
+    (task : Strips) → TaskText standard (bytes_of held task_name) task
+    → (nodes : NodeList) → HasNodes task nodes_name held nodes
+    → JudgedBytes (setting_of task nodes budget) standard text Unsolvable
+
 -- the text is that of the task which a cost bound makes of the task of this file
 abbrev pub IsBoundReadBack : ℕ → List ℕ → Names → List ℕ → Type 0
 IsBoundReadBack most task_name held text =
@@ -300,13 +322,16 @@ IsSasReadBack name held text =
     (sas : Sas) → sas_in (pieces_of standard (bytes_of held name)) ≡ Ok sas
     → TaskText standard text (strips_of sas)
 
--- What the program reads in what it wrote. A proof is judged so; one that replays a log, where it
--- has no more bytes than a file may have. Then a task text, too, is read as the task that was made:
--- of a translator's file, or with a cost bound. Nothing is said of other jobs.
+-- What the program reads in what it wrote. A proof is judged so; one that replays a log or that is
+-- upgraded, where it has no more bytes than a file may have. Then a task text, too, is read as the
+-- task that was made: of a translator's file, or with a cost bound. Nothing is said of other jobs.
 abbrev pub IsAccepted : Option Job → Names → Status → List ℕ → Type 0
 IsAccepted None held status text = Unit {0}
 IsAccepted (Some (J.Check task proof nodes budget)) held status text = Unit {0}
 IsAccepted (Some (J.Explain task proof nodes budget)) held status text = Unit {0}
+IsAccepted (Some (J.Upgrade task proof nodes budget)) held status text =
+    status ≡ S.Done → length text ≤ most_file_bytes
+    → IsUpgradedProof task nodes budget held text
 IsAccepted (Some (J.Produce kind task)) held status text =
     status ≡ S.Done → IsAcceptedProof task held text
 IsAccepted (Some (J.Replay task log)) held status text =

@@ -39,6 +39,7 @@ given_budget (Some word) = budget_of word
 abbrev pub checking : Report → List ℕ → List ℕ → Option (List ℕ) → ℕ → Job
 checking P.Verdict task proof nodes budget = J.Check task proof nodes budget
 checking P.Explanation task proof nodes budget = J.Explain task proof nodes budget
+checking P.Renewal task proof nodes budget = J.Upgrade task proof nodes budget
 
 -- the check that these words name, where they name a budget
 abbrev pub check_with : Report → CheckTexts → Option ℕ → Option Job
@@ -119,12 +120,13 @@ job_of [] = None
 job_of (command ∷ words) =
     cond (bytes_eq command (codes "check")) (check_of P.Verdict words)
     (cond (bytes_eq command (codes "explain")) (check_of P.Explanation words)
+    (cond (bytes_eq command (codes "upgrade")) (check_of P.Renewal words)
     (cond (bytes_eq command (codes "produce")) (produce_of words)
     (cond (bytes_eq command (codes "replay")) (replay_of words)
     (cond (bytes_eq command (codes "sample")) (sample_of words)
     (cond (bytes_eq command (codes "sas")) (sas_of words)
     (cond (bytes_eq command (codes "bound")) (cost_bound_of words)
-    (cond (bytes_eq command (codes "plan")) (plan_of words) None)))))))
+    (cond (bytes_eq command (codes "plan")) (plan_of words) None))))))))
 
 -- the job may read the file of this name
 abbrev pub HasName : Option Job → List ℕ → Type 0
@@ -132,6 +134,8 @@ HasName None name = ⊥
 HasName (Some (J.Check task proof nodes budget)) name =
     (name ≡ task) ⊎ ((name ≡ proof) ⊎ (nodes ≡ Some name))
 HasName (Some (J.Explain task proof nodes budget)) name =
+    (name ≡ task) ⊎ ((name ≡ proof) ⊎ (nodes ≡ Some name))
+HasName (Some (J.Upgrade task proof nodes budget)) name =
     (name ≡ task) ⊎ ((name ≡ proof) ⊎ (nodes ≡ Some name))
 HasName (Some (J.Produce kind task)) name = name ≡ task
 HasName (Some (J.Replay task log)) name = (name ≡ task) ⊎ (name ≡ log)
@@ -148,6 +152,7 @@ IsBudget budget = (0 < budget) × (budget ≤ most_budget)
 abbrev pub IsBounded : Job → Type 0
 IsBounded (J.Check task proof nodes budget) = IsBudget budget
 IsBounded (J.Explain task proof nodes budget) = IsBudget budget
+IsBounded (J.Upgrade task proof nodes budget) = IsBudget budget
 IsBounded (J.Produce kind task) = Unit {0}
 IsBounded (J.Replay task log) = Unit {0}
 IsBounded (J.Sample rooms) = IsRooms rooms

@@ -1,14 +1,15 @@
-//! The jobs `check` and `explain`: a task, then a proof of it.
+//! The jobs `check`, `explain` and `upgrade`: a task, then a proof of it.
 
-ghost use Rattle.std.specs.Prelude.{◌≡◌, ◌≢◌, ◌<◌, ◌≤◌, List, [], None, Some, IfOk, IfSome};
-ghost use Rattle.std.specs.Prelude.{IsErrOf, IsSome, IsTrue, MatchResult, option_map};
+ghost use Rattle.std.specs.Prelude.{◌≡◌, ◌≢◌, ◌≤◌, List, [], None, Some, IfOk, IfSome};
+ghost use Rattle.std.specs.Prelude.{IsErrOf, IsSome, IsTrue, MatchResult, option_map, reverse};
 ghost use Rattle.hv_bytes.specs.Devices.{Rose};
 ghost use Rattle.hv_bytes.specs.Files.{bytes_of};
 ghost use Rattle.hv_task_text.specs.declared.fault.TaskFault.TheVariants as F;
 ghost use Rattle.hv_lines.specs.Judged.{LineText, Unsolvable};
 ghost use Rattle.hv_bdd.specs.declared.fault.NodesFault.TheVariants as N;
 ghost use Rattle.hv_task.specs.Strips.{atoms};
-ghost use Rattle.hv_lines.specs.Setting.{most_budget, setting_of};
+ghost use Rattle.hv_lines.specs.Setting.{setting_of};
+ghost use Rattle.hv_proof_text.specs.Closed.{closed_text};
 ghost use Rattle.hv_checker.specs.Stands.{Stands, refusal_of};
 ghost use Rattle.hv_checker.specs.declared.stop.Stop.TheVariants as C;
 ghost use Rattle.hv_command.specs.Answer.{AnswersCheck, AnswersPieces, AnswersProof, AnswersTask};
@@ -21,36 +22,35 @@ ghost use Rattle.hv_command.specs.declared.status.Status.TheVariants as S;
 use crate::feeding::feed_file;
 use crate::job::{FileName, Report};
 use crate::job_fault::JobFault;
+use crate::proof_file::ProofFile;
 use crate::reply::{Reply, fixed, refusal, text_fault};
 use crate::status::Status;
 use crate::task_fault::fault_reply;
 use hv_bdd::{Diagrams, NodesFault, read_nodes};
-use hv_bytes::{Limits, Shelf};
+use hv_bytes::{Limits, Shelf, Text};
 use hv_checker::{Checker, End};
 use hv_explain::explain;
-use hv_lines::Reason;
+use hv_lines::{Reason, Table};
+use hv_proof_text::write_proof;
 use hv_task::Task;
 use hv_task_text::read_task;
 use std::alloc::{AllocError, Global};
 
-/// The answer to `check TASK PROOF`, or to `explain TASK PROOF`, with a node file, or with none,
-/// and this budget.
+/// The answer to `check TASK PROOF`, or to `explain` or `upgrade` with the same names, with a node
+/// file, or with none.
 pub(crate) fn check<S: Shelf>(
     alloc: Global,
     shelf: &mut S,
-    report: Report,
     task: &FileName,
-    proof: &FileName,
     nodes: &Option<FileName>,
-    budget: u64,
+    proof: &ProofFile<'_>,
 ) -> Result<Reply, JobFault>
     requires task { IsTrue (S.allows shelf.old task.now) }
-    requires proof { IsTrue (S.allows shelf.old proof.now) }
+    requires proof { IsTrue (S.allows shelf.old proof.now.name.now) }
     requires nodes { IfSome nodes.now (λ name. IsTrue (S.allows shelf.old name)) }
-    requires some { 0 < budget }
-    requires small { budget ≤ most_budget }
     ensures answer { IfSome (S.held shelf.old) (λ held. IfOk result (λ r.
-        AnswersCheck report task.now proof.now nodes.now budget held r.status r.text)) }
+        AnswersCheck proof.now.report task.now proof.now.name.now nodes.now proof.now.budget held
+        r.status r.text)) }
     ensures answered { IfOk result (λ r. IsJobStatus r.status) }
     ensures held { S.held shelf.new ≡ S.held shelf.old }
     ensures allows { S.allows shelf.new ≡ S.allows shelf.old }
@@ -60,7 +60,7 @@ pub(crate) fn check<S: Shelf>(
 {
     match read_task(alloc, shelf, task.as_str(), Limits::STANDARD) {
         Ok(task) => {
-            let answer = check_task(alloc, shelf, report, &task, proof, nodes, budget)?;
+            let answer = check_task(alloc, shelf, &task, nodes, proof)?;
             Ok(answer)
         }
         Err(fault) => {
@@ -94,18 +94,15 @@ fn nodes_fault_reply(alloc: Global, fault: NodesFault) -> Result<Reply, JobFault
 fn check_task<S: Shelf>(
     alloc: Global,
     shelf: &mut S,
-    report: Report,
     task: &Task,
-    proof: &FileName,
     nodes: &Option<FileName>,
-    budget: u64,
+    proof: &ProofFile<'_>,
 ) -> Result<Reply, JobFault>
-    requires proof { IsTrue (S.allows shelf.old proof.now) }
+    requires proof { IsTrue (S.allows shelf.old proof.now.name.now) }
     requires nodes { IfSome nodes.now (λ name. IsTrue (S.allows shelf.old name)) }
-    requires some { 0 < budget }
-    requires small { budget ≤ most_budget }
     ensures answer { IfSome (S.held shelf.old) (λ held. IfOk result (λ r.
-        AnswersTask report task.now proof.now nodes.now budget held r.status r.text)) }
+        AnswersTask proof.now.report task.now proof.now.name.now nodes.now proof.now.budget held
+        r.status r.text)) }
     ensures answered { IfOk result (λ r. IsJobStatus r.status) }
     ensures held { S.held shelf.new ≡ S.held shelf.old }
     ensures allows { S.allows shelf.new ≡ S.allows shelf.old }
@@ -116,11 +113,11 @@ fn check_task<S: Shelf>(
     match nodes {
         None => {
             let diagrams = Diagrams::none(alloc, task.atoms());
-            let answer = check_proof(alloc, shelf, report, task, &diagrams, proof, budget)?;
+            let answer = check_proof(alloc, shelf, task, &diagrams, proof)?;
             Ok(answer)
         }
         Some(name) => {
-            let answer = check_with_nodes(alloc, shelf, report, task, proof, name, budget)?;
+            let answer = check_with_nodes(alloc, shelf, task, name, proof)?;
             Ok(answer)
         }
     }
@@ -130,18 +127,15 @@ fn check_task<S: Shelf>(
 fn check_with_nodes<S: Shelf>(
     alloc: Global,
     shelf: &mut S,
-    report: Report,
     task: &Task,
-    proof: &FileName,
     nodes: &FileName,
-    budget: u64,
+    proof: &ProofFile<'_>,
 ) -> Result<Reply, JobFault>
-    requires proof { IsTrue (S.allows shelf.old proof.now) }
+    requires proof { IsTrue (S.allows shelf.old proof.now.name.now) }
     requires nodes { IsTrue (S.allows shelf.old nodes.now) }
-    requires some { 0 < budget }
-    requires small { budget ≤ most_budget }
     ensures answer { IfSome (S.held shelf.old) (λ held. IfOk result (λ r.
-        AnswersTask report task.now proof.now (Some nodes.now) budget held r.status r.text)) }
+        AnswersTask proof.now.report task.now proof.now.name.now (Some nodes.now) proof.now.budget
+        held r.status r.text)) }
     ensures answered { IfOk result (λ r. IsJobStatus r.status) }
     ensures held { S.held shelf.new ≡ S.held shelf.old }
     ensures allows { S.allows shelf.new ≡ S.allows shelf.old }
@@ -151,7 +145,7 @@ fn check_with_nodes<S: Shelf>(
 {
     match read_nodes(alloc, shelf, nodes.as_str(), task.atoms(), Limits::STANDARD) {
         Ok(diagrams) => {
-            let answer = check_proof(alloc, shelf, report, task, &diagrams, proof, budget)?;
+            let answer = check_proof(alloc, shelf, task, &diagrams, proof)?;
             Ok(answer)
         }
         Err(fault) => {
@@ -165,18 +159,15 @@ fn check_with_nodes<S: Shelf>(
 pub(crate) fn check_proof<S: Shelf>(
     alloc: Global,
     shelf: &mut S,
-    report: Report,
     task: &Task,
     diagrams: &Diagrams,
-    proof: &FileName,
-    budget: u64,
+    proof: &ProofFile<'_>,
 ) -> Result<Reply, JobFault>
     requires over { diagrams.now.atoms ≡ atoms task.now }
-    requires allowed { IsTrue (S.allows shelf.old proof.now) }
-    requires some { 0 < budget }
-    requires small { budget ≤ most_budget }
-    ensures answer { IfSome (S.held shelf.old) (λ held. IfOk result (λ r. AnswersProof report
-        (setting_of task.now diagrams.now budget) (bytes_of held proof.now) r.status r.text)) }
+    requires allowed { IsTrue (S.allows shelf.old proof.now.name.now) }
+    ensures answer { IfSome (S.held shelf.old) (λ held. IfOk result (λ r.
+        AnswersProof proof.now.report (setting_of task.now diagrams.now proof.now.budget)
+        (bytes_of held proof.now.name.now) r.status r.text)) }
     ensures answered { IfOk result (λ r. IsJobStatus r.status) }
     ensures held { S.held shelf.new ≡ S.held shelf.old }
     ensures allows { S.allows shelf.new ≡ S.allows shelf.old }
@@ -184,24 +175,24 @@ pub(crate) fn check_proof<S: Shelf>(
     ensures cause { IsErrOf result JobFault.ReadFault → Rose (S.faults shelf.old)
         (S.faults shelf.new) }
 {
-    let mut checker = Checker::new(alloc, task, diagrams, budget)?;
-    judge_file(alloc, shelf, report, proof, &mut checker)
+    let mut checker = Checker::new(alloc, task, diagrams, proof.budget)?;
+    judge_file(alloc, shelf, proof, &mut checker)
 }
 
 // The answer to the proof file, by a checker that was fed nothing.
 fn judge_file<S: Shelf>(
     alloc: Global,
     shelf: &mut S,
-    report: Report,
-    proof: &FileName,
+    proof: &ProofFile<'_>,
     checker: &mut Checker<'_>,
 ) -> Result<Reply, JobFault>
-    requires allowed { IsTrue (S.allows shelf.old proof.now) }
+    requires allowed { IsTrue (S.allows shelf.old proof.now.name.now) }
     requires unfed { checker.old.fed ≡ 0 }
     requires going { checker.old.stop ≡ C.Going }
     requires stands { Stands checker.old [] }
     ensures answer { IfSome (S.held shelf.old) (λ held. IfOk result (λ r.
-        AnswersProof report checker.old.setting (bytes_of held proof.now) r.status r.text)) }
+        AnswersProof proof.now.report checker.old.setting (bytes_of held proof.now.name.now)
+        r.status r.text)) }
     ensures answered { IfOk result (λ r. IsJobStatus r.status) }
     ensures held { S.held shelf.new ≡ S.held shelf.old }
     ensures allows { S.allows shelf.new ≡ S.allows shelf.old }
@@ -209,8 +200,8 @@ fn judge_file<S: Shelf>(
     ensures cause { IsErrOf result JobFault.ReadFault → Rose (S.faults shelf.old)
         (S.faults shelf.new) }
 {
-    feed_file(alloc, shelf, proof.as_str(), checker)?;
-    let answer = judgement_reply(alloc, report, checker)?;
+    feed_file(alloc, shelf, proof.name.as_str(), checker)?;
+    let answer = judgement_reply(alloc, proof.report, checker)?;
     Ok(answer)
 }
 
@@ -262,7 +253,25 @@ fn accepted_reply(alloc: Global, report: Report, checker: &Checker<'_>) -> Resul
                 text,
             })
         }
+        Report::Renewal => {
+            let answer = renewed(alloc, checker.table())?;
+            Ok(answer)
+        }
     }
+}
+
+// The lines of the table as a proof text of version 2.
+fn renewed(alloc: Global, table: &Table) -> Result<Reply, AllocError>
+    ensures { IfOk result (λ r. IsReply r S.Done (closed_text (reverse table.now.lines))) }
+{
+    let mut text = Text::new(alloc);
+    text.push_bytes(b"helve 2\n")?;
+    write_proof(alloc, table, &mut text)?;
+    text.push_bytes(b"end\n")?;
+    Ok(Reply {
+        status: Status::Done,
+        text,
+    })
 }
 
 // Why the checker refused a piece, which it did.

@@ -82,6 +82,15 @@ pub enum Job {
         nodes: Option<FileName>,
         budget: u64,
     },
+    /// `upgrade TASK PROOF`: the proof as a text of version 2, where it shows that the task has no
+    /// plan. A proof that doesn't is answered as by a check, and so are the nodes and the budget
+    /// meant.
+    Upgrade {
+        task: FileName,
+        proof: FileName,
+        nodes: Option<FileName>,
+        budget: u64,
+    },
     /// `produce KIND TASK`: a proof of this kind that the task has no plan.
     Produce {
         kind: Kind,
@@ -136,6 +145,8 @@ pub(crate) enum Report {
     Verdict,
     /// Which of its lines are needed.
     Explanation,
+    /// Its lines, as a proof text of version 2.
+    Renewal,
 }
 
 /// The job that the words name, or none where they are no job.
@@ -150,6 +161,8 @@ pub fn read_job(alloc: Global, words: &Words) -> Result<Option<Job>, AllocError>
                 check_job(alloc, command, Report::Verdict, others)
             } else if command == "explain" {
                 check_job(alloc, command, Report::Explanation, others)
+            } else if command == "upgrade" {
+                check_job(alloc, command, Report::Renewal, others)
             } else if command == "produce" {
                 produce_job(alloc, command, others)
             } else if command == "replay" {
@@ -403,6 +416,12 @@ fn checking(
             budget,
         },
         Report::Explanation => Job::Explain {
+            task,
+            proof,
+            nodes,
+            budget,
+        },
+        Report::Renewal => Job::Upgrade {
             task,
             proof,
             nodes,

@@ -9,6 +9,7 @@ mod job_fault;
 pub mod laws;
 mod planning;
 mod producing;
+mod proof_file;
 mod replaying;
 mod reply;
 pub mod sample;

@@ -22,6 +22,7 @@ use crate::checking::check_proof;
 use crate::job::{DEFAULT_BUDGET, FileName, Report};
 use crate::job_fault::JobFault;
 use crate::producing::written;
+use crate::proof_file::ProofFile;
 use crate::reply::Reply;
 use crate::sample::sample_task;
 use crate::status::Status;
@@ -211,14 +212,7 @@ fn judged_file(alloc: Global, shelf: &mut SureShelf, task: &Task) -> Result<Repl
 {
     let name = FileName::new(alloc, "proof")?;
     let diagrams = Diagrams::none(alloc, task.atoms());
-    let answer = check_proof(
-        alloc,
-        shelf,
-        Report::Verdict,
-        task,
-        &diagrams,
-        &name,
-        DEFAULT_BUDGET,
-    )?;
+    let proof = ProofFile::new(&name, DEFAULT_BUDGET, Report::Verdict);
+    let answer = check_proof(alloc, shelf, task, &diagrams, &proof)?;
     Ok(answer)
 }

@@ -16,6 +16,7 @@ use crate::job::{Job, Report, read_job};
 use crate::job_fault::JobFault;
 use crate::planning::plan_files;
 use crate::producing::produce;
+use crate::proof_file::ProofFile;
 use crate::replaying::replay_files;
 use crate::reply::{Reply, fixed};
 use crate::sampling::sample;
@@ -150,7 +151,8 @@ fn do_job<S: Shelf>(
             nodes,
             budget,
         } => {
-            let reply = check(alloc, shelf, Report::Verdict, task, proof, nodes, *budget)?;
+            let proof = ProofFile::new(proof, *budget, Report::Verdict);
+            let reply = check(alloc, shelf, task, nodes, &proof)?;
             Ok(reply)
         }
         Job::Explain {
@@ -159,15 +161,18 @@ fn do_job<S: Shelf>(
             nodes,
             budget,
         } => {
-            let reply = check(
-                alloc,
-                shelf,
-                Report::Explanation,
-                task,
-                proof,
-                nodes,
-                *budget,
-            )?;
+            let proof = ProofFile::new(proof, *budget, Report::Explanation);
+            let reply = check(alloc, shelf, task, nodes, &proof)?;
+            Ok(reply)
+        }
+        Job::Upgrade {
+            task,
+            proof,
+            nodes,
+            budget,
+        } => {
+            let proof = ProofFile::new(proof, *budget, Report::Renewal);
+            let reply = check(alloc, shelf, task, nodes, &proof)?;
             Ok(reply)
         }
         Job::Produce { kind, task } => produce(alloc, shelf, *kind, task),

@@ -14,14 +14,15 @@ pub returns-in_ok-answer-in-Ok-clause-answer : goal.returns-in_ok-answer-in-Ok-c
 returns-in_ok-answer-in-Ok-clause-answer g c =
     let answer = c.in_ok-answer-in-Ok.answer in
     task_answer (g.S.Shelf.held c.args.shelf.now) c.args.task.now
-    (λ held task. AnswersTask c.args.report task c.args.proof.now c.args.nodes.now c.args.budget
-    held) c.in-Ok.task answer.status answer.text
+    (λ held task. AnswersTask c.args.proof.now.report task c.args.proof.now.name.now
+    c.args.nodes.now c.args.proof.now.budget held) c.in-Ok.task answer.status answer.text
     (subst (λ name. IfSome (g.S.Shelf.held c.args.shelf.now)
     (λ (h : Names). TaskText standard (bytes_of h name) c.in-Ok.task)) c.as_str.ensures
     c.in-Ok.ensures.read)
     (subst
-    (λ held. IfSome held (λ (h : Names). AnswersTask c.args.report c.in-Ok.task c.args.proof.now
-    c.args.nodes.now c.args.budget h answer.status answer.text))
+    (λ held. IfSome held (λ (h : Names). AnswersTask c.args.proof.now.report c.in-Ok.task
+    c.args.proof.now.name.now c.args.nodes.now c.args.proof.now.budget h answer.status
+    answer.text))
     c.in-Ok.ensures.held c.in_ok-answer-in-Ok.ensures.answer)
 
 pub returns-in_ok-answer-in-Err-clause-answer : goal.returns-in_ok-answer-in-Err-clause-answer
@@ -30,8 +31,8 @@ returns-in_ok-answer-in-Err-clause-answer g c =
     let said : IsReply answer S.BadInput (task_fault_text c.in-Err.fault)
     × IsTextFault c.in-Err.fault = c.in_ok-answer-in-Err.ensures in
     task_fault (g.S.Shelf.held c.args.shelf.now) c.args.task.now
-    (λ held task. AnswersTask c.args.report task c.args.proof.now c.args.nodes.now c.args.budget
-    held) c.in-Err.fault answer.status answer.text
+    (λ held task. AnswersTask c.args.proof.now.report task c.args.proof.now.name.now
+    c.args.nodes.now c.args.proof.now.budget held) c.in-Err.fault answer.status answer.text
     (subst (λ name. IfSome (g.S.Shelf.held c.args.shelf.now)
     (λ (h : Names). IsReadFrom standard (bytes_of h name) (Err c.in-Err.fault)))
     c.as_str.ensures c.in-Err.ensures.read)

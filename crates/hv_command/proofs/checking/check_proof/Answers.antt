@@ -7,6 +7,6 @@ pub returns-clause-answer : goal.returns-clause-answer
 returns-clause-answer g c =
     subst
     (λ s. IfSome (g.S.Shelf.held c.args.shelf.now)
-    (λ held. IfOk c.judge_file.result (λ r. AnswersProof c.args.report s
-    (bytes_of held c.args.proof.now) r.status r.text)))
+    (λ held. IfOk c.judge_file.result (λ r. AnswersProof c.args.proof.now.report s
+    (bytes_of held c.args.proof.now.name.now) r.status r.text)))
     c.in_ok-checker.ensures.setting c.judge_file.ensures.answer

@@ -15,8 +15,9 @@ use Rattle.hv_command.proofs.checking.check_with_nodes.Goals as goal
 pub returns-in_ok-answer-in-Ok-clause-answer : goal.returns-in_ok-answer-in-Ok-clause-answer
 returns-in_ok-answer-in-Ok-clause-answer g c =
     let answer = c.in_ok-answer-in-Ok.answer in
-    nodes_answer c.args.report c.args.task.now c.args.proof.now c.args.nodes.now c.args.budget
-    (g.S.Shelf.held c.args.shelf.now) c.in-Ok.diagrams answer.status answer.text
+    nodes_answer c.args.proof.now.report c.args.task.now c.args.proof.now.name.now c.args.nodes.now
+    c.args.proof.now.budget (g.S.Shelf.held c.args.shelf.now) c.in-Ok.diagrams answer.status
+    answer.text
     (subst (λ n. IfSome (g.S.Shelf.held c.args.shelf.now)
     (λ (h : Names). AreTextOf n (pieces_of standard (bytes_of h c.args.nodes.now))
     c.in-Ok.diagrams))
@@ -25,9 +26,9 @@ returns-in_ok-answer-in-Ok-clause-answer g c =
     (λ (h : Names). AreTextOf c.atoms.result (pieces_of standard (bytes_of h name))
     c.in-Ok.diagrams)) c.as_str.ensures c.in-Ok.ensures.read))
     (subst
-    (λ held. IfSome held (λ (h : Names). AnswersProof c.args.report
-    (setting_of c.args.task.now c.in-Ok.diagrams c.args.budget) (bytes_of h c.args.proof.now)
-    answer.status answer.text))
+    (λ held. IfSome held (λ (h : Names). AnswersProof c.args.proof.now.report
+    (setting_of c.args.task.now c.in-Ok.diagrams c.args.proof.now.budget)
+    (bytes_of h c.args.proof.now.name.now) answer.status answer.text))
     c.in-Ok.ensures.held c.in_ok-answer-in-Ok.ensures.answer)
 
 pub returns-in_ok-answer-in-Err-clause-answer : goal.returns-in_ok-answer-in-Err-clause-answer
@@ -35,8 +36,9 @@ returns-in_ok-answer-in-Err-clause-answer g c =
     let answer = c.in_ok-answer-in-Err.answer in
     let said : IsReply answer S.BadInput (nodes_fault_text c.in-Err.fault)
     × IsNodesFault c.in-Err.fault = c.in_ok-answer-in-Err.ensures in
-    nodes_fault c.args.report c.args.task.now c.args.proof.now c.args.nodes.now c.args.budget
-    (g.S.Shelf.held c.args.shelf.now) c.in-Err.fault answer.status answer.text
+    nodes_fault c.args.proof.now.report c.args.task.now c.args.proof.now.name.now c.args.nodes.now
+    c.args.proof.now.budget (g.S.Shelf.held c.args.shelf.now) c.in-Err.fault answer.status
+    answer.text
     (subst (λ n. IfSome (g.S.Shelf.held c.args.shelf.now)
     (λ (h : Names). IsReadFrom standard n (bytes_of h c.args.nodes.now) (Err c.in-Err.fault)))
     c.atoms.ensures.atoms

@@ -1,26 +1,44 @@
 use Rattle.std.proofs.Common.{inl, refl}
 use Rattle.hv_replay.proofs.Several.{AnyOf}
 use Rattle.hv_command.specs.declared.job.Job.TheVariants as J
-use Rattle.hv_command.proofs.Checked.{told_job, told_result, told_sample}
+use Rattle.hv_command.proofs.Checked.{of_file, told_job, told_result, told_sample}
 use Rattle.hv_command.proofs.top.do_job.Goals as goal
 
 pub returns-in_ok-reply-in-Check-clause-answer : goal.returns-in_ok-reply-in-Check-clause-answer
 returns-in_ok-reply-in-Check-clause-answer g c =
     let reply = c.in_ok-reply-in-Check.reply in
+    let file = c.new-proof.ensures in
     told_job (λ task state. AnyOf c.args.pruners.now.items
     (λ b. (goal.Pruner-dyn g (b.vtable, b.value)).covers b.value task state))
-    (J.Check c.in-Check.task c.in-Check.proof c.in-Check.nodes c.in-Check.budget) c.args.job.now
-    c.in-Check.task (g.S.Shelf.held c.args.shelf.now) reply.status reply.text c.in-Check.is
-    (inl refl) c.in_ok-reply-in-Check.ensures.answer
+    (J.Check c.in-Check.task c.in-Check.proof c.in-Check.nodes c.in-Check.budget)
+    c.args.job.now c.in-Check.task (g.S.Shelf.held c.args.shelf.now) reply.status reply.text
+    c.in-Check.is (inl refl)
+    (of_file (g.S.Shelf.held c.args.shelf.now) c.in-Check.task c.in-Check.nodes reply.status
+    reply.text file.report file.name file.budget c.in_ok-reply-in-Check.ensures.answer)
 
 pub returns-in_ok-reply-in-Explain-clause-answer : goal.returns-in_ok-reply-in-Explain-clause-answer
 returns-in_ok-reply-in-Explain-clause-answer g c =
     let reply = c.in_ok-reply-in-Explain.reply in
+    let file = c.new-proof-in-Explain.ensures in
     told_job (λ task state. AnyOf c.args.pruners.now.items
     (λ b. (goal.Pruner-dyn g (b.vtable, b.value)).covers b.value task state))
     (J.Explain c.in-Explain.task c.in-Explain.proof c.in-Explain.nodes c.in-Explain.budget)
     c.args.job.now c.in-Explain.task (g.S.Shelf.held c.args.shelf.now) reply.status reply.text
-    c.in-Explain.is (inl refl) c.in_ok-reply-in-Explain.ensures.answer
+    c.in-Explain.is (inl refl)
+    (of_file (g.S.Shelf.held c.args.shelf.now) c.in-Explain.task c.in-Explain.nodes reply.status
+    reply.text file.report file.name file.budget c.in_ok-reply-in-Explain.ensures.answer)
+
+pub returns-in_ok-reply-in-Upgrade-clause-answer : goal.returns-in_ok-reply-in-Upgrade-clause-answer
+returns-in_ok-reply-in-Upgrade-clause-answer g c =
+    let reply = c.in_ok-reply-in-Upgrade.reply in
+    let file = c.new-proof-in-Upgrade.ensures in
+    told_job (λ task state. AnyOf c.args.pruners.now.items
+    (λ b. (goal.Pruner-dyn g (b.vtable, b.value)).covers b.value task state))
+    (J.Upgrade c.in-Upgrade.task c.in-Upgrade.proof c.in-Upgrade.nodes c.in-Upgrade.budget)
+    c.args.job.now c.in-Upgrade.task (g.S.Shelf.held c.args.shelf.now) reply.status reply.text
+    c.in-Upgrade.is (inl refl)
+    (of_file (g.S.Shelf.held c.args.shelf.now) c.in-Upgrade.task c.in-Upgrade.nodes reply.status
+    reply.text file.report file.name file.budget c.in_ok-reply-in-Upgrade.ensures.answer)
 
 pub returns-in-Produce-clause-answer : goal.returns-in-Produce-clause-answer
 returns-in-Produce-clause-answer g c =
