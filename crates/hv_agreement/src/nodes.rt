@@ -7,6 +7,7 @@ ghost use Rattle.hv_bdd.specs.Nodes.{node_count};
 use crate::cubes::{cubes_are_covered, cubes_are_met, holds_rightly};
 use crate::queries::{Measure, Named, Wanted, all_are_right};
 use crate::three::task_of;
+use crate::tuples::Fronts;
 use hv_bdd::{Diagrams, NodesFault, read_nodes};
 use hv_bytes::{Limits, SureShelf};
 use std::alloc::{AllocError, Global};
@@ -26,6 +27,25 @@ const WOVEN_SETS: [u32; 8] = [0, 255, 240, 15, 60, 195, 150, 40];
 const PAIRED: &[u8] = b"nodes 6\n1 1 0\n0 2 0\n0 0 2\n2 0 1\n1 0 5\n0 5 1\n";
 
 const PAIRED_SETS: [u32; 8] = [0, 255, 51, 17, 34, 240, 192, 250];
+
+// The fronts of the rising order.
+const RISING: Fronts = [0, 1, 3, 7];
+
+// In the order of the atoms 1, 2, 0: the first atom and its negation, the first and the last
+// different and alike, an odd number of atoms, and the second atom with those two different.
+const TURNED: &[u8] = b"order 1 2 0\nnodes 6\n0 0 1\n0 1 0\n2 2 3\n2 3 2\n1 4 5\n1 0 4\n";
+
+const TURNED_SETS: [u32; 8] = [0, 255, 170, 85, 90, 165, 150, 72];
+
+const TURNED_FRONTS: Fronts = [0, 2, 6, 7];
+
+// In the falling order: the first atom, the first two together and one of them, all three, two of
+// the three, and the first or not the last.
+const FALLING: &[u8] = b"order 2 1 0\nnodes 6\n0 0 1\n1 0 2\n1 2 1\n2 0 3\n2 3 4\n2 1 2\n";
+
+const FALLING_SETS: [u32; 8] = [0, 255, 170, 136, 238, 128, 232, 175];
+
+const FALLING_FRONTS: Fronts = [0, 4, 6, 7];
 
 fn shelf_of(alloc: Global, text: &[u8]) -> Result<SureShelf, AllocError> {
     let mut shelf = SureShelf::new(alloc);
@@ -53,7 +73,7 @@ fn node_of(number: usize, sets: &[u32; 8]) -> Named
 }
 
 // What is asked of a list of eight nodes, of two of them.
-fn nodes_wanted(pre: u32, first: usize, second: usize, sets: &[u32; 8]) -> Wanted
+fn nodes_wanted(pre: u32, first: usize, second: usize, sets: &[u32; 8], fronts: Fronts) -> Wanted
     requires first { first < 8 }
     requires second { second < 8 }
     ensures count { result.count ≡ 8 }
@@ -65,7 +85,7 @@ fn nodes_wanted(pre: u32, first: usize, second: usize, sets: &[u32; 8]) -> Wante
         first: node_of(first, sets),
         second: node_of(second, sets),
         pre,
-        measure: Measure::Tuples,
+        measure: Measure::Tuples(fronts),
     }
 }
 
@@ -78,6 +98,7 @@ fn pair_is_right(
     list: &Diagrams,
     first: usize,
     sets: &[u32; 8],
+    fronts: Fronts,
 ) -> Result<bool, AllocError>
     requires atoms { list.now.atoms ≡ 3 }
     requires count { node_count list.now ≡ 8 }
@@ -89,7 +110,7 @@ fn pair_is_right(
         alloc,
         &task,
         list,
-        nodes_wanted(pre, first, 7 - first, sets),
+        nodes_wanted(pre, first, 7 - first, sets, fronts),
     )
 }
 
@@ -112,7 +133,12 @@ fn node_is_right(
 }
 
 // Whether the queries of the nodes are answered rightly, where the list has eight.
-fn pairs_are_right(alloc: Global, list: &Diagrams, sets: &[u32; 8]) -> Result<bool, AllocError>
+fn pairs_are_right(
+    alloc: Global,
+    list: &Diagrams,
+    sets: &[u32; 8],
+    fronts: Fronts,
+) -> Result<bool, AllocError>
     requires { list.now.atoms ≡ 3 }
 {
     if list.count() != 8 {
@@ -120,14 +146,19 @@ fn pairs_are_right(alloc: Global, list: &Diagrams, sets: &[u32; 8]) -> Result<bo
     }
     let mut right = true;
     for first in 0..4 {
-        right &= pair_is_right(alloc, list, first, sets)?;
+        right &= pair_is_right(alloc, list, first, sets, fronts)?;
     }
     Ok(right)
 }
 
-fn queries_are_right(alloc: Global, text: &[u8], sets: &[u32; 8]) -> Result<bool, NodesFault> {
+fn queries_are_right(
+    alloc: Global,
+    text: &[u8],
+    sets: &[u32; 8],
+    fronts: Fronts,
+) -> Result<bool, NodesFault> {
     let list = list_of(alloc, text)?;
-    Ok(pairs_are_right(alloc, &list, sets)?)
+    Ok(pairs_are_right(alloc, &list, sets, fronts)?)
 }
 
 // The same of their cubes and states.
@@ -151,8 +182,15 @@ fn sets_are_right(alloc: Global, text: &[u8], sets: &[u32; 8]) -> Result<bool, N
 
 #[test]
 fn nodes_answer_as_all_states_say(rt: HostRuntime) -> Result<(), Fail> {
-    assert!(rt; queries_are_right(rt.alloc(), WOVEN, &WOVEN_SETS)?);
-    assert!(rt; queries_are_right(rt.alloc(), PAIRED, &PAIRED_SETS)?);
+    assert!(rt; queries_are_right(rt.alloc(), WOVEN, &WOVEN_SETS, RISING)?);
+    assert!(rt; queries_are_right(rt.alloc(), PAIRED, &PAIRED_SETS, RISING)?);
+    Ok(())
+}
+
+#[test]
+fn nodes_with_an_order_answer_as_all_states_say(rt: HostRuntime) -> Result<(), Fail> {
+    assert!(rt; queries_are_right(rt.alloc(), TURNED, &TURNED_SETS, TURNED_FRONTS)?);
+    assert!(rt; queries_are_right(rt.alloc(), FALLING, &FALLING_SETS, FALLING_FRONTS)?);
     Ok(())
 }
 
@@ -160,5 +198,7 @@ fn nodes_answer_as_all_states_say(rt: HostRuntime) -> Result<(), Fail> {
 fn cubes_of_nodes_are_answered_as_all_states_say(rt: HostRuntime) -> Result<(), Fail> {
     assert!(rt; sets_are_right(rt.alloc(), WOVEN, &WOVEN_SETS)?);
     assert!(rt; sets_are_right(rt.alloc(), PAIRED, &PAIRED_SETS)?);
+    assert!(rt; sets_are_right(rt.alloc(), TURNED, &TURNED_SETS)?);
+    assert!(rt; sets_are_right(rt.alloc(), FALLING, &FALLING_SETS)?);
     Ok(())
 }

@@ -17,7 +17,7 @@ use crate::three::{
     ALL, GOAL_STATES, START_STATES, explicit_of, fits, formula_of, holding, is_dual_code,
     is_horn_code, is_two_code, leading_to, states_of_clauses, states_of_list, task_of,
 };
-use crate::tuples::live_tuples;
+use crate::tuples::{Fronts, live_tuples};
 use hv_clauses::{ClauseKind, Formulas};
 use hv_explicit::Explicits;
 use hv_horn::{DualHornKind, HornKind};
@@ -43,12 +43,12 @@ struct Case {
 }
 
 // What the cost of a query counts: the choices of a clause of each negative operand, the states
-// that the anchor lists, or the live tuples.
+// that the anchor lists, or the live tuples in the order with these fronts.
 #[derive(Clone, Copy, PartialEq, Eq)]
 pub(crate) enum Measure {
     Choices,
     Listed,
-    Tuples,
+    Tuples(Fronts),
 }
 
 // A set of a store: its number there, its states, and how many clauses or states it lists. For a
@@ -344,15 +344,8 @@ fn cost_of(alloc: Global, case: Case, query: &Query, wanted: Wanted) -> Result<u
     match wanted.measure {
         Measure::Choices => Ok(choices_of(case, wanted)),
         Measure::Listed => Ok(listed_in(case.positive, wanted)),
-        Measure::Tuples => live_tuples(alloc, query, wanted),
+        Measure::Tuples(fronts) => live_tuples(alloc, query, wanted, fronts),
     }
-}
-
-// What is asked of a query: its counterexamples, and what it costs.
-#[derive(Clone, Copy)]
-struct Answer {
-    clashes: u32,
-    cost: u64,
 }
 
 // The budget of a query: one less than its cost, its cost, or a large one.
@@ -373,14 +366,21 @@ pub(crate) fn budget_at(cost: u64, budget: Budget) -> u64 {
     }
 }
 
-// Whether the query is answered as all states say, within the budget.
-fn budget_is_right<F: Family>(
+// What is asked of a query: its counterexamples, what it costs, and within which budget.
+#[derive(Clone, Copy)]
+struct Answer {
+    clashes: u32,
+    cost: u64,
+    budget: Budget,
+}
+
+// Whether the query is answered as all states say.
+fn answer_is_right<F: Family>(
     alloc: Global,
     task: &Task,
     sets: &F,
     query: &Query,
     answer: Answer,
-    budget: Budget,
     scratch: &mut Scratch,
 ) -> Result<bool, AllocError>
     requires ready { IsReady (F.count sets.now) query.now }
@@ -388,7 +388,7 @@ fn budget_is_right<F: Family>(
     requires task { F.is_over sets.now (atoms task.now) }
     requires action { IfSome query.now.action (λ action. action < length task.now.actions) }
 {
-    let budget = budget_at(answer.cost, budget);
+    let budget = budget_at(answer.cost, answer.budget);
     let found = sets.find(alloc, task, query, budget, scratch)?;
     Ok(fits(found, scratch.state(), answer.clashes, answer.cost > budget))
 }
@@ -409,31 +409,24 @@ fn query_is_right<F: Family>(
 {
     let mut right = true;
     for budget in BUDGETS {
-        right &= budget_is_right(alloc, task, sets, query, answer, budget, scratch)?;
+        let answer = Answer { budget, ..answer };
+        right &= answer_is_right(alloc, task, sets, query, answer, scratch)?;
     }
     Ok(right)
 }
 
-// The same for the query of this case.
-fn answer_is_right<F: Family>(
+// What is asked of the query of this case, within its cost.
+fn answer_of(
     alloc: Global,
-    task: &Task,
-    sets: &F,
-    query: &Query,
     case: Case,
+    query: &Query,
     wanted: Wanted,
-    scratch: &mut Scratch,
-) -> Result<bool, AllocError>
-    requires ready { IsReady (F.count sets.now) query.now }
-    requires anchor { F.wants_anchor sets.now → HasAnchor query.now }
-    requires task { F.is_over sets.now (atoms task.now) }
-    requires action { IfSome query.now.action (λ action. action < length task.now.actions) }
-{
-    let answer = Answer {
+) -> Result<Answer, AllocError> {
+    Ok(Answer {
         clashes: clashes_of(case, wanted),
         cost: cost_of(alloc, case, query, wanted)?,
-    };
-    query_is_right(alloc, task, sets, query, answer, scratch)
+        budget: Budget::Exact,
+    })
 }
 
 // The same for the case of this number, where it can be asked about.
@@ -457,7 +450,8 @@ fn case_is_right<F: Family>(
         return Ok(true);
     }
     let query = query_of(alloc, case)?;
-    answer_is_right(alloc, task, sets, &query, case, wanted, scratch)
+    let answer = answer_of(alloc, case, &query, wanted)?;
+    query_is_right(alloc, task, sets, &query, answer, scratch)
 }
 
 // Whether each query is answered rightly.
@@ -539,36 +533,52 @@ fn ask_in<K: ClauseKind>(
     Ok(sets.find_in(task, &query, budget, scratch))
 }
 
-// Whether a query of one positive and one negative operand is answered as all states say.
+// The case of this number, of one positive and one negative operand.
+fn plain_case(number: u32, wanted: Wanted) -> Case
+    requires first { wanted.first.number < wanted.count }
+    requires second { wanted.second.number < wanted.count }
+    ensures count { result.count ≡ wanted.count }
+    ensures positive { IsNamed result.count result.positive }
+    ensures negative { IsNamed result.count result.negative }
+    ensures positive_after { result.acts ≡ false → result.positive_after ≡ false }
+    ensures negative_after { result.acts ≡ false → result.negative_after ≡ false }
+{
+    Case {
+        joined: None,
+        other: None,
+        ..case_of(number, wanted)
+    }
+}
+
+// What is asked of the query of such a case.
+fn plain_answer(case: Case, wanted: Wanted, budget: Budget) -> Answer {
+    Answer {
+        clashes: clashes_of(case, wanted),
+        cost: choices_of(case, wanted),
+        budget,
+    }
+}
+
+// Whether the query of such a case is answered as all states say.
 fn case_is_right_in<K: ClauseKind>(
     alloc: Global,
     task: &Task,
     sets: &Formulas<K>,
-    wanted: Wanted,
-    number: u32,
-    budget: Budget,
+    case: Case,
+    answer: Answer,
     scratch: &mut Scratch,
 ) -> Result<bool, AllocError>
-    requires first { wanted.first.number < wanted.count }
-    requires second { wanted.second.number < wanted.count }
     requires actions { length task.now.actions ≡ 1 }
-    requires count { length sets.now ≡ wanted.count }
+    requires count { length sets.now ≡ case.count }
     requires over { AreOver sets.now (atoms task.now) }
+    requires positive { IsNamed case.count case.positive }
+    requires negative { IsNamed case.count case.negative }
+    requires positive_after { case.acts ≡ false → case.positive_after ≡ false }
+    requires negative_after { case.acts ≡ false → case.negative_after ≡ false }
 {
-    let case = Case {
-        joined: None,
-        other: None,
-        ..case_of(number, wanted)
-    };
-    let cost = choices_of(case, wanted);
-    let budget = budget_at(cost, budget);
+    let budget = budget_at(answer.cost, answer.budget);
     let found = ask_in(alloc, task, sets, case, budget, scratch)?;
-    Ok(fits(
-        found,
-        scratch.state(),
-        clashes_of(case, wanted),
-        cost > budget,
-    ))
+    Ok(fits(found, scratch.state(), answer.clashes, answer.cost > budget))
 }
 
 fn all_are_right_in<K: ClauseKind>(
@@ -587,7 +597,9 @@ fn all_are_right_in<K: ClauseKind>(
     let mut scratch = Scratch::new(alloc)?;
     let mut right = true;
     for number in 0..PLAIN_CASES {
-        right &= case_is_right_in(alloc, task, sets, wanted, number, budget, &mut scratch)?;
+        let case = plain_case(number, wanted);
+        let answer = plain_answer(case, wanted, budget);
+        right &= case_is_right_in(alloc, task, sets, case, answer, &mut scratch)?;
     }
     Ok(right)
 }

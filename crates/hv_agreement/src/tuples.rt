@@ -17,8 +17,8 @@ struct Bits {
     code: u32,
 }
 
-// No atom, the first one, the first two, and all three.
-const FRONTS: [u32; 4] = [0, 1, 3, 7];
+/// No atom, the first one in an order, the first two, and all three.
+pub(crate) type Fronts = [u32; 4];
 
 // What is left of the set of these states.
 fn left_of(mask: u32, bits: Bits) -> u32 {
@@ -105,10 +105,15 @@ fn put_all(
     Ok(())
 }
 
-// How many live tuples the query has.
-pub(crate) fn live_tuples(alloc: Global, query: &Query, wanted: Wanted) -> Result<u64, AllocError> {
+// How many live tuples the query has in the order with these fronts.
+pub(crate) fn live_tuples(
+    alloc: Global,
+    query: &Query,
+    wanted: Wanted,
+    fronts: Fronts,
+) -> Result<u64, AllocError> {
     let mut tuples = Vec::new(alloc);
-    for atoms in FRONTS {
+    for atoms in fronts {
         put_all(&mut tuples, query, wanted, atoms)?;
     }
     Ok(tuples.len() as u64)

@@ -403,9 +403,13 @@ fn is_part_judged(
     Ok((done == whole) & (refused != whole))
 }
 
-// Whether only the whole proof, and the whole without its last LF, shows that the task is
-// unsolvable, and every other part is refused.
-fn needs_the_proof(alloc: Global, task: &[u8], proof: &[u8]) -> Result<bool, AllocError> {
+/// Whether only the whole proof, and the whole without its last LF, shows that the task is
+/// unsolvable, and every other part is refused.
+pub(crate) fn needs_the_proof(
+    alloc: Global,
+    task: &[u8],
+    proof: &[u8],
+) -> Result<bool, AllocError> {
     let mut right = true;
     for end in 0..proof.len() + 1 {
         right &= is_part_judged(alloc, task, &proof[..end], end + 1 >= proof.len())?;

@@ -23,7 +23,7 @@ const NODE_PROOF: &str = "@e 3 b 2/%";
 const NODES: &str = "nodes 1/2 1 0/";
 
 // A file takes an open, the reads that give bytes, and one that gives none.
-static RUNS: [Run; 11] = [
+static RUNS: [Run; 12] = [
     Run {
         words: "check task proof",
         task: KEY_TASK,
@@ -47,6 +47,14 @@ static RUNS: [Run; 11] = [
         nodes: NODES,
         reads: 38 + 4 + 28,
         writes: 17,
+    },
+    Run {
+        words: "upgrade task proof --nodes nodes",
+        task: KEY_TASK,
+        proof: NODE_PROOF,
+        nodes: NODES,
+        reads: 38 + 4 + 28,
+        writes: 19,
     },
     Run {
         words: "produce relaxed task",

@@ -4,6 +4,8 @@
 #[cfg(test)]
 mod check;
 #[cfg(test)]
+mod closed;
+#[cfg(test)]
 mod dual_horn;
 #[cfg(test)]
 mod explain;
@@ -27,5 +29,7 @@ mod sample;
 mod short;
 #[cfg(test)]
 mod statements;
+#[cfg(test)]
+mod upgrade;
 #[cfg(test)]
 mod words;

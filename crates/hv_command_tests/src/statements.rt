@@ -418,7 +418,26 @@ fn follows_a_chain_of_clauses(rt: HostRuntime) -> Result<(), Fail> {
 const TWO_NODES: &str = "nodes 2/1 1 0/0 2 0/";
 
 // A node file, a budget, a proof for the key task, and the texts of which one is the answer.
-static NODES_ROWS: [(&str, &str, &str, &str); 16] = [
+static NODES_ROWS: [(&str, &str, &str, &str); 19] = [
+    // an order of the atoms in which the nodes stand; without it, and with an atom twice
+    (
+        "order 2 1 0/nodes 2/0 1 0/1 2 0/",
+        "2",
+        "e 0 h 2 -1 0 -2 0/e 1 b 3/k 0 s 0 1 b4/",
+        "1 no conclusion",
+    ),
+    (
+        "nodes 2/0 1 0/1 2 0/",
+        "2",
+        "e 0 h 2 -1 0 -2 0/e 1 b 3/k 0 s 0 1 b4/",
+        "3 nodes line 3: place order",
+    ),
+    (
+        "order 0 1 1/nodes 2/0 1 0/1 2 0/",
+        "2",
+        "e 0 h 2 -1 0 -2 0/e 1 b 3/k 0 s 0 1 b4/",
+        "3 nodes line 1: place permutation",
+    ),
     // a Horn formula within a diagram that has two paths to 0
     (
         TWO_NODES,

@@ -84,6 +84,12 @@ fn told_of(alloc: Global, job: &Job) -> Result<String, AllocError> {
             nodes,
             budget,
         } => with_options(alloc, "explain", (task, proof), nodes, *budget),
+        Job::Upgrade {
+            task,
+            proof,
+            nodes,
+            budget,
+        } => with_options(alloc, "upgrade", (task, proof), nodes, *budget),
         Job::Produce { kind, task } => with_kind(alloc, *kind, task),
         Job::Replay { task, log } => with_log(alloc, task, log),
         Job::Sample { rooms } => with_rooms(alloc, *rooms),
@@ -120,7 +126,7 @@ fn names(alloc: Global, text: &str, job: &str) -> Result<bool, AllocError> {
     name_job(alloc, &words, job)
 }
 
-static JOBS: [(&str, &str); 19] = [
+static JOBS: [(&str, &str); 22] = [
     ("check t p", "check t p none 1000000"),
     ("check t p --budget 1", "check t p none 1"),
     ("check t p --budget 16777216", "check t p none 16777216"),
@@ -129,6 +135,9 @@ static JOBS: [(&str, &str); 19] = [
     ("check t p --budget 7 --nodes n", "check t p n 7"),
     ("explain t p", "explain t p none 1000000"),
     ("explain t p --budget 7 --nodes n", "explain t p n 7"),
+    ("upgrade t p", "upgrade t p none 1000000"),
+    ("upgrade t p --nodes n --budget 7", "upgrade t p n 7"),
+    ("upgrade t p --budget 16777216", "upgrade t p none 16777216"),
     ("produce relaxed t", "relaxed t"),
     ("produce pairs t", "pairs t"),
     ("produce trap t", "trap t"),
@@ -143,7 +152,7 @@ static JOBS: [(&str, &str); 19] = [
 ];
 
 // Words that are no job.
-static NO_JOBS: [&str; 83] = [
+static NO_JOBS: [&str; 93] = [
     "",
     " ",
     " t p",
@@ -192,6 +201,16 @@ static NO_JOBS: [&str; 83] = [
     "explain t p --budget 7 --budget 7",
     "explain --budget 7 t p",
     "explain check t p",
+    "upgrade",
+    "upgrade t",
+    "upgrade t p q",
+    "Upgrade t p",
+    "upgrade t -p",
+    "upgrade  p",
+    "upgrade t p --nodes",
+    "upgrade t p --budget 0",
+    "upgrade t p --nodes n --nodes n",
+    "upgrade --nodes n t p",
     "produce",
     "produce relaxed",
     "produce best t",

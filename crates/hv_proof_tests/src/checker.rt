@@ -12,7 +12,8 @@ use std::alloc::{AllocError, Global};
 use std::process::Abort;
 use std::test::Fail;
 
-const PROOF: [&str; 16] = [
+/// The proof of two states.
+pub(crate) const PROOF: [&str; 16] = [
     "a 0 a",
     "e 0 c e",
     "e 1 c i",
@@ -31,7 +32,12 @@ const PROOF: [&str; 16] = [
     "k 7 u ci 6",
 ];
 
-fn feed_good(rt: &impl Abort, checker: &mut Checker<'_>, lines: &[&str]) -> Result<(), AllocError> {
+/// Each of these lines is good.
+pub(crate) fn feed_good(
+    rt: &impl Abort,
+    checker: &mut Checker<'_>,
+    lines: &[&str],
+) -> Result<(), AllocError> {
     for line in lines {
         assert!(rt; checker.fed() < 100);
         let fed = checker.feed(Piece::Line(line.as_bytes()))?;
@@ -96,10 +102,11 @@ fn stop(
     Ok(())
 }
 
-fn is_refusal(fed: &Fed, reason: &Reason) -> bool {
+/// Whether the answer is a refusal for this reason.
+pub(crate) fn is_refusal(fed: &Fed, reason: &Reason) -> bool {
     match fed {
         Fed::Refused(told) => told == reason,
-        Fed::Skipped | Fed::Good | Fed::Stopped => false,
+        Fed::Skipped | Fed::Good | Fed::Marked | Fed::Stopped => false,
     }
 }
 

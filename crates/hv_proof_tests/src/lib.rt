@@ -5,6 +5,8 @@
 #[cfg(test)]
 mod checker;
 #[cfg(test)]
+mod closed;
+#[cfg(test)]
 mod explain;
 #[cfg(test)]
 mod lines;

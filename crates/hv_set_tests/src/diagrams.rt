@@ -21,7 +21,7 @@ use std::test::Fail;
 const NAME: &str = "nodes";
 
 /// Node files over two atoms, and what is answered.
-static FILES: [(&str, &str); 50] = [
+static FILES: [(&str, &str); 69] = [
     ("nodes 0", "read"),
     ("nodes 0\n", "read"),
     ("nodes 2\n1 1 0\n0 2 0\n", "read"),
@@ -72,6 +72,25 @@ static FILES: [(&str, &str); 50] = [
     ("nodes 0\n0 0 1", "place 2 end"),
     ("nodes 1\n0 0 1\n\n", "place 3 end"),
     ("nodes 1\n0 0 1\n0 0 1", "place 3 end"),
+    ("order 0 1\nnodes 0", "read"),
+    ("order 1 0\nnodes 2\n0 0 1\n1 2 1\n", "read"),
+    ("order", "place 1 permutation"),
+    ("order 0", "place 1 permutation"),
+    ("order 0 1 ", "place 1 permutation"),
+    ("order  0 1", "place 1 permutation"),
+    ("order 0 0", "place 1 permutation"),
+    ("order 0 1 1", "place 1 permutation"),
+    ("order 1 2", "place 1 permutation"),
+    ("order 00 1", "place 1 permutation"),
+    ("orders 0 1", "place 1 permutation"),
+    (" order 0 1", "place 1 header"),
+    ("order 0 1", "place 2 header"),
+    ("order 0 1\norder 0 1", "place 2 header"),
+    ("order 1 0\nnodes 16777217", "limit 2 nodes"),
+    ("order 1 0\nnodes 2\n1 0 1\n0 2 1", "place 4 order"),
+    ("order 1 0\nnodes 2\n0 0 1\n0 0 1", "place 4 twin"),
+    ("order 1 0\nnodes 1\n0 0 1\n\n", "place 4 end"),
+    ("nodes 0\norder 0 1", "place 2 end"),
 ];
 
 // The nodes that the text over so many atoms is read as.
@@ -156,6 +175,43 @@ fn each_beginning_of_a_file_is_refused_where_it_ends(rt: HostRuntime) -> Result<
     assert_eq!(rt; TWO_NODES.len(), 20);
     for end in 0..21 {
         assert!(rt; beginning_tells(rt.alloc(), end)?, "cut at {end}");
+    }
+    Ok(())
+}
+
+/// A file of one node with an order.
+const ORDERED: &[u8] = b"order 1 0\nnodes 1\n0 0 1\n";
+
+// How a beginning of that file of so many bytes is answered.
+fn wanted_of_ordered(end: usize) -> &'static str {
+    if end <= 4 {
+        "place 1 header"
+    } else if end <= 8 {
+        "place 1 permutation"
+    } else if end <= 16 {
+        "place 2 header"
+    } else if end <= 22 {
+        "place 3 node"
+    } else {
+        "read"
+    }
+}
+
+// Whether this beginning of that file is answered so.
+fn ordered_beginning_tells(alloc: Global, end: usize) -> Result<bool, AllocError> {
+    match ORDERED.get(..end) {
+        Some(text) => is_answered(alloc, text, 2, Limits::STANDARD, wanted_of_ordered(end)),
+        None => Ok(false),
+    }
+}
+
+#[test]
+fn each_beginning_of_a_file_with_an_order_is_refused_where_it_ends(
+    rt: HostRuntime,
+) -> Result<(), Fail> {
+    assert_eq!(rt; ORDERED.len(), 24);
+    for end in 0..25 {
+        assert!(rt; ordered_beginning_tells(rt.alloc(), end)?, "cut at {end}");
     }
     Ok(())
 }

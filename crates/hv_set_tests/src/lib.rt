@@ -8,6 +8,8 @@ mod dual_horn;
 #[cfg(test)]
 mod horn;
 #[cfg(test)]
+mod one_head;
+#[cfg(test)]
 mod sets;
 #[cfg(test)]
 mod three_atoms;
