@@ -12,11 +12,9 @@ import sys
 
 TOP = os.path.dirname(os.path.dirname(os.path.realpath(__file__)))
 PROGRAM = os.environ.get("HELVE") or os.path.join(TOP, "helve")
-# What `check` reads today: the versions of proofs, and whether a node file may begin with a line
-# `order`. A proof of version 2 begins with `helve 2` and ends with `end`. The tools can read and
-# write these already; whatever tells what `check` answers, or makes files for it, asks here.
-VERSIONS = (1,)
-READS_ORDERS = False
+# The versions of proofs that `check` reads: one of version 2 begins with `helve 2` and ends with
+# `end`.
+VERSIONS = (1, 2)
 LONGEST = 16777216
 MOST_NODES = 16777216
 ACTION, SET, STATEMENT = b"a", b"e", b"k"
@@ -237,11 +235,10 @@ class Reader:
 
 
 class Nodes:
-    """A node file: the order of the atoms, where such a line is read, and the nodes."""
+    """A node file: the order of the atoms, which rises where no line says it, and the nodes."""
 
-    def __init__(self, name, atoms, orders=READS_ORDERS):
+    def __init__(self, name, atoms):
         self.order, self.nodes = range(atoms), [array.array("I", (0, 0)) for _ in range(3)]
-        self.orders = orders
         with opened(name) as file:
             reader = Reader(file)
             try:
@@ -251,7 +248,7 @@ class Nodes:
 
     def read(self, reader, atoms):
         line = reader.take()
-        if self.orders and line.split(b" ")[0] == b"order":
+        if line.split(b" ")[0] == b"order":
             self.order = [number_in(field) for field in line.split(b" ")[1:]]
             if None in self.order or sorted(self.order) != list(range(atoms)):
                 raise Fault(reader.number, "each atom once is wanted behind order")
