@@ -36,12 +36,14 @@ class Package:
         return atom, low ^ (edge & 1), high ^ (edge & 1)
 
 
-def node_file(package, root):
+def node_file(package, root, order=None):
     """The text of the node file that has this edge, and the number that the edge has there.
 
-    Children come before parents. A node and its complement become two nodes, each once.
+    Children come before parents. A node and its complement become two nodes, each once. The order
+    of the atoms is written where it is given: then the package asks for them in this order.
     """
     numbers = formats.no_numbers(len(package.nodes) - 1)
     lines = list(formats.node_lines(package.parts, [root], numbers))
+    first = "" if order is None else "order %s\n" % " ".join(map(str, order))
     text = b"nodes %d\n" % len(lines) + b"".join(lines)
-    return text.decode(), numbers[root]
+    return first + text.decode(), numbers[root]

@@ -1,7 +1,22 @@
 """Tasks whose states are known, and proofs and logs that list them, written piece by piece."""
 import itertools
+import math
 
 import texts
+
+# Fourteen times two triples of atoms whose codes in crates/hv_explicit/src/codes.rt have the same
+# sum under the first key, so that a state that takes one of each two has the same code whichever it
+# takes. They were found by sums of three random codes: 2^26 of them whose upper 16 bits are 0 were
+# sorted, and some five that follow each other are equal.
+TRIPLES = (
+    ((16367, 27817, 42151), (12346, 33519, 62798)), ((16873, 55754, 62385), (23809, 40166, 59383)),
+    ((17895, 26186, 53647), (30186, 50030, 63535)), ((18414, 27565, 32565), (38387, 46771, 62444)),
+    ((41220, 47725, 58430), (45908, 47039, 55722)), ((1408, 7456, 22165), (12541, 17033, 29516)),
+    ((697, 39993, 41667), (15453, 32976, 38980)), ((9158, 14576, 15283), (28305, 32174, 64579)),
+    ((2486, 2806, 6341), (16996, 26080, 35415)), ((1517, 24848, 54321), (6461, 34594, 43015)),
+    ((9171, 13367, 33557), (30966, 40969, 59389)), ((1547, 5606, 50495), (9134, 42796, 57452)),
+    ((10574, 10924, 56948), (7220, 10581, 22138)), ((27269, 38523, 54198), (5309, 5808, 38048)),
+)
 
 
 def write_task(path, atoms, start, goal, actions):
@@ -133,6 +148,23 @@ def cut(states, count, parts):
     for part in range(parts):
         length = (part + 1) * count // parts - part * count // parts
         yield length, itertools.islice(states, length)
+
+
+def free(percent, most):
+    """How many may be chosen freely, so that there are about so many of 2^most states."""
+    return most + round(math.log2(percent / 100))
+
+
+def meeting(percent, apart):
+    """States that take one of each two triples, and actions that exchange them: all have the same
+    code. Or apart, with another atom in the first triple of each two: then none have. The actions,
+    the initial state, and the states."""
+    pairs = [[list(one), list(other)] for one, other in TRIPLES[:free(percent, len(TRIPLES))]]
+    for one, _ in pairs:
+        one[0] += apart
+    actions = [(a, b, a) for one, other in pairs for a, b in ((one, other), (other, one))]
+    start = sorted(atom for one, _ in pairs for atom in one)
+    return actions, start, [sorted(sum(chosen, [])) for chosen in itertools.product(*pairs)]
 
 
 class Dials:
