@@ -190,6 +190,12 @@ same_members_of xs ys f g =
     (λ a c. (members_has ys a).1 (f a ((members_has xs a).0 c)))
     (λ a c. (members_has xs a).1 (g a ((members_has ys a).0 c)))
 
+-- a list that rises has itself
+pub members_same : (listed : List ℕ) → IsStrictlyIncreasing listed → members listed ≡ listed
+members_same listed rises =
+    same_rising (members listed) listed (members_rise listed) rises
+    (λ a c. (members_has listed a).0 c) (λ a c. (members_has listed a).1 c)
+
 -- one more number
 pub members_insert : (listed : List ℕ) (n : ℕ)
     → Inserts (members listed) n (members (listed ++ n ∷ []))
@@ -205,8 +211,3 @@ members_insert listed n = record {
         ])),
   );
 }
-
-pub members_more : (listed : List ℕ) (n : ℕ) (new : List ℕ) → Inserts (members listed) n new
-    → new ≡ members (listed ++ n ∷ [])
-members_more listed n new i = inserted_once (members listed) n new (members (listed ++ n ∷ [])) i
-    (members_insert listed n)

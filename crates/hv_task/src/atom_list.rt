@@ -41,6 +41,16 @@ impl AtomList {
         }
     }
 
+    /// The set of these atoms, which rise.
+    pub(crate) fn rising(alloc: Global, atoms: &[u32]) -> Result<AtomList, AllocError>
+        requires { IsStrictlyIncreasing atoms.now }
+        ensures { IfOk result (λ list. list ≡ atoms.now) }
+    {
+        Ok(AtomList {
+            atoms: SmallVec::from_slice(alloc, atoms)?,
+        })
+    }
+
     /// Another list of the same atoms.
     pub fn copy(&self, alloc: Global) -> Result<AtomList, AllocError>
         ensures { IfOk result (λ list. list ≡ self.now) }

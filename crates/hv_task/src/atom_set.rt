@@ -1,6 +1,7 @@
 //! Sets of atoms while they are read: any order, with repeats, in time n log n.
 
 ghost use Rattle.std.specs.Prelude.{◌≡◌, [], IfOk, OnOk, OnErr};
+ghost use Rattle.std.specs.List.Sorted.{IsStrictlyIncreasing};
 ghost use Rattle.hv_task.specs.AtomList.{Inserts};
 ghost use Rattle.hv_task.specs.Working.AtomList.{members};
 
@@ -58,7 +59,7 @@ impl AtomSet {
         ensures err { OnErr result (self.new ≡ self.old) }
     {
         sort(&mut self.atoms);
-        let list = list_of(alloc, self.atoms.as_slice())?;
+        let list = AtomList::rising(alloc, self.atoms.as_slice())?;
         self.atoms.clear();
         self.room = FIRST_ROOM;
         Ok(list)
@@ -79,22 +80,12 @@ fn made_room(atoms: &mut Vec<u32>, room: usize) -> usize
 
 // Sorts the atoms, and drops repeats.
 fn sort(atoms: &mut Vec<u32>)
-    ensures { members atoms.new.items ≡ members atoms.old.items }
+    ensures members { members atoms.new.items ≡ members atoms.old.items }
+    ensures rises { IsStrictlyIncreasing atoms.new.items }
 {
     if atoms.len() < 2 {
         return;
     }
     atoms.sort_unstable();
     atoms.dedup();
-}
-
-// The set of the atoms. It costs least where they rise.
-fn list_of(alloc: Global, atoms: &[u32]) -> Result<AtomList, AllocError>
-    ensures { IfOk result (λ list. list ≡ members atoms.now) }
-{
-    let mut list = AtomList::new(alloc);
-    for atom in atoms {
-        list.insert(*atom)?;
-    }
-    Ok(list)
 }
