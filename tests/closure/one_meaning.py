@@ -15,7 +15,7 @@ import sources  # noqa: E402
 
 
 ROLES = """
-AreTextOf IsFirstFault IsReadFrom IsReading IsTextOf kind_word limit_word
+AreTextOf IsFirstFault IsReadFrom IsTextOf kind_word limit_word
 IsChain IsEnd IsLinked slot_at slot_of
 AreOver IsEither IsFault or_else
 IsModest IsOutcome with_budget

@@ -5,5 +5,4 @@ pub mod HeldBytes
 pub mod Known
 pub mod LineFields
 pub mod LineLaws
-pub mod PieceFronts
 pub mod WholeText

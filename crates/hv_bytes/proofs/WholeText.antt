@@ -3,19 +3,19 @@ use Rattle.std.proofs.Common.{◌≡◌, ℕ, ◌+◌, ◌≤◌, ◌&&◌, All,
 use Rattle.std.proofs.Common.{◌++◌, Option, None, Some, IfSome, length, nat_le, refl, sym, subst}
 use Rattle.std.proofs.Common.{ap, ◌∙◌, arith, inl, inr, ⊎_elim, append_assoc, append-nil}
 use Rattle.std.proofs.Common.{length-append}
-use Rattle.std.specs.Io.KnownBytes.{IsAtEnd, prepend_known}
+use Rattle.std.specs.Io.KnownBytes.{IsAtEnd}
 use Rattle.std.proofs.Math.Bool.{and-false}
 use Rattle.std.proofs.lemmas.Bool.{le-leb, leb-true, lt-leb}
 use Rattle.std.proofs.lemmas.List.{map-append}
 use Rattle.std.proofs.lemmas.List.Elements.{All-head, All-tail}
 use Rattle.std.proofs.lemmas.List.Sums.{sum_by-cons}
-use Rattle.hv_bytes.specs.Files.{Names, Opens, bytes_of}
+use Rattle.hv_bytes.specs.Files.{Names, bytes_of}
 use Rattle.hv_bytes.specs.Working.Files.{file_of}
 use Rattle.hv_bytes.specs.FirstLine.{BeginsLong, FitsLimits, IsFirstLine, IsLong, MovesBytes}
 use Rattle.hv_bytes.specs.FirstLine.{TakesLine, last_byte}
 use Rattle.hv_bytes.specs.LineCuts.{lines_of}
 use Rattle.hv_bytes.specs.Working.LineCuts.{bytes_in}
-use Rattle.hv_bytes.specs.Pieces.{ComesNext, Piece, as_pieces, fits_limits, pieces_after, pieces_of}
+use Rattle.hv_bytes.specs.Pieces.{Piece, as_pieces, fits_limits, pieces_after, pieces_of}
 use Rattle.hv_bytes.specs.Working.Pieces.{GaveLines}
 use Rattle.hv_bytes.specs.declared.cutting.Limits.{Limits}
 use Rattle.hv_bytes.proofs.LineLaws.{lines_of-first}
@@ -89,24 +89,11 @@ pieces_taken limits old line new before after first sums fits =
     (λ last. rw (last.1) refl)
     first.cut
 
--- before the first line
-pub gave_none : (limits : Limits) (file : Option (List ℕ)) → GaveLines limits file [] file 0
-gave_none limits None = tt
-gave_none limits (Some file) = refl
-
 -- what holds of the file's bytes, where they are known
 pub known : (files : Option Names) (name : List ℕ) (P : List ℕ → Type 0)
     → IfSome (file_of files name) P → IfSome files (λ f. P (bytes_of f name))
 known None name P h = tt
 known (Some files) name P h = h
-
--- a file that was opened just now
-pub opened : (files : Option Names) (name : List ℕ) (limits : Limits) (left : Option (List ℕ))
-    → Opens files name left → GaveLines limits (file_of files name) [] (prepend_known [] left) 0
-opened None name limits left o = tt
-opened (Some files) name limits left o =
-    subst (λ l. GaveLines limits (Some (bytes_of files name)) [] (prepend_known [] l) 0) (sym o)
-    (gave_none limits (Some (bytes_of files name)))
 
 -- one more line
 pub gave_more : (limits : Limits) (file old new : Option (List ℕ)) (given : List (List ℕ))
@@ -156,52 +143,6 @@ gave_front limits None coming given earlier gave = tt
 gave_front limits (Some file) None given earlier gave = absurd gave
 gave_front limits (Some file) (Some coming) given earlier gave =
     (pieces_after limits earlier (lines_of coming), gave)
-
--- what comes next after the given lines: a line, a long line, or the end
-pub line_next : (limits : Limits) (file old new : Option (List ℕ)) (given : List (List ℕ))
-    (line : List ℕ) (before number : ℕ) → GaveLines limits file given old before
-    → TakesLine old new line
-    → FitsLimits limits.line limits.file before (length line) → number ≡ length given + 1
-    → IfSome file (λ bytes. (rest : List Piece)
-    × ComesNext (pieces_of limits bytes) given (Some line ∷ rest) number)
-line_next limits None old new given line before number gave first fits counted = tt
-line_next limits (Some file) None new given line before number gave first fits counted = absurd gave
-line_next limits (Some file) (Some old) None given line before number gave first fits counted =
-    absurd first
-line_next limits (Some file) (Some old) (Some new) given line before number gave first fits counted
-    =
-    let pieces = ap (pieces_after limits before) (lines_of-first old line new first)
-    ∙ pieces-line limits before line (lines_of new) fits in (
-      pieces_after limits (before + (length line + 1)) (lines_of new),
-      record { cut = gave ∙ ap (λ ps. as_pieces given ++ ps) pieces; counted = counted },
-    )
-
-pub long_next : (limits : Limits) (file coming : Option (List ℕ)) (given : List (List ℕ))
-    (earlier number : ℕ) → GaveLines limits file given coming earlier
-    → BeginsLong coming limits.line limits.file earlier
-    → number ≡ length given + 1 → IfSome file
-    (λ bytes. ComesNext (pieces_of limits bytes) given (None ∷ []) number)
-long_next limits None coming given earlier number gave long counted = tt
-long_next limits (Some file) None given earlier number gave long counted = absurd gave
-long_next limits (Some file) (Some coming) given earlier number gave long counted =
-    record {
-      cut = gave_long limits (Some file) (Some coming) given earlier gave long;
-      counted =
-          counted;
-    }
-
-pub end_next : (limits : Limits) (file coming : Option (List ℕ)) (given : List (List ℕ))
-    (earlier number : ℕ) → GaveLines limits file given coming earlier → IsAtEnd coming
-    → number ≡ length given + 1 → IfSome file
-    (λ bytes. ComesNext (pieces_of limits bytes) given [] number)
-end_next limits None coming given earlier number gave end counted = tt
-end_next limits (Some file) None given earlier number gave end counted = absurd gave
-end_next limits (Some file) (Some coming) given earlier number gave end counted =
-    record {
-      cut = gave_all limits (Some file) (Some coming) given earlier gave end
-          ∙ sym (append-nil (as_pieces given));
-      counted = counted;
-    }
 
 piece_some : (limits : Limits) (earlier : ℕ) (line : List ℕ) (lines : List (List ℕ)) (fits : Bool)
     → cond fits (Some line ∷ pieces_after limits (earlier + (length line + 1)) lines) (None ∷ [])

@@ -1,5 +1,5 @@
 -- The pieces of a file: its lines in order, up to the first one that is long.
-use Rattle.std.specs.Prelude.{◌≡◌, ℕ, ◌+◌, ◌&&◌, Bool, List, [], ◌∷◌, ◌++◌, Option, None, Some, map}
+use Rattle.std.specs.Prelude.{ℕ, ◌+◌, ◌&&◌, Bool, List, [], ◌∷◌, Option, None, Some, map}
 use Rattle.std.specs.Prelude.{length, nat_le, if◌then◌else◌}
 use Rattle.hv_bytes.specs.FirstLine.{last_byte}
 use Rattle.hv_bytes.specs.LineCuts.{lines_of}
@@ -30,11 +30,3 @@ pieces_of limits file = pieces_after limits 0 (lines_of file)
 -- these lines as pieces, none of them long
 abbrev pub as_pieces : List (List ℕ) → List Piece
 as_pieces lines = map (λ line. Some line) lines
-
--- Of these pieces the lines `before` come first, none of them long. The one of this number, counted
--- from 1, comes next: the first of the rest, or none at the end of the file.
-pub record ComesNext
-    (pieces : List Piece) (before : List (List ℕ)) (rest : List Piece) (number : ℕ) : Type 0
-  where
-    pub cut : pieces ≡ as_pieces before ++ rest
-    pub counted : number ≡ length before + 1

@@ -289,6 +289,8 @@ impl LineBuffer {
 
     /// Cuts the next line, of which no LF is held, and says how many bytes it has with its LF: none
     /// at the end of the input, where the present line stays.
+    #[cold]
+    #[inline(never)]
     pub(crate) fn read_line<S: Shelf>(
         &mut self,
         shelf: &mut S,

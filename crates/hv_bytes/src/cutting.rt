@@ -167,6 +167,7 @@ impl Lines {
     /// The same shelf is to be given in each call, with nothing else read from it in between: the
     /// held bytes and those left on the shelf are together the bytes still to come. For a file that
     /// is opened afterwards other `Lines` are to be made: what has ended stays so.
+    #[inline(always)]
     pub fn next<S: Shelf>(&mut self, shelf: &mut S) -> Result<Next, LineFault>
         requires { IsTrue self.old.live }
 

@@ -14,6 +14,7 @@ use hv_bytes::{LineFault, Next, read_decimal, read_short_decimal};
 
 /// Asks for the next line, which the source's `line` then gives; `lacking` is said where none is
 /// left.
+#[inline(always)]
 pub fn next_line<R: Source, B: Drop>(reader: &mut R, lacking: B) -> Result<(), ParseFault<B>>
     requires { CanRead (R.position reader.old) }
     ensures { Fetches (R.position reader.old) (R.position reader.new) lacking result }

@@ -70,6 +70,7 @@ impl<'a, S: Shelf> Source for Reader<'a, S> {
       shelf = r.shelf.ghost_name;
     } };
 
+    #[inline(always)]
     fn advance(&mut self) -> Result<Next, LineFault> {
         self.lines.next(self.shelf)
     }

@@ -12,7 +12,8 @@ use Rattle.hv_task.specs.Strips.{Strips}
 use Rattle.hv_task.specs.declared.action.Action.{Action}
 use Rattle.hv_task.proofs.Lists.{take_next}
 use Rattle.hv_task_text.specs.Canonical.{bytes_of_lines, canonical_of, entry_of, head_of, with_lf}
-use Rattle.hv_task_text.specs.Written.{pre, add, del, Head, item_line, name_lines, head_lines}
+use Rattle.hv_task_text.specs.declared.lists.Item.TheVariants as I
+use Rattle.hv_task_text.specs.Written.{Head, item_line, name_lines, head_lines}
 use Rattle.hv_task_text.specs.Written.{entry_lines}
 
 -- one item more of a list whose items are written one after another
@@ -103,18 +104,21 @@ map-map : {X Y Z : Type 0} (f : Y → Z) (g : X → Y) (xs : List X)
 map-map f g [] = refl
 map-map f g (x ∷ xs) = ap (λ ys. f (g x) ∷ ys) (map-map f g xs)
 
-item_lines : (a : Action) → map item_line (map pre a.pre ++ (map add a.add ++ map del a.del)) ≡ map
+item_lines : (a : Action) → map item_line (map (λ n. I.Pre n) a.pre ++ (map
+    (λ n. I.Add n) a.add ++ map (λ n. I.Del n) a.del)) ≡ map
     (λ n. codes "PRE:" ++ decimal n) a.pre
     ++ (map (λ n. codes "ADD:" ++ decimal n) a.add ++ map (λ n. codes "DEL:" ++ decimal n) a.del)
 item_lines a =
-    map-append item_line (map pre a.pre) (map add a.add ++ map del a.del)
-    ∙ ap (λ x. x ++ map item_line (map add a.add ++ map del a.del))
-    (map-map item_line (λ n. pre n) a.pre)
+    map-append item_line (map (λ n. I.Pre n) a.pre) (map (λ n. I.Add n) a.add ++ map
+    (λ n. I.Del n) a.del)
+    ∙ ap (λ x. x ++ map item_line (map (λ n. I.Add n) a.add ++ map (λ n. I.Del n) a.del))
+    (map-map item_line (λ n. I.Pre n) a.pre)
     ∙ ap (λ x. map (λ n. codes "PRE:" ++ decimal n) a.pre ++ x)
-    (map-append item_line (map add a.add) (map del a.del)
-    ∙ ap (λ x. x ++ map item_line (map del a.del)) (map-map item_line (λ n. add n) a.add)
+    (map-append item_line (map (λ n. I.Add n) a.add) (map (λ n. I.Del n) a.del)
+    ∙ ap (λ x. x ++ map item_line (map (λ n. I.Del n) a.del)) (map-map item_line
+    (λ n. I.Add n) a.add)
     ∙ ap (λ x. map (λ n. codes "ADD:" ++ decimal n) a.add ++ x)
-    (map-map item_line (λ n. del n) a.del))
+    (map-map item_line (λ n. I.Del n) a.del))
 
 action_shape : (pres adds dels : List (List ℕ)) (begin name cost end : List ℕ)
     → ((((begin ∷ [] ++ name ∷ []) ++ cost ∷ []) ++ pres) ++ adds) ++ dels ++ end ∷ []

@@ -25,12 +25,14 @@ use Rattle.hv_task.specs.AtomList.{set_of}
 use Rattle.hv_task.specs.State.{AreBelow}
 use Rattle.hv_task.specs.Strips.{Strips, IsOver, IsTask}
 use Rattle.hv_task.specs.declared.action.Action.{Action}
-use Rattle.hv_task_text.specs.Beginning.{at_end, IsLegal, IsItem, IsEntry, IsName}
+use Rattle.hv_task_text.specs.Written.{AreActions, IsItem, IsEntry, IsName}
 use Rattle.hv_task_text.specs.Canonical.{bytes_of_lines, canonical_lines, canonical_of, entry_of}
 use Rattle.hv_task_text.specs.Canonical.{head_of, with_lf, HasWritableNames, IsWritableName}
 use Rattle.hv_task_text.specs.Working.Canonical.{IsStored}
 use Rattle.hv_task_text.specs.TaskText.{TaskText}
-use Rattle.hv_task_text.specs.Written.{Item, pre, add, del, Entry, item_line, atom_lines}
+use Rattle.hv_task_text.specs.declared.lists.Item.{Item}
+use Rattle.hv_task_text.specs.declared.lists.Item.TheVariants as I
+use Rattle.hv_task_text.specs.Written.{Entry, item_line, atom_lines}
 use Rattle.hv_task_text.specs.Written.{start_lines, goal_lines, head_lines, entry_lines, body_lines}
 use Rattle.hv_task_text.specs.Written.{pre_of, add_of, del_of, written_action, task_of}
 use Rattle.hv_task.proofs.Sets.{set_same}
@@ -90,9 +92,9 @@ decimal_lines atoms listed few below =
 
 line_of_item : (atoms : ℕ) (item : Item) → atoms ≤ 65535 → IsItem atoms item
     → IsLine (item_line item)
-line_of_item atoms (pre n) few l = number_line (codes "PRE:") n refl (omega arith) (omega arith)
-line_of_item atoms (add n) few l = number_line (codes "ADD:") n refl (omega arith) (omega arith)
-line_of_item atoms (del n) few l = number_line (codes "DEL:") n refl (omega arith) (omega arith)
+line_of_item atoms (I.Pre n) few l = number_line (codes "PRE:") n refl (omega arith) (omega arith)
+line_of_item atoms (I.Add n) few l = number_line (codes "ADD:") n refl (omega arith) (omega arith)
+line_of_item atoms (I.Del n) few l = number_line (codes "DEL:") n refl (omega arith) (omega arith)
 
 lines_of_entry : (atoms : ℕ) (entry : Entry) → atoms ≤ 65535 → IsEntry atoms entry
     → IsWritableName entry.name → All IsLine (entry_lines entry)
@@ -128,11 +130,12 @@ entry_legal : (atoms : ℕ) (action : Action) → IsWhole atoms action → IsEnt
 entry_legal atoms action w = record {
   name = w.name.short;
   cost = w.stored.cost;
-  items = All-append (IsItem atoms) (map pre action.pre) (map add action.add ++ map del action.del)
-      (All-map (IsItem atoms) (λ n. pre n) action.pre w.over.pre)
-      (All-append (IsItem atoms) (map add action.add) (map del action.del)
-      (All-map (IsItem atoms) (λ n. add n) action.add w.over.add)
-      (All-map (IsItem atoms) (λ n. del n) action.del w.over.del));
+  items = All-append (IsItem atoms) (map (λ n. I.Pre n) action.pre) (map
+      (λ n. I.Add n) action.add ++ map (λ n. I.Del n) action.del)
+      (All-map (IsItem atoms) (λ n. I.Pre n) action.pre w.over.pre)
+      (All-append (IsItem atoms) (map (λ n. I.Add n) action.add) (map (λ n. I.Del n) action.del)
+      (All-map (IsItem atoms) (λ n. I.Add n) action.add w.over.add)
+      (All-map (IsItem atoms) (λ n. I.Del n) action.del w.over.del));
 }
 
 kept : (h : Item → Option ℕ) (k : ℕ → Item) → ((n : ℕ) → h (k n) ≡ Some n) → (xs : List ℕ)
@@ -174,26 +177,26 @@ same_task names s t g h a b p q r = cc
 action_back : (atoms : ℕ) (action : Action) → IsOver atoms action → IsStored action
     → written_action atoms (entry_of action) ≡ action
 action_back atoms action over stored =
-    let pres = map pre action.pre in
-    let adds = map add action.add in
-    let dels = map del action.del in
+    let pres = map (λ n. I.Pre n) action.pre in
+    let adds = map (λ n. I.Add n) action.add in
+    let dels = map (λ n. I.Del n) action.del in
     let p : set_of atoms (filter_map pre_of (pres ++ (adds ++ dels))) ≡ action.pre =
     ap (set_of atoms) (in_three pre_of pres adds dels action.pre [] []
-    (kept pre_of (λ n. pre n) (λ n. refl) action.pre)
-    (dropped pre_of (λ n. add n) (λ n. refl) action.add)
-    (dropped pre_of (λ n. del n) (λ n. refl) action.del) ∙ append-nil action.pre)
+    (kept pre_of (λ n. I.Pre n) (λ n. refl) action.pre)
+    (dropped pre_of (λ n. I.Add n) (λ n. refl) action.add)
+    (dropped pre_of (λ n. I.Del n) (λ n. refl) action.del) ∙ append-nil action.pre)
     ∙ set_same atoms action.pre stored.pre over.pre in
     let a : set_of atoms (filter_map add_of (pres ++ (adds ++ dels))) ≡ action.add =
     ap (set_of atoms) (in_three add_of pres adds dels [] action.add []
-    (dropped add_of (λ n. pre n) (λ n. refl) action.pre)
-    (kept add_of (λ n. add n) (λ n. refl) action.add)
-    (dropped add_of (λ n. del n) (λ n. refl) action.del) ∙ append-nil action.add)
+    (dropped add_of (λ n. I.Pre n) (λ n. refl) action.pre)
+    (kept add_of (λ n. I.Add n) (λ n. refl) action.add)
+    (dropped add_of (λ n. I.Del n) (λ n. refl) action.del) ∙ append-nil action.add)
     ∙ set_same atoms action.add stored.add over.add in
     let d : set_of atoms (filter_map del_of (pres ++ (adds ++ dels))) ≡ action.del =
     ap (set_of atoms) (in_three del_of pres adds dels [] [] action.del
-    (dropped del_of (λ n. pre n) (λ n. refl) action.pre)
-    (dropped del_of (λ n. add n) (λ n. refl) action.add)
-    (kept del_of (λ n. del n) (λ n. refl) action.del))
+    (dropped del_of (λ n. I.Pre n) (λ n. refl) action.pre)
+    (dropped del_of (λ n. I.Add n) (λ n. refl) action.add)
+    (kept del_of (λ n. I.Del n) (λ n. refl) action.del))
     ∙ set_same atoms action.del stored.del over.del in
     same_action action.name action.cost _ _ _ _ _ _ p a d
 
@@ -243,7 +246,8 @@ module _ (task : Strips) (is_task : IsTask task) (start_rises : IsStrictlyIncrea
       (All-weaker (IsWhole (length task.names)) (λ a. IsEntry (length task.names) (entry_of a))
       (λ a w. entry_legal (length task.names) a w) task.actions whole)
 
-  legal : IsLegal (at_end (head_of task) (map entry_of task.actions))
+  legal : AreActions (length (map entry_of task.actions)) (head_of task)
+      (map entry_of task.actions)
   legal = record {
     is_head = record {
       names = record {

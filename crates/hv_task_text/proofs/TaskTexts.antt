@@ -10,15 +10,18 @@ use Rattle.hv_bytes.specs.Pieces.{Piece}
 use Rattle.hv_bytes.specs.declared.cutting.Limits.{Limits}
 use Rattle.hv_task.specs.Strips.{Strips, IsOver, IsTask}
 use Rattle.hv_task.specs.declared.action.Action.{Action}
-use Rattle.hv_task_text.specs.Beginning.{AreActions, IsEntry, at_end, lines_before}
 use Rattle.hv_task_text.specs.Canonical.{HasWritableNames, IsWritableName}
 use Rattle.hv_task_text.specs.TaskText.{AreTextOf, TaskText}
 use Rattle.hv_task_text.specs.Working.Canonical.{IsStored}
 use Rattle.hv_task_text.specs.Written.{Entry, Head, atom_lines, entry_lines, goal_lines, head_lines}
-use Rattle.hv_task_text.specs.Written.{start_lines, task_of, text_lines, written_action}
+use Rattle.hv_task_text.specs.Written.{AreActions, IsEntry, start_lines, task_of, text_lines}
+use Rattle.hv_task_text.specs.Written.{written_action}
 use Rattle.hv_task.proofs.Sets.{set_below, set_rises}
 use Rattle.hv_task_text.proofs.CleanLines.{clean_pieces}
-use Rattle.hv_task_text.proofs.Held.{action_over}
+
+pub action_over : (atoms : ℕ) (entry : Entry) → IsOver atoms (written_action atoms entry)
+action_over atoms entry =
+    record { pre = set_below atoms _; add = set_below atoms _; del = set_below atoms _ }
 
 legal_task : (head : Head) (actions : List Entry) → AreActions (length actions) head actions
     → IsTask (task_of head actions)
@@ -130,4 +133,4 @@ pub writable_names : (limits : Limits) (file : List ℕ) (task : Strips) → Tas
 writable_names limits file task (head, actions, text) =
     subst HasWritableNames text.says
     (legal_names head actions text.legal
-    (clean_pieces limits file (lines_before (at_end head actions)) (sym text.spelled)))
+    (clean_pieces limits file (text_lines head actions) (sym text.spelled)))

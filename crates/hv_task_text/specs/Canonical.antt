@@ -4,7 +4,8 @@ use Rattle.std.specs.List.{All, flat_map}
 use Rattle.hv_bytes.specs.LineCuts.{IsClean}
 use Rattle.hv_task.specs.Strips.{Strips}
 use Rattle.hv_task.specs.declared.action.Action.{Action}
-use Rattle.hv_task_text.specs.Written.{pre, add, del, Entry, Head, text_lines}
+use Rattle.hv_task_text.specs.declared.lists.Item.TheVariants as I
+use Rattle.hv_task_text.specs.Written.{Entry, Head, text_lines}
 
 -- a line with its LF
 abbrev pub with_lf : List ℕ → List ℕ
@@ -20,7 +21,8 @@ abbrev pub entry_of : Action → Entry
 entry_of action = record {
   name = action.name;
   cost = action.cost;
-  items = map pre action.pre ++ (map add action.add ++ map del action.del);
+  items = map (λ n. I.Pre n) action.pre
+      ++ (map (λ n. I.Add n) action.add ++ map (λ n. I.Del n) action.del);
 }
 
 -- what the text says of a task before its actions

@@ -1,6 +1,5 @@
-pub mod Beginning
 pub mod Canonical
-pub mod Form
+pub mod TaskFile
 pub mod TaskText
 pub mod Words
 pub mod Written

@@ -1,22 +1,19 @@
 -- The parts of a task text as they are written, and the task that a whole text stands for.
-use Rattle.std.specs.Prelude.{ℕ, List, [], ◌∷◌, ◌++◌, Option, Some, None, map}
+use Rattle.std.specs.Prelude.{ℕ, ◌<◌, ◌≤◌, List, [], ◌∷◌, ◌++◌, Option, Some, None, map}
 use Rattle.std.specs.Prelude.{length, decimal, codes}
-use Rattle.std.specs.List.{filter_map, flat_map}
+use Rattle.std.specs.List.{All, filter_map, flat_map}
 use Rattle.hv_task.specs.declared.action.Action.{Action}
 use Rattle.hv_task.specs.AtomList.{set_of}
+use Rattle.hv_task.specs.State.{AreBelow}
 use Rattle.hv_task.specs.Strips.{Strips}
+use Rattle.hv_task_text.specs.declared.lists.Item.{Item}
+use Rattle.hv_task_text.specs.declared.lists.Item.TheVariants as I
 
 -- one line of an action's lists: the word and the atom's number behind it
-pub data Item : Type 0 where
-  pre : ℕ → Item
-  add : ℕ → Item
-  del : ℕ → Item
-
--- the line of an atom of an action
 abbrev pub item_line : Item → List ℕ
-item_line (pre atom) = codes "PRE:" ++ decimal atom
-item_line (add atom) = codes "ADD:" ++ decimal atom
-item_line (del atom) = codes "DEL:" ++ decimal atom
+item_line (I.Pre atom) = codes "PRE:" ++ decimal atom
+item_line (I.Add atom) = codes "ADD:" ++ decimal atom
+item_line (I.Del atom) = codes "DEL:" ++ decimal atom
 
 -- an action as it is written
 pub record Entry : Type 0 where
@@ -76,19 +73,19 @@ text_lines head actions = action_lines (length actions) head actions ++ codes "e
 -- the atom of such a line, where it is one of the precondition, of what is added, of what is
 -- deleted
 abbrev pub pre_of : Item → Option ℕ
-pre_of (pre atom) = Some atom
-pre_of (add atom) = None
-pre_of (del atom) = None
+pre_of (I.Pre atom) = Some atom
+pre_of (I.Add atom) = None
+pre_of (I.Del atom) = None
 
 abbrev pub add_of : Item → Option ℕ
-add_of (pre atom) = None
-add_of (add atom) = Some atom
-add_of (del atom) = None
+add_of (I.Pre atom) = None
+add_of (I.Add atom) = Some atom
+add_of (I.Del atom) = None
 
 abbrev pub del_of : Item → Option ℕ
-del_of (pre atom) = None
-del_of (add atom) = None
-del_of (del atom) = Some atom
+del_of (I.Pre atom) = None
+del_of (I.Add atom) = None
+del_of (I.Del atom) = Some atom
 
 -- the action that a written one stands for, in a task of so many atoms
 abbrev pub written_action : ℕ → Entry → Action
@@ -108,3 +105,38 @@ task_of head actions = record {
   goal = set_of (length head.names) head.goal;
   actions = map (written_action (length head.names)) actions;
 }
+
+-- The limits, and that each number is that of an atom.
+
+-- a name is within its limit
+abbrev pub IsName : List ℕ → Type 0
+IsName name = length name ≤ 1024
+
+-- the names of the atoms are within their limits
+pub record AreNames (names : List (List ℕ)) : Type 0 where
+  pub few : length names ≤ 65535
+  pub each : All IsName names
+
+-- the line names one of so many atoms
+abbrev pub IsItem : ℕ → Item → Type 0
+IsItem atoms (I.Pre atom) = atom < atoms
+IsItem atoms (I.Add atom) = atom < atoms
+IsItem atoms (I.Del atom) = atom < atoms
+
+-- an action within the limits that names atoms of the task alone
+pub record IsEntry (atoms : ℕ) (entry : Entry) : Type 0 where
+  pub name : IsName entry.name
+  pub cost : entry.cost ≤ 4294967295
+  pub items : All (IsItem atoms) entry.items
+
+-- the atoms of the initial state and of the goal are those of the task
+pub record IsHead (head : Head) : Type 0 where
+  pub names : AreNames head.names
+  pub start : AreBelow (length head.names) head.start
+  pub goal : AreBelow (length head.names) head.goal
+
+-- a head and actions, of which the header said so many
+pub record AreActions (count : ℕ) (head : Head) (actions : List Entry) : Type 0 where
+  pub is_head : IsHead head
+  pub each : All (IsEntry (length head.names)) actions
+  pub few : count ≤ 1000000

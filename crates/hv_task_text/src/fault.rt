@@ -2,9 +2,10 @@
 
 ghost use Rattle.std.specs.Prelude.{◌≡◌};
 ghost use Rattle.hv_task_text.specs.declared.fault.TaskFault.TheVariants as F;
+ghost use Rattle.hv_task_text.specs.TaskFile.{task_fault};
 ghost use Rattle.hv_task_text.specs.Words.{kind_word, limit_word};
 
-use hv_bytes::Failed;
+use hv_grammar::ParseFault;
 use std::alloc::AllocError;
 use thiserror::Error;
 
@@ -56,6 +57,15 @@ pub enum TaskLimit {
     Long,
 }
 
+/// Why a line of a task text is refused.
+#[derive(Clone, Copy, Debug, PartialEq, Eq)]
+pub enum TaskRefusal {
+    /// The form that this place expects isn't there.
+    Place(TaskKind),
+    /// The line has its form, and passes this limit.
+    Limit(TaskLimit),
+}
+
 /// Why a task text isn't read. Lines are counted from 1; at the end of the input the line is the
 /// one after the last.
 #[derive(Clone, Copy, Debug, PartialEq, Eq, Error)]
@@ -82,11 +92,17 @@ impl From<AllocError> for TaskFault {
     }
 }
 
-impl From<Failed> for TaskFault {
-    ghost from_gives = { λ _ fault. fault ≡ F.ReadFault };
+impl From<ParseFault<TaskRefusal>> for TaskFault {
+    ghost from_gives = { λ given fault. fault ≡ task_fault given };
 
-    fn from(_error: Failed) -> TaskFault {
-        TaskFault::ReadFault
+    fn from(given: ParseFault<TaskRefusal>) -> TaskFault {
+        match given {
+            ParseFault::Refused(line, TaskRefusal::Place(kind)) => TaskFault::Place(line, kind),
+            ParseFault::Refused(line, TaskRefusal::Limit(limit)) => TaskFault::Limit(line, limit),
+            ParseFault::Long(line) => TaskFault::Limit(line, TaskLimit::Long),
+            ParseFault::ReadFault => TaskFault::ReadFault,
+            ParseFault::Memory => TaskFault::Memory,
+        }
     }
 }
 

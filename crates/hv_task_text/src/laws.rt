@@ -1,12 +1,14 @@
-//! That a file has one answer, and what a task that is read keeps, as contracts of functions that
-//! do nothing.
+//! That a file has one answer, and what it is, and what a task that is read keeps, as contracts of
+//! functions that do nothing.
 
-ghost use Rattle.std.specs.Prelude.{◌≡◌, ℕ, List};
+ghost use Rattle.std.specs.Prelude.{◌≡◌, ℕ, List, [], length};
 ghost use Rattle.hv_bytes.specs.Pieces.{Piece};
 ghost use Rattle.hv_bytes.specs.declared.cutting.Limits.{Limits};
+ghost use Rattle.hv_grammar.specs.Parsers.{parsed};
 ghost use Rattle.hv_task.specs.Strips.{IsTask, Strips};
 ghost use Rattle.hv_task_text.specs.Canonical.{HasWritableNames};
 ghost use Rattle.hv_task_text.specs.declared.fault.TaskFault.{TaskFault};
+ghost use Rattle.hv_task_text.specs.TaskFile.{task_file};
 ghost use Rattle.hv_task_text.specs.TaskText.{AreTextOf, IsFirstFault, TaskText};
 
 /// The pieces of a file have one answer: they are the text of one task at most, a text has no
@@ -18,6 +20,14 @@ pub fn one_answer()
         → AreTextOf pieces task → IsFirstFault pieces fault → ⊥ }
     ensures one_fault { (pieces : List Piece) (f g : TaskFault)
         → IsFirstFault pieces f → IsFirstFault pieces g → f ≡ g }
+{}
+
+/// What comes of the pieces of a file is a task exactly where they are the text of this task.
+pub fn text_by_lines()
+    ensures text { (pieces : List Piece) (task : Strips) → AreTextOf pieces task
+        → task_file 0 pieces ≡ parsed task (length pieces) [] }
+    ensures value { (pieces : List Piece) (task : Strips) (n : ℕ) (rest : List Piece)
+        → task_file 0 pieces ≡ parsed task n rest → AreTextOf pieces task }
 {}
 
 /// What a task that is read from a text keeps: it is within the limits of tasks, and each of its

@@ -2,13 +2,13 @@
 #![tactic(auto)]
 
 pub mod fault;
+mod forms;
 pub mod laws;
-mod numbers;
+mod lists;
 pub mod read;
-mod reader;
 pub mod write;
 
 pub use fault::{TaskFault, TaskKind, TaskLimit};
-pub use laws::{laws_of_read_tasks, one_answer};
+pub use laws::{laws_of_read_tasks, one_answer, text_by_lines};
 pub use read::read_task;
 pub use write::write_task;

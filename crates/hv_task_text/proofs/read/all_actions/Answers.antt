@@ -1,0 +1,11 @@
+use Rattle.hv_grammar.proofs.Going.{go, start}
+use Rattle.hv_task.specs.Strips.{atoms}
+use Rattle.hv_task_text.specs.TaskFile as text
+use Rattle.hv_task_text.proofs.Listed.{closed}
+use Rattle.hv_task_text.proofs.read.all_actions.Goals as goal
+
+pub returns-clause-reads : goal.returns-clause-reads
+returns-clause-reads g c =
+    closed c.actions.new.task.actions c.word_line.result
+    (go _ (go _ (start (text.all_actions (atoms c.args.task.now)) _)
+    c.in_ok-count.ensures.reads) c.in_ok-actions.ensures.reads) c.word_line.ensures
