@@ -5,7 +5,8 @@ use Rattle.std.proofs.lemmas.List.Splits.{length-slice_split}
 use Rattle.hv_bytes.specs.Fields.{cut_fields}
 use Rattle.hv_bdd.specs.NodeFile.{node_of_fields}
 
-fields_some : (bytes : List ℕ) → 0 < length (cut_fields bytes)
+-- a line has a field
+pub fields_some : (bytes : List ℕ) → 0 < length (cut_fields bytes)
 fields_some bytes = let e = length-slice_split (λ b. b == 32) bytes in omega arith
 
 four : (a b c : List ℕ) (rest : List (List ℕ)) → 0 < length rest

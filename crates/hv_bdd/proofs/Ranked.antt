@@ -1,7 +1,8 @@
 -- The line of an order, spelled and read.
-use Rattle.std.proofs.Common.{◌≡◌, ℕ, ◌<◌, ◌^◌, ◌∙◌, Bool, true, false, List, [], ◌∷◌, Option, None}
-use Rattle.std.proofs.Common.{Some, cond, eqb, map, nat_lt, refl, sym, ap, subst, arith}
+use Rattle.std.proofs.Common.{◌≡◌, ℕ, ◌<◌, ◌≤◌, ◌^◌, ◌∙◌, ◌++◌, Bool, true, false, List, []}
+use Rattle.std.proofs.Common.{◌∷◌, Option, None, Some, cond, eqb, length, map, nat_lt, refl, sym, ap, subst, arith}
 use Rattle.std.specs.Prelude.{codes, decimal, is_some, option_and_then, option_map}
+use Rattle.std.proofs.lemmas.List.{length-append}
 use Rattle.std.specs.List.{All, join_with_byte}
 use Rattle.std.specs.Str.{bytes_eq}
 use Rattle.std.proofs.lemmas.Bool.{lt-ltb, ltb-true}
@@ -17,7 +18,7 @@ use Rattle.hv_bdd.specs.Order.{IsOrder}
 use Rattle.hv_bdd.specs.OrderLine.{begins_with, if_order, is_order, named_atom, named_atoms}
 use Rattle.hv_bdd.specs.OrderLine.{order_line, order_of_fields}
 use Rattle.hv_bdd.specs.Working.NodeText.{list_over}
-use Rattle.hv_bdd.proofs.Permuted.{below_from, is_from, order_from}
+use Rattle.hv_bdd.proofs.Permuted.{below_from, is_from, order_from, size_of}
 
 -- The atoms that fields name.
 
@@ -81,6 +82,33 @@ names atoms (n ∷ ns) few below =
     (atom_spelled atoms n few (All-head (λ a. a < atoms) n ns below))
     ∙ ap (option_map (λ ms. n ∷ ms))
     (names atoms ns few (All-tail (λ a. a < atoms) n ns below))
+
+-- more atoms than there are are no order
+too_many : (atoms : ℕ) (ns : List ℕ) → atoms < length ns → if_order atoms ns ≡ None
+too_many atoms ns more = by (is_order atoms ns) refl
+  where
+    by : (t : Bool) → is_order atoms ns ≡ t → if_order atoms ns ≡ None
+    by true t = let size = size_of atoms ns t in absurd (omega arith)
+    by false t = ap (λ t. cond t (Some ns) None) t
+
+-- so none follows as many as there are
+pub crowded : (atoms : ℕ) (front : List ℕ) (fields : List (List ℕ)) → atoms ≤ length front
+    → 0 < length fields
+    → option_and_then (if_order atoms) (option_map (λ ns. front ++ ns) (named_atoms atoms fields))
+    ≡ None
+crowded atoms front [] upto some = absurd (omega arith)
+crowded atoms front (field ∷ fields) upto some =
+    by (named_atom atoms field) (named_atoms atoms fields)
+  where
+    by : (first : Option ℕ) (rest : Option (List ℕ))
+        → option_and_then (if_order atoms) (option_map (λ ns. front ++ ns)
+        (option_and_then (λ n. option_map (λ ns. n ∷ ns) rest) first))
+        ≡ None
+    by None rest = refl
+    by (Some n) None = refl
+    by (Some n) (Some ms) =
+        let size = length-append front (n ∷ ms) in
+        too_many atoms (front ++ n ∷ ms) (omega arith)
 
 -- The line.
 

@@ -47,6 +47,7 @@ or_fault list node None =
     Ok (record { atoms = list.atoms; order = list.order; nodes = list.nodes ++ node ∷ [] })
 or_fault list node (Some kind) = Err (R.Place kind)
 
+-- the list with the next node of a file
 abbrev pub with_next : NodeList → Node → Result NodeList NodeRefusal
 with_next list node = or_fault list node (fault_of list node)
 

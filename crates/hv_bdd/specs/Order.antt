@@ -23,6 +23,7 @@ atom_by (Some order) place = slice_index_or order place (length order)
 unfoldable pub place : NodeList → ℕ → ℕ
 place list atom = place_by list.order atom
 
+-- and the atom at a place
 unfoldable pub atom_at : NodeList → ℕ → ℕ
 atom_at list place = atom_by list.order place
 

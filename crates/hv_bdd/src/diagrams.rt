@@ -28,7 +28,7 @@ use std::marker::Model;
 #[derive(Drop)]
 pub struct Diagrams {
     atoms: u32,
-    // The order in which nodes ask for atoms, where it isn't the rising one.
+    // The order in which nodes ask for atoms, where the file lists one.
     order: Option<Order>,
     nodes: Vec<Node>,
 }

@@ -19,7 +19,7 @@ pub(crate) struct Goal<'a> {
 
 impl<'a> Goal<'a> {
     /// The goal of these atoms. Their places are sorted where an order is listed and the goal is
-    /// among the operands: where it isn't, or the atoms rise, nothing is done.
+    /// among the operands: elsewhere nothing is done.
     pub(crate) fn of(
         alloc: Global,
         nodes: &Diagrams,

@@ -1,7 +1,7 @@
 //! Orders of the atoms of a task.
 
-ghost use Rattle.std.specs.Prelude.{◌≡◌, ◌<◌, ℕ, true, false, IfOk, IfSome, length, option_map};
-ghost use Rattle.std.specs.Prelude.{slice_index_or};
+ghost use Rattle.std.specs.Prelude.{◌≡◌, ◌<◌, ◌≤◌, ℕ, true, false, IfOk, IfSome, length};
+ghost use Rattle.std.specs.Prelude.{option_and_then, option_map, slice_index_or};
 ghost use Rattle.std.specs.List.{All};
 ghost use Rattle.hv_bytes.specs.Fields.{cut_fields};
 ghost use Rattle.hv_task.specs.Atoms.{IsNext};
@@ -124,14 +124,18 @@ fn named_atom(field: &[u8], atoms: u32) -> Option<u32>
     Some(number as u32)
 }
 
-// The atoms that the fields name, where each names one.
+// The atoms that the fields name, where each names one. More of them than there are atoms are no
+// order: then the answer is that there is none, and what follows isn't read.
 fn named_atoms(
     alloc: Global,
     fields: Option<&[u8]>,
     atoms: u32,
 ) -> Result<Option<Vec<u32>>, AllocError>
-    ensures named { IfOk result (λ named. option_map (λ v. v.items) named
-        ≡ named_atoms atoms (fields_left fields.entry (λ f. f.now))) }
+    ensures named { IfOk result (λ named.
+        option_and_then (if_order atoms) (option_map (λ v. v.items) named)
+        ≡ option_and_then (if_order atoms)
+        (named_atoms atoms (fields_left fields.entry (λ f. f.now)))) }
+    ensures few { IfOk result (λ named. IfSome named (λ v. length v.items ≤ atoms)) }
     ensures below { IfOk result (λ named. IfSome named (λ v. All (λ a. a < atoms) v.items)) }
 {
     let mut named = Vec::new(alloc);
@@ -140,6 +144,9 @@ fn named_atoms(
         let Some(line) = rest else {
             return Ok(Some(named));
         };
+        if named.len() >= atoms as usize {
+            return Ok(None);
+        }
         let (field, behind) = split_field(line);
         let Some(atom) = named_atom(field, atoms) else {
             return Ok(None);

@@ -510,35 +510,41 @@ fn answer(
     list.find(alloc, task, query, budget, &mut scratch)
 }
 
-// The answer to a query to a list of eight nodes, where the negative set is asked about after the
-// action or before it. There is none where the list has another number of nodes.
+// What is asked of nodes: for a state in the one set and not in the other, where the negative set
+// is asked about after the action or before it.
+#[derive(Clone, Copy)]
+struct Asked {
+    positive: Which,
+    negative: Which,
+    after: bool,
+}
+
+// The answer of a list of eight nodes. There is none where the list has another number of nodes.
 fn ask(
     alloc: Global,
     task: &Task,
     list: &Diagrams,
-    positive: Which,
-    negative: Which,
-    after: bool,
+    asked: Asked,
     budget: u64,
 ) -> Result<Option<Finding>, AllocError>
     requires atoms { list.now.atoms ≡ atoms task.now }
     requires actions { length task.now.actions ≡ 1 }
-    requires positive { IsNamed 8 positive }
-    requires negative { IsNamed 8 negative }
+    requires positive { IsNamed 8 asked.positive }
+    requires negative { IsNamed 8 asked.negative }
 {
     if list.count() != 8 {
         return Ok(None);
     }
-    let action = if after { Some(0) } else { None };
+    let action = if asked.after { Some(0) } else { None };
     let first = Operand {
-        which: positive,
+        which: asked.positive,
         id: 0,
         after: false,
     };
     let second = Operand {
-        which: negative,
+        which: asked.negative,
         id: 1,
-        after,
+        after: asked.after,
     };
     let query = query_of(alloc, first, second, action)?;
     let found = answer(alloc, task, list, &query, budget)?;
@@ -549,53 +555,62 @@ fn ask(
 /// fill the list.
 const TWO_SETS: &[u8] = b"nodes 6\n1 1 0\n0 2 0\n0 0 1\n0 1 0\n1 0 1\n2 0 1\n";
 
-// Whether the query to these nodes is answered so for the task.
+// Whether what is asked of these nodes is answered so for the task.
 fn finds_in(
     alloc: Global,
     task: &Task,
-    positive: Which,
-    negative: Which,
-    after: bool,
+    asked: Asked,
     budget: u64,
     want: Finding,
 ) -> Result<bool, NodesFault>
     requires atoms { atoms task.now ≡ 3 }
     requires actions { length task.now.actions ≡ 1 }
-    requires positive { IsNamed 8 positive }
-    requires negative { IsNamed 8 negative }
+    requires positive { IsNamed 8 asked.positive }
+    requires negative { IsNamed 8 asked.negative }
 {
     let list = read(alloc, TWO_SETS, 3, Limits::STANDARD)?;
-    let found = ask(alloc, task, &list, positive, negative, after, budget)?;
+    let found = ask(alloc, task, &list, asked, budget)?;
     Ok(found == Some(want))
 }
 
 // The same for a task of three atoms with its action.
-fn finds(
-    alloc: Global,
-    positive: Which,
-    negative: Which,
-    after: bool,
-    budget: u64,
-    want: Finding,
-) -> Result<bool, NodesFault>
-    requires positive { IsNamed 8 positive }
-    requires negative { IsNamed 8 negative }
+fn finds(alloc: Global, asked: Asked, budget: u64, want: Finding) -> Result<bool, NodesFault>
+    requires positive { IsNamed 8 asked.positive }
+    requires negative { IsNamed 8 asked.negative }
 {
     let task = task_of_going(alloc)?;
-    finds_in(alloc, &task, positive, negative, after, budget, want)
+    finds_in(alloc, &task, asked, budget, want)
 }
 
 #[test]
 fn live_tuples_are_counted_before_a_state_is_answered(rt: HostRuntime) -> Result<(), Fail> {
-    let two = Which::Set(2);
-    let three = Which::Set(3);
-    assert!(rt; finds(rt.alloc(), three, two, false, 2, Finding::Empty)?);
-    assert!(rt; finds(rt.alloc(), three, two, false, 1, Finding::Over)?);
-    assert!(rt; finds(rt.alloc(), two, three, false, 4, Finding::Clash)?);
-    assert!(rt; finds(rt.alloc(), two, three, false, 3, Finding::Over)?);
-    assert!(rt; finds(rt.alloc(), two, two, true, 2, Finding::Clash)?);
-    assert!(rt; finds(rt.alloc(), two, two, true, 1, Finding::Over)?);
-    assert!(rt; finds(rt.alloc(), Which::Empty, two, false, 0, Finding::Empty)?);
+    let within = Asked {
+        positive: Which::Set(3),
+        negative: Which::Set(2),
+        after: false,
+    };
+    assert!(rt; finds(rt.alloc(), within, 2, Finding::Empty)?);
+    assert!(rt; finds(rt.alloc(), within, 1, Finding::Over)?);
+    let beyond = Asked {
+        positive: Which::Set(2),
+        negative: Which::Set(3),
+        after: false,
+    };
+    assert!(rt; finds(rt.alloc(), beyond, 4, Finding::Clash)?);
+    assert!(rt; finds(rt.alloc(), beyond, 3, Finding::Over)?);
+    let led_out = Asked {
+        positive: Which::Set(2),
+        negative: Which::Set(2),
+        after: true,
+    };
+    assert!(rt; finds(rt.alloc(), led_out, 2, Finding::Clash)?);
+    assert!(rt; finds(rt.alloc(), led_out, 1, Finding::Over)?);
+    let none = Asked {
+        positive: Which::Empty,
+        negative: Which::Set(2),
+        after: false,
+    };
+    assert!(rt; finds(rt.alloc(), none, 0, Finding::Empty)?);
     Ok(())
 }
 
@@ -868,6 +883,49 @@ fn paths_are_walked_as_all_states_say(rt: HostRuntime) -> Result<(), Fail> {
     for node in 0..8 {
         assert!(rt; are_met_in_file(rt.alloc(), node)?, "node {node}");
     }
+    Ok(())
+}
+
+/// Files over three atoms, and the place of each atom.
+static PLACED: [(&str, [u32; 3]); 3] = [
+    ("nodes 0", [0, 1, 2]),
+    ("order 0 1 2\nnodes 0", [0, 1, 2]),
+    ("order 2 0 1\nnodes 0", [1, 2, 0]),
+];
+
+// Whether the three atoms have these places.
+fn has_places(list: &Diagrams, places: &[u32; 3]) -> bool
+    requires { list.now.atoms ≡ 3 }
+{
+    list.place(0) == places[0] && list.place(1) == places[1] && list.place(2) == places[2]
+}
+
+// The same of a file.
+fn is_placed(alloc: Global, text: &[u8], places: &[u32; 3]) -> Result<bool, NodesFault> {
+    let list = read(alloc, text, 3, Limits::STANDARD)?;
+    Ok(has_places(&list, places))
+}
+
+// The place of the one atom of a task.
+fn place_of_one(alloc: Global, text: &[u8]) -> Result<u32, NodesFault> {
+    let list = read(alloc, text, 1, Limits::STANDARD)?;
+    Ok(list.place(0))
+}
+
+// The place of the last atom of a task with as many as there may be.
+fn last_place(alloc: Global) -> u32 {
+    let list = Diagrams::none(alloc, 65535);
+    list.place(65534)
+}
+
+#[test]
+fn each_atom_has_its_place(rt: HostRuntime) -> Result<(), Fail> {
+    for (text, places) in &PLACED {
+        assert!(rt; is_placed(rt.alloc(), text.as_bytes(), places)?, "{text}");
+    }
+    assert_eq!(rt; place_of_one(rt.alloc(), b"nodes 0")?, 0);
+    assert_eq!(rt; place_of_one(rt.alloc(), b"order 0\nnodes 0")?, 0);
+    assert_eq!(rt; last_place(rt.alloc()), 65534);
     Ok(())
 }
 

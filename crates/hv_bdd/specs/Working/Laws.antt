@@ -30,6 +30,8 @@ both list of node =
     with_bit (node_at list node).atom false (of (node_at list node).low)
     ++ with_bit (node_at list node).atom true (of (node_at list node).high)
 
+-- without a step left there is the path of an end alone, and with one more the paths go on by the
+-- children
 in_end_zero : (list : NodeList) (e node : ℕ) → paths_in list e zero node ≡ at_end e node
 unfolding paths_in
 in_end_zero list e node = refl
@@ -188,6 +190,7 @@ any_bit a b (p ∷ ps) s =
     by true y z = refl
     by false y z = refl
 
+-- the empty path leads from an end to itself alone, and each state is in it
 ends_are : (e node : ℕ) (s : List Bool) → e < 2 → node < 2
     → list_any (λ p. in_cube p s) (at_end e node) ≡ beq (eqb node 1) (eqb e 1)
 ends_are zero zero s p q = refl
@@ -253,11 +256,13 @@ module _ (list : NodeList) (e : ℕ) (reduced : IsReduced list) (end : e < 2) (s
       cubes_by (top list node) (paths list e node) (paths_rise list e reduced node within)
       ∙ in_paths node within
 
+-- where each step has a cube, the steps have the states of the cubes
 pub steps_are : (cubes : List (List Literal)) (s : List Bool)
     → in_steps (map Some cubes) s ≡ in_cubes cubes s
 steps_are [] s = refl
 steps_are (c ∷ cubes) s = ap (λ x. in_cube c s || x) (steps_are cubes s)
 
+-- what a truth value says beside true, and beside false
 beq_true : (b : Bool) → beq b true ≡ b
 beq_true true = refl
 beq_true false = refl
@@ -266,6 +271,7 @@ beq_false : (b : Bool) → beq b false ≡ not b
 beq_false true = refl
 beq_false false = refl
 
+-- the paths to node 1 are the set of the node, and those to node 0 its complement
 pub inside_is : (list : NodeList) (node : ℕ) → IsReduced list → node < node_count list
     → (s : List Bool)
     → in_cubes (path_cubes list 1 node) s ≡ in_node list node s
@@ -288,6 +294,7 @@ stands_first list e cursor new = record {
   last = λ some. absurd (some new.1);
 }
 
+-- all paths are left for it
 pub left_first : (list : NodeList) (e root : ℕ) (cursor : Cursor) → IsNew cursor
     → left_at list e root cursor ≡ paths list e root
 left_first list e root cursor new =

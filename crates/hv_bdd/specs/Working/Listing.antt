@@ -17,6 +17,7 @@ use Rattle.hv_bdd.specs.Working.NodeText.{node_start}
 abbrev pub Tried : Type 0
 Tried = Result NodeList (ℕ × NodeRefusal)
 
+-- what came of a node, with the line where it is refused
 abbrev pub at_node_line : ℕ → Result NodeList NodeRefusal → Tried
 at_node_line line (Ok list) = Ok list
 at_node_line line (Err b) = Err (line, b)
@@ -49,6 +50,8 @@ tried_by r = tried (Ok r.list) (map as_node r.waiting.items)
 abbrev pub read_count : Listing → ℕ
 read_count r = length r.list.nodes + length r.waiting.items
 
+-- a listing between two lines: the nodes of the list are noted, and with those that wait they are
+-- no more than a file may have
 pub record IsListing (r : Listing) : Type 0 where
   pub seen : IsChained r.list.nodes r.seen
   pub few : read_count r ≤ 16777216

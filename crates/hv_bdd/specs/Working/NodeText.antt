@@ -44,6 +44,7 @@ abbrev pub node_of : Option Triple → Option Node
 node_of None = None
 node_of (Some triple) = Some (as_node triple)
 
+-- the same of what came of a line
 abbrev pub as_nodes : Result Triple (ParseFault NodeRefusal) → Result Node (ParseFault NodeRefusal)
 as_nodes (Ok triple) = Ok (as_node triple)
 as_nodes (Err e) = Err e

@@ -29,6 +29,7 @@ pub same_place : (atoms : ℕ) (order : Option (List ℕ)) (old new : List Node)
 unfolding place
 same_place atoms order old new a = refl
 
+-- so an order of one list is one of each list of as many atoms
 pub same_order : (atoms : ℕ) (order : Option (List ℕ)) (old new : List Node)
     → IsOrder (record { atoms = atoms; order = order; nodes = old })
     → IsOrder (record { atoms = atoms; order = order; nodes = new })

@@ -64,16 +64,18 @@ IsPut tuples links tuple link tuples' links' =
     ⊎ ((Contains tuples tuple → ⊥) × (tuples' ≡ tuples ++ tuple ∷ [])
     × (links' ≡ links ++ link ∷ []))
 
+-- the same of a tuple that may be none: then nothing is put
 abbrev pub IsPutSome : List (List ℕ) → List Link → Option (List ℕ) → Link → List (List ℕ)
     → List Link → Type 0
 IsPutSome tuples links None link tuples' links' = (tuples' ≡ tuples) × (links' ≡ links)
 IsPutSome tuples links (Some tuple) link tuples' links' =
     IsPut tuples links tuple link tuples' links'
 
--- the tuple at a place, and the link to it
+-- the tuple at a place
 abbrev pub tuple_at : List (List ℕ) → ℕ → List ℕ
 tuple_at tuples k = slice_index_or tuples k []
 
+-- the link to the tuple at a place
 abbrev pub link_at : List Link → ℕ → Link
 link_at links k = slice_index_or links k record { parent = 0; bit = false }
 

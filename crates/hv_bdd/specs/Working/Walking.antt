@@ -11,11 +11,12 @@ use Rattle.hv_bdd.specs.Order.{atom_at, place}
 use Rattle.hv_bdd.specs.Reduced.{IsReduced, child, node_at, top}
 use Rattle.hv_bdd.specs.Working.Ordered.{order_of}
 
--- the ends have the place past all atoms, and the others that of their atoms
+-- the ends have the place past all atoms
 pub top_end : (list : NodeList) (i : ℕ) → i < 2 → top list i ≡ list.atoms
 top_end list i less =
     cond-true (ltb i 2) list.atoms (place list (node_at list i).atom) (lt-ltb i 2 less)
 
+-- and the others that of their atoms
 pub top_inner : (list : NodeList) (i : ℕ) → 2 ≤ i → top list i ≡ place list (node_at list i).atom
 top_inner list i le =
     cond-false (ltb i 2) list.atoms (place list (node_at list i).atom) (le-ltb i 2 le)

@@ -1,4 +1,4 @@
-use Rattle.std.proofs.Common.{◌≡◌, ◌<◌, ◌++◌, length}
+use Rattle.std.proofs.Common.{◌≡◌, ◌<◌, ◌≤◌, ◌++◌, length}
 use Rattle.std.specs.Prelude.{option_map}
 use Rattle.std.specs.List.{All}
 use Rattle.hv_bdd.specs.OrderLine.{named_atoms}
@@ -11,6 +11,7 @@ invariant-fields l = record {
       ≡ option_map (λ ns. l.named.items ++ ns)
       (named_atoms l.fn.atoms (fields_left l.rest (λ f. f.now)));
   below : All (λ a. a < l.fn.atoms) l.named.items;
+  few : length l.named.items ≤ l.fn.atoms;
 }
 
 abbrev pub decreases-fields : goal.decreases-fields
