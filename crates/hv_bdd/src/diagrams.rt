@@ -1,11 +1,12 @@
 //! Lists of nodes of decision diagrams, and which states a node holds.
 
 ghost use Rattle.std.specs.Prelude.{◌≡◌, ◌<◌, ◌≤◌, ◌↔◌, ◌&&◌, None, Some, IfSome, IsTrue};
-ghost use Rattle.std.specs.Prelude.{IfOk, MatchResult, OnErr, OnOk, is_some, length, nat_lt};
+ghost use Rattle.std.specs.Prelude.{IfNone, IfOk, MatchResult, OnErr, OnOk, is_some, length, nat_lt};
 ghost use Rattle.hv_task.specs.Atoms.{IsNext};
 ghost use Rattle.hv_task.specs.State.{has_atom};
 ghost use Rattle.hv_bdd.specs.Building.{fault_of, is_later, plain_fault};
 ghost use Rattle.hv_bdd.specs.Working.Building.{as_node, with_node};
+ghost use Rattle.hv_bdd.specs.Working.Inverse.{AreInverse};
 ghost use Rattle.hv_bdd.specs.Working.NodeText.{node_start};
 ghost use Rattle.hv_bdd.specs.Working.Search.{HasPlaces};
 ghost use Rattle.hv_bdd.specs.Nodes.{IsNode, in_node, no_nodes, no_nodes_by, node_count};
@@ -191,6 +192,18 @@ impl Diagrams {
         match &self.order {
             None => place,
             Some(order) => order.atom_at(place),
+        }
+    }
+
+    // The place of each atom, where an order is listed.
+    pub(crate) fn places(&self) -> Option<&[u32]>
+        ensures none { IfNone result (self.now.order ≡ None) }
+        ensures some { IfSome result (λ places.
+            IfSome self.now.order (λ order. AreInverse order places.now)) }
+    {
+        match &self.order {
+            None => None,
+            Some(order) => Some(order.places()),
         }
     }
 

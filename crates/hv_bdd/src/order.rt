@@ -9,7 +9,7 @@ ghost use Rattle.hv_task.specs.State.{has_atom};
 ghost use Rattle.hv_bdd.specs.Order.{position};
 ghost use Rattle.hv_bdd.specs.OrderLine.{if_order, is_order, named_atom, named_atoms};
 ghost use Rattle.hv_bdd.specs.OrderLine.{order_of_fields};
-ghost use Rattle.hv_bdd.specs.Working.Inverse.{fields_left};
+ghost use Rattle.hv_bdd.specs.Working.Inverse.{AreInverse, fields_left};
 
 use crate::marks::Held;
 use hv_bytes::split_field;
@@ -62,6 +62,13 @@ impl Order {
         ensures { result ≡ position self.now atom }
     {
         self.places[atom as usize]
+    }
+
+    /// The place of each atom.
+    pub(crate) fn places(&self) -> &[u32]
+        ensures { AreInverse self.now result.now }
+    {
+        self.places.as_slice()
     }
 
     /// The atom at a place.

@@ -20,7 +20,12 @@ impl<'a, 'b: 'a> OutsideWalked<'a> for DiagramSet<'b> {
     type Walk = PathWalk<'b>;
 
     #[tactic(auto, using(crate::proofs::Fronted::outside_paths))]
-    fn walk_outside(&'a self, alloc: Global) -> Result<PathWalk<'b>, AllocError> {
+    fn walk_outside(
+        &'a self,
+        alloc: Global,
+        places: Option<&'a [u32]>,
+    ) -> Result<PathWalk<'b>, AllocError> {
+        let _ = places;
         let _atoms = self.nodes.atoms();
         Ok(PathWalk::new(alloc, self.nodes, self.node, 0))
     }
@@ -28,6 +33,10 @@ impl<'a, 'b: 'a> OutsideWalked<'a> for DiagramSet<'b> {
 
 impl<'a, 'b: 'a> InsideAsked<'a> for DiagramSet<'b> {
     type Ask = FrontAsk<'b, InsideAsk<'a, DiagramSet<'b>>>;
+
+    fn places_inside(&'a self) -> Option<&'a [u32]> {
+        self.nodes.places()
+    }
 
     fn ask_inside(
         &'a self,
@@ -40,6 +49,10 @@ impl<'a, 'b: 'a> InsideAsked<'a> for DiagramSet<'b> {
 
 impl<'a, 'b: 'a> OutsideAsked<'a> for DiagramSet<'b> {
     type Ask = FrontAsk<'b, OutsideAsk<'a, DiagramSet<'b>>>;
+
+    fn places_outside(&'a self) -> Option<&'a [u32]> {
+        self.nodes.places()
+    }
 
     fn ask_outside(
         &'a self,

@@ -20,6 +20,8 @@ use std::alloc::{AllocError, Global};
 #[derive(Drop)]
 pub struct ClauseWalk<'a, K: ClauseKind> {
     set: &'a Formula<K>,
+    // The places of the atoms in the order of the walk, where that isn't the rising one.
+    places: Option<&'a [u32]>,
     // The codes of the places of the clauses, and how many clauses were taken.
     order: Vec<usize>,
     taken: usize,
@@ -32,16 +34,21 @@ impl<'a, K: ClauseKind> ClauseWalk<'a, K> {
     /// The walk before its first step. More than 268,435,456 clauses are answered as want of
     /// memory.
     #[tactic(auto, using(crate::proofs::Ordering::ordered_are))]
-    pub(crate) fn new(alloc: Global, set: &'a Formula<K>) -> Result<ClauseWalk<'a, K>, AllocError>
+    pub(crate) fn new(
+        alloc: Global,
+        set: &'a Formula<K>,
+        places: Option<&'a [u32]>,
+    ) -> Result<ClauseWalk<'a, K>, AllocError>
         ensures stands { IfOk result (λ walk. ⟦<ClauseWalk<'a, K> as Walker>⟧.stands walk) }
         ensures atoms { IfOk result
             (λ walk. ⟦<ClauseWalk<'a, K> as Walker>⟧.atoms walk ≡ set.now.atoms) }
         ensures all { IfOk result (λ walk. (s : List Bool) → IsStateOf set.now.atoms s
             → in_cubes (⟦<ClauseWalk<'a, K> as Walker>⟧.left walk) s ≡ not (in_formula set.now s)) }
     {
-        let order = ranking::of_clauses(alloc, set.clauses())?;
+        let order = ranking::of_clauses(alloc, set.clauses(), places)?;
         Ok(ClauseWalk {
             set,
+            places,
             order,
             taken: 0,
             literals: Vec::new(alloc),
@@ -67,7 +74,7 @@ impl<'a, K: ClauseKind> Walker for ClauseWalk<'a, K> {
         }
         let code = self.order[self.taken];
         let clause = clauses.get(ranking::place_of(code));
-        ranking::of_literals(&mut self.codes, clause)?;
+        ranking::of_literals(&mut self.codes, clause, self.places)?;
         let codes = self.codes.as_slice();
         let kept = common(self.literals.as_slice(), clause, codes);
         self.literals.truncate(kept);

@@ -12,13 +12,21 @@ use std::alloc::{AllocError, Global};
 impl<'a, K: ClauseKind + 'a> OutsideWalked<'a> for Formula<K> {
     type Walk = ClauseWalk<'a, K>;
 
-    fn walk_outside(&'a self, alloc: Global) -> Result<ClauseWalk<'a, K>, AllocError> {
-        ClauseWalk::new(alloc, self)
+    fn walk_outside(
+        &'a self,
+        alloc: Global,
+        places: Option<&'a [u32]>,
+    ) -> Result<ClauseWalk<'a, K>, AllocError> {
+        ClauseWalk::new(alloc, self, places)
     }
 }
 
 impl<'a, K: ClauseKind + 'a> InsideAsked<'a> for Formula<K> {
     type Ask = ListedAsk<'a, K, FormulaAsk<'a, K>>;
+
+    fn places_inside(&'a self) -> Option<&'a [u32]> {
+        None
+    }
 
     fn ask_inside(
         &'a self,
@@ -31,6 +39,10 @@ impl<'a, K: ClauseKind + 'a> InsideAsked<'a> for Formula<K> {
 
 impl<'a, K: ClauseKind + 'a> OutsideAsked<'a> for Formula<K> {
     type Ask = ListedAsk<'a, K, RestAsk<'a, K, OutsideAsk<'a, Formula<K>>>>;
+
+    fn places_outside(&'a self) -> Option<&'a [u32]> {
+        None
+    }
 
     fn ask_outside(
         &'a self,

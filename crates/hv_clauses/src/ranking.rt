@@ -19,9 +19,21 @@ const KEYS: usize = 1 << 17;
 
 const LAST: usize = KEYS - 1;
 
-// Where a literal stands in the order of the walk.
-fn key_of(literal: Literal) -> usize {
-    literal.atom as usize * 2 + literal.positive as usize
+// Where a literal stands in the order of the walk. Atoms rise by their places, where these are told.
+fn key_of(literal: Literal, places: Option<&[u32]>) -> usize {
+    let place = match places {
+        None => literal.atom,
+        Some(places) => place_of_atom(places, literal.atom),
+    };
+    place as usize * 2 + literal.positive as usize
+}
+
+// The place of an atom.
+fn place_of_atom(places: &[u32], atom: u32) -> u32 {
+    match places.get(atom as usize) {
+        Some(place) => *place,
+        None => atom,
+    }
 }
 
 // A code of the place, that is greater where the rank is.
@@ -41,7 +53,11 @@ pub(crate) fn place_of(code: usize) -> usize
 
 // The places of the clauses, in the order of their first two literals. More than 268,435,456
 // clauses are taken as want of memory.
-pub(crate) fn of_clauses(alloc: Global, clauses: &Clauses) -> Result<Vec<usize>, AllocError>
+pub(crate) fn of_clauses(
+    alloc: Global,
+    clauses: &Clauses,
+    places: Option<&[u32]>,
+) -> Result<Vec<usize>, AllocError>
     ensures { IfOk result (λ codes. OrdersUpto (length clauses.now) codes.items) }
 {
     if clauses.len() > PLACES {
@@ -49,7 +65,7 @@ pub(crate) fn of_clauses(alloc: Global, clauses: &Clauses) -> Result<Vec<usize>,
     }
     let mut codes = Vec::with_capacity(alloc, clauses.len())?;
     for place in 0..clauses.len() {
-        codes.push(code_of(rank_of(clauses.get(place)), place))?;
+        codes.push(code_of(rank_of(clauses.get(place), places), place))?;
     }
     rows::sort(&mut codes);
     Ok(codes)
@@ -57,7 +73,11 @@ pub(crate) fn of_clauses(alloc: Global, clauses: &Clauses) -> Result<Vec<usize>,
 
 // The places of the literals of a clause, in the order of the walk. More than 268,435,456 literals
 // are taken as want of memory.
-pub(crate) fn of_literals(codes: &mut Vec<usize>, clause: &[Literal]) -> Result<(), AllocError>
+pub(crate) fn of_literals(
+    codes: &mut Vec<usize>,
+    clause: &[Literal],
+    places: Option<&[u32]>,
+) -> Result<(), AllocError>
     ensures { OnOk result (OrdersUpto (length clause.now) codes.new.items) }
 {
     if clause.len() > PLACES {
@@ -65,20 +85,20 @@ pub(crate) fn of_literals(codes: &mut Vec<usize>, clause: &[Literal]) -> Result<
     }
     codes.clear();
     for place in 0..clause.len() {
-        codes.push(code_of(key_of(clause[place]), place))?;
+        codes.push(code_of(key_of(clause[place], places), place))?;
     }
     rows::sort(codes);
     Ok(())
 }
 
 // The rank of a clause: by the two least keys of its literals.
-fn rank_of(clause: &[Literal]) -> usize
+fn rank_of(clause: &[Literal], places: Option<&[u32]>) -> usize
     ensures { result < 17179869184 }
 {
     let mut first = LAST;
     let mut second = LAST;
     for literal in clause {
-        let key = key_of(*literal).min(LAST);
+        let key = key_of(*literal, places).min(LAST);
         if key < first {
             second = first;
             first = key;

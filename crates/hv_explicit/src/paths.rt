@@ -16,6 +16,10 @@ impl<'a> InsideWalked<'a> for Explicit {
 impl<'a> InsideAsked<'a> for Explicit {
     type Ask = InsideAsk<'a, Explicit>;
 
+    fn places_inside(&'a self) -> Option<&'a [u32]> {
+        None
+    }
+
     fn ask_inside(&'a self, alloc: Global) -> Result<InsideAsk<'a, Explicit>, AllocError> {
         Ok(InsideAsk::new(alloc, self))
     }

@@ -32,7 +32,7 @@ pub fn within<'a, L: InsideAsked<'a>, R: OutsideWalked<'a>>(
     if right.outside_count(alloc, budget)? > budget {
         return Ok(Finding::Over);
     }
-    let mut walk = right.walk_outside(alloc)?;
+    let mut walk = right.walk_outside(alloc, left.places_inside())?;
     let mut asked = left.ask_inside(alloc)?;
     if meet_along(alloc, &mut walk, &mut asked, scratch)? {
         Ok(Finding::Clash)

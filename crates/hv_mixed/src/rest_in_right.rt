@@ -32,7 +32,7 @@ pub fn together<'a, L: OutsideWalked<'a>, R: OutsideAsked<'a>>(
     if left.outside_count(alloc, budget)? > budget {
         return Ok(Finding::Over);
     }
-    let mut walk = left.walk_outside(alloc)?;
+    let mut walk = left.walk_outside(alloc, right.places_outside())?;
     let mut asked = right.ask_outside(alloc)?;
     if meet_along(alloc, &mut walk, &mut asked, scratch)? {
         Ok(Finding::Clash)

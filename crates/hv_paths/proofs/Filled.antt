@@ -4,8 +4,10 @@ use Rattle.std.proofs.Common.{◌||◌, Option, None, Some, List, [], ◌∷◌,
 use Rattle.std.proofs.Common.{refl, sym, ap, arith, inl, inr, subst}
 use Rattle.std.proofs.lemmas.List.Elements.{All-contains, All-contains_itself, Contains-get_or}
 use Rattle.std.proofs.lemmas.List.Folds.{list_all_more}
+use Rattle.std.proofs.lemmas.List.Sorted.{All-permutation, Contains-permutation, IsPermutation-sym}
 use Rattle.std.proofs.lemmas.Bool.{and_from, and_parts, false_from_ne_true}
 use Rattle.std.specs.List.{Contains}
+use Rattle.std.specs.List.Sorted.{IsPermutation}
 use Rattle.std.specs.Cmp.Derive.{one_truth}
 use Rattle.hv_task.specs.State.{has_atom}
 use Rattle.hv_sets.specs.declared.literal.Literal.{Literal}
@@ -43,6 +45,20 @@ cube_added old new l s a =
       | inl there ↦ cube_has old s m both.0 there
       | inr same ↦ ap (λ y. in_literal y s) same ∙ both.1
     ]))
+
+-- the literals have the same states in another order
+pub cube_moved : (old new : List Literal) → IsPermutation old new → (s : List Bool)
+    → in_cube new s ≡ in_cube old s
+cube_moved old new moved s =
+    one_truth (in_cube new s) (in_cube old s)
+    (λ h. cube_from old s (λ l c. cube_has new s l h (Contains-permutation old new l moved c)))
+    (λ h. cube_from new s (λ l c. cube_has old s l h
+    (Contains-permutation new old l (IsPermutation-sym old new moved) c)))
+
+-- and speak of the same atoms
+pub below_moved : (old new : List Literal) → IsPermutation old new → (n : ℕ) → SpeakBelow n old
+    → SpeakBelow n new
+below_moved old new moved n = All-permutation (λ (l : Literal). l.atom < n) old new moved
 
 -- the same along a list of literals
 pub cube_more : (old new literals : List Literal) (i : ℕ) (d : Literal) (s : List Bool)

@@ -64,7 +64,7 @@ impl<'a, R: StateSet> Asker for InsideAsk<'a, R> {
     }
 
     fn meets(&mut self, alloc: Global, scratch: &mut Scratch) -> Result<bool, AllocError> {
-        if !fill(&mut self.cube, self.literals.as_slice())? {
+        if !fill(alloc, &mut self.cube, self.literals.as_slice())? {
             return Ok(false);
         }
         self.set.meets(alloc, &self.cube, scratch)

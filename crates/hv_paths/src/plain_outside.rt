@@ -64,7 +64,7 @@ impl<'a, R: Covering> Asker for OutsideAsk<'a, R> {
     }
 
     fn meets(&mut self, alloc: Global, scratch: &mut Scratch) -> Result<bool, AllocError> {
-        if !fill(&mut self.cube, self.literals.as_slice())? {
+        if !fill(alloc, &mut self.cube, self.literals.as_slice())? {
             return Ok(false);
         }
         let covered = self.set.covers(alloc, &self.cube, scratch)?;

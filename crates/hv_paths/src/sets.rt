@@ -26,8 +26,13 @@ pub trait OutsideWalked<'a>: Outside {
     /// The walk.
     type Walk: Walker + Drop;
 
-    /// The walk over the complement before its first step.
-    fn walk_outside(&'a self, alloc: Global) -> Result<Self::Walk, AllocError>
+    /// The walk over the complement before its first step. Where the places of the atoms in an
+    /// order are told, a walk that may choose takes its cubes and their literals in this order.
+    fn walk_outside(
+        &'a self,
+        alloc: Global,
+        places: Option<&'a [u32]>,
+    ) -> Result<Self::Walk, AllocError>
         ensures stands { IfOk result (λ walk. Self.Walk.stands walk) }
         ensures atoms { IfOk result (λ walk. Self.Walk.atoms walk ≡ Self.atoms self.now) }
         ensures all { IfOk result (λ walk. (s : List Bool) → IsStateOf (Self.atoms self.now) s
@@ -38,6 +43,10 @@ pub trait OutsideWalked<'a>: Outside {
 pub trait InsideAsked<'a>: StateSet {
     /// The question.
     type Ask: Asker + Drop;
+
+    /// The places of the atoms in the order in which literals are best assumed, where that isn't
+    /// the rising one. Only how long an answer takes hangs on it.
+    fn places_inside(&'a self) -> Option<&'a [u32]>;
 
     /// The question about the states of the set, with nothing assumed.
     fn ask_inside(&'a self, alloc: Global) -> Result<Self::Ask, AllocError>
@@ -52,6 +61,10 @@ pub trait InsideAsked<'a>: StateSet {
 pub trait OutsideAsked<'a>: Covering {
     /// The question.
     type Ask: Asker + Drop;
+
+    /// The places of the atoms in the order in which literals are best assumed, where that isn't
+    /// the rising one. Only how long an answer takes hangs on it.
+    fn places_outside(&'a self) -> Option<&'a [u32]>;
 
     /// The question about the states outside the set, with nothing assumed.
     fn ask_outside(&'a self, alloc: Global) -> Result<Self::Ask, AllocError>

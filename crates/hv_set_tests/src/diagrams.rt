@@ -849,7 +849,7 @@ fn is_met_outside(
 {
     let walked = list.set(left as u32);
     let other = list.set(right as u32);
-    let mut walk = walked.walk_outside(alloc)?;
+    let mut walk = walked.walk_outside(alloc, None)?;
     let mut asked = other.ask_outside(alloc)?;
     is_met(alloc, &mut walk, &mut asked, left, right, false)
 }

@@ -1,7 +1,7 @@
 use Rattle.std.proofs.Common.{◌≡◌, ℕ, Bool, List, take}
 use Rattle.hv_sets.specs.Cubes.{SpeakBelow}
 use Rattle.hv_sets.specs.Truth.{in_cube}
-use Rattle.hv_paths.proofs.filling.fill.Given as goal
+use Rattle.hv_paths.proofs.filling.fill_along.Given as goal
 
 -- the cube is that of the literals up to here
 abbrev pub invariant-loop-literal : goal.invariant-loop-literal
