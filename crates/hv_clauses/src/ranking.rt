@@ -19,7 +19,7 @@ const KEYS: usize = 1 << 17;
 
 const LAST: usize = KEYS - 1;
 
-// Where a literal stands in the order of the walk. Atoms rise by their places, where these are told.
+// Where a literal stands in the order of the walk: by the place of its atom, where places are told.
 fn key_of(literal: Literal, places: Option<&[u32]>) -> usize {
     let place = match places {
         None => literal.atom,

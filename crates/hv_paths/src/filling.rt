@@ -10,11 +10,7 @@ use std::alloc::{AllocError, Global};
 /// Makes it the cube of these literals. The answer is false if two of them are opposite, so that no
 /// state is in all. They are put in by rising atoms: in another order each would move those behind
 /// it.
-pub(crate) fn fill(
-    alloc: Global,
-    cube: &mut Cube,
-    literals: &[Literal],
-) -> Result<bool, AllocError>
+pub(crate) fn fill(alloc: Global, cube: &mut Cube, literals: &[Literal]) -> Result<bool, AllocError>
     ensures same { IfOk result (λ yes. yes ≡ true
         → (s : List Bool) → in_cube cube.new s ≡ in_cube literals.now s) }
     ensures below { IfOk result (λ yes. yes ≡ true
