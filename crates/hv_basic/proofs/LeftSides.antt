@@ -5,13 +5,13 @@ use Rattle.std.proofs.lemmas.List.Elements.{Contains-get_or}
 use Rattle.std.specs.List.{All, Contains}
 use Rattle.hv_sets.specs.declared.operand.Operand.{Operand}
 use Rattle.hv_lines.specs.Literals.{IsPlainSet}
-use Rattle.std.specs.Option.{IfSome}
 use Rattle.hv_lines.specs.Setting.{Setting}
 use Rattle.hv_lines.specs.Verdicts.{IsVerdict}
 use Rattle.hv_lines.specs.declared.line.Statement.{Statement}
 use Rattle.hv_lines.specs.declared.line.Statement.TheVariants as T
 use Rattle.hv_lines.specs.declared.verdict.Verdict.{Verdict}
-use Rattle.hv_lines.specs.Shapes.{OfSets, Askings, AskingsRise, IsAndLeaf, IsAsked, IsFamilyOf}
+use Rattle.hv_lines.specs.Shapes.{Askings, AskingsRise, HasShape, IsAndLeaf, IsAsked, IsFamilyOf}
+use Rattle.hv_lines.specs.Shapes.{OfActs, OfSets, OfTwo, Question}
 use Rattle.hv_lines.specs.Shapes.{IsLeftLeaf, IsLiteralOf, IsOfFamily, IsOrLeaf, IsQuestion, IsStep}
 use Rattle.hv_lines.specs.Shapes.{IsWithinFamily, asks_sides_after, most_operands}
 use Rattle.hv_lines.specs.declared.family.FormulaFamily.{FormulaFamily}
@@ -23,11 +23,12 @@ use Rattle.hv_lines.proofs.Questions.{alone_no_step}
 use Rattle.hv_lines.proofs.Shaped.{literal_once, step_no_literal, step_once}
 use Rattle.hv_basic.specs.Working.Asked.{AreChosen}
 use Rattle.hv_basic.specs.Working.Gathered.{AreGathered, AreLeftAskings, AreOthers, IsGiven}
-use Rattle.hv_basic.specs.Working.Gathered.{IsLeftSide, IsLiteralStep, IsStepAdded}
+use Rattle.hv_basic.specs.Working.Gathered.{IsLeftRead, IsLeftSide, IsLiteralStep, IsStepAdded}
 use Rattle.hv_basic.specs.Sharing.{ArePlain, IsTheFamily}
 use Rattle.hv_basic.specs.Working.Sharing.{IsFamilyBeside, IsVerdictOfSub}
 use Rattle.hv_basic.specs.declared.literals.Asking.{Asking}
 use Rattle.hv_basic.specs.declared.literals.Others.TheVariants as O
+use Rattle.hv_basic.specs.declared.sides.Sides.{Sides}
 use Rattle.hv_basic.proofs.Siding.{both_sides, literal_below}
 
 module _ (lines : List Line) (word : Word) (left : ℕ) (lefts : List ℕ)
@@ -257,7 +258,7 @@ module _ (lines : List Line) (word : Word) (left right : ℕ) (askings : List As
   }
 
 -- what the left side asks about has a line
-pub left_below : (lines : List Line) (word : Word) (left : ℕ) (askings : List Asking)
+left_below : (lines : List Line) (word : Word) (left : ℕ) (askings : List Asking)
     → IsTable lines
     → AreLeftAskings lines word left askings → All (λ asking. asking.set < expr_count lines) askings
 left_below lines word left askings table asks k d within =
@@ -265,14 +266,36 @@ left_below lines word left askings table asks k d within =
     let said = (asks a).0 (Contains-get_or askings k d within) in
     literal_below lines said.0 a.set a.positive table said.2
 
+-- what was read of the left side
+pub left_read : (lines : List Line) (word : Word) (left : ℕ) (sides : Sides) → IsTable lines
+    → IsLeftSide lines word left sides.acts
+    → AreLeftAskings lines word left sides.askings.items → IsLeftRead lines word left sides
+left_read lines word left sides table side asks = record {
+  side = side;
+  askings = asks;
+  below = left_below lines word left sides.askings.items table asks;
+}
+
 -- the verdict on the question is that of the statement
 pub verdict_shared : (setting : Setting) (lines : List Line) (statement : Statement) (word : Word)
-    (left right : ℕ) (found : Option Verdict)
-    (verdict : Verdict) → statement ≡ T.Sub left right → found ≡ Some verdict
-    → IfSome found (IsVerdictOfSub setting lines word left right)
+    (left right : ℕ) (verdict : Verdict) → statement ≡ T.Sub left right
+    → IsVerdictOfSub setting lines word left right verdict
     → IsVerdict setting lines statement word verdict
-verdict_shared setting lines statement word left right found verdict same is answers =
-    let answer : IsVerdictOfSub setting lines word left right verdict = subst
-    (λ f. IfSome f (IsVerdictOfSub setting lines word left right)) is answers in
+verdict_shared setting lines statement word left right verdict same answer =
     subst (λ s. IsVerdict setting lines s word verdict) (sym same)
     (OfSets word answer.0, (refl, answer.1), answer.2)
+
+-- without a question the statement has no shape
+no_shape : (lines : List Line) (word : Word) (left right : ℕ) → (word ≡ W.B4 → ⊥)
+    → ((q : Question) → IsQuestion lines word left right q → ⊥)
+    → HasShape lines (T.Sub left right) word → ⊥
+no_shape lines word left right other out (OfSets asked q, is) = out q is.1
+no_shape lines word left right other out (OfTwo x y, is) = other is.0
+no_shape lines word left right other out (OfActs first second, is) = is
+
+pub sub_unshaped : (lines : List Line) (statement : Statement) (word : Word) (left right : ℕ)
+    → statement ≡ T.Sub left right → (word ≡ W.B4 → ⊥)
+    → ((q : Question) → IsQuestion lines word left right q → ⊥)
+    → HasShape lines statement word → ⊥
+sub_unshaped lines statement word left right same other out has =
+    no_shape lines word left right other out (subst (λ s. HasShape lines s word) same has)

@@ -2,6 +2,7 @@ mod Marked
 pub mod Leafing
 pub mod Gathering
 pub mod Membership
+pub mod OneFamily
 pub mod Ordering
 pub mod Siding
 pub mod Walking

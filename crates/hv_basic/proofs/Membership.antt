@@ -1,27 +1,21 @@
--- What holds of each literal, and of the formulas that are asked about.
-use Rattle.std.proofs.Common.{◌≡◌, ℕ, ◌<◌, ◌+◌, ◌∙◌, ◌↔◌, List, Option, Some, None, length}
-use Rattle.std.proofs.Common.{get_or, refl, sym, ap, subst, inl, inr, arith}
+-- What holds before a place and there holds before the next; and the step.
+use Rattle.std.proofs.Common.{◌≡◌, ℕ, ◌<◌, ◌+◌, ◌∙◌, ◌↔◌, List, Some, length, get_or, sym, ap}
+use Rattle.std.proofs.Common.{subst, inl, inr, arith}
 use Rattle.std.proofs.lemmas.Bool.{cases_lt}
 use Rattle.std.proofs.lemmas.List.{get_or_default}
-use Rattle.std.proofs.lemmas.List.Elements.{All-contains, Contains-get_or}
 use Rattle.std.proofs.lemmas.Option.{same_Some, unwrap_or-slice_get}
-use Rattle.std.specs.List.{All, Contains, slice_get}
+use Rattle.std.specs.List.{Contains, slice_get}
 use Rattle.std.specs.Option.{unwrap_or}
 use Rattle.hv_lines.specs.Literals.{IsLiteral}
-use Rattle.hv_lines.specs.Numbering.{ExprRefersBelow, IsTable, expr_at, expr_count}
-use Rattle.hv_lines.specs.Shapes.{IsAndLeaf, IsOfFamily, IsStep, IsWithinFamily, after_parts}
-use Rattle.hv_lines.specs.Shapes.{asked_step, before_parts, family_of}
-use Rattle.hv_lines.specs.declared.family.FormulaFamily.{FormulaFamily}
-use Rattle.hv_lines.specs.declared.family.FormulaFamily.TheVariants as F
+use Rattle.hv_lines.specs.Numbering.{ExprRefersBelow}
+use Rattle.hv_lines.specs.Shapes.{IsAndLeaf, IsStep, after_parts, asked_step, before_parts}
 use Rattle.hv_lines.specs.declared.line.Expr.{Expr}
 use Rattle.hv_lines.specs.declared.line.Expr.TheVariants as E
 use Rattle.hv_lines.specs.declared.line.Line.{Line}
 use Rattle.hv_lines.specs.declared.line.Word.{Word}
 use Rattle.hv_lines.specs.declared.line.Word.TheVariants as W
-use Rattle.hv_lines.proofs.Laws.{expr_within}
 use Rattle.hv_lines.proofs.Shaped.{step_once}
-use Rattle.hv_basic.specs.Working.Gathered.{IsFamilyIn, IsLiteralStep}
-use Rattle.hv_basic.specs.declared.literals.Asking.{Asking}
+use Rattle.hv_basic.specs.Working.Gathered.{IsLiteralStep}
 
 -- what holds at the places before one and there holds before the next
 module _ {X : Type 0} (P : X → Type 0) (xs : List X) (i : ℕ) (within : i < length xs) where
@@ -34,87 +28,6 @@ module _ {X : Type 0} (P : X → Type 0) (xs : List X) (i : ℕ) (within : i < l
             let same : i ≡ k = omega (arith, upto, below) in
             subst (λ j. P (get_or xs j d)) same (subst P (get_or_default xs i e d within) here)
       ]
-
--- the one family
-
-no_family : (lines : List Line) (set : ℕ) (expr : Expr) → expr_at lines set ≡ Some expr
-    → None ≡ family_of expr
-    → (family : FormulaFamily) → IsOfFamily lines family set → ⊥
-no_family lines set expr at none family (x, found, is) =
-    let same : x ≡ expr = cc (found, at) in
-    let some : family_of expr ≡ Some family = subst (λ y. family_of y ≡ Some family) same is in
-    let both : None ≡ Some family = none ∙ some in
-    cc (both)
-
-pub no_family_more : (lines : List Line) (askings : List Asking) (i : ℕ) → i < length askings
-    → ((k : ℕ) (d : Asking) → k < i → (family : FormulaFamily)
-    → IsOfFamily lines family (get_or askings k d).set → ⊥)
-    → (e : Asking) (expr : Expr) → expr_at lines (get_or askings i e).set ≡ Some expr
-    → None ≡ family_of expr
-    → (k : ℕ) (d : Asking) → k < i + 1 → (family : FormulaFamily)
-    → IsOfFamily lines family (get_or askings k d).set → ⊥
-no_family_more lines askings i within before e expr at none =
-    more (λ (a : Asking). (family : FormulaFamily) → IsOfFamily lines family a.set → ⊥) askings i
-    within before e
-    (no_family lines (get_or askings i e).set expr at none)
-
-pub no_family_all : (lines : List Line) (askings : List Asking) (i : ℕ) → length askings ≡ i
-    → ((k : ℕ) (d : Asking) → k < i → (family : FormulaFamily)
-    → IsOfFamily lines family (get_or askings k d).set → ⊥)
-    → (family : FormulaFamily) (asking : Asking) → Contains askings asking
-    → IsOfFamily lines family asking.set → ⊥
-no_family_all lines askings i size before family asking c of =
-    before c.0 asking (omega (arith, c.1, size)) family
-    (subst (λ (a : Asking). IsOfFamily lines family a.set) (sym c.2) of)
-
-either : (lines : List Line) (set : ℕ) (expr : Expr) (found : Option FormulaFamily)
-    → expr_at lines set ≡ Some expr → family_of expr ≡ found
-    → ((family : FormulaFamily) → IsOfFamily lines family set → ⊥) → IsWithinFamily lines F.Horn set
-either lines set expr None at is none = (expr, at, inl is)
-either lines set expr (Some family) at is none = absurd (none family (expr, at, is))
-
-pub constants_alone : (lines : List Line) (askings : List Asking) → IsTable lines
-    → All (λ asking. asking.set < expr_count lines) askings
-    → ((family : FormulaFamily) (asking : Asking) → Contains askings asking
-    → IsOfFamily lines family asking.set → ⊥)
-    → IsFamilyIn lines askings F.Horn
-constants_alone lines askings table below none = record {
-  within = λ asking c.
-      let line = expr_within lines asking.set table
-      (All-contains (λ (a : Asking). a.set < expr_count lines) askings asking below c) in
-      either lines asking.set line.0 (family_of line.0) line.1 refl
-      (λ family of. none family asking c of);
-  some = inl refl;
-}
-
-pub family_found : (lines : List Line) (askings : List Asking) (family : FormulaFamily)
-    → (asking : Asking) × Contains askings asking × IsOfFamily lines family asking.set
-    → All (λ asking. IsWithinFamily lines family asking.set) askings
-    → IsFamilyIn lines askings family
-family_found lines askings family some all = record {
-  within = λ asking c. All-contains (λ (a : Asking). IsWithinFamily lines family a.set) askings
-      asking all c;
-  some = inr some;
-}
-
-pub family_missed : (lines : List Line) (askings : List Asking) (family : FormulaFamily)
-    → (asking : Asking) × Contains askings asking × IsOfFamily lines family asking.set
-    → (All (λ asking. IsWithinFamily lines family asking.set) askings → ⊥) → (other : FormulaFamily)
-    → IsFamilyIn lines askings other → ⊥
-family_missed lines askings family (asking, c, (expr, at, is)) out other of =
-    out (λ k d below.
-    subst (λ f. IsWithinFamily lines f (get_or askings k d).set) (same (of.within asking c))
-    (of.within (get_or askings k d) (Contains-get_or askings k d below)))
-  where
-    same : IsWithinFamily lines other asking.set → other ≡ family
-    same (x, found, inl none) =
-        let one : x ≡ expr = cc (found, at) in
-        let no_one : family_of expr ≡ None = subst (λ y. family_of y ≡ None) one none in
-        absurd (cc (no_one, is))
-    same (x, found, inr some) =
-        let one : x ≡ expr = cc (found, at) in
-        let also : family_of expr ≡ Some other = subst (λ y. family_of y ≡ Some other) one some in
-        sym (same_Some family other (sym is ∙ also))
 
 -- the step
 

@@ -1,97 +1,52 @@
 //! The family of a statement.
 
-ghost use Rattle.std.specs.Prelude.{◌≡◌, ◌<◌, ◌↔◌, ℕ, None, IfSome, IsTrue, MatchOption};
-ghost use Rattle.std.specs.List.{All, Contains};
+ghost use Rattle.std.specs.Prelude.{◌≡◌, ◌<◌, ◌↔◌, IsTrue, MatchOption};
+ghost use Rattle.std.specs.List.{All};
+ghost use Rattle.hv_lines.specs.Literals.{IsPlainExpr};
 ghost use Rattle.hv_lines.specs.Numbering.{expr_count};
-ghost use Rattle.hv_lines.specs.Shapes.{AreOfTwoFamilies, IsOfFamily, IsWithinFamily, family_of};
+ghost use Rattle.hv_lines.specs.Shapes.{AreOfTwoFamilies, family_of};
 ghost use Rattle.hv_lines.specs.declared.family.FormulaFamily.{FormulaFamily};
-ghost use Rattle.hv_basic.specs.Working.Gathered.{IsFamilyIn};
-ghost use Rattle.hv_basic.specs.Working.Sharing.{IsFamilyBeside};
-ghost use Rattle.hv_basic.specs.declared.literals.Asking.{Asking};
+ghost use Rattle.hv_basic.specs.Working.Sharing.{AreOtherFamilies, IsFamilyBeside, IsFamilyWith};
 
 use crate::literals::Asking;
 use hv_lines::{Expr, FormulaFamily, Table};
 
-/// The one family of all formulas that are asked about; it is Horn where there is none.
-pub(crate) fn one_family(table: &Table, askings: &[Asking]) -> Option<FormulaFamily>
-    requires { All (λ asking. asking.set < expr_count table.now.lines) askings.now }
-    ensures { MatchOption result ((family : FormulaFamily)
-        → IsFamilyIn table.now.lines askings.now family
-        → ⊥) (IsFamilyIn table.now.lines askings.now) }
-{
-    let _count = table.expr_count();
-    match first_family(table, askings) {
-        None => Some(FormulaFamily::Horn),
-        Some(family) => {
-            if are_within(table, askings, family) {
-                Some(family)
-            } else {
-                None
-            }
-        }
-    }
-}
-
-/// The family of the statement, where the formulas of its right side are of this one, if it has
-/// some.
-pub(crate) fn family_beside(
+/// The one family of all formulas that are asked about, where those that stood there before are of
+/// this family, if there were some; it is Horn where there is none.
+pub(crate) fn one_family(
     table: &Table,
     askings: &[Asking],
-    kept: Option<FormulaFamily>,
+    before: Option<FormulaFamily>,
 ) -> Option<FormulaFamily>
     requires { All (λ asking. asking.set < expr_count table.now.lines) askings.now }
-    ensures { IfSome result (IsFamilyBeside table.now.lines askings.now kept) }
+    ensures { MatchOption result ((family : FormulaFamily)
+        → IsFamilyBeside table.now.lines askings.now before family → ⊥)
+        (IsFamilyBeside table.now.lines askings.now before) }
 {
-    match kept {
-        None => one_family(table, askings),
-        Some(family) => {
-            if are_within(table, askings, family) {
-                Some(family)
-            } else {
-                None
-            }
-        }
-    }
-}
-
-/// The family of the first formula.
-fn first_family(table: &Table, askings: &[Asking]) -> Option<FormulaFamily>
-    requires { All (λ asking. asking.set < expr_count table.now.lines) askings.now }
-    ensures { MatchOption result ((family : FormulaFamily) (asking : Asking)
-        → Contains askings.now asking → IsOfFamily table.now.lines family asking.set
-        → ⊥) (λ family. (asking : Asking) × Contains askings.now asking
-        × IsOfFamily table.now.lines family asking.set) }
-{
+    let mut family = before;
     for asking in askings {
-        match family_of(table.expr(asking.set)) {
-            Some(family) => return Some(family),
-            None => {}
+        match family_with(family, family_of(table.expr(asking.set))) {
+            Some(both) => family = both,
+            None => return None,
         }
     }
-    None
-}
-
-/// Whether each formula is of the family.
-fn are_within(table: &Table, askings: &[Asking], family: FormulaFamily) -> bool
-    requires { All (λ asking. asking.set < expr_count table.now.lines) askings.now }
-    ensures { IsTrue result ↔ All (λ asking.
-        IsWithinFamily table.now.lines family asking.set) askings.now }
-{
-    for asking in askings {
-        if !is_within(table, asking.set, family) {
-            return false;
-        }
+    match family {
+        Some(one) => Some(one),
+        None => Some(FormulaFamily::Horn),
     }
-    true
 }
 
-fn is_within(table: &Table, set: usize, family: FormulaFamily) -> bool
-    requires { set < expr_count table.now.lines }
-    ensures { IsTrue result ↔ IsWithinFamily table.now.lines family set }
+/// The family of the formulas so far and of a further set, each of which may have none.
+pub(crate) fn family_with(
+    family: Option<FormulaFamily>,
+    next: Option<FormulaFamily>,
+) -> Option<Option<FormulaFamily>>
+    ensures { MatchOption result (AreOtherFamilies family next) (IsFamilyWith family next) }
 {
-    match family_of(table.expr(set)) {
-        None => true,
-        Some(found) => found == family,
+    match (family, next) {
+        (None, _) => Some(next),
+        (Some(_), None) => Some(family),
+        (Some(first), Some(second)) => { if first == second { Some(family) } else { None } }
     }
 }
 
@@ -107,8 +62,25 @@ pub(crate) fn are_of_two_families(table: &Table, x: usize, y: usize) -> bool
     }
 }
 
+/// The family of a formula, or that it is a constant, which has none; there is no answer for other
+/// sets.
+pub(crate) fn plain_family(expr: &Expr) -> Option<Option<FormulaFamily>>
+    ensures { MatchOption result (IsPlainExpr expr.now → ⊥)
+        (λ family. IsPlainExpr expr.now × (family ≡ family_of expr.now)) }
+{
+    match expr {
+        Expr::Constant(_)
+        | Expr::Horn(_)
+        | Expr::Dual(_)
+        | Expr::Two(_)
+        | Expr::States(_)
+        | Expr::Node(_) => Some(family_of(expr)),
+        Expr::Not(_) | Expr::And(..) | Expr::Or(..) | Expr::After(..) | Expr::Before(..) => None,
+    }
+}
+
 /// The family of a formula; nothing else has one.
-pub(crate) fn family_of(expr: &Expr) -> Option<FormulaFamily>
+fn family_of(expr: &Expr) -> Option<FormulaFamily>
     ensures { result ≡ family_of expr.now }
 {
     match expr {

@@ -1,11 +1,10 @@
 //! What the left side of a statement asks.
 
 ghost use Rattle.std.specs.Prelude.{◌≡◌, ◌<◌, ℕ, Option, IfErr, IfOk};
-ghost use Rattle.std.specs.List.{All};
 ghost use Rattle.hv_lines.specs.Numbering.{expr_count};
 ghost use Rattle.hv_lines.specs.Shapes.{asked_step, asks_sides_after, asks_step_after};
 ghost use Rattle.hv_basic.specs.Faults.{IsShapeFault};
-ghost use Rattle.hv_basic.specs.Working.Gathered.{AreLeftAskings, IsLeftSide, IsLiteralStep};
+ghost use Rattle.hv_basic.specs.Working.Gathered.{IsLeftRead, IsLeftSide, IsLiteralStep};
 ghost use Rattle.hv_basic.specs.Working.Gathered.{IsStepAdded};
 
 use crate::leaves::{Side, leaves};
@@ -23,11 +22,7 @@ pub(crate) fn left_of(
     left: usize,
 ) -> Result<Sides, ShapeFault>
     requires { left < expr_count table.now.lines }
-    ensures side { IfOk result (λ sides. IsLeftSide table.now.lines word left sides.acts) }
-    ensures askings { IfOk result (λ sides.
-        AreLeftAskings table.now.lines word left sides.askings.items) }
-    ensures below { IfOk result (λ sides.
-        All (λ asking. asking.set < expr_count table.now.lines) sides.askings.items) }
+    ensures ok { IfOk result (IsLeftRead table.now.lines word left) }
     ensures err { IfErr result (IsShapeFault ((acts : Option ℕ)
         → IsLeftSide table.now.lines word left acts → ⊥)) }
 {

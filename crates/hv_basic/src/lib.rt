@@ -6,15 +6,15 @@
 //!
 //! - `shared_verdicts::verdict_of` takes it, with the `case` that it is judged in (task, lines,
 //!   nodes, stores, budget) and what is kept of the right sides before it (`shared`).
-//! - `rights` keeps the right side, if that is a union of formulas and constants: where it is the
-//!   one before and a further set, only the leaves of that set are looked up.
-//! - `lefts::left_of` reads the left side, in both ways of asking: `leaves` takes it apart,
+//! - `lefts::left_of` reads the left side, once for both ways of asking: `leaves` takes it apart,
 //!   `literals` gathers what its literals ask about, and the set of the progression is read like
 //!   it.
+//! - `rights` keeps the right side, if that is a union of formulas and constants: where it is the
+//!   one before and a further set, only the leaves of that set are looked up.
 //! - Where what is kept serves, and all that the left side asks about is positive, the question
 //!   stands already: `families` says whose family it is, and `order` puts the left part in order.
-//! - Else `shapes::shape` makes the question: `sides` reads the leaves of the right side too,
-//!   `families` looks for the one family, and `order` puts both parts in order.
+//! - Else `shapes::question_beside` makes the question: `sides` reads the leaves of the right side
+//!   too, `families` looks for the one family, and `order` puts both parts in order.
 //! - Either way `verdicts::decide_sets` decides the question. It makes the query of it by the names
 //!   that the `store` keeps, and `actions` lists the actions of the progression, by the flags of
 //!   `acts`. For each of them `walk` asks the query of the store of the family, and the first query

@@ -7,6 +7,7 @@ ghost use Rattle.hv_lines.specs.Numbering.{expr_count};
 ghost use Rattle.hv_lines.specs.declared.line.Line.{Line};
 ghost use Rattle.hv_basic.specs.Working.Gathered.{AreGathered, AreOthers, IsThe, sign_on};
 
+use crate::families::plain_family;
 use hv_lines::{Expr, Table};
 use std::alloc::AllocError;
 
@@ -41,18 +42,21 @@ pub(crate) fn literal_of(table: &Table, leaf: usize) -> Option<Literal>
         (IsThe table.now.lines leaf) }
     ensures below { IfSome result (λ literal. literal.set < expr_count table.now.lines) }
 {
-    if !table.is_literal(leaf) {
-        return None;
-    }
     match table.expr(leaf) {
-        Expr::Not(set) => Some(Literal {
-            set: *set,
-            is_plain: false,
-        }),
-        _ => Some(Literal {
-            set: leaf,
-            is_plain: true,
-        }),
+        Expr::Not(set) => match plain_family(table.expr(*set)) {
+            Some(_) => Some(Literal {
+                set: *set,
+                is_plain: false,
+            }),
+            None => None,
+        },
+        expr => match plain_family(expr) {
+            Some(_) => Some(Literal {
+                set: leaf,
+                is_plain: true,
+            }),
+            None => None,
+        },
     }
 }
 

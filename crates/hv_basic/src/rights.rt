@@ -1,23 +1,21 @@
 //! Keeping what a right side asks: where it is the union of the one before and a further set, only
 //! that set is looked at.
 
-ghost use Rattle.std.specs.Prelude.{◌≡◌, ◌<◌, ◌++◌, ◌∷◌, ◌↔◌, ℕ, Bool, true, [], None, Some, IfOk};
-ghost use Rattle.std.specs.Prelude.{IfSome, length};
+ghost use Rattle.std.specs.Prelude.{◌≡◌, ◌<◌, ◌++◌, ◌∷◌, ℕ, Bool, true, [], None, Some, IfOk};
+ghost use Rattle.std.specs.Prelude.{IfSome};
 ghost use Rattle.std.specs.List.{All, Contains};
-ghost use Rattle.hv_lines.specs.Literals.{IsPlainSet};
 ghost use Rattle.hv_lines.specs.Numbering.{expr_count};
 ghost use Rattle.hv_lines.specs.Shapes.{AskingsRise};
 ghost use Rattle.hv_basic.specs.Cases.{lines_in};
 ghost use Rattle.hv_basic.specs.Sharing.{IsShared};
-ghost use Rattle.hv_basic.specs.Working.Sharing.{AreAddedTo, AreKeptPlain, IsFamilyWith, IsMadeOf};
+ghost use Rattle.hv_basic.specs.Working.Sharing.{AreAddedTo, AreKeptPlain, IsMadeOf};
 ghost use Rattle.hv_basic.specs.Working.Sharing.{IsPartBeside};
 
 use crate::case::Case;
-use crate::families::family_of;
+use crate::families::{family_with, plain_family};
 use crate::leaves::{Side, leaves};
-use crate::literals::literal_of;
 use crate::shared::Kept;
-use hv_lines::{Expr, FormulaFamily, Table};
+use hv_lines::{Expr, Table};
 use hv_sets::{Operand, Operands};
 use std::alloc::{AllocError, Global};
 
@@ -192,14 +190,16 @@ fn add_one(case: &Case<'_>, kept: &mut Kept, leaf: usize) -> Result<bool, AllocE
     ensures root { kept.new.root ≡ kept.old.root }
     ensures after { kept.new.after ≡ kept.old.after }
 {
-    let table = case.table;
     let store = case.store;
-    if !is_plain(table, leaf) || !is_later(&kept.question.negative, leaf) {
-        return Ok(false);
-    }
-    let Some(both) = family_with(kept.family, family_of(table.expr(leaf))) else {
+    let Some(next) = plain_family(case.table.expr(leaf)) else {
         return Ok(false);
     };
+    let Some(both) = family_with(kept.family, next) else {
+        return Ok(false);
+    };
+    if !is_later(&kept.question.negative, leaf) {
+        return Ok(false);
+    }
     kept.query.negative.push(Operand {
         which: store.name(leaf),
         id: leaf,
@@ -210,34 +210,10 @@ fn add_one(case: &Case<'_>, kept: &mut Kept, leaf: usize) -> Result<bool, AllocE
     Ok(true)
 }
 
-fn is_plain(table: &Table, set: usize) -> bool
-    requires { set < expr_count table.now.lines }
-    ensures { result ≡ true → IsPlainSet table.now.lines set }
-{
-    match literal_of(table, set) {
-        Some(literal) => literal.is_plain,
-        None => false,
-    }
-}
-
 /// Whether the identifier comes after those of what is asked about.
 fn is_later(asked: &[(usize, bool)], leaf: usize) -> bool
     requires { AskingsRise asked.now }
     ensures { result ≡ true → (a : ℕ × Bool) → Contains asked.now a → a.0 < leaf }
 {
     asked.is_empty() || asked[asked.len() - 1].0 < leaf
-}
-
-/// The family of the formulas so far and of a further set, each of which may have none.
-fn family_with(
-    family: Option<FormulaFamily>,
-    next: Option<FormulaFamily>,
-) -> Option<Option<FormulaFamily>>
-    ensures { IfSome result (IsFamilyWith family next) }
-{
-    match (family, next) {
-        (None, _) => Some(next),
-        (Some(_), None) => Some(family),
-        (Some(first), Some(second)) => { if first == second { Some(family) } else { None } }
-    }
 }

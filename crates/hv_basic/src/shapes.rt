@@ -7,15 +7,16 @@ ghost use Rattle.hv_lines.specs.Shapes.{AreTwo, HasShape, HasSides, IsQuestion, 
 ghost use Rattle.hv_lines.specs.Shapes.{Question as AskedQuestion};
 ghost use Rattle.hv_basic.specs.Deciding.{IsBasicOver, IsQuestionOver};
 ghost use Rattle.hv_basic.specs.Faults.{IsShapeFault};
-ghost use Rattle.hv_basic.specs.Working.Gathered.{AreAskings};
+ghost use Rattle.hv_basic.specs.Working.Gathered.{AreAskings, IsLeftRead};
 ghost use Rattle.hv_basic.specs.Working.Views.{question_of};
 ghost use Rattle.hv_basic.specs.declared.shapes.ShapeFault.TheVariants as F;
 
 use crate::basic::{Basic, Kind, Question};
 use crate::families::{are_of_two_families, one_family};
+use crate::lefts::left_of;
 use crate::literals::{Literal, literal_of};
 use crate::order::in_order;
-use crate::sides::{Inclusion, Sides, sides_of};
+use crate::sides::{Inclusion, Sides, with_right};
 use hv_lines::{Statement, Table, Word};
 use std::alloc::{AllocError, Global};
 use thiserror::Error;
@@ -113,7 +114,28 @@ fn question_of(alloc: Global, table: &Table, claim: Inclusion) -> Result<Questio
     ensures err { IfErr result (IsShapeFault ((question : AskedQuestion)
         → IsQuestion table.now.lines claim.word claim.left claim.right question → ⊥)) }
 {
-    match sides_of(alloc, table, claim) {
+    match left_of(alloc, table, claim.word, claim.left) {
+        Ok(sides) => question_beside(alloc, table, claim, sides),
+        Err(fault) => Err(fault),
+    }
+}
+
+/// What the inclusion asks, of which the left side was read, where it has the shape of the word.
+pub(crate) fn question_beside(
+    alloc: Global,
+    table: &Table,
+    claim: Inclusion,
+    sides: Sides,
+) -> Result<Question, ShapeFault>
+    requires right { claim.right < expr_count table.now.lines }
+    requires left { IsLeftRead table.now.lines claim.word claim.left sides }
+    ensures ok { IfOk result (λ question.
+        IsQuestion table.now.lines claim.word claim.left claim.right (question_of question)) }
+    ensures over { IfOk result (λ question. IsQuestionOver table.now.lines (question_of question)) }
+    ensures err { IfErr result (IsShapeFault ((question : AskedQuestion)
+        → IsQuestion table.now.lines claim.word claim.left claim.right question → ⊥)) }
+{
+    match with_right(alloc, table, claim, sides) {
         Ok(sides) => question_from(alloc, table, claim, sides),
         Err(fault) => Err(fault),
     }
@@ -137,7 +159,7 @@ fn question_from(
         → IsQuestion table.now.lines claim.word claim.left claim.right question → ⊥)) }
 {
     let _ = claim;
-    let Some(family) = one_family(table, &sides.askings) else {
+    let Some(family) = one_family(table, &sides.askings, None) else {
         return Err(ShapeFault::Shape);
     };
     let positive = in_order(alloc, &sides.askings, true)?;

@@ -1,31 +1,32 @@
 //! Verdicts of statements whose right sides grow.
 
-ghost use Rattle.std.specs.Prelude.{◌≡◌, ◌<◌, List, true, IfOk, IfErr, IfSome};
+ghost use Rattle.std.specs.Prelude.{◌≡◌, ◌<◌, List, true, IfOk, IfErr};
 ghost use Rattle.hv_lines.specs.Numbering.{SpeaksBelow, acts_count, expr_count};
-ghost use Rattle.hv_lines.specs.Shapes.{HasShape, asks_sides_after};
+ghost use Rattle.hv_lines.specs.Shapes.{HasShape, IsQuestion, asks_sides_after};
+ghost use Rattle.hv_lines.specs.Shapes.{Question as AskedQuestion};
 ghost use Rattle.hv_lines.specs.Verdicts.{IsVerdict, IsVerdictOfSets};
-ghost use Rattle.std.specs.List.{All, Contains};
+ghost use Rattle.std.specs.List.{Contains};
 ghost use Rattle.hv_lines.specs.declared.line.Line.{Line};
 ghost use Rattle.hv_basic.specs.Deciding.{IsQuestionOver};
 ghost use Rattle.hv_basic.specs.Faults.{IsShapeFault};
 ghost use Rattle.hv_basic.specs.Cases.{lines_in, setting_in};
 ghost use Rattle.hv_basic.specs.Sharing.{IsKeptFor, IsShared};
 ghost use Rattle.hv_basic.specs.Working.Asked.{AreOperands};
-ghost use Rattle.hv_basic.specs.Working.Gathered.{AreLeftAskings, IsLeftSide};
+ghost use Rattle.hv_basic.specs.Working.Gathered.{IsLeftRead};
 ghost use Rattle.hv_basic.specs.Working.Sharing.{IsAskedBy, IsVerdictOfSub};
 ghost use Rattle.hv_basic.specs.declared.literals.Asking.{Asking};
 ghost use Rattle.hv_basic.specs.Working.Views.{question_of};
 
 use crate::case::Case;
-use crate::families::family_beside;
+use crate::families::one_family;
 use crate::lefts::{asks_sides_after, left_of};
 use crate::literals::Asking;
 use crate::order::in_order;
 use crate::rights::keep_right;
-use crate::shapes::{MOST_OPERANDS, ShapeFault, shape};
+use crate::shapes::{MOST_OPERANDS, ShapeFault, question_beside, shape};
 use crate::shared::{Kept, Shared};
 use crate::sides::{Inclusion, Sides};
-use crate::verdicts::{decide_on, decide_sets};
+use crate::verdicts::{decide_on, decide_sets, decide_whole};
 use hv_lines::{Statement, Table, Verdict, Word};
 use hv_sets::Scratch;
 use std::alloc::{AllocError, Global};
@@ -49,40 +50,94 @@ pub fn verdict_of(
         → ⊥)) }
     ensures shared { IsShared (lines_in case.now) shared.new }
 {
-    if let Statement::Sub(left, right) = statement {
-        let claim = Inclusion {
-            word,
-            left: *left,
-            right: *right,
-        };
-        if let Some(verdict) = verdict_by_kept(alloc, case, shared, claim)? {
-            return Ok(verdict);
-        }
+    match statement {
+        Statement::Sub(left, right) => match word {
+            Word::B4 => verdict_by_shape(alloc, case, shared, statement, word),
+            _ => {
+                let claim = Inclusion {
+                    word,
+                    left: *left,
+                    right: *right,
+                };
+                match verdict_of_sides(alloc, case, shared, claim) {
+                    Ok(verdict) => Ok(verdict),
+                    Err(fault) => Err(fault),
+                }
+            }
+        },
+        _ => verdict_by_shape(alloc, case, shared, statement, word),
     }
+}
+
+/// The verdict of a statement that isn't one of sets over one family.
+fn verdict_by_shape(
+    alloc: Global,
+    case: &Case<'_>,
+    shared: &mut Shared,
+    statement: &Statement,
+    word: Word,
+) -> Result<Verdict, ShapeFault>
+    requires speaks { SpeaksBelow (acts_count (lines_in case.now)) (expr_count (lines_in case.now))
+        statement.now }
+    requires shared { IsShared (lines_in case.now) shared.old }
+    ensures answer { IfOk result (IsVerdict (setting_in case.now) (lines_in case.now)
+        statement.now word) }
+    ensures err { IfErr result (IsShapeFault (HasShape (lines_in case.now) statement.now word
+        → ⊥)) }
+    ensures shared { IsShared (lines_in case.now) shared.new }
+{
     let basic = shape(alloc, case.table, statement, word)?;
     let verdict = decide_on(alloc, case, &basic, &mut shared.scratch)?;
     Ok(verdict)
 }
 
-/// The verdict of an inclusion by what is kept, if what its sides ask can be told so.
-fn verdict_by_kept(
+/// The verdict of an inclusion of sets over one family.
+fn verdict_of_sides(
     alloc: Global,
     case: &Case<'_>,
     shared: &mut Shared,
     claim: Inclusion,
-) -> Result<Option<Verdict>, AllocError>
+) -> Result<Verdict, ShapeFault>
     requires left { claim.left < expr_count (lines_in case.now) }
     requires right { claim.right < expr_count (lines_in case.now) }
     requires shared { IsShared (lines_in case.now) shared.old }
-    ensures answer { IfOk result (λ found. IfSome found (IsVerdictOfSub (setting_in case.now)
-        (lines_in case.now) claim.word claim.left claim.right)) }
+    ensures answer { IfOk result (IsVerdictOfSub (setting_in case.now) (lines_in case.now)
+        claim.word claim.left claim.right) }
+    ensures err { IfErr result (IsShapeFault ((question : AskedQuestion)
+        → IsQuestion (lines_in case.now) claim.word claim.left claim.right question → ⊥)) }
     ensures shared { IsShared (lines_in case.now) shared.new }
 {
-    if !ask_by_kept(alloc, case, &mut shared.kept, claim)? {
-        return Ok(None);
+    match left_of(alloc, case.table, claim.word, claim.left) {
+        Ok(sides) => verdict_beside(alloc, case, shared, claim, sides),
+        Err(fault) => Err(fault),
     }
-    let verdict = decide_kept(alloc, case, &mut shared.kept, &mut shared.scratch)?;
-    Ok(Some(verdict))
+}
+
+/// The same, of which the left side was read: by what is kept, if what its sides ask can be told
+/// so, and else by the leaves of its right side.
+fn verdict_beside(
+    alloc: Global,
+    case: &Case<'_>,
+    shared: &mut Shared,
+    claim: Inclusion,
+    sides: Sides,
+) -> Result<Verdict, ShapeFault>
+    requires right { claim.right < expr_count (lines_in case.now) }
+    requires left { IsLeftRead (lines_in case.now) claim.word claim.left sides }
+    requires shared { IsShared (lines_in case.now) shared.old }
+    ensures answer { IfOk result (IsVerdictOfSub (setting_in case.now) (lines_in case.now)
+        claim.word claim.left claim.right) }
+    ensures err { IfErr result (IsShapeFault ((question : AskedQuestion)
+        → IsQuestion (lines_in case.now) claim.word claim.left claim.right question → ⊥)) }
+    ensures shared { IsShared (lines_in case.now) shared.new }
+{
+    if ask_by_kept(alloc, case, &mut shared.kept, claim, &sides)? {
+        let verdict = decide_kept(alloc, case, &mut shared.kept, &mut shared.scratch)?;
+        return Ok(verdict);
+    }
+    let question = question_beside(alloc, case.table, claim, sides)?;
+    let verdict = decide_whole(alloc, case, &question, &mut shared.scratch)?;
+    Ok(verdict)
 }
 
 /// Puts what the inclusion asks beside what is kept, if its right side can be kept and all that its
@@ -92,23 +147,19 @@ fn ask_by_kept(
     case: &Case<'_>,
     kept: &mut Kept,
     claim: Inclusion,
+    sides: &Sides,
 ) -> Result<bool, AllocError>
-    requires left { claim.left < expr_count (lines_in case.now) }
     requires right { claim.right < expr_count (lines_in case.now) }
+    requires left { IsLeftRead (lines_in case.now) claim.word claim.left sides.now }
     requires kept { IsShared (lines_in case.now) kept.old }
     ensures kept { IsShared (lines_in case.now) kept.new }
     ensures asked { IfOk result (λ yes. yes ≡ true
         → IsAskedBy (lines_in case.now) claim.word claim.left claim.right kept.new) }
 {
-    let table = case.table;
     if !keep_right(alloc, case, kept, claim.right, asks_sides_after(claim.word))? {
         return Ok(false);
     }
-    match left_of(alloc, table, claim.word, claim.left) {
-        Ok(sides) => ask(alloc, table, kept, claim, sides),
-        Err(ShapeFault::Shape) => Ok(false),
-        Err(ShapeFault::Memory) => Err(AllocError),
-    }
+    ask(alloc, case.table, kept, claim, sides)
 }
 
 /// Puts what the left side asks beside what is kept of the right side.
@@ -117,13 +168,11 @@ fn ask(
     table: &Table,
     kept: &mut Kept,
     claim: Inclusion,
-    sides: Sides,
+    sides: &Sides,
 ) -> Result<bool, AllocError>
     requires right { IsKeptFor table.now.lines kept.old claim.right }
     requires after { kept.old.after ≡ asks_sides_after claim.word }
-    requires side { IsLeftSide table.now.lines claim.word claim.left sides.acts }
-    requires askings { AreLeftAskings table.now.lines claim.word claim.left sides.askings.items }
-    requires below { All (λ asking. asking.set < expr_count table.now.lines) sides.askings.items }
+    requires left { IsLeftRead table.now.lines claim.word claim.left sides.now }
     ensures kept { IsKeptFor table.now.lines kept.new claim.right }
     ensures root { kept.new.root ≡ kept.old.root }
     ensures asked { IfOk result (λ yes. yes ≡ true
@@ -133,7 +182,7 @@ fn ask(
     if !are_positive(&sides.askings) {
         return Ok(false);
     }
-    let Some(family) = family_beside(table, &sides.askings, kept.family) else {
+    let Some(family) = one_family(table, &sides.askings, kept.family) else {
         return Ok(false);
     };
     let positive = in_order(alloc, &sides.askings, true)?;

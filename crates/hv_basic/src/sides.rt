@@ -5,10 +5,10 @@ ghost use Rattle.std.specs.List.{All};
 ghost use Rattle.hv_lines.specs.Numbering.{expr_count};
 ghost use Rattle.hv_lines.specs.Shapes.{HasSides};
 ghost use Rattle.hv_basic.specs.Faults.{IsShapeFault};
-ghost use Rattle.hv_basic.specs.Working.Gathered.{AreAskings, AreLeftAskings, IsLeftSide};
+ghost use Rattle.hv_basic.specs.Working.Gathered.{AreAskings, IsLeftRead};
 
 use crate::leaves::{Side, leaves};
-use crate::lefts::{asks_sides_after, left_of};
+use crate::lefts::asks_sides_after;
 use crate::literals::{Asking, Others, gather};
 use crate::shapes::ShapeFault;
 use hv_lines::{Table, Word};
@@ -29,36 +29,16 @@ pub(crate) struct Sides {
     pub acts: Option<usize>,
 }
 
-/// What the two sides of the statement ask about, where they have the shape of the word.
-pub(crate) fn sides_of(alloc: Global, table: &Table, claim: Inclusion) -> Result<Sides, ShapeFault>
-    requires left { claim.left < expr_count table.now.lines }
-    requires right { claim.right < expr_count table.now.lines }
-    ensures sides { IfOk result (λ sides.
-        HasSides table.now.lines claim.word claim.left claim.right sides.acts) }
-    ensures askings { IfOk result (λ sides.
-        AreAskings table.now.lines claim.word claim.left claim.right sides.askings.items) }
-    ensures below { IfOk result (λ sides.
-        All (λ asking. asking.set < expr_count table.now.lines) sides.askings.items) }
-    ensures err { IfErr result (IsShapeFault ((acts : Option ℕ)
-        → HasSides table.now.lines claim.word claim.left claim.right acts → ⊥)) }
-{
-    match left_of(alloc, table, claim.word, claim.left) {
-        Ok(sides) => with_right(alloc, table, claim, sides),
-        Err(fault) => Err(fault),
-    }
-}
-
 /// What the left side asks about, and what the right one asks besides, where its leaves are
 /// literals.
-fn with_right(
+pub(crate) fn with_right(
     alloc: Global,
     table: &Table,
     claim: Inclusion,
     sides: Sides,
 ) -> Result<Sides, ShapeFault>
     requires right { claim.right < expr_count table.now.lines }
-    requires side { IsLeftSide table.now.lines claim.word claim.left sides.acts }
-    requires askings { AreLeftAskings table.now.lines claim.word claim.left sides.askings.items }
+    requires left { IsLeftRead table.now.lines claim.word claim.left sides }
     ensures sides { IfOk result (λ sides.
         HasSides table.now.lines claim.word claim.left claim.right sides.acts) }
     ensures askings { IfOk result (λ sides.

@@ -1,6 +1,6 @@
 //! Verdicts of basic statements.
 
-ghost use Rattle.std.specs.Prelude.{◌≡◌, ◌<◌, ◌≤◌, ◌↔◌, ℕ, List, Bool, IsTrue, IfOk, length, map};
+ghost use Rattle.std.specs.Prelude.{◌≡◌, ◌<◌, ◌≤◌, ◌↔◌, List, IsTrue, IfOk, length, map};
 ghost use Rattle.std.specs.List.{All};
 ghost use Rattle.hv_task.specs.Strips.{atoms};
 ghost use Rattle.hv_sets.specs.Query.{CanAnchor, HasAnchor};
@@ -113,7 +113,7 @@ fn decide_acts(
 }
 
 /// The verdict on a question.
-fn decide_whole(
+pub(crate) fn decide_whole(
     alloc: Global,
     case: &Case<'_>,
     question: &Question,

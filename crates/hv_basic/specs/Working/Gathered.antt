@@ -1,7 +1,9 @@
 -- What the literals of a statement ask about.
-use Rattle.std.specs.Prelude.{◌≡◌, ◌↔◌, ◌⊎◌, ℕ, Bool, true, false, not, List, Option, None, Some}
-use Rattle.std.specs.List.{Contains}
+use Rattle.std.specs.Prelude.{◌≡◌, ◌<◌, ◌↔◌, ◌⊎◌, ℕ, Bool, true, false, not, List, Option, None}
+use Rattle.std.specs.Prelude.{Some}
+use Rattle.std.specs.List.{All, Contains}
 use Rattle.hv_lines.specs.Literals.{IsLiteral}
+use Rattle.hv_lines.specs.Numbering.{expr_count}
 use Rattle.hv_lines.specs.Shapes.{IsAndLeaf, IsAsked, IsLeftLeaf, IsLiteralOf, IsOfFamily, IsStep}
 use Rattle.hv_lines.specs.Shapes.{IsWithinFamily, asks_step_after}
 use Rattle.hv_lines.specs.declared.family.FormulaFamily.{FormulaFamily}
@@ -13,6 +15,7 @@ use Rattle.hv_basic.specs.declared.literals.Asking.{Asking}
 use Rattle.hv_basic.specs.declared.literals.Literal.{Literal}
 use Rattle.hv_basic.specs.declared.literals.Others.{Others}
 use Rattle.hv_basic.specs.declared.literals.Others.TheVariants as O
+use Rattle.hv_basic.specs.declared.sides.Sides.{Sides}
 
 -- the leaf is the literal
 abbrev pub IsThe : List Line → ℕ → Literal → Type 0
@@ -67,6 +70,13 @@ abbrev pub AreLeftAskings : List Line → Word → ℕ → List Asking → Type 
 AreLeftAskings lines word left askings = (asking : Asking) → Contains askings asking
     ↔ ((leaf : ℕ) × IsLeftLeaf lines word left leaf asking.after
     × IsLiteralOf lines leaf asking.set asking.positive)
+
+-- the left side has the shape of the word, and was read: this is all that it asks about, each of
+-- which has a line, and the action set of its step if it has one
+pub record IsLeftRead (lines : List Line) (word : Word) (left : ℕ) (sides : Sides) : Type 0 where
+  pub side : IsLeftSide lines word left sides.acts
+  pub askings : AreLeftAskings lines word left sides.askings.items
+  pub below : All (λ asking. asking.set < expr_count lines) sides.askings.items
 
 -- the leaf is the step that the word asks for, and the intersection leaves of its set are literals
 abbrev pub IsLiteralStep : List Line → Word → ℕ → ℕ → ℕ → Type 0

@@ -30,6 +30,11 @@ IsFamilyWith None next both = both ≡ next
 IsFamilyWith (Some family) None both = both ≡ Some family
 IsFamilyWith (Some family) (Some next) both = (family ≡ next) × (both ≡ Some family)
 
+-- both have a family, and not the same one
+abbrev pub AreOtherFamilies : Option FormulaFamily → Option FormulaFamily → Type 0
+AreOtherFamilies (Some first) (Some second) = first ≡ second → ⊥
+AreOtherFamilies _ _ = ⊥
+
 -- the leaves were added to what is asked about
 abbrev pub AreAddedTo : Bool → List ℕ → Askings → Askings → Type 0
 AreAddedTo after leaves old new =

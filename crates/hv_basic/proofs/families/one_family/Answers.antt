@@ -1,18 +1,31 @@
-use Rattle.std.proofs.Common.{◌≡◌, false, true, refl}
-use Rattle.hv_basic.proofs.Membership.{constants_alone, family_found, family_missed}
+use Rattle.std.proofs.Common.{arith, refl}
+use Rattle.hv_basic.proofs.OneFamily.{constants_alone, family_fails, family_more, family_whole}
+use Rattle.hv_basic.proofs.OneFamily.{first_none}
 use Rattle.hv_basic.proofs.families.one_family.Goals as goal
+
+pub loop-asking-init : goal.loop-asking-init
+loop-asking-init c =
+    first_none c.args.table.now.lines c.args.askings.now c.args.before 0 refl c.args.before refl
+
+pub loop-asking-preserved : goal.loop-asking-preserved
+loop-asking-preserved c =
+    family_more c.args.table.now.lines c.args.askings.now c.args.before c.loop-asking.asking-index
+    (omega arith) _ c.expr.result.now c.expr.ensures.says c.loop-asking.family c.family_of.result
+    c.in-Some.both c.family_of.ensures c.in-Some.ensures c.loop-asking.invariant
 
 pub returns-in-None : goal.returns-in-None
 returns-in-None c =
-    constants_alone c.args.table.now.lines c.args.askings.now c.expr_count-count.ensures.table
-    c.requires c.in-None.ensures
+    family_fails c.args.table.now.lines c.args.askings.now c.args.before c.loop-asking.asking-index
+    (omega arith) _ c.expr.result.now c.expr.ensures.says c.loop-asking.family c.family_of.result
+    c.family_of.ensures c.in-None.ensures c.loop-asking.invariant
 
-pub returns-then-are_within : goal.returns-then-are_within
-returns-then-are_within c =
-    family_found c.args.table.now.lines c.args.askings.now c.in-Some.family c.in-Some.ensures
-    (c.if-are_within.ensures.0 refl)
+pub returns-in-Some-family : goal.returns-in-Some-family
+returns-in-Some-family c =
+    family_whole c.args.table.now.lines c.args.askings.now c.args.before c.loop-asking.asking-index
+    (omega arith) c.loop-asking.family c.in-Some-family.one c.in-Some-family.is c.loop-asking.invariant
 
-pub returns-else-are_within : goal.returns-else-are_within
-returns-else-are_within c =
-    family_missed c.args.table.now.lines c.args.askings.now c.in-Some.family c.in-Some.ensures
-    (λ all. let both : false ≡ true = c.if-are_within.ensures.1 all in cc (both))
+pub returns-in-None-family : goal.returns-in-None-family
+returns-in-None-family c =
+    constants_alone c.args.table.now.lines c.args.askings.now c.args.before
+    c.loop-asking.asking-index (omega arith) c.loop-asking.family c.in-None-family.is
+    c.loop-asking.invariant

@@ -1,51 +1,36 @@
-use Rattle.std.proofs.Common.{true, subst}
+use Rattle.std.proofs.Common.{[], true, subst}
 use Rattle.hv_lines.specs.Shapes.{asks_sides_after}
 use Rattle.hv_basic.specs.Working.Gathered.{AreGathered, AreOthers}
 use Rattle.hv_basic.specs.declared.literals.Others.TheVariants as O
 use Rattle.hv_basic.proofs.LeftSides.{alone_fails, askings_alone, askings_step, left_alone}
-use Rattle.hv_basic.proofs.LeftSides.{left_below, left_step, more_fails, step_fails}
+use Rattle.hv_basic.proofs.LeftSides.{left_read, left_step, more_fails, step_fails}
 use Rattle.hv_basic.proofs.Siding.{fault_of}
 use Rattle.hv_basic.proofs.lefts.left_of.Goals as goal
 
-pub returns-in-B1-clause-side : goal.returns-in-B1-clause-side
-returns-in-B1-clause-side c =
-    left_alone c.args.table.now.lines c.args.word c.args.left c.in_ok-lefts.lefts.items
-    c.in_ok-lefts.ensures.leaves
-    (subst (λ xs. AreOthers c.args.table.now.lines xs O.None) c.deref.ensures.value
-    (subst (AreOthers c.args.table.now.lines c.deref.result.now) c.in-None.is
-    c.in_ok-gather.ensures.others)) c.in-B1.is
-
-pub returns-in-B1-clause-askings : goal.returns-in-B1-clause-askings
-returns-in-B1-clause-askings c =
-    askings_alone c.args.table.now.lines c.args.word c.args.left c.in_ok-lefts.lefts.items
-    c.in_ok-lefts.ensures.leaves c.gather.new.into.items
-    (subst (λ old. AreGathered c.args.table.now.lines c.in_ok-lefts.lefts.items true
-    (asks_sides_after c.args.word) old c.gather.new.into.items) c.new-askings.ensures.items
-    (subst (λ xs. AreGathered c.args.table.now.lines xs true (asks_sides_after c.args.word)
+pub returns-in-B1-clause-ok : goal.returns-in-B1-clause-ok
+returns-in-B1-clause-ok c =
+    let lines = c.args.table.now.lines in
+    let lefts = c.in_ok-lefts.lefts.items in
+    let all : AreOthers lines lefts O.None =
+    subst (λ xs. AreOthers lines xs O.None) c.deref.ensures.value
+    (subst (AreOthers lines c.deref.result.now) c.in-None.is c.in_ok-gather.ensures.others) in
+    let gathered : AreGathered lines lefts true (asks_sides_after c.args.word) []
+    c.gather.new.into.items =
+    subst (λ old. AreGathered lines lefts true (asks_sides_after c.args.word) old
+    c.gather.new.into.items) c.new-askings.ensures.items
+    (subst (λ xs. AreGathered lines xs true (asks_sides_after c.args.word)
     c.new-askings.result.items c.gather.new.into.items) c.deref.ensures.value
-    (subst (λ b. AreGathered c.args.table.now.lines c.deref.result.now true b
+    (subst (λ b. AreGathered lines c.deref.result.now true b
     c.new-askings.result.items c.gather.new.into.items) c.asks_sides_after.ensures
-    c.in_ok-gather.ensures.gathered))) c.in-B1.is
-
-pub returns-in-B1-clause-below : goal.returns-in-B1-clause-below
-returns-in-B1-clause-below c =
-    left_below c.args.table.now.lines c.args.word c.args.left c.gather.new.into.items
-    c.expr_count-count.ensures.table
-    (askings_alone c.args.table.now.lines c.args.word c.args.left c.in_ok-lefts.lefts.items
-    c.in_ok-lefts.ensures.leaves c.gather.new.into.items
-    (subst (λ old. AreGathered c.args.table.now.lines c.in_ok-lefts.lefts.items true
-    (asks_sides_after c.args.word) old c.gather.new.into.items) c.new-askings.ensures.items
-    (subst (λ xs. AreGathered c.args.table.now.lines xs true (asks_sides_after c.args.word)
-    c.new-askings.result.items c.gather.new.into.items) c.deref.ensures.value
-    (subst (λ b. AreGathered c.args.table.now.lines c.deref.result.now true b
-    c.new-askings.result.items c.gather.new.into.items) c.asks_sides_after.ensures
-    c.in_ok-gather.ensures.gathered))) c.in-B1.is)
+    c.in_ok-gather.ensures.gathered)) in
+    left_read lines c.args.word c.args.left _ c.expr_count-count.ensures.table
+    (left_alone lines c.args.word c.args.left lefts c.in_ok-lefts.ensures.leaves all c.in-B1.is)
+    (askings_alone lines c.args.word c.args.left lefts c.in_ok-lefts.ensures.leaves
+    c.gather.new.into.items gathered c.in-B1.is)
 
 pub returns-in-None : goal.returns-in-None
 returns-in-None c = record {
-  side = tt;
-  askings = tt;
-  below = tt;
+  ok = tt;
   err = alone_fails c.args.table.now.lines c.args.word c.args.left c.in_ok-lefts.lefts.items
       c.in_ok-lefts.ensures.leaves
       (subst (λ xs. AreOthers c.args.table.now.lines xs O.None) c.deref.ensures.value
@@ -53,49 +38,27 @@ returns-in-None c = record {
       c.in_ok-gather.ensures.others)) c.in_default.not-B1;
 }
 
-pub returns-in-Ok-clause-side : goal.returns-in-Ok-clause-side
-returns-in-Ok-clause-side c =
-    left_step c.args.table.now.lines c.args.word c.args.left c.in_ok-lefts.lefts.items
-    c.in_ok-lefts.ensures.leaves c.in-One.leaf
-    (subst (λ xs. AreOthers c.args.table.now.lines xs (O.One c.in-One.leaf)) c.deref.ensures.value
-    (subst (AreOthers c.args.table.now.lines c.deref.result.now) c.in-One.is
-    c.in_ok-gather.ensures.others))
-    c.in-Ok.acts c.gather.new.into.items c.add_step.new.into.items c.in-Ok.ensures.ok
-
-pub returns-in-Ok-clause-askings : goal.returns-in-Ok-clause-askings
-returns-in-Ok-clause-askings c =
-    askings_step c.args.table.now.lines c.args.word c.args.left c.in_ok-lefts.lefts.items
-    c.in_ok-lefts.ensures.leaves c.gather.new.into.items
-    (subst (λ old. AreGathered c.args.table.now.lines c.in_ok-lefts.lefts.items true
-    (asks_sides_after c.args.word) old c.gather.new.into.items) c.new-askings.ensures.items
-    (subst (λ xs. AreGathered c.args.table.now.lines xs true (asks_sides_after c.args.word)
+pub returns-in-Ok-clause-ok : goal.returns-in-Ok-clause-ok
+returns-in-Ok-clause-ok c =
+    let lines = c.args.table.now.lines in
+    let lefts = c.in_ok-lefts.lefts.items in
+    let one : AreOthers lines lefts (O.One c.in-One.leaf) =
+    subst (λ xs. AreOthers lines xs (O.One c.in-One.leaf)) c.deref.ensures.value
+    (subst (AreOthers lines c.deref.result.now) c.in-One.is c.in_ok-gather.ensures.others) in
+    let gathered : AreGathered lines lefts true (asks_sides_after c.args.word) []
+    c.gather.new.into.items =
+    subst (λ old. AreGathered lines lefts true (asks_sides_after c.args.word) old
+    c.gather.new.into.items) c.new-askings.ensures.items
+    (subst (λ xs. AreGathered lines xs true (asks_sides_after c.args.word)
     c.new-askings.result.items c.gather.new.into.items) c.deref.ensures.value
-    (subst (λ b. AreGathered c.args.table.now.lines c.deref.result.now true b
+    (subst (λ b. AreGathered lines c.deref.result.now true b
     c.new-askings.result.items c.gather.new.into.items) c.asks_sides_after.ensures
-    c.in_ok-gather.ensures.gathered)))
-    c.in-One.leaf c.in-Ok.acts c.add_step.new.into.items
-    (subst (λ xs. AreOthers c.args.table.now.lines xs (O.One c.in-One.leaf)) c.deref.ensures.value
-    (subst (AreOthers c.args.table.now.lines c.deref.result.now) c.in-One.is
-    c.in_ok-gather.ensures.others))
-    c.in-Ok.ensures.ok
-
-pub returns-in-Ok-clause-below : goal.returns-in-Ok-clause-below
-returns-in-Ok-clause-below c =
-    left_below c.args.table.now.lines c.args.word c.args.left c.add_step.new.into.items
-    c.expr_count-count.ensures.table
-    (askings_step c.args.table.now.lines c.args.word c.args.left c.in_ok-lefts.lefts.items
-    c.in_ok-lefts.ensures.leaves c.gather.new.into.items
-    (subst (λ old. AreGathered c.args.table.now.lines c.in_ok-lefts.lefts.items true
-    (asks_sides_after c.args.word) old c.gather.new.into.items) c.new-askings.ensures.items
-    (subst (λ xs. AreGathered c.args.table.now.lines xs true (asks_sides_after c.args.word)
-    c.new-askings.result.items c.gather.new.into.items) c.deref.ensures.value
-    (subst (λ b. AreGathered c.args.table.now.lines c.deref.result.now true b
-    c.new-askings.result.items c.gather.new.into.items) c.asks_sides_after.ensures
-    c.in_ok-gather.ensures.gathered)))
-    c.in-One.leaf c.in-Ok.acts c.add_step.new.into.items
-    (subst (λ xs. AreOthers c.args.table.now.lines xs (O.One c.in-One.leaf)) c.deref.ensures.value
-    (subst (AreOthers c.args.table.now.lines c.deref.result.now) c.in-One.is
-    c.in_ok-gather.ensures.others))
+    c.in_ok-gather.ensures.gathered)) in
+    left_read lines c.args.word c.args.left _ c.expr_count-count.ensures.table
+    (left_step lines c.args.word c.args.left lefts c.in_ok-lefts.ensures.leaves c.in-One.leaf one
+    c.in-Ok.acts c.gather.new.into.items c.add_step.new.into.items c.in-Ok.ensures.ok)
+    (askings_step lines c.args.word c.args.left lefts c.in_ok-lefts.ensures.leaves
+    c.gather.new.into.items gathered c.in-One.leaf c.in-Ok.acts c.add_step.new.into.items one
     c.in-Ok.ensures.ok)
 
 pub returns-in-One-clause-err : goal.returns-in-One-clause-err

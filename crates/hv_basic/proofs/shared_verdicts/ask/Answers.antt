@@ -10,13 +10,13 @@ pub returns-clause-asked : goal.returns-clause-asked
 returns-clause-asked c = λ _. record {
   is =
       question_by c.args.table.now.lines c.args.claim.word c.args.claim.left c.args.claim.right
-      c.args.sides.askings.items c.args.kept.now.after c.args.kept.now.family
+      c.args.sides.now.askings.items c.args.kept.now.after c.args.kept.now.family
       c.args.kept.now.question.negative.items c.args.kept.now.query.negative c.requires.right.plain
       c.requires.right.leaves c.requires.after
-      c.requires.askings
+      c.requires.left.askings
       (subst (λ xs. (a : Asking) → Contains xs a → a.positive ≡ true) c.deref.ensures.value
       (c.if-not-are_positive.ensures refl))
-      c.args.sides.acts c.in-Some.family c.in_ok-positive.positive.items c.requires.side
+      c.args.sides.now.acts c.in-Some.family c.in_ok-positive.positive.items c.requires.left.side
       (subst (λ xs. IsFamilyBeside c.args.table.now.lines xs c.args.kept.now.family
       c.in-Some.family) c.deref-2.ensures.value c.in-Some.ensures)
       c.in_ok-positive.ensures.rises

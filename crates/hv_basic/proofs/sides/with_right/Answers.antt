@@ -12,13 +12,13 @@ returns-in-None-clause-sides c =
     subst (λ xs. AreOthers lines xs O.None) c.deref.ensures.value
     (subst (AreOthers lines c.deref.result.now) c.in-None.is c.in_ok-gather.ensures.others) in
     sides_from lines c.args.claim.word c.args.claim.left c.args.claim.right
-    c.in_ok-rights.rights.items c.in_ok-rights.ensures.leaves c.args.sides.acts c.requires.side all
+    c.in_ok-rights.rights.items c.in_ok-rights.ensures.leaves c.args.sides.acts c.requires.left.side all
 
 pub returns-in-None-clause-askings : goal.returns-in-None-clause-askings
 returns-in-None-clause-askings c =
     askings_from c.args.table.now.lines c.args.claim.word c.args.claim.left c.args.claim.right
     c.in_ok-rights.rights.items c.in_ok-rights.ensures.leaves c.args.sides.askings.items
-    c.gather.new.into.items c.requires.askings
+    c.gather.new.into.items c.requires.left.askings
     (subst (λ xs. AreGathered c.args.table.now.lines xs false (asks_sides_after c.args.claim.word)
     c.args.sides.askings.items c.gather.new.into.items) c.deref.ensures.value
     (subst (λ b. AreGathered c.args.table.now.lines c.deref.result.now false b
@@ -31,7 +31,7 @@ returns-in-None-clause-below c =
     c.gather.new.into.items c.expr_count-count.ensures.table
     (askings_from c.args.table.now.lines c.args.claim.word c.args.claim.left c.args.claim.right
     c.in_ok-rights.rights.items c.in_ok-rights.ensures.leaves c.args.sides.askings.items
-    c.gather.new.into.items c.requires.askings
+    c.gather.new.into.items c.requires.left.askings
     (subst (λ xs. AreGathered c.args.table.now.lines xs false (asks_sides_after c.args.claim.word)
     c.args.sides.askings.items c.gather.new.into.items) c.deref.ensures.value
     (subst (λ b. AreGathered c.args.table.now.lines c.deref.result.now false b

@@ -1,8 +1,0 @@
-use Rattle.hv_basic.proofs.Siding.{fault_of, left_part}
-use Rattle.hv_basic.proofs.sides.sides_of.Goals as goal
-
-pub returns-in-Err-clause-err : goal.returns-in-Err-clause-err
-returns-in-Err-clause-err c =
-    fault_of _ _
-    (λ out acts sides. out acts (left_part c.args.table.now.lines c.args.claim.word
-    c.args.claim.left c.args.claim.right acts sides)) c.in-Err.fault c.in-Err.ensures.err
