@@ -6,6 +6,7 @@ pub mod OneFamily
 pub mod Ordering
 pub mod Siding
 pub mod Walking
+pub mod Listed
 pub mod Storing
 pub mod Querying
 pub mod Growing

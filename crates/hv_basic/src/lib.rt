@@ -16,9 +16,10 @@
 //! - Else `shapes::question_beside` makes the question: `sides` reads the leaves of the right side
 //!   too, `families` looks for the one family, and `order` puts both parts in order.
 //! - Either way `verdicts::decide_sets` decides the question. It makes the query of it by the names
-//!   that the `store` keeps, and `actions` lists the actions of the progression, by the flags of
-//!   `acts`. For each of them `walk` asks the query of the store of the family, and the first query
-//!   that passes the budget or has a counterexample decides.
+//!   that the `store` keeps, and `actions` lists the actions of the progression: those of a list
+//!   that rises as they stand there, else by the flags of `acts`. For each of them `walk` asks the
+//!   query of the store of the family, and the first query that passes the budget or has a
+//!   counterexample decides.
 //!
 //! Statements with `b1` and `b3` go the same way, without a step or with a regression. Those with
 //! `b4`, of two families, are decided in `mixed`, over the formulas that `formula` finds, and those
