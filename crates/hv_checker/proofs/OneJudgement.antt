@@ -66,7 +66,7 @@ module _ (setting : Setting) where
       ∙ (ap (λ ls. other ∷ ls) (accepts_once older before earlier accepts takes) ∙ sym put))
 
   -- a piece that is skipped passes each test, and so does one that spells a good line
-  skipped_passes : (lines : List Line) (bytes : List ℕ) → IsSkipped bytes → (test : Test)
+  pub skipped_passes : (lines : List Line) (bytes : List ℕ) → IsSkipped bytes → (test : Test)
       → Passes setting lines (Some bytes) test
   skipped_passes lines bytes skipped O.Length = tt
   skipped_passes lines bytes skipped test = inl skipped

@@ -181,7 +181,7 @@ first_law setting pieces judgement one =
 
 -- a reason that names no counterexample is one alone
 
-no_clash : (r last : Reason) → ((clash : Clash) → last ≡ R.False clash → ⊥)
+pub no_clash : (r last : Reason) → ((clash : Clash) → last ≡ R.False clash → ⊥)
     → without_state r ≡ last → r ≡ last
 no_clash R.Long last other same = same
 no_clash R.Grammar last other same = same
@@ -194,7 +194,7 @@ no_clash R.NotOffered last other same = same
 no_clash R.Budget last other same = same
 no_clash (R.False clash) last other same = absurd (other _ (sym same))
 
-as_it_is : (last : Reason) → ((clash : Clash) → last ≡ R.False clash → ⊥)
+pub as_it_is : (last : Reason) → ((clash : Clash) → last ≡ R.False clash → ⊥)
     → without_state last ≡ last
 as_it_is R.Long other = refl
 as_it_is R.Grammar other = refl
@@ -424,14 +424,14 @@ module _ (setting : Setting) where
     up_to J.NoConclusion = ((λ x. none_accepted x.lines x.accepted), λ x. absurd x)
 
   -- why a piece behind the end is refused
-  behind_why : (bad : LineText) → (IsPassedOver bad → ⊥) → (lines : List Line)
+  pub behind_why : (bad : LineText) → (IsPassedOver bad → ⊥) → (lines : List Line)
       → IsReason setting lines (judged_as P.PastEnd bad) (reason_behind bad)
   behind_why None loud lines = long_reason setting lines
   behind_why (Some bytes) loud lines =
       subst (λ bs. IsReason setting lines (Some bs) R.Grammar) (sym (loud_behind bytes loud))
       (grammar_reason setting lines last_mark last_stays none_last)
 
-behind_plain : (bad : LineText) (clash : Clash) → reason_behind bad ≡ R.False clash → ⊥
+pub behind_plain : (bad : LineText) (clash : Clash) → reason_behind bad ≡ R.False clash → ⊥
 behind_plain None clash is = absurd (cc)
 behind_plain (Some bytes) clash is = absurd (cc)
 

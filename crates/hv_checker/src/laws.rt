@@ -6,8 +6,13 @@ ghost use Rattle.hv_lines.specs.Judged.{IsPassedOver, Judged, JudgedInOrder, Jud
 ghost use Rattle.hv_lines.specs.Judged.{outline_of};
 ghost use Rattle.hv_lines.specs.Setting.{Setting};
 ghost use Rattle.hv_lines.specs.Versions.{first_mark, last_mark, part_of};
+ghost use Rattle.hv_lines.specs.declared.line.Line.{Line};
+ghost use Rattle.hv_lines.specs.declared.part.Part.TheVariants as P;
 ghost use Rattle.hv_lines.specs.declared.reason.Reason.TheVariants as R;
-ghost use Rattle.hv_checker.specs.Versions.{JudgedUpTo, NoneEnds, proof_version, reason_behind};
+ghost use Rattle.hv_checker.specs.Heard.{FeedsOn};
+ghost use Rattle.hv_checker.specs.Versions.{IsFedBehind, JudgedUpTo, NoneEnds, proof_version};
+ghost use Rattle.hv_checker.specs.Versions.{reason_behind};
+ghost use Rattle.hv_checker.specs.declared.piece.Fed.{Fed};
 
 /// Does nothing: its contract states that a list of pieces is judged in one way. Where two
 /// judgements hold of it, they are one, but for the state of a counterexample: the place of the
@@ -46,4 +51,14 @@ pub fn two_versions()
         → NoneEnds body
         → Judged setting (Some first_mark ∷ body) judgement
         ↔ JudgedUpTo setting (Some [] ∷ body) R.Grammar judgement }
+{}
+
+/// Does nothing: its contract states what `Checker::feed` says of one piece behind the line `end`
+/// of a closed proof, whatever the lines before it are.
+///
+/// An empty line or a comment is skipped. Any other piece is refused, as too long or as no line of
+/// a proof, and for no other reason. The accepted lines stay as they are.
+pub fn one_piece_behind()
+    ensures { (setting : Setting) (old new : List Line) (piece : LineText) (fed : Fed)
+        → FeedsOn setting P.PastEnd old new piece fed ↔ (IsFedBehind piece fed × (new ≡ old)) }
 {}

@@ -11,6 +11,6 @@ pub mod stop;
 
 pub use checker::Checker;
 pub use hv_lines::Reason;
-pub use laws::{one_judgement, two_versions};
+pub use laws::{one_judgement, one_piece_behind, two_versions};
 pub use piece::{End, Fed, Piece};
 pub use stop::Stop;
