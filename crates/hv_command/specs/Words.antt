@@ -23,6 +23,7 @@ as_number least most word number =
     cond (bytes_eq word (decimal number) && (nat_le least number && nat_le number most))
     (Some number) None
 
+-- the number that a word spells as a decimal, where it is within these bounds
 abbrev pub number_of : ℕ → ℕ → List ℕ → Option ℕ
 number_of least most word = as_number least most word (digits_value 10 word)
 

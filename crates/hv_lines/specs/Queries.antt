@@ -27,8 +27,7 @@ use Rattle.hv_lines.specs.declared.line.Line.TheVariants as L
 
 -- The stores of a proof: the formulas of each family, in the order of their lines.
 
--- the formulas of one `e` line: its Horn formula, its dual Horn formula, its 2CNF formula or its
--- explicit set, if it is one
+-- the Horn formula of one `e` line, if it is one
 abbrev pub horn_in : Expr → List (List (List Literal))
 horn_in (E.Constant constant) = []
 horn_in (E.Horn clauses) = clauses ∷ []
@@ -42,6 +41,7 @@ horn_in (E.Or left right) = []
 horn_in (E.After set by) = []
 horn_in (E.Before set by) = []
 
+-- its dual Horn formula, if it is one
 abbrev pub dual_in : Expr → List (List (List Literal))
 dual_in (E.Constant constant) = []
 dual_in (E.Horn clauses) = []
@@ -55,6 +55,7 @@ dual_in (E.Or left right) = []
 dual_in (E.After set by) = []
 dual_in (E.Before set by) = []
 
+-- its 2CNF formula, if it is one
 abbrev pub two_in : Expr → List (List (List Literal))
 two_in (E.Constant constant) = []
 two_in (E.Horn clauses) = []
@@ -68,6 +69,7 @@ two_in (E.Or left right) = []
 two_in (E.After set by) = []
 two_in (E.Before set by) = []
 
+-- its listed states, if it is an explicit set
 abbrev pub listed_in : Expr → List (List (List ℕ))
 listed_in (E.Constant constant) = []
 listed_in (E.Horn clauses) = []
@@ -88,17 +90,19 @@ collected formula_in (L.Acts id acts ∷ older) = collected formula_in older
 collected formula_in (L.Expr id expr ∷ older) = collected formula_in older ++ formula_in expr
 collected formula_in (L.Known id statement word premises ∷ older) = collected formula_in older
 
--- the Horn formulas, the dual Horn formulas, the 2CNF formulas and the explicit sets of the lines,
--- by number from 0
+-- the Horn formulas of the lines, by number from 0
 abbrev pub horns_of : List Line → List (List (List Literal))
 horns_of lines = collected horn_in lines
 
+-- the dual Horn formulas of the lines, by number from 0
 abbrev pub duals_of : List Line → List (List (List Literal))
 duals_of lines = collected dual_in lines
 
+-- the 2CNF formulas of the lines, by number from 0
 abbrev pub twos_of : List Line → List (List (List Literal))
 twos_of lines = collected two_in lines
 
+-- the explicit sets of the lines, by number from 0
 abbrev pub listed_of : List Line → List (List (List ℕ))
 listed_of lines = collected listed_in lines
 

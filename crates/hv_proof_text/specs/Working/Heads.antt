@@ -14,7 +14,7 @@ listed_by L.E L.T = Some D.Two
 listed_by L.E L.X = Some D.States
 listed_by _ _ = None
 
--- the letters of a head with this list behind it
+-- the first letter of a head with this list behind it: that of its line
 abbrev pub listed_letter : Listed → Letter
 listed_letter D.Actions = L.A
 listed_letter D.Horn = L.E
@@ -22,6 +22,7 @@ listed_letter D.Dual = L.E
 listed_letter D.Two = L.E
 listed_letter D.States = L.E
 
+-- the second letter of such a head: which list it is
 abbrev pub listed_kind : Listed → Letter
 listed_kind D.Actions = L.B
 listed_kind D.Horn = L.H

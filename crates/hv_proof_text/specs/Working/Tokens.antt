@@ -19,6 +19,7 @@ use Rattle.hv_proof_text.specs.declared.token.Letter.TheVariants as L
 use Rattle.hv_proof_text.specs.declared.token.Token.{Token}
 use Rattle.hv_proof_text.specs.declared.token.Token.TheVariants as T
 
+-- the field that is this letter
 abbrev pub letter_field : Letter → List ℕ
 letter_field L.A = codes "a"
 letter_field L.B = codes "b"
@@ -58,32 +59,40 @@ pub record AreTokens (tokens : List Token) (fields : List (List ℕ)) : Type 0 w
   pub each : All IsToken tokens
   pub same : map field_of tokens ≡ fields
 
+-- the token of a number
 abbrev pub number : ℕ → Token
 number n = T.Number n
 
+-- the token of a letter
 abbrev pub letter : Letter → Token
 letter l = T.Letter l
 
+-- the tokens of an action set, behind the identifier of its line
 abbrev pub acts_tokens : Acts → List Token
 acts_tokens A.All = letter L.A ∷ []
 acts_tokens (A.List actions) = letter L.B ∷ number (length actions) ∷ map number actions
 acts_tokens (A.Both left right) = letter L.U ∷ number left ∷ number right ∷ []
 
+-- the letter of a constant
 abbrev pub constant_letter : Constant → Letter
 constant_letter C.Empty = L.E
 constant_letter C.Start = L.I
 constant_letter C.Goal = L.G
 
+-- the token of a literal: the number of its atom plus 1, with a minus where it is negative
 abbrev pub literal_token : Literal → Token
 literal_token literal = cond literal.positive (T.Number (literal.atom + 1))
     (T.Minus (literal.atom + 1))
 
+-- the tokens of a clause: those of its literals, and 0
 abbrev pub clause_tokens : List Literal → List Token
 clause_tokens clause = map literal_token clause ++ number 0 ∷ []
 
+-- the tokens of a listed state: those of its atoms, and the mark of its end
 abbrev pub state_tokens : List ℕ → List Token
 state_tokens state = map number state ++ T.End ∷ []
 
+-- the tokens of an expression, behind the identifier of its line
 abbrev pub expr_tokens : Expr → List Token
 expr_tokens (E.Constant constant) = letter L.C ∷ letter (constant_letter constant) ∷ []
 expr_tokens (E.Horn clauses) = letter L.H ∷ number (length clauses) ∷ flat_map clause_tokens clauses
@@ -97,6 +106,7 @@ expr_tokens (E.Or left right) = letter L.U ∷ number left ∷ number right ∷ 
 expr_tokens (E.After set acts) = letter L.P ∷ number set ∷ number acts ∷ []
 expr_tokens (E.Before set acts) = letter L.R ∷ number set ∷ number acts ∷ []
 
+-- the tokens of a statement, between the identifier of its line and the word
 abbrev pub statement_tokens : Statement → List Token
 statement_tokens (S.Sub left right) = letter L.S ∷ number left ∷ number right ∷ []
 statement_tokens (S.ActSub left right) = letter L.A ∷ number left ∷ number right ∷ []
