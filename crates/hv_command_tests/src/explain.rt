@@ -1,12 +1,8 @@
 //! Proofs that are explained.
 
-use crate::short::{KEY_TASK, all_told, is_text, told_by, written};
-use std::alloc::{AllocError, Global};
-use std::process::Abort;
+use crate::by_nodes::{NEEDED, all_by_words, tells_missing};
+use crate::short::{KEY_TASK, all_told};
 use std::test::Fail;
-
-// The node of the states that don't have the key.
-const NODES: &[u8] = b"nodes 1\n2 1 0\n";
 
 // Proofs for the key task, and the answers to them.
 static ROWS: [(&str, &str); 9] = [
@@ -61,23 +57,16 @@ static ROWS: [(&str, &str); 9] = [
     ("k 0 u ci 0/", "1 line 1: unknown"),
 ];
 
-const NODE_PROOF: &str = "@e 3 b 2/%";
-
-const NODE_ANSWER: &str = concat!(
-    "0 k 0 d 0 ed needed/k 1 s 4 5 b2 needed/k 2 s 6 0 b1 needed/k 3 d 6 sd 2 0 needed/",
-    "k 4 d 3 pg 1 0 3 needed/k 5 s 1 3 b1 needed/k 6 d 1 sd 5 4 needed/k 7 u ci 6 needed"
-);
-
 // Words, and the answer to a proof by a diagram.
 static OPTIONS: [(&str, &str); 6] = [
-    ("explain task proof --nodes nodes", NODE_ANSWER),
+    ("explain task proof --nodes nodes", NEEDED),
     (
         "explain task proof --budget 16777216 --nodes nodes",
-        NODE_ANSWER,
+        NEEDED,
     ),
     (
         "explain task proof --nodes nodes --budget 1000000",
-        NODE_ANSWER,
+        NEEDED,
     ),
     ("explain task proof --budget 7", "1 line 6: unknown"),
     (
@@ -87,47 +76,14 @@ static OPTIONS: [(&str, &str); 6] = [
     ("explain proof proof", "3 task line 1: place begin_atoms"),
 ];
 
-// What these words tell of the proof by a diagram.
-fn told(alloc: Global, words: &str) -> Result<Vec<u8>, AllocError> {
-    let task = written(alloc, KEY_TASK)?;
-    let proof = written(alloc, NODE_PROOF)?;
-    told_by(
-        alloc,
-        words,
-        task.as_slice(),
-        proof.as_slice(),
-        NODES,
-        false,
-    )
-}
-
-fn tells(alloc: Global, words: &str, answer: &str) -> Result<bool, AllocError> {
-    let told = told(alloc, words)?;
-    is_text(alloc, told.as_slice(), answer)
-}
-
 #[test]
 fn tells_needed_and_spare_lines(rt: HostRuntime) -> Result<(), Fail> {
     all_told(&rt, rt.alloc(), "explain task proof", KEY_TASK, &ROWS)
 }
 
-// Asserts that each of these words tell of the proof by a diagram their answer.
-fn all_options(rt: &impl Abort, alloc: Global, rows: &[(&str, &str)]) -> Result<(), Fail> {
-    for (words, answer) in rows {
-        assert!(rt; tells(alloc, words, answer)?, "{words}");
-    }
-    Ok(())
-}
-
-// Whether a missing proof is told.
-fn tells_missing(alloc: Global) -> Result<bool, AllocError> {
-    let told = told(alloc, "explain task missing")?;
-    Ok(told.as_slice() == b"4 ".as_slice())
-}
-
 #[test]
 fn takes_the_options_of_a_check(rt: HostRuntime) -> Result<(), Fail> {
-    all_options(&rt, rt.alloc(), &OPTIONS)?;
-    assert!(rt; tells_missing(rt.alloc())?);
+    all_by_words(&rt, rt.alloc(), &OPTIONS)?;
+    assert!(rt; tells_missing(rt.alloc(), "explain task missing")?);
     Ok(())
 }

@@ -1,5 +1,6 @@
 //! Devices that fail: each call of the shelf and each write of the sink in turn, for each command.
 
+use crate::by_nodes::{NODE_PROOF, NODES};
 use crate::fronts::{LAMP, OTHER_PLACE};
 use crate::short::{Files, KEY_TASK, ONE_OF_TWO, THREE_WISHES, told_with_fault, written};
 use std::alloc::{AllocError, Global};
@@ -17,13 +18,8 @@ struct Run {
     writes: u64,
 }
 
-// A proof by a diagram of the states that don't have the key, and its node.
-const NODE_PROOF: &str = "@e 3 b 2/%";
-
-const NODES: &str = "nodes 1/2 1 0/";
-
 // A file takes an open, the reads that give bytes, and one that gives none.
-static RUNS: [Run; 12] = [
+static RUNS: [Run; 13] = [
     Run {
         words: "check task proof",
         task: KEY_TASK,
@@ -54,6 +50,14 @@ static RUNS: [Run; 12] = [
         proof: NODE_PROOF,
         nodes: NODES,
         reads: 38 + 4 + 28,
+        writes: 19,
+    },
+    Run {
+        words: "upgrade task proof --nodes nodes",
+        task: KEY_TASK,
+        proof: "helve 2/@e 3 b 2/%end/",
+        nodes: "order 2 0 1/nodes 1/2 1 0/",
+        reads: 38 + 6 + 29,
         writes: 19,
     },
     Run {

@@ -2,6 +2,8 @@
 #![tactic(auto)]
 
 #[cfg(test)]
+mod by_nodes;
+#[cfg(test)]
 mod check;
 #[cfg(test)]
 mod closed;
@@ -15,6 +17,8 @@ mod failing;
 mod fronts;
 #[cfg(test)]
 mod hostile;
+#[cfg(test)]
+mod orders;
 #[cfg(test)]
 mod produce;
 #[cfg(test)]

@@ -1,9 +1,9 @@
 //! Basic statements: what each asks, costs and answers. Where several states are counterexamples,
 //! each text that names one is listed.
 
+use crate::by_nodes::tells_by_nodes;
 use crate::short::{
-    KEY_TASK, ONE_OF_TWO, THREE_WISHES, is_one_of, is_text, put_names, tells, told, told_by,
-    written,
+    KEY_TASK, ONE_OF_TWO, THREE_WISHES, is_text, put_names, tells, told, written,
 };
 use std::alloc::{AllocError, Global};
 use std::process::Abort;
@@ -528,43 +528,7 @@ static NODES_ROWS: [(&str, &str, &str, &str); 19] = [
     ("", "1000000", "", "3 nodes line 1: place header"),
 ];
 
-// Whether these words tell one of these answers of these files.
-fn tells_of(
-    alloc: Global,
-    words: &str,
-    proof: &[u8],
-    nodes: &[u8],
-    answers: &str,
-) -> Result<bool, AllocError> {
-    let told = told_of_key(alloc, words, proof, nodes)?;
-    is_one_of(alloc, told.as_slice(), answers)
-}
-
-// What these words tell of the key task.
-fn told_of_key(
-    alloc: Global,
-    words: &str,
-    proof: &[u8],
-    nodes: &[u8],
-) -> Result<Vec<u8>, AllocError> {
-    let task = written(alloc, KEY_TASK)?;
-    told_by(alloc, words, task.as_slice(), proof, nodes, false)
-}
-
-// Whether these words tell one of these answers of the key task.
-fn tells_by_nodes(
-    alloc: Global,
-    words: &str,
-    nodes: &str,
-    proof: &str,
-    answers: &str,
-) -> Result<bool, AllocError> {
-    let proof = written(alloc, proof)?;
-    let nodes = written(alloc, nodes)?;
-    tells_of(alloc, words, proof.as_slice(), nodes.as_slice(), answers)
-}
-
-// The same within this budget.
+// Whether the key task, a node file and a proof are told one of these answers within this budget.
 fn tells_nodes_first(
     alloc: Global,
     budget: &str,

@@ -1,12 +1,8 @@
 //! Proofs that are written anew, as closed ones.
 
-use crate::short::{KEY_TASK, all_told, is_text, told_by, written};
-use std::alloc::{AllocError, Global};
-use std::process::Abort;
+use crate::by_nodes::{all_by_words, tells_missing};
+use crate::short::{KEY_TASK, all_told};
 use std::test::Fail;
-
-// The node of the states that don't have the key.
-const NODES: &[u8] = b"nodes 1\n2 1 0\n";
 
 // What the proof of two states is written as.
 const TWO_STATES: &str = "0 helve 2/@e 3 x 2 0 ; 1 ;/%end";
@@ -48,8 +44,7 @@ static ROWS: [(&str, &str); 15] = [
     ("", "1 no conclusion"),
 ];
 
-const NODE_PROOF: &str = "@e 3 b 2/%";
-
+// What the proof by a diagram is written as.
 const NODE_ANSWER: &str = "0 helve 2/@e 3 b 2/%end";
 
 // Words, and the answer to a proof by a diagram. Its dearest query, that of line 14, has three live
@@ -74,47 +69,14 @@ static OPTIONS: [(&str, &str); 8] = [
     ("upgrade task", "2 usage: helve COMMAND ARGUMENTS"),
 ];
 
-// What these words tell of the proof by a diagram.
-fn told(alloc: Global, words: &str) -> Result<Vec<u8>, AllocError> {
-    let task = written(alloc, KEY_TASK)?;
-    let proof = written(alloc, NODE_PROOF)?;
-    told_by(
-        alloc,
-        words,
-        task.as_slice(),
-        proof.as_slice(),
-        NODES,
-        false,
-    )
-}
-
-fn tells(alloc: Global, words: &str, answer: &str) -> Result<bool, AllocError> {
-    let told = told(alloc, words)?;
-    is_text(alloc, told.as_slice(), answer)
-}
-
 #[test]
 fn writes_closed_proofs(rt: HostRuntime) -> Result<(), Fail> {
     all_told(&rt, rt.alloc(), "upgrade task proof", KEY_TASK, &ROWS)
 }
 
-// Asserts that each of these words tell of the proof by a diagram their answer.
-fn all_options(rt: &impl Abort, alloc: Global, rows: &[(&str, &str)]) -> Result<(), Fail> {
-    for (words, answer) in rows {
-        assert!(rt; tells(alloc, words, answer)?, "{words}");
-    }
-    Ok(())
-}
-
-// Whether a missing proof is told.
-fn tells_missing(alloc: Global) -> Result<bool, AllocError> {
-    let told = told(alloc, "upgrade task missing")?;
-    Ok(told.as_slice() == b"4 ".as_slice())
-}
-
 #[test]
 fn takes_the_options_of_a_check(rt: HostRuntime) -> Result<(), Fail> {
-    all_options(&rt, rt.alloc(), &OPTIONS)?;
-    assert!(rt; tells_missing(rt.alloc())?);
+    all_by_words(&rt, rt.alloc(), &OPTIONS)?;
+    assert!(rt; tells_missing(rt.alloc(), "upgrade task missing")?);
     Ok(())
 }

@@ -82,21 +82,27 @@ fn accepts_the_listed_proof(rt: HostRuntime) -> Result<(), Fail> {
     Ok(())
 }
 
-/// After these good lines the checker refuses the bad one, for this reason, and stops.
+/// Good lines, and the piece behind them.
+#[derive(Clone, Copy)]
+struct Pieces<'p> {
+    good: &'p [&'p str],
+    bad: Piece<'p>,
+}
+
+/// After the good lines the checker refuses the bad piece, for this reason, and stops.
 fn stop(
     rt: &impl Abort,
     checker: &mut Checker<'_>,
-    front: &[&str],
-    bad: Piece<'_>,
+    pieces: Pieces<'_>,
     reason: &Reason,
 ) -> Result<(), AllocError> {
-    feed_good(rt, checker, front)?;
+    feed_good(rt, checker, pieces.good)?;
     assert!(rt; checker.fed() < 100);
-    let fed = checker.feed(bad)?;
+    let fed = checker.feed(pieces.bad)?;
     assert!(rt; is_refusal(&fed, reason));
     let later = checker.feed(Piece::Line(b""))?;
     assert!(rt; later == Fed::Stopped);
-    assert_eq!(rt; checker.end(), End::Refused(front.len() as u64 + 1));
+    assert_eq!(rt; checker.end(), End::Refused(pieces.good.len() as u64 + 1));
     let kept = checker.reason() == Some(reason);
     assert!(rt; kept);
     Ok(())
@@ -116,8 +122,7 @@ fn refuse(
     alloc: Global,
     task: &Task,
     budget: u64,
-    front: &[&str],
-    bad: Piece<'_>,
+    pieces: Pieces<'_>,
     reason: &Reason,
 ) -> Result<(), AllocError>
     requires some { 0 < budget }
@@ -125,7 +130,7 @@ fn refuse(
 {
     let diagrams = Diagrams::none(alloc, task.atoms());
     let mut checker = Checker::new(alloc, task, &diagrams, budget)?;
-    stop(rt, &mut checker, front, bad, reason)
+    stop(rt, &mut checker, pieces, reason)
 }
 
 /// The first lines of the proof, but for a state that set 3 lacks: that of the second place.
@@ -151,8 +156,11 @@ fn refuse_after(
     reason: &Reason,
 ) -> Result<(), AllocError> {
     assert!(rt; good < PROOF.len());
-    let bad = Piece::Line(bad.as_bytes());
-    refuse(rt, alloc, task, 2, &PROOF[..good], bad, reason)
+    let pieces = Pieces {
+        good: &PROOF[..good],
+        bad: Piece::Line(bad.as_bytes()),
+    };
+    refuse(rt, alloc, task, 2, pieces, reason)
 }
 
 /// Bad lines, each after so many good ones of the proof.
@@ -170,7 +178,11 @@ fn refuse_lines(rt: &impl Abort, alloc: Global, task: &Task) -> Result<(), Alloc
 fn tells_the_first_bad_line(rt: HostRuntime) -> Result<(), Fail> {
     let task = robot(rt.alloc())?;
     refuse_lines(&rt, rt.alloc(), &task)?;
-    refuse(&rt, rt.alloc(), &task, 2, &[], Piece::Long, &Reason::Long)?;
+    let long = Pieces {
+        good: &[],
+        bad: Piece::Long,
+    };
+    refuse(&rt, rt.alloc(), &task, 2, long, &Reason::Long)?;
     Ok(())
 }
 
@@ -186,9 +198,17 @@ fn start_leads_out(alloc: Global, task: &Task) -> Result<Reason, AllocError> {
 /// there; by too small a budget it is refused as well.
 fn refuse_progressions(rt: &impl Abort, alloc: Global, task: &Task) -> Result<(), AllocError> {
     let bad = Piece::Line(b"k 1 s 4 5 b2");
-    refuse(rt, alloc, task, 1, &PROOF[..9], bad, &Reason::Budget)?;
+    let dear = Pieces {
+        good: &PROOF[..9],
+        bad,
+    };
+    refuse(rt, alloc, task, 1, dear, &Reason::Budget)?;
     let reason = start_leads_out(alloc, task)?;
-    refuse(rt, alloc, task, 2, &MISSING, bad, &reason)
+    let missing = Pieces {
+        good: &MISSING,
+        bad,
+    };
+    refuse(rt, alloc, task, 2, missing, &reason)
 }
 
 #[test]

@@ -1,7 +1,7 @@
 //! Closed proofs, fed to a checker piece by piece: what it answers to the two marks, and what it
 //! says of the pieces fed so far.
 
-ghost use Rattle.std.specs.Prelude.{◌≡◌};
+ghost use Rattle.std.specs.Prelude.{◌≡◌, ◌<◌, ◌≤◌};
 ghost use Rattle.hv_task.specs.Strips.{atoms};
 
 use crate::checker::{PROOF, feed_good, is_refusal};
@@ -117,10 +117,13 @@ fn accept_anew(
     alloc: Global,
     task: &Task,
     diagrams: &Diagrams,
+    budget: u64,
 ) -> Result<(), AllocError>
-    requires { diagrams.now.atoms ≡ atoms task.now }
+    requires over { diagrams.now.atoms ≡ atoms task.now }
+    requires some { 0 < budget }
+    requires small { budget ≤ 16777216 }
 {
-    let mut checker = Checker::new(alloc, task, diagrams, 2)?;
+    let mut checker = Checker::new(alloc, task, diagrams, budget)?;
     accept_closed(rt, &mut checker)
 }
 
@@ -128,7 +131,8 @@ fn accept_anew(
 fn accepts_a_closed_proof(rt: HostRuntime) -> Result<(), Fail> {
     let task = robot(rt.alloc())?;
     let diagrams = Diagrams::none(rt.alloc(), task.atoms());
-    accept_anew(&rt, rt.alloc(), &task, &diagrams)?;
+    accept_anew(&rt, rt.alloc(), &task, &diagrams, 2)?;
+    accept_anew(&rt, rt.alloc(), &task, &diagrams, 1000000)?;
     Ok(())
 }
 
