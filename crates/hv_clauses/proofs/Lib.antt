@@ -36,3 +36,4 @@ pub mod Rest
 pub mod Mated
 pub mod Ordering
 pub mod Truths
+pub mod Owned

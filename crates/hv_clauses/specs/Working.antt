@@ -29,3 +29,4 @@ pub mod Asking
 pub mod Walked
 pub mod Rest
 pub mod Mates
+pub mod Owners

@@ -1,6 +1,7 @@
 //! From what is known to states: propagation to its end, and completion of what is left open.
 
 ghost use Rattle.std.specs.Prelude.{◌≡◌, ◌<◌, ◌≤◌, ℕ, Bool, List, None, Some, false, true, length};
+ghost use Rattle.std.specs.Prelude.{IfSome, is_some};
 ghost use Rattle.hv_task.specs.State.{has_atom};
 ghost use Rattle.hv_clauses.specs.Working.Chase.{IsFollowed};
 ghost use Rattle.hv_clauses.specs.Working.Clausal.{Completes};
@@ -35,6 +36,29 @@ pub(crate) fn close<C: Constraint>(constraint: &C, marks: &mut Marks<'_>, from: 
         place += 1;
     }
     true
+}
+
+// The same of the literals before a place of the trail, from its beginning. The answer is the place
+// that was come to, or None if no state that agrees with what was known meets the condition.
+pub(crate) fn close_upto<C: Constraint>(
+    constraint: &C,
+    marks: &mut Marks<'_>,
+    upto: usize,
+) -> Option<usize>
+    requires over { C.is_over constraint.now (length marks.old.base) }
+    requires left { C.left constraint.now marks.old 0 }
+    ensures followed { IsFollowed (C.admits constraint.now) marks.old marks.new (is_some result) }
+    ensures left { IfSome result (λ place. (place ≤ length marks.new.trail)
+        × C.left constraint.now marks.new place) }
+{
+    let mut place = 0;
+    while place < upto && place < marks.len() {
+        if !constraint.visit(marks, place) {
+            return None;
+        }
+        place += 1;
+    }
+    Some(place)
 }
 
 // Tries a value of an open atom: puts it on the trail with all that follows, or leaves all as it

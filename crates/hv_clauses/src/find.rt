@@ -1,12 +1,14 @@
 //! The search for a counterexample to a query.
 
 ghost use Rattle.std.specs.Prelude.{◌≡◌, ◌<◌, ◌≤◌, [], Bool, List, IfSome, false, true, length};
+ghost use Rattle.std.specs.Prelude.{MatchOption};
 ghost use Rattle.hv_task.specs.Strips.{atoms};
 ghost use Rattle.hv_sets.specs.Cost.{ClausesPass, IsAnswer};
 ghost use Rattle.hv_sets.specs.Query.{IsReady, is_clash};
 ghost use Rattle.hv_sets.specs.Room.{HasRoom, KeepsLengths};
 ghost use Rattle.hv_clauses.specs.Clausal.{tests_of, sizes_of};
-ghost use Rattle.hv_clauses.specs.Working.Found.{IsBased, IsFound, IsMet, IsMetBelow};
+ghost use Rattle.hv_clauses.specs.Working.Found.{IsBased, IsBegun, IsFound, IsMet};
+ghost use Rattle.hv_clauses.specs.Working.Found.{IsMetBelow};
 ghost use Rattle.hv_clauses.specs.Working.Posed.{Applies, InEach, IsPosed, choices, formulas};
 ghost use Rattle.hv_clauses.specs.Working.Posed.{width};
 ghost use Rattle.hv_clauses.specs.Working.Problem.{FitsChoice};
@@ -19,15 +21,18 @@ use crate::constraint::Constraint;
 use crate::formulas::Formulas;
 use crate::problem::{self, Problem};
 use crate::trail::Marks;
-use crate::{choices, complete, effect, frame, fronts, start, touched};
+use crate::{choices, complete, effect, frame, fronts, owners, start, touched};
 use hv_sets::{Finding, Operand, Query, Scratch};
 use hv_task::{State, Task};
+use std::alloc::Global;
 
 /// The exact answer to a query over a store of clauses of one kind: Over exactly where there are
 /// more choices of one clause of each negative operand than the budget; else Clash exactly where
 /// some state is a counterexample, and such a state then stands in the scratch; else Empty. It
-/// takes no memory.
+/// takes memory only from what is given here, for lists of the operands where there are many, and
+/// does without where there is none.
 pub(crate) fn find_in<K: ClauseKind>(
+    alloc: Option<Global>,
     store: &Formulas<K>,
     task: &Task,
     query: &Query,
@@ -48,27 +53,35 @@ pub(crate) fn find_in<K: ClauseKind>(
     let Some(cost) = choices::cost_within(&problem, budget) else {
         return Finding::Over;
     };
+    let means = Means { cost, alloc };
     let places = scratch.marks.as_mut_slice();
     let queue = scratch.queue.as_mut_slice();
     let watches = scratch.counts.as_mut_slice();
-    if search(&problem, cost, places, queue, watches, &mut scratch.state) {
+    if search(&problem, means, places, queue, watches, &mut scratch.state) {
         Finding::Clash
     } else {
         Finding::Empty
     }
 }
 
+// How many choices there are, and the memory for lists of the operands, if there is any.
+#[derive(Drop)]
+struct Means {
+    cost: u64,
+    alloc: Option<Global>,
+}
+
 // Starts at what follows from one positive operand alone, in room for each atom.
 fn search<K: ClauseKind>(
     problem: &Problem<'_, K>,
-    cost: u64,
+    means: Means,
     places: &mut [u32],
     queue: &mut [u32],
     watches: &mut [u32],
     state: &mut State,
 ) -> bool
     requires posed { IsPosed problem.now }
-    requires cost { cost ≡ choices problem.now }
+    requires cost { means.cost ≡ choices problem.now }
     requires places { width problem.now ≤ length places.old }
     requires queue { width problem.now ≤ length queue.old }
     requires state { length state.old ≡ width problem.now }
@@ -85,18 +98,20 @@ fn search<K: ClauseKind>(
     let atoms = problem.atoms() as usize;
     let based = start.operand;
     let mut marks = Marks::from(atoms, start.base, places, queue, watches);
-    search_from(problem, based, cost, &mut marks, state)
+    search_from(problem, based, means, &mut marks, state)
 }
 
 // Marks what follows from the precondition and the positive operands, and then tries the choices.
+// Where more is to be gone through than literals stand in the positive operands, those that have
+// each literal are listed first.
 fn search_from<K: ClauseKind>(
     problem: &Problem<'_, K>,
     based: Option<Operand>,
-    cost: u64,
+    means: Means,
     marks: &mut Marks<'_>,
     state: &mut State,
 ) -> bool
-    requires cost { cost ≡ choices problem.now }
+    requires cost { means.cost ≡ choices problem.now }
     requires marks { length marks.old.base ≡ width problem.now }
     requires none { marks.old.trail ≡ [] }
     requires based { IsBasedOn problem.now based marks.old.base }
@@ -106,34 +121,63 @@ fn search_from<K: ClauseKind>(
         (FitsChoice problem.now) state.new }
     ensures state { length state.new ≡ length state.old }
 {
-    if !mark_base(problem, based, marks) {
+    let size = owners::size_of(problem);
+    let Some(place) = mark_base(problem, based, owners::patience(problem, size), marks) else {
+        return false;
+    };
+    let cost = means.cost;
+    let pays = place < marks.len() || owners::pays(problem, size, cost);
+    match owners::listed(means.alloc, problem, pays) {
+        None => search_on(problem, place, cost, marks, state),
+        Some(owners) => search_on(&problem.with(owners), place, cost, marks, state),
+    }
+}
+
+// Follows up what the trail has from a place on, and then tries the choices.
+fn search_on<K: ClauseKind>(
+    problem: &Problem<'_, K>,
+    place: usize,
+    cost: u64,
+    marks: &mut Marks<'_>,
+    state: &mut State,
+) -> bool
+    requires cost { cost ≡ choices problem.now }
+    requires begun { IsBegun problem.now place marks.old }
+    requires state { length state.old ≡ width problem.now }
+    ensures met { IsMetBelow result (choices problem.now) (width problem.now)
+        (FitsChoice problem.now) state.new }
+    ensures state { length state.new ≡ length state.old }
+{
+    if !complete::close(problem, marks, place) {
         return false;
     }
     choose(problem, cost, marks, state)
 }
 
-// Marks what follows from the precondition and the positive operands. The answer is false only if
-// no state meets these.
+// Marks what follows from the precondition and the positive operands, as far as that comes from the
+// literals before a place of the trail. The answer is the place that was come to, or None if no
+// state meets these.
 fn mark_base<K: ClauseKind>(
     problem: &Problem<'_, K>,
     based: Option<Operand>,
+    upto: usize,
     marks: &mut Marks<'_>,
-) -> bool
+) -> Option<usize>
     requires marks { length marks.old.base ≡ width problem.now }
     requires none { marks.old.trail ≡ [] }
     requires based { IsBasedOn problem.now based marks.old.base }
     requires follows { HoldInEach problem.now (marks_of marks.old) }
-    ensures based { result ≡ true → IsBased problem.now marks.new }
-    ensures never { result ≡ false → (state : List Bool) → length state ≡ width problem.now
-        → Applies problem.now state → InEach problem.now state → ⊥ }
+    ensures { MatchOption result ((state : List Bool) → length state ≡ width problem.now
+        → Applies problem.now state → InEach problem.now state → ⊥)
+        (λ place. IsBegun problem.now place marks.new) }
 {
     if !effect::mark_pre(problem, marks) {
-        return false;
+        return None;
     }
     if !problem::start_all(problem, based, marks) {
-        return false;
+        return None;
     }
-    complete::close(problem, marks, 0)
+    complete::close_upto(problem, marks, upto)
 }
 
 // Tries choices of one clause of each negative operand. The answer is true once one fits some

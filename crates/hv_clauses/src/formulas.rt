@@ -125,7 +125,7 @@ impl<K: ClauseKind> Formulas<K> {
         ensures state { length scratch.new.state ≡ length scratch.old.state }
         ensures lengths { KeepsLengths scratch.old scratch.new }
     {
-        find::find_in(self, task, query, budget, scratch)
+        find::find_in(None, self, task, query, budget, scratch)
     }
 }
 
@@ -149,9 +149,8 @@ impl<K: ClauseKind> Family for Formulas<K> {
         budget: u64,
         scratch: &mut Scratch,
     ) -> Result<Finding, AllocError> {
-        let _ = alloc;
         let watches = self.watches(query.positive.as_slice());
         scratch.reserve(task.atoms(), 0, watches)?;
-        Ok(find::find_in(self, task, query, budget, scratch))
+        Ok(find::find_in(Some(alloc), self, task, query, budget, scratch))
     }
 }

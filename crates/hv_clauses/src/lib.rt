@@ -31,6 +31,7 @@ mod literals;
 mod look;
 mod mates;
 mod occurrences;
+mod owners;
 mod paths;
 mod problem;
 mod ranking;

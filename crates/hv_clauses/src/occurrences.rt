@@ -63,7 +63,8 @@ impl Occurrences {
         self.signed(literal.positive).standing(literal)
     }
 
-    fn signed(&self, sign: bool) -> &Signed
+    // Where the literals of one sign stand.
+    pub(crate) fn signed(&self, sign: bool) -> &Signed
         ensures { result.now ≡ signed self.now sign }
     {
         if sign { &self.positive } else { &self.negative }

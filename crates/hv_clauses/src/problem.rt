@@ -1,7 +1,7 @@
 //! A query as it is asked, and its positive operands as a condition on states.
 
 ghost use Rattle.std.specs.Prelude.{◌≡◌, ◌<◌, ◌+◌, ℕ, None, Some, IfSome, MatchOption, false, true};
-ghost use Rattle.std.specs.Prelude.{◌↔◌, IsTrue, length, map};
+ghost use Rattle.std.specs.Prelude.{◌↔◌, IsTrue, length, map, slice_get};
 ghost use Rattle.std.specs.List.{All};
 ghost use Rattle.hv_task.specs.State.{AreBelow, names_atom};
 ghost use Rattle.hv_task.specs.Strips.{IsTask, atoms, is_goal, start_state};
@@ -13,6 +13,7 @@ ghost use Rattle.hv_clauses.specs.Working.Base.{AreSettledBut};
 ghost use Rattle.hv_clauses.specs.Working.Chase.{AreKept, IsFollowed};
 ghost use Rattle.hv_clauses.specs.Working.Clausal.{Completes, clauses_of_state, late, unit};
 ghost use Rattle.hv_clauses.specs.Marks.{over};
+ghost use Rattle.hv_clauses.specs.Working.Owners.{AreOwners};
 ghost use Rattle.hv_clauses.specs.Working.Posed.{InEach, IsPosed, formulas, size_in, width};
 ghost use Rattle.hv_clauses.specs.Working.Problem.{AreEachSettled, AreLeft, InOne, IsLeftOf};
 ghost use Rattle.hv_clauses.specs.Working.Trail.{marks_of};
@@ -26,6 +27,7 @@ use crate::completion::Completion;
 use crate::constraint::Constraint;
 use crate::formula::Formula;
 use crate::formulas::Formulas;
+use crate::owners::Owners;
 use crate::trail::Marks;
 use crate::{chase, choices, literals, turned};
 use hv_sets::{Literal, Operand, Query, Which};
@@ -39,9 +41,13 @@ pub(crate) struct Problem<'a, K: ClauseKind> {
     store: &'a Formulas<K>,
     query: &'a Query,
     effect: Effect<'a>,
+    // Where there are many positive operands, those that have each literal.
+    owners: Option<Owners>,
 }
 
 impl<'a, K: ClauseKind> Model for Problem<'a, K> {
+    ghost use Rattle.std.specs.Prelude.{IfSome};
+    ghost use Rattle.hv_clauses.specs.Working.Owners.{AreOwners};
     ghost use Rattle.hv_clauses.specs.Working.Posed.{IsPosed, Problem};
 
     ghost Value = { Problem };
@@ -53,12 +59,17 @@ impl<'a, K: ClauseKind> Model for Problem<'a, K> {
       effect = s.effect;
     } };
 
-    ghost invariant = { λ s. IsPosed record {
+    ghost invariant = { λ s. IsPosed (record {
       task = s.task.now;
       store = s.store.now;
       query = s.query.now;
       effect = s.effect;
-    } };
+    }) × IfSome s.owners (AreOwners (record {
+      task = s.task.now;
+      store = s.store.now;
+      query = s.query.now;
+      effect = s.effect;
+    })) };
 }
 
 impl<'a, K: ClauseKind> Problem<'a, K> {
@@ -78,7 +89,29 @@ impl<'a, K: ClauseKind> Problem<'a, K> {
             store,
             query,
             effect,
+            owners: None,
         }
+    }
+
+    /// The same, with the positive operands that have each literal.
+    pub(crate) fn with(&self, owners: Owners) -> Problem<'a, K>
+        requires { AreOwners self.now owners }
+        ensures { result ≡ self.now }
+    {
+        Problem {
+            task: self.task,
+            store: self.store,
+            query: self.query,
+            effect: self.effect.late(true),
+            owners: Some(owners),
+        }
+    }
+
+    // The positive operands that have each literal, if they were listed.
+    fn owners(&self) -> Option<&Owners>
+        ensures { IfSome result (λ owners. AreOwners self.now owners.now) }
+    {
+        self.owners.as_ref()
     }
 
     /// Whether some positive operand is this set, asked about after the action (true) or before it.
@@ -206,16 +239,79 @@ impl<K: ClauseKind> Constraint for Problem<'_, K> {
     ghost left = { AreLeft };
 
     fn visit(&self, marks: &mut Marks<'_>, from: usize) -> bool {
-        let positive = self.positive();
-        for operand in positive {
-            if !visit_operand(self, *operand, marks, from) {
-                return false;
-            }
+        match self.owners() {
+            None => visit_each(self, marks, from),
+            Some(owners) => visit_owners(self, owners, marks, from),
         }
-        true
     }
 
     fn laws(&self) {}
+}
+
+// Follows up the literal at this place of the trail in each positive operand.
+fn visit_each<K: ClauseKind>(problem: &Problem<'_, K>, marks: &mut Marks<'_>, from: usize) -> bool
+    requires size { length marks.old.base ≡ width problem.now }
+    requires from { from < length marks.old.trail }
+    requires left { AreLeft problem.now marks.old from }
+    ensures followed { IsFollowed (InEach problem.now) marks.old marks.new result }
+    ensures left { result ≡ true → AreLeft problem.now marks.new (from + 1) }
+{
+    let positive = problem.positive();
+    for operand in positive {
+        if !visit_operand(problem, *operand, marks, from) {
+            return false;
+        }
+    }
+    true
+}
+
+// The same, where only those that have its opposite are gone through.
+fn visit_owners<K: ClauseKind>(
+    problem: &Problem<'_, K>,
+    owners: &Owners,
+    marks: &mut Marks<'_>,
+    from: usize,
+) -> bool
+    requires owners { AreOwners problem.now owners.now }
+    requires size { length marks.old.base ≡ width problem.now }
+    requires from { from < length marks.old.trail }
+    requires left { AreLeft problem.now marks.old from }
+    ensures followed { IsFollowed (InEach problem.now) marks.old marks.new result }
+    ensures left { result ≡ true → AreLeft problem.now marks.new (from + 1) }
+{
+    let literal = marks.get(from);
+    let row = owners.row(Literal {
+        atom: literal.atom,
+        positive: !literal.positive,
+    });
+    for place in row {
+        if !visit_place(problem, *place, marks, from) {
+            return false;
+        }
+    }
+    true
+}
+
+// Follows up the literal at this place of the trail in the positive operand at a place, if there is
+// one.
+fn visit_place<K: ClauseKind>(
+    problem: &Problem<'_, K>,
+    place: u32,
+    marks: &mut Marks<'_>,
+    from: usize,
+) -> bool
+    requires size { length marks.old.base ≡ width problem.now }
+    requires from { from < length marks.old.trail }
+    requires left { AreLeft problem.now marks.old from }
+    ensures followed { IsFollowed (InEach problem.now) marks.old marks.new result }
+    ensures left { result ≡ true → (operand : OperandOf)
+        → slice_get problem.now.query.positive place ≡ Some operand
+        → IsLeftOf problem.now operand marks.new (from + 1) }
+{
+    match problem.positive().get(place as usize) {
+        None => true,
+        Some(operand) => visit_operand(problem, *operand, marks, from),
+    }
 }
 
 // Follows up the literal at this place of the trail in the clauses of an operand.

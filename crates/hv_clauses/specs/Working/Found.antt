@@ -1,5 +1,6 @@
 -- What a search for a counterexample finds.
-use Rattle.std.specs.Prelude.{◌≡◌, ◌<◌, ℕ, Bool, true, false, not, List, Some, length, slice_get}
+use Rattle.std.specs.Prelude.{◌≡◌, ◌<◌, ◌≤◌, ℕ, Bool, true, false, not, List, Some, length}
+use Rattle.std.specs.Prelude.{slice_get}
 use Rattle.hv_sets.specs.declared.operand.Operand.{Operand}
 use Rattle.hv_sets.specs.declared.operand.Which.TheVariants as W
 use Rattle.hv_sets.specs.Names.{AsksAbout}
@@ -40,6 +41,13 @@ pub record IsBased (p : Problem) (knowledge : Knowledge) : Type 0 where
   pub wide : length knowledge.base ≡ width p
   pub base : IsBase p (marks_of knowledge)
   pub left : AreLeft p knowledge (length knowledge.trail)
+
+-- the same, where what the trail has from a place on is still to be followed up
+pub record IsBegun (p : Problem) (place : ℕ) (knowledge : Knowledge) : Type 0 where
+  pub wide : length knowledge.base ≡ width p
+  pub base : IsBase p (marks_of knowledge)
+  pub within : place ≤ length knowledge.trail
+  pub left : AreLeft p knowledge place
 
 -- this state meets one of the conditions with a number below the bound; or no state meets one of
 -- those whose numbers are asked about

@@ -10,4 +10,4 @@ returns-clause-named g c =
     let q = c.self.inside.query.now in
     subst (λ (p : Problem). All (λ o. IsNamed (length p.store) o.which) c.as_slice.result.now)
     c.self.view_is
-    (named_second _ q.positive q.negative _ c.as_slice.ensures c.self.invariant.ready.named)
+    (named_second _ q.positive q.negative _ c.as_slice.ensures c.self.invariant.0.ready.named)

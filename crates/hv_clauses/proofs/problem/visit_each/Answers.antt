@@ -3,18 +3,18 @@ use Rattle.hv_clauses.specs.Working.Posed.{InEach}
 use Rattle.hv_clauses.proofs.Chasing.{followed_none, grown_by, longer}
 use Rattle.hv_clauses.proofs.Problems.{all_seen, all_stay, operand_followed, operand_left}
 use Rattle.hv_clauses.proofs.Problems.{operand_seen}
-use Rattle.hv_clauses.proofs.problem.ProblemConstraint.visit.Goals as goal
+use Rattle.hv_clauses.proofs.problem.visit_each.Goals as goal
 
 pub loop-operand-init : goal.loop-operand-init
 loop-operand-init g c = record {
-  followed = followed_none (InEach c.args.self.now) c.args.marks.now;
+  followed = followed_none (InEach c.args.problem.now) c.args.marks.now;
   left = c.requires.left;
   seen = λ k less f. absurd (omega arith);
 }
 
 pub visit_operand-requires-clause-size : goal.visit_operand-requires-clause-size
 visit_operand-requires-clause-size g c =
-    ap length c.loop-operand.invariant.followed.base ∙ c.requires.over
+    ap length c.loop-operand.invariant.followed.base ∙ c.requires.size
 
 pub visit_operand-requires-clause-from : goal.visit_operand-requires-clause-from
 visit_operand-requires-clause-from g c =
@@ -23,19 +23,19 @@ visit_operand-requires-clause-from g c =
 
 pub visit_operand-requires-clause-left : goal.visit_operand-requires-clause-left
 visit_operand-requires-clause-left g c =
-    operand_left c.args.self.now _ c.positive-positive.ensures.list c.loop-operand.operand-index _
+    operand_left c.args.problem.now _ c.positive-positive.ensures.list c.loop-operand.operand-index _
     c.loop-operand-test.true c.loop-operand.marks c.args.from c.loop-operand.invariant.left
 
 pub returns-then-not-visit_operand-clause-followed :
     goal.returns-then-not-visit_operand-clause-followed
 returns-then-not-visit_operand-clause-followed g c =
-    operand_followed c.args.self.now _ c.positive-positive.ensures.list
+    operand_followed c.args.problem.now _ c.positive-positive.ensures.list
     c.loop-operand.operand-index _ c.loop-operand-test.true _ _ _ false
     c.loop-operand.invariant.followed c.if-not-visit_operand.ensures.followed
 
 pub loop-operand-preserved : goal.loop-operand-preserved
 loop-operand-preserved g c =
-    let p = c.args.self.now in
+    let p = c.args.problem.now in
     let list = c.positive-positive.ensures.list in
     let test = c.loop-operand-test.true in
     let step = c.if-not-visit_operand.ensures.followed in
@@ -54,7 +54,7 @@ loop-operand-preserved g c =
 
 pub returns-clause-left : goal.returns-clause-left
 returns-clause-left g c = λ is.
-    all_seen c.args.self.now _ c.positive-positive.ensures.list c.loop-operand.marks
+    all_seen c.args.problem.now _ c.positive-positive.ensures.list c.loop-operand.marks
     (c.args.from + 1)
     (λ k less f. let end = c.loop-operand-test.false in
     c.loop-operand.invariant.seen k (omega arith) f)

@@ -3,12 +3,12 @@ use Rattle.hv_sets.specs.declared.operand.Operand.{Operand}
 use Rattle.hv_clauses.specs.Working.Chase.{IsFollowed}
 use Rattle.hv_clauses.specs.Working.Posed.{InEach}
 use Rattle.hv_clauses.specs.Working.Problem.{AreLeft, IsLeftOf}
-use Rattle.hv_clauses.proofs.problem.ProblemConstraint.visit.Given as goal
+use Rattle.hv_clauses.proofs.problem.visit_each.Given as goal
 
 abbrev pub invariant-loop-operand : goal.invariant-loop-operand
 invariant-loop-operand g l = record {
-  followed : IsFollowed (InEach l.self) l.fn.marks l.marks true;
-  left : AreLeft l.self l.marks l.from;
+  followed : IsFollowed (InEach l.problem) l.fn.marks l.marks true;
+  left : AreLeft l.problem l.marks l.from;
   seen : (k : ℕ) → k < l.operand-index → (f : Operand)
-      → IsLeftOf l.self (get_or l.positive k f) l.marks (l.from + 1);
+      → IsLeftOf l.problem (get_or l.positive k f) l.marks (l.from + 1);
 }

@@ -1,0 +1,31 @@
+use Rattle.std.proofs.Common.{◌∙◌, length, refl, sym, ap}
+use Rattle.hv_clauses.specs.Working.Trail.{marks_of}
+use Rattle.hv_clauses.proofs.Marked.{agrees_extends}
+use Rattle.hv_clauses.proofs.Trailed.{length-marks}
+use Rattle.hv_clauses.proofs.find.search_on.Goals as goal
+
+pub returns-then-not-close-clause-met : goal.returns-then-not-close-clause-met
+returns-then-not-close-clause-met g c = λ number less state size fits.
+    let begun = c.requires.begun in
+    c.if-not-close.ensures.followed.broken refl state (size ∙ sym begun.wide) fits.inside
+    (begun.base.follows state (size ∙ sym (length-marks c.args.marks.now ∙ begun.wide))
+    fits.applies fits.inside)
+
+pub choose-requires-clause-based : goal.choose-requires-clause-based
+choose-requires-clause-based g c =
+    let k = c.args.marks.now in
+    let begun = c.requires.begun in
+    let last = c.if-not-close.ensures.followed in
+    let wide = ap length last.base ∙ begun.wide in
+    record {
+      wide = wide;
+      base = record {
+        follows = λ state long applies inside.
+            let size = long ∙ (length-marks c.close.new.marks ∙ wide) in
+            last.follows state (size ∙ sym begun.wide) inside
+            (begun.base.follows state (size ∙ sym (length-marks k ∙ begun.wide)) applies inside);
+        enabled = λ state agrees. begun.base.enabled state
+            (agrees_extends (marks_of k) (marks_of c.close.new.marks) state last.grows agrees);
+      };
+      left = c.if-not-close.ensures.left refl;
+    }
