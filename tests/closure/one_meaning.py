@@ -1,11 +1,11 @@
 #!/usr/bin/env python3
-"""Holds the names of specs/ to one room each, but for those that are listed here.
+"""Holds the names of specs/ to one module each, but for those that are listed here.
 
-The names of ROLES are exempt. They are those of parts that several rooms have: what is said of
+The names of ROLES are exempt. They are those of parts that several modules have: what is said of
 each text that is read line by line, of each table of chains, of each kind of clauses, of each
-pruner and its proof, of each list of rows. What such a name says in one room is not held to what
-it says in another: that is for the reader. A name that a room passes on by `pub use` is no
-definition of that room.
+pruner and its proof, of each list of rows. What such a name says in one module is not held to what
+it says in another: that is for the reader. A name that a module passes on by `pub use` is no
+definition of that module.
 Usage: tests/closure/one_meaning.py
 """
 import sys
@@ -27,7 +27,7 @@ def definitions():
     """Each name of specs/, with the places where it is defined."""
     places = {}
     for item in sources.Sources().defs.values():
-        places.setdefault(item.name, []).append("%s.%s:%d" % (item.crate, item.room, item.line))
+        places.setdefault(item.name, []).append("%s.%s:%d" % (item.crate, item.module, item.line))
     return places
 
 
@@ -37,7 +37,7 @@ def main():
     for name in wrong:
         print("%s stands for several definitions: %s" % (name, ", ".join(sorted(several[name]))))
     for name in sorted(name for name in ROLES if name not in several):
-        print("%s stands for one definition at most: it is no part of several rooms" % name)
+        print("%s stands for one definition at most: it is no part of several modules" % name)
         wrong.append(name)
     return 1 if wrong else 0
 

@@ -1,7 +1,7 @@
 """Reads the contracts and the definitions that they cite, from crates/*/src and crates/*/specs.
 
-A definition is known by its crate, its room in specs/ and its name. A type that stands in src/ and
-that definitions speak of (`specs.declared`) is known in the same way, by its file and its name.
+A definition is known by its crate, its module in specs/ and its name. A type that stands in src/
+and that definitions speak of (`specs.declared`) is known in the same way, by its file and its name.
 """
 import os
 import re
@@ -22,12 +22,12 @@ RUST_FUNCTION = re.compile(r"^(\s*)(pub(?:\([\w ]+\))? )?(?:const )?fn (\w+)")
 RUST_BLOCK = re.compile(r"^impl\b(.*)\{\s*$")
 
 
-# the room of a crate's specs/ that has the rooms of its working definitions
+# the module of a crate's specs/ that has the modules of its working definitions
 WORKING = "Working"
 
 
-def path_of(room):
-    return room.replace(".", os.sep) + ".antt"
+def path_of(module):
+    return module.replace(".", os.sep) + ".antt"
 
 
 def read(path):
@@ -36,7 +36,7 @@ def read(path):
 
 
 class Names:
-    """What the `use` lines of a room bring in: names, and prefixes of modules."""
+    """What the `use` lines of a module bring in: names, and prefixes of modules."""
 
     def __init__(self):
         self.single, self.prefixes = {}, {}
@@ -63,13 +63,13 @@ class Names:
 class Item:
     """A definition, a declared type or a contract: its text, and the names that it cites."""
 
-    def __init__(self, crate, room, name, kind, text, names, line):
-        self.crate, self.room, self.name, self.kind = crate, room, name, kind
+    def __init__(self, crate, module, name, kind, text, names, line):
+        self.crate, self.module, self.name, self.kind = crate, module, name, kind
         self.text, self.names, self.line = text, names, line
         self.public, self.heads, self.uses = False, [], {}
         self.cites, self.kit = {}, set()
 
-    key = property(lambda self: (self.crate, self.room, self.name))
+    key = property(lambda self: (self.crate, self.module, self.name))
 
     def __repr__(self):
         return "%s.%s.%s" % self.key
@@ -93,7 +93,7 @@ class Sources:
         self.crates = [re.match(r"\w+", line).group(0) for line in lines]
         self.defs, self.types, self.traits, self.contracts = {}, {}, {}, {}
         self.members, self.lemmas, self.uses, self.models = {}, {}, {}, {}
-        self.rooms = {}
+        self.modules = {}
         for crate in self.crates:
             self.read_specs(crate)
             self.read_code(crate)
@@ -116,16 +116,16 @@ class Sources:
             lines = read(os.path.join(folder, WORKING + ".antt"))
             order += ["%s.%s" % (WORKING, line.split()[-1])
                       for line in lines if re.match(r"(pub )?mod ", line)]
-        self.rooms[crate] = order
-        for room in order:
-            self.read_spec(crate, room, read(os.path.join(folder, path_of(room))))
+        self.modules[crate] = order
+        for module in order:
+            self.read_spec(crate, module, read(os.path.join(folder, path_of(module))))
 
-    def read_spec(self, crate, room, lines):
+    def read_spec(self, crate, module, lines):
         names = Names()
         lines = ["" if line.startswith("use ") and names.take(line) else line for line in lines]
-        self.read_chunks(crate, room, names, lines, 1, [])
+        self.read_chunks(crate, module, names, lines, 1, [])
 
-    def read_chunks(self, crate, room, names, lines, first, heads):
+    def read_chunks(self, crate, module, names, lines, first, heads):
         """Cuts lines into definitions, each with the comment before it, also those of a module."""
         chunks, waiting = [], []
         for number, line in enumerate(lines, first):
@@ -144,32 +144,32 @@ class Sources:
         for number, line, text in chunks:
             text = without_blank_ends(text)
             if line.startswith("module"):
-                self.read_module(crate, room, names, number, text, heads)
+                self.read_module(crate, module, names, number, text, heads)
             else:
-                self.add_chunk(crate, room, names, number, line, text, heads)
+                self.add_chunk(crate, module, names, number, line, text, heads)
 
-    def read_module(self, crate, room, names, number, text, heads):
+    def read_module(self, crate, module, names, number, text, heads):
         start = next(place for place, line in enumerate(text) if line.startswith("module"))
         end = start + 1
         while not text[end - 1].rstrip().endswith("where"):
             end += 1
         inner, head = [line[2:] for line in text[end:]], " ".join(text[start:end])
-        self.read_chunks(crate, room, names, inner, number + end, heads + [head])
+        self.read_chunks(crate, module, names, inner, number + end, heads + [head])
 
-    def add_chunk(self, crate, room, names, number, first, text, heads):
+    def add_chunk(self, crate, module, names, number, first, text, heads):
         found = SPEC_ITEM.match(first)
         kind = re.match(r"(?:pub )?(record|data)?", first).group(1) or "abbrev"
         if kind == "abbrev" and not re.match(r"(abbrev|unfoldable)", first):
-            self.lemmas[(crate, room, found.group(1))] = True
+            self.lemmas[(crate, module, found.group(1))] = True
             return
-        item = Item(crate, room, found.group(1), kind, text, names, number)
+        item = Item(crate, module, found.group(1), kind, text, names, number)
         item.heads = heads
         self.defs[item.key] = item
         if kind == "data":
             for line in text:
                 member = re.match(r"\s+(?:pub )?(%s)(?: [^:]*)?:" % NAME, strip_comment(line, "--"))
                 if member and line != first:
-                    self.members[(crate, room, member.group(1))] = item.key
+                    self.members[(crate, module, member.group(1))] = item.key
 
     # code
 
@@ -179,11 +179,11 @@ class Sources:
             if name.endswith(".rt"):
                 self.read_room(crate, name[:-3], read(os.path.join(folder, name)))
 
-    def read_room(self, crate, room, lines):
+    def read_room(self, crate, module, lines):
         if any(line.startswith("#![cfg(test)]") for line in lines):
             return
         names = Names()
-        uses = self.uses.setdefault((crate, room), {})
+        uses = self.uses.setdefault((crate, module), {})
         place = 0
         while place < len(lines):
             line = lines[place]
@@ -194,13 +194,13 @@ class Sources:
             elif line.startswith("#[cfg(test)]") and re.match(r"mod \w+ \{", lines[place + 1]):
                 break
             elif RUST_TYPE.match(line):
-                place = self.add_type(crate, room, names, lines, place)
+                place = self.add_type(crate, module, names, lines, place)
                 continue
             elif RUST_BLOCK.match(line):
-                place = self.add_block(crate, room, names, lines, place)
+                place = self.add_block(crate, module, names, lines, place)
                 continue
             elif RUST_FUNCTION.match(line):
-                place = self.add_function(crate, room, names, lines, place, None)
+                place = self.add_function(crate, module, names, lines, place, None)
                 continue
             place += 1
 
@@ -241,16 +241,16 @@ class Sources:
             place += 1
         return place + 1
 
-    def add_type(self, crate, room, names, lines, place):
+    def add_type(self, crate, module, names, lines, place):
         kind, name = RUST_TYPE.match(lines[place]).groups()[1:]
         first, end = self.doc_before(lines, place), self.end_of_block(lines, place)
-        item = Item(crate, room, name, kind, lines[first:end], names, place + 1)
-        item.uses = self.uses[(crate, room)]
+        item = Item(crate, module, name, kind, lines[first:end], names, place + 1)
+        item.uses = self.uses[(crate, module)]
         item.said_public = lines[place].startswith("pub ")
         (self.traits if kind == "trait" else self.types)[item.key] = item
         return end
 
-    def add_block(self, crate, room, names, lines, place):
+    def add_block(self, crate, module, names, lines, place):
         """An `impl` block: the model of a type, or functions of a type."""
         head, end = RUST_BLOCK.match(lines[place]).group(1), self.end_of_block(lines, place)
         inner = names.copy()
@@ -261,34 +261,34 @@ class Sources:
         owner = re.search(r"(\w+)\s*$", head).group(1)
         trait = re.search(r"(\w+) for ", head)
         if trait and trait.group(1) == "Model":
-            item = Item(crate, room, owner, "model", lines[place:end], inner, place + 1)
+            item = Item(crate, module, owner, "model", lines[place:end], inner, place + 1)
             self.models[item.key] = item
             return end
         here, owner = place + 1, (owner, trait and trait.group(1))
         while here < end:
             if RUST_FUNCTION.match(lines[here]):
-                here = self.add_function(crate, room, inner, lines, here, owner)
+                here = self.add_function(crate, module, inner, lines, here, owner)
             else:
                 ghost = re.match(r"    ghost (\w+)\b", lines[here])
                 if ghost and not lines[here].strip().startswith("ghost use"):
                     member = ghost.group(1)
-                    here = self.add_ghost(crate, room, inner, lines, here, member, owner)
+                    here = self.add_ghost(crate, module, inner, lines, here, member, owner)
                 else:
                     here += 1
         return end
 
-    def add_ghost(self, crate, room, names, lines, place, name, owner):
+    def add_ghost(self, crate, module, names, lines, place, name, owner):
         """A member that an `impl` gives a trait: its meaning belongs to the contract."""
         end = place
         while not lines[end].rstrip().endswith("};"):
             end += 1
         text = lines[place:end + 1]
-        item = Item(crate, room, "%s.%s" % (owner[0], name), "ghost", text, names, place + 1)
+        item = Item(crate, module, "%s.%s" % (owner[0], name), "ghost", text, names, place + 1)
         item.owner, item.said_public = owner, True
         self.contracts[item.key + (place,)] = item
         return end + 1
 
-    def add_function(self, crate, room, names, lines, place, owner):
+    def add_function(self, crate, module, names, lines, place, owner):
         indent, visible, name = RUST_FUNCTION.match(lines[place]).groups()
         first, end = self.doc_before(lines, place), place
         while not self.ends_contract(lines[end], indent, lines[place:end]):
@@ -297,9 +297,9 @@ class Sources:
         text = lines[first:end] if opens else lines[first:end + 1]
         own = names.copy()
         name = "%s.%s" % (owner[0], name) if owner else name
-        item = Item(crate, room, name, "fn", text, own, place + 1)
+        item = Item(crate, module, name, "fn", text, own, place + 1)
         item.owner, item.said_public = owner, visible == "pub "
-        item.uses = self.uses[(crate, room)]
+        item.uses = self.uses[(crate, module)]
         self.contracts[item.key + (place,)] = item
         if lines[end].rstrip().endswith((";", "}")):
             return end + 1
@@ -321,13 +321,13 @@ class Sources:
         """Marks what can be named from outside the crate: types, traits, functions."""
         folder = os.path.join(TOP, "crates", crate, "src")
         root = "lib" if os.path.exists(os.path.join(folder, "lib.rt")) else "main"
-        rooms, names = set(), {}
+        modules, names = set(), {}
         lines = read(os.path.join(folder, root + ".rt"))
         place = 0
         while place < len(lines):
             module = re.match(r"pub mod (\w+);", lines[place])
             if module:
-                rooms.add(module.group(1))
+                modules.add(module.group(1))
             elif lines[place].startswith("pub use "):
                 taken = {}
                 place = self.take_use(lines, place, taken)
@@ -335,19 +335,19 @@ class Sources:
                     names.setdefault(source.split("::")[-1], set()).add(name)
             place += 1
 
-        def shown(room, name):
-            return room in rooms or room == root or name in names.get(room, ())
+        def shown(module, name):
+            return module in modules or module == root or name in names.get(module, ())
 
         for item in list(self.types.values()) + list(self.traits.values()):
             if item.crate == crate:
-                item.public = item.said_public and shown(item.room, item.name)
+                item.public = item.said_public and shown(item.module, item.name)
         own = [item for item in self.types.values() if item.crate == crate]
         public_types = {item.name for item in own if item.public}
         for item in self.contracts.values():
             if item.crate != crate:
                 continue
             if item.owner is None:
-                item.public = item.said_public and shown(item.room, item.name)
+                item.public = item.said_public and shown(item.module, item.name)
             else:
                 kind, trait = item.owner
                 item.public = kind in public_types and (item.said_public or trait is not None)
@@ -369,8 +369,8 @@ class Sources:
             return key
         return self.members.get(key)
 
-    def find_type(self, crate, room, name):
-        key = (crate, room, name)
+    def find_type(self, crate, module, name):
+        key = (crate, module, name)
         return key if key in self.types or key in self.traits else None
 
     def find_by_use(self, crate, uses, name):
@@ -382,9 +382,9 @@ class Sources:
         where = crate if parts[0] == "crate" else parts[0]
         if where not in self.crates:
             return None
-        rooms = parts[1:] if parts[0] == "crate" else []
+        modules = parts[1:] if parts[0] == "crate" else []
         for key in list(self.types) + list(self.traits):
-            if key[0] == where and key[2] == original and (not rooms or key[1] == rooms[-1]):
+            if key[0] == where and key[2] == original and (not modules or key[1] == modules[-1]):
                 return key
         return None
 
@@ -407,8 +407,8 @@ class Sources:
     def cite_operators(self, item, part):
         """Cites the operators whose signs stand alone in the part. Those that join parts are not
         written in a `do`, and are meant by it."""
-        own = {name: (crate, room, name) for crate, room, name in self.defs
-               if "◌" in name and (crate, room) == (item.crate, item.room)}
+        own = {name: (crate, module, name) for crate, module, name in self.defs
+               if "◌" in name and (crate, module) == (item.crate, item.module)}
         brought = {name: self.find(path, original)
                    for name, (path, original) in item.names.single.items() if "◌" in name}
         for name, key in {**own, **brought}.items():
@@ -464,13 +464,13 @@ class Sources:
                 item.kit.add((path, parts[0]))
             return
         if item.kind in ("abbrev", "record", "data"):
-            key = (item.crate, item.room, parts[0])
+            key = (item.crate, item.module, parts[0])
             key = key if key in self.defs or key in self.lemmas else self.members.get(key)
             if key and key != item.key:
                 item.cites[key] = True
             return
         key = self.find_by_use(item.crate, item.uses, parts[0]) \
-            or self.find_type(item.crate, item.room, parts[0])
+            or self.find_type(item.crate, item.module, parts[0])
         if key and key != item.key:
             item.cites[key] = True
 
@@ -494,7 +494,7 @@ class Sources:
             kept = (kept or re.match(r"\s+ghost Value\b", line) is not None) and bool(line.strip())
             if kept:
                 lines.append(line)
-        item = Item(model.crate, model.room, model.name, "model", lines, model.names, model.line)
+        item = Item(model.crate, model.module, model.name, "model", lines, model.names, model.line)
         self.resolve(item)
         return item.cites
 
@@ -516,8 +516,8 @@ class Sources:
         cited.update(*(self.cited_by(key, True) for key in modelled))
         return cited, self.closure(cited, True) - cited
 
-    def contract(self, crate, room, name):
+    def contract(self, crate, module, name):
         for item in self.contracts.values():
-            if item.key == (crate, room, name):
+            if item.key == (crate, module, name):
                 return item
         return None
