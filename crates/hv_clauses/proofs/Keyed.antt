@@ -163,6 +163,31 @@ more_after heads key place e rises less more k d late within =
     let same = ap (λ (h : Head). h.key) (get_or_default heads place d e less) in
     omega arith
 
+-- The head at a place is of the key, and those before it are of lesser ones.
+pub first_here : (heads : List Head) (key place : ℕ) (e : Head)
+    → IsNonDecreasingBy (λ h. h.key) heads → place < length heads → (get_or heads place e).key ≡ key
+    → ((k : ℕ) (d : Head) → k < place → (get_or heads k d).key < key)
+    → IsFirstHead key heads place
+first_here heads key place e rises less is before =
+    record {
+      within = omega arith;
+      before = before;
+      after = λ k d late within.
+          let order = rises place k d late within in
+          let same = ap (λ (h : Head). h.key) (get_or_default heads place d e less) in
+          omega arith;
+    }
+
+-- The head before a place is of a lesser key.
+pub less_before : (heads : List Head) (key place : ℕ) (e : Head)
+    → IsNonDecreasingBy (λ h. h.key) heads → place < length heads
+    → (get_or heads place e).key < key
+    → (k : ℕ) (d : Head) → k < place + 1 → (get_or heads k d).key < key
+less_before heads key place e rises less lesser k d below =
+    let order = rises k place d (omega arith) less in
+    let same = ap (λ (h : Head). h.key) (get_or_default heads place d e less) in
+    omega arith
+
 -- Heads among which so many are of lesser keys.
 module _ (codes : List ℕ) (heads : List Head) (are : AreHeads codes heads) (key place : ℕ)
     (first : IsFirstHead key heads place) where

@@ -72,6 +72,11 @@ pub(crate) fn said(base: &[Literal], atoms: usize, atom: u32) -> Option<bool>
     requires atom { atom < atoms }
     ensures { result ≡ known (marked atoms base.now) atom }
 {
+    // Where nearly every atom has a literal, it is here: what has none comes before it.
+    let near = (atom as usize).saturating_sub(atoms.saturating_sub(base.len()));
+    if near < base.len() && base[near].atom == atom {
+        return Some(base[near].positive);
+    }
     let place = place_in(base, atom);
     if place >= base.len() {
         return None;

@@ -162,7 +162,33 @@ fn count_below(heads: &[Head], key: u32) -> usize
     requires { IsNonDecreasingBy (λ h. h.key) heads.now }
     ensures { IsFirstHead key heads.now result }
 {
+    let near = near_of(heads, key);
+    if is_first(heads, near, key) {
+        return near;
+    }
     heads.partition_point(|head| head.key < key)
+}
+
+// Where the head of a key stands, if each greater key up to the last has a head.
+fn near_of(heads: &[Head], key: u32) -> usize {
+    match heads.last() {
+        Some(last) => {
+            let missing = (last.key as usize + 1).saturating_sub(heads.len());
+            (key as usize).saturating_sub(missing)
+        }
+        None => 0,
+    }
+}
+
+// Whether the head at a place is the first one of the key.
+fn is_first(heads: &[Head], place: usize, key: u32) -> bool
+    requires { IsNonDecreasingBy (λ h. h.key) heads.now }
+    ensures { result ≡ true → IsFirstHead key heads.now place }
+{
+    if place >= heads.len() || heads[place].key != key {
+        return false;
+    }
+    place == 0 || heads[place - 1].key < key
 }
 
 // How many heads are of this key or lesser ones, where so many are of lesser ones.

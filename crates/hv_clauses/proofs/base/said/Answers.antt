@@ -19,6 +19,13 @@ returns-then-literal-atom c =
     (λ d less same. other (ap (λ (l : Literal). l.atom)
     (get_or_default c.args.base.now c.place_in-place.result _ d less) ∙ same)))
 
+pub returns-then-base-near : goal.returns-then-base-near
+returns-then-base-near c =
+    let less = c.if-near-base.true in
+    sym (said_at c.args.base.now c.args.atoms c.args.atom c.saturating_sub-near.result _
+    c.requires.rises c.requires.atom less
+    (get_or_default c.args.base.now c.saturating_sub-near.result _ _ less) c.if-base-near.true)
+
 pub returns-then-place-base : goal.returns-then-place-base
 returns-then-place-base c =
     let past = c.if-place-base.true in
