@@ -7,7 +7,7 @@ ghost use Rattle.hv_sets.specs.Cost.{ClausesPass, IsAnswer};
 ghost use Rattle.hv_sets.specs.Query.{IsReady, is_clash};
 ghost use Rattle.hv_sets.specs.Room.{HasRoom, KeepsLengths};
 ghost use Rattle.hv_clauses.specs.Clausal.{tests_of, sizes_of};
-ghost use Rattle.hv_clauses.specs.Working.Found.{IsBased, IsBegun, IsFound, IsMet};
+ghost use Rattle.hv_clauses.specs.Working.Found.{IsBased, IsSearchBegun, IsFound, IsMet};
 ghost use Rattle.hv_clauses.specs.Working.Found.{IsMetBelow};
 ghost use Rattle.hv_clauses.specs.Working.Posed.{Applies, InEach, IsPosed, choices, formulas};
 ghost use Rattle.hv_clauses.specs.Working.Posed.{width};
@@ -142,7 +142,7 @@ fn search_on<K: ClauseKind>(
     state: &mut State,
 ) -> bool
     requires cost { cost ≡ choices problem.now }
-    requires begun { IsBegun problem.now place marks.old }
+    requires begun { IsSearchBegun problem.now place marks.old }
     requires state { length state.old ≡ width problem.now }
     ensures met { IsMetBelow result (choices problem.now) (width problem.now)
         (FitsChoice problem.now) state.new }
@@ -169,7 +169,7 @@ fn mark_base<K: ClauseKind>(
     requires follows { HoldInEach problem.now (marks_of marks.old) }
     ensures { MatchOption result ((state : List Bool) → length state ≡ width problem.now
         → Applies problem.now state → InEach problem.now state → ⊥)
-        (λ place. IsBegun problem.now place marks.new) }
+        (λ place. IsSearchBegun problem.now place marks.new) }
 {
     if !effect::mark_pre(problem, marks) {
         return None;

@@ -43,7 +43,7 @@ pub record IsBased (p : Problem) (knowledge : Knowledge) : Type 0 where
   pub left : AreLeft p knowledge (length knowledge.trail)
 
 -- the same, where what the trail has from a place on is still to be followed up
-pub record IsBegun (p : Problem) (place : ℕ) (knowledge : Knowledge) : Type 0 where
+pub record IsSearchBegun (p : Problem) (place : ℕ) (knowledge : Knowledge) : Type 0 where
   pub wide : length knowledge.base ≡ width p
   pub base : IsBase p (marks_of knowledge)
   pub within : place ≤ length knowledge.trail

@@ -2,7 +2,7 @@ use Rattle.std.proofs.Common.{◌≡◌, ℕ, ◌≤◌, ◌∙◌, false, Optio
 use Rattle.std.proofs.Common.{subst}
 use Rattle.std.specs.Option.{MatchOption}
 use Rattle.std.specs.Prelude.{is_some}
-use Rattle.hv_clauses.specs.Working.Found.{IsBegun}
+use Rattle.hv_clauses.specs.Working.Found.{IsSearchBegun}
 use Rattle.hv_clauses.specs.Working.Problem.{AreLeft}
 use Rattle.hv_clauses.specs.Working.Start.{IsBasedOn}
 use Rattle.hv_clauses.specs.Working.Trail.{marks_of}
@@ -60,7 +60,7 @@ returns g c =
     let wide_all = ap length all.base ∙ wide_pre in
     let wide = ap length last.base ∙ wide_all in
     match_from c.close_upto.result
-    (λ place. (place ≤ length new.trail) × AreLeft p new place) _ (λ place. IsBegun p place new)
+    (λ place. (place ≤ length new.trail) × AreLeft p new place) _ (λ place. IsSearchBegun p place new)
     (λ none state size applies inside. last.broken none state (size ∙ sym wide_all) inside
     (all.follows state (size ∙ sym wide_pre) inside
     (pre.marked.follows state (size ∙ sym (length-marks k ∙ c.requires.marks)) applies
