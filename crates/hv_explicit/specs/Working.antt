@@ -3,6 +3,7 @@ pub mod Codes
 pub mod Coding
 pub mod Places
 pub mod Listing
+pub mod Columns
 pub mod Holders
 pub mod Owners
 pub mod Laws

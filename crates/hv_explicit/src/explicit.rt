@@ -107,7 +107,7 @@ impl Explicit {
     {
         match &self.holders {
             None => Ok(None),
-            Some(holders) => holding_all(alloc, holders, atoms),
+            Some(holders) => holding_all(alloc, holders, atoms, self.states.len()),
         }
     }
 
@@ -261,8 +261,7 @@ fn holders_if_many(
     firsts: &[u32],
 ) -> Result<Option<Holders>, AllocError>
     requires { ArePlacesOf states.now firsts.now }
-    ensures { IfOk result (λ found. IfSome found (λ h.
-        IsHolderIndex states.now firsts.now h.keys.items h.starts.items h.places.items)) }
+    ensures { IfOk result (λ found. IfSome found (IsHolderIndex states.now firsts.now)) }
 {
     if firsts.len() <= FEW {
         return Ok(None);

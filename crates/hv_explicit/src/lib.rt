@@ -3,6 +3,7 @@
 
 mod codes;
 mod coding;
+mod columns;
 pub mod explicit;
 pub mod explicits;
 mod firsts;

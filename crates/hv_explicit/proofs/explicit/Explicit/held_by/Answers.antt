@@ -1,4 +1,5 @@
-use Rattle.std.proofs.Common.{subst}
+use Rattle.std.proofs.Common.{◌<◌, subst}
+use Rattle.std.specs.List.{All}
 use Rattle.std.specs.Option.{IfSome}
 use Rattle.std.specs.Result.{IfOk}
 use Rattle.hv_explicit.specs.Listing.{Listing}
@@ -14,8 +15,7 @@ returns-in-Some c =
     (λ o. IfSome o (λ part. AreHolders set.states c.args.atoms.now (listed_places part))))
     c.self.view_is
     (zip_found _ _ _ c.holding_all.result c.holding_all.ensures.only c.holding_all.ensures.all
-    (λ part only all. are_holders s.states s.firsts.places.items h.keys.items h.starts.items
-    h.places.items (listed_places part)
+    (λ part only all. are_holders s.states s.firsts.places.items h (listed_places part)
     c.args.atoms.now c.self.invariant.firsts_are
-    (held_index s.states s.firsts.places.items _ h c.in-Some.is c.self.invariant.holders_are) only
-    all))
+    (held_index s.states s.firsts.places.items _ h c.in-Some.is c.self.invariant.holders_are)
+    (subst (λ n. All (λ p. p < n) (listed_places part)) c.len.ensures.len only) all))
