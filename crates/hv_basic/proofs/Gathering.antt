@@ -1,20 +1,63 @@
 -- Gathering what literals ask about, leaf by leaf.
 use Rattle.std.proofs.Common.{◌≡◌, ℕ, zero, suc, ◌<◌, ◌≤◌, ◌+◌, ◌∙◌, ◌⊎◌, ◌++◌, Bool, true, false}
-use Rattle.std.proofs.Common.{List, [], ◌∷◌, length, get_or, take, refl, sym, ap, subst, inl, inr}
+use Rattle.std.proofs.Common.{List, [], ◌∷◌, Option, Some, None, length, get_or, take, refl, sym, ap, subst, inl, inr}
 use Rattle.std.proofs.Common.{arith}
 use Rattle.std.proofs.lemmas.List.Elements.{Contains-append_left, Contains-push}
 use Rattle.std.proofs.lemmas.List.Elements.{Contains-push_cases}
-use Rattle.std.proofs.lemmas.List.{take_all}
-use Rattle.std.specs.List.{Contains}
+use Rattle.std.proofs.lemmas.List.{get_or-map, take_all}
+use Rattle.std.specs.List.{All, Contains}
+use Rattle.std.specs.Option.{MatchOption}
 use Rattle.hv_lines.specs.Literals.{IsLiteral}
 use Rattle.hv_lines.specs.Shapes.{IsLiteralOf}
 use Rattle.hv_lines.specs.declared.line.Line.{Line}
 use Rattle.hv_lines.proofs.Shaped.{literal_from, literal_once}
 use Rattle.hv_basic.specs.Working.Gathered.{AreGathered, AreOthers, IsGiven, IsThe, sign_on}
+use Rattle.hv_basic.specs.Working.Leaves.{IsRead, places}
 use Rattle.hv_basic.specs.declared.literals.Asking.{Asking}
+use Rattle.hv_basic.specs.declared.literals.Leaf.{Leaf}
 use Rattle.hv_basic.specs.declared.literals.Literal.{Literal}
 use Rattle.hv_basic.specs.declared.literals.Others.{Others}
 use Rattle.hv_basic.specs.declared.literals.Others.TheVariants as O
+
+-- what was read of leaves stays so in a list that is the same
+pub read_there : (lines : List Line) (xs ys : List Leaf) → xs ≡ ys → All (IsRead lines) ys
+    → All (IsRead lines) xs
+read_there lines xs ys same = subst (All (IsRead lines)) (sym same)
+
+place_at : (leaves : List Leaf) (i : ℕ) (d : Leaf) → i < length leaves
+    → get_or (places leaves) i 0 ≡ (get_or leaves i d).place
+place_at leaves i d within = get_or-map (λ (leaf : Leaf). leaf.place) leaves i d 0 within
+
+-- what was read of the leaf at a place
+module _ (lines : List Line) (leaves : List Leaf) (i : ℕ) (d : Leaf) (within : i < length leaves)
+    (read : All (IsRead lines) leaves) where
+  read_at : (l : Option Literal) → (get_or leaves i d).literal ≡ l
+      → MatchOption l (IsLiteral lines (get_or leaves i d).place → ⊥)
+      (IsThe lines (get_or leaves i d).place)
+  read_at l is = subst (λ x. MatchOption x (IsLiteral lines (get_or leaves i d).place → ⊥)
+      (IsThe lines (get_or leaves i d).place)) is (read i d within).is
+
+  pub literal_at : (literal : Literal) → (get_or leaves i d).literal ≡ Some literal
+      → IsThe lines (get_or (places leaves) i 0) literal
+  literal_at literal is =
+      subst (λ leaf. IsThe lines leaf literal) (sym (place_at leaves i d within))
+      (read_at (Some literal) is)
+
+  pub other_at : (get_or leaves i d).literal ≡ None
+      → IsLiteral lines (get_or (places leaves) i 0) → ⊥
+  other_at is =
+      subst (λ leaf. IsLiteral lines leaf → ⊥) (sym (place_at leaves i d within)) (read_at None is)
+
+  pub others_with : (others result : Others) → (get_or leaves i d).literal ≡ None
+      → AreOthers lines (take i (places leaves)) others
+      → ((all : List Line) (before : List ℕ) → AreOthers all before others
+      → (IsLiteral all (get_or leaves i d).place → ⊥)
+      → AreOthers all (before ++ (get_or leaves i d).place ∷ []) result)
+      → AreOthers lines (take i (places leaves) ++ get_or (places leaves) i 0 ∷ []) result
+  others_with others result is are with =
+      subst (λ leaf. AreOthers lines (take i (places leaves) ++ leaf ∷ []) result)
+      (sym (place_at leaves i d within))
+      (with lines (take i (places leaves)) are (read_at None is))
 
 -- one more of a list
 pub take_more : {X : Type 0} (xs : List X) (i : ℕ) (d : X) → i < length xs

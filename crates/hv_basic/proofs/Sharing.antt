@@ -1,22 +1,24 @@
 -- What is kept of a right side stays right, and grows with the union.
-use Rattle.std.proofs.Common.{◌≡◌, ℕ, zero, suc, ◌<◌, ◌+◌, ◌-◌, ◌∙◌, ◌⊎◌, ◌↔◌, ◌++◌, Bool, false}
+use Rattle.std.proofs.Common.{◌≡◌, ℕ, zero, suc, ◌<◌, ◌+◌, ◌-◌, ◌∙◌, ◌⊎◌, ◌↔◌, ◌++◌, Bool, true, false}
 use Rattle.std.proofs.Common.{List, [], ◌∷◌, Option, Some, None, length, map, get_or, drop, eqb}
 use Rattle.std.proofs.Common.{refl, sym, ap, ap₂, subst, inl, inr, arith}
 use Rattle.std.proofs.lemmas.Bool.{cases_lt, cond-false, ne_eqb}
-use Rattle.std.proofs.lemmas.List.{get_or_append_left, length-append, map-append}
+use Rattle.std.proofs.lemmas.List.{get_or-map, get_or_append_left, length-append, length-map}
+use Rattle.std.proofs.lemmas.List.{map-append}
 use Rattle.std.proofs.lemmas.List.Elements.{Contains-append_left, Contains-push}
 use Rattle.std.proofs.lemmas.List.Elements.{Contains-push_cases}
 use Rattle.std.proofs.lemmas.Option.{get_or_from_slice_get, slice_get-get_or, slice_get_within}
 use Rattle.std.proofs.Math.Seq.{get_or-append_seam}
 use Rattle.std.specs.List.{Contains, slice_get}
-use Rattle.std.specs.Option.{IfSome}
+use Rattle.std.specs.Option.{IfSome, MatchOption}
 use Rattle.hv_sets.specs.declared.operand.Operand.{Operand}
 use Rattle.hv_sets.specs.declared.operand.Which.{Which}
 use Rattle.hv_sets.specs.declared.query.Query.{Query}
-use Rattle.hv_lines.specs.Literals.{IsPlainSet}
+use Rattle.hv_lines.specs.Literals.{IsLiteral, IsPlainSet}
 use Rattle.hv_lines.specs.Numbering.{MayFollow, IsTable, expr_at, expr_count}
 use Rattle.hv_lines.specs.Queries.{count_of, named_by, operand_of, which_at}
-use Rattle.hv_lines.specs.Shapes.{Askings, AskingsRise, IsOfFamily, IsOrLeaf, IsWithinFamily, alone}
+use Rattle.hv_lines.specs.Shapes.{Askings, AskingsRise, IsLiteralOf, IsOfFamily, IsOrLeaf, IsWithinFamily}
+use Rattle.hv_lines.specs.Shapes.{alone}
 use Rattle.hv_lines.specs.Shapes.{family_of, of_left, of_right, or_parts}
 use Rattle.hv_lines.specs.declared.family.FormulaFamily.{FormulaFamily}
 use Rattle.hv_lines.specs.declared.line.Expr.{Expr}
@@ -27,8 +29,12 @@ use Rattle.hv_lines.proofs.Laws.{expr_at_more, expr_below, exprs_grow, refers_be
 use Rattle.hv_lines.proofs.Truth.{or_is}
 use Rattle.hv_lines.proofs.Elements.{cons_cases, head_in, tail_in}
 use Rattle.hv_basic.specs.Sharing.{ArePlain, IsKeptFor, IsNoFormula, IsShared, IsTheFamily}
+use Rattle.hv_basic.specs.Working.Gathered.{IsThe}
+use Rattle.hv_basic.specs.Working.Leaves.{IsRead, places}
 use Rattle.hv_basic.specs.Working.Sharing.{AreAddedTo, IsFamilyWith, IsMadeOf}
 use Rattle.hv_basic.specs.Working.Sharing.{IsPartBeside}
+use Rattle.hv_basic.specs.declared.literals.Leaf.{Leaf}
+use Rattle.hv_basic.specs.declared.literals.Literal.{Literal}
 use Rattle.hv_basic.specs.declared.shared.Kept.{Kept}
 use Rattle.hv_basic.proofs.Leafing.{leaf_parts}
 
@@ -268,7 +274,7 @@ plain_push lines after family both asked operands leaf expr operand are plain la
 
 -- leaves that are added from the last to the first
 
-pub added_more : (after : Bool) (leaves : List ℕ) (i next leaf : ℕ) (old mid new : Askings)
+added_more : (after : Bool) (leaves : List ℕ) (i next leaf : ℕ) (old mid new : Askings)
     → i < length leaves → next ≡ suc i
     → leaf ≡ get_or leaves i 0 → AreAddedTo after (drop next leaves) old mid
     → new ≡ mid ++ (leaf, after) ∷ []
@@ -307,6 +313,26 @@ added_more after leaves i next leaf old mid new below follows is added pushed ot
             ]
       ],
     )
+
+-- one more of the leaves, of which the oldest is the last
+pub added_at : (after also : Bool) (leaves : List Leaf) (count : ℕ) (d : Leaf)
+    (old mid new : Askings) → count < length leaves → also ≡ after
+    → AreAddedTo after (drop (length (places leaves) - count) (places leaves)) old mid
+    → new ≡ mid ++ ((get_or leaves (length leaves - 1 - count) d).place, also) ∷ []
+    → AreAddedTo after (drop (length (places leaves) - (count + 1)) (places leaves)) old new
+added_at after also leaves count d old mid new more same added pushed =
+    let size = length-map leaves (λ (leaf : Leaf). leaf.place) in
+    let last : length leaves - 1 - count ≡ length (places leaves) - (count + 1) =
+    omega (arith, size) in
+    let within : length leaves - 1 - count < length leaves = omega (arith, more) in
+    added_more after (places leaves) (length (places leaves) - (count + 1))
+    (length (places leaves) - count) (get_or leaves (length leaves - 1 - count) d).place old mid new
+    (omega (arith, size, more)) (omega (arith, size, more))
+    (sym (get_or-map (λ (leaf : Leaf). leaf.place) leaves (length leaves - 1 - count) d 0 within)
+    ∙ ap (λ k. get_or (places leaves) k 0) last)
+    added
+    (subst (λ b. new ≡ mid ++ ((get_or leaves (length leaves - 1 - count) d).place, b) ∷ []) same
+    pushed)
 
 -- what is kept becomes the union's
 pub kept_for : (lines : List Line) (root part : ℕ) (after : Bool) (leaves : List ℕ)
@@ -380,6 +406,26 @@ after_last asked leaf rises some last a (k, below, is) =
           (slice_get-get_or asked (length asked - 1) a (omega (arith, some))))) in
           subst (λ (p : ℕ × Bool). p.0 < leaf) (sym one) last
     ]
+
+-- what was read of a leaf that is a formula or constant itself
+pub plain_read : (lines : List Line) (leaf : Leaf) (literal : Literal)
+    → leaf.literal ≡ Some literal → literal.is_plain ≡ true → IsRead lines leaf
+    → (leaf.place < expr_count lines) × IsPlainSet lines leaf.place
+    × ((expr : Expr) × (expr_at lines leaf.place ≡ Some expr) × (leaf.family ≡ family_of expr))
+plain_read lines leaf literal found plain read =
+    let is : IsLiteralOf lines leaf.place literal.set true =
+    subst (IsLiteralOf lines leaf.place literal.set) plain
+    (subst (λ l. MatchOption l (IsLiteral lines leaf.place → ⊥) (IsThe lines leaf.place)) found
+    read.is) in
+    (
+      subst (λ set. set < expr_count lines) (sym is.0)
+          (subst (λ l. IfSome l (λ (x : Literal). x.set < expr_count lines)) found read.below),
+      subst (IsPlainSet lines) (sym is.0) is.1,
+      subst (λ set. (expr : Expr) × (expr_at lines set ≡ Some expr)
+          × (leaf.family ≡ family_of expr)) (sym is.0)
+          (subst (λ l. IfSome l (λ (x : Literal). (expr : Expr)
+          × (expr_at lines x.set ≡ Some expr) × (leaf.family ≡ family_of expr))) found read.family),
+    )
 
 pub plain_pushed : (lines : List Line) (names : List Which) (after : Bool)
     (family both : Option FormulaFamily) (asked more : Askings)

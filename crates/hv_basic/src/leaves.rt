@@ -6,8 +6,10 @@ ghost use Rattle.std.specs.List.{All, Contains};
 ghost use Rattle.std.specs.Ordering.{nat_cmp};
 ghost use Rattle.hv_lines.specs.Numbering.{expr_count};
 ghost use Rattle.hv_lines.specs.Shapes.{IsLeaf};
+ghost use Rattle.hv_basic.specs.Working.Leaves.{IsRead, places};
 ghost use Rattle.hv_basic.specs.Working.Work.{AreAdded, IsLookedAt, IsTaken, parts_on};
 
+use crate::literals::{Leaf, leaf_of};
 use hv_lines::{Expr, Table};
 use std::alloc::{AllocError, Global};
 use std::collections::BTreeSet;
@@ -20,19 +22,18 @@ pub(crate) enum Side {
     Right,
 }
 
-/// The leaves of the set. Each set on the way is looked at once, however often it is shared: the
-/// newest first.
+/// The leaves of the set. The line of each set on the way is looked up once, however often the set
+/// is shared: the newest first.
 pub(crate) fn leaves(
     alloc: Global,
     table: &Table,
     side: Side,
     root: usize,
-) -> Result<Vec<usize>, AllocError>
+) -> Result<Vec<Leaf>, AllocError>
     requires { root < expr_count table.now.lines }
-    ensures leaves { IfOk result (λ found. (leaf : ℕ) → Contains found.items leaf
+    ensures leaves { IfOk result (λ found. (leaf : ℕ) → Contains (places found.items) leaf
         ↔ IsLeaf (parts_on side) table.now.lines root leaf) }
-    ensures below { IfOk result (λ found.
-        All (λ leaf. leaf < expr_count table.now.lines) found.items) }
+    ensures read { IfOk result (λ found. All (IsRead table.now.lines) found.items) }
 {
     let mut found = Vec::new(alloc);
     let mut work = BTreeSet::new(alloc);
@@ -45,21 +46,24 @@ pub(crate) fn leaves(
     Ok(found)
 }
 
-/// Keeps the set as a leaf, or adds its two parts to the work.
+/// Keeps the set as a leaf, with what its line says of it, or adds its two parts to the work.
 fn look_at(
     table: &Table,
     side: Side,
     set: usize,
     work: &mut BTreeSet<usize>,
-    found: &mut Vec<usize>,
+    found: &mut Vec<Leaf>,
 ) -> Result<(), AllocError>
-    requires { set < expr_count table.now.lines }
-    ensures { OnOk result
-        (IsLookedAt table.now.lines side set work.old work.new found.old.items found.new.items) }
+    requires set { set < expr_count table.now.lines }
+    requires read { All (IsRead table.now.lines) found.old.items }
+    ensures looked { OnOk result (IsLookedAt table.now.lines side set work.old work.new
+        (places found.old.items) (places found.new.items)) }
+    ensures read { OnOk result (All (IsRead table.now.lines) found.new.items) }
 {
-    match parts(side, table.expr(set)) {
+    let expr = table.expr(set);
+    match parts(side, expr) {
         None => {
-            found.push(set)?;
+            found.push(leaf_of(table, set, expr))?;
             Ok(())
         }
         Some((left, right)) => {

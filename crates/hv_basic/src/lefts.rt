@@ -29,7 +29,7 @@ pub(crate) fn left_of(
     let _count = table.expr_count();
     let lefts = leaves(alloc, table, Side::Left, left)?;
     let mut askings = Vec::new(alloc);
-    match gather(table, &lefts, true, asks_sides_after(word), &mut askings)? {
+    match gather(&lefts, true, asks_sides_after(word), &mut askings)? {
         Others::None => match word {
             Word::B1 => Ok(Sides {
                 askings,
@@ -67,7 +67,7 @@ fn add_step(
         return Err(ShapeFault::Shape);
     };
     let inner = leaves(alloc, table, Side::Left, set)?;
-    match gather(table, &inner, true, asks_step_after(word), into)? {
+    match gather(&inner, true, asks_step_after(word), into)? {
         Others::None => Ok(acts),
         Others::One(_) => Err(ShapeFault::Shape),
         Others::More => Err(ShapeFault::Shape),

@@ -6,9 +6,9 @@
 //!
 //! - `shared_verdicts::verdict_of` takes it, with the `case` that it is judged in (task, lines,
 //!   nodes, stores, budget) and what is kept of the right sides before it (`shared`).
-//! - `lefts::left_of` reads the left side, once for both ways of asking: `leaves` takes it apart,
-//!   `literals` gathers what its literals ask about, and the set of the progression is read like
-//!   it.
+//! - `lefts::left_of` reads the left side, once for both ways of asking: `leaves` takes it apart and
+//!   reads of each leaf's line which literal that is and of what family, `literals` gathers what the
+//!   literals ask about, and the set of the progression is read like it.
 //! - `rights` keeps the right side, if that is a union of formulas and constants: where it is the
 //!   one before and a further set, only the leaves of that set are looked up.
 //! - Where what is kept serves, and all that the left side asks about is positive, the question

@@ -1,14 +1,16 @@
 //! The literals among the leaves, and what they ask about.
 
-ghost use Rattle.std.specs.Prelude.{◌≡◌, ◌<◌, ◌++◌, ℕ, List, [], ◌∷◌, IfOk, IfSome, MatchOption};
+ghost use Rattle.std.specs.Prelude.{◌≡◌, ◌<◌, ◌++◌, ℕ, List, [], ◌∷◌, None, Some, IfOk};
+ghost use Rattle.std.specs.Prelude.{IfSome, MatchOption};
 ghost use Rattle.std.specs.List.{All};
 ghost use Rattle.hv_lines.specs.Literals.{IsLiteral};
-ghost use Rattle.hv_lines.specs.Numbering.{expr_count};
+ghost use Rattle.hv_lines.specs.Numbering.{ExprRefersBelow, acts_count, expr_at, expr_count};
 ghost use Rattle.hv_lines.specs.declared.line.Line.{Line};
 ghost use Rattle.hv_basic.specs.Working.Gathered.{AreGathered, AreOthers, IsThe, sign_on};
+ghost use Rattle.hv_basic.specs.Working.Leaves.{IsRead, places};
 
 use crate::families::plain_family;
-use hv_lines::{Expr, Table};
+use hv_lines::{Expr, FormulaFamily, Table};
 use std::alloc::AllocError;
 
 /// A literal: a formula or constant, or its negation.
@@ -17,6 +19,14 @@ pub(crate) struct Literal {
     pub set: usize,
     /// Whether it is the formula or constant itself.
     pub is_plain: bool,
+}
+
+/// A leaf, with the literal that it is, if it is one, and the family of that literal's formula.
+#[derive(Clone, Copy)]
+pub(crate) struct Leaf {
+    pub place: usize,
+    pub literal: Option<Literal>,
+    pub family: Option<FormulaFamily>,
 }
 
 /// What is asked about: a formula or constant, with its sign, before the action or after it.
@@ -35,47 +45,77 @@ pub(crate) enum Others {
     More,
 }
 
-/// The literal that the leaf is.
-pub(crate) fn literal_of(table: &Table, leaf: usize) -> Option<Literal>
-    requires { leaf < expr_count table.now.lines }
-    ensures is { MatchOption result (IsLiteral table.now.lines leaf → ⊥)
-        (IsThe table.now.lines leaf) }
+/// The literal that the set is.
+pub(crate) fn literal_of(table: &Table, set: usize) -> Option<Literal>
+    requires { set < expr_count table.now.lines }
+    ensures is { MatchOption result (IsLiteral table.now.lines set → ⊥)
+        (IsThe table.now.lines set) }
     ensures below { IfSome result (λ literal. literal.set < expr_count table.now.lines) }
 {
-    match table.expr(leaf) {
+    leaf_of(table, set, table.expr(set)).literal
+}
+
+/// The leaf, of which this is the line.
+pub(crate) fn leaf_of(table: &Table, place: usize, expr: &Expr) -> Leaf
+    requires place { place < expr_count table.now.lines }
+    requires says { expr_at table.now.lines place ≡ Some expr.now }
+    requires refers { ExprRefersBelow (acts_count table.now.lines)
+        (expr_count table.now.lines) expr.now }
+    ensures place { result.place ≡ place }
+    ensures read { IsRead table.now.lines result }
+{
+    match expr {
         Expr::Not(set) => match plain_family(table.expr(*set)) {
-            Some(_) => Some(Literal {
-                set: *set,
-                is_plain: false,
-            }),
-            None => None,
+            Some(family) => Leaf {
+                place,
+                literal: Some(Literal {
+                    set: *set,
+                    is_plain: false,
+                }),
+                family,
+            },
+            None => other_leaf(place),
         },
         expr => match plain_family(expr) {
-            Some(_) => Some(Literal {
-                set: leaf,
-                is_plain: true,
-            }),
-            None => None,
+            Some(family) => Leaf {
+                place,
+                literal: Some(Literal {
+                    set: place,
+                    is_plain: true,
+                }),
+                family,
+            },
+            None => other_leaf(place),
         },
+    }
+}
+
+fn other_leaf(place: usize) -> Leaf
+    ensures place { result.place ≡ place }
+    ensures literal { result.literal ≡ None }
+{
+    Leaf {
+        place,
+        literal: None,
+        family: None,
     }
 }
 
 /// Adds what the literals among the leaves ask about; the leaves that are no literals.
 pub(crate) fn gather(
-    table: &Table,
-    leaves: &[usize],
+    leaves: &[Leaf],
     on_left: bool,
     after: bool,
     into: &mut Vec<Asking>,
 ) -> Result<Others, AllocError>
-    requires { All (λ leaf. leaf < expr_count table.now.lines) leaves.now }
-    ensures gathered { IfOk result (λ _.
-        AreGathered table.now.lines leaves.now on_left after into.old.items into.new.items) }
-    ensures others { IfOk result (AreOthers table.now.lines leaves.now) }
+    ensures gathered { IfOk result (λ _. (lines : List Line) → All (IsRead lines) leaves.now
+        → AreGathered lines (places leaves.now) on_left after into.old.items into.new.items) }
+    ensures others { IfOk result (λ others. (lines : List Line) → All (IsRead lines) leaves.now
+        → AreOthers lines (places leaves.now) others) }
 {
     let mut others = Others::None;
     for leaf in leaves {
-        match literal_of(table, *leaf) {
+        match leaf.literal {
             Some(literal) => {
                 into.push(Asking {
                     set: literal.set,
@@ -83,7 +123,7 @@ pub(crate) fn gather(
                     positive: sign_on(on_left, literal.is_plain),
                 })?;
             }
-            None => others = with_other(others, *leaf),
+            None => others = with_other(others, leaf.place),
         }
     }
     Ok(others)

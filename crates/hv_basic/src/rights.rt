@@ -8,12 +8,14 @@ ghost use Rattle.hv_lines.specs.Numbering.{expr_count};
 ghost use Rattle.hv_lines.specs.Shapes.{AskingsRise};
 ghost use Rattle.hv_basic.specs.Cases.{lines_in};
 ghost use Rattle.hv_basic.specs.Sharing.{IsShared};
+ghost use Rattle.hv_basic.specs.Working.Leaves.{IsRead, places};
 ghost use Rattle.hv_basic.specs.Working.Sharing.{AreAddedTo, AreKeptPlain, IsMadeOf};
 ghost use Rattle.hv_basic.specs.Working.Sharing.{IsPartBeside};
 
 use crate::case::Case;
-use crate::families::{family_with, plain_family};
+use crate::families::family_with;
 use crate::leaves::{Side, leaves};
+use crate::literals::Leaf;
 use crate::shared::Kept;
 use hv_lines::{Expr, Table};
 use hv_sets::{Operand, Operands};
@@ -161,12 +163,12 @@ fn grow(
 }
 
 /// Adds the leaves, of which the oldest is the last: whether each could be added.
-fn add_all(case: &Case<'_>, kept: &mut Kept, leaves: &[usize]) -> Result<bool, AllocError>
-    requires leaves { All (λ leaf. leaf < expr_count (lines_in case.now)) leaves.now }
+fn add_all(case: &Case<'_>, kept: &mut Kept, leaves: &[Leaf]) -> Result<bool, AllocError>
+    requires read { All (IsRead (lines_in case.now)) leaves.now }
     requires plain { AreKeptPlain (lines_in case.now) kept.old }
     ensures plain { IfOk result (λ yes. yes ≡ true → AreKeptPlain (lines_in case.now) kept.new) }
-    ensures added { IfOk result (λ yes. yes ≡ true → AreAddedTo kept.old.after leaves.now
-        kept.old.question.negative.items kept.new.question.negative.items) }
+    ensures added { IfOk result (λ yes. yes ≡ true → AreAddedTo kept.old.after
+        (places leaves.now) kept.old.question.negative.items kept.new.question.negative.items) }
     ensures root { kept.new.root ≡ kept.old.root }
     ensures after { kept.new.after ≡ kept.old.after }
 {
@@ -181,31 +183,34 @@ fn add_all(case: &Case<'_>, kept: &mut Kept, leaves: &[usize]) -> Result<bool, A
 
 /// Adds the leaf, if it is a formula or constant, its identifier comes after those before, and no
 /// other family comes in by it.
-fn add_one(case: &Case<'_>, kept: &mut Kept, leaf: usize) -> Result<bool, AllocError>
-    requires leaf { leaf < expr_count (lines_in case.now) }
+fn add_one(case: &Case<'_>, kept: &mut Kept, leaf: Leaf) -> Result<bool, AllocError>
+    requires read { IsRead (lines_in case.now) leaf }
     requires plain { AreKeptPlain (lines_in case.now) kept.old }
     ensures plain { IfOk result (λ yes. yes ≡ true → AreKeptPlain (lines_in case.now) kept.new) }
     ensures added { IfOk result (λ yes. yes ≡ true → kept.new.question.negative.items
-        ≡ kept.old.question.negative.items ++ (leaf, kept.old.after) ∷ []) }
+        ≡ kept.old.question.negative.items ++ (leaf.place, kept.old.after) ∷ []) }
     ensures root { kept.new.root ≡ kept.old.root }
     ensures after { kept.new.after ≡ kept.old.after }
 {
     let store = case.store;
-    let Some(next) = plain_family(case.table.expr(leaf)) else {
+    let Some(literal) = leaf.literal else {
         return Ok(false);
     };
-    let Some(both) = family_with(kept.family, next) else {
+    if !literal.is_plain {
+        return Ok(false);
+    }
+    let Some(both) = family_with(kept.family, leaf.family) else {
         return Ok(false);
     };
-    if !is_later(&kept.question.negative, leaf) {
+    if !is_later(&kept.question.negative, leaf.place) {
         return Ok(false);
     }
     kept.query.negative.push(Operand {
-        which: store.name(leaf),
-        id: leaf,
+        which: store.name(leaf.place),
+        id: leaf.place,
         after: kept.after,
     })?;
-    kept.question.negative.push((leaf, kept.after))?;
+    kept.question.negative.push((leaf.place, kept.after))?;
     kept.family = both;
     Ok(true)
 }

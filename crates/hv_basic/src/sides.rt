@@ -53,7 +53,6 @@ pub(crate) fn with_right(
     let mut askings = sides.askings;
     let rights = leaves(alloc, table, Side::Right, claim.right)?;
     match gather(
-        table,
         &rights,
         false,
         asks_sides_after(claim.word),

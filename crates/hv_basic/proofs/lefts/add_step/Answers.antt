@@ -1,17 +1,20 @@
 use Rattle.std.proofs.Common.{subst, sym, true}
 use Rattle.hv_lines.specs.Shapes.{asks_step_after}
 use Rattle.hv_basic.specs.Working.Gathered.{AreGathered, AreOthers}
+use Rattle.hv_basic.specs.Working.Leaves.{places}
 use Rattle.hv_basic.specs.declared.literals.Others.TheVariants as O
+use Rattle.hv_basic.proofs.Gathering.{read_there}
 use Rattle.hv_basic.proofs.Membership.{inner_fails}
 use Rattle.hv_basic.proofs.lefts.add_step.Goals as goal
 
 pub returns-in-None-clause-ok : goal.returns-in-None-clause-ok
 returns-in-None-clause-ok c =
     let lines = c.args.table.now.lines in
-    let inner = c.in_ok-inner.inner.items in
-    let all : AreOthers lines inner O.None = subst (λ xs. AreOthers lines xs O.None)
-    c.deref.ensures.value (subst (AreOthers lines c.deref.result.now) c.in-None.is
-    c.in_ok-gather.ensures.others) in record {
+    let inner = places c.in_ok-inner.inner.items in
+    let all : AreOthers lines inner O.None = subst (λ xs. AreOthers lines (places xs) O.None)
+    c.deref.ensures.value (subst (AreOthers lines (places c.deref.result.now)) c.in-None.is
+    (c.in_ok-gather.ensures.others c.args.table.now.lines
+    (read_there c.args.table.now.lines _ _ c.deref.ensures.value c.in_ok-inner.ensures.read))) in record {
       set = c.in-Some.set;
       is = (
         (c.expr.result.now, c.expr.ensures.says, sym c.in-Some.ensures),
@@ -20,30 +23,33 @@ returns-in-None-clause-ok c =
       inner = inner;
       leaves = c.in_ok-inner.ensures.leaves;
       gathered =
-          subst (λ xs. AreGathered lines xs true (asks_step_after c.args.word)
+          subst (λ xs. AreGathered lines (places xs) true (asks_step_after c.args.word)
           c.args.into.now.items c.gather.new.into.items) c.deref.ensures.value
-          (subst (λ b. AreGathered lines c.deref.result.now true b c.args.into.now.items
-          c.gather.new.into.items) c.asks_step_after.ensures c.in_ok-gather.ensures.gathered);
+          (subst (λ b. AreGathered lines (places c.deref.result.now) true b c.args.into.now.items
+          c.gather.new.into.items) c.asks_step_after.ensures (c.in_ok-gather.ensures.gathered c.args.table.now.lines
+    (read_there c.args.table.now.lines _ _ c.deref.ensures.value c.in_ok-inner.ensures.read)));
     }
 
 pub returns-in-One-clause-err : goal.returns-in-One-clause-err
 returns-in-One-clause-err c =
     let lines = c.args.table.now.lines in
-    let found : AreOthers lines c.in_ok-inner.inner.items (O.One c.in-One.field-0) =
-    subst (λ xs. AreOthers lines xs (O.One c.in-One.field-0)) c.deref.ensures.value
-    (subst (AreOthers lines c.deref.result.now) c.in-One.is c.in_ok-gather.ensures.others) in
+    let found : AreOthers lines (places c.in_ok-inner.inner.items) (O.One c.in-One.field-0) =
+    subst (λ xs. AreOthers lines (places xs) (O.One c.in-One.field-0)) c.deref.ensures.value
+    (subst (AreOthers lines (places c.deref.result.now)) c.in-One.is (c.in_ok-gather.ensures.others c.args.table.now.lines
+    (read_there c.args.table.now.lines _ _ c.deref.ensures.value c.in_ok-inner.ensures.read))) in
     inner_fails lines c.args.word c.args.leaf c.in-Some.set c.in-Some.acts
-    c.in_ok-inner.inner.items
+    (places c.in_ok-inner.inner.items)
     (c.expr.result.now, c.expr.ensures.says, sym c.in-Some.ensures)
     c.in_ok-inner.ensures.leaves c.in-One.field-0 found.0 found.1
 
 pub returns-clause-err : goal.returns-clause-err
 returns-clause-err c =
     let lines = c.args.table.now.lines in
-    let found : AreOthers lines c.in_ok-inner.inner.items O.More =
-    subst (λ xs. AreOthers lines xs O.More) c.deref.ensures.value
-    (subst (AreOthers lines c.deref.result.now) c.in-More.is c.in_ok-gather.ensures.others) in
+    let found : AreOthers lines (places c.in_ok-inner.inner.items) O.More =
+    subst (λ xs. AreOthers lines (places xs) O.More) c.deref.ensures.value
+    (subst (AreOthers lines (places c.deref.result.now)) c.in-More.is (c.in_ok-gather.ensures.others c.args.table.now.lines
+    (read_there c.args.table.now.lines _ _ c.deref.ensures.value c.in_ok-inner.ensures.read))) in
     inner_fails lines c.args.word c.args.leaf c.in-Some.set c.in-Some.acts
-    c.in_ok-inner.inner.items
+    (places c.in_ok-inner.inner.items)
     (c.expr.result.now, c.expr.ensures.says, sym c.in-Some.ensures)
     c.in_ok-inner.ensures.leaves found.0 found.2 found.4

@@ -1,10 +1,15 @@
-use Rattle.std.proofs.Common.{take}
+use Rattle.std.proofs.Common.{List, take}
+use Rattle.std.specs.List.{All}
+use Rattle.hv_lines.specs.declared.line.Line.{Line}
 use Rattle.hv_basic.specs.Working.Gathered.{AreGathered, AreOthers}
+use Rattle.hv_basic.specs.Working.Leaves.{IsRead, places}
 use Rattle.hv_basic.proofs.literals.gather.Given as goal
 
 abbrev pub invariant-loop-leaf : goal.invariant-loop-leaf
 invariant-loop-leaf l = record {
-  gathered : AreGathered l.table.lines (take l.leaf-index l.leaves) l.on_left l.after
+  gathered : (lines : List Line) → All (IsRead lines) l.leaves
+      → AreGathered lines (take l.leaf-index (places l.leaves)) l.on_left l.after
       l.fn.into.items l.into.items;
-  others : AreOthers l.table.lines (take l.leaf-index l.leaves) l.others;
+  others : (lines : List Line) → All (IsRead lines) l.leaves
+      → AreOthers lines (take l.leaf-index (places l.leaves)) l.others;
 }
