@@ -12,7 +12,7 @@ use Rattle.hv_lines.specs.Shapes.{IsLiteralOf}
 use Rattle.hv_lines.specs.declared.line.Line.{Line}
 use Rattle.hv_lines.proofs.Shaped.{literal_from, literal_once}
 use Rattle.hv_basic.specs.Working.Gathered.{AreGathered, AreOthers, IsGiven, IsThe, sign_on}
-use Rattle.hv_basic.specs.Working.Leaves.{IsRead, places}
+use Rattle.hv_basic.specs.Working.Leaves.{IsLeafRead, places}
 use Rattle.hv_basic.specs.declared.literals.Asking.{Asking}
 use Rattle.hv_basic.specs.declared.literals.Leaf.{Leaf}
 use Rattle.hv_basic.specs.declared.literals.Literal.{Literal}
@@ -20,9 +20,9 @@ use Rattle.hv_basic.specs.declared.literals.Others.{Others}
 use Rattle.hv_basic.specs.declared.literals.Others.TheVariants as O
 
 -- what was read of leaves stays so in a list that is the same
-pub read_there : (lines : List Line) (xs ys : List Leaf) → xs ≡ ys → All (IsRead lines) ys
-    → All (IsRead lines) xs
-read_there lines xs ys same = subst (All (IsRead lines)) (sym same)
+pub read_there : (lines : List Line) (xs ys : List Leaf) → xs ≡ ys → All (IsLeafRead lines) ys
+    → All (IsLeafRead lines) xs
+read_there lines xs ys same = subst (All (IsLeafRead lines)) (sym same)
 
 place_at : (leaves : List Leaf) (i : ℕ) (d : Leaf) → i < length leaves
     → get_or (places leaves) i 0 ≡ (get_or leaves i d).place
@@ -30,7 +30,7 @@ place_at leaves i d within = get_or-map (λ (leaf : Leaf). leaf.place) leaves i 
 
 -- what was read of the leaf at a place
 module _ (lines : List Line) (leaves : List Leaf) (i : ℕ) (d : Leaf) (within : i < length leaves)
-    (read : All (IsRead lines) leaves) where
+    (read : All (IsLeafRead lines) leaves) where
   read_at : (l : Option Literal) → (get_or leaves i d).literal ≡ l
       → MatchOption l (IsLiteral lines (get_or leaves i d).place → ⊥)
       (IsThe lines (get_or leaves i d).place)

@@ -30,7 +30,7 @@ use Rattle.hv_lines.proofs.Truth.{or_is}
 use Rattle.hv_lines.proofs.Elements.{cons_cases, head_in, tail_in}
 use Rattle.hv_basic.specs.Sharing.{ArePlain, IsKeptFor, IsNoFormula, IsShared, IsTheFamily}
 use Rattle.hv_basic.specs.Working.Gathered.{IsThe}
-use Rattle.hv_basic.specs.Working.Leaves.{IsRead, places}
+use Rattle.hv_basic.specs.Working.Leaves.{IsLeafRead, places}
 use Rattle.hv_basic.specs.Working.Sharing.{AreAddedTo, IsFamilyWith, IsMadeOf}
 use Rattle.hv_basic.specs.Working.Sharing.{IsPartBeside}
 use Rattle.hv_basic.specs.declared.literals.Leaf.{Leaf}
@@ -409,15 +409,14 @@ after_last asked leaf rises some last a (k, below, is) =
 
 -- what was read of a leaf that is a formula or constant itself
 pub plain_read : (lines : List Line) (leaf : Leaf) (literal : Literal)
-    → leaf.literal ≡ Some literal → literal.is_plain ≡ true → IsRead lines leaf
+    → leaf.literal ≡ Some literal → literal.is_plain ≡ true → IsLeafRead lines leaf
     → (leaf.place < expr_count lines) × IsPlainSet lines leaf.place
     × ((expr : Expr) × (expr_at lines leaf.place ≡ Some expr) × (leaf.family ≡ family_of expr))
 plain_read lines leaf literal found plain read =
     let is : IsLiteralOf lines leaf.place literal.set true =
     subst (IsLiteralOf lines leaf.place literal.set) plain
     (subst (λ l. MatchOption l (IsLiteral lines leaf.place → ⊥) (IsThe lines leaf.place)) found
-    read.is) in
-    (
+    read.is) in (
       subst (λ set. set < expr_count lines) (sym is.0)
           (subst (λ l. IfSome l (λ (x : Literal). x.set < expr_count lines)) found read.below),
       subst (IsPlainSet lines) (sym is.0) is.1,

@@ -6,7 +6,7 @@ ghost use Rattle.std.specs.List.{All, Contains};
 ghost use Rattle.std.specs.Ordering.{nat_cmp};
 ghost use Rattle.hv_lines.specs.Numbering.{expr_count};
 ghost use Rattle.hv_lines.specs.Shapes.{IsLeaf};
-ghost use Rattle.hv_basic.specs.Working.Leaves.{IsRead, places};
+ghost use Rattle.hv_basic.specs.Working.Leaves.{IsLeafRead, places};
 ghost use Rattle.hv_basic.specs.Working.Work.{AreAdded, IsLookedAt, IsTaken, parts_on};
 
 use crate::literals::{Leaf, leaf_of};
@@ -33,7 +33,7 @@ pub(crate) fn leaves(
     requires { root < expr_count table.now.lines }
     ensures leaves { IfOk result (λ found. (leaf : ℕ) → Contains (places found.items) leaf
         ↔ IsLeaf (parts_on side) table.now.lines root leaf) }
-    ensures read { IfOk result (λ found. All (IsRead table.now.lines) found.items) }
+    ensures read { IfOk result (λ found. All (IsLeafRead table.now.lines) found.items) }
 {
     let mut found = Vec::new(alloc);
     let mut work = BTreeSet::new(alloc);
@@ -55,10 +55,10 @@ fn look_at(
     found: &mut Vec<Leaf>,
 ) -> Result<(), AllocError>
     requires set { set < expr_count table.now.lines }
-    requires read { All (IsRead table.now.lines) found.old.items }
+    requires read { All (IsLeafRead table.now.lines) found.old.items }
     ensures looked { OnOk result (IsLookedAt table.now.lines side set work.old work.new
         (places found.old.items) (places found.new.items)) }
-    ensures read { OnOk result (All (IsRead table.now.lines) found.new.items) }
+    ensures read { OnOk result (All (IsLeafRead table.now.lines) found.new.items) }
 {
     let expr = table.expr(set);
     match parts(side, expr) {

@@ -7,7 +7,7 @@ ghost use Rattle.hv_lines.specs.Literals.{IsLiteral};
 ghost use Rattle.hv_lines.specs.Numbering.{ExprRefersBelow, acts_count, expr_at, expr_count};
 ghost use Rattle.hv_lines.specs.declared.line.Line.{Line};
 ghost use Rattle.hv_basic.specs.Working.Gathered.{AreGathered, AreOthers, IsThe, sign_on};
-ghost use Rattle.hv_basic.specs.Working.Leaves.{IsRead, places};
+ghost use Rattle.hv_basic.specs.Working.Leaves.{IsLeafRead, places};
 
 use crate::families::plain_family;
 use hv_lines::{Expr, FormulaFamily, Table};
@@ -62,7 +62,7 @@ pub(crate) fn leaf_of(table: &Table, place: usize, expr: &Expr) -> Leaf
     requires refers { ExprRefersBelow (acts_count table.now.lines)
         (expr_count table.now.lines) expr.now }
     ensures place { result.place ≡ place }
-    ensures read { IsRead table.now.lines result }
+    ensures read { IsLeafRead table.now.lines result }
 {
     match expr {
         Expr::Not(set) => match plain_family(table.expr(*set)) {
@@ -108,9 +108,9 @@ pub(crate) fn gather(
     after: bool,
     into: &mut Vec<Asking>,
 ) -> Result<Others, AllocError>
-    ensures gathered { IfOk result (λ _. (lines : List Line) → All (IsRead lines) leaves.now
+    ensures gathered { IfOk result (λ _. (lines : List Line) → All (IsLeafRead lines) leaves.now
         → AreGathered lines (places leaves.now) on_left after into.old.items into.new.items) }
-    ensures others { IfOk result (λ others. (lines : List Line) → All (IsRead lines) leaves.now
+    ensures others { IfOk result (λ others. (lines : List Line) → All (IsLeafRead lines) leaves.now
         → AreOthers lines (places leaves.now) others) }
 {
     let mut others = Others::None;

@@ -8,7 +8,7 @@ ghost use Rattle.hv_lines.specs.Numbering.{expr_count};
 ghost use Rattle.hv_lines.specs.Shapes.{AskingsRise};
 ghost use Rattle.hv_basic.specs.Cases.{lines_in};
 ghost use Rattle.hv_basic.specs.Sharing.{IsShared};
-ghost use Rattle.hv_basic.specs.Working.Leaves.{IsRead, places};
+ghost use Rattle.hv_basic.specs.Working.Leaves.{IsLeafRead, places};
 ghost use Rattle.hv_basic.specs.Working.Sharing.{AreAddedTo, AreKeptPlain, IsMadeOf};
 ghost use Rattle.hv_basic.specs.Working.Sharing.{IsPartBeside};
 
@@ -164,7 +164,7 @@ fn grow(
 
 /// Adds the leaves, of which the oldest is the last: whether each could be added.
 fn add_all(case: &Case<'_>, kept: &mut Kept, leaves: &[Leaf]) -> Result<bool, AllocError>
-    requires read { All (IsRead (lines_in case.now)) leaves.now }
+    requires read { All (IsLeafRead (lines_in case.now)) leaves.now }
     requires plain { AreKeptPlain (lines_in case.now) kept.old }
     ensures plain { IfOk result (λ yes. yes ≡ true → AreKeptPlain (lines_in case.now) kept.new) }
     ensures added { IfOk result (λ yes. yes ≡ true → AreAddedTo kept.old.after
@@ -184,7 +184,7 @@ fn add_all(case: &Case<'_>, kept: &mut Kept, leaves: &[Leaf]) -> Result<bool, Al
 /// Adds the leaf, if it is a formula or constant, its identifier comes after those before, and no
 /// other family comes in by it.
 fn add_one(case: &Case<'_>, kept: &mut Kept, leaf: Leaf) -> Result<bool, AllocError>
-    requires read { IsRead (lines_in case.now) leaf }
+    requires read { IsLeafRead (lines_in case.now) leaf }
     requires plain { AreKeptPlain (lines_in case.now) kept.old }
     ensures plain { IfOk result (λ yes. yes ≡ true → AreKeptPlain (lines_in case.now) kept.new) }
     ensures added { IfOk result (λ yes. yes ≡ true → kept.new.question.negative.items

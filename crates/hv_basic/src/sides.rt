@@ -52,12 +52,7 @@ pub(crate) fn with_right(
     let acts = sides.acts;
     let mut askings = sides.askings;
     let rights = leaves(alloc, table, Side::Right, claim.right)?;
-    match gather(
-        &rights,
-        false,
-        asks_sides_after(claim.word),
-        &mut askings,
-    )? {
+    match gather(&rights, false, asks_sides_after(claim.word), &mut askings)? {
         Others::None => Ok(Sides { askings, acts }),
         Others::One(_) => Err(ShapeFault::Shape),
         Others::More => Err(ShapeFault::Shape),

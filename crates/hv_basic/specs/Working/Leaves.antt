@@ -14,7 +14,7 @@ places leaves = map (λ leaf. leaf.place) leaves
 
 -- what was read of the leaf: the literal that it is, if it is one, and the family of that literal's
 -- formula or constant, which has a line
-pub record IsRead (lines : List Line) (leaf : Leaf) : Type 0 where
+pub record IsLeafRead (lines : List Line) (leaf : Leaf) : Type 0 where
   pub is : MatchOption leaf.literal (IsLiteral lines leaf.place → ⊥) (IsThe lines leaf.place)
   pub family : IfSome leaf.literal (λ literal. (expr : Expr)
       × (expr_at lines literal.set ≡ Some expr) × (leaf.family ≡ family_of expr))

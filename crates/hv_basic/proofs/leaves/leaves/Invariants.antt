@@ -1,5 +1,5 @@
 use Rattle.std.specs.List.{All}
-use Rattle.hv_basic.specs.Working.Leaves.{IsRead, places}
+use Rattle.hv_basic.specs.Working.Leaves.{IsLeafRead, places}
 use Rattle.hv_basic.specs.Working.Work.{parts_on}
 use Rattle.hv_basic.proofs.Leafing.{IsLeafing}
 use Rattle.hv_basic.proofs.leaves.leaves.Given as goal
@@ -7,7 +7,7 @@ use Rattle.hv_basic.proofs.leaves.leaves.Given as goal
 abbrev pub invariant-sets : goal.invariant-sets
 invariant-sets l = record {
   leafing : IsLeafing (parts_on l.side) l.table.lines l.root l.work (places l.found.items) l.bound;
-  read : All (IsRead l.table.lines) l.found.items;
+  read : All (IsLeafRead l.table.lines) l.found.items;
 }
 
 abbrev pub decreases-sets : goal.decreases-sets

@@ -27,7 +27,7 @@ returns-in-None-clause-ok c =
           c.args.into.now.items c.gather.new.into.items) c.deref.ensures.value
           (subst (λ b. AreGathered lines (places c.deref.result.now) true b c.args.into.now.items
           c.gather.new.into.items) c.asks_step_after.ensures (c.in_ok-gather.ensures.gathered c.args.table.now.lines
-    (read_there c.args.table.now.lines _ _ c.deref.ensures.value c.in_ok-inner.ensures.read)));
+          (read_there c.args.table.now.lines _ _ c.deref.ensures.value c.in_ok-inner.ensures.read)));
     }
 
 pub returns-in-One-clause-err : goal.returns-in-One-clause-err

@@ -52,7 +52,7 @@ returns-in-None c = record {
       (subst (λ xs. AreOthers c.args.table.now.lines (places xs) O.None) c.deref.ensures.value
       (subst (AreOthers c.args.table.now.lines (places c.deref.result.now)) c.in-None.is
       (c.in_ok-gather.ensures.others c.args.table.now.lines
-    (read_there c.args.table.now.lines _ _ c.deref.ensures.value c.in_ok-lefts.ensures.read)))) c.in_default.not-B1;
+      (read_there c.args.table.now.lines _ _ c.deref.ensures.value c.in_ok-lefts.ensures.read)))) c.in_default.not-B1;
 }
 
 pub returns-in-Ok-clause-ok : goal.returns-in-Ok-clause-ok
