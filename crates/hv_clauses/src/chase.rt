@@ -60,6 +60,7 @@ pub(crate) fn start(clauses: &Clauses, effect: &Effect<'_>, marks: &mut Marks<'_
 }
 
 // Looks again at each clause that has the opposite of the literal at this place of the trail.
+#[inline(always)]
 pub(crate) fn visit(
     clauses: &Clauses,
     occurs: &Occurrences,

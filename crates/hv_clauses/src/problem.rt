@@ -249,6 +249,7 @@ impl<K: ClauseKind> Constraint for Problem<'_, K> {
 }
 
 // Follows up the literal at this place of the trail in each positive operand.
+#[inline(always)]
 fn visit_each<K: ClauseKind>(problem: &Problem<'_, K>, marks: &mut Marks<'_>, from: usize) -> bool
     requires size { length marks.old.base ≡ width problem.now }
     requires from { from < length marks.old.trail }
@@ -266,6 +267,7 @@ fn visit_each<K: ClauseKind>(problem: &Problem<'_, K>, marks: &mut Marks<'_>, fr
 }
 
 // The same, where only those that have its opposite are gone through.
+#[inline(never)]
 fn visit_owners<K: ClauseKind>(
     problem: &Problem<'_, K>,
     owners: &Owners,
@@ -315,6 +317,7 @@ fn visit_place<K: ClauseKind>(
 }
 
 // Follows up the literal at this place of the trail in the clauses of an operand.
+#[inline(always)]
 fn visit_operand<K: ClauseKind>(
     problem: &Problem<'_, K>,
     operand: Operand,
