@@ -1,11 +1,12 @@
 -- The places of the atoms that a state holds.
 use Rattle.std.proofs.Common.{◌≡◌, ℕ, ◌<◌, ◌≤◌, ◌+◌, ◌∙◌, ◌⊎◌, Bool, true, false, List, Option}
 use Rattle.std.proofs.Common.{None, Some, Ok, Err, length, refl, sym, ap, subst, arith, inl}
-use Rattle.std.proofs.Common.{inr}
+use Rattle.std.proofs.Common.{get_or, inr, take}
 use Rattle.std.proofs.lemmas.Bool.{cases_lt}
 use Rattle.std.proofs.lemmas.List.{get_or_past}
 use Rattle.std.specs.Prelude.{IfOk, IfSome, Result}
-use Rattle.std.specs.List.{Contains}
+use Rattle.std.proofs.lemmas.List.Elements.{All-contains, All-more, All-weaker, Contains-get_or}
+use Rattle.std.specs.List.{All, Contains}
 use Rattle.hv_task.specs.AtomList.{Inserts}
 use Rattle.hv_task.specs.Atoms.{IsNext}
 use Rattle.hv_task.specs.State.{has_atom, names_atom}
@@ -144,3 +145,72 @@ pub next_within : (list : NodeList) (state : List Bool) (places : List ℕ) (fro
     → IfSome next (λ v. v < list.atoms)
 next_within list state places from None has is = tt
 next_within list state places from (Some a) has is = has.within a is.1
+
+-- The least of the places of the atoms that are held.
+
+module _ (list : NodeList) (is : IsOrder list) (held : List Bool) (size : length held ≡ list.atoms)
+    (named : List ℕ) (names : (a : ℕ) → names_atom named a ≡ has_atom held a) where
+  -- an atom that is named is held
+  listed_held : (i : ℕ) → i < length named → has_atom held (get_or named i 0) ≡ true
+  listed_held i within =
+      sym (names (get_or named i 0))
+      ∙ (names_atom-Decides named (get_or named i 0)).1 (Contains-get_or named i 0 within)
+
+  pub listed_less : (i : ℕ) → i < length named → get_or named i 0 < list.atoms
+  listed_less i within =
+      let less = within_state held (get_or named i 0) (listed_held i within) in omega arith
+
+  pub placed_held : (i : ℕ) → i < length named
+      → has_atom held (atom_at list (place list (get_or named i 0))) ≡ true
+  placed_held i within =
+      ap (λ a. has_atom held a) (is.there (get_or named i 0) (listed_less i within))
+      ∙ listed_held i within
+
+  module _ (from least : ℕ) (each : All (λ a. from ≤ place list a → least ≤ place list a) named)
+    where
+      held_from : (v : ℕ) → from ≤ v → has_atom held (atom_at list v) ≡ true → least ≤ v
+      held_from v upto t =
+          let a = atom_at list v in
+          let less = within_state held a t in
+          let there = (names_atom-Decides named a).0 (names a ∙ t) in
+          let least_upto = All-contains (λ a. from ≤ place list a → least ≤ place list a) named a
+          each there in
+          elim (cases_lt v list.atoms) [
+            | inl below ↦
+                let back = is.back v below in
+                let more = least_upto (omega arith) in
+                omega arith
+            | inr past ↦ let beyond = atom_past list is v past in absurd (omega arith)
+          ]
+
+      none_by : (v : ℕ) (t : Bool) → has_atom held (atom_at list v) ≡ t → from ≤ v → v < least
+          → has_atom held (atom_at list v) ≡ false
+      none_by v true e upto less = let more = held_from v upto e in absurd (omega arith)
+      none_by v false e upto less = e
+
+      -- none is before it
+      pub none_before : (v : ℕ) → from ≤ v → v < least → has_atom held (atom_at list v) ≡ false
+      none_before v upto less = none_by v (has_atom held (atom_at list v)) refl upto less
+
+      -- and none at all where it is past the last place
+      pub none_placed : list.atoms ≤ least → (v : ℕ) → from ≤ v
+          → has_atom held (atom_at list v) ≡ false
+      none_placed all v upto =
+          elim (cases_lt v least) [
+            | inl less ↦ none_before v upto less
+            | inr more ↦
+                let past = atom_past list is v (omega arith) in
+                get_or_past held (atom_at list v) false (omega arith)
+          ]
+
+-- the place of one more atom was seen
+pub each_more : (list : NodeList) (named : List ℕ) (from least new i : ℕ) → i < length named
+    → new ≤ least
+    → (from ≤ place list (get_or named i 0) → new ≤ place list (get_or named i 0))
+    → All (λ a. from ≤ place list a → least ≤ place list a) (take i named)
+    → All (λ a. from ≤ place list a → new ≤ place list a) (take (i + 1) named)
+each_more list named from least new i within less here each =
+    All-more (λ a. from ≤ place list a → new ≤ place list a) named i 0 within
+    (All-weaker (λ a. from ≤ place list a → least ≤ place list a)
+    (λ a. from ≤ place list a → new ≤ place list a)
+    (λ a upto later. let old = upto later in omega arith) (take i named) each) here

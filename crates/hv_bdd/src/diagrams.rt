@@ -14,6 +14,7 @@ ghost use Rattle.hv_bdd.specs.Order.{IsOrder, atom_at, place};
 ghost use Rattle.hv_bdd.specs.Reduced.{AreOneSet, IsReduced, child, node_at, top};
 
 use crate::fault::NodeKind;
+use crate::goal::near;
 use crate::marks::Held;
 use crate::node::Node;
 use crate::numbers::Triple;
@@ -239,7 +240,44 @@ impl Diagrams {
     {
         match &self.order {
             None => held.next(from),
-            Some(order) => order.next(held, from, self.atoms),
+            Some(order) => {
+                let to = from.saturating_add(near(held)).min(self.atoms);
+                match order.next_below(held, from, to) {
+                    Some(place) => Some(place),
+                    None => self.least_place(held, from),
+                }
+            },
+        }
+    }
+
+    // The same by the place of each atom that is held.
+    fn least_place(&self, held: &Held<'_>, from: u32) -> Option<u32>
+        requires { length held.now ≡ self.now.atoms }
+        ensures next { IsNext (λ v. has_atom held.now (atom_at self.now v)) from result }
+        ensures within { IfSome result (λ v. v < self.now.atoms) }
+    {
+        let atoms = self.atoms();
+        let mut least = atoms;
+        for atom in held.listed() {
+            let place = self.place(*atom);
+            if from <= place && place < least {
+                least = place;
+            }
+        }
+        if least < atoms { Some(least) } else { None }
+    }
+
+    // What it costs to look for the place behind this one whose atom is held, in places that are
+    // looked at.
+    pub(crate) fn cost_of_next(&self, held: &Held<'_>, place: u32) -> u32
+        requires held { length held.now ≡ self.now.atoms }
+        requires place { place < self.now.atoms }
+    {
+        let _atoms = self.atoms();
+        let most = near(held).saturating_mul(2);
+        match self.next_place(held, place + 1) {
+            Some(next) => most.min(next - place),
+            None => most,
         }
     }
 

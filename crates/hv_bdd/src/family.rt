@@ -41,8 +41,8 @@ impl Family for Diagrams {
         let asked = operands_of(alloc, query)?;
         let operands = asked.as_slice();
         let held = Held::new(atoms, task.goal());
-        let goal = Goal::of(alloc, self, held, operands)?;
-        let search = Search::new(
+        let goal = Goal::of(self, held, operands);
+        let mut search = Search::new(
             self,
             Held::new(atoms, task.start()),
             goal,
@@ -59,19 +59,19 @@ impl Search<'_> {
 
     // The answer to the query that it is for.
     fn answer(
-        &self,
+        &mut self,
         alloc: Global,
         task: &Task,
         query: &Query,
         budget: u64,
         state: &mut State,
     ) -> Result<Finding, AllocError>
-        requires query { self.now ≡ search_for self.now.setting.list task.now query.now }
-        requires task { self.now.setting.list.atoms ≡ atoms task.now }
+        requires query { self.old ≡ search_for self.old.setting.list task.now query.now }
+        requires task { self.old.setting.list.atoms ≡ atoms task.now }
         requires state { length state.old ≡ atoms task.now }
         ensures { IfOk result (λ found.
-            IsAnswer found (LivePass self.now.setting.list task.now query.now budget)
-            (atoms task.now) (is_clash task.now (in_node self.now.setting.list) query.now)
+            IsAnswer found (LivePass self.old.setting.list task.now query.now budget)
+            (atoms task.now) (is_clash task.now (in_node self.old.setting.list) query.now)
             state.new) }
     {
         let _atoms = task.atoms();

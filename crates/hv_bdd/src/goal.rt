@@ -1,45 +1,53 @@
 //! The goal as an operand of a query.
 
-ghost use Rattle.std.specs.Prelude.{◌≡◌, IfOk, IfSome, length};
-ghost use Rattle.hv_bdd.specs.Working.Search.{HasPlaces};
+ghost use Rattle.std.specs.Prelude.{◌≡◌, ◌≤◌, None};
 
 use crate::asked::Asked;
 use crate::diagrams::Diagrams;
 use crate::marks::Held;
 use hv_sets::Which;
 use hv_task::AtomList;
-use std::alloc::{AllocError, Global};
 
 /// The atoms of a goal; and their places in the order, where these were sorted.
 #[derive(Drop)]
 pub(crate) struct Goal<'a> {
     pub held: Held<'a>,
     pub places: Option<AtomList>,
+    /// How much may still be spent on looking for the next place before the places are sorted, or
+    /// nothing where they aren't to be sorted. Only how long a query takes hangs on it.
+    pub left: u32,
 }
 
 impl<'a> Goal<'a> {
-    /// The goal of these atoms. Their places are sorted where an order is listed and the goal is
-    /// among the operands: elsewhere nothing is done.
-    pub(crate) fn of(
-        alloc: Global,
-        nodes: &Diagrams,
-        held: Held<'a>,
-        asked: &[Asked],
-    ) -> Result<Goal<'a>, AllocError>
-        requires { length held ≡ nodes.now.atoms }
-        ensures held { IfOk result (λ goal. goal.held ≡ held.entry) }
-        ensures places { IfOk result (λ goal.
-            IfSome goal.places (HasPlaces nodes.now goal.held)) }
+    /// The goal of these atoms.
+    pub(crate) fn of(nodes: &Diagrams, held: Held<'a>, asked: &[Asked]) -> Goal<'a>
+        ensures held { result.held ≡ held.entry }
+        ensures places { result.places ≡ None }
     {
-        if !nodes.lists_order() || !is_asked(asked) {
-            return Ok(Goal { held, places: None });
-        }
-        let places = nodes.places_of(alloc, &held)?;
-        Ok(Goal {
+        let left = if nodes.lists_order() && is_asked(asked) {
+            size(&held) + 16
+        } else {
+            0
+        };
+        Goal {
             held,
-            places: Some(places),
-        })
+            places: None,
+            left,
+        }
     }
+}
+
+/// How many places of the order are looked at before all atoms of the goal are: to look for one of
+/// them at a place takes some eight times as long as to look up the place of one.
+pub(crate) fn near(held: &Held<'_>) -> u32 {
+    size(held) / 8 + 16
+}
+
+// How many atoms it has, as far as a task can have them.
+fn size(held: &Held<'_>) -> u32
+    ensures { result ≤ 65535 }
+{
+    held.listed().len().min(65535) as u32
 }
 
 // Whether the goal is among the operands. Only how long a query takes hangs on it.

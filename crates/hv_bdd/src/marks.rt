@@ -1,11 +1,11 @@
 //! Atoms and bits that are read off lists, so that no table by atom is made for a query.
 
-ghost use Rattle.std.specs.Prelude.{◌≡◌, ◌<◌, ◌↔◌, IfSome, IsTrue, length};
+ghost use Rattle.std.specs.Prelude.{◌≡◌, ◌<◌, ◌↔◌, ℕ, IfSome, IsTrue, length};
 ghost use Rattle.std.specs.List.{Contains};
 ghost use Rattle.std.specs.List.Sorted.{IsStrictlyIncreasing};
 ghost use Rattle.hv_task.specs.Working.AtomList.{IsPlaceOf};
 ghost use Rattle.hv_task.specs.Atoms.{IsNext};
-ghost use Rattle.hv_task.specs.State.{AreBelow, has_atom, state_of};
+ghost use Rattle.hv_task.specs.State.{AreBelow, has_atom, names_atom, state_of};
 ghost use Rattle.hv_sets.specs.Cubes.{atoms_of};
 ghost use Rattle.hv_sets.specs.Working.Cubes.{IsFirstUpto};
 ghost use Rattle.hv_bdd.specs.Live.{changed_by, bit_mark_of, needed_by, no_marks};
@@ -48,6 +48,13 @@ impl<'a> Held<'a> {
         ensures { result ≡ has_atom self.now atom }
     {
         self.list.has(atom)
+    }
+
+    /// The atoms that it holds, rising.
+    pub fn listed(&self) -> &[u32]
+        ensures { (a : ℕ) → names_atom result.now a ≡ has_atom self.now a }
+    {
+        self.list.as_slice()
     }
 
     /// The least atom that it holds that is at least this number.

@@ -1,6 +1,6 @@
 //! Orders of the atoms of a task.
 
-ghost use Rattle.std.specs.Prelude.{◌≡◌, ◌<◌, ◌≤◌, ℕ, true, false, IfOk, IfSome, length};
+ghost use Rattle.std.specs.Prelude.{◌≡◌, ◌<◌, ◌≤◌, ℕ, Some, true, false, IfOk, IfSome, length};
 ghost use Rattle.std.specs.Prelude.{option_and_then, option_map, slice_index_or};
 ghost use Rattle.std.specs.List.{All};
 ghost use Rattle.hv_bytes.specs.Fields.{cut_fields};
@@ -79,15 +79,15 @@ impl Order {
         self.atoms[place as usize]
     }
 
-    /// The least place from this one on whose atom is held.
-    pub(crate) fn next(&self, held: &Held<'_>, from: u32, atoms: u32) -> Option<u32>
-        requires order { length self.now ≡ atoms }
-        requires held { length held.now ≡ atoms }
-        ensures next { IsNext
-            (λ v. has_atom held.now (slice_index_or self.now v (length self.now))) from result }
+    /// The least place from this one on whose atom is held, if it is one of those below another.
+    pub(crate) fn next_below(&self, held: &Held<'_>, from: u32, to: u32) -> Option<u32>
+        requires { to ≤ length self.now }
+        ensures next { IfSome result (λ next. IsNext
+            (λ v. has_atom held.now (slice_index_or self.now v (length self.now))) from
+            (Some next)) }
         ensures within { IfSome result (λ v. v < length self.now) }
     {
-        for place in from..atoms {
+        for place in from..to {
             if held.has(self.atoms[place as usize]) {
                 return Some(place);
             }

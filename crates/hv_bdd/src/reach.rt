@@ -47,32 +47,42 @@ impl Search<'_> {
 
     /// Looks for a state that suits the operands.
     pub(crate) fn find(
-        &self,
+        &mut self,
         alloc: Global,
         budget: u64,
         state: &mut State,
     ) -> Result<Finding, AllocError>
-        requires { length state.old ≡ self.now.setting.list.atoms }
+        requires { length state.old ≡ self.old.setting.list.atoms }
         ensures { IfOk result (λ found.
-            IsLiveAnswer found self.now.setting self.now.asked budget state.new) }
+            IsLiveAnswer found self.old.setting self.old.asked budget state.new) }
     {
         let reached = self.reach(alloc, budget)?;
+        Ok(self.conclude(budget, &reached, state))
+    }
+
+    // What was found, where these tuples were reached.
+    fn conclude(&self, budget: u64, reached: &Reached, state: &mut State) -> Finding
+        requires done { IsDone self.now budget reached.now }
+        requires state { length state.old ≡ self.now.setting.list.atoms }
+        ensures { IsLiveAnswer result self.now.setting self.now.asked budget state.new }
+    {
         if reached.tuples.len() as u64 > budget {
-            return Ok(Finding::Over);
+            return Finding::Over;
         }
         match self.first_end(reached.tuples.as_slice()) {
-            None => Ok(Finding::Empty),
+            None => Finding::Empty,
             Some(end) => {
                 self.fill(state);
-                self.take_bits(&reached, end, state);
-                Ok(Finding::Clash)
+                self.take_bits(reached, end, state);
+                Finding::Clash
             }
         }
     }
 
     // All live tuples that are reached, or more of them than the budget.
-    fn reach(&self, alloc: Global, budget: u64) -> Result<Reached, AllocError>
-        ensures { IfOk result (λ reached. IsDone self.now budget reached) }
+    fn reach(&mut self, alloc: Global, budget: u64) -> Result<Reached, AllocError>
+        ensures done { IfOk result (λ reached. IsDone self.old budget reached) }
+        ensures same { self.new ≡ self.old }
     {
         let _atoms = self.atoms();
         let mut reached = Reached {
@@ -83,6 +93,7 @@ impl Search<'_> {
         reached.put(root, 0, false)?;
         let mut done = 0;
         while done < reached.tuples.len() && reached.tuples.len() as u64 <= budget {
+            self.prepare(alloc, done, &reached)?;
             self.expand(alloc, done, &mut reached)?;
             done += 1;
         }
@@ -102,6 +113,19 @@ impl Search<'_> {
             return Ok(None);
         }
         Ok(Some(root))
+    }
+
+    // Counts what the moves of one more tuple cost, where the goal's places may come to be sorted.
+    fn prepare(&mut self, alloc: Global, done: usize, reached: &Reached) -> Result<(), AllocError>
+        requires explored { Explored self.old done reached.now }
+        requires done { done < length reached.now.tuples.keys }
+        ensures { self.new ≡ self.old }
+    {
+        if !self.may_sort() {
+            return Ok(());
+        }
+        let place = self.least(reached.tuples.as_slice()[done].as_slice());
+        self.spend(alloc, place)
     }
 
     // Puts in what the bits lead to from one more tuple.

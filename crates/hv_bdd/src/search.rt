@@ -49,7 +49,7 @@ pub(crate) struct Search<'a> {
 }
 
 impl<'a> Model for Search<'a> {
-    ghost use Rattle.std.specs.Prelude.{IfSome};
+    ghost use Rattle.std.specs.Prelude.{◌≡◌, IfSome, length};
     ghost use Rattle.hv_bdd.specs.Working.Search.{HasPlaces, IsTupleSearch, TupleSearch};
 
     ghost Value = { TupleSearch };
@@ -74,7 +74,8 @@ impl<'a> Model for Search<'a> {
         changed = s.changed;
       };
       asked = s.asked.now;
-    } × IfSome s.goal.places (HasPlaces s.nodes.now s.goal.held) };
+    } × IfSome s.goal.places (HasPlaces s.nodes.now s.goal.held)
+        × (length s.goal.held ≡ s.nodes.now.atoms) };
 }
 
 impl<'a> Search<'a> {
@@ -100,6 +101,7 @@ impl<'a> Search<'a> {
           asked = asked.now;
         } }
         requires places { IfSome goal.places (HasPlaces nodes.now goal.held) }
+        requires goal { length goal.held ≡ nodes.now.atoms }
         ensures setting { result.setting
             ≡ record {
               list = nodes.now;
@@ -151,6 +153,30 @@ impl<'a> Search<'a> {
         ensures { result ≡ bit_mark_of self.now.setting.needed atom }
     {
         self.needed.read(atom)
+    }
+
+    /// Whether the goal's places may come to be sorted.
+    pub(crate) fn may_sort(&self) -> bool {
+        self.goal.left > 0
+    }
+
+    /// Counts what it costs to look for the place of the goal behind this one, and sorts its places
+    /// once that comes to as much as they are.
+    pub(crate) fn spend(&mut self, alloc: Global, place: u32) -> Result<(), AllocError>
+        ensures { self.new ≡ self.old }
+    {
+        if place >= self.atoms() || !self.goal.held.has(self.atom_at(place)) {
+            return Ok(());
+        }
+        let cost = self.nodes.cost_of_next(&self.goal.held, place);
+        if cost < self.goal.left {
+            self.goal.left -= cost;
+            return Ok(());
+        }
+        self.goal.left = 0;
+        let places = self.nodes.places_of(alloc, &self.goal.held)?;
+        self.goal.places = Some(places);
+        Ok(())
     }
 
     // The operand of a place of the tuples.

@@ -140,12 +140,13 @@ fn find(
         after: false,
         positive: inside,
     };
-    let search = Search::new(
+    let mut search = Search::new(
         nodes,
         Held::new(atoms, &none),
         Goal {
             held: Held::new(atoms, &none),
             places: None,
+            left: 0,
         },
         Marks::signs(atoms, cube),
         Marks::none(atoms),
@@ -159,22 +160,23 @@ impl Search<'_> {
 
     // Whether some state of the cube is in the node or outside it, where the search is for that.
     fn finds(
-        &self,
+        &mut self,
         alloc: Global,
         node: u32,
         cube: &Cube,
         inside: bool,
         state: &mut State,
     ) -> Result<bool, AllocError>
-        requires within { SearchesCube node inside cube.now self.now }
-        requires cube { SpeakBelow self.now.setting.list.atoms cube.now }
-        requires state { length state.old ≡ self.now.setting.list.atoms }
+        requires within { SearchesCube node inside cube.now self.old }
+        requires cube { SpeakBelow self.old.setting.list.atoms cube.now }
+        requires state { length state.old ≡ self.old.setting.list.atoms }
         ensures { IfOk result (λ yes.
-            Finds inside yes self.now.setting.list.atoms (in_node self.now.setting.list node)
+            Finds inside yes self.old.setting.list.atoms (in_node self.old.setting.list node)
             cube.now state.new) }
     {
         let _literals = cube.as_slice();
-        match self.find(alloc, self.count() as u64, state)? {
+        let count = self.count() as u64;
+        match self.find(alloc, count, state)? {
             Finding::Clash => Ok(true),
             Finding::Empty => Ok(false),
             Finding::Over => Ok(false),

@@ -1,4 +1,4 @@
-use Rattle.std.proofs.Common.{subst, sym}
+use Rattle.std.proofs.Common.{Some, subst, sym}
 use Rattle.hv_task.specs.Atoms.{IsNext}
 use Rattle.hv_task.specs.State.{has_atom}
 use Rattle.hv_bdd.specs.Nodes.{NodeList}
@@ -14,12 +14,13 @@ returns-in-None-clause-next c =
     (subst (λ o. IsNext (λ v. has_atom c.args.held.now (atom_by o v)) c.args.from c.next.result)
     (sym c.in-None.is) c.next.ensures.next)
 
-pub returns-in-Some-clause-next : goal.returns-in-Some-clause-next
+pub returns-in-Some-next_below-clause-next : goal.returns-in-Some-next_below-clause-next
 unfolding atom_at
-returns-in-Some-clause-next c =
+returns-in-Some-next_below-clause-next c =
     subst (λ (list : NodeList).
-    IsNext (λ v. has_atom c.args.held.now (atom_at list v)) c.args.from c.next-in-Some.result)
+    IsNext (λ v. has_atom c.args.held.now (atom_at list v)) c.args.from
+    (Some c.in-Some-next_below.place))
     c.self.view_is
     (subst (λ o. IsNext (λ v. has_atom c.args.held.now (atom_by o v)) c.args.from
-    c.next-in-Some.result)
-    (sym c.in-Some.is) c.next-in-Some.ensures.next)
+    (Some c.in-Some-next_below.place))
+    (sym c.in-Some.is) c.in-Some-next_below.ensures.next)

@@ -9,9 +9,9 @@ use Rattle.hv_bdd.specs.Nodes.{NodeList, in_node}
 use Rattle.hv_bdd.proofs.Queried.{can_search, parts_are}
 use Rattle.hv_bdd.proofs.family.DiagramsFamily.find.Goals as goal
 
-pub of-requires : goal.of-requires
-of-requires c =
-    let same = ap length c.new-held.ensures in
+pub new-search-requires-clause-goal : goal.new-search-requires-clause-goal
+new-search-requires-clause-goal c =
+    let same = ap length (c.of-goal.ensures.held ∙ c.new-held.ensures) in
     let size = length-state_of c.atoms-atoms-2.result c.goal.result.now in
     let atoms = c.atoms-atoms-2.ensures.atoms in
     let over = c.requires.task in
@@ -24,7 +24,7 @@ new-search-requires-clause-tuples c =
     (parts_are c.args.self.now c.args.task.now c.args.query.now c.atoms-atoms-2.ensures.task
     c.requires.task _ _ _ _ _
     (c.new.ensures ∙ ap₂ state_of c.atoms-atoms-2.ensures.atoms c.start.ensures.start)
-    (c.in_ok-goal.ensures.held ∙ (c.new-held.ensures
+    (c.of-goal.ensures.held ∙ (c.new-held.ensures
     ∙ ap₂ state_of c.atoms-atoms-2.ensures.atoms c.goal.ensures.goal))
     c.needed_by.ensures c.changed_by.ensures
     (c.as_slice-operands.ensures.value ∙ c.in_ok-asked.ensures))

@@ -1,7 +1,7 @@
 use Rattle.std.proofs.Common.{◌≡◌, ◌<◌, ◌≤◌, ℕ, false, length}
 use Rattle.std.specs.Prelude.{slice_index_or}
 use Rattle.hv_task.specs.State.{has_atom}
-use Rattle.hv_bdd.proofs.order.Order.next.Given as goal
+use Rattle.hv_bdd.proofs.order.Order.next_below.Given as goal
 
 abbrev pub invariant-loop-place : goal.invariant-loop-place
 invariant-loop-place l = record {
