@@ -73,9 +73,12 @@ pub(crate) fn said(base: &[Literal], atoms: usize, atom: u32) -> Option<bool>
     ensures { result ≡ known (marked atoms base.now) atom }
 {
     // Where nearly every atom has a literal, it is here: what has none comes before it.
-    let near = (atom as usize).saturating_sub(atoms.saturating_sub(base.len()));
-    if near < base.len() && base[near].atom == atom {
-        return Some(base[near].positive);
+    let missing = atoms.saturating_sub(base.len());
+    if missing < base.len() {
+        let near = (atom as usize).saturating_sub(missing);
+        if near < base.len() && base[near].atom == atom {
+            return Some(base[near].positive);
+        }
     }
     let place = place_in(base, atom);
     if place >= base.len() {

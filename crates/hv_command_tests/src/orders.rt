@@ -261,7 +261,7 @@ fn widest_task(alloc: Global) -> Result<Vec<u8>, AllocError> {
 fn put_falling(nodes: &mut String) -> Result<(), AllocError> {
     nodes.push_str("order")?;
     for step in 0..65534 {
-        let atom = 65534 - step;
+        let atom = 65534_u32.saturating_sub(step);
         write!(nodes, " {atom}")?;
     }
     Ok(())
