@@ -15,6 +15,7 @@ use crate::trail::Marks;
 use hv_sets::Literal;
 
 // Whether a literal is true, as far as that is known.
+#[inline(always)]
 pub(crate) fn value(effect: &Effect<'_>, marks: &Marks<'_>, literal: Literal) -> Option<bool>
     ensures { result ≡ value_of effect.now (marks_of marks.now) literal }
 {
