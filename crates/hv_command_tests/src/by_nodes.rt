@@ -62,7 +62,10 @@ pub(crate) fn all_by_words(
     rows: &[(&str, &str)],
 ) -> Result<(), Fail> {
     for (words, answer) in rows {
-        assert!(rt; tells_by_nodes(alloc, words, NODES, NODE_PROOF, answer)?, "{words}");
+        assert!(rt;
+            tells_by_nodes(alloc, words, NODES, NODE_PROOF, answer)?,
+            "{words}"
+        );
     }
     Ok(())
 }

@@ -60,14 +60,8 @@ static ROWS: [(&str, &str); 9] = [
 // Words, and the answer to a proof by a diagram.
 static OPTIONS: [(&str, &str); 6] = [
     ("explain task proof --nodes nodes", NEEDED),
-    (
-        "explain task proof --budget 16777216 --nodes nodes",
-        NEEDED,
-    ),
-    (
-        "explain task proof --nodes nodes --budget 1000000",
-        NEEDED,
-    ),
+    ("explain task proof --budget 16777216 --nodes nodes", NEEDED),
+    ("explain task proof --nodes nodes --budget 1000000", NEEDED),
     ("explain task proof --budget 7", "1 line 6: unknown"),
     (
         "explain task proof --nodes task",

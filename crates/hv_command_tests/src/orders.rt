@@ -107,12 +107,7 @@ static REFUSED: [(&str, &str, &str, &str); 19] = [
         "1 line 3: false state 0 2 ;",
     ),
     // the end is missing, isn't the last line, or comes where none has to
-    (
-        KEY_FIRST,
-        "",
-        "helve 2/@e 3 b 2/%",
-        "1 line 18: grammar",
-    ),
+    (KEY_FIRST, "", "helve 2/@e 3 b 2/%", "1 line 18: grammar"),
     (
         KEY_FIRST,
         "",
@@ -181,24 +176,18 @@ fn are_accepted(
 }
 
 // The same of the closed proof of these lines.
-fn is_accepted(
-    alloc: Global,
-    nodes: &str,
-    options: &str,
-    lines: &str,
-) -> Result<bool, AllocError> {
+fn is_accepted(alloc: Global, nodes: &str, options: &str, lines: &str) -> Result<bool, AllocError> {
     let closed = format!(in alloc; "helve 2/{lines}end")?;
     are_accepted(alloc, (nodes, lines), options, closed.as_str())
 }
 
 // Asserts that each of these proofs is accepted.
-fn all_accepted(
-    rt: &impl Abort,
-    alloc: Global,
-    rows: &[(&str, &str, &str)],
-) -> Result<(), Fail> {
+fn all_accepted(rt: &impl Abort, alloc: Global, rows: &[(&str, &str, &str)]) -> Result<(), Fail> {
     for (nodes, options, lines) in rows {
-        assert!(rt; is_accepted(alloc, nodes, options, lines)?, "{nodes}{options}");
+        assert!(rt;
+            is_accepted(alloc, nodes, options, lines)?,
+            "{nodes}{options}"
+        );
     }
     Ok(())
 }
@@ -211,7 +200,12 @@ fn all_refused(
 ) -> Result<(), Fail> {
     for (nodes, options, proof, answer) in rows {
         assert!(rt;
-            all_tell(alloc, (*nodes, *proof), options, [*answer, *answer, *answer])?,
+            all_tell(
+                alloc,
+                (*nodes, *proof),
+                options,
+                [*answer, *answer, *answer]
+            )?,
             "{nodes}{options} {proof}"
         );
     }
@@ -230,7 +224,13 @@ fn tells_of_long_order(alloc: Global, length: usize, answer: &str) -> Result<boo
     let mut nodes = Vec::new(alloc);
     nodes.extend_from_slice(b"order 0 1 2")?;
     nodes.resize(length, b' ')?;
-    tells_of_key(alloc, "check task proof --nodes nodes", b"", nodes.as_slice(), answer)
+    tells_of_key(
+        alloc,
+        "check task proof --nodes nodes",
+        b"",
+        nodes.as_slice(),
+        answer,
+    )
 }
 
 // A line may have 16,777,216 bytes; that it has more is told before its form.
@@ -325,7 +325,10 @@ fn all_falling(
     rows: &[(&str, &str, &str)],
 ) -> Result<(), Fail> {
     for (budget, rest, answer) in rows {
-        assert!(rt; tells_of_falling(alloc, task, budget, rest, answer)?, "{budget}{rest}");
+        assert!(rt;
+            tells_of_falling(alloc, task, budget, rest, answer)?,
+            "{budget}{rest}"
+        );
     }
     Ok(())
 }

@@ -2,9 +2,7 @@
 //! each text that names one is listed.
 
 use crate::by_nodes::tells_by_nodes;
-use crate::short::{
-    KEY_TASK, ONE_OF_TWO, THREE_WISHES, is_text, put_names, tells, told, written,
-};
+use crate::short::{KEY_TASK, ONE_OF_TWO, THREE_WISHES, is_text, put_names, tells, told, written};
 use std::alloc::{AllocError, Global};
 use std::process::Abort;
 use std::test::Fail;

@@ -366,11 +366,12 @@ split_atom_names : Splits atom_names (λ names lines. AreNames names × (lines �
 split_atom_names =
     splits_as atom_names (Numbered (codes "begin_atoms:") 65535 AreNamed)
     (λ names lines. AreNames names × (lines ≡ atom_lines names))
-    (λ names lines says.
-    (record { few = subst (λ k. k ≤ 65535) (sym says.3.1) says.2; each = says.3.0 },
-    says.4 ∙ ap (λ ls. (codes "begin_atoms:" ++ decimal says.0) ∷ ls) says.3.2
-    ∙ ap (λ k. (codes "begin_atoms:" ++ decimal k) ∷ names ++ codes "end_atoms" ∷ [])
-    (sym says.3.1)))
+    (λ names lines says. (
+      record { few = subst (λ k. k ≤ 65535) (sym says.3.1) says.2; each = says.3.0 },
+      says.4 ∙ ap (λ ls. (codes "begin_atoms:" ++ decimal says.0) ∷ ls) says.3.2
+          ∙ ap (λ k. (codes "begin_atoms:" ++ decimal k) ∷ names ++ codes "end_atoms" ∷ [])
+          (sym says.3.1),
+    ))
     (split_number (codes "begin_atoms:") 65535 (R.Place K.BeginAtoms) (R.Limit W.Atoms)
     names_behind AreNamed split_names)
 
@@ -427,8 +428,13 @@ split_lists atoms name cost n m ps qs a e =
     w.1 m w.2 qs w.4 in (
       x.0,
       x.1 ∙ ap (λ rs. as_pieces x.0 ++ rs) s.1,
-      (x.2.0, x.2.1.each, sym s.0 ∙ ap (λ items. written_action atoms
-          (record { name = name; cost = cost; items = items })) x.2.1.values, x.2.1.lines_are),
+      (
+        x.2.0,
+        x.2.1.each,
+        sym s.0 ∙ ap (λ items. written_action atoms
+            (record { name = name; cost = cost; items = items })) x.2.1.values,
+        x.2.1.lines_are,
+      ),
     )
 
 abbrev IsBody : ℕ → Action → List (List ℕ) → Type 0

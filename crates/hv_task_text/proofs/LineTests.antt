@@ -219,9 +219,11 @@ module _ (atoms : ℕ) where
   word_or f l item word other None spelled is at more e = more e
   word_or f l item word other (Some k) spelled is at more e =
       let s = atom_is atoms k (number_behind word l) at in
-      let same : f k ≡ item = cc in
-      (subst (IsItem atoms) same (is k s.1), number_at word l k s.0 ∙ sym (spelled k)
-      ∙ ap item_line same)
+      let same : f k ≡ item = cc in (
+        subst (IsItem atoms) same (is k s.1),
+        number_at word l k s.0 ∙ sym (spelled k)
+            ∙ ap item_line same,
+      )
 
   last_word : (l : List ℕ) (item : Item) (n : Option ℕ) → atom_behind (codes "DEL:") atoms l ≡ n
       → option_map (λ k. I.Del k) n ≡ Some item → IsItem atoms item × (l ≡ item_line item)

@@ -186,12 +186,15 @@ module _ {A B Y : Type 0} (part : Parser B A) (spell : Y → List (List ℕ)) (v
       let s = same_parsed front made n m ps qs e in (
         [],
         s.1,
-        ([], record {
-          values = sym s.0 ∙ sym (append-nil front);
-          lines_are = refl;
-          count = refl;
-          each = All-nil P;
-        }),
+        (
+          [],
+          record {
+            values = sym s.0 ∙ sym (append-nil front);
+            lines_are = refl;
+            count = refl;
+            each = All-nil P;
+          },
+        ),
       )
   splits_each (suc k) front one n m ps qs made e =
       let w = came_of (λ b. iterate k (one_more part) b) (one_more part front n ps) made m qs e in
@@ -203,14 +206,17 @@ module _ {A B Y : Type 0} (part : Parser B A) (spell : Y → List (List ℕ)) (v
       let are = y.2 in (
         x.0 ++ y.0,
         x.1 ∙ ap (λ rs. as_pieces x.0 ++ rs) (s.1 ∙ y.1) ∙ sym (pieces_append x.0 y.0 qs),
-        (is.0 ∷ are.0, record {
-          values = are.1.values ∙ ap (λ (f : List A). f ++ map value are.0) (sym s.0)
-              ∙ append_assoc front (v.0 ∷ []) (map value are.0)
-              ∙ ap (λ a. front ++ a ∷ map value are.0) is.2;
-          lines_are = ap (λ ls. ls ++ y.0) is.3 ∙ ap (λ ls. spell is.0 ++ ls) are.1.lines_are;
-          count = ap (λ i. suc i) are.1.count;
-          each = All-cons P is.0 are.0 is.1 are.1.each;
-        }),
+        (
+          is.0 ∷ are.0,
+          record {
+            values = are.1.values ∙ ap (λ (f : List A). f ++ map value are.0) (sym s.0)
+                ∙ append_assoc front (v.0 ∷ []) (map value are.0)
+                ∙ ap (λ a. front ++ a ∷ map value are.0) is.2;
+            lines_are = ap (λ ls. ls ++ y.0) is.3 ∙ ap (λ ls. spell is.0 ++ ls) are.1.lines_are;
+            count = ap (λ i. suc i) are.1.count;
+            each = All-cons P is.0 are.0 is.1 are.1.each;
+          },
+        ),
       )
 
 module _ {A : Type 0} (kind : TaskKind) (test : List ℕ → Result (Option A) TaskRefusal)
@@ -240,22 +246,28 @@ module _ {A : Type 0} (kind : TaskKind) (test : List ℕ → Result (Option A) T
       let s = same_parsed front made n m ps qs e in (
         l ∷ [],
         ap (λ rs. Some l ∷ rs) s.1,
-        ([], record {
-          values = sym s.0 ∙ sym (append-nil front);
-          lines_are = ap (λ b. b ∷ []) (last l is);
-          each = All-nil P;
-        }),
+        (
+          [],
+          record {
+            values = sym s.0 ∙ sym (append-nil front);
+            lines_are = ap (λ b. b ∷ []) (last l is);
+            each = All-nil P;
+          },
+        ),
       )
   said_next front made n m l ps qs (Ok (Some a)) more is e =
       let w = more (front ++ a ∷ []) made n m qs e in
       let o = one l a is in (
         l ∷ w.0,
         ap (λ rs. Some l ∷ rs) w.1,
-        (a ∷ w.2.0, record {
-          values = w.2.1.values ∙ append_assoc front (a ∷ []) w.2.0;
-          lines_are = ap (λ b. b ∷ w.0) o.1 ∙ ap (λ ls. spell a ∷ ls) w.2.1.lines_are;
-          each = All-cons P a w.2.0 o.0 w.2.1.each;
-        }),
+        (
+          a ∷ w.2.0,
+          record {
+            values = w.2.1.values ∙ append_assoc front (a ∷ []) w.2.0;
+            lines_are = ap (λ b. b ∷ w.0) o.1 ∙ ap (λ ls. spell a ∷ ls) w.2.1.lines_are;
+            each = All-cons P a w.2.0 o.0 w.2.1.each;
+          },
+        ),
       )
 
   lists : (ps : List Piece) → Lists ps

@@ -119,7 +119,7 @@ goal_atoms atoms = do
 abbrev pub all_actions : ℕ → Parser TaskRefusal (List Action)
 all_actions atoms = do
   count ← numbered_line (codes "begin_actions:") 1000000 (R.Place K.BeginActions)
-    (R.Limit W.Actions)
+      (R.Limit W.Actions)
   actions ← repeat count (action atoms)
   word_line (codes "end_actions") (R.Place K.EndActions)
   pure actions

@@ -93,11 +93,7 @@ fn atom_names<R: Source>(alloc: Global, reader: &mut R, task: &mut Task) -> Read
         TaskRefusal::Limit(TaskLimit::Atoms),
     )?;
     names(alloc, reader, task, count)?;
-    word_line(
-        reader,
-        b"end_atoms",
-        TaskRefusal::Place(TaskKind::EndAtoms),
-    )
+    word_line(reader, b"end_atoms", TaskRefusal::Place(TaskKind::EndAtoms))
 }
 
 // One of so many atoms, or none where the line is the closing word.
@@ -204,12 +200,7 @@ fn action_lists<R: Source>(
 }
 
 // An action in a task of so many atoms.
-fn action<R: Source>(
-    alloc: Global,
-    reader: &mut R,
-    atoms: u32,
-    lists: &mut Lists,
-) -> Read<Action>
+fn action<R: Source>(alloc: Global, reader: &mut R, atoms: u32, lists: &mut Lists) -> Read<Action>
     requires can { CanRead (R.position reader.old) }
     requires fresh { lists.old ≡ no_lists }
     ensures reads { Reads (action atoms) (R.position reader.old) (R.position reader.new) result }
