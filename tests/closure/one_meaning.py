@@ -1,45 +1,51 @@
 #!/usr/bin/env python3
-"""Holds the names of specs/ to one module each, but for those that are listed here.
+"""Holds the names of definitions, and of the types and traits of src/, to one module each; and the
+names of the files of src/ to one crate each, but for the parts that crates have alike.
 
-The names of ROLES are exempt. They are those of parts that several modules have: what is said of
-each text that is read line by line, of each table of chains, of each kind of clauses, of each
-pruner and its proof, of each list of rows. What such a name says in one module is not held to what
-it says in another: that is for the reader. A name that a module passes on by `pub use` is no
-definition of that module.
+A name that a module passes on by `pub use` is no definition of that module. A crate of tests names
+its files as those are named whose tests they are, so its files aren't looked at.
 Usage: tests/closure/one_meaning.py
 """
+import glob
+import os
 import sys
 
 sys.dont_write_bytecode = True
 import sources  # noqa: E402
 
-
-ROLES = """
-AreTextOf IsFirstFault IsReadFrom IsTextOf kind_word limit_word
-IsChain IsEnd IsLinked slot_at slot_of
-AreOver IsEither IsFault or_else
-IsModest IsOutcome with_budget
-IsIn RowsBelow
-""".split()
+# Parts that crates have alike: what a crate has, its laws and its own tests; of a format its lines,
+# its faults, its reader and its writer; of a family its walks and questions; of a pruner its notes.
+PARTS = {"lib", "laws", "tests", "forms", "fault", "read", "write", "paths", "notes"}
 
 
 def definitions():
-    """Each name of specs/, with the places where it is defined."""
-    places = {}
-    for item in sources.Sources().defs.values():
-        places.setdefault(item.name, []).append("%s.%s:%d" % (item.crate, item.module, item.line))
+    """Each name of specs/, and each type and trait of src/, with the places where it is defined."""
+    places, code = {}, sources.Sources()
+    for folder, table in (("specs", code.defs), ("src", code.types), ("src", code.traits)):
+        for item in table.values():
+            at = "%s.%s.%s:%d" % (item.crate, folder, item.key[1], item.line)
+            places.setdefault(item.name, []).append(at)
     return places
+
+
+def files():
+    """Each name of a file of src/ that isn't one of those parts, with the crates that have it."""
+    crates = {}
+    for path in glob.glob(os.path.join(sources.TOP, "crates", "*", "src", "*.rt")):
+        crate, name = path.split(os.sep)[-3], os.path.basename(path)[:-len(".rt")]
+        if name not in PARTS and not crate.endswith("_tests") and crate != "hv_agreement":
+            crates.setdefault(name, []).append(crate)
+    return crates
 
 
 def main():
     several = {name: at for name, at in definitions().items() if len(at) > 1}
-    wrong = sorted(name for name in several if name not in ROLES)
-    for name in wrong:
+    for name in sorted(several):
         print("%s stands for several definitions: %s" % (name, ", ".join(sorted(several[name]))))
-    for name in sorted(name for name in ROLES if name not in several):
-        print("%s stands for one definition at most: it is no part of several modules" % name)
-        wrong.append(name)
-    return 1 if wrong else 0
+    shared = {name: at for name, at in files().items() if len(at) > 1}
+    for name in sorted(shared):
+        print("src/%s.rt is in several crates: %s" % (name, ", ".join(sorted(shared[name]))))
+    return 1 if several or shared else 0
 
 
 if __name__ == "__main__":

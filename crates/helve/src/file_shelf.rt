@@ -10,7 +10,7 @@ use std::io::Read;
 
 /// The files of the system. Each error of the system, whatever its cause, counts as a fault; a call
 /// that was interrupted is tried again, and any other error is answered, also that of a descriptor
-/// which has nothing to give at once and doesn't wait. Nothing is told of what files hold.
+/// which has nothing to give at once and doesn't wait. Nothing is said of what files hold.
 #[derive(Drop)]
 pub(crate) struct FileShelf<'a> {
     rt: &'a HostRuntime,
@@ -61,7 +61,7 @@ impl Shelf for FileShelf<'_> {
     }
 }
 
-// Reads the next bytes of the file into the front of `into`, and says how many.
+// Reads the next bytes of the file into the prefix of `into`, and says how many.
 fn read_some(file: &mut File, faults: &mut Faults, into: &mut [u8]) -> Result<usize, Failed>
     ensures bound { ReadsAtMost result into.new }
     ensures cause { HasCause faults.old.count faults.new.count result }

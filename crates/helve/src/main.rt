@@ -4,9 +4,9 @@
 mod faults;
 mod file_shelf;
 mod file_sink;
+mod system_words;
 #[cfg(test)]
 mod tests;
-mod words;
 
 use file_shelf::FileShelf;
 use file_sink::FileSink;
@@ -16,7 +16,7 @@ use hv_reach::{PairPruner, RelaxedPruner};
 use hv_trap::TrapPruner;
 use std::alloc::AllocError;
 use std::process::ExitCode;
-use words::words;
+use system_words::words;
 
 fn main(rt: HostRuntime) -> ExitCode {
     let status = match words(&rt) {

@@ -21,35 +21,35 @@ use std::test::Fail;
 
 // What an answer has to be: the states that are counterexamples, and what it costs.
 #[derive(Clone, Copy)]
-struct Wanted {
+struct Expected {
     clashes: u32,
     cost: u64,
 }
 
 // A side of an inclusion: its states, and how many clauses or states it lists.
 #[derive(Clone, Copy)]
-struct Side {
+struct CountedSet {
     states: u32,
     size: u64,
 }
 
-fn side_of_clauses(clauses: &[u32]) -> Side {
-    Side {
+fn side_of_clauses(clauses: &[u32]) -> CountedSet {
+    CountedSet {
         states: states_of_clauses(clauses),
         size: clauses.len() as u64,
     }
 }
 
-fn side_of_list(codes: &[u32]) -> Side {
-    Side {
+fn side_of_list(codes: &[u32]) -> CountedSet {
+    CountedSet {
         states: states_of_list(codes),
         size: codes.len() as u64,
     }
 }
 
 // The cost is the number of clauses or states of the one side.
-fn wanted_of(clashes: u32, side: Side) -> Wanted {
-    Wanted {
+fn wanted_of(clashes: u32, side: CountedSet) -> Expected {
+    Expected {
         clashes,
         cost: side.size,
     }
@@ -59,7 +59,7 @@ fn within_at<'a, L: InsideAsked<'a>, R: OutsideWalked<'a>>(
     alloc: Global,
     left: &'a L,
     right: &'a R,
-    wanted: Wanted,
+    wanted: Expected,
     budget: Budget,
     scratch: &mut Scratch,
 ) -> Result<bool, AllocError>
@@ -74,7 +74,7 @@ fn within_rightly<'a, L: InsideAsked<'a>, R: OutsideWalked<'a>>(
     alloc: Global,
     left: &'a L,
     right: &'a R,
-    wanted: Wanted,
+    wanted: Expected,
     scratch: &mut Scratch,
 ) -> Result<bool, AllocError>
     requires { L.atoms left.now ≡ R.atoms right.now }
@@ -90,7 +90,7 @@ fn within_states_at<'a, L: InsideWalked<'a>, R: OutsideAsked<'a>>(
     alloc: Global,
     left: &'a L,
     right: &'a R,
-    wanted: Wanted,
+    wanted: Expected,
     budget: Budget,
     scratch: &mut Scratch,
 ) -> Result<bool, AllocError>
@@ -105,7 +105,7 @@ fn within_states_rightly<'a, L: InsideWalked<'a>, R: OutsideAsked<'a>>(
     alloc: Global,
     left: &'a L,
     right: &'a R,
-    wanted: Wanted,
+    wanted: Expected,
     scratch: &mut Scratch,
 ) -> Result<bool, AllocError>
     requires { L.atoms left.now ≡ R.atoms right.now }
@@ -121,7 +121,7 @@ fn apart_at<'a, L: InsideWalked<'a>, R: InsideAsked<'a>>(
     alloc: Global,
     left: &'a L,
     right: &'a R,
-    wanted: Wanted,
+    wanted: Expected,
     budget: Budget,
     scratch: &mut Scratch,
 ) -> Result<bool, AllocError>
@@ -136,7 +136,7 @@ fn apart_rightly<'a, L: InsideWalked<'a>, R: InsideAsked<'a>>(
     alloc: Global,
     left: &'a L,
     right: &'a R,
-    wanted: Wanted,
+    wanted: Expected,
     scratch: &mut Scratch,
 ) -> Result<bool, AllocError>
     requires { L.atoms left.now ≡ R.atoms right.now }
@@ -152,7 +152,7 @@ fn together_at<'a, L: OutsideWalked<'a>, R: OutsideAsked<'a>>(
     alloc: Global,
     left: &'a L,
     right: &'a R,
-    wanted: Wanted,
+    wanted: Expected,
     budget: Budget,
     scratch: &mut Scratch,
 ) -> Result<bool, AllocError>
@@ -167,7 +167,7 @@ fn together_rightly<'a, L: OutsideWalked<'a>, R: OutsideAsked<'a>>(
     alloc: Global,
     left: &'a L,
     right: &'a R,
-    wanted: Wanted,
+    wanted: Expected,
     scratch: &mut Scratch,
 ) -> Result<bool, AllocError>
     requires { L.atoms left.now ≡ R.atoms right.now }
@@ -185,8 +185,8 @@ fn pair_is_right<L: ClauseKind, R: ClauseKind>(
     alloc: Global,
     first: &Formula<L>,
     second: &Formula<R>,
-    left: Side,
-    right: Side,
+    left: CountedSet,
+    right: CountedSet,
     scratch: &mut Scratch,
 ) -> Result<bool, AllocError>
     requires first { first.now.atoms ≡ 3 }
@@ -205,8 +205,8 @@ fn both_are_right<L: ClauseKind, R: ClauseKind>(
     alloc: Global,
     first: &Formula<L>,
     second: &Formula<R>,
-    left: Side,
-    right: Side,
+    left: CountedSet,
+    right: CountedSet,
     scratch: &mut Scratch,
 ) -> Result<bool, AllocError>
     requires first { first.now.atoms ≡ 3 }
@@ -221,8 +221,8 @@ fn formulas_are_right<L: ClauseKind, R: ClauseKind>(
     alloc: Global,
     first: &Formula<L>,
     second: &Formula<R>,
-    left: Side,
-    right: Side,
+    left: CountedSet,
+    right: CountedSet,
 ) -> Result<bool, AllocError>
     requires first { first.now.atoms ≡ 3 }
     requires second { second.now.atoms ≡ 3 }
@@ -236,7 +236,7 @@ fn second_is_right<L: ClauseKind, R: ClauseKind>(
     alloc: Global,
     task: &Task,
     first: &Formula<L>,
-    left: Side,
+    left: CountedSet,
     clauses: &[u32],
 ) -> Result<bool, R::Fault>
     requires task { atoms task.now ≡ 3 }
@@ -293,8 +293,8 @@ fn states_are_right<K: ClauseKind>(
     alloc: Global,
     listing: &Explicit,
     formula: &Formula<K>,
-    left: Side,
-    right: Side,
+    left: CountedSet,
+    right: CountedSet,
     scratch: &mut Scratch,
 ) -> Result<bool, AllocError>
     requires listing { listing.now.atoms ≡ 3 }
@@ -311,8 +311,8 @@ fn answers_are_right<K: ClauseKind>(
     alloc: Global,
     listing: &Explicit,
     formula: &Formula<K>,
-    left: Side,
-    right: Side,
+    left: CountedSet,
+    right: CountedSet,
 ) -> Result<bool, AllocError>
     requires listing { listing.now.atoms ≡ 3 }
     requires formula { formula.now.atoms ≡ 3 }
@@ -326,7 +326,7 @@ fn formula_is_right<K: ClauseKind>(
     alloc: Global,
     task: &Task,
     listing: &Explicit,
-    left: Side,
+    left: CountedSet,
     clauses: &[u32],
 ) -> Result<bool, K::Fault>
     requires task { atoms task.now ≡ 3 }
@@ -358,7 +358,7 @@ fn row_is_right(alloc: Global, horn: u32) -> Result<bool, Fail> {
 }
 
 // The same of the dual Horn clause of the one code, and of the Horn clause and the clause of two
-// literals of the other; where its clause isn't of a kind, an own one of that kind stands for it.
+// literals of the other; where its clause isn't of a kind, an own one of that kind denotes it.
 fn dual_codes_are_right(alloc: Global, dual: u32, other: u32) -> Result<bool, Fail> {
     if !is_dual_code(dual) {
         return Ok(true);
@@ -382,7 +382,12 @@ fn dual_row_is_right(alloc: Global, dual: u32) -> Result<bool, Fail> {
     Ok(right)
 }
 
-fn empty_is_right(alloc: Global, task: &Task, listing: &Explicit, left: Side) -> Result<bool, Fail>
+fn empty_is_right(
+    alloc: Global,
+    task: &Task,
+    listing: &Explicit,
+    left: CountedSet,
+) -> Result<bool, Fail>
     requires task { atoms task.now ≡ 3 }
     requires listing { listing.now.atoms ≡ 3 }
 {
@@ -396,7 +401,7 @@ fn code_is_right(
     alloc: Global,
     task: &Task,
     listing: &Explicit,
-    left: Side,
+    left: CountedSet,
     code: u32,
 ) -> Result<bool, Fail>
     requires task { atoms task.now ≡ 3 }
@@ -417,7 +422,7 @@ fn dual_code_is_right(
     alloc: Global,
     task: &Task,
     listing: &Explicit,
-    left: Side,
+    left: CountedSet,
     code: u32,
 ) -> Result<bool, Fail>
     requires task { atoms task.now ≡ 3 }
@@ -436,7 +441,7 @@ fn listing_is_right(
     alloc: Global,
     task: &Task,
     listing: &Explicit,
-    left: Side,
+    left: CountedSet,
 ) -> Result<bool, Fail>
     requires task { atoms task.now ≡ 3 }
     requires listing { listing.now.atoms ≡ 3 }

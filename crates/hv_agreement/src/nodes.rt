@@ -28,7 +28,7 @@ const PAIRED: &[u8] = b"nodes 6\n1 1 0\n0 2 0\n0 0 2\n2 0 1\n1 0 5\n0 5 1\n";
 
 const PAIRED_SETS: [u32; 8] = [0, 255, 51, 17, 34, 240, 192, 250];
 
-// The fronts of the rising order.
+// The prefixes of the rising order.
 const RISING: Fronts = [0, 1, 3, 7];
 
 // In the order of the atoms 1, 2, 0: the first atom and its negation, the first and the last

@@ -9,7 +9,7 @@ ghost use Rattle.hv_sets.specs.Room.{HasRoom};
 ghost use Rattle.hv_sets.specs.declared.operand.Which.TheVariants as W;
 ghost use Rattle.hv_clauses.specs.Clausal.{sizes_of};
 ghost use Rattle.hv_clauses.specs.Store.{AreOver, formula_at};
-ghost use Rattle.hv_explicit.specs.Listing as listing;
+ghost use Rattle.hv_explicit.specs.ListedStates as listing;
 ghost use Rattle.hv_agreement.specs.declared.queries.Measure.TheVariants as M;
 
 use crate::operands::{one_operand, operand, two_operands};
@@ -31,7 +31,7 @@ use std::test::Fail;
 // one or two. The last positive operand and the first negative one may be asked about after the
 // action.
 #[derive(Clone, Copy)]
-struct Case {
+struct QueryShape {
     count: usize,
     positive: Which,
     joined: Option<Which>,
@@ -43,7 +43,7 @@ struct Case {
 }
 
 // What the cost of a query counts: the choices of a clause of each negative operand, the states
-// that the anchor lists, or the live tuples in the order with these fronts.
+// that the anchor lists, or the live tuples in the order with these prefixes.
 #[derive(Clone, Copy, PartialEq, Eq)]
 pub(crate) enum Measure {
     Choices,
@@ -124,7 +124,7 @@ fn other_of(number: u32, wanted: Wanted) -> Option<Which>
     Some(which_of(number - 1, wanted))
 }
 
-fn case_of(number: u32, wanted: Wanted) -> Case
+fn case_of(number: u32, wanted: Wanted) -> QueryShape
     requires first { wanted.first.number < wanted.count }
     requires second { wanted.second.number < wanted.count }
     ensures count { result.count ≡ wanted.count }
@@ -136,7 +136,7 @@ fn case_of(number: u32, wanted: Wanted) -> Case
     ensures negative_after { result.acts ≡ false → result.negative_after ≡ false }
 {
     let [acts, positive_after, negative_after] = times_of(number / 25 % 5);
-    Case {
+    QueryShape {
         count: wanted.count,
         positive: which_of(number % 5, wanted),
         joined: joined_of(number / 125, wanted),
@@ -149,7 +149,7 @@ fn case_of(number: u32, wanted: Wanted) -> Case
 }
 
 // Whether the first positive operand is the anchor, where the family wants one.
-fn is_askable(measure: Measure, case: Case) -> bool
+fn is_askable(measure: Measure, case: QueryShape) -> bool
     ensures anchor { result ≡ true → measure ≡ M.Listed → case.positive ≡ W.Goal → ⊥ }
     ensures before { result ≡ true → measure ≡ M.Listed → case.joined ≡ None
         → case.positive_after ≡ false }
@@ -172,7 +172,7 @@ fn action_of(acts: bool) -> Option<u32>
 }
 
 // A query of one positive operand and one negative one.
-fn plain_query(alloc: Global, case: Case) -> Result<Query, AllocError>
+fn plain_query(alloc: Global, case: QueryShape) -> Result<Query, AllocError>
     requires positive { IsNamed case.count case.positive }
     requires negative { IsNamed case.count case.negative }
     requires positive_after { case.acts ≡ false → case.positive_after ≡ false }
@@ -199,7 +199,7 @@ fn plain_query(alloc: Global, case: Case) -> Result<Query, AllocError>
 }
 
 // A query of one positive operand and two negative ones.
-fn wider_query(alloc: Global, case: Case, other: Which) -> Result<Query, AllocError>
+fn wider_query(alloc: Global, case: QueryShape, other: Which) -> Result<Query, AllocError>
     requires positive { IsNamed case.count case.positive }
     requires negative { IsNamed case.count case.negative }
     requires other { IsNamed case.count other }
@@ -219,7 +219,7 @@ fn wider_query(alloc: Global, case: Case, other: Which) -> Result<Query, AllocEr
 }
 
 // A query of two positive operands.
-fn joined_query(alloc: Global, case: Case, joined: Which) -> Result<Query, AllocError>
+fn joined_query(alloc: Global, case: QueryShape, joined: Which) -> Result<Query, AllocError>
     requires positive { IsNamed case.count case.positive }
     requires joined { IsNamed case.count joined }
     requires negative { IsNamed case.count case.negative }
@@ -238,7 +238,7 @@ fn joined_query(alloc: Global, case: Case, joined: Which) -> Result<Query, Alloc
 }
 
 // A query of one positive operand.
-fn single_query(alloc: Global, case: Case) -> Result<Query, AllocError>
+fn single_query(alloc: Global, case: QueryShape) -> Result<Query, AllocError>
     requires positive { IsNamed case.count case.positive }
     requires negative { IsNamed case.count case.negative }
     requires other { IfSome case.other (IsNamed case.count) }
@@ -255,7 +255,7 @@ fn single_query(alloc: Global, case: Case) -> Result<Query, AllocError>
     }
 }
 
-fn query_of(alloc: Global, case: Case) -> Result<Query, AllocError>
+fn query_of(alloc: Global, case: QueryShape) -> Result<Query, AllocError>
     requires positive { IsNamed case.count case.positive }
     requires joined { IfSome case.joined (IsNamed case.count) }
     requires negative { IsNamed case.count case.negative }
@@ -299,7 +299,7 @@ fn states_of(which: Which, after: bool, wanted: Wanted) -> u32 {
 }
 
 // The states that are counterexamples.
-fn clashes_of(case: Case, wanted: Wanted) -> u32 {
+fn clashes_of(case: QueryShape, wanted: Wanted) -> u32 {
     let mut mask = if case.acts { holding(wanted.pre) } else { ALL };
     let first_after = case.positive_after && case.joined.is_none();
     mask &= states_of(case.positive, first_after, wanted);
@@ -331,7 +331,7 @@ fn listed_in(which: Which, wanted: Wanted) -> u64 {
 
 // The choices of a clause of each negative operand. No set of these tests is so large that the
 // product wraps.
-fn choices_of(case: Case, wanted: Wanted) -> u64 {
+fn choices_of(case: QueryShape, wanted: Wanted) -> u64 {
     let one = clauses_in(case.negative, wanted);
     match case.other {
         None => one,
@@ -340,7 +340,12 @@ fn choices_of(case: Case, wanted: Wanted) -> u64 {
 }
 
 // What the query of this case costs.
-fn cost_of(alloc: Global, case: Case, query: &Query, wanted: Wanted) -> Result<u64, AllocError> {
+fn cost_of(
+    alloc: Global,
+    case: QueryShape,
+    query: &Query,
+    wanted: Wanted,
+) -> Result<u64, AllocError> {
     match wanted.measure {
         Measure::Choices => Ok(choices_of(case, wanted)),
         Measure::Listed => Ok(listed_in(case.positive, wanted)),
@@ -368,7 +373,7 @@ pub(crate) fn budget_at(cost: u64, budget: Budget) -> u64 {
 
 // What is asked of a query: its counterexamples, what it costs, and within which budget.
 #[derive(Clone, Copy)]
-struct Answer {
+struct QueryAnswer {
     clashes: u32,
     cost: u64,
     budget: Budget,
@@ -380,7 +385,7 @@ fn answer_is_right<F: Family>(
     task: &Task,
     sets: &F,
     query: &Query,
-    answer: Answer,
+    answer: QueryAnswer,
     scratch: &mut Scratch,
 ) -> Result<bool, AllocError>
     requires ready { IsReady (F.count sets.now) query.now }
@@ -399,7 +404,7 @@ fn query_is_right<F: Family>(
     task: &Task,
     sets: &F,
     query: &Query,
-    answer: Answer,
+    answer: QueryAnswer,
     scratch: &mut Scratch,
 ) -> Result<bool, AllocError>
     requires ready { IsReady (F.count sets.now) query.now }
@@ -409,7 +414,7 @@ fn query_is_right<F: Family>(
 {
     let mut right = true;
     for budget in BUDGETS {
-        let answer = Answer { budget, ..answer };
+        let answer = QueryAnswer { budget, ..answer };
         right &= answer_is_right(alloc, task, sets, query, answer, scratch)?;
     }
     Ok(right)
@@ -418,11 +423,11 @@ fn query_is_right<F: Family>(
 // What is asked of the query of this case, within its cost.
 fn answer_of(
     alloc: Global,
-    case: Case,
+    case: QueryShape,
     query: &Query,
     wanted: Wanted,
-) -> Result<Answer, AllocError> {
-    Ok(Answer {
+) -> Result<QueryAnswer, AllocError> {
+    Ok(QueryAnswer {
         clashes: clashes_of(case, wanted),
         cost: cost_of(alloc, case, query, wanted)?,
         budget: Budget::Exact,
@@ -516,7 +521,7 @@ fn ask_in<K: ClauseKind>(
     alloc: Global,
     task: &Task,
     sets: &Formulas<K>,
-    case: Case,
+    case: QueryShape,
     budget: u64,
     scratch: &mut Scratch,
 ) -> Result<Finding, AllocError>
@@ -534,7 +539,7 @@ fn ask_in<K: ClauseKind>(
 }
 
 // The case of this number, of one positive and one negative operand.
-fn plain_case(number: u32, wanted: Wanted) -> Case
+fn plain_case(number: u32, wanted: Wanted) -> QueryShape
     requires first { wanted.first.number < wanted.count }
     requires second { wanted.second.number < wanted.count }
     ensures count { result.count ≡ wanted.count }
@@ -543,7 +548,7 @@ fn plain_case(number: u32, wanted: Wanted) -> Case
     ensures positive_after { result.acts ≡ false → result.positive_after ≡ false }
     ensures negative_after { result.acts ≡ false → result.negative_after ≡ false }
 {
-    Case {
+    QueryShape {
         joined: None,
         other: None,
         ..case_of(number, wanted)
@@ -551,8 +556,8 @@ fn plain_case(number: u32, wanted: Wanted) -> Case
 }
 
 // What is asked of the query of such a case.
-fn plain_answer(case: Case, wanted: Wanted, budget: Budget) -> Answer {
-    Answer {
+fn plain_answer(case: QueryShape, wanted: Wanted, budget: Budget) -> QueryAnswer {
+    QueryAnswer {
         clashes: clashes_of(case, wanted),
         cost: choices_of(case, wanted),
         budget,
@@ -564,8 +569,8 @@ fn case_is_right_in<K: ClauseKind>(
     alloc: Global,
     task: &Task,
     sets: &Formulas<K>,
-    case: Case,
-    answer: Answer,
+    case: QueryShape,
+    answer: QueryAnswer,
     scratch: &mut Scratch,
 ) -> Result<bool, AllocError>
     requires actions { length task.now.actions ≡ 1 }
@@ -856,7 +861,7 @@ fn listings_are_right(
     states_are_right(alloc, &task, pre, first, second)
 }
 
-// A clause to stand beside another: the empty one, one that is true in all states, implications,
+// A clause to be beside another: the empty one, one that is true in all states, implications,
 // and a denial of two atoms.
 fn beside(code: u32) -> u32 {
     [0, 3, 18, 24, 34, 40][code as usize % 6]

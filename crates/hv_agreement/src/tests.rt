@@ -102,7 +102,7 @@ fn set_of<K: ClauseKind>(alloc: Global, rows: &[&[u32]]) -> Result<Formula<K>, K
 const HORN_ROWS: [&[u32]; 5] = [&[0, 3, 3], &[1, 1], &[], &[0, 1], &[3, 5, 0]];
 
 // The numbers of the clauses that deny each atom. One that denies it twice is listed once, and one
-// in which it stands positively alone isn't.
+// in which it occurs positively alone isn't.
 const DENIED: [&[usize]; 4] = [&[1, 3], &[0, 4], &[4], &[]];
 
 fn denies(set: &Horn, atom: u32, wanted: &[usize]) -> bool {

@@ -2,7 +2,7 @@
 //!
 //! A state is a code below 8, with a bit for each atom. A clause is a code below 256, with a bit
 //! for each literal: the place of a literal is twice its atom, and one more if it is negative. With
-//! 64 each of them stands there twice, and with 128 they stand in the falling order. Several states
+//! 64 each of them is there twice, and with 128 they are in the falling order. Several states
 //! are a mask, with a bit for the code of each.
 
 ghost use Rattle.std.specs.Prelude.{◌≡◌, ◌<◌, ◌+◌, [], IfOk, OnOk, length};
@@ -10,7 +10,7 @@ ghost use Rattle.hv_task.specs.State.{AreBelow};
 ghost use Rattle.hv_task.specs.Strips.{IsOver, atoms};
 ghost use Rattle.hv_sets.specs.Cubes.{SpeakBelow};
 ghost use Rattle.hv_clauses.specs.Clausal.{AreClauses};
-ghost use Rattle.hv_explicit.specs.Listing.{AreStates};
+ghost use Rattle.hv_explicit.specs.ListedStates.{AreStates};
 
 use hv_clauses::{ClauseKind, Formula};
 use hv_explicit::Explicit;

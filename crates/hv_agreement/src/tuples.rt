@@ -1,7 +1,7 @@
 //! The live tuples of a query over diagrams, counted by what is left of its operands.
 //!
 //! Once the bits of the first atoms are known, of a set there is left the set of the states that
-//! are in it with these bits in place of their own. A node stands for what is left of its operand,
+//! are in it with these bits in place of their own. A node denotes what is left of its operand,
 //! and different nodes for different sets, so a tuple says what is left of each operand; it is live
 //! where of no positive operand nothing is left, and of no negative one everything.
 
@@ -105,7 +105,7 @@ fn put_all(
     Ok(())
 }
 
-// How many live tuples the query has in the order with these fronts.
+// How many live tuples the query has in the order with these prefixes.
 pub(crate) fn live_tuples(
     alloc: Global,
     query: &Query,

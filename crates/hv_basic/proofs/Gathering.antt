@@ -13,11 +13,11 @@ use Rattle.hv_lines.specs.declared.line.Line.{Line}
 use Rattle.hv_lines.proofs.Shaped.{literal_from, literal_once}
 use Rattle.hv_basic.specs.Working.Gathered.{AreGathered, AreOthers, IsGiven, IsThe, sign_on}
 use Rattle.hv_basic.specs.Working.Leaves.{IsLeafRead, places}
-use Rattle.hv_basic.specs.declared.literals.Asking.{Asking}
-use Rattle.hv_basic.specs.declared.literals.Leaf.{Leaf}
-use Rattle.hv_basic.specs.declared.literals.Literal.{Literal}
-use Rattle.hv_basic.specs.declared.literals.Others.{Others}
-use Rattle.hv_basic.specs.declared.literals.Others.TheVariants as O
+use Rattle.hv_basic.specs.declared.signed_sets.Asking.{Asking}
+use Rattle.hv_basic.specs.declared.signed_sets.Leaf.{Leaf}
+use Rattle.hv_basic.specs.declared.signed_sets.SignedSet.{SignedSet}
+use Rattle.hv_basic.specs.declared.signed_sets.Others.{Others}
+use Rattle.hv_basic.specs.declared.signed_sets.Others.TheVariants as O
 
 -- what was read of leaves stays so in a list that is the same
 pub read_there : (lines : List Line) (xs ys : List Leaf) → xs ≡ ys → All (IsLeafRead lines) ys
@@ -31,13 +31,13 @@ place_at leaves i d within = get_or-map (λ (leaf : Leaf). leaf.place) leaves i 
 -- what was read of the leaf at a place
 module _ (lines : List Line) (leaves : List Leaf) (i : ℕ) (d : Leaf) (within : i < length leaves)
     (read : All (IsLeafRead lines) leaves) where
-  read_at : (l : Option Literal) → (get_or leaves i d).literal ≡ l
+  read_at : (l : Option SignedSet) → (get_or leaves i d).literal ≡ l
       → MatchOption l (IsLiteral lines (get_or leaves i d).place → ⊥)
       (IsThe lines (get_or leaves i d).place)
   read_at l is = subst (λ x. MatchOption x (IsLiteral lines (get_or leaves i d).place → ⊥)
       (IsThe lines (get_or leaves i d).place)) is (read i d within).is
 
-  pub literal_at : (literal : Literal) → (get_or leaves i d).literal ≡ Some literal
+  pub literal_at : (literal : SignedSet) → (get_or leaves i d).literal ≡ Some literal
       → IsThe lines (get_or (places leaves) i 0) literal
   literal_at literal is =
       subst (λ leaf. IsThe lines leaf literal) (sym (place_at leaves i d within))
@@ -126,7 +126,7 @@ module _ (lines : List Line) (leaves : List ℕ) (i : ℕ) (within : i < length 
   )
 
   -- a literal asks about its formula or constant
-  pub gathered_more : (literal : Literal) (positive : Bool)
+  pub gathered_more : (literal : SignedSet) (positive : Bool)
       → IsThe lines (get_or leaves i 0) literal → positive ≡ sign_on on_left literal.is_plain
       → AreGathered lines (take (i + 1) leaves) on_left after old
       (mid ++ record { set = literal.set; after = after; positive = positive } ∷ [])

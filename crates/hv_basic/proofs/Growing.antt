@@ -1,4 +1,4 @@
--- A line more, and the stores stand for the lines again.
+-- A line more, and the stores denote the lines again.
 use Rattle.std.proofs.Common.{◌≡◌, ℕ, ◌<◌, ◌∙◌, ◌++◌, List, [], ◌∷◌, Some, eqb, length, map, refl}
 use Rattle.std.proofs.Common.{sym}
 use Rattle.std.proofs.Common.{ap, subst, inl, inr, arith}
@@ -12,8 +12,8 @@ use Rattle.hv_lines.specs.Numbering.{IsNumbered, expr_count}
 use Rattle.hv_lines.specs.Queries.{dual_in, horn_in, two_in, listed_in, duals_of, horns_of}
 use Rattle.hv_lines.specs.Queries.{twos_of, listed_of}
 use Rattle.hv_lines.specs.Queries.{count_of, named_by, which_at}
-use Rattle.hv_lines.specs.declared.family.FormulaFamily.{FormulaFamily}
-use Rattle.hv_lines.specs.declared.family.FormulaFamily.TheVariants as F
+use Rattle.hv_lines.specs.declared.formula_family.FormulaFamily.{FormulaFamily}
+use Rattle.hv_lines.specs.declared.formula_family.FormulaFamily.TheVariants as F
 use Rattle.hv_lines.specs.declared.line.Expr.{Expr}
 use Rattle.hv_lines.specs.declared.line.Line.{Line}
 use Rattle.hv_lines.specs.declared.line.Line.TheVariants as L
@@ -98,7 +98,7 @@ module _ (task : Strips) (older : List Line) (store : StoreState) (is : IsStoreO
       names = name_at own expr numbered;
     }
 
-    -- with what the next line says the stores stand for all lines
+    -- with what the next line says the stores denote all lines
     pub line_more : (line : Line) → IsNumbered older line
         → IsStoreOf task (line ∷ older) (with_line (atoms task) store line)
     line_more (L.Acts id acts) numbered =
@@ -123,7 +123,7 @@ module _ (task : Strips) (older : List Line) (store : StoreState) (is : IsStoreO
               is.names;
         }
 
--- stores without formulas stand for no lines
+-- stores without formulas denote no lines
 pub none_yet : (task : Strips) (store : StoreState) → store.horns ≡ [] → store.duals ≡ []
     → store.twos ≡ [] → store.listed ≡ [] → store.names ≡ []
     → IsStoreOf task [] store

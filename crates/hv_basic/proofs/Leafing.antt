@@ -12,7 +12,7 @@ use Rattle.hv_lines.specs.Shapes.{IsLeaf, alone, of_left, of_right}
 use Rattle.hv_lines.specs.declared.line.Expr.{Expr}
 use Rattle.hv_lines.specs.declared.line.Line.{Line}
 use Rattle.hv_basic.specs.Working.Work.{Has, IsLookedAt, IsTaken, LookedAt, parts_on}
-use Rattle.hv_basic.specs.declared.leaves.Side.{Side}
+use Rattle.hv_basic.specs.declared.leaves.Half.{Half}
 
 -- what holds while the sets are gone through: a leaf of the root is found already, or is a leaf of
 -- a set that is still to be looked
@@ -128,7 +128,7 @@ module _ (parts : Expr → Option (ℕ × ℕ)) (lines : List Line) (root set bo
   }
 
 -- one more set is looked at
-pub leafing_step : (lines : List Line) (side : Side) (root set bound : ℕ) (old mid new : BTreeSet ℕ)
+pub leafing_step : (lines : List Line) (side : Half) (root set bound : ℕ) (old mid new : BTreeSet ℕ)
     (found kept : List ℕ)
     → IsLeafing (parts_on side) lines root old found bound → IsTaken old mid set
     → IsLookedAt lines side set mid new found kept

@@ -11,10 +11,10 @@ use Rattle.hv_lines.specs.declared.line.Statement.{Statement}
 use Rattle.hv_lines.specs.declared.line.Statement.TheVariants as T
 use Rattle.hv_lines.specs.declared.verdict.Verdict.{Verdict}
 use Rattle.hv_lines.specs.Shapes.{Askings, AskingsRise, HasShape, IsAndLeaf, IsAsked, IsFamilyOf}
-use Rattle.hv_lines.specs.Shapes.{OfActs, OfSets, OfTwo, Question}
+use Rattle.hv_lines.specs.Shapes.{OfActs, OfSets, OfTwo, QuestionState}
 use Rattle.hv_lines.specs.Shapes.{IsLeftLeaf, IsLiteralOf, IsOfFamily, IsOrLeaf, IsQuestion, IsStep}
 use Rattle.hv_lines.specs.Shapes.{IsWithinFamily, asks_sides_after, most_operands}
-use Rattle.hv_lines.specs.declared.family.FormulaFamily.{FormulaFamily}
+use Rattle.hv_lines.specs.declared.formula_family.FormulaFamily.{FormulaFamily}
 use Rattle.hv_lines.specs.declared.line.Line.{Line}
 use Rattle.hv_lines.specs.declared.line.Word.{Word}
 use Rattle.hv_lines.specs.declared.line.Word.TheVariants as W
@@ -26,8 +26,8 @@ use Rattle.hv_basic.specs.Working.Gathered.{AreGathered, AreLeftAskings, AreOthe
 use Rattle.hv_basic.specs.Working.Gathered.{IsLeftRead, IsLeftSide, IsLiteralStep, IsStepAdded}
 use Rattle.hv_basic.specs.Sharing.{ArePlain, IsTheFamily}
 use Rattle.hv_basic.specs.Working.Sharing.{IsFamilyBeside, IsVerdictOfSub}
-use Rattle.hv_basic.specs.declared.literals.Asking.{Asking}
-use Rattle.hv_basic.specs.declared.literals.Others.TheVariants as O
+use Rattle.hv_basic.specs.declared.signed_sets.Asking.{Asking}
+use Rattle.hv_basic.specs.declared.signed_sets.Others.TheVariants as O
 use Rattle.hv_basic.specs.declared.sides.Sides.{Sides}
 use Rattle.hv_basic.proofs.Siding.{both_sides, literal_below}
 
@@ -287,7 +287,7 @@ verdict_shared setting lines statement word left right verdict same answer =
 
 -- without a question the statement has no shape
 no_shape : (lines : List Line) (word : Word) (left right : ℕ) → (word ≡ W.B4 → ⊥)
-    → ((q : Question) → IsQuestion lines word left right q → ⊥)
+    → ((q : QuestionState) → IsQuestion lines word left right q → ⊥)
     → HasShape lines (T.Sub left right) word → ⊥
 no_shape lines word left right other out (OfSets asked q, is) = out q is.1
 no_shape lines word left right other out (OfTwo x y, is) = other is.0
@@ -295,7 +295,7 @@ no_shape lines word left right other out (OfActs first second, is) = is
 
 pub sub_unshaped : (lines : List Line) (statement : Statement) (word : Word) (left right : ℕ)
     → statement ≡ T.Sub left right → (word ≡ W.B4 → ⊥)
-    → ((q : Question) → IsQuestion lines word left right q → ⊥)
+    → ((q : QuestionState) → IsQuestion lines word left right q → ⊥)
     → HasShape lines statement word → ⊥
 sub_unshaped lines statement word left right same other out has =
     no_shape lines word left right other out (subst (λ s. HasShape lines s word) same has)

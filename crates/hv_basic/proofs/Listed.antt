@@ -44,7 +44,7 @@ module _ (lines : List Line) (acts : ℕ) where
             ∙ gap to from past (λ n at less. none n at (omega (arith, less)))
       ]
 
-  -- how far the list was gone through: the actions below the bound stand there
+  -- how far the list was gone through: the actions below the bound are there
   pub record IsListedTo (listed : List ℕ) (actions i : ℕ) (asked : List (Option ℕ)) : Type 0 where
     pub bound : ℕ
     pub within : bound ≤ actions

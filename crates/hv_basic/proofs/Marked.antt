@@ -55,7 +55,7 @@ set_keeps xs i j within e =
           ]
     ]
 
--- a flag that is set was set before, or stands at the place that was written
+-- a flag that is set was set before, or is at the place that was written
 set_was : (xs : List Bool) (i j : ℕ) → flag_or_false (set xs i true) j ≡ true
     → (j ≡ i) ⊎ (flag_or_false xs j ≡ true)
 set_was xs i j e =

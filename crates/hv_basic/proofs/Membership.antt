@@ -62,7 +62,7 @@ step_refers a e W.B2 expr p is refers = after_refers a e expr p (sym is) refers
 step_refers a e W.B3 expr p is refers = before_refers a e expr p (sym is) refers
 step_refers a e _ expr p is refers = absurd (cc (is))
 
--- what a list gives at a place is what stands there
+-- what a list gives at a place is what is there
 pub at_place : {A : Type 0} (xs : List A) (place : ℕ) (d x : A) → slice_get xs place ≡ Some x
     → x ≡ get_or xs place d
 at_place xs place d x is = ap (λ o. unwrap_or o d) (sym is) ∙ unwrap_or-slice_get xs place d

@@ -6,13 +6,13 @@ use Rattle.std.proofs.lemmas.Option.{same_Some}
 use Rattle.std.specs.List.{Contains}
 use Rattle.hv_lines.specs.Numbering.{expr_at}
 use Rattle.hv_lines.specs.Shapes.{IsOfFamily, IsWithinFamily, family_of}
-use Rattle.hv_lines.specs.declared.family.FormulaFamily.{FormulaFamily}
-use Rattle.hv_lines.specs.declared.family.FormulaFamily.TheVariants as F
+use Rattle.hv_lines.specs.declared.formula_family.FormulaFamily.{FormulaFamily}
+use Rattle.hv_lines.specs.declared.formula_family.FormulaFamily.TheVariants as F
 use Rattle.hv_lines.specs.declared.line.Expr.{Expr}
 use Rattle.hv_lines.specs.declared.line.Line.{Line}
 use Rattle.hv_basic.specs.Sharing.{IsNoFormula}
 use Rattle.hv_basic.specs.Working.Sharing.{AreOtherFamilies, IsFamilyBeside, IsFamilyWith}
-use Rattle.hv_basic.specs.declared.literals.Asking.{Asking}
+use Rattle.hv_basic.specs.declared.signed_sets.Asking.{Asking}
 use Rattle.hv_basic.proofs.Membership.{more}
 
 -- the family of those at the places before one, and of what stood there before them

@@ -18,7 +18,7 @@ use Rattle.std.specs.Ordering.{bool_cmp, nat_cmp, ordering_then}
 use Rattle.std.specs.declared.cmp.Ordering.TheVariants.{Less, Equal, Greater}
 use Rattle.hv_lines.specs.Shapes.{AskedBefore, Askings, AskingsRise}
 use Rattle.hv_basic.specs.Working.Asked.{AreChosen, AreKeys, order}
-use Rattle.hv_basic.specs.declared.literals.Asking.{Asking}
+use Rattle.hv_basic.specs.declared.signed_sets.Asking.{Asking}
 use Rattle.hv_basic.proofs.Gathering.{take_more}
 
 bool_exact : (a b : Bool) → bool_cmp a b ≡ Equal → a ≡ b

@@ -14,10 +14,10 @@ use Rattle.hv_lines.specs.Numbering.{IsTable, acts_count, expr_count}
 use Rattle.hv_lines.specs.Queries.{IsOffered, NamesNodes, asked_actions, operand_of, queries_of}
 use Rattle.hv_lines.specs.Queries.{count_of, query_of, which_at}
 use Rattle.hv_lines.specs.Setting.{Setting}
-use Rattle.hv_lines.specs.Shapes.{Askings, HasSides, IsQuestion, Question}
+use Rattle.hv_lines.specs.Shapes.{Askings, HasSides, IsQuestion, QuestionState}
 use Rattle.hv_lines.specs.Verdicts.{IsVerdictOfSets}
-use Rattle.hv_lines.specs.declared.family.FormulaFamily.{FormulaFamily}
-use Rattle.hv_lines.specs.declared.family.FormulaFamily.TheVariants as F
+use Rattle.hv_lines.specs.declared.formula_family.FormulaFamily.{FormulaFamily}
+use Rattle.hv_lines.specs.declared.formula_family.FormulaFamily.TheVariants as F
 use Rattle.hv_lines.specs.declared.line.Line.{Line}
 use Rattle.hv_lines.specs.declared.line.Word.{Word}
 use Rattle.hv_lines.specs.declared.verdict.Verdict.{Verdict}
@@ -49,7 +49,8 @@ operands_more lines asked place d old new which within are is added =
     }
     ∷ []) are is ∙ sym (map_more (λ a. operand_of lines a) asked place d within))
 
-module _ (lines : List Line) (table : IsTable lines) (word : Word) (left right : ℕ) (q : Question)
+module _ (lines : List Line) (table : IsTable lines) (word : Word) (left right : ℕ) (q :
+    QuestionState)
     (is : IsQuestion lines word left right q) where
   pub acts_below_of : (acts : Option ℕ) → HasSides lines word left right acts
       → IfSome acts (λ a. a < acts_count lines)
@@ -107,19 +108,19 @@ module _ (lines : List Line) (table : IsTable lines) (word : Word) (left right :
     }
 
 -- the question, were it of this family, is offered
-abbrev pub IsOfferedIn : List Line → Question → FormulaFamily → Type 0
+abbrev pub IsOfferedIn : List Line → QuestionState → FormulaFamily → Type 0
 IsOfferedIn lines q family = IsOffered lines (record
     { family = family; positive = q.positive; negative = q.negative; acts = q.acts })
 
 -- over explicit sets that goes by the query
-pub unoffered_listed : (lines : List Line) (q : Question) (query : Query)
+pub unoffered_listed : (lines : List Line) (q : QuestionState) (query : Query)
     → with_action query None ≡ query_of lines q None → q.family ≡ F.States
     → (HasAnchor query → ⊥) → IsOffered lines q → ⊥
 unoffered_listed lines q query same is none offered = none
     (subst HasAnchor (sym same) (subst (IsOfferedIn lines q) is offered))
 
 -- a verdict by the queries is one of the question
-pub verdict_by : (setting : Setting) (lines : List Line) (q : Question) (queries : List Query)
+pub verdict_by : (setting : Setting) (lines : List Line) (q : QuestionState) (queries : List Query)
     (verdict : Verdict) → IsOffered lines q
     → queries ≡ queries_of setting.task lines q
     → IsDecidedOver setting lines q.family queries verdict
@@ -133,7 +134,8 @@ verdict_by setting lines q queries (V.False found) offered is decided =
 verdict_by setting lines q queries V.NotOffered offered is decided = absurd decided
 
 -- the same, by the family
-pub verdict_in : (setting : Setting) (lines : List Line) (q : Question) (family : FormulaFamily)
+pub verdict_in : (setting : Setting) (lines : List Line) (q : QuestionState) (family :
+    FormulaFamily)
     (queries : List Query) (verdict : Verdict)
     → q.family ≡ family → IsOfferedIn lines q family → queries ≡ queries_of setting.task lines q
     → IsDecidedOver setting lines family queries verdict → IsVerdictOfSets setting lines q verdict

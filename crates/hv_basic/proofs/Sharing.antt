@@ -20,7 +20,7 @@ use Rattle.hv_lines.specs.Queries.{count_of, named_by, operand_of, which_at}
 use Rattle.hv_lines.specs.Shapes.{Askings, AskingsRise, IsLiteralOf, IsOfFamily, IsOrLeaf, IsWithinFamily}
 use Rattle.hv_lines.specs.Shapes.{alone}
 use Rattle.hv_lines.specs.Shapes.{family_of, of_left, of_right, or_parts}
-use Rattle.hv_lines.specs.declared.family.FormulaFamily.{FormulaFamily}
+use Rattle.hv_lines.specs.declared.formula_family.FormulaFamily.{FormulaFamily}
 use Rattle.hv_lines.specs.declared.line.Expr.{Expr}
 use Rattle.hv_lines.specs.declared.line.Expr.TheVariants as E
 use Rattle.hv_lines.specs.declared.line.Line.{Line}
@@ -33,8 +33,8 @@ use Rattle.hv_basic.specs.Working.Gathered.{IsThe}
 use Rattle.hv_basic.specs.Working.Leaves.{IsLeafRead, places}
 use Rattle.hv_basic.specs.Working.Sharing.{AreAddedTo, IsFamilyWith, IsMadeOf}
 use Rattle.hv_basic.specs.Working.Sharing.{IsPartBeside}
-use Rattle.hv_basic.specs.declared.literals.Leaf.{Leaf}
-use Rattle.hv_basic.specs.declared.literals.Literal.{Literal}
+use Rattle.hv_basic.specs.declared.signed_sets.Leaf.{Leaf}
+use Rattle.hv_basic.specs.declared.signed_sets.SignedSet.{SignedSet}
 use Rattle.hv_basic.specs.declared.shared.Kept.{Kept}
 use Rattle.hv_basic.proofs.Leafing.{leaf_parts}
 
@@ -408,7 +408,7 @@ after_last asked leaf rises some last a (k, below, is) =
     ]
 
 -- what was read of a leaf that is a formula or constant itself
-pub plain_read : (lines : List Line) (leaf : Leaf) (literal : Literal)
+pub plain_read : (lines : List Line) (leaf : Leaf) (literal : SignedSet)
     → leaf.literal ≡ Some literal → literal.is_plain ≡ true → IsLeafRead lines leaf
     → (leaf.place < expr_count lines) × IsPlainSet lines leaf.place
     × ((expr : Expr) × (expr_at lines leaf.place ≡ Some expr) × (leaf.family ≡ family_of expr))
@@ -418,11 +418,11 @@ plain_read lines leaf literal found plain read =
     (subst (λ l. MatchOption l (IsLiteral lines leaf.place → ⊥) (IsThe lines leaf.place)) found
     read.is) in (
       subst (λ set. set < expr_count lines) (sym is.0)
-          (subst (λ l. IfSome l (λ (x : Literal). x.set < expr_count lines)) found read.below),
+          (subst (λ l. IfSome l (λ (x : SignedSet). x.set < expr_count lines)) found read.below),
       subst (IsPlainSet lines) (sym is.0) is.1,
       subst (λ set. (expr : Expr) × (expr_at lines set ≡ Some expr)
           × (leaf.family ≡ family_of expr)) (sym is.0)
-          (subst (λ l. IfSome l (λ (x : Literal). (expr : Expr)
+          (subst (λ l. IfSome l (λ (x : SignedSet). (expr : Expr)
           × (expr_at lines x.set ≡ Some expr) × (leaf.family ≡ family_of expr))) found read.family),
     )
 

@@ -11,15 +11,16 @@ use Rattle.hv_basic.specs.Faults.{IsShapeFault}
 use Rattle.hv_basic.specs.declared.shapes.ShapeFault.{ShapeFault}
 use Rattle.hv_basic.specs.declared.shapes.ShapeFault.TheVariants as F
 use Rattle.hv_lines.specs.Shapes.{Askings, AskingsRise, HasSides, IsAsked, IsFamilyOf, IsLiteralOf}
-use Rattle.hv_lines.specs.Shapes.{IsOrLeaf, IsQuestion, Question, asks_sides_after, most_operands}
-use Rattle.hv_lines.specs.declared.family.FormulaFamily.{FormulaFamily}
+use Rattle.hv_lines.specs.Shapes.{IsOrLeaf, IsQuestion, QuestionState, asks_sides_after}
+use Rattle.hv_lines.specs.Shapes.{most_operands}
+use Rattle.hv_lines.specs.declared.formula_family.FormulaFamily.{FormulaFamily}
 use Rattle.hv_lines.specs.declared.line.Line.{Line}
 use Rattle.hv_lines.specs.declared.line.Word.{Word}
 use Rattle.hv_lines.proofs.Rising.{rising_once}
 use Rattle.hv_basic.specs.Working.Asked.{AreChosen}
 use Rattle.hv_basic.specs.Working.Gathered.{AreAskings, AreGathered, AreLeftAskings, IsFamilyIn}
 use Rattle.hv_basic.specs.Working.Gathered.{IsLeftSide}
-use Rattle.hv_basic.specs.declared.literals.Asking.{Asking}
+use Rattle.hv_basic.specs.declared.signed_sets.Asking.{Asking}
 
 module _ (lines : List Line) (word : Word) (left right : ℕ) where
   -- a left side with the shape, beside a right one
@@ -132,13 +133,13 @@ module _ (lines : List Line) (word : Word) (left right : ℕ) (askings : List As
   }
 
   pub family_fails : ((family : FormulaFamily) → IsFamilyIn lines askings family → ⊥)
-      → (q : Question) → IsQuestion lines word left right q → ⊥
+      → (q : QuestionState) → IsQuestion lines word left right q → ⊥
   family_fails out q is = out q.family (family_in_all q.family is.family)
 
   pub few_fails : (positive negative : Askings) → AskingsRise positive → AskingsRise negative
       → AreChosen askings true positive
       → AreChosen askings false negative → most_operands < length positive + length negative
-      → (q : Question)
+      → (q : QuestionState)
       → IsQuestion lines word left right q → ⊥
   few_fails positive negative rises falls chosen others many q is =
       let same : q.positive ≡ positive = rising_once q.positive positive is.positive_rises rises

@@ -1,4 +1,4 @@
--- The stores stand for the formulas of the lines.
+-- The stores denote the formulas of the lines.
 use Rattle.std.proofs.Common.{◌≡◌, ℕ, ◌<◌, ◌∙◌, Bool, List, [], Option, Some, None, length, map}
 use Rattle.std.proofs.Common.{get_or, refl, sym, ap, subst, arith}
 use Rattle.std.proofs.lemmas.List.{get_or-map, length-map}
@@ -11,10 +11,11 @@ use Rattle.hv_sets.specs.Query.{is_clash}
 use Rattle.hv_sets.specs.Truth.{in_clauses, in_states}
 use Rattle.hv_sets.specs.declared.literal.Literal.{Literal}
 use Rattle.hv_sets.specs.declared.query.Query.{Query}
-use Rattle.hv_clauses.specs.Clausal.{Formula, tests_of, sizes_of}
+use Rattle.hv_clauses.specs.Clausal.{FormulaState, tests_of, sizes_of}
 use Rattle.hv_clauses.specs.Store.{AreOver, clauses_found, formula_at}
-use Rattle.hv_explicit.specs.Listing.{Listing, count_found, in_found, in_set, states_listed}
-use Rattle.hv_explicit.specs.Listing.{AreOver as AreListedOver}
+use Rattle.hv_explicit.specs.ListedStates.{ListedStates, count_found, in_found, in_set}
+use Rattle.hv_explicit.specs.ListedStates.{states_listed}
+use Rattle.hv_explicit.specs.ListedStates.{AreListsOver as AreListedOver}
 use Rattle.hv_lines.specs.Verdicts.{IsDecided}
 use Rattle.hv_lines.specs.declared.verdict.Verdict.{Verdict}
 use Rattle.hv_basic.specs.Stores.{formula, listing}
@@ -34,9 +35,9 @@ module _ (n : ℕ) (xs : List (List (List Literal))) where
   are_over k d below =
       let size = length-map xs (formula n) in
       let within : k < length xs = omega (arith, below, size) in
-      ap (λ (f : Formula). f.atoms) (get_or-map (formula n) xs k [] d within)
+      ap (λ (f : FormulaState). f.atoms) (get_or-map (formula n) xs k [] d within)
 
-  module _ (sets : List Formula) (is : sets ≡ map (formula n) xs) where
+  module _ (sets : List FormulaState) (is : sets ≡ map (formula n) xs) where
     pub sets_over : AreOver sets n
     sets_over = subst (λ s. AreOver s n) (sym is) are_over
 
@@ -87,10 +88,10 @@ module _ (n : ℕ) (xs : List (List (List ℕ))) where
   listed_over k d below =
       let size = length-map xs (listing n) in
       let within : k < length xs = omega (arith, below, size) in
-      ap (λ (l : Listing). l.atoms) (get_or-map (listing n) xs k [] d within)
+      ap (λ (l : ListedStates). l.atoms) (get_or-map (listing n) xs k [] d within)
 
   pub listed_decided : (task : Strips) (budget count : ℕ) (queries : List Query) (verdict : Verdict)
-      (store : List Listing)
+      (store : List ListedStates)
       → store ≡ map (listing n) xs
       → IsDecided (λ q. StatesPass (states_listed store) q budget) (is_clash task (in_set store))
       count queries verdict

@@ -17,8 +17,8 @@ use Rattle.hv_lines.specs.Setting.{setting_of}
 use Rattle.hv_basic.specs.Working.Formulas.{IsFormulaFor, IsFoundInclusion, expr_of, formula_atoms}
 use Rattle.hv_basic.specs.Working.Formulas.{apart_cost, formula_has, inside_count, outside_count}
 use Rattle.hv_basic.specs.Working.Formulas.{within_cost}
-use Rattle.hv_basic.specs.declared.formula.AnyFormula.{AnyFormula}
-use Rattle.hv_basic.specs.declared.formula.AnyFormula.TheVariants as M
+use Rattle.hv_basic.specs.declared.any_formula.AnyFormula.{AnyFormula}
+use Rattle.hv_basic.specs.declared.any_formula.AnyFormula.TheVariants as M
 
 both_turned : (a b : Bool) → (b && not a) ≡ (not a && not (not b))
 both_turned true true = refl

@@ -1,18 +1,18 @@
--- The stores of a proof's formulas, and how they stand for the lines.
+-- The stores of a proof's formulas, and how they denote the lines.
 use Rattle.std.specs.Prelude.{◌≡◌, ◌<◌, ◌++◌, ℕ, List, [], ◌∷◌, Some, length, map, slice_get}
 use Rattle.std.specs.List.{All}
 use Rattle.hv_task.specs.Strips.{Strips, atoms}
 use Rattle.hv_sets.specs.Kinds.{IsDualHornClause, IsHornClause, IsTwoClause}
 use Rattle.hv_sets.specs.declared.literal.Literal.{Literal}
 use Rattle.hv_sets.specs.declared.operand.Which.{Which}
-use Rattle.hv_clauses.specs.Clausal.{AreClauses, Formula}
-use Rattle.hv_explicit.specs.Listing.{AreStates, Listing}
+use Rattle.hv_clauses.specs.Clausal.{AreClauses, FormulaState}
+use Rattle.hv_explicit.specs.ListedStates.{AreStates, ListedStates}
 use Rattle.hv_lines.specs.Numbering.{expr_count}
 use Rattle.hv_lines.specs.Queries.{dual_in, horn_in, two_in, listed_in, duals_of, horns_of}
 use Rattle.hv_lines.specs.Queries.{twos_of, listed_of}
 use Rattle.hv_lines.specs.Queries.{named_by, which_at}
-use Rattle.hv_lines.specs.declared.family.FormulaFamily.{FormulaFamily}
-use Rattle.hv_lines.specs.declared.family.FormulaFamily.TheVariants as F
+use Rattle.hv_lines.specs.declared.formula_family.FormulaFamily.{FormulaFamily}
+use Rattle.hv_lines.specs.declared.formula_family.FormulaFamily.TheVariants as F
 use Rattle.hv_lines.specs.declared.line.Expr.{Expr}
 use Rattle.hv_lines.specs.declared.line.Expr.TheVariants as E
 use Rattle.hv_lines.specs.declared.line.Line.{Line}
@@ -21,18 +21,18 @@ use Rattle.hv_lines.specs.declared.line.Line.TheVariants as L
 -- the stores of the four families that have one, and what each `e` line's set is named by in the
 -- store of its family
 pub record StoreState : Type 0 where
-  pub horns : List Formula
-  pub duals : List Formula
-  pub twos : List Formula
-  pub listed : List Listing
+  pub horns : List FormulaState
+  pub duals : List FormulaState
+  pub twos : List FormulaState
+  pub listed : List ListedStates
   pub names : List Which
 
 -- the formula of these clauses, over so many atoms
-abbrev pub formula : ℕ → List (List Literal) → Formula
+abbrev pub formula : ℕ → List (List Literal) → FormulaState
 formula count clauses = record { atoms = count; clauses = clauses }
 
 -- the explicit set of these states, over so many atoms
-abbrev pub listing : ℕ → List (List ℕ) → Listing
+abbrev pub listing : ℕ → List (List ℕ) → ListedStates
 listing count states = record { atoms = count; states = states }
 
 -- how many formulas the store of each family has; the nodes have none

@@ -34,7 +34,7 @@ pub(crate) fn asked_actions(
     }
 }
 
-/// The actions of the action set, of so many: a list that rises stands there already.
+/// The actions of the action set, of so many: a list that rises is there already.
 fn actions_of(
     alloc: Global,
     table: &Table,

@@ -1,27 +1,27 @@
 //! What a basic statement asks, as `shape` gives it.
 
-use crate::literals::Literal;
+use crate::signed_sets::SignedSet;
 use hv_lines::{FormulaFamily, Word};
 use std::marker::Model;
 
 /// A basic statement of the right shape, by what it asks. Only `shape` makes one.
 #[derive(Drop)]
 pub struct Basic {
-    pub(crate) kind: Kind,
+    pub(crate) kind: BasicKind,
 }
 
 /// The three kinds of basic statement.
 #[derive(Drop)]
-pub(crate) enum Kind {
+pub(crate) enum BasicKind {
     /// An inclusion of sets over one family, with its word.
     Sets(Word, Question),
     /// An inclusion of a formula or its negation in one of another family.
-    Two(Literal, Literal),
+    Two(SignedSet, SignedSet),
     /// An inclusion of action sets: the first is claimed to be within the second.
     Acts(usize, usize),
 }
 
-/// What a basic statement of sets asks. A set stands for itself before the action (false) or after
+/// What a basic statement of sets asks. A set denotes itself before the action (false) or after
 /// it (true).
 #[derive(Drop)]
 pub(crate) struct Question {
@@ -33,9 +33,9 @@ pub(crate) struct Question {
 }
 
 impl Model for Basic {
-    ghost use Rattle.hv_lines.specs.Shapes.{Basic};
+    ghost use Rattle.hv_lines.specs.Shapes.{BasicState};
 
-    ghost Value = { Basic };
+    ghost Value = { BasicState };
 
     ghost use Rattle.hv_basic.specs.Working.Views.{basic_of};
 

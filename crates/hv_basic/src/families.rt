@@ -5,10 +5,10 @@ ghost use Rattle.std.specs.List.{All};
 ghost use Rattle.hv_lines.specs.Literals.{IsPlainExpr};
 ghost use Rattle.hv_lines.specs.Numbering.{expr_count};
 ghost use Rattle.hv_lines.specs.Shapes.{AreOfTwoFamilies, family_of};
-ghost use Rattle.hv_lines.specs.declared.family.FormulaFamily.{FormulaFamily};
+ghost use Rattle.hv_lines.specs.declared.formula_family.FormulaFamily.{FormulaFamily};
 ghost use Rattle.hv_basic.specs.Working.Sharing.{AreOtherFamilies, IsFamilyBeside, IsFamilyWith};
 
-use crate::literals::Asking;
+use crate::signed_sets::Asking;
 use hv_lines::{Expr, FormulaFamily, Table};
 
 /// The one family of all formulas that are asked about, where those that stood there before are of

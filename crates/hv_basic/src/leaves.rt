@@ -1,4 +1,4 @@
-//! The leaves of a set, by a list of work in which each set stands once.
+//! The leaves of a set, by a list of work in which each set occurs once.
 
 ghost use Rattle.std.specs.Prelude.{◌≡◌, ◌<◌, ◌↔◌, ℕ, false, IfNone, IfOk, IfSome, OnOk};
 ghost use Rattle.std.specs.BTreeSet.{contains};
@@ -9,7 +9,7 @@ ghost use Rattle.hv_lines.specs.Shapes.{IsLeaf};
 ghost use Rattle.hv_basic.specs.Working.Leaves.{IsLeafRead, places};
 ghost use Rattle.hv_basic.specs.Working.Work.{AreAdded, IsLookedAt, IsTaken, parts_on};
 
-use crate::literals::{Leaf, leaf_of};
+use crate::signed_sets::{Leaf, leaf_of};
 use hv_lines::{Expr, Table};
 use std::alloc::{AllocError, Global};
 use std::collections::BTreeSet;
@@ -17,7 +17,7 @@ use std::collections::BTreeSet;
 /// The sides of an inclusion: the left one is taken apart by intersections, the right one by
 /// unions.
 #[derive(Clone, Copy)]
-pub(crate) enum Side {
+pub(crate) enum Half {
     Left,
     Right,
 }
@@ -27,7 +27,7 @@ pub(crate) enum Side {
 pub(crate) fn leaves(
     alloc: Global,
     table: &Table,
-    side: Side,
+    side: Half,
     root: usize,
 ) -> Result<Vec<Leaf>, AllocError>
     requires { root < expr_count table.now.lines }
@@ -49,7 +49,7 @@ pub(crate) fn leaves(
 /// Keeps the set as a leaf, with what its line says of it, or adds its two parts to the work.
 fn look_at(
     table: &Table,
-    side: Side,
+    side: Half,
     set: usize,
     work: &mut BTreeSet<usize>,
     found: &mut Vec<Leaf>,
@@ -74,15 +74,15 @@ fn look_at(
 }
 
 /// The two parts of the set, if it is one that this side takes apart.
-fn parts(side: Side, expr: &Expr) -> Option<(usize, usize)>
+fn parts(side: Half, expr: &Expr) -> Option<(usize, usize)>
     ensures { result ≡ parts_on side expr.now }
 {
     match side {
-        Side::Left => match expr {
+        Half::Left => match expr {
             Expr::And(left, right) => Some((*left, *right)),
             _ => None,
         },
-        Side::Right => match expr {
+        Half::Right => match expr {
             Expr::Or(left, right) => Some((*left, *right)),
             _ => None,
         },

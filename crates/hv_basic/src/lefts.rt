@@ -7,10 +7,10 @@ ghost use Rattle.hv_basic.specs.Faults.{IsShapeFault};
 ghost use Rattle.hv_basic.specs.Working.Gathered.{IsLeftRead, IsLeftSide, IsLiteralStep};
 ghost use Rattle.hv_basic.specs.Working.Gathered.{IsStepAdded};
 
-use crate::leaves::{Side, leaves};
-use crate::literals::{Asking, Others, gather};
+use crate::leaves::{Half, leaves};
 use crate::shapes::ShapeFault;
 use crate::sides::Sides;
+use crate::signed_sets::{Asking, Others, gather};
 use hv_lines::{Expr, Table, Word};
 use std::alloc::Global;
 
@@ -27,7 +27,7 @@ pub(crate) fn left_of(
         → IsLeftSide table.now.lines word left acts → ⊥)) }
 {
     let _count = table.expr_count();
-    let lefts = leaves(alloc, table, Side::Left, left)?;
+    let lefts = leaves(alloc, table, Half::Left, left)?;
     let mut askings = Vec::new(alloc);
     match gather(&lefts, true, asks_sides_after(word), &mut askings)? {
         Others::None => match word {
@@ -66,7 +66,7 @@ fn add_step(
     let Some((set, acts)) = step_of(word, table.expr(leaf)) else {
         return Err(ShapeFault::Shape);
     };
-    let inner = leaves(alloc, table, Side::Left, set)?;
+    let inner = leaves(alloc, table, Half::Left, set)?;
     match gather(&inner, true, asks_step_after(word), into)? {
         Others::None => Ok(acts),
         Others::One(_) => Err(ShapeFault::Shape),

@@ -12,13 +12,13 @@
 //! - `rights` keeps the right side, if that is a union of formulas and constants: where it is the
 //!   one before and a further set, only the leaves of that set are looked up.
 //! - Where what is kept serves, and all that the left side asks about is positive, the question
-//!   stands already: `families` says whose family it is, and `order` puts the left part in order.
+//!   is already: `families` says whose family it is, and `order` puts the left part in order.
 //! - Else `shapes::question_beside` makes the question: `sides` reads the leaves of the right side
 //!   too, `families` looks for the one family, and `order` puts both parts in order.
 //! - Either way `verdicts::decide_sets` decides the question. It makes the query of it by the names
 //!   that the `store` keeps, and `actions` lists the actions of the progression: those of a list
-//!   that rises as they stand there, else by the flags of `acts`. For each of them `walk` asks the
-//!   query of the store of the family, and the first query that passes the budget or has a
+//!   that rises as they are there, else by the flags of `acts`. For each of them `walk` asks the
+//!   query of the store of the family, and the first query that exceeds the budget or has a
 //!   counterexample decides.
 //!
 //! Statements with `b1` and `b3` go the same way, without a step or with a regression. Those with
@@ -29,25 +29,25 @@
 
 mod actions;
 mod acts;
+mod any_formula;
 pub mod basic;
 pub mod case;
 mod families;
-mod formula;
 pub mod kinds;
 pub mod laws;
 mod leaves;
 mod lefts;
-mod literals;
 mod mixed;
-mod order;
+mod query_walk;
 mod rights;
+mod rising;
 pub mod shapes;
 pub mod shared;
 pub mod shared_verdicts;
 mod sides;
+mod signed_sets;
 pub mod store;
 pub mod verdicts;
-mod walk;
 
 pub use basic::Basic;
 pub use case::Case;

@@ -4,7 +4,7 @@ ghost use Rattle.std.specs.Prelude.{◌≡◌, ◌<◌, ◌≤◌, true, false, 
 ghost use Rattle.hv_task.specs.Strips.{atoms};
 ghost use Rattle.hv_sets.specs.Cost.{IsAnswer};
 ghost use Rattle.hv_sets.specs.Room.{KeepsLengths};
-ghost use Rattle.hv_explicit.specs.Listing.{full_cubes, in_listing};
+ghost use Rattle.hv_explicit.specs.ListedStates.{full_cubes, in_listing};
 ghost use Rattle.hv_mixed.specs.Inclusion.{complement, difference};
 ghost use Rattle.hv_lines.specs.Mixed.{clause_count, cost_of, count_unless, is_between};
 ghost use Rattle.hv_lines.specs.Mixed.{listed_count};
@@ -17,10 +17,10 @@ ghost use Rattle.hv_basic.specs.Working.Formulas.{inside_count, outside_count, t
 ghost use Rattle.hv_basic.specs.Working.Formulas.{within_cost};
 ghost use Rattle.hv_basic.specs.Cases.{lines_in, setting_in};
 
+use crate::any_formula::{AnyFormula, formula_of};
 use crate::case::Case;
-use crate::formula::{AnyFormula, formula_of};
-use crate::literals::Literal;
-use crate::walk::copy_of;
+use crate::query_walk::copy_of;
+use crate::signed_sets::SignedSet;
 use hv_explicit::Explicit;
 use hv_lines::{Clash, Verdict};
 use hv_mixed::{apart, together, within, within_states};
@@ -30,7 +30,7 @@ use std::alloc::{AllocError, Global};
 
 /// A side of an inclusion: a formula, or its negation.
 #[derive(Clone, Copy)]
-pub(crate) struct Side<'a> {
+pub(crate) struct SignedFormula<'a> {
     pub formula: AnyFormula<'a>,
     pub is_plain: bool,
 }
@@ -39,8 +39,8 @@ pub(crate) struct Side<'a> {
 pub(crate) fn decide_two(
     alloc: Global,
     case: &Case<'_>,
-    left: Literal,
-    right: Literal,
+    left: SignedSet,
+    right: SignedSet,
     scratch: &mut Scratch,
 ) -> Result<Verdict, AllocError>
     requires families { AreOfTwoFamilies (lines_in case.now) left.set right.set }
@@ -48,11 +48,11 @@ pub(crate) fn decide_two(
         (left.set, left.is_plain) (right.set, right.is_plain)) }
     ensures lengths { KeepsLengths scratch.old scratch.new }
 {
-    let left = Side {
+    let left = SignedFormula {
         formula: formula_of(case, left.set),
         is_plain: left.is_plain,
     };
-    let right = Side {
+    let right = SignedFormula {
         formula: formula_of(case, right.set),
         is_plain: right.is_plain,
     };
@@ -64,8 +64,8 @@ pub(crate) fn decide_two(
 fn decide_sides(
     alloc: Global,
     case: &Case<'_>,
-    left: &Side<'_>,
-    right: &Side<'_>,
+    left: &SignedFormula<'_>,
+    right: &SignedFormula<'_>,
     scratch: &mut Scratch,
 ) -> Result<Verdict, AllocError>
     requires left { IsFormulaOn case.now left.now.formula }
@@ -94,8 +94,8 @@ fn decide_sides(
 fn find_between(
     alloc: Global,
     case: &Case<'_>,
-    left: &Side<'_>,
-    right: &Side<'_>,
+    left: &SignedFormula<'_>,
+    right: &SignedFormula<'_>,
     scratch: &mut Scratch,
 ) -> Result<Option<Finding>, AllocError>
     requires left { IsFormulaOn case.now left.now.formula }

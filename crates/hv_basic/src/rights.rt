@@ -14,9 +14,9 @@ ghost use Rattle.hv_basic.specs.Working.Sharing.{IsPartBeside};
 
 use crate::case::Case;
 use crate::families::family_with;
-use crate::leaves::{Side, leaves};
-use crate::literals::Leaf;
+use crate::leaves::{Half, leaves};
 use crate::shared::Kept;
+use crate::signed_sets::Leaf;
 use hv_lines::{Expr, Table};
 use hv_sets::{Operand, Operands};
 use std::alloc::{AllocError, Global};
@@ -154,7 +154,7 @@ fn grow(
     ensures after { kept.new.after ≡ kept.old.after }
 {
     kept.root = None;
-    let leaves = leaves(alloc, case.table, Side::Right, part)?;
+    let leaves = leaves(alloc, case.table, Half::Right, part)?;
     if !add_all(case, kept, &leaves)? {
         return Ok(false);
     }

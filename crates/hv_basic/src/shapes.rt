@@ -4,19 +4,19 @@ ghost use Rattle.std.specs.Prelude.{◌≡◌, ◌<◌, ℕ, Bool, IfOk, IfErr, 
 ghost use Rattle.std.specs.List.{All};
 ghost use Rattle.hv_lines.specs.Numbering.{SpeaksBelow, acts_count, expr_count};
 ghost use Rattle.hv_lines.specs.Shapes.{AreTwo, HasShape, HasSides, IsQuestion, IsShaped};
-ghost use Rattle.hv_lines.specs.Shapes.{Question as AskedQuestion};
+ghost use Rattle.hv_lines.specs.Shapes.{QuestionState as AskedQuestion};
 ghost use Rattle.hv_basic.specs.Deciding.{IsBasicOver, IsQuestionOver};
 ghost use Rattle.hv_basic.specs.Faults.{IsShapeFault};
 ghost use Rattle.hv_basic.specs.Working.Gathered.{AreAskings, IsLeftRead};
 ghost use Rattle.hv_basic.specs.Working.Views.{question_of};
 ghost use Rattle.hv_basic.specs.declared.shapes.ShapeFault.TheVariants as F;
 
-use crate::basic::{Basic, Kind, Question};
+use crate::basic::{Basic, BasicKind, Question};
 use crate::families::{are_of_two_families, one_family};
 use crate::lefts::left_of;
-use crate::literals::{Literal, literal_of};
-use crate::order::in_order;
+use crate::rising::in_order;
 use crate::sides::{Inclusion, Sides, with_right};
+use crate::signed_sets::{SignedSet, literal_of};
 use hv_lines::{Statement, Table, Word};
 use std::alloc::{AllocError, Global};
 use thiserror::Error;
@@ -59,7 +59,7 @@ pub fn shape(
         Statement::Sub(left, right) => match word {
             Word::B4 => match two_of(table, *left, *right) {
                 Some((first, second)) => Ok(Basic {
-                    kind: Kind::Two(first, second),
+                    kind: BasicKind::Two(first, second),
                 }),
                 None => Err(ShapeFault::Shape),
             },
@@ -71,7 +71,7 @@ pub fn shape(
                 };
                 match question_of(alloc, table, claim) {
                     Ok(question) => Ok(Basic {
-                        kind: Kind::Sets(word, question),
+                        kind: BasicKind::Sets(word, question),
                     }),
                     Err(fault) => Err(fault),
                 }
@@ -79,7 +79,7 @@ pub fn shape(
         },
         Statement::ActSub(first, second) => match word {
             Word::B5 => Ok(Basic {
-                kind: Kind::Acts(*first, *second),
+                kind: BasicKind::Acts(*first, *second),
             }),
             _ => Err(ShapeFault::Shape),
         },
@@ -88,7 +88,7 @@ pub fn shape(
 }
 
 /// The two sides, where they are formulas of two families or their negations.
-fn two_of(table: &Table, left: usize, right: usize) -> Option<(Literal, Literal)>
+fn two_of(table: &Table, left: usize, right: usize) -> Option<(SignedSet, SignedSet)>
     requires left { left < expr_count table.now.lines }
     requires right { right < expr_count table.now.lines }
     ensures { MatchOption result ((x y : ℕ × Bool) → AreTwo table.now.lines left right x y → ⊥)

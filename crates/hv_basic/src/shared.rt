@@ -7,7 +7,7 @@ use std::alloc::{AllocError, Global};
 use std::marker::Model;
 
 /// What is handed from statement to statement: what the right side of an earlier one asks, where
-/// that was a union of formulas and constants, and room for the work of queries.
+/// that was a union of formulas and constants, and space for the work of queries.
 #[derive(Drop)]
 pub struct Shared {
     pub(crate) kept: Kept,

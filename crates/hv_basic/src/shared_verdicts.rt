@@ -3,7 +3,7 @@
 ghost use Rattle.std.specs.Prelude.{◌≡◌, ◌<◌, List, true, IfOk, IfErr};
 ghost use Rattle.hv_lines.specs.Numbering.{SpeaksBelow, acts_count, expr_count};
 ghost use Rattle.hv_lines.specs.Shapes.{HasShape, IsQuestion, asks_sides_after};
-ghost use Rattle.hv_lines.specs.Shapes.{Question as AskedQuestion};
+ghost use Rattle.hv_lines.specs.Shapes.{QuestionState as AskedQuestion};
 ghost use Rattle.hv_lines.specs.Verdicts.{IsVerdict, IsVerdictOfSets};
 ghost use Rattle.std.specs.List.{Contains};
 ghost use Rattle.hv_lines.specs.declared.line.Line.{Line};
@@ -14,18 +14,18 @@ ghost use Rattle.hv_basic.specs.Sharing.{IsKeptFor, IsShared};
 ghost use Rattle.hv_basic.specs.Working.Asked.{AreOperands};
 ghost use Rattle.hv_basic.specs.Working.Gathered.{IsLeftRead};
 ghost use Rattle.hv_basic.specs.Working.Sharing.{IsAskedBy, IsVerdictOfSub};
-ghost use Rattle.hv_basic.specs.declared.literals.Asking.{Asking};
+ghost use Rattle.hv_basic.specs.declared.signed_sets.Asking.{Asking};
 ghost use Rattle.hv_basic.specs.Working.Views.{question_of};
 
 use crate::case::Case;
 use crate::families::one_family;
 use crate::lefts::{asks_sides_after, left_of};
-use crate::literals::Asking;
-use crate::order::in_order;
 use crate::rights::keep_right;
+use crate::rising::in_order;
 use crate::shapes::{MOST_OPERANDS, ShapeFault, question_beside, shape};
 use crate::shared::{Kept, Shared};
 use crate::sides::{Inclusion, Sides};
+use crate::signed_sets::Asking;
 use crate::verdicts::{decide_on, decide_sets, decide_whole};
 use hv_lines::{Statement, Table, Verdict, Word};
 use hv_sets::Scratch;
@@ -141,7 +141,7 @@ fn verdict_beside(
 }
 
 /// Puts what the inclusion asks beside what is kept, if its right side can be kept and all that its
-/// left side asks about is positive: whether it stands there.
+/// left side asks about is positive: whether it is there.
 fn ask_by_kept(
     alloc: Global,
     case: &Case<'_>,
@@ -208,7 +208,7 @@ fn are_positive(askings: &[Asking]) -> bool
     true
 }
 
-/// The verdict on the question that stands beside what is kept.
+/// The verdict on the question that is beside what is kept.
 fn decide_kept(
     alloc: Global,
     case: &Case<'_>,

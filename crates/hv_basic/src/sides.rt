@@ -7,10 +7,10 @@ ghost use Rattle.hv_lines.specs.Shapes.{HasSides};
 ghost use Rattle.hv_basic.specs.Faults.{IsShapeFault};
 ghost use Rattle.hv_basic.specs.Working.Gathered.{AreAskings, IsLeftRead};
 
-use crate::leaves::{Side, leaves};
+use crate::leaves::{Half, leaves};
 use crate::lefts::asks_sides_after;
-use crate::literals::{Asking, Others, gather};
 use crate::shapes::ShapeFault;
+use crate::signed_sets::{Asking, Others, gather};
 use hv_lines::{Table, Word};
 use std::alloc::Global;
 
@@ -51,7 +51,7 @@ pub(crate) fn with_right(
     let _count = table.expr_count();
     let acts = sides.acts;
     let mut askings = sides.askings;
-    let rights = leaves(alloc, table, Side::Right, claim.right)?;
+    let rights = leaves(alloc, table, Half::Right, claim.right)?;
     match gather(&rights, false, asks_sides_after(claim.word), &mut askings)? {
         Others::None => Ok(Sides { askings, acts }),
         Others::One(_) => Err(ShapeFault::Shape),

@@ -5,7 +5,7 @@ ghost use Rattle.std.specs.Prelude.{length, slice_get};
 ghost use Rattle.hv_task.specs.Strips.{Strips, atoms};
 ghost use Rattle.hv_lines.specs.Numbering.{IsNumbered, expr_count};
 ghost use Rattle.hv_lines.specs.Queries.{named_by};
-ghost use Rattle.hv_lines.specs.declared.family.FormulaFamily.{FormulaFamily};
+ghost use Rattle.hv_lines.specs.declared.formula_family.FormulaFamily.{FormulaFamily};
 ghost use Rattle.hv_lines.specs.declared.line.Expr.TheVariants as E;
 ghost use Rattle.hv_lines.specs.declared.line.Line.{Line};
 ghost use Rattle.hv_lines.specs.declared.line.Line.TheVariants as L;

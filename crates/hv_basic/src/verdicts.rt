@@ -11,7 +11,7 @@ ghost use Rattle.hv_lines.specs.Numbering.{acts_count, expr_count};
 ghost use Rattle.hv_bdd.specs.Nodes.{node_count};
 ghost use Rattle.hv_lines.specs.Queries.{NamesNodes, count_of};
 ghost use Rattle.hv_lines.specs.Setting.{most_budget, setting_of};
-ghost use Rattle.hv_lines.specs.declared.family.FormulaFamily.TheVariants as F;
+ghost use Rattle.hv_lines.specs.declared.formula_family.FormulaFamily.TheVariants as F;
 ghost use Rattle.hv_lines.specs.Verdicts.{IsVerdictOf, IsVerdictOfActs, IsVerdictOfSets};
 ghost use Rattle.hv_basic.specs.Working.Asked.{AreOperands, with_action};
 ghost use Rattle.hv_basic.specs.Stores.{IsStoreOf, formula};
@@ -23,11 +23,11 @@ ghost use Rattle.hv_basic.specs.Working.Views.{question_of};
 
 use crate::actions::asked_actions;
 use crate::acts::flags_of;
-use crate::basic::{Basic, Kind, Question};
+use crate::basic::{Basic, BasicKind, Question};
 use crate::case::Case;
 use crate::mixed::decide_two;
+use crate::query_walk::walk;
 use crate::store::Store;
-use crate::walk::walk;
 use hv_bdd::Diagrams;
 use hv_clauses::{ClauseKind, Formulas};
 use hv_lines::{Clash, FormulaFamily, Table, Verdict};
@@ -80,9 +80,9 @@ pub(crate) fn decide_on(
     ensures lengths { KeepsLengths scratch.old scratch.new }
 {
     match &basic.kind {
-        Kind::Acts(first, second) => decide_acts(alloc, case, *first, *second),
-        Kind::Two(left, right) => decide_two(alloc, case, *left, *right, scratch),
-        Kind::Sets(_, question) => decide_whole(alloc, case, question, scratch),
+        BasicKind::Acts(first, second) => decide_acts(alloc, case, *first, *second),
+        BasicKind::Two(left, right) => decide_two(alloc, case, *left, *right, scratch),
+        BasicKind::Sets(_, question) => decide_whole(alloc, case, question, scratch),
     }
 }
 
@@ -135,7 +135,7 @@ pub(crate) fn decide_whole(
     Ok(verdict)
 }
 
-/// The verdict on a question, of whose query the negative half stands there.
+/// The verdict on a question, of whose query the negative half is there.
 pub(crate) fn decide_sets(
     alloc: Global,
     case: &Case<'_>,

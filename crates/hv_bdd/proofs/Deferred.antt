@@ -4,7 +4,7 @@ use Rattle.std.proofs.Common.{None, Some, Ok, Err, length, length-append, map, r
 use Rattle.std.proofs.Common.{arith}
 use Rattle.std.proofs.lemmas.List.{length-map, map-append}
 use Rattle.std.specs.Prelude.{IfOk, IsErrAnd, Result}
-use Rattle.hv_bytes.specs.Pieces.{Piece}
+use Rattle.hv_bytes.specs.Pieces.{PieceBytes}
 use Rattle.hv_grammar.specs.Parsers.{Parser, after, check, iterate, line, parsed, refused, tested}
 use Rattle.hv_grammar.specs.Positions.{KeepsShelf, Position}
 use Rattle.hv_grammar.specs.Reads.{Reads}
@@ -22,7 +22,7 @@ use Rattle.hv_bdd.specs.Nodes.{NodeList}
 use Rattle.hv_bdd.specs.Working.Listing.{FailsTried, Tried, at_node_line, behind_tried, then_listed}
 use Rattle.hv_bdd.specs.Working.Building.{as_node, with_node}
 use Rattle.hv_bdd.specs.Working.Listing.{Finishes, next_line_of, read_count, tried, tried_by}
-use Rattle.hv_bdd.specs.declared.listing.Listing.{Listing}
+use Rattle.hv_bdd.specs.declared.node_listing.NodeListing.{NodeListing}
 use Rattle.hv_bdd.specs.declared.numbers.Triple.{Triple}
 
 -- a refusal stays one
@@ -91,14 +91,14 @@ tried_bad list x xs kind bad =
     ∙ tried_failed (next_line_of list, R.Place kind) xs
 
 -- as many nodes as were read
-pub listed_total : (r : Listing) (list : NodeList) → tried_by r ≡ Ok list
+pub listed_total : (r : NodeListing) (list : NodeList) → tried_by r ≡ Ok list
     → length list.nodes ≡ read_count r
 listed_total r list e =
     let size = (tried_grew r.list (map as_node r.waiting.items) list e).size in
     omega (arith, size, length-map r.waiting.items as_node)
 
 -- in the same order
-pub listed_order : (r : Listing) (list : NodeList) → tried_by r ≡ Ok list
+pub listed_order : (r : NodeListing) (list : NodeList) → tried_by r ≡ Ok list
     → list.order ≡ r.list.order
 listed_order r list e = (tried_grew r.list (map as_node r.waiting.items) list e).order
 
@@ -119,13 +119,13 @@ one_waits list waiting more t e =
 
 -- one more line was read
 
-checked : (k i m : ℕ) (qs : List Piece) (t : Result NodeList NodeRefusal) → m ≡ i
+checked : (k i m : ℕ) (qs : List PieceBytes) (t : Result NodeList NodeRefusal) → m ≡ i
     → after (tested m qs t) (λ b. iterate k next_node_line b)
     ≡ behind_tried (at_node_line i t) (iterate k next_node_line) m qs
 checked k i m qs (Ok list) e = refl
 checked k i m qs (Err b) e = ap (λ j. refused j b) e
 
-step : (so_far : Tried) (x : Node) (k n m : ℕ) (ps qs : List Piece)
+step : (so_far : Tried) (x : Node) (k n m : ℕ) (ps qs : List PieceBytes)
     → line (R.Place K.Node) node_in n ps ≡ parsed x m qs
     → ((list : NodeList) → so_far ≡ Ok list → m ≡ next_line_of list)
     → behind_tried so_far (iterate (suc k) next_node_line) n ps
@@ -201,7 +201,8 @@ one_left whole old mid so_far k j g e =
     subst (λ i. Goes whole old (behind_tried so_far (iterate i next_node_line)) mid) e g
 
 -- the atoms stay those of the list
-pub finished_atoms : (r : Listing) (result : Result NodeList (ParseFault NodeRefusal)) (atoms : ℕ)
+pub finished_atoms : (r : NodeListing) (result : Result NodeList (ParseFault NodeRefusal)) (atoms :
+    ℕ)
     → r.list.atoms ≡ atoms → Finishes result r → IfOk result (λ list. list.atoms ≡ atoms)
 finished_atoms r (Ok list) atoms same h =
     (tried_grew r.list (map as_node r.waiting.items) list h).atoms ∙ same

@@ -19,7 +19,7 @@ use Rattle.std.specs.Bool.{Decides}
 use Rattle.std.specs.Cmp.Lexicographic.{nat_list_eq_equiv, pointwise}
 use Rattle.std.specs.List.{All, Contains, list_any}
 use Rattle.smallvec.specs.SmallVec.{SmallVec}
-use Rattle.hv_bdd.specs.declared.search.Link.{Link}
+use Rattle.hv_bdd.specs.declared.tuple_search.Link.{Link}
 use Rattle.hv_bdd.specs.Working.Search.{IsExplored, IsPut, IsPutSome, link_at, tuple_at}
 use Rattle.hv_bdd.specs.Tuples.{IsReached, Moves, TuplesPass, if_live, next}
 use Rattle.hv_bdd.proofs.Moved.{reached_in, reached_next}
@@ -91,26 +91,27 @@ module _ (keys : List (SmallVec ℕ)) (v : SmallVec ℕ) where
       )
 
 -- what one list of tuples keeps of another
-pub record Grows (old new : List (List ℕ)) : Type 0 where
+pub record ExploredGrows (old new : List (List ℕ)) : Type 0 where
   pub longer : length old ≤ length new
   pub at : (k : ℕ) → k < length old → tuple_at new k ≡ tuple_at old k
   pub has : (u : List ℕ) → Contains old u → Contains new u
 
-grows_same : (old new : List (List ℕ)) → new ≡ old → Grows old new
+grows_same : (old new : List (List ℕ)) → new ≡ old → ExploredGrows old new
 grows_same old new e = record {
   longer = let size = ap length e in omega arith;
   at = λ k less. ap (λ ts. tuple_at ts k) e;
   has = λ u c. subst (λ ts. Contains ts u) (sym e) c;
 }
 
-grows_push : (old new : List (List ℕ)) (t : List ℕ) → new ≡ old ++ t ∷ [] → Grows old new
+grows_push : (old new : List (List ℕ)) (t : List ℕ) → new ≡ old ++ t ∷ [] → ExploredGrows old new
 grows_push old new t e = record {
   longer = let size = ap length e ∙ length-append old (t ∷ []) in omega arith;
   at = λ k less. ap (λ ts. tuple_at ts k) e ∙ get_or_append_left old (t ∷ []) [] k less;
   has = λ u c. subst (λ ts. Contains ts u) (sym e) (Contains-append_left old (t ∷ []) u c);
 }
 
-pub grows_twice : (a b c : List (List ℕ)) → Grows a b → Grows b c → Grows a c
+pub grows_twice : (a b c : List (List ℕ)) → ExploredGrows a b → ExploredGrows b c → ExploredGrows a
+    c
 grows_twice a b c first second = record {
   longer = let x = first.longer in let y = second.longer in omega arith;
   at = λ k less. let x = first.longer in second.at k (omega arith) ∙ first.at k less;
@@ -192,7 +193,7 @@ module _ {O : Type 0} (m : Moves O) (os : List O) (root : List ℕ) where
       (parent : ℕ) (bit : Bool) → Known done ts ls
       → parent < length ts → next m os (tuple_at ts parent) bit ≡ o
       → IsPutSome ts ls o (record { parent = parent; bit = bit }) ts' ls'
-      → Known done ts' ls' × Grows ts ts' × ((u : List ℕ) → o ≡ Some u → Contains ts' u)
+      → Known done ts' ls' × ExploredGrows ts ts' × ((u : List ℕ) → o ≡ Some u → Contains ts' u)
   put_in done ts ts' ls ls' None parent bit known within leads put = (
     subst (λ a. Known done a ls') (sym put.0) (subst (Known done ts) (sym put.1) known),
     grows_same ts ts' put.0,

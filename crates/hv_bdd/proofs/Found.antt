@@ -7,7 +7,7 @@ use Rattle.std.specs.List.{All}
 use Rattle.smallvec.specs.SmallVec.{SmallVec}
 use Rattle.hv_bdd.specs.declared.asked.Asked.{Asked}
 use Rattle.hv_bdd.specs.declared.reach.Reached.{Reached}
-use Rattle.hv_bdd.specs.declared.search.Link.{Link}
+use Rattle.hv_bdd.specs.declared.tuple_search.Link.{Link}
 use Rattle.hv_bdd.specs.Working.Graphs.{AgreesWithNodes, FitsBits, Suits, in_asked}
 use Rattle.hv_bdd.specs.Live.{moves, roots}
 use Rattle.hv_bdd.specs.Order.{atom_at}

@@ -19,7 +19,7 @@ use Rattle.hv_bdd.specs.Working.Turning.{StandsWith, TurnsTo}
 use Rattle.hv_bdd.specs.Working.Laws.{in_paths, stands_first}
 use Rattle.hv_bdd.proofs.Stacked.{literals_few}
 
--- the lesser of two fronts
+-- the lesser of two prefixes
 pub take_take : {A : Type 0} (i j : ℕ) (xs : List A) → i ≤ j → take i (take j xs) ≡ take i xs
 take_take zero j xs h = refl
 take_take (suc i) zero xs h = absurd (omega (arith, h))

@@ -13,7 +13,7 @@ use Rattle.hv_bdd.specs.Order.{atom_at, place}
 use Rattle.hv_bdd.specs.Reduced.{IsReduced}
 use Rattle.hv_bdd.specs.Working.Graphs.{in_asked, in_graph as in_graph_of, limit as limit_of}
 use Rattle.hv_bdd.specs.Working.Graphs.{with_marks}
-use Rattle.hv_bdd.specs.Live.{TupleSetting, asks_goal, graph_child, bit_mark_of, moves, or_else}
+use Rattle.hv_bdd.specs.Live.{TupleSetting, asks_goal, graph_child, bit_mark_of, moves, bit_or}
 use Rattle.hv_bdd.specs.Live.{start_bit, graph_top}
 use Rattle.hv_bdd.proofs.Chained.{chain_end, chain_free, chain_later, chain_step, chain_within}
 use Rattle.hv_bdd.proofs.Chained.{top_end as chain_top_end, top_inner as chain_top_inner}
@@ -152,7 +152,7 @@ module _ (S : TupleSetting) where
     size_side false s = refl
 
     bit_side : (after : Bool) (s : List Bool) (a : ℕ) → length s ≡ S.list.atoms → a < S.list.atoms
-        → has_atom (side after s) a ≡ cond after (or_else (bit_mark_of S.changed a) (has_atom s a))
+        → has_atom (side after s) a ≡ cond after (bit_or (bit_mark_of S.changed a) (has_atom s a))
         (has_atom s a)
     bit_side true s a size within = has_atom-over S.changed s a (omega arith)
     bit_side false s a size within = refl
@@ -169,7 +169,7 @@ module _ (S : TupleSetting) where
         let len_set = length-set s (atom_at S.list v) b in
         let there : a < S.list.atoms = omega arith in
         bit_side after (set s (atom_at S.list v) b) a (len_set ∙ size) there
-        ∙ (ap (λ x. cond after (or_else (bit_mark_of S.changed a) x) x)
+        ∙ (ap (λ x. cond after (bit_or (bit_mark_of S.changed a) x) x)
         (get_or-set_other s (atom_at S.list v) a b false other)
         ∙ sym (bit_side after s a size there)))
 

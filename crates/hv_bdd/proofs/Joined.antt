@@ -10,7 +10,7 @@ use Rattle.std.proofs.lemmas.List.Elements.{All-head, All-tail}
 use Rattle.std.specs.List.{All}
 use Rattle.hv_bytes.specs.Fields.{cut_fields}
 use Rattle.hv_bytes.specs.Files.{Names, bytes_of}
-use Rattle.hv_bytes.specs.Pieces.{Piece, as_pieces, pieces_of}
+use Rattle.hv_bytes.specs.Pieces.{PieceBytes, as_pieces, pieces_of}
 use Rattle.hv_bytes.specs.declared.cutting.Limits.{Limits}
 use Rattle.hv_grammar.specs.Reads.{IsOfNoLine, at_number}
 use Rattle.hv_grammar.specs.Working.Reads.{IsReadAs}
@@ -35,7 +35,8 @@ use Rattle.hv_bdd.specs.Building.{fault_of}
 use Rattle.hv_bdd.specs.NodeFile.{as_counted, as_listed, behind_first, count_in, first_in}
 use Rattle.hv_bdd.specs.NodeFile.{next_node_line, node_file, node_in, node_of_fields, or_fault}
 use Rattle.hv_bdd.specs.NodeFile.{fault_in, nodes_fault, so_many, three_numbers, with_next}
-use Rattle.hv_bdd.specs.NodeText.{AreTextOf, IsReadFrom, first_lines, header_line, node_line}
+use Rattle.hv_bdd.specs.NodeText.{AreNodeTextOf, IsNodesReadFrom, first_lines, header_line}
+use Rattle.hv_bdd.specs.NodeText.{node_line}
 use Rattle.hv_bdd.specs.NodeText.{node_lines}
 use Rattle.hv_bdd.specs.Nodes.{NodeList}
 use Rattle.hv_bdd.specs.Order.{IsOrder}
@@ -113,7 +114,7 @@ first_counted atoms k few = ap as_counted (header_taken k few)
 
 first_listed : (atoms : ℕ) (order : List ℕ) → atoms < 10 ^ 18
     → IsOrder (list_over atoms (Some order) [])
-    → first_in atoms (order_line order) ≡ Ok (L.Listed order)
+    → first_in atoms (order_line order) ≡ Ok (L.ListedNodes order)
 first_listed atoms order small is =
     ap (λ t. cond t (as_listed (order_of_fields atoms (cut_fields (order_line order))))
     (as_counted (count_in (order_line order)))) (begins_line order)
@@ -151,8 +152,8 @@ text_by atoms (Some order) nodes small reduced =
     (let e : 2 + length nodes ≡ suc (suc (length ps)) = omega arith in e)
 
 -- a text of a list is read as this list
-pub text_is_read : (atoms : ℕ) (pieces : List Piece) (list : NodeList) → atoms < 10 ^ 18
-    → AreTextOf atoms pieces list → node_file atoms 0 pieces ≡ parsed list (length pieces) []
+pub text_is_read : (atoms : ℕ) (pieces : List PieceBytes) (list : NodeList) → atoms < 10 ^ 18
+    → AreNodeTextOf atoms pieces list → node_file atoms 0 pieces ≡ parsed list (length pieces) []
 text_is_read atoms pieces list small (over, text) =
     subst (λ ps. node_file atoms 0 ps ≡ parsed list (length ps) []) text.spelled
     (subst (λ n. node_file n 0 (as_pieces (node_lines list))
@@ -186,36 +187,36 @@ triple_read l (a ∷ b ∷ d ∷ []) x c e =
 triple_read l (a ∷ b ∷ d ∷ f ∷ fs) x c e = absurd cc
 
 -- so many nodes were read behind the first ones
-record Reading
-    (atoms : ℕ) (order : Option (List ℕ)) (k : ℕ) (front : List Node) (ps : List Piece)
-    (list : NodeList) (qs : List Piece) (rest : List Node) : Type 0
+record NodesRead
+    (atoms : ℕ) (order : Option (List ℕ)) (k : ℕ) (front : List Node) (ps : List PieceBytes)
+    (list : NodeList) (qs : List PieceBytes) (rest : List Node) : Type 0
   where
     pub list_is : list ≡ list_over atoms order (front ++ rest)
     pub size : length rest ≡ k
     pub reduced : IsReduced list
     pub pieces : ps ≡ as_pieces (map node_line rest) ++ qs
 
-same_got : (a b : NodeList) (n m : ℕ) (ps qs : List Piece)
+same_got : (a b : NodeList) (n m : ℕ) (ps qs : List PieceBytes)
     → ◌≡◌ {A = Outcome NodeRefusal NodeList} (parsed a n ps) (parsed b m qs) → (a ≡ b) × (ps ≡ qs)
 same_got a b n m ps qs e = (cc, cc)
 
 -- the same of any first nodes
 abbrev Reads : ℕ → Option (List ℕ) → ℕ → Type 0
 Reads atoms order k =
-    (front : List Node) (n m : ℕ) (ps qs : List Piece) (list : NodeList)
+    (front : List Node) (n m : ℕ) (ps qs : List PieceBytes) (list : NodeList)
     → IsReduced (list_over atoms order front) → length front + k ≤ 16777216
     → iterate k next_node_line (list_over atoms order front) n ps ≡ parsed list m qs
-    → (rest : List Node) × Reading atoms order k front ps list qs rest
+    → (rest : List Node) × NodesRead atoms order k front ps list qs rest
 
-good_node : (list : NodeList) (x : Node) (f : Option NodeKind) (n : ℕ) (ps : List Piece)
-    (k m : ℕ) (qs : List Piece) (new : NodeList)
+good_node : (list : NodeList) (x : Node) (f : Option NodeKind) (n : ℕ) (ps : List PieceBytes)
+    (k m : ℕ) (qs : List PieceBytes) (new : NodeList)
     → after (tested n ps (or_fault list x f)) (λ b. iterate k next_node_line b) ≡ parsed new m qs
     → (f ≡ None) × (iterate k next_node_line (with_node list x) n ps ≡ parsed new m qs)
 good_node list x None n ps k m qs new e = (refl, e)
 good_node list x (Some kind) n ps k m qs new e = absurd cc
 
 turn_is : (atoms : ℕ) (order : Option (List ℕ)) (k : ℕ) → Reads atoms order k
-    → (front : List Node) (n m : ℕ) (l : List ℕ) (ps qs : List Piece) (list : NodeList)
+    → (front : List Node) (n m : ℕ) (l : List ℕ) (ps qs : List PieceBytes) (list : NodeList)
     (o : Option Node)
     → IsReduced (list_over atoms order front) → length front + suc k ≤ 16777216
     → node_of_fields (cut_fields l) ≡ o
@@ -223,7 +224,7 @@ turn_is : (atoms : ℕ) (order : Option (List ℕ)) (k : ℕ) → Reads atoms or
     (after (tested (n + 1) ps (or_refused (R.Place K.Node) o)) (check (with_next
     (list_over atoms order front))))
     (λ b. iterate k next_node_line b) ≡ parsed list m qs
-    → (rest : List Node) × Reading atoms order (suc k) front (Some l ∷ ps) list qs rest
+    → (rest : List Node) × NodesRead atoms order (suc k) front (Some l ∷ ps) list qs rest
 turn_is atoms order k ih front n m l ps qs list None reduced few t e = absurd cc
 turn_is atoms order k ih front n m l ps qs list (Some x) reduced few t e =
     let old = list_over atoms order front in
@@ -261,7 +262,8 @@ nodes_are atoms order (suc k) front n m (Some l ∷ ps) qs list reduced few e =
     turn_is atoms order k (nodes_are atoms order k) front n m l ps qs list
     (node_of_fields (cut_fields l)) reduced few refl e
 
-nothing_behind : (o : Outcome NodeRefusal NodeList) (list : NodeList) (n : ℕ) (rest : List Piece)
+nothing_behind : (o : Outcome NodeRefusal NodeList) (list : NodeList) (n : ℕ) (rest : List
+    PieceBytes)
     → after o (λ l. end_of_input (R.Place K.End) >> pure l) ≡ parsed list n rest
     → (m : ℕ) × (o ≡ parsed list m [])
 nothing_behind (parsed a m []) list n rest e =
@@ -297,7 +299,8 @@ count_is l (Some n) k c e =
     (header_from l (rest_behind (codes "nodes ") l) k refl (c ∙ ap (λ j. Some j) w.0), w.1)
 
 -- what the nodes of a file are, behind the lines before them
-record Listed (atoms : ℕ) (order : Option (List ℕ)) (k : ℕ) (ps : List Piece) (list : NodeList)
+record ListedNodes (atoms : ℕ) (order : Option (List ℕ)) (k : ℕ) (ps : List PieceBytes) (list :
+    NodeList)
     : Type 0
   where
     pub atoms_are : list.atoms ≡ atoms
@@ -306,10 +309,11 @@ record Listed (atoms : ℕ) (order : Option (List ℕ)) (k : ℕ) (ps : List Pie
     pub reduced : IsReduced list
     pub pieces : ps ≡ as_pieces (map node_line list.nodes)
 
-nodes_listed : (atoms : ℕ) (order : Option (List ℕ)) (k n : ℕ) (ps : List Piece) (list : NodeList)
-    (m : ℕ) (rest : List Piece) → IsReduced (list_over atoms order []) → k ≤ 16777216
+nodes_listed : (atoms : ℕ) (order : Option (List ℕ)) (k n : ℕ) (ps : List PieceBytes) (list :
+    NodeList)
+    (m : ℕ) (rest : List PieceBytes) → IsReduced (list_over atoms order []) → k ≤ 16777216
     → after (iterate k next_node_line (list_over atoms order []) n ps) at_end ≡ parsed list m rest
-    → Listed atoms order k ps list
+    → ListedNodes atoms order k ps list
 nodes_listed atoms order k n ps list m rest none few e =
     let o = nothing_behind (iterate k next_node_line (list_over atoms order []) n ps) list m rest e
     in
@@ -333,7 +337,7 @@ counted_is false o (Ok j) k e = cc
 counted_is false o (Err b) k e = absurd cc
 
 listed_is : (t : Bool) (o : Option (List ℕ)) (c : Result ℕ NodeRefusal) (order : List ℕ)
-    → cond t (as_listed o) (as_counted c) ≡ Ok (L.Listed order) → o ≡ Some order
+    → cond t (as_listed o) (as_counted c) ≡ Ok (L.ListedNodes order) → o ≡ Some order
 listed_is true None c order e = absurd cc
 listed_is true (Some other) c order e = cc
 listed_is false o (Ok j) order e = absurd cc
@@ -346,7 +350,7 @@ module _ (atoms : ℕ) (l : List ℕ) where
       (counted_is (begins_with (codes "order") l) (order_of_fields atoms (cut_fields l))
       (count_in l) k e)
 
-  order_said : (order : List ℕ) → first_in atoms l ≡ Ok (L.Listed order)
+  order_said : (order : List ℕ) → first_in atoms l ≡ Ok (L.ListedNodes order)
       → (l ≡ order_line order) × IsOrder (list_over atoms (Some order) [])
   order_said order e =
       order_is atoms l order
@@ -356,7 +360,7 @@ module _ (atoms : ℕ) (l : List ℕ) where
   -- so it says an order, or a number that a file may have
   begun : (first : FirstLine) → first_in atoms l ≡ Ok first → IsBegun atoms first
   begun (L.Counted k) e = (count_said k e).1
-  begun (L.Listed order) e = (order_said order e).1
+  begun (L.ListedNodes order) e = (order_said order e).1
 
   pub begun_by : (n : ℕ) (said : Result FirstLine NodeRefusal)
       (result : Result FirstLine (ParseFault NodeRefusal)) → said ≡ first_in atoms l
@@ -367,10 +371,10 @@ module _ (atoms : ℕ) (l : List ℕ) where
   begun_by n (Err b) (Ok found) is e = absurd cc
   begun_by n (Err b) (Err fault) is e = tt
 
-counted_text : (atoms : ℕ) (l : List ℕ) (ps : List Piece) (list : NodeList) (n k : ℕ)
-    (rest : List Piece) → IsHeader l k × (k ≤ 16777216)
+counted_text : (atoms : ℕ) (l : List ℕ) (ps : List PieceBytes) (list : NodeList) (n k : ℕ)
+    (rest : List PieceBytes) → IsHeader l k × (k ≤ 16777216)
     → after (iterate k next_node_line (list_over atoms None []) 1 ps) at_end ≡ parsed list n rest
-    → AreTextOf atoms (Some l ∷ ps) list
+    → AreNodeTextOf atoms (Some l ∷ ps) list
 counted_text atoms l ps list n k rest h e =
     let w = nodes_listed atoms None k 1 ps list n rest (none_reduced atoms) h.1 e in (
       w.atoms_are,
@@ -384,12 +388,12 @@ counted_text atoms l ps list n k rest h e =
       },
     )
 
-listed_text : (atoms : ℕ) (l : List ℕ) (order : List ℕ) (ps : List Piece) (list : NodeList)
-    (n : ℕ) (rest : List Piece) (h : List ℕ) (t : Result ℕ NodeRefusal)
+listed_text : (atoms : ℕ) (l : List ℕ) (order : List ℕ) (ps : List PieceBytes) (list : NodeList)
+    (n : ℕ) (rest : List PieceBytes) (h : List ℕ) (t : Result ℕ NodeRefusal)
     → (l ≡ order_line order) × IsOrder (list_over atoms (Some order) []) → count_in h ≡ t
     → after (after (tested 2 ps t) (so_many (list_over atoms (Some order) []))) at_end
     ≡ parsed list n rest
-    → AreTextOf atoms (Some l ∷ Some h ∷ ps) list
+    → AreNodeTextOf atoms (Some l ∷ Some h ∷ ps) list
 listed_text atoms l order ps list n rest h (Err b) is t e = absurd cc
 listed_text atoms l order ps list n rest h (Ok k) is t e =
     let c = count_is h (number_behind (codes "nodes ") h) k refl t in
@@ -409,28 +413,30 @@ listed_text atoms l order ps list n rest h (Ok k) is t e =
       },
     )
 
-order_text : (atoms : ℕ) (l : List ℕ) (order : List ℕ) (ps : List Piece) (list : NodeList)
-    (n : ℕ) (rest : List Piece)
+order_text : (atoms : ℕ) (l : List ℕ) (order : List ℕ) (ps : List PieceBytes) (list : NodeList)
+    (n : ℕ) (rest : List PieceBytes)
     → (l ≡ order_line order) × IsOrder (list_over atoms (Some order) [])
-    → after (behind_first atoms (L.Listed order) 1 ps) at_end ≡ parsed list n rest
-    → AreTextOf atoms (Some l ∷ ps) list
+    → after (behind_first atoms (L.ListedNodes order) 1 ps) at_end ≡ parsed list n rest
+    → AreNodeTextOf atoms (Some l ∷ ps) list
 order_text atoms l order [] list n rest is e = absurd cc
 order_text atoms l order (None ∷ ps) list n rest is e = absurd cc
 order_text atoms l order (Some h ∷ ps) list n rest is e =
     listed_text atoms l order ps list n rest h (count_in h) is refl e
 
-file_is : (atoms : ℕ) (l : List ℕ) (ps : List Piece) (list : NodeList) (n : ℕ) (rest : List Piece)
+file_is : (atoms : ℕ) (l : List ℕ) (ps : List PieceBytes) (list : NodeList) (n : ℕ) (rest : List
+    PieceBytes)
     (t : Result FirstLine NodeRefusal) → first_in atoms l ≡ t
     → after (tested 1 ps t) (λ first. behind_first atoms first >>= at_end) ≡ parsed list n rest
-    → AreTextOf atoms (Some l ∷ ps) list
+    → AreNodeTextOf atoms (Some l ∷ ps) list
 file_is atoms l ps list n rest (Err b) t e = absurd cc
 file_is atoms l ps list n rest (Ok (L.Counted k)) t e =
     counted_text atoms l ps list n k rest (count_said atoms l k t) e
-file_is atoms l ps list n rest (Ok (L.Listed order)) t e =
+file_is atoms l ps list n rest (Ok (L.ListedNodes order)) t e =
     order_text atoms l order ps list n rest (order_said atoms l order t) e
 
-pub read_is_text : (atoms : ℕ) (pieces : List Piece) (list : NodeList) (n : ℕ) (rest : List Piece)
-    → node_file atoms 0 pieces ≡ parsed list n rest → AreTextOf atoms pieces list
+pub read_is_text : (atoms : ℕ) (pieces : List PieceBytes) (list : NodeList) (n : ℕ) (rest : List
+    PieceBytes)
+    → node_file atoms 0 pieces ≡ parsed list n rest → AreNodeTextOf atoms pieces list
 read_is_text atoms [] list n rest e = absurd cc
 read_is_text atoms (None ∷ ps) list n rest e = absurd cc
 read_is_text atoms (Some l ∷ ps) list n rest e =
@@ -442,14 +448,14 @@ pub answers_list : (files : Option Names) (name : List ℕ) (limits : Limits) (a
     (list : NodeList)
     → IfSome files (λ f. IsReadAs (node_file atoms 0 (pieces_of limits (bytes_of f name)))
     (Ok list))
-    → IfSome files (λ f. IsReadFrom limits atoms (bytes_of f name) (Ok list))
+    → IfSome files (λ f. IsNodesReadFrom limits atoms (bytes_of f name) (Ok list))
 answers_list None name limits atoms list h = tt
 answers_list (Some f) name limits atoms list h =
     read_is_text atoms (pieces_of limits (bytes_of f name)) list h.0 h.1 h.2
 
 fault_is : (limits : Limits) (atoms : ℕ) (bytes : List ℕ) (e : ParseFault NodeRefusal)
     → IsReadAs (node_file atoms 0 (pieces_of limits bytes)) (Err e)
-    → IsReadFrom limits atoms bytes (Err (nodes_fault e))
+    → IsNodesReadFrom limits atoms bytes (Err (nodes_fault e))
 fault_is limits atoms bytes (P.Refused n (R.Place kind)) h = ap fault_in h
 fault_is limits atoms bytes (P.Refused n (R.Limit limit)) h = ap fault_in h
 fault_is limits atoms bytes (P.Long n) h = ap fault_in h
@@ -459,14 +465,14 @@ fault_is limits atoms bytes P.Memory h = tt
 pub answers_fault : (files : Option Names) (name : List ℕ) (limits : Limits) (atoms : ℕ)
     (e : ParseFault NodeRefusal) (answer : NodesFault) → answer ≡ nodes_fault e
     → IfSome files (λ f. IsReadAs (node_file atoms 0 (pieces_of limits (bytes_of f name))) (Err e))
-    → IfSome files (λ f. IsReadFrom limits atoms (bytes_of f name) (Err answer))
+    → IfSome files (λ f. IsNodesReadFrom limits atoms (bytes_of f name) (Err answer))
 answers_fault None name limits atoms e answer is h = tt
 answers_fault (Some f) name limits atoms e answer is h =
-    subst (λ a. IsReadFrom limits atoms (bytes_of f name) (Err a)) (sym is)
+    subst (λ a. IsNodesReadFrom limits atoms (bytes_of f name) (Err a)) (sym is)
     (fault_is limits atoms (bytes_of f name) e h)
 
 outside : (limits : Limits) (atoms : ℕ) (bytes : List ℕ) (e : ParseFault NodeRefusal)
-    → IsOfNoLine e → IsReadFrom limits atoms bytes (Err (nodes_fault e))
+    → IsOfNoLine e → IsNodesReadFrom limits atoms bytes (Err (nodes_fault e))
 outside limits atoms bytes (P.Refused n b) h = absurd h
 outside limits atoms bytes (P.Long n) h = absurd h
 outside limits atoms bytes P.ReadFault h = tt
@@ -475,9 +481,9 @@ outside limits atoms bytes P.Memory h = tt
 pub answers_unopened : (files : Option Names) (name : List ℕ) (limits : Limits) (atoms : ℕ)
     (e : ParseFault NodeRefusal) (result : Result NodeList NodesFault) → IsOfNoLine e
     → IsErrAnd result (λ f. f ≡ nodes_fault e)
-    → IfSome files (λ f. IsReadFrom limits atoms (bytes_of f name) result)
+    → IfSome files (λ f. IsNodesReadFrom limits atoms (bytes_of f name) result)
 answers_unopened None name limits atoms e result h is = tt
 answers_unopened (Some f) name limits atoms e (Ok list) h is = absurd is
 answers_unopened (Some f) name limits atoms e (Err answer) h is =
-    subst (λ a. IsReadFrom limits atoms (bytes_of f name) (Err a)) (sym is)
+    subst (λ a. IsNodesReadFrom limits atoms (bytes_of f name) (Err a)) (sym is)
     (outside limits atoms (bytes_of f name) e h)

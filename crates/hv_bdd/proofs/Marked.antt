@@ -8,7 +8,7 @@ use Rattle.hv_task.specs.State.{has_atom, names_atom, successor}
 use Rattle.hv_task.proofs.Places.{has_atom-successor, length-successor, same_state}
 use Rattle.hv_bdd.specs.Working.Graphs.{with_marks}
 use Rattle.hv_bdd.specs.Live.{changed_at, changed_by, bit_mark_of, needed_at, needed_by, no_marks}
-use Rattle.hv_bdd.specs.Live.{or_else}
+use Rattle.hv_bdd.specs.Live.{bit_or}
 
 pub length-over : (marks : List (Option Bool)) (s : List Bool)
     → length (with_marks marks s) ≡ length s
@@ -17,7 +17,7 @@ length-over [] (b ∷ s) = refl
 length-over (m ∷ marks) (b ∷ s) = ap suc (length-over marks s)
 
 pub has_atom-over : (marks : List (Option Bool)) (s : List Bool) (a : ℕ) → a < length s
-    → has_atom (with_marks marks s) a ≡ or_else (bit_mark_of marks a) (has_atom s a)
+    → has_atom (with_marks marks s) a ≡ bit_or (bit_mark_of marks a) (has_atom s a)
 has_atom-over marks [] a less = absurd (omega arith)
 has_atom-over [] (b ∷ s) a less = refl
 has_atom-over (m ∷ marks) (b ∷ s) zero less = refl
@@ -47,7 +47,7 @@ pub mark_of-changed : (n p : ℕ) (action : Action) → p < n
 mark_of-changed n p action less = get_or-map-range_with_len (changed_at action) 0 n p p None less
     (let f : 0 + p ≡ p = omega arith in f)
 
-effect : (a d h : Bool) → or_else (cond a (Some true) (cond d (Some false) None)) h
+effect : (a d h : Bool) → bit_or (cond a (Some true) (cond d (Some false) None)) h
     ≡ (a || (not d && h))
 effect true d h = refl
 effect false true h = refl
@@ -62,7 +62,7 @@ over_action n action s size =
     (λ p less.
     let len = length-over (changed_by n (Some action)) s in
     has_atom-over (changed_by n (Some action)) s p (omega arith)
-    ∙ (ap (λ m. or_else m (has_atom s p)) (mark_of-changed n p action (omega arith))
+    ∙ (ap (λ m. bit_or m (has_atom s p)) (mark_of-changed n p action (omega arith))
     ∙ (effect (names_atom action.add p) (names_atom action.del p) (has_atom s p)
     ∙ sym (has_atom-successor action s p (omega arith)))))
 
@@ -72,4 +72,4 @@ over_none n s size =
     (λ p less.
     let len = length-over (no_marks n) s in
     has_atom-over (no_marks n) s p (omega arith)
-    ∙ ap (λ m. or_else m (has_atom s p)) (mark_of-no_marks n p (omega arith)))
+    ∙ ap (λ m. bit_or m (has_atom s p)) (mark_of-no_marks n p (omega arith)))

@@ -21,7 +21,7 @@ pub not_order : (atoms : ℕ) (order : List ℕ) → length order ≡ atoms
 not_order atoms order size e =
     sym (ap (λ b. cond b (Some order) None) (subst (λ n. is_order n order ≡ false) size e))
 
--- an atom that stands twice
+-- an atom that occurs twice
 pub twice : (order : List ℕ) (p place : ℕ) → p < place → place < length order
     → get_or order p (length order) ≡ get_or order place (length order)
     → is_order (length order) order ≡ false

@@ -1,4 +1,4 @@
--- A list of so many atoms in which none stands twice is an order of the atoms, and the other way
+-- A list of so many atoms in which none occurs twice is an order of the atoms, and the other way
 -- round.
 use Rattle.std.proofs.Common.{◌≡◌, ℕ, zero, suc, ◌<◌, ◌≤◌, ◌+◌, ◌∙◌, Bool, true, false, List}
 use Rattle.std.proofs.Common.{[], ◌∷◌, Some, cond, eqb, get_or, length, refl, sym, ap, subst}
@@ -17,7 +17,7 @@ use Rattle.hv_bdd.specs.Order.{IsOrder, atom_at, place, position}
 use Rattle.hv_bdd.specs.OrderLine.{is_order}
 use Rattle.hv_bdd.specs.Working.NodeText.{list_over}
 
--- where an atom stands first is no later than any place at which it stands
+-- where an atom occurs first is no later than any place at which it stands
 abbrev pub Found : List ℕ → ℕ → ℕ → ℕ → ℕ → Type 0
 Found order a d k p = (p ≤ k) × (get_or order p d ≡ a)
 
@@ -63,7 +63,7 @@ module _ (atoms : ℕ) (order : List ℕ) where
       (ap first (range_at v less) ∙ t) in
       let clash : true ≡ false = sym all ∙ bad in absurd cc
 
-  -- at each place stands an atom that stands at no earlier one
+  -- at each place stands an atom that is at no earlier one
   pub firsts : is_order atoms order ≡ true → (v : ℕ) → v < atoms → IsFirst v
   firsts is v less = first_by (first v) v less refl
       (and_parts (eqb (length order) atoms) (list_all first (range_with_len 0 atoms)) is).1

@@ -26,7 +26,7 @@ module _ (list : NodeList) (e : ℕ) where
   unfolding left_of
   two n m inner = refl
 
-  -- below a front that stays, what is left goes by what is left of the rest
+  -- below a prefix that stays, what is left goes by what is left of the rest
   pub left_below : (front : List ℕ) (n : ℕ) (more more' : List ℕ)
       (inner inner' : List (List Literal))
       → left_of list e (n ∷ more) inner ≡ left_of list e (n ∷ more') inner'
@@ -124,7 +124,7 @@ module _ (list : NodeList) (e : ℕ) where
         (eq-eqb (node_at list n).high (node_at list n).high refl)
         ∙ append-nil (with_bit (node_at list n).atom true (paths list e (node_at list n).high)))))))
 
-  -- at its end the stack gives the path that it stands for
+  -- at its end the stack gives the path that it denotes
   pub give : (stack : List ℕ) (n : ℕ) (rest : List (List Literal))
       → left_of list e (stack ++ n ∷ []) ([] ∷ rest)
       ≡ literals_of list (stack ++ n ∷ []) ∷ left_of list e (stack ++ n ∷ []) rest

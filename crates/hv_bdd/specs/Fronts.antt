@@ -18,7 +18,7 @@ HoldWanted list inside wanted cube front =
     (s : List Bool) → in_cube cube s ≡ true → wanted s ≡ true
     → (x : ℕ) × Contains front x × (in_node list x s ≡ inside)
 
--- Both lists of nodes are fronts of this cube, the second one where it is ready.
+-- Both lists of nodes are prefixes of this cube, the second one where it is ready.
 pub record IsLevel (list : NodeList) (inside : Bool) (wanted : List Bool → Bool) (bound : ℕ)
     (cube : List Literal) (level : Level) : Type 0 where
   pub start_below : AreBelowBound bound level.start.items

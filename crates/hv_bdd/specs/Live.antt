@@ -28,9 +28,9 @@ abbrev pub bit_mark_of : List (Option Bool) → ℕ → Option Bool
 bit_mark_of marks atom = slice_index_or marks atom None
 
 -- the marked bit, or else this one
-abbrev pub or_else : Option Bool → Bool → Bool
-or_else None bit = bit
-or_else (Some marked) bit = marked
+abbrev pub bit_or : Option Bool → Bool → Bool
+bit_or None bit = bit
+bit_or (Some marked) bit = marked
 
 -- the bit is the marked one, if one is
 abbrev pub is_marked : Option Bool → Bool → Bool
@@ -120,7 +120,7 @@ moves s = record {
   top = λ o node. graph_top s o.which node;
   child = λ o node bit. graph_child s o.which node bit;
   wants = λ o. o.positive;
-  seen = λ o v bit. cond o.after (or_else (bit_mark_of s.changed (atom_at s.list v)) bit) bit;
+  seen = λ o v bit. cond o.after (bit_or (bit_mark_of s.changed (atom_at s.list v)) bit) bit;
   allows = λ v bit. is_marked (bit_mark_of s.needed (atom_at s.list v)) bit;
 }
 

@@ -3,7 +3,7 @@
 use Rattle.std.specs.Prelude.{◌≡◌, ◌++◌, ℕ, List, [], ◌∷◌, Option, None, Some, Result, Ok, Err}
 use Rattle.std.specs.Prelude.{codes, decimal, length, map}
 use Rattle.hv_bytes.specs.declared.cutting.Limits.{Limits}
-use Rattle.hv_bytes.specs.Pieces.{Piece, as_pieces, pieces_of}
+use Rattle.hv_bytes.specs.Pieces.{PieceBytes, as_pieces, pieces_of}
 use Rattle.hv_bdd.specs.declared.fault.NodesFault.{NodesFault}
 use Rattle.hv_bdd.specs.declared.fault.NodesFault.TheVariants as F
 use Rattle.hv_bdd.specs.declared.node.Node.{Node}
@@ -31,25 +31,25 @@ node_lines list =
     first_lines list.order ++ header_line (length list.nodes) ∷ map node_line list.nodes
 
 -- the pieces are the text of this list, which is reduced and ordered; so none of its lines is long
-pub record IsTextOf (pieces : List Piece) (list : NodeList) : Type 0 where
+pub record IsNodeTextOf (pieces : List PieceBytes) (list : NodeList) : Type 0 where
   pub reduced : IsReduced list
   pub spelled : as_pieces (node_lines list) ≡ pieces
 
 -- the same of a list over so many atoms
-abbrev pub AreTextOf : ℕ → List Piece → NodeList → Type 0
-AreTextOf atoms pieces list = (list.atoms ≡ atoms) × IsTextOf pieces list
+abbrev pub AreNodeTextOf : ℕ → List PieceBytes → NodeList → Type 0
+AreNodeTextOf atoms pieces list = (list.atoms ≡ atoms) × IsNodeTextOf pieces list
 
 -- the first fault of the pieces is this one
-abbrev pub IsFirstFault : ℕ → List Piece → NodesFault → Type 0
-IsFirstFault atoms pieces fault = fault_in (node_file atoms 0 pieces) ≡ Some fault
+abbrev pub HasNodesFault : ℕ → List PieceBytes → NodesFault → Type 0
+HasNodesFault atoms pieces fault = fault_in (node_file atoms 0 pieces) ≡ Some fault
 
 -- what a reader answers to these bytes: the list where they are a text, and else the first fault;
--- faults of the device and want of memory are free here
-abbrev pub IsReadFrom : Limits → ℕ → List ℕ → Result NodeList NodesFault → Type 0
-IsReadFrom limits atoms bytes (Ok list) = AreTextOf atoms (pieces_of limits bytes) list
-IsReadFrom limits atoms bytes (Err (F.Place number kind)) =
-    IsFirstFault atoms (pieces_of limits bytes) (F.Place number kind)
-IsReadFrom limits atoms bytes (Err (F.Limit number limit)) =
-    IsFirstFault atoms (pieces_of limits bytes) (F.Limit number limit)
-IsReadFrom limits atoms bytes (Err F.ReadFault) = Unit {0}
-IsReadFrom limits atoms bytes (Err F.Memory) = Unit {0}
+-- faults of the device and running out of memory are free here
+abbrev pub IsNodesReadFrom : Limits → ℕ → List ℕ → Result NodeList NodesFault → Type 0
+IsNodesReadFrom limits atoms bytes (Ok list) = AreNodeTextOf atoms (pieces_of limits bytes) list
+IsNodesReadFrom limits atoms bytes (Err (F.Place number kind)) =
+    HasNodesFault atoms (pieces_of limits bytes) (F.Place number kind)
+IsNodesReadFrom limits atoms bytes (Err (F.Limit number limit)) =
+    HasNodesFault atoms (pieces_of limits bytes) (F.Limit number limit)
+IsNodesReadFrom limits atoms bytes (Err F.ReadFault) = Unit {0}
+IsNodesReadFrom limits atoms bytes (Err F.Memory) = Unit {0}

@@ -38,7 +38,7 @@ abbrev pub next_node : NodeList → List Bool → ℕ → ℕ
 next_node list state node =
     cond (nat_lt node 2) node (child_of (slice_get list.nodes (node - 2)) state)
 
--- where the walk stands after so many steps
+-- where the walk is after so many steps
 abbrev pub walk : NodeList → List Bool → ℕ → ℕ → ℕ
 walk list state zero node = node
 walk list state (suc steps) node = walk list state steps (next_node list state node)

@@ -4,12 +4,12 @@ use Rattle.std.specs.Prelude.{◌≡◌, ◌<◌, ◌+◌, ℕ, List, [], ◌∷
 use Rattle.std.specs.Prelude.{length, nat_eq, slice_index_or}
 use Rattle.hv_bdd.specs.Nodes.{NodeList}
 
--- where the atom stands first in the list, from 0
+-- where the atom occurs first in the list, from 0
 abbrev pub position : List ℕ → ℕ → ℕ
 position [] atom = 0
 position (first ∷ order) atom = cond (nat_eq first atom) 0 (position order atom + 1)
 
--- the place of an atom: where it stands in the order, or its own number where atoms rise
+-- the place of an atom: where it is in the order, or its own number where atoms rise
 abbrev pub place_by : Option (List ℕ) → ℕ → ℕ
 place_by None atom = atom
 place_by (Some order) atom = position order atom

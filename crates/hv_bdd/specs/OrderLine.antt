@@ -28,7 +28,7 @@ named_atoms atoms (field ∷ fields) =
     (named_atom atoms field)
 
 -- whether a list of atoms has so many places, and each is the first at which its atom stands: so
--- each atom of a task with so many stands in it once
+-- each atom of a task with so many is in it once
 abbrev pub is_order : ℕ → List ℕ → Bool
 is_order atoms order =
     nat_eq (length order) atoms

@@ -33,7 +33,7 @@ paths list end node = paths_in list end node node
 abbrev pub path_cubes : NodeList → ℕ → ℕ → List (List Literal)
 path_cubes list end node = map cube_of (paths list end node)
 
--- A stack of nodes, each a child of the one before, stands for what is left of a walk over paths.
+-- A stack of nodes, each a child of the one before, denotes what is left of a walk over paths.
 
 -- the child is the high one
 abbrev pub is_high : NodeList → ℕ → ℕ → Bool
@@ -58,7 +58,7 @@ pub record IsStack (list : NodeList) (stack : List ℕ) : Type 0 where
   pub node : (k : ℕ) → k < length stack → slice_index_or stack k 0 < node_count list
   pub inner : (k : ℕ) → k + 1 < length stack → 2 ≤ slice_index_or stack k 0
 
--- the cursor stands for a walk over paths to this end: its path is empty, and so it is before the
+-- the cursor denotes a walk over paths to this end: its path is empty, and so it is before the
 -- first step, or it leads there
 pub record StandsForWalk (list : NodeList) (end : ℕ) (cursor : Cursor) : Type 0 where
   pub first : cursor.place ≡ 0 → cursor.path.items ≡ []

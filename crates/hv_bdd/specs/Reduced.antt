@@ -39,7 +39,7 @@ pub record IsReduced (list : NodeList) : Type 0 where
       → node_at list i ≡ node_at list j → i ≡ j
   pub few : length list.nodes ≤ 16777216
 
--- the two nodes stand for one set: each state of the task is in both or in neither
+-- the two nodes denote one set: each state of the task is in both or in neither
 abbrev pub AreOneSet : NodeList → ℕ → ℕ → Type 0
 AreOneSet list left right = (state : List Bool) → length state ≡ list.atoms
     → in_node list left state ≡ in_node list right state

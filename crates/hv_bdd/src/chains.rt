@@ -4,8 +4,9 @@ ghost use Rattle.std.specs.Prelude.{◌≡◌, ◌<◌, ◌≤◌, ◌-◌, ◌+
 ghost use Rattle.std.specs.Prelude.{slice_index, IsTrue, OnOk};
 ghost use Rattle.std.specs.List.{list_any};
 ghost use Rattle.hv_bdd.specs.Building.{same_node};
-ghost use Rattle.hv_bdd.specs.Working.Chains.{IsChain, IsChained, IsLinked, listed_at, slot_at};
-ghost use Rattle.hv_bdd.specs.Working.Chains.{slot_of};
+ghost use Rattle.hv_bdd.specs.Working.Chains.{IsNodeChain, IsChained, IsNodeLinked, listed_at};
+ghost use Rattle.hv_bdd.specs.Working.Chains.{node_slot_at};
+ghost use Rattle.hv_bdd.specs.Working.Chains.{node_slot_of};
 ghost use Rattle.hv_bdd.specs.Working.Chains.{AreAllBelow, IsListedNode};
 
 use crate::node::Node;
@@ -26,20 +27,20 @@ pub struct Chains {
     before: Vec<u32>,
     // For each slot, one more than the last place in it, or 0.
     heads: Vec<u32>,
-    turn: Turn,
+    turn: NodeFactor,
 }
 
 // The factor by which nodes fall into slots, and how often it may be changed before there are more
 // slots.
 #[derive(Clone, Copy)]
-struct Turn {
+struct NodeFactor {
     factor: u64,
     left: u32,
 }
 
 /// What a search for a node found.
 #[derive(Clone, Copy)]
-pub struct Sought {
+pub struct FoundNode {
     /// Whether the node is listed.
     pub listed: bool,
     /// How many other nodes the search passed.
@@ -54,7 +55,7 @@ impl Chains {
         Chains {
             before: Vec::new(alloc),
             heads: Vec::new(alloc),
-            turn: Turn {
+            turn: NodeFactor {
                 factor: 0x9e37_79b9_7f4a_7c15,
                 left: TURNS,
             },
@@ -62,17 +63,17 @@ impl Chains {
     }
 
     /// Looks for a node among those listed.
-    pub fn seek(&self, nodes: &[Node], node: &Node) -> Sought
+    pub fn seek(&self, nodes: &[Node], node: &Node) -> FoundNode
         requires { IsChained nodes.now self.now }
         ensures { result.listed ≡ list_any (same_node node.now) nodes.now }
     {
         if self.heads.is_empty() {
-            return Sought {
+            return FoundNode {
                 listed: false,
                 passed: 0,
             };
         }
-        let slot = slot_of(self.turn.factor, self.heads.len(), node);
+        let slot = node_slot_of(self.turn.factor, self.heads.len(), node);
         seek_from(
             nodes,
             self.turn.factor,
@@ -90,7 +91,7 @@ impl Chains {
         ensures { OnOk result (IsChained (nodes.now ++ node.now ∷ []) self.new) }
     {
         self.make_room(nodes, passed)?;
-        let slot = slot_of(self.turn.factor, self.heads.len(), node);
+        let slot = node_slot_of(self.turn.factor, self.heads.len(), node);
         self.before.push(self.heads[slot])?;
         self.heads[slot] = nodes.len() as u32 + 1;
         Ok(())
@@ -121,10 +122,10 @@ impl Chains {
 }
 
 // Into which of so many slots a node falls.
-#[tactic(auto, unfolding(crate::specs::Working::Chains::slot_of))]
-fn slot_of(factor: u64, slots: usize, node: &Node) -> usize
+#[tactic(auto, unfolding(crate::specs::Working::Chains::node_slot_of))]
+fn node_slot_of(factor: u64, slots: usize, node: &Node) -> usize
     requires { 0 < slots }
-    ensures slot { result ≡ slot_of factor slots node.now }
+    ensures slot { result ≡ node_slot_of factor slots node.now }
     ensures within { result < slots }
 {
     let children = u64::from(node.low) + u64::from(node.high) * 4_294_967_296;
@@ -140,12 +141,12 @@ fn seek_from(
     slots: usize,
     node: &Node,
     start: usize,
-) -> Sought
+) -> FoundNode
     requires fits { start ≤ length nodes.now }
     requires before { length nodes.now ≤ length before.now }
-    requires chain { IsChain nodes.now before.now factor slots (length nodes.now) }
+    requires chain { IsNodeChain nodes.now before.now factor slots (length nodes.now) }
     requires slot { 0 < start
-        → slot_at nodes.now factor slots (start - 1) ≡ slot_of factor slots node.now }
+        → node_slot_at nodes.now factor slots (start - 1) ≡ node_slot_of factor slots node.now }
     requires all { AreAllBelow nodes.now node.now start }
     ensures listed { IsTrue result.listed → IsListedNode nodes.now node.now }
     ensures absent { result.listed ≡ false → AreAllBelow nodes.now node.now 0 }
@@ -157,7 +158,7 @@ fn seek_from(
     while end > 0 {
         let place = end - 1;
         if nodes[place] == *node {
-            return Sought {
+            return FoundNode {
                 listed: true,
                 passed,
             };
@@ -165,7 +166,7 @@ fn seek_from(
         end = before[place] as usize;
         passed += 1;
     }
-    Sought {
+    FoundNode {
         listed: false,
         passed,
     }
@@ -177,14 +178,14 @@ fn link(nodes: &[Node], factor: u64, before: &mut Vec<u32>, heads: &mut Vec<u32>
     requires few { length nodes.now < 2 ^ 32 }
     requires before { length nodes.now ≤ length before.old.items }
     requires heads { 0 < length heads.old.items }
-    requires linked { IsLinked nodes.now before.old.items heads.old.items factor
+    requires linked { IsNodeLinked nodes.now before.old.items heads.old.items factor
         (length heads.old.items) place }
-    ensures linked { IsLinked nodes.now before.new.items heads.new.items factor
+    ensures linked { IsNodeLinked nodes.now before.new.items heads.new.items factor
         (length heads.new.items) (place + 1) }
     ensures before { length before.new.items ≡ length before.old.items }
     ensures heads { length heads.new.items ≡ length heads.old.items }
 {
-    let slot = slot_of(factor, heads.len(), &nodes[place]);
+    let slot = node_slot_of(factor, heads.len(), &nodes[place]);
     before[place] = heads[slot];
     heads[slot] = (place + 1) as u32;
 }
@@ -195,7 +196,7 @@ fn link_all(nodes: &[Node], factor: u64, before: &mut Vec<u32>, heads: &mut Vec<
     requires before { length nodes.now ≤ length before.old.items }
     requires heads { 0 < length heads.old.items }
     requires none { (b : ℕ) → b < length heads.old.items → slice_index heads.old.items b ≡ 0 }
-    ensures linked { IsLinked nodes.now before.new.items heads.new.items factor
+    ensures linked { IsNodeLinked nodes.now before.new.items heads.new.items factor
         (length heads.new.items) (length nodes.now) }
     ensures before { length before.new.items ≡ length before.old.items }
     ensures heads { length heads.new.items ≡ length heads.old.items }

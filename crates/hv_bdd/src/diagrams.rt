@@ -13,19 +13,19 @@ ghost use Rattle.hv_bdd.specs.Nodes.{IsNode, in_node, no_nodes, no_nodes_by, nod
 ghost use Rattle.hv_bdd.specs.Order.{IsOrder, atom_at, place};
 ghost use Rattle.hv_bdd.specs.Reduced.{AreOneSet, IsReduced, child, node_at, top};
 
+use crate::atom_bits::ListedState;
+use crate::atom_order::Order;
 use crate::fault::NodeKind;
 use crate::goal::near;
-use crate::marks::Held;
 use crate::node::Node;
 use crate::numbers::Triple;
-use crate::order::Order;
 use crate::set::DiagramSet;
 use hv_task::{AtomList, AtomSet, State};
 use std::alloc::{AllocError, Global};
 use std::marker::Model;
 
 /// The decision diagrams of a node file. Node 0 is false, node 1 is true, and the listed nodes have
-/// the numbers from 2 on. The list is reduced and ordered, so different nodes stand for different
+/// the numbers from 2 on. The list is reduced and ordered, so different nodes denote different
 /// sets.
 #[derive(Drop)]
 pub struct Diagrams {
@@ -112,7 +112,7 @@ impl Diagrams {
         at == 1
     }
 
-    /// Whether the two nodes stand for one set.
+    /// Whether the two nodes denote one set.
     pub fn same(&self, left: u32, right: u32) -> bool
         requires left { IsNode self.now left }
         requires right { IsNode self.now right }
@@ -216,7 +216,11 @@ impl Diagrams {
     }
 
     // The places of the atoms that are held, in a list that rises.
-    pub(crate) fn places_of(&self, alloc: Global, held: &Held<'_>) -> Result<AtomList, AllocError>
+    pub(crate) fn places_of(
+        &self,
+        alloc: Global,
+        held: &ListedState<'_>,
+    ) -> Result<AtomList, AllocError>
         requires { length held.now ≡ self.now.atoms }
         ensures { IfOk result (HasPlaces self.now held.now) }
     {
@@ -233,7 +237,7 @@ impl Diagrams {
     }
 
     // The least place from this one on whose atom is held.
-    pub(crate) fn next_place(&self, held: &Held<'_>, from: u32) -> Option<u32>
+    pub(crate) fn next_place(&self, held: &ListedState<'_>, from: u32) -> Option<u32>
         requires { length held.now ≡ self.now.atoms }
         ensures next { IsNext (λ v. has_atom held.now (atom_at self.now v)) from result }
         ensures within { IfSome result (λ v. v < self.now.atoms) }
@@ -251,7 +255,7 @@ impl Diagrams {
     }
 
     // The same by the place of each atom that is held.
-    fn least_place(&self, held: &Held<'_>, from: u32) -> Option<u32>
+    fn least_place(&self, held: &ListedState<'_>, from: u32) -> Option<u32>
         requires { length held.now ≡ self.now.atoms }
         ensures next { IsNext (λ v. has_atom held.now (atom_at self.now v)) from result }
         ensures within { IfSome result (λ v. v < self.now.atoms) }
@@ -269,7 +273,7 @@ impl Diagrams {
 
     // What it costs to look for the place behind this one whose atom is held, in places that are
     // looked at.
-    pub(crate) fn cost_of_next(&self, held: &Held<'_>, place: u32) -> u32
+    pub(crate) fn cost_of_next(&self, held: &ListedState<'_>, place: u32) -> u32
         requires held { length held.now ≡ self.now.atoms }
         requires place { place < self.now.atoms }
     {

@@ -2,7 +2,7 @@
 
 ghost use Rattle.std.specs.Prelude.{◌≡◌};
 ghost use Rattle.hv_bdd.specs.declared.fault.NodesFault.TheVariants as F;
-ghost use Rattle.hv_bdd.specs.Words.{kind_word, limit_word};
+ghost use Rattle.hv_bdd.specs.Words.{node_kind_word, node_limit_word};
 ghost use Rattle.hv_bdd.specs.NodeFile.{nodes_fault};
 
 use hv_grammar::ParseFault;
@@ -32,7 +32,7 @@ pub enum NodeKind {
     End,
 }
 
-/// A limit that a line of a node file passes.
+/// A limit that a line of a node file exceeds.
 #[derive(Clone, Copy, Debug, PartialEq, Eq)]
 pub enum NodeLimit {
     /// More than 16,777,216 nodes.
@@ -46,7 +46,7 @@ pub enum NodeLimit {
 pub enum NodeRefusal {
     /// What its place expects isn't there.
     Place(NodeKind),
-    /// The line is there, and passes this limit.
+    /// The line is there, and exceeds this limit.
     Limit(NodeLimit),
 }
 
@@ -57,7 +57,7 @@ pub enum NodesFault {
     /// What this place expects isn't there.
     #[error("line {0} isn't what the text expects there")]
     Place(u64, NodeKind),
-    /// The line is there, and passes this limit; or it is long, whatever its form.
+    /// The line is there, and exceeds this limit; or it is long, whatever its form.
     #[error("line {0} passes a limit")]
     Limit(u64, NodeLimit),
     /// The shelf failed.
@@ -93,7 +93,7 @@ impl From<ParseFault<NodeRefusal>> for NodesFault {
 impl NodeKind {
     /// The word that names the kind in a refusal.
     pub fn word(&self) -> &'static str
-        ensures { result.now ≡ kind_word self.now }
+        ensures { result.now ≡ node_kind_word self.now }
     {
         match self {
             NodeKind::Permutation => "permutation",
@@ -112,7 +112,7 @@ impl NodeKind {
 impl NodeLimit {
     /// The word that names the limit in a refusal.
     pub fn word(&self) -> &'static str
-        ensures { result.now ≡ limit_word self.now }
+        ensures { result.now ≡ node_limit_word self.now }
     {
         match self {
             NodeLimit::Nodes => "nodes",

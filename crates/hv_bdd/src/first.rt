@@ -4,8 +4,8 @@ ghost use Rattle.std.specs.Prelude.{◌≡◌, IfOk};
 ghost use Rattle.hv_bdd.specs.NodeFile.{first_in};
 ghost use Rattle.hv_bdd.specs.OrderLine.{begins_with};
 
+use crate::atom_order::{Order, order_of};
 use crate::fault::{NodeKind, NodeLimit, NodeRefusal};
-use crate::order::{Order, order_of};
 use hv_grammar::{at_most, number_behind};
 use std::alloc::{AllocError, Global};
 
@@ -16,7 +16,7 @@ pub(crate) const MOST_NODES: u64 = 16_777_216;
 #[derive(Drop)]
 pub enum FirstLine {
     /// The order of the atoms.
-    Listed(Order),
+    ListedNodes(Order),
     /// How many nodes follow; the atoms rise.
     Counted(u64),
 }
@@ -44,7 +44,7 @@ pub(crate) fn first_in(
 {
     if begins_with(line, b"order") {
         return match order_of(alloc, line, atoms)? {
-            Some(order) => Ok(Ok(FirstLine::Listed(order))),
+            Some(order) => Ok(Ok(FirstLine::ListedNodes(order))),
             None => Ok(Err(NodeRefusal::Place(NodeKind::Permutation))),
         };
     }

@@ -5,7 +5,7 @@ ghost use Rattle.hv_bdd.specs.Nodes.{IsNode, in_node};
 ghost use Rattle.hv_bdd.specs.Fronts.{StandsAlong};
 
 use crate::diagrams::Diagrams;
-use crate::level::{Level, Side, deepen};
+use crate::level::{Level, NodeSide, deepen};
 use hv_paths::Asker;
 use hv_sets::{Literal, Scratch};
 use hv_task::State;
@@ -90,7 +90,7 @@ impl<'a, A: Asker + Drop> Asker for FrontAsk<'a, A> {
     fn assume(&mut self, literal: Literal) -> Result<(), AllocError> {
         let depth = self.asked.depth();
         self.places.resize(self.bound, 0)?;
-        let side = Side {
+        let side = NodeSide {
             nodes: self.nodes,
             inside: self.inside,
         };

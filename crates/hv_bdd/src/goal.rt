@@ -3,15 +3,15 @@
 ghost use Rattle.std.specs.Prelude.{◌≡◌, ◌≤◌, None};
 
 use crate::asked::Asked;
+use crate::atom_bits::ListedState;
 use crate::diagrams::Diagrams;
-use crate::marks::Held;
 use hv_sets::Which;
 use hv_task::AtomList;
 
 /// The atoms of a goal; and their places in the order, where these were sorted.
 #[derive(Drop)]
 pub(crate) struct Goal<'a> {
-    pub held: Held<'a>,
+    pub held: ListedState<'a>,
     pub places: Option<AtomList>,
     /// How much may still be spent on looking for the next place before the places are sorted, or
     /// nothing where they aren't to be sorted. Only how long a query takes hangs on it.
@@ -20,7 +20,7 @@ pub(crate) struct Goal<'a> {
 
 impl<'a> Goal<'a> {
     /// The goal of these atoms.
-    pub(crate) fn of(nodes: &Diagrams, held: Held<'a>, asked: &[Asked]) -> Goal<'a>
+    pub(crate) fn of(nodes: &Diagrams, held: ListedState<'a>, asked: &[Asked]) -> Goal<'a>
         ensures held { result.held ≡ held.entry }
         ensures places { result.places ≡ None }
     {
@@ -39,12 +39,12 @@ impl<'a> Goal<'a> {
 
 /// How many places of the order are looked at before all atoms of the goal are: to look for one of
 /// them at a place takes some eight times as long as to look up the place of one.
-pub(crate) fn near(held: &Held<'_>) -> u32 {
+pub(crate) fn near(held: &ListedState<'_>) -> u32 {
     size(held) / 8 + 16
 }
 
 // How many atoms it has, as far as a task can have them.
-fn size(held: &Held<'_>) -> u32
+fn size(held: &ListedState<'_>) -> u32
     ensures { result ≤ 65535 }
 {
     held.listed().len().min(65535) as u32

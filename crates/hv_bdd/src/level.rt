@@ -16,7 +16,7 @@ use std::mem;
 
 /// The nodes of a list, and whether the states that are looked for are in them or outside them.
 #[derive(Clone, Copy)]
-pub(crate) struct Side<'a> {
+pub(crate) struct NodeSide<'a> {
     pub nodes: &'a Diagrams,
     pub inside: bool,
 }
@@ -71,7 +71,7 @@ impl Level {
 // is met there. The lists of a level that was taken back are filled again; `spare` is one to write
 // to.
 pub(crate) fn deepen(
-    side: &Side<'_>,
+    side: &NodeSide<'_>,
     levels: &mut Vec<Level>,
     depth: usize,
     places: &mut Vec<u32>,
@@ -115,7 +115,7 @@ fn make_room(alloc: Global, levels: &mut Vec<Level>, depth: usize) -> Result<(),
 
 // Makes the next level that of the nodes that are met after one more literal.
 fn next_level(
-    side: &Side<'_>,
+    side: &NodeSide<'_>,
     level: &mut Level,
     places: &mut Vec<u32>,
     spare: &mut Vec<u32>,
@@ -145,7 +145,7 @@ fn next_level(
 
 // Moves the nodes of the level down to the place, where they aren't moved there.
 fn move_down(
-    side: &Side<'_>,
+    side: &NodeSide<'_>,
     place: u32,
     level: &mut Level,
     places: &mut Vec<u32>,
@@ -188,7 +188,7 @@ fn restart(level: &mut Level, place: u32) -> Result<(), AllocError>
     Ok(())
 }
 
-// Puts a node into the list, unless it stands there.
+// Puts a node into the list, unless it is there.
 fn put(places: &mut Vec<u32>, list: &mut Vec<u32>, node: u32) -> Result<(), AllocError>
     requires { node < length places.old.items }
     ensures put { OnOk result (LiesIn list.old.items node list.new.items) }
@@ -236,7 +236,7 @@ fn note_all(places: &mut Vec<u32>, list: &[u32])
 
 // Moves the nodes down, until none asks for an atom before the place.
 fn advance(
-    side: &Side<'_>,
+    side: &NodeSide<'_>,
     place: u32,
     places: &mut Vec<u32>,
     queue: &mut Vec<u32>,
@@ -265,7 +265,7 @@ fn advance(
 
 // Moves one node down, or leaves it as it is.
 fn move_one(
-    side: &Side<'_>,
+    side: &NodeSide<'_>,
     place: u32,
     places: &mut Vec<u32>,
     queue: &mut Vec<u32>,
@@ -297,7 +297,7 @@ fn move_one(
 
 // Lists where the nodes lead by the literal.
 fn restrict(
-    side: &Side<'_>,
+    side: &NodeSide<'_>,
     front: &[u32],
     literal: Literal,
     places: &mut Vec<u32>,

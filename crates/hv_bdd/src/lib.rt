@@ -2,28 +2,28 @@
 #![tactic(auto)]
 
 pub mod asked;
+mod atom_bits;
+pub mod atom_order;
 mod building;
 mod chains;
 mod counts;
 pub mod diagrams;
-mod family;
 pub mod fault;
 pub mod first;
 mod front_ask;
 mod goal;
 pub mod laws;
 mod level;
-mod listing;
-mod marks;
 pub mod node;
+mod node_listing;
+mod node_queries;
 mod numbers;
-pub mod order;
 mod path_walk;
 mod paths;
 mod reach;
 pub mod read;
-mod search;
 pub mod set;
+mod tuple_search;
 mod walk;
 
 pub use asked::Asked;

@@ -8,7 +8,7 @@ ghost use Rattle.hv_bdd.specs.Working.Turning.{StandsWith};
 
 use crate::diagrams::Diagrams;
 use crate::walk::{advance, extend};
-use hv_paths::{Stop, Walker};
+use hv_paths::{WalkStop, Walker};
 use hv_sets::{Cursor, Literal};
 use std::alloc::{AllocError, Global};
 
@@ -60,7 +60,7 @@ impl<'a> Walker for PathWalk<'a> {
         Ok(Some(kept))
     }
 
-    fn stop(&self) -> Stop<'_> {
-        Stop::Cube(self.literals.as_slice())
+    fn stop(&self) -> WalkStop<'_> {
+        WalkStop::Cube(self.literals.as_slice())
     }
 }

@@ -9,7 +9,7 @@ ghost use Rattle.hv_bdd.specs.Working.Graphs.{in_asked};
 ghost use Rattle.hv_bdd.specs.Live.{moves, roots};
 ghost use Rattle.hv_bdd.specs.Tuples.{if_live};
 
-use crate::search::{Link, Search, Tuple};
+use crate::tuple_search::{Link, Search, Tuple};
 use hv_sets::Finding;
 use hv_task::State;
 use indexmap::IndexSet;

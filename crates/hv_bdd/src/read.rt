@@ -10,13 +10,13 @@ ghost use Rattle.hv_bdd.specs.declared.fault.NodeKind.TheVariants as K;
 ghost use Rattle.hv_bdd.specs.declared.fault.NodeRefusal.TheVariants as Refusal;
 ghost use Rattle.hv_bdd.specs.NodeFile.{behind_first, behind_order, first_in, node_file, node_in};
 ghost use Rattle.hv_bdd.specs.NodeFile.{so_many};
-ghost use Rattle.hv_bdd.specs.NodeText.{IsReadFrom};
+ghost use Rattle.hv_bdd.specs.NodeText.{IsNodesReadFrom};
 ghost use Rattle.hv_bdd.specs.Working.NodeText.{IsBegun, as_nodes, node_start};
 
 use crate::diagrams::Diagrams;
 use crate::fault::{NodeKind, NodeLimit, NodeRefusal, NodesFault};
 use crate::first::{FirstLine, MOST_NODES, first_in};
-use crate::listing::Listing;
+use crate::node_listing::NodeListing;
 use crate::numbers::{Triple, triple_of};
 use hv_bytes::{Limits, Shelf};
 use hv_grammar::{
@@ -39,9 +39,9 @@ pub fn read_nodes<S: Shelf>(
     requires line { limits.line ≤ 2 ^ 62 }
     requires file { limits.file ≤ 2 ^ 62 }
 
-    // where the shelf tells what it holds
+    // where the source's bytes are known
     ensures read { IfSome (S.held shelf.old) (λ held.
-        IsReadFrom limits atoms (bytes_of held name.now) result) }
+        IsNodesReadFrom limits atoms (bytes_of held name.now) result) }
     ensures atoms { IfOk result (λ list. list.atoms ≡ atoms) }
 
     ensures held { S.held shelf.new ≡ S.held shelf.old }
@@ -94,7 +94,7 @@ fn first_line<R: Source>(
     at_line(reader, said)
 }
 
-// What stands behind the first line.
+// What is behind the first line.
 fn behind_first<R: Source>(
     alloc: Global,
     reader: &mut R,
@@ -109,14 +109,14 @@ fn behind_first<R: Source>(
     ensures atoms { IfOk result (λ list. list.atoms ≡ atoms) }
 {
     match first {
-        FirstLine::Listed(order) => {
+        FirstLine::ListedNodes(order) => {
             behind_order(alloc, reader, Diagrams::by_order(alloc, atoms, order))
         }
         FirstLine::Counted(count) => nodes(alloc, reader, Diagrams::none(alloc, atoms), count),
     }
 }
 
-// What stands behind an order, by which this list has no nodes yet.
+// What is behind an order, by which this list has no nodes yet.
 fn behind_order<R: Source>(
     alloc: Global,
     reader: &mut R,
@@ -154,7 +154,7 @@ fn nodes<R: Source>(
         (R.position reader.old) (R.position reader.new) result }
     ensures atoms { IfOk result (λ read. read.atoms ≡ list.atoms) }
 {
-    let mut listing = Listing::new(alloc, list);
+    let mut listing = NodeListing::new(alloc, list);
     for done in 0..count {
         let _ = done;
         match node(reader) {

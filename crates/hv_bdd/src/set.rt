@@ -1,4 +1,4 @@
-//! Sets that nodes stand for.
+//! Sets that nodes denote.
 
 ghost use Rattle.std.specs.Prelude.{◌≡◌, length, map, Some, IfOk};
 ghost use Rattle.std.proofs.Common.{ap};
@@ -10,11 +10,11 @@ ghost use Rattle.hv_bdd.specs.Working.Sets.{Finds};
 ghost use Rattle.hv_bdd.specs.Working.Laws as laws;
 
 use crate::asked::Asked;
+use crate::atom_bits::{AtomBits, ListedState};
 use crate::counts::path_count;
 use crate::diagrams::Diagrams;
 use crate::goal::Goal;
-use crate::marks::{Held, Marks};
-use crate::search::Search;
+use crate::tuple_search::Search;
 use crate::walk::next;
 use hv_sets::{Covering, Cube, Cursor, Finding, Inside, Outside, Scratch, StateSet, Step, Which};
 use hv_task::{AtomList, State};
@@ -142,14 +142,14 @@ fn find(
     };
     let mut search = Search::new(
         nodes,
-        Held::new(atoms, &none),
+        ListedState::new(atoms, &none),
         Goal {
-            held: Held::new(atoms, &none),
+            held: ListedState::new(atoms, &none),
             places: None,
             left: 0,
         },
-        Marks::signs(atoms, cube),
-        Marks::none(atoms),
+        AtomBits::signs(atoms, cube),
+        AtomBits::none(atoms),
         slice::from_ref(&asked),
     );
     search.finds(alloc, node, cube, inside, state)

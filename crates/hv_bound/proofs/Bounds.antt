@@ -96,7 +96,7 @@ origin task most k made h =
           (subst (λ n. slice_get (copies (atoms task) most n at.1) at.3 ≡ Some made) same at.6),
     )
 
--- and each copy of an action stands in the made task
+-- and each copy of an action is in the made task
 made_stands : (task : Strips) (most i : ℕ) (a made : Action) (k : ℕ)
     → slice_get task.actions i ≡ Some a
     → slice_get (copies (atoms task) most i a) k ≡ Some made

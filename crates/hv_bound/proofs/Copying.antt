@@ -47,7 +47,7 @@ made_amounts f old whole least most upto h =
     sym (append-nil old)
     ∙ ap (λ xs. old ++ map f xs) (sym (amounts_none least most (omega arith))) ∙ h
 
--- there is room for what is still to be made
+-- there is space for what is still to be made
 pub room_left : {X : Type 0} (old rest whole : List X) (n : ℕ) → old ++ rest ≡ whole
     → length whole ≤ n → length old + length rest ≤ n
 room_left old rest whole n h few = omega (arith, length-append old rest, ap length h)
@@ -87,7 +87,7 @@ made_all_copies first most actions old whole number upto h =
     sym (append-nil old)
     ∙ ap (λ xs. old ++ xs) (sym (copies_none first most actions number upto)) ∙ h
 
--- there is room for the copies of the next action
+-- there is space for the copies of the next action
 pub room_next : (first most : ℕ) (actions old whole : List Action) (number : ℕ) (a : Action) (n : ℕ)
     → slice_get actions number ≡ Some a → old ++ copies_from first most actions number ≡ whole
     → length whole ≤ n → length old + length (copies first most number a) ≤ n

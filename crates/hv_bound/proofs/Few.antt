@@ -7,7 +7,7 @@ use Rattle.hv_bytes.specs.States.{size_of}
 use Rattle.hv_bound.specs.PlanFile.{step_in}
 
 -- how many steps so many bytes may say
-pub record AreFew (steps : List ℕ) (earlier : ℕ) (ended : Bool) : Type 0 where
+pub record AreFewSteps (steps : List ℕ) (earlier : ℕ) (ended : Bool) : Type 0 where
   pub few : length steps ≤ 4194304
   pub sized : ended ≡ false → 2 * length steps ≤ earlier
 
@@ -22,10 +22,10 @@ grown size earlier now true h e = absurd cc
 grown size earlier now false h e = h
 
 pub few_more : (steps : List ℕ) (said : Option ℕ) (l : List ℕ) (line_limit earlier now : ℕ)
-    (before ended : Bool) → AreFew steps earlier before → before ≡ false
+    (before ended : Bool) → AreFewSteps steps earlier before → before ≡ false
     → now ≡ earlier + size_of (length l) ended
     → FitsLimits line_limit 8388608 earlier (length l) → step_in l ≡ Ok said
-    → AreFew (steps ++ option_to_list said) now ended
+    → AreFewSteps (steps ++ option_to_list said) now ended
 few_more steps None l line_limit earlier now before ended are going counted fits says =
     let size = are.sized going in
     record {

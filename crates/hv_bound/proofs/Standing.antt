@@ -1,4 +1,4 @@
--- Where an element stands in lists that are put together.
+-- Where an element is in lists that are put together.
 use Rattle.std.proofs.Common.{◌≡◌, ℕ, zero, suc, ◌+◌, ◌<◌, ◌≤◌, ◌⊎◌, List, [], ◌∷◌, ◌++◌}
 use Rattle.std.proofs.Common.{Some, map, refl, ap, sym, subst, inl, inr, arith}
 use Rattle.std.proofs.lemmas.Bool.{cases_eq}
@@ -68,7 +68,7 @@ stands_flat f (z ∷ xs) m (suc i) n x k y e at h =
     let r = stands_flat f xs (m + 1) i n x k y (omega arith) at h in
     stands_right (f (m, z)) (flat_map f (enumerate_from (m + 1) xs)) r.0 y r.1
 
--- and each element stands in one of the parts
+-- and each element is in one of the parts
 pub flat_stands : {X Y : Type 0} (f : ℕ × X → List Y) (xs : List X) (m l : ℕ) (y : Y)
     → slice_get (flat_map f (enumerate_from m xs)) l ≡ Some y
     → (i : ℕ) × (x : X) × (n : ℕ) × (k : ℕ) × (n ≡ m + i) × (slice_get xs i ≡ Some x)

@@ -12,9 +12,9 @@ use Rattle.hv_task.specs.State.{applicable, successor}
 use Rattle.hv_task.specs.Strips.{Strips, is_goal, start_state}
 use Rattle.hv_task.specs.Plan.{go_on, run_of, step_of}
 use Rattle.hv_task.proofs.Runs.{run_more, run_rest}
-use Rattle.hv_bound.specs.declared.checking.PlanAnswer.{PlanAnswer}
-use Rattle.hv_bound.specs.declared.checking.PlanAnswer.TheVariants.{Cost, NoGoal, NotApplicable}
-use Rattle.hv_bound.specs.declared.checking.PlanAnswer.TheVariants.{Unknown}
+use Rattle.hv_bound.specs.declared.plan_check.PlanAnswer.{PlanAnswer}
+use Rattle.hv_bound.specs.declared.plan_check.PlanAnswer.TheVariants.{Cost, NoGoal, NotApplicable}
+use Rattle.hv_bound.specs.declared.plan_check.PlanAnswer.TheVariants.{Unknown}
 use Rattle.hv_bound.specs.PlanAnswers.{ReachesStep, IsPlanAnswer}
 use Rattle.hv_bound.specs.Costs.{cost_at, cost_of_list}
 

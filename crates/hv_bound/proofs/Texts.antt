@@ -6,12 +6,12 @@ use Rattle.std.proofs.lemmas.Fmt.{decimal_is_IsNumeral}
 use Rattle.std.proofs.lemmas.List.{append-nil, append_assoc}
 use Rattle.std.specs.Str.Parse.{IsNumeral}
 use Rattle.hv_bytes.specs.Decimals.{IsShortDecimal}
-use Rattle.hv_bytes.specs.Pieces.{Piece, as_pieces}
+use Rattle.hv_bytes.specs.Pieces.{PieceBytes, as_pieces}
 use Rattle.hv_grammar.specs.Forms.{short_decimal_of}
 use Rattle.hv_grammar.specs.Parsers.{long, many, parsed, refused}
 use Rattle.hv_grammar.proofs.Numerals.{is_short_of, short_answer, short_of}
 use Rattle.hv_bound.specs.PlanFile.{plan_file, plan_line, spelled_step, step_in}
-use Rattle.hv_bound.specs.PlanText.{AreTextOf, IsNoPlanLine, IsOneOfThree, SaysNoStep}
+use Rattle.hv_bound.specs.PlanText.{ArePlanTextOf, IsNoPlanLine, IsOneOfThree, SaysNoStep}
 
 -- a short decimal isn't empty, and begins with a digit
 numeral : (line : List ℕ) (n : ℕ) → IsShortDecimal line n → IsNumeral 10 line
@@ -52,8 +52,8 @@ no_line (b ∷ line) neither =
     ]
 
 -- lines that say steps are read, and what follows them comes next
-pub after_lines : (lines : List (List ℕ)) (steps earlier : List ℕ) (n : ℕ) (rest : List Piece)
-    → AreTextOf lines steps
+pub after_lines : (lines : List (List ℕ)) (steps earlier : List ℕ) (n : ℕ) (rest : List PieceBytes)
+    → ArePlanTextOf lines steps
     → many plan_line earlier n (as_pieces lines ++ rest)
     ≡ many plan_line (earlier ++ steps) (n + length lines) rest
 after_lines [] steps earlier n rest none =
@@ -78,21 +78,21 @@ after_lines (line ∷ lines) steps earlier n rest (inr (k, more, is, same, later
 zero_more : (n : ℕ) → 0 + n ≡ n
 zero_more n = omega arith
 
-pub gives_steps : (lines : List (List ℕ)) (steps : List ℕ) → AreTextOf lines steps
+pub gives_steps : (lines : List (List ℕ)) (steps : List ℕ) → ArePlanTextOf lines steps
     → plan_file 0 (as_pieces lines) ≡ parsed steps (length lines) []
 gives_steps lines steps are =
     ap (plan_file 0) (sym (append-nil (as_pieces lines))) ∙ after_lines lines steps [] 0 [] are
     ∙ ap (λ m. parsed steps m []) (zero_more (length lines))
 
-pub names_place : (before : List (List ℕ)) (steps line : List ℕ) (rest : List Piece)
-    → AreTextOf before steps → IsNoPlanLine line
+pub names_place : (before : List (List ℕ)) (steps line : List ℕ) (rest : List PieceBytes)
+    → ArePlanTextOf before steps → IsNoPlanLine line
     → plan_file 0 (as_pieces before ++ Some line ∷ rest) ≡ refused (length before + 1) tt
 names_place before steps line rest are neither =
     after_lines before steps [] 0 (Some line ∷ rest) are
     ∙ rw (no_line line neither) (ap (λ m. refused (m + 1) tt) (zero_more (length before)))
 
-pub names_limit : (before : List (List ℕ)) (steps : List ℕ) (rest : List Piece)
-    → AreTextOf before steps
+pub names_limit : (before : List (List ℕ)) (steps : List ℕ) (rest : List PieceBytes)
+    → ArePlanTextOf before steps
     → plan_file 0 (as_pieces before ++ None ∷ rest) ≡ long (length before + 1)
 names_limit before steps rest are =
     after_lines before steps [] 0 (None ∷ rest) are
@@ -125,9 +125,9 @@ line_kinds (b ∷ line) =
     ]
 
 -- a file with a line more in front, which is skipped or says a step
-kinds_more : (line : List ℕ) (pieces : List Piece)
-    → ((lines : List (List ℕ)) (steps : List ℕ) → AreTextOf lines steps
-    → (all : List ℕ) × AreTextOf (line ∷ lines) all)
+kinds_more : (line : List ℕ) (pieces : List PieceBytes)
+    → ((lines : List (List ℕ)) (steps : List ℕ) → ArePlanTextOf lines steps
+    → (all : List ℕ) × ArePlanTextOf (line ∷ lines) all)
     → IsOneOfThree pieces → IsOneOfThree (Some line ∷ pieces)
 kinds_more line pieces more (inl good) =
     let all = more good.0 good.1 good.2 in
@@ -147,7 +147,7 @@ kinds_more line pieces more (inr (inr limit)) =
     let all = more limit.0 limit.1 limit.3 in
     inr (inr (line ∷ limit.0, all.0, limit.2, all.1, ap (λ ps. Some line ∷ ps) limit.4))
 
-pub one_of_three : (pieces : List Piece) → IsOneOfThree pieces
+pub one_of_three : (pieces : List PieceBytes) → IsOneOfThree pieces
 one_of_three [] = inl ([], [], refl, refl)
 one_of_three (None ∷ pieces) = inr (inr ([], [], pieces, refl, refl))
 one_of_three (Some line ∷ pieces) =

@@ -6,8 +6,8 @@ use Rattle.hv_task.specs.declared.action.Action.{Action}
 use Rattle.hv_task.specs.State.{applicable}
 use Rattle.hv_task.specs.Strips.{Strips, is_goal, start_state}
 use Rattle.hv_task.specs.Plan.{Solves, run_of}
-use Rattle.hv_bound.specs.declared.checking.PlanAnswer.{PlanAnswer}
-use Rattle.hv_bound.specs.declared.checking.PlanAnswer.TheVariants as A
+use Rattle.hv_bound.specs.declared.plan_check.PlanAnswer.{PlanAnswer}
+use Rattle.hv_bound.specs.declared.plan_check.PlanAnswer.TheVariants as A
 use Rattle.hv_bound.specs.Costs.{cost_of_list}
 
 -- The steps before this one, counted from 1, can be taken from the initial state, and lead to this

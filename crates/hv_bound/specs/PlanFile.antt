@@ -2,7 +2,7 @@
 use Rattle.std.specs.Prelude.{◌≡◌, ◌==◌, ◌++◌, ℕ, List, [], ◌∷◌, Option, Some, None, Result, Ok}
 use Rattle.std.specs.Prelude.{Err}
 use Rattle.std.specs.Prelude.{if◌then◌else◌, option_map, option_to_list}
-use Rattle.hv_bytes.specs.Pieces.{Piece}
+use Rattle.hv_bytes.specs.Pieces.{PieceBytes}
 use Rattle.hv_bytes.specs.Standard.{most_line_bytes}
 use Rattle.hv_bytes.specs.declared.cutting.Limits.{Limits}
 use Rattle.hv_grammar.specs.Forms.{or_refused, short_decimal_of}
@@ -40,10 +40,10 @@ plan_line steps line = with_step steps (step_in line)
 abbrev pub plan_file : Parser (Unit {0}) (List ℕ)
 plan_file = many plan_line []
 
--- what is answered where this comes of the whole file; faults of the device and want of memory are
--- free here
+-- what is answered where this comes of the whole file; faults of the device and running out of
+-- memory are free here
 abbrev pub IsPlanRead : Outcome (Unit {0}) (List ℕ) → Result (List ℕ) PlanFault → Type 0
-IsPlanRead o (Ok steps) = (n : ℕ) × (ps : List Piece) × (o ≡ parsed steps n ps)
+IsPlanRead o (Ok steps) = (n : ℕ) × (ps : List PieceBytes) × (o ≡ parsed steps n ps)
 IsPlanRead o (Err (F.Place line)) = o ≡ refused line tt
 IsPlanRead o (Err (F.Limit line)) = o ≡ long line
 IsPlanRead o (Err F.ReadFault) = Unit {0}
@@ -62,6 +62,6 @@ plan_answer (parsed steps line rest) = Ok steps
 plan_answer (refused line bad) = Err (F.Place line)
 plan_answer (long line) = Err (F.Limit line)
 
--- the steps that the pieces of a plan file stand for, or its first fault
-abbrev pub plan_in : List Piece → Result (List ℕ) PlanFault
+-- the steps that the pieces of a plan file denote, or its first fault
+abbrev pub plan_in : List PieceBytes → Result (List ℕ) PlanFault
 plan_in pieces = plan_answer (plan_file 0 pieces)

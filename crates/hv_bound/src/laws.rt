@@ -1,7 +1,7 @@
 //! What a cost bound comes to, and what a plan file, as contracts of functions that do nothing.
 
 ghost use Rattle.std.specs.Prelude.{ℕ, ◌<◌, ◌↔◌, List};
-ghost use Rattle.hv_bytes.specs.Pieces.{Piece};
+ghost use Rattle.hv_bytes.specs.Pieces.{PieceBytes};
 ghost use Rattle.hv_task.specs.Plan.{IsUnsolvable, Solves};
 ghost use Rattle.hv_bound.specs.Bounded.{bounded_task};
 ghost use Rattle.hv_bound.specs.Costs.{IsSolvable, IsSolvableWithin, cost_of_list};
@@ -23,7 +23,7 @@ pub fn laws_of_cost_bounds(task: &Task, most: u32)
 /// What comes of a plan file, in plain words: it is of one of three kinds, and each says what comes
 /// of it.
 pub fn laws_of_plan_files()
-    ensures kinds { (pieces : List Piece) → IsOneOfThree pieces }
+    ensures kinds { (pieces : List PieceBytes) → IsOneOfThree pieces }
     ensures steps { GivesSteps }
     ensures place { NamesPlace }
     ensures limit { NamesLimit }

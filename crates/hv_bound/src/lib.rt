@@ -2,15 +2,15 @@
 #![tactic(auto)]
 
 pub mod bound;
-pub mod checking;
 pub mod fault;
 pub mod laws;
+pub mod plan_check;
 pub mod plan_list;
 pub mod read;
 
 pub use bound::bounded;
-pub use checking::{PlanAnswer, check_plan};
 pub use fault::{BoundFault, PlanFault};
 pub use laws::{laws_of_cost_bounds, laws_of_plan_files};
+pub use plan_check::{PlanAnswer, check_plan};
 pub use plan_list::PlanList;
 pub use read::read_plan;

@@ -26,7 +26,7 @@ const MOST_BYTES: u64 = 8_388_608;
 pub fn read_plan<S: Shelf>(alloc: Global, shelf: &mut S, name: &str) -> Result<PlanList, PlanFault>
     requires { IsTrue (S.allows shelf.old name.now) }
 
-    // where the shelf tells what it holds
+    // where the source's bytes are known
     ensures read { IfSome (S.held shelf.old) (λ held.
         IsPlanRead (plan_file 0 (pieces_of plan_limits (bytes_of held name.now))) result) }
 

@@ -17,7 +17,7 @@ use Rattle.hv_bytes.proofs.DecimalTexts.{IsDecimal-digits, decimal_digit_at, dec
 use Rattle.hv_bytes.proofs.DecimalTexts.{digits_model}
 use Rattle.hv_bytes.proofs.LineFields.{cut_fields-at, cut_fields-last}
 
--- fewer than 18 digits leave room for one more
+-- fewer than 18 digits leave space for one more
 pub front_room : (bytes : List ℕ) (count : ℕ) → count ≤ length bytes → count < 18
     → AllDigits 10 (take count bytes) → digits_value 10 (take count bytes) < 10 ^ 17
 front_room bytes count within short digits =
@@ -89,7 +89,7 @@ first_space (b ∷ line) =
     (cases_eq b 32)
 
 module _ (line : List ℕ) (count : ℕ) (front : IsDigitFront line count) where
-  -- the front doesn't end before a decimal that the line begins with
+  -- the prefix doesn't end before a decimal that the line begins with
   front_long : (at n : ℕ) → at ≤ length line → IsDecimal (take at line) n → count < at → ⊥
   front_long at n within is less =
       let size = length-take-le at line within in
@@ -108,7 +108,7 @@ module _ (line : List ℕ) (count : ℕ) (front : IsDigitFront line count) where
       let here : get_or line at 0 ≡ 32 = cc in
       omega (arith, digit.0, digit.1)
 
-  -- where the first field is a decimal, the front is that field
+  -- where the first field is a decimal, the prefix is that field
   pub front_is : (n : ℕ) (later : List (List ℕ)) → n < 10 ^ 18
       → cut_fields line ≡ decimal n ∷ later
       → IsDecimal (take count line) n × (count < length line → get_or line count 0 ≡ 32)

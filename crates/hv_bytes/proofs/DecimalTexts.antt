@@ -78,7 +78,7 @@ pub decimal_unread : (bytes : List ℕ) (r : Option ℕ) → IfNone r (AllDigits
 decimal_unread bytes None h = λ n is. h (decimal_digits bytes n is)
 decimal_unread bytes (Some n) h = tt
 
--- fewer than 18 digits leave room for one more
+-- fewer than 18 digits leave space for one more
 pub digits_room : (bytes : List ℕ) (i : ℕ) → i < length bytes → length bytes ≤ 18
     → AllDigits 10 (take i bytes) → digits_value 10 (take i bytes) < 10 ^ 17
 digits_room bytes i l short digits = digits_value_short digits_model (take i bytes) 17 digits

@@ -30,7 +30,7 @@ some_held held empty is test none = let yes = test none in cc
 abbrev IsNoLf : ℕ → Type 0
 IsNoLf b = b ≢ 10
 
--- a front without an LF, of which this many bytes are already long, begins a long line
+-- a prefix without an LF, of which this many bytes are already long, begins a long line
 pub begins_long : (front more : List ℕ) (line_limit file_limit earlier : ℕ) → front ++ more ≢ []
     → IsClean front → IsLong line_limit file_limit earlier (length front)
     → BeginsLong (Some (front ++ more)) line_limit file_limit earlier

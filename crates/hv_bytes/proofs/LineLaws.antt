@@ -15,7 +15,7 @@ lines_step : (b : ℕ) (bytes : List ℕ) (t : Bool) → t ≡ eqb b 10 → b �
 lines_step b bytes true e h = absurd (h (eqb-true b 10 (sym e)))
 lines_step b bytes false e h = refl
 
--- a byte that is no LF stands in front of the first line
+-- a byte that is no LF is in front of the first line
 pub lines_of-cons : (b : ℕ) (bytes : List ℕ) → b ≢ 10
     → lines_of (b ∷ bytes) ≡ onto_first b (lines_of bytes)
 lines_of-cons b bytes h = lines_step b bytes (eqb b 10) refl h

@@ -15,7 +15,7 @@ use Rattle.hv_bytes.specs.FirstLine.{BeginsLong, FitsLimits, IsFirstLine, IsLong
 use Rattle.hv_bytes.specs.FirstLine.{TakesLine, last_byte}
 use Rattle.hv_bytes.specs.LineCuts.{lines_of}
 use Rattle.hv_bytes.specs.Working.LineCuts.{bytes_in}
-use Rattle.hv_bytes.specs.Pieces.{Piece, as_pieces, fits_limits, pieces_after, pieces_of}
+use Rattle.hv_bytes.specs.Pieces.{PieceBytes, as_pieces, fits_limits, pieces_after, pieces_of}
 use Rattle.hv_bytes.specs.Working.Pieces.{GaveLines}
 use Rattle.hv_bytes.specs.declared.cutting.Limits.{Limits}
 use Rattle.hv_bytes.proofs.LineLaws.{lines_of-first}
@@ -137,7 +137,7 @@ gave_long limits (Some file) (Some coming) given earlier gave long =
 -- the given lines are the first pieces, wherever the reader stops
 pub gave_front : (limits : Limits) (file coming : Option (List ℕ)) (given : List (List ℕ))
     (earlier : ℕ) → GaveLines limits file given coming earlier
-    → IfSome file (λ bytes. (rest : List Piece)
+    → IfSome file (λ bytes. (rest : List PieceBytes)
     × (pieces_of limits bytes ≡ as_pieces given ++ rest))
 gave_front limits None coming given earlier gave = tt
 gave_front limits (Some file) None given earlier gave = absurd gave

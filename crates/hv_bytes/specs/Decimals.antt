@@ -1,4 +1,4 @@
--- Decimals as they stand in a text.
+-- Decimals as they are in a text.
 use Rattle.std.specs.Prelude.{◌≡◌, ℕ, ◌<◌, ◌^◌, List, decimal}
 
 -- the bytes spell the number, in at most 18 digits and without a leading zero

@@ -2,7 +2,7 @@
 use Rattle.std.specs.Prelude.{◌≡◌, ℕ, List, [], Option, None, Some, unwrap_or, option_map, find}
 use Rattle.std.specs.Str.{bytes_eq}
 
--- what stands under each name: nothing where the name isn't held
+-- what is under each name: nothing where the name isn't held
 abbrev pub Names : Type 0
 Names = List ℕ → Option (List ℕ)
 
@@ -19,7 +19,7 @@ pub record File : Type 0 where
 abbrev pub held_of : List File → Names
 held_of files name = option_map (λ file. file.bytes) (find (λ file. bytes_eq file.name name) files)
 
--- after an open that succeeds the left bytes are those under the name, where told
+-- after an open that succeeds the left bytes are those under the name, where known
 abbrev pub Opens : Option Names → List ℕ → Option (List ℕ) → Type 0
 Opens None name left = Unit {0}
 Opens (Some held) name left = left ≡ Some (bytes_of held name)

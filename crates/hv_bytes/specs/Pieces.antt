@@ -6,8 +6,8 @@ use Rattle.hv_bytes.specs.LineCuts.{lines_of}
 use Rattle.hv_bytes.specs.declared.cutting.Limits.{Limits}
 
 -- a piece of a file: the bytes of a line without its LF, or none where the line is long
-abbrev pub Piece : Type 0
-Piece = Option (List ℕ)
+abbrev pub PieceBytes : Type 0
+PieceBytes = Option (List ℕ)
 
 -- whether a line of this length, after so many earlier bytes of the file, is within both limits
 abbrev pub fits_limits : Limits → ℕ → ℕ → Bool
@@ -16,7 +16,7 @@ fits_limits limits earlier length_of_line =
 
 -- the pieces that these lines are, after so many earlier bytes of the file: a file with a long line
 -- is read no further
-abbrev pub pieces_after : Limits → ℕ → List (List ℕ) → List Piece
+abbrev pub pieces_after : Limits → ℕ → List (List ℕ) → List PieceBytes
 pieces_after limits earlier [] = []
 pieces_after limits earlier (line ∷ lines) =
     if fits_limits limits earlier (length line)
@@ -24,9 +24,9 @@ pieces_after limits earlier (line ∷ lines) =
     else None ∷ []
 
 -- the pieces of a file
-abbrev pub pieces_of : Limits → List ℕ → List Piece
+abbrev pub pieces_of : Limits → List ℕ → List PieceBytes
 pieces_of limits file = pieces_after limits 0 (lines_of file)
 
 -- these lines as pieces, none of them long
-abbrev pub as_pieces : List (List ℕ) → List Piece
+abbrev pub as_pieces : List (List ℕ) → List PieceBytes
 as_pieces lines = map (λ line. Some line) lines

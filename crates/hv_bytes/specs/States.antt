@@ -67,8 +67,8 @@ no_lines limits = record {
   limits = limits;
 }
 
--- the bytes still to come, where the shelf tells what it has left: the held ones, then those on the
--- shelf; none once the input has ended
+-- the bytes still to come, where what the source has left is known: the held ones, then those on
+-- the shelf; none once the input has ended
 abbrev pub coming_of : LinesState → Option (List ℕ) → Option (List ℕ)
 coming_of state left = if state.ended then Some [] else prepend_known state.held left
 

@@ -21,7 +21,7 @@ fn buffer(alloc: Global) -> Result<Vec<u8>, AllocError>
     vec![in alloc; 0u8; BLOCK]
 }
 
-/// Copies the bytes over the front of the others.
+/// Copies the bytes over the prefix of the others.
 fn copy_front(into: &mut [u8], bytes: &[u8])
     requires { length bytes.now ≤ length into.old }
     ensures front { take (length bytes.now) into.new ≡ bytes.now }

@@ -85,8 +85,8 @@ fn take_part(
     }
 }
 
-/// Reads on to the end of the line of which these bytes are the front, and says how many bytes it
-/// has with its LF: none where there are no bytes and the input has ended. At a fault the front of
+/// Reads on to the end of the line of which these bytes are the prefix, and says how many bytes it
+/// has with its LF: none where there are no bytes and the input has ended. At a fault the prefix of
 /// what is read is still there.
 fn read_on<S: Shelf>(
     shelf: &mut S,

@@ -171,7 +171,7 @@ impl Lines {
     pub fn next<S: Shelf>(&mut self, shelf: &mut S) -> Result<Next, LineFault>
         requires { IsTrue self.old.live }
 
-        // where the shelf tells what is left, a line exactly where bytes are to come: the first of
+        // where what is left is known, a line exactly where bytes are to come: the first of
         // them
         ensures line { result ≡ Ok Next.Line → TakesLine
             (coming_of self.old (S.left shelf.old))

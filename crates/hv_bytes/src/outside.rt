@@ -16,7 +16,7 @@ pub struct Failed;
 
 /// A place that files are read from, one at a time.
 ///
-/// `held` tells what stands under each name, nothing where the name isn't held, and `left` the
+/// `held` tells what is under each name, nothing where the name isn't held, and `left` the
 /// bytes that are still to be read of the open file; a shelf over real files tells neither.
 /// `allows` says which names may be opened. `faults` counts the failed calls: it never falls, and
 /// it stays at its greatest value once there.
@@ -38,8 +38,8 @@ pub trait Shelf {
         ensures allows { allows self.new ≡ allows self.old }
         ensures cause { HasCause (faults self.old) (faults self.new) result };
 
-    /// Reads the next bytes of the open file into the front of `into`, and says how many: 0 exactly
-    /// at its end.
+    /// Reads the next bytes of the open file into the prefix of `into`, and says how many: 0
+    /// exactly at its end.
     fn read(&mut self, into: &mut [u8]) -> Result<usize, Failed>
         requires { 0 < length into.old }
         ensures bound { ReadsAtMost result into.new }
@@ -58,7 +58,7 @@ pub trait Sink {
 
     ghost faults: { Self → ℕ };
 
-    /// Takes some of the bytes from their front, and says how many. A device that takes none of
+    /// Takes some of the bytes from their prefix, and says how many. A device that takes none of
     /// them counts as a fault.
     fn write(&mut self, bytes: &[u8]) -> Result<usize, Failed>
         requires { 0 < length bytes.now }

@@ -94,7 +94,7 @@ fn digits_number(digits: &[u8]) -> Option<u64>
     Some(number)
 }
 
-/// Whether the bytes are as many as a decimal may have, and no zero stands before others.
+/// Whether the bytes are as many as a decimal may have, and no zero is before others.
 pub(crate) fn has_decimal_shape(bytes: &[u8]) -> bool
     ensures { IsTrue result ↔ HasDecimalShape bytes.now }
 {

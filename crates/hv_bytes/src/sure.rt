@@ -17,12 +17,12 @@ use std::marker::Model;
 
 /// A file in memory.
 #[derive(Drop)]
-struct Entry {
+struct MemoryFile {
     name: String,
     bytes: Vec<u8>,
 }
 
-impl Model for Entry {
+impl Model for MemoryFile {
     ghost use Rattle.std.specs.Prelude.{string_bytes};
     ghost use Rattle.hv_bytes.specs.Files.{File};
 
@@ -31,13 +31,13 @@ impl Model for Entry {
     ghost view = { λ e. record { name = string_bytes e.name; bytes = e.bytes.items } };
 }
 
-impl Entry {
-    fn new(alloc: Global, name: &str, bytes: &[u8]) -> Result<Entry, AllocError>
+impl MemoryFile {
+    fn new(alloc: Global, name: &str, bytes: &[u8]) -> Result<MemoryFile, AllocError>
         ensures { IfOk result (λ e. e ≡ record { name = name.now; bytes = bytes.now }) }
     {
         let name = String::from_str(alloc, name)?;
         let bytes = Vec::from_slice(alloc, bytes)?;
-        Ok(Entry { name, bytes })
+        Ok(MemoryFile { name, bytes })
     }
 
     fn has_name(&self, name: &str) -> bool
@@ -54,14 +54,14 @@ impl Entry {
 }
 
 /// The place of the first file of this name.
-fn found_at(entries: &[Entry], name: &str) -> Option<usize>
+fn found_at(entries: &[MemoryFile], name: &str) -> Option<usize>
     ensures { result ≡ position (λ file. bytes_eq file.name name.now) entries.now }
 {
     entries.iter().position(|entry| entry.has_name(name))
 }
 
 /// The place of the first file of this name, or the number of files.
-fn place_of(entries: &[Entry], name: &str) -> usize
+fn place_of(entries: &[MemoryFile], name: &str) -> usize
     ensures within { result ≤ length entries.now }
     ensures held { (result < length entries.now) ↔ IsSome (held_of entries.now name.now) }
     ensures bytes { bytes_at entries.now result ≡ bytes_of (held_of entries.now) name.now }
@@ -70,7 +70,7 @@ fn place_of(entries: &[Entry], name: &str) -> usize
 }
 
 /// What is left of the file at a place, from the byte `at`.
-fn rest_of(entries: &[Entry], place: usize, at: usize) -> &[u8]
+fn rest_of(entries: &[MemoryFile], place: usize, at: usize) -> &[u8]
     requires { at ≤ length (bytes_at entries.now place) }
     ensures rest { result.now ≡ drop at (bytes_at entries.now place) }
     ensures room { at + length result.now < 2 ^ 64 }
@@ -85,7 +85,7 @@ fn rest_of(entries: &[Entry], place: usize, at: usize) -> &[u8]
 #[derive(Drop)]
 pub struct SureShelf {
     alloc: Global,
-    entries: Vec<Entry>,
+    entries: Vec<MemoryFile>,
     place: usize,
     at: usize,
 }
@@ -131,7 +131,7 @@ impl SureShelf {
             → held_of self.new.files other ≡ held_of self.old.files other) }
         ensures err { OnErr result (self.new ≡ self.old) }
     {
-        let entry = Entry::new(self.alloc, name, bytes)?;
+        let entry = MemoryFile::new(self.alloc, name, bytes)?;
         self.entries.insert(0, entry)?;
         self.place += 1;
         Ok(())
@@ -144,7 +144,7 @@ impl SureShelf {
         place_of(&self.entries, name) < self.entries.len()
     }
 
-    /// Reads at most `step` bytes into the front of `into`, and says how many.
+    /// Reads at most `step` bytes into the prefix of `into`, and says how many.
     pub(crate) fn give(&mut self, into: &mut [u8], step: usize) -> usize
         ensures count { result ≡ min step (min (length into.old) (length self.old.left)) }
         ensures given { take result into.new ≡ take result self.old.left }

@@ -18,7 +18,7 @@ use Rattle.hv_lines.specs.declared.verdict.Verdict.{Verdict}
 use Rattle.hv_lines.specs.declared.verdict.Verdict.TheVariants as V
 use Rattle.hv_lines.proofs.Judging.{for_budget, for_offered, for_truth, good_basic}
 use Rattle.hv_lines.proofs.Reasons.{for_rule, for_shape, good_line}
-use Rattle.hv_checker.specs.Working.Heard.{IsBasicFault, IsLineFault, fault_by}
+use Rattle.hv_checker.specs.Working.PieceVerdicts.{IsBasicFault, IsLineFault, fault_by}
 
 -- a word is either that of a rule or that of a basic statement
 pub words_apart : (word : Word) → IsRuleWord word → IsBasicWord word → ⊥

@@ -1,9 +1,9 @@
 pub mod GoodLines
 pub mod OneJudgement
 mod PieceReasons
-mod Standing
+mod Checkers
 mod TwoVersions
 mod PieceBehind
 mod Told
 mod Faults
-pub mod Benches
+pub mod Judges

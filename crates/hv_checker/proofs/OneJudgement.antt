@@ -28,7 +28,7 @@ rest_of : {X : Type 0} → List X → List X
 rest_of [] = []
 rest_of (x ∷ xs) = xs
 
--- of two cuts of a list at an item, they are one, or the one is in the front of the other
+-- of two cuts of a list at an item, they are one, or the one is in the prefix of the other
 unfoldable pub Cuts : {X : Type 0} → List X → X → List X → X → Type 0
 Cuts {X} f b g c = ((f ≡ g) × (b ≡ c)) ⊎
     (((more : List X) × (f ≡ g ++ c ∷ more)) ⊎ ((more : List X) × (g ≡ f ++ b ∷ more)))

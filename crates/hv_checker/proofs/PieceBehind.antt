@@ -12,7 +12,7 @@ use Rattle.hv_lines.specs.declared.reason.Reason.{Reason}
 use Rattle.hv_lines.proofs.Reasons.{no_reason, reason_once}
 use Rattle.hv_lines.proofs.Versions.{none_last, skipped_as_is}
 use Rattle.hv_proof_text.proofs.LineFields.{skipped_apart}
-use Rattle.hv_checker.specs.Heard.{FeedsOn, IsSpelledBy}
+use Rattle.hv_checker.specs.PieceVerdicts.{IsFeedAnswer, IsSpelledBy}
 use Rattle.hv_checker.specs.Versions.{IsFedBehind, reason_behind}
 use Rattle.hv_checker.specs.declared.piece.Fed.{Fed}
 use Rattle.hv_checker.specs.declared.piece.Fed.TheVariants as F
@@ -63,7 +63,7 @@ module _ (setting : Setting) (lines : List Line) where
         ∙ as_it_is last (behind_plain piece))
 
   module _ (new : List Line) (piece : LineText) where
-    told_behind : (fed : Fed) → FeedsOn setting P.PastEnd lines new piece fed
+    told_behind : (fed : Fed) → IsFeedAnswer setting P.PastEnd lines new piece fed
         → IsFedBehind piece fed × (new ≡ lines)
     told_behind F.Marked (marked, same) = absurd (cc)
     told_behind F.Skipped (plain, quiet, same) = (quiet, same)
@@ -73,7 +73,7 @@ module _ (setting : Setting) (lines : List Line) where
     told_behind F.Stopped told = absurd told
 
     fed_behind : (fed : Fed) → IsFedBehind piece fed × (new ≡ lines)
-        → FeedsOn setting P.PastEnd lines new piece fed
+        → IsFeedAnswer setting P.PastEnd lines new piece fed
     fed_behind F.Marked told = absurd told.0
     fed_behind F.Skipped told = (refl, told.0, told.1)
     fed_behind F.Good told = absurd told.0
@@ -86,6 +86,6 @@ module _ (setting : Setting) (lines : List Line) where
     fed_behind F.Stopped told = absurd told.0
 
 pub piece_behind : (setting : Setting) (old new : List Line) (piece : LineText) (fed : Fed)
-    → FeedsOn setting P.PastEnd old new piece fed ↔ (IsFedBehind piece fed × (new ≡ old))
+    → IsFeedAnswer setting P.PastEnd old new piece fed ↔ (IsFedBehind piece fed × (new ≡ old))
 piece_behind setting old new piece fed =
     (told_behind setting old new piece fed, fed_behind setting old new piece fed)

@@ -11,9 +11,9 @@ use Rattle.hv_lines.specs.declared.line.Line.{Line}
 use Rattle.hv_lines.specs.declared.reason.Reason.{Reason}
 use Rattle.hv_lines.specs.declared.reason.Reason.TheVariants as R
 use Rattle.hv_lines.proofs.Reasons.{below_next, below_none}
-use Rattle.hv_checker.specs.Working.Heard.{IsHeard, IsJudgedLine}
-use Rattle.hv_checker.specs.declared.judge.Heard.{Heard}
-use Rattle.hv_checker.specs.declared.judge.Heard.TheVariants as H
+use Rattle.hv_checker.specs.Working.PieceVerdicts.{IsPieceVerdict, IsJudgedLine}
+use Rattle.hv_checker.specs.declared.piece_judge.PieceVerdict.{PieceVerdict}
+use Rattle.hv_checker.specs.declared.piece_judge.PieceVerdict.TheVariants as H
 use Rattle.hv_proof_text.proofs.LineFields.{one_line, skipped_apart}
 
 module _ (setting : Setting) (lines : List Line) where
@@ -65,8 +65,8 @@ module _ (setting : Setting) (lines : List Line) where
       )
 
       -- what is heard of the line is heard of the piece
-      pub line_heard : (heard : Heard) → IsJudgedLine setting lines line heard
-          → IsHeard setting lines (Some bytes) heard
+      pub line_heard : (heard : PieceVerdict) → IsJudgedLine setting lines line heard
+          → IsPieceVerdict setting lines (Some bytes) heard
       line_heard H.Skipped judged = absurd judged
       line_heard (H.Good good) judged = (
         subst (λ l. Spells l bytes) (sym judged.0) spells,

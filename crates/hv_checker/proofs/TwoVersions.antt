@@ -293,7 +293,7 @@ module _ (setting : Setting) where
     reason_is = x.reason_is;
   }
 
-  -- an item that isn't one of those at the end stands before them
+  -- an item that isn't one of those at the end is before them
   cut_before : (pieces quiet front rest : List LineText) (bad : LineText) → All IsPassedOver quiet
       → (IsPassedOver bad → ⊥) → pieces ++ quiet ≡ front ++ bad ∷ rest
       → (more : List LineText) × (pieces ≡ front ++ bad ∷ more)

@@ -1,6 +1,6 @@
 pub mod Texts
-pub mod Heard
+pub mod PieceVerdicts
 pub mod Stopping
-pub mod Stands
+pub mod Checkers
 pub mod Versions
 pub mod Working

@@ -1,3 +1,3 @@
 -- Definitions that no public contract cites: those of private contracts and of proofs.
-pub mod Heard
-pub mod Bench
+pub mod PieceVerdicts
+pub mod Judge

@@ -13,9 +13,9 @@ ghost use Rattle.hv_lines.specs.declared.part.Part.TheVariants as P;
 ghost use Rattle.hv_checker.specs.Stopping.{stop_after};
 ghost use Rattle.hv_checker.specs.declared.stop.Stop.TheVariants as S;
 
-use crate::judge::Bench;
 use crate::marks::{is_mark, judged_as, part_after};
 use crate::piece::{End, Fed, Piece};
+use crate::piece_judge::Judge;
 use crate::stop::Stop;
 use hv_bdd::Diagrams;
 use hv_lines::{Part, Reason, Statement, Table};
@@ -26,10 +26,11 @@ use std::marker::Model;
 
 /// Judges the lines of a proof one after another, for a task, the nodes of a node file and a
 /// budget. It keeps the accepted lines, the number of pieces that it was fed, the version of the
-/// proof and whether its line `end` was passed, and the refusal or want of memory that it met.
+/// proof and whether its line `end` was passed, and the refusal that it met, or that memory ran
+/// out.
 #[derive(Drop)]
 pub struct Checker<'a> {
-    bench: Bench<'a>,
+    judging: Judge<'a>,
     reader: LineReader,
     fed: u64,
     part: Part,
@@ -41,13 +42,13 @@ pub struct Checker<'a> {
 impl<'a> Model for Checker<'a> {
     ghost use Rattle.std.specs.Prelude.{◌≡◌, ◌≤◌, ◌^◌};
     ghost use Rattle.hv_lines.specs.declared.reason.Reason.TheVariants as R;
-    ghost use Rattle.hv_checker.specs.Stands.{CheckerState};
+    ghost use Rattle.hv_checker.specs.Checkers.{CheckerState};
 
     ghost Value = { CheckerState };
 
     ghost view = { λ c. record {
-      setting = c.bench.setting;
-      lines = c.bench.lines;
+      setting = c.judging.setting;
+      lines = c.judging.lines;
       fed = c.fed;
       part = c.part;
       stop = c.stop;
@@ -57,8 +58,8 @@ impl<'a> Model for Checker<'a> {
 }
 
 impl<'a> Checker<'a> {
-    ghost use Rattle.hv_checker.specs.Heard.{FeedsOn};
-    ghost use Rattle.hv_checker.specs.Stands.{SaysEnd, SaysAtEnd, Stands, refusal_of};
+    ghost use Rattle.hv_checker.specs.PieceVerdicts.{IsFeedAnswer};
+    ghost use Rattle.hv_checker.specs.Checkers.{SaysEnd, SaysAtEnd, HasJudged, refusal_of};
     ghost use Rattle.hv_checker.specs.Texts.{text_of};
 
     /// A checker that was fed nothing. The diagrams are over the atoms of the task. The budget
@@ -77,10 +78,10 @@ impl<'a> Checker<'a> {
         ensures fed { IfOk result (λ c. c.fed ≡ 0) }
         ensures part { IfOk result (λ c. c.part ≡ P.AtStart) }
         ensures stop { IfOk result (λ c. c.stop ≡ S.Going) }
-        ensures stands { IfOk result (λ c. Stands c []) }
+        ensures stands { IfOk result (λ c. HasJudged c []) }
     {
         Ok(Checker {
-            bench: Bench::new(alloc, task, diagrams, budget)?,
+            judging: Judge::new(alloc, task, diagrams, budget)?,
             reader: LineReader::new(alloc),
             fed: 0,
             part: Part::AtStart,
@@ -99,13 +100,13 @@ impl<'a> Checker<'a> {
 
     /// Judges one more piece. The marks of a closed proof are its line 1 `helve 2` and its first
     /// line `end` behind that; behind this one only empty lines and comments may come. After a
-    /// refusal and after want of memory the accepted lines are as before the call, and every later
-    /// piece is answered by `Stopped`.
+    /// refusal and after running out of memory the accepted lines are as before the call, and every
+    /// later piece is answered by `Stopped`.
     pub fn feed(&mut self, piece: Piece<'_>) -> Result<Fed, AllocError>
         requires { self.old.fed < 2 ^ 62 }
         ensures same { self.new.setting ≡ self.old.setting }
         ensures answers { self.old.stop ≡ S.Going → IfOk result (λ fed.
-            FeedsOn self.old.setting self.old.part self.old.lines self.new.lines
+            IsFeedAnswer self.old.setting self.old.part self.old.lines self.new.lines
             (text_of piece.entry) fed) }
         ensures part { self.old.stop ≡ S.Going
             → self.new.part ≡ part_after self.old.part (text_of piece.entry) }
@@ -116,8 +117,8 @@ impl<'a> Checker<'a> {
         ensures few { self.new.fed ≤ self.old.fed + 1 }
         ensures memory { OnErr result (self.new.stop ≡ S.Memory) }
         ensures lines { OnErr result (self.new.lines ≡ self.old.lines) }
-        ensures stands { OnOk result ((pieces : List LineText) → Stands self.old pieces
-            → Stands self.new (pieces ++ text_of piece.entry ∷ [])) }
+        ensures stands { OnOk result ((pieces : List LineText) → HasJudged self.old pieces
+            → HasJudged self.new (pieces ++ text_of piece.entry ∷ [])) }
     {
         if !is_going(&self.stop) {
             return Ok(Fed::Stopped);
@@ -128,7 +129,10 @@ impl<'a> Checker<'a> {
         if is_mark(part, piece) {
             return Ok(Fed::Marked);
         }
-        match self.bench.accept(&mut self.reader, judged_as(part, piece)) {
+        match self
+            .judging
+            .accept(&mut self.reader, judged_as(part, piece))
+        {
             Ok(outcome) => {
                 self.stop = outcome.stop;
                 Ok(outcome.fed)
@@ -143,7 +147,7 @@ impl<'a> Checker<'a> {
     /// What is said of the pieces fed so far as a whole proof. While a closed proof has no line
     /// `end` and nothing was refused, it is refused at the next piece, as no line of a proof.
     pub fn end(&self) -> End
-        ensures judged { (pieces : List LineText) → Stands self.now pieces
+        ensures judged { (pieces : List LineText) → HasJudged self.now pieces
             → SaysEnd self.now pieces result }
         ensures says { SaysAtEnd self.now result }
         ensures sound { result ≡ End.Unsolvable → IsUnsolvable self.now.setting.task }
@@ -154,7 +158,7 @@ impl<'a> Checker<'a> {
             Stop::Going => {
                 if is_before_end(self.part) {
                     End::Refused(self.fed + 1)
-                } else if concludes(self.bench.table()) {
+                } else if concludes(self.judging.table()) {
                     End::Unsolvable
                 } else {
                     End::NoConclusion
@@ -181,7 +185,7 @@ impl<'a> Checker<'a> {
         ensures sound { AllTrue self.now.setting.task self.now.setting.nodes self.now.lines }
         ensures each { AreTrue self.now.setting.task self.now.setting.nodes self.now.lines }
     {
-        self.bench.table()
+        self.judging.table()
     }
 }
 

@@ -9,7 +9,7 @@ ghost use Rattle.hv_lines.specs.Versions.{first_mark, last_mark, part_of};
 ghost use Rattle.hv_lines.specs.declared.line.Line.{Line};
 ghost use Rattle.hv_lines.specs.declared.part.Part.TheVariants as P;
 ghost use Rattle.hv_lines.specs.declared.reason.Reason.TheVariants as R;
-ghost use Rattle.hv_checker.specs.Heard.{FeedsOn};
+ghost use Rattle.hv_checker.specs.PieceVerdicts.{IsFeedAnswer};
 ghost use Rattle.hv_checker.specs.Versions.{IsFedBehind, JudgedUpTo, NoneEnds, proof_version};
 ghost use Rattle.hv_checker.specs.Versions.{reason_behind};
 ghost use Rattle.hv_checker.specs.declared.piece.Fed.{Fed};
@@ -60,5 +60,5 @@ pub fn two_versions()
 /// a proof, and for no other reason. The accepted lines stay as they are.
 pub fn one_piece_behind()
     ensures { (setting : Setting) (old new : List Line) (piece : LineText) (fed : Fed)
-        → FeedsOn setting P.PastEnd old new piece fed ↔ (IsFedBehind piece fed × (new ≡ old)) }
+        → IsFeedAnswer setting P.PastEnd old new piece fed ↔ (IsFedBehind piece fed × (new ≡ old)) }
 {}

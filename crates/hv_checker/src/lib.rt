@@ -3,10 +3,10 @@
 
 pub mod checker;
 mod conditions;
-mod judge;
 pub mod laws;
 mod marks;
 pub mod piece;
+mod piece_judge;
 pub mod stop;
 
 pub use checker::Checker;

@@ -23,7 +23,7 @@ pub enum Fed {
     Good,
     /// The line isn't good, for this reason. Every later piece is answered by `Stopped`.
     Refused(Reason),
-    /// An earlier piece was refused or met want of memory; nothing was done.
+    /// An earlier piece was refused or ran out of memory; nothing was done.
     Stopped,
 }
 
@@ -37,6 +37,6 @@ pub enum End {
     Refused(u64),
     /// Every line is good, and none says that the task is unsolvable.
     NoConclusion,
-    /// A piece met want of memory.
+    /// A piece ran out of memory.
     Memory,
 }

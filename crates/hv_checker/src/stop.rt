@@ -5,10 +5,10 @@ use hv_lines::Reason;
 /// Whether a checker goes on.
 #[derive(Drop, PartialEq, Eq)]
 pub enum Stop {
-    /// No piece was refused, and no want of memory was met.
+    /// No piece was refused, and memory didn't run out.
     Going,
     /// The last piece that was counted was refused.
     Refused(Reason),
-    /// The last piece that was counted met want of memory.
+    /// The last piece that was counted ran out of memory.
     Memory,
 }

@@ -9,7 +9,7 @@ use Rattle.hv_task.specs.State.{has_atom}
 use Rattle.hv_sets.specs.declared.literal.Literal.{Literal}
 use Rattle.hv_sets.specs.Truth.{in_clauses, in_cube, in_literal}
 use Rattle.hv_sets.specs.Walks.{Meets}
-use Rattle.hv_clauses.specs.Clausal.{Formula, in_formula}
+use Rattle.hv_clauses.specs.Clausal.{FormulaState, in_formula}
 use Rattle.hv_clauses.specs.Marks.{known, over}
 use Rattle.hv_clauses.specs.Working.Asking.{FollowsFrom, FollowsFromEach, IsAskedAlong, IsTakenUp}
 use Rattle.hv_clauses.specs.Working.Asking.{knowledge_upto}
@@ -67,7 +67,7 @@ module _ (Met : List Bool → Type 0) (Left : Knowledge → ℕ → Type 0) wher
       → knowledge_upto new p ≡ knowledge_upto k p
   upto_grown k new p g h =
       ap₂ (λ (b : List ℕ) (ls : List Literal). let r : Knowledge = record
-      { base = b; trail = ls } in r) g.base
+      { roots = b; trail = ls } in r) g.roots
       (ap (take p) g.more.1 ∙ take-append-le p k.trail g.more.0 h)
 
   -- one literal more
@@ -114,18 +114,18 @@ module _ (Met : List Bool → Type 0) (Left : Knowledge → ℕ → Type 0) wher
           follows = λ s size met inside.
               let both = and_parts (in_cube literals s) (in_literal l s)
               (sym (in_push literals l s) ∙ inside) in
-              let long = size ∙ ap length t.grown.base in
+              let long = size ∙ ap length t.grown.roots in
               t.follows s long met (here.follows s long met both.0) both.1;
           has = λ s size agrees.
               in_push literals l s
-              ∙ ap₂ (λ a b. a && b) (here.has s (size ∙ ap length t.grown.base)
+              ∙ ap₂ (λ a b. a && b) (here.has s (size ∙ ap length t.grown.roots)
               (agrees_extends (marks_of k) (marks_of new) s t.grown.grows agrees))
               (literal_from l s (agrees l.atom l.positive (t.has yes)));
         });
         none = λ is s size met inside.
             let both = and_parts (in_cube literals s) (in_literal l s)
             (sym (in_push literals l s) ∙ inside) in
-            let long = size ∙ ap length t.grown.base in
+            let long = size ∙ ap length t.grown.roots in
             t.none (not-true result is) s long met (here.follows s long met both.0) both.1;
       }
 
@@ -159,7 +159,7 @@ module _ (Met : List Bool → Type 0) (Left : Knowledge → ℕ → Type 0) wher
             let up = c.rises i depth (omega (arith, early, size_p)) end in
             let now : knowledge_upto (knowledge_upto k (get_or points depth 0)) (get_or points i 0)
             ≡ knowledge_upto k (get_or points i 0) =
-            ap (λ (ls : List Literal). let r : Knowledge = record { base = k.base; trail = ls } in
+            ap (λ (ls : List Literal). let r : Knowledge = record { roots = k.roots; trail = ls } in
             r) (take-take (get_or points i 0) (get_or points depth 0) k.trail up) in
             subst (λ x. FollowsFrom Met Left (knowledge_upto
             (knowledge_upto k (get_or points depth 0)) x) (take i (take depth literals)))
@@ -173,9 +173,9 @@ module _ (Met : List Bool → Type 0) (Left : Knowledge → ℕ → Type 0) wher
       }
 
   -- a literal of whose atom nothing was known
-  pub taken_open : (k mid new : Knowledge) (l : Literal) (result : Bool) → l.atom < length k.base
+  pub taken_open : (k mid new : Knowledge) (l : Literal) (result : Bool) → l.atom < length k.roots
       → known (marks_of k) l.atom ≡ None
-      → mid ≡ record { base = k.base; trail = k.trail ++ l ∷ [] } → IsFollowed Met mid new result
+      → mid ≡ record { roots = k.roots; trail = k.trail ++ l ∷ [] } → IsFollowed Met mid new result
       → (result ≡ true → Left new (length new.trail))
       → IsTakenUp Met Left k new l result
   taken_open k mid new l result below nothing e followed left =
@@ -191,15 +191,16 @@ module _ (Met : List Bool → Type 0) (Left : Knowledge → ℕ → Type 0) wher
       record {
         grown = grows_then k mid new grown (grown_by Met mid new result followed);
         left = left;
-        follows = λ s size met agrees is. followed.follows s (size ∙ sym (ap length grown.base)) met
+        follows = λ s size met agrees is. followed.follows s (size ∙ sym (ap length grown.roots))
+            met
             (agrees_mid s agrees is);
         has = λ _. followed.grows l.atom l.positive marked.here;
-        none = λ no s size met agrees is. followed.broken no s (size ∙ sym (ap length grown.base))
+        none = λ no s size met agrees is. followed.broken no s (size ∙ sym (ap length grown.roots))
             met (agrees_mid s agrees is);
       }
 
 -- A question about a formula.
-module _ (f : Formula) where
+module _ (f : FormulaState) where
   pub asked_more : (clauses : List (List Literal)) (k new : Knowledge) (literals : List Literal)
       (points : List ℕ) (l : Literal) (result : Bool)
       → clauses ≡ f.clauses → IsAskedAlong f k literals points false
@@ -210,7 +211,7 @@ module _ (f : Formula) where
       let taken = subst (λ cs. IsTakenUp (λ state. in_clauses cs (over [] state) ≡ true)
       (AreKept [] cs) k new l result) same t in
       record {
-        size = ap length taken.grown.base ∙ a.size;
+        size = ap length taken.grown.roots ∙ a.size;
         each = each_more (λ state. in_clauses f.clauses (over [] state) ≡ true)
             (AreKept [] f.clauses) k new literals points l result a.each taken;
       }
@@ -264,14 +265,14 @@ module _ (f : Formula) where
       (ap (in_clauses f.clauses) (over-nil state) ∙ holds))
 
   -- where nothing is assumed yet
-  pub asked_first : (k : Knowledge) (base : List Literal) (refuted : Bool)
-      → k ≡ record { base = marked f.atoms base; trail = [] }
+  pub asked_first : (k : Knowledge) (roots : List Literal) (refuted : Bool)
+      → k ≡ record { roots = marked f.atoms roots; trail = [] }
       → (refuted ≡ true → AreNever f.atoms f.clauses)
-      → (refuted ≡ false → AreForced f.atoms f.clauses base)
+      → (refuted ≡ false → AreForced f.atoms f.clauses roots)
       → IsAskedAlong f k [] [] refuted
-  asked_first k base refuted is never forced =
+  asked_first k roots refuted is never forced =
       subst (λ (m : Knowledge). IsAskedAlong f m [] [] refuted) (sym is)
-      (let wide = length-marked f.atoms base in
+      (let wide = length-marked f.atoms roots in
       record {
         size = wide;
         each = record {
@@ -280,7 +281,7 @@ module _ (f : Formula) where
           within = λ i less. absurd (omega (arith, less));
           before = λ i less. absurd (omega (arith, less));
           here = λ no. (let all = forced no in record {
-            left = kept_settled [] f.clauses (record { base = marked f.atoms base; trail = [] }) 0
+            left = kept_settled [] f.clauses (record { roots = marked f.atoms roots; trail = [] }) 0
                 all.settled;
             follows = λ state size holds inside. all.follows state (size ∙ wide)
                 (ap (in_clauses f.clauses) (sym (over-nil state)) ∙ holds);

@@ -135,16 +135,16 @@ settled_on e m more clause apart settled =
 
 -- what was kept is kept while the trail grows
 pub kept_on : (e : List ℕ) (clause : List Literal) (old new : Knowledge) (from : ℕ)
-    → new.base ≡ old.base
+    → new.roots ≡ old.roots
     → ((more : List Literal) × (new.trail ≡ old.trail ++ more)) → from ≤ length old.trail
     → IsKept e clause old from → IsKept e clause new from
-kept_on e clause old new from base grown h kept = λ apart.
+kept_on e clause old new from roots grown h kept = λ apart.
     let more = grown.0 in
     let split : drop from new.trail ≡ drop from old.trail ++ more = ap (drop from) grown.1
     ∙ drop-append-le from old.trail more h in
     let marks : marks_of new ≡ written more (marks_of old) =
-    ap (λ b. written new.trail b) base
-    ∙ (ap (λ ls. written ls old.base) grown.1 ∙ written-append old.trail more old.base) in
+    ap (λ b. written new.trail b) roots
+    ∙ (ap (λ ls. written ls old.roots) grown.1 ∙ written-append old.trail more old.roots) in
     subst (λ m. IsSettled e m clause) (sym marks)
     (settled_on e (marks_of old) more clause
     (λ x l at has same. apart x
@@ -222,7 +222,7 @@ settled_end e clauses m from h kept = λ k d less.
 -- parts of what follows, joined
 pub followed_none : (Holds : List Bool → Type 0) (k : Knowledge) → IsFollowed Holds k k true
 followed_none Holds k = record {
-  base = refl;
+  roots = refl;
   more = ([], sym (append-nil k.trail));
   grows = extends_same (marks_of k);
   follows = λ state size holds agrees. agrees;
@@ -230,10 +230,10 @@ followed_none Holds k = record {
 }
 
 pub followed_then : (P Q : List Bool → Type 0) (a b c : Knowledge) (result : Bool)
-    → ((state : List Bool) → length state ≡ length a.base → P state → Q state)
+    → ((state : List Bool) → length state ≡ length a.roots → P state → Q state)
     → IsFollowed P a b true → IsFollowed Q b c result → IsFollowed P a c result
 followed_then P Q a b c result weaker first second = record {
-  base = second.base ∙ first.base;
+  roots = second.roots ∙ first.roots;
   more = (
     first.more.0 ++ second.more.0,
     second.more.1 ∙ (ap (λ ls. ls ++ second.more.0) first.more.1
@@ -241,10 +241,10 @@ followed_then P Q a b c result weaker first second = record {
   );
   grows = extends_then (marks_of a) (marks_of b) (marks_of c) first.grows second.grows;
   follows = λ state size holds agrees.
-      second.follows state (size ∙ sym (ap length first.base)) (weaker state size holds)
+      second.follows state (size ∙ sym (ap length first.roots)) (weaker state size holds)
       (first.follows state size holds agrees);
   broken = λ is state size holds agrees.
-      second.broken is state (size ∙ sym (ap length first.base)) (weaker state size holds)
+      second.broken is state (size ∙ sym (ap length first.roots)) (weaker state size holds)
       (first.follows state size holds agrees);
 }
 
@@ -257,14 +257,14 @@ true_at e clauses place less state holds = list_all_get
     (λ c. in_clause c (over e state)) clauses place [] holds less
 
 -- single steps
-pub marked_more : (k : Knowledge) (l : Literal) → l.atom < length k.base
-    → IsMarked l (marks_of k) (marks_of (record { base = k.base; trail = k.trail ++ l ∷ [] }))
+pub marked_more : (k : Knowledge) (l : Literal) → l.atom < length k.roots
+    → IsMarked l (marks_of k) (marks_of (record { roots = k.roots; trail = k.trail ++ l ∷ [] }))
 marked_more k l h =
     let size = length-marks k in
-    let more : marks_of (record { base = k.base; trail = k.trail ++ l ∷ [] })
+    let more : marks_of (record { roots = k.roots; trail = k.trail ++ l ∷ [] })
     ≡ slice_set (marks_of k) l.atom (mark_for l.positive) =
-    written-push k.trail l k.base in
-    let wide = length-marks (record { base = k.base; trail = k.trail ++ l ∷ [] }) in
+    written-push k.trail l k.roots in
+    let wide = length-marks (record { roots = k.roots; trail = k.trail ++ l ∷ [] }) in
     record {
       size = wide ∙ sym size;
       here = ap (λ m. known m l.atom) more ∙ known-set_same (marks_of k) l.atom l.positive
@@ -274,26 +274,26 @@ marked_more k l h =
     }
 
 pub step_followed : (e : List ℕ) (k : Knowledge) (l : Literal) (clause : List Literal)
-    → SpeakBelow (length k.base) clause → Contains clause l
+    → SpeakBelow (length k.roots) clause → Contains clause l
     → value_of e (marks_of k) l ≡ None → All
     (λ c. (c ≡ l) ⊎ (value_of e (marks_of k) c ≡ Some false)) clause
     → IsFollowed (λ s. in_clause clause (over e s) ≡ true) k
-    (record { base = k.base; trail = k.trail ++ l ∷ [] }) true
+    (record { roots = k.roots; trail = k.trail ++ l ∷ [] }) true
 step_followed e k l clause below has nothing all =
     let size = length-marks k in
-    let within : l.atom < length k.base = All-contains
-    (λ c. c.atom < length k.base) clause l below has in
-    let new : Knowledge = record { base = k.base; trail = k.trail ++ l ∷ [] } in
+    let within : l.atom < length k.roots = All-contains
+    (λ c. c.atom < length k.roots) clause l below has in
+    let new : Knowledge = record { roots = k.roots; trail = k.trail ++ l ∷ [] } in
     let more = marked_more k l within in
     record {
-      base = refl;
+      roots = refl;
       more = (l ∷ [], refl);
       grows = grows_write e (marks_of k) l (marks_of new) nothing more;
       follows = λ state is holds agrees.
           let some = Any-from_list_any (λ c. in_literal c (over e state)) clause holds in
           let at : Contains clause some.1 = (some.0, some.2, some.3) in
-          let low : some.1.atom < length k.base = All-contains
-          (λ c. c.atom < length k.base) clause some.1 below at in
+          let low : some.1.atom < length k.roots = All-contains
+          (λ c. c.atom < length k.roots) clause some.1 below at in
           elim (All-contains (λ c. (c ≡ l) ⊎ (value_of e (marks_of k) c ≡ Some false)) clause some.1
           all at) [
             | inl same ↦
@@ -307,12 +307,12 @@ step_followed e k l clause below has nothing all =
     }
 
 pub step_settled : (e : List ℕ) (k : Knowledge) (l : Literal) (clause : List Literal)
-    → SpeakBelow (length k.base) clause → Contains clause l
+    → SpeakBelow (length k.roots) clause → Contains clause l
     → value_of e (marks_of k) l ≡ None → IsSettled e
-    (marks_of (record { base = k.base; trail = k.trail ++ l ∷ [] })) clause
+    (marks_of (record { roots = k.roots; trail = k.trail ++ l ∷ [] })) clause
 step_settled e k l clause below has nothing =
-    let within : l.atom < length k.base = All-contains
-    (λ c. c.atom < length k.base) clause l below has in
+    let within : l.atom < length k.roots = All-contains
+    (λ c. c.atom < length k.roots) clause l below has in
     inl (
       l,
       has,
@@ -321,10 +321,10 @@ step_settled e k l clause below has nothing =
     )
 
 pub broken_followed : (e : List ℕ) (k : Knowledge) (clause : List Literal)
-    → SpeakBelow (length k.base) clause → AreFalse e clause (marks_of k)
+    → SpeakBelow (length k.roots) clause → AreFalse e clause (marks_of k)
     → IsFollowed (λ s. in_clause clause (over e s) ≡ true) k k false
 broken_followed e k clause below all = record {
-  base = refl;
+  roots = refl;
   more = ([], sym (append-nil k.trail));
   grows = extends_same (marks_of k);
   follows = λ state is holds agrees. agrees;
@@ -378,20 +378,20 @@ pub kept_grown : (e : List ℕ) (clauses : List (List Literal)) (old new : Knowl
     → Grows old new → from ≤ length old.trail
     → AreKept e clauses old from → AreKept e clauses new from
 kept_grown e clauses old new from grown h kept = λ place less.
-    kept_on e (clause_at clauses place) old new from grown.base grown.more h (kept place less)
+    kept_on e (clause_at clauses place) old new from grown.roots grown.more h (kept place less)
 
 -- a trial that is taken back
 pub undone_same : (old mid new : Knowledge) → Grows old mid
-    → new ≡ record { base = mid.base; trail = take (length old.trail) mid.trail } → new ≡ old
+    → new ≡ record { roots = mid.roots; trail = take (length old.trail) mid.trail } → new ≡ old
 undone_same old mid new grown e =
     e ∙ ap₂ (λ (b : List ℕ) (ls : List Literal). let k : Knowledge = record
-    { base = b; trail = ls } in k) grown.base
+    { roots = b; trail = ls } in k) grown.roots
     (ap (take (length old.trail)) grown.more.1
     ∙ take_at old.trail grown.more.0 (length old.trail) refl)
 
 pub grows_then : (a b c : Knowledge) → Grows a b → Grows b c → Grows a c
 grows_then a b c first second = record {
-  base = second.base ∙ first.base;
+  roots = second.roots ∙ first.roots;
   more = (
     first.more.0 ++ second.more.0,
     second.more.1 ∙ (ap (λ ls. ls ++ second.more.0) first.more.1
@@ -402,35 +402,35 @@ grows_then a b c first second = record {
 
 pub grows_same : (k : Knowledge) → Grows k k
 grows_same k = record {
-  base = refl;
+  roots = refl;
   more = ([], sym (append-nil k.trail));
   grows = extends_same
       (marks_of k);
 }
 
 -- one literal more
-pub grown_more : (k : Knowledge) (l : Literal) → l.atom < length k.base
+pub grown_more : (k : Knowledge) (l : Literal) → l.atom < length k.roots
     → known (marks_of k) l.atom ≡ None
-    → Grows k (record { base = k.base; trail = k.trail ++ l ∷ [] })
+    → Grows k (record { roots = k.roots; trail = k.trail ++ l ∷ [] })
 grown_more k l less none = record {
-  base = refl;
+  roots = refl;
   more = (l ∷ [], refl);
   grows = extends_write (marks_of k) (marks_of
-      (record { base = k.base; trail = k.trail ++ l ∷ [] })) l.atom none
+      (record { roots = k.roots; trail = k.trail ++ l ∷ [] })) l.atom none
       (marked_more k l less).others;
 }
 
 pub grown_by : (P : List Bool → Type 0) (old new : Knowledge) (result : Bool)
     → IsFollowed P old new result → Grows old new
 grown_by P old new result followed = record
-    { base = followed.base; more = followed.more; grows = followed.grows }
+    { roots = followed.roots; more = followed.more; grows = followed.grows }
 
 -- the same under other words
 pub followed_same : (P Q : List Bool → Type 0) (old new : Knowledge) (result : Bool)
-    → ((state : List Bool) → length state ≡ length old.base → Q state → P state)
+    → ((state : List Bool) → length state ≡ length old.roots → Q state → P state)
     → IsFollowed P old new result → IsFollowed Q old new result
 followed_same P Q old new result back one = record {
-  base = one.base;
+  roots = one.roots;
   more = one.more;
   grows = one.grows;
   follows = λ state size holds agrees. one.follows state size (back state size holds) agrees;

@@ -18,10 +18,11 @@ use Rattle.hv_clauses.specs.declared.completion.Completion.{Completion}
 use Rattle.hv_clauses.specs.Kinded.{CompletesClauses, IsShort}
 use Rattle.hv_clauses.specs.Working.Clausal.{Completes}
 use Rattle.hv_clauses.specs.Working.Completion.{IsCompleted}
-use Rattle.hv_clauses.specs.Working.Found.{IsBase, IsMet}
+use Rattle.hv_clauses.specs.Working.Found.{AreRoots, IsMet}
 use Rattle.hv_clauses.specs.Working.Marks.{Agrees}
 use Rattle.hv_clauses.specs.Working.Kinded.{IsKinded}
-use Rattle.hv_clauses.specs.Working.Posed.{InEach, IsPosed, Problem, choices, formulas, size_in}
+use Rattle.hv_clauses.specs.Working.Posed.{InEach, IsPosed, ProblemState, choices, formulas}
+use Rattle.hv_clauses.specs.Working.Posed.{size_in}
 use Rattle.hv_clauses.specs.Working.Posed.{sizes, width}
 use Rattle.hv_clauses.specs.Working.Problem.{AreEachSettled, AreMissed, FitsChoice, MissesAll}
 use Rattle.hv_clauses.specs.Working.Units.{IsConcluded}
@@ -47,7 +48,7 @@ named_second count xs ys zs e all =
     (Contains-append_right xs ys (get_or ys k d) (Contains-get_or ys k d within)))
 
 -- what has clauses is named by the store
-pub named_some : (p : Problem) (which : Which) → 0 < size_in p which
+pub named_some : (p : ProblemState) (which : Which) → 0 < size_in p which
     → IsNamed (length p.store) which
 named_some p W.Empty some = tt
 named_some p W.Start some = tt
@@ -62,7 +63,7 @@ named_some p (W.Set number) some =
     ]
 
 -- so is a set of which a clause is named
-pub set_within : (p : Problem) (which : Which) (number place : ℕ) → which ≡ W.Set number
+pub set_within : (p : ProblemState) (which : Which) (number place : ℕ) → which ≡ W.Set number
     → place < size_in p which → number < length p.store
 set_within p which number place is less =
     subst (λ w. IsNamed (length p.store) w) is (named_some p which (omega arith))
@@ -73,56 +74,57 @@ digit_below rest count size is some =
     subst (λ n. rest % n < size) (sym is) (mod_below rest size some)
 
 -- where there are choices, each negative operand has clauses
-pub some_here : (p : Problem) (number : ℕ) → number < choices p → (os : List Operand)
+pub some_here : (p : ProblemState) (number : ℕ) → number < choices p → (os : List Operand)
     → os ≡ p.query.negative → (place : ℕ) (d : Operand) → place < length os
     → 0 < size_in p (get_or os place d).which
 some_here p number less os is place d within =
     subst (λ xs. All (λ o. 0 < size_in p o.which) xs) (sym is)
     (some_from_choices p.task (sizes p) p.query.negative (omega arith)) place d within
 
-module _ (p : Problem) where
-  module _ (number : ℕ) (base m1 : List ℕ) (is : IsBase p base) (wide : length base ≡ width p) where
-    agrees_base : (state : List Bool) → length state ≡ width p → FitsChoice p number state
-        → Agrees base state
-    agrees_base state size fits = is.follows state (size ∙ sym wide) fits.applies fits.inside
+module _ (p : ProblemState) where
+  module _ (number : ℕ) (roots m1 : List ℕ) (is : AreRoots p roots) (wide : length roots ≡ width p)
+    where
+      agrees_base : (state : List Bool) → length state ≡ width p → FitsChoice p number state
+          → Agrees roots state
+      agrees_base state size fits = is.follows state (size ∙ sym wide) fits.applies fits.inside
 
-    pub not_denied : (found : List Bool)
-        → IsConcluded (MissesAll p number) (AreMissed p number) base m1 false
-        → IsMet false (width p) (FitsChoice p number) found
-    not_denied found denied = λ state size fits.
-        denied.broken refl state (size ∙ sym wide) fits.outside (agrees_base state size fits)
+      pub not_denied : (found : List Bool)
+          → IsConcluded (MissesAll p number) (AreMissed p number) roots m1 false
+          → IsMet false (width p) (FitsChoice p number) found
+      not_denied found denied = λ state size fits.
+          denied.broken refl state (size ∙ sym wide) fits.outside (agrees_base state size fits)
 
-    module _ (denied : IsConcluded (MissesAll p number) (AreMissed p number) base m1 true)
-        (m2 : List ℕ) where
-      m1_wide : length m1 ≡ width p
-      m1_wide = denied.size ∙ wide
+      module _ (denied : IsConcluded (MissesAll p number) (AreMissed p number) roots m1 true)
+          (m2 : List ℕ) where
+        m1_wide : length m1 ≡ width p
+        m1_wide = denied.size ∙ wide
 
-      pub not_closed : (D : List ℕ → Type 0) (found : List Bool)
-          → IsConcluded (InEach p) D m1 m2 false → IsMet false (width p) (FitsChoice p number) found
-      not_closed D found closed = λ state size fits.
-          closed.broken refl state (size ∙ sym m1_wide) fits.inside
-          (denied.follows state (size ∙ sym wide) fits.outside (agrees_base state size fits))
+        pub not_closed : (D : List ℕ → Type 0) (found : List Bool)
+            → IsConcluded (InEach p) D m1 m2 false → IsMet false (width p) (FitsChoice p number) found
+        not_closed D found closed = λ state size fits.
+            closed.broken refl state (size ∙ sym m1_wide) fits.inside
+            (denied.follows state (size ∙ sym wide) fits.outside (agrees_base state size fits))
 
-      pub completed : (D : List ℕ → Type 0) (result : Bool) (built : List Bool)
-          → IsConcluded (InEach p) D m1 m2 true → length built ≡ width p
-          → length p.effect ≡ width p → IsCompleted (InEach p) m2 built result
-          → IsMet result (width p) (FitsChoice p number) built
-      completed D true built closed size e_wide one =
-          let agrees = (one.found refl).1 in
-          let m2_wide : length m2 ≡ width p = closed.size ∙ m1_wide in (
-            size,
-            record {
-              applies = is.enabled built (agrees_extends base m2 built
-                  (extends_then base m1 m2 denied.grows closed.grows) agrees);
-              inside = (one.found refl).0;
-              outside = breaks_known p.task (formulas p) p.effect p.query.negative number m2 built
-                  (omega (arith, e_wide, size)) (m2_wide ∙ sym size) agrees
-                  (chosen_false_extends p.task (formulas p) p.effect p.query.negative number m1 m2
-                  closed.grows (denied.done refl));
-            },
-          )
-      completed D false built closed size e_wide one = λ state long fits.
-          one.refuted refl state (long ∙ sym (closed.size ∙ m1_wide)) fits.inside
+        pub completed : (D : List ℕ → Type 0) (result : Bool) (built : List Bool)
+            → IsConcluded (InEach p) D m1 m2 true → length built ≡ width p
+            → length p.effect ≡ width p → IsCompleted (InEach p) m2 built result
+            → IsMet result (width p) (FitsChoice p number) built
+        completed D true built closed size e_wide one =
+            let agrees = (one.found refl).1 in
+            let m2_wide : length m2 ≡ width p = closed.size ∙ m1_wide in (
+              size,
+              record {
+                applies = is.enabled built (agrees_extends roots m2 built
+                    (extends_then roots m1 m2 denied.grows closed.grows) agrees);
+                inside = (one.found refl).0;
+                outside = breaks_known p.task (formulas p) p.effect p.query.negative number m2 built
+                    (omega (arith, e_wide, size)) (m2_wide ∙ sym size) agrees
+                    (chosen_false_extends p.task (formulas p) p.effect p.query.negative number m1 m2
+                    closed.grows (denied.done refl));
+              },
+            )
+        completed D false built closed size e_wide one = λ state long fits.
+            one.refuted refl state (long ∙ sym (closed.size ∙ m1_wide)) fits.inside
 
   -- the positive operands can be completed
   pub positive_completes : (how : Completion) (IsOf : List Literal → Type 0)

@@ -15,11 +15,11 @@ use Rattle.hv_clauses.specs.Clausal.{sizes_of}
 use Rattle.hv_clauses.specs.Working.Choices.{AreChosenFalse, Breaks}
 use Rattle.hv_clauses.specs.Working.Clausal.{clauses_in}
 use Rattle.hv_clauses.specs.Working.Completion.{IsCompleted}
-use Rattle.hv_clauses.specs.Working.Found.{IsBased, IsMet}
+use Rattle.hv_clauses.specs.Working.Found.{AreFollowedRoots, IsMet}
 use Rattle.hv_clauses.specs.Working.Front.{AreRefuted, FitsFrom, IsAdvanced, IsFront, IsNever}
 use Rattle.hv_clauses.specs.Working.Front.{block_end, block_length}
 use Rattle.hv_clauses.specs.Working.Marks.{Agrees}
-use Rattle.hv_clauses.specs.Working.Posed.{InEach, Problem, choices, formulas, size_in}
+use Rattle.hv_clauses.specs.Working.Posed.{InEach, ProblemState, choices, formulas, size_in}
 use Rattle.hv_clauses.specs.Working.Posed.{sizes, width}
 use Rattle.hv_clauses.specs.Working.Problem.{AreLeft, FitsChoice, IsMissed, MissesClause}
 use Rattle.hv_clauses.specs.Working.Trail.{Grows, Knowledge, marks_of}
@@ -50,7 +50,7 @@ module _ (task : Strips) (formulas : ℕ → List (List Literal)) where
       ∙ (div-div-eq-div-mul number size rest
       ∙ ap (λ c. number / (c * rest)) (sym (clauses_of_is task formulas o.which)))
 
-module _ (p : Problem) where
+module _ (p : ProblemState) where
   -- what fits a choice fits its clauses of the operands from a place on
   pub fits_from : (place number : ℕ) (state : List Bool) → FitsChoice p number state
       → FitsFrom p place (number / choices_of p.task (sizes p) (take place p.query.negative)) state
@@ -105,7 +105,7 @@ module _ (p : Problem) where
           → Agrees (marks_of new) state) → IsMissed p o digit (marks_of new)
           → AreLeft p new (length new.trail) → IsFront p place rest new
       front_more new grown follows false_now left = record {
-        wide = ap length grown.base ∙ front.wide;
+        wide = ap length grown.roots ∙ front.wide;
         follows = λ state size fits.
             let parts = fits_parts state fits in
             follows state size fits.inside
@@ -128,16 +128,17 @@ module _ (p : Problem) where
       }
 
   -- before a clause is chosen of any operand
-  pub front_start : (number : ℕ) (k : Knowledge) → IsBased p k
+  pub front_start : (number : ℕ) (k : Knowledge) → AreFollowedRoots p k
       → IsFront p (length p.query.negative) number k
-  front_start number k based = record {
-    wide = based.wide;
-    follows = λ state size fits. based.base.follows state (size ∙ sym (length-marks k ∙ based.wide))
+  front_start number k rooted = record {
+    wide = rooted.wide;
+    follows = λ state size fits. rooted.roots.follows state (size ∙ sym (length-marks k ∙
+        rooted.wide))
         fits.applies fits.inside;
-    enabled = based.base.enabled;
+    enabled = rooted.roots.enabled;
     denied = subst (λ os. AreChosenFalse p.task (formulas p) p.effect os number (marks_of k))
         (sym (drop_all (length p.query.negative) p.query.negative (omega arith))) tt;
-    left = based.left;
+    left = rooted.left;
   }
 
   -- and once one is chosen of each
@@ -222,7 +223,7 @@ module _ (task : Strips) (sizes : ℕ → ℕ) (os : List Operand) (place : ℕ)
         ∙ mul-div_cancel (choices_of task sizes (take place os)) count_some
 
 -- How the blocks of numbers lie.
-module _ (p : Problem) where
+module _ (p : ProblemState) where
   block_total : (place : ℕ) → choices p
       ≡ block_length p place * choices_of p.task (sizes p) (drop place p.query.negative)
   block_total place =
@@ -267,13 +268,13 @@ module _ (p : Problem) where
   }
 
   pub advanced_start : (number cost size : ℕ) (k : Knowledge) → size ≡ length p.query.negative
-      → cost ≡ choices p → number < cost → IsBased p k → IsAdvanced p size number number k
-  advanced_start number cost size k whole is less based = record {
+      → cost ≡ choices p → number < cost → AreFollowedRoots p k → IsAdvanced p size number number k
+  advanced_start number cost size k whole is less rooted = record {
     ahead = omega arith;
     below = omega (arith, is, less);
     refuted = refuted_none p number;
     front = subst (λ n. IsFront p n (number / block_length p size) k) (sym whole)
-        (front_start p (number / block_length p size) k based);
+        (front_start p (number / block_length p size) k rooted);
   }
 
   -- The clauses of the operand at a place, one after the other.

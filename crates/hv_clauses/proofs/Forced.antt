@@ -65,7 +65,7 @@ module _ (ls : List Literal) (bound : ℕ) (listed : ListsBelow bound ls) where
         ∙ known-set_other (marked n ls) l.atom p l.positive (λ e. other (e ∙ at))
 
 -- what is said of each atom of the task is said of each number
-pub said_everywhere : (k : Knowledge) (ls : List Literal) (n : ℕ) → n ≡ length k.base
+pub said_everywhere : (k : Knowledge) (ls : List Literal) (n : ℕ) → n ≡ length k.roots
     → ((p : ℕ) → p < n → known (marked n ls) p ≡ known (marks_of k) p) → (p : ℕ)
     → known (marked n ls) p ≡ known (marks_of k) p
 said_everywhere k ls n wide same p =
@@ -107,9 +107,9 @@ module _ (m k : List ℕ) (same : (p : ℕ) → known k p ≡ known m p) where
   agrees_same state agrees = λ p b h. agrees p b (sym (same p) ∙ h)
 
 pub forced_from : (atoms : ℕ) (clauses : List (List Literal)) (k : Knowledge) (ls : List Literal)
-    → length k.base ≡ atoms
+    → length k.roots ≡ atoms
     → IsStrictlyIncreasing (atoms_of ls) →
-    ((p : ℕ) → known (marked (length k.base) ls) p ≡ known (marks_of k) p)
+    ((p : ℕ) → known (marked (length k.roots) ls) p ≡ known (marks_of k) p)
     → AreSettled [] clauses (marks_of k)
     → ((state : List Bool) → length state ≡ atoms → in_clauses clauses state ≡ true
     → Agrees (marks_of k) state)

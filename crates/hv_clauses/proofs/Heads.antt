@@ -6,7 +6,7 @@ use Rattle.std.proofs.lemmas.Bool.{cases_lt}
 use Rattle.std.proofs.lemmas.List.{get_or_append_left, get_or_default, get_or_push, length_push}
 use Rattle.std.proofs.lemmas.List.Sorted.{IsNonDecreasingBy-push}
 use Rattle.std.specs.List.Sorted.{IsStrictlyIncreasing}
-use Rattle.hv_clauses.specs.declared.rows.Head.{Head}
+use Rattle.hv_clauses.specs.declared.rows.RowHead.{RowHead}
 use Rattle.hv_clauses.specs.Working.Rows.{AreHeads, AreHeadsOf, IsEndBefore, PutsHead, key_of}
 use Rattle.hv_clauses.proofs.Keyed.{keys_upto}
 
@@ -21,8 +21,8 @@ heads_none codes = record {
 
 -- The head of one code more.
 module _ (codes : List ℕ) (rises : IsStrictlyIncreasing codes) (count : ℕ)
-    (within : count < length codes) (old : List Head) (are : AreHeadsOf codes count old)
-    (head : Head) (key : head.key ≡ key_of (get_or codes count 0)) (start : head.start ≡ count)
+    (within : count < length codes) (old : List RowHead) (are : AreHeadsOf codes count old)
+    (head : RowHead) (key : head.key ≡ key_of (get_or codes count 0)) (start : head.start ≡ count)
   where
     -- the last head is of its key
     heads_stay : (k : ℕ) → k < length old → (get_or old k head).key ≡ head.key
@@ -31,10 +31,10 @@ module _ (codes : List ℕ) (rises : IsStrictlyIncreasing codes) (count : ℕ)
       rises = are.rises;
       each = are.each;
       all = below_more (λ i. (j : ℕ) × (j < length old)
-          × ((d : Head) → (get_or old j d).key ≡ key_of (get_or codes i 0))) count are.all (
+          × ((d : RowHead) → (get_or old j d).key ≡ key_of (get_or codes i 0))) count are.all (
             k,
             less,
-            λ d. ap (λ (h : Head). h.key) (get_or_default old k d head less) ∙ (same ∙ key),
+            λ d. ap (λ (h : RowHead). h.key) (get_or_default old k d head less) ∙ (same ∙ key),
           );
       upto = λ k j d less more end. are.upto k j d less (omega arith) end;
     }
@@ -61,23 +61,25 @@ module _ (codes : List ℕ) (rises : IsStrictlyIncreasing codes) (count : ℕ)
 
       heads_put : AreHeadsOf codes (count + 1) (old ++ head ∷ [])
       heads_put = record {
-        rises = IsNonDecreasingBy-push (λ (h : Head). h.key) old head are.rises
+        rises = IsNonDecreasingBy-push (λ (h : RowHead). h.key) old head are.rises
             (λ d more.
             let upto = are.upto (length old - 1) count d (omega arith) (omega arith) within in
             omega arith);
         each = each;
         all = below_more (λ i. (j : ℕ) × (j < length (old ++ head ∷ []))
-            × ((d : Head) → (get_or (old ++ head ∷ []) j d).key ≡ key_of (get_or codes i 0))) count
+            × ((d : RowHead) → (get_or (old ++ head ∷ []) j d).key ≡ key_of (get_or codes i 0)))
+            count
             (λ i less.
             let found = are.all i less in (
               found.0,
               (let inside : found.0 < length old = found.1 in let e = size in omega arith),
-              λ d. ap (λ (h : Head). h.key) (get_or_append_left old (head ∷ []) d found.0 found.1)
+              λ d. ap (λ (h : RowHead). h.key) (get_or_append_left old (head ∷ []) d found.0
+                  found.1)
                   ∙ found.2 d,
             )) (
               length old,
               (let e = size in omega arith),
-              λ d. ap (λ (h : Head). h.key) (get_or_push old head d (length old) refl) ∙ key,
+              λ d. ap (λ (h : RowHead). h.key) (get_or_push old head d (length old) refl) ∙ key,
             );
         upto = upto;
       }
@@ -90,28 +92,28 @@ module _ (codes : List ℕ) (rises : IsStrictlyIncreasing codes) (count : ℕ)
                 let order = keys_upto codes rises count k 0 (omega arith) less in omega arith;
           }
 
-          each : (k : ℕ) (d : Head) → k < length (old ++ head ∷ [])
+          each : (k : ℕ) (d : RowHead) → k < length (old ++ head ∷ [])
               → IsEndBefore (get_or (old ++ head ∷ []) k d).key codes
               (get_or (old ++ head ∷ []) k d).start
           each k d less = elim (cases_lt k (length old)) [
-            | inl before ↦ subst (λ (h : Head). IsEndBefore h.key codes h.start)
+            | inl before ↦ subst (λ (h : RowHead). IsEndBefore h.key codes h.start)
                 (sym (get_or_append_left old (head ∷ []) d k before)) (are.each k d before)
-            | inr last ↦ subst (λ (h : Head). IsEndBefore h.key codes h.start)
+            | inr last ↦ subst (λ (h : RowHead). IsEndBefore h.key codes h.start)
                 (sym (get_or_push old head d k (let e = size in omega arith))) own
           ]
 
-          upto : (k j : ℕ) (d : Head) → k < length (old ++ head ∷ []) → count + 1 ≤ j + 1
+          upto : (k j : ℕ) (d : RowHead) → k < length (old ++ head ∷ []) → count + 1 ≤ j + 1
               → j < length codes → (get_or (old ++ head ∷ []) k d).key ≤ key_of (get_or codes j 0)
           upto k j d less more end = elim (cases_lt k (length old)) [
-            | inl before ↦ subst (λ (h : Head). h.key ≤ key_of (get_or codes j 0))
+            | inl before ↦ subst (λ (h : RowHead). h.key ≤ key_of (get_or codes j 0))
                 (sym (get_or_append_left old (head ∷ []) d k before))
                 (are.upto k j d before (omega arith) end)
-            | inr last ↦ subst (λ (h : Head). h.key ≤ key_of (get_or codes j 0))
+            | inr last ↦ subst (λ (h : RowHead). h.key ≤ key_of (get_or codes j 0))
                 (sym (get_or_push old head d k (let e = size in omega arith)))
                 (let order = keys_upto codes rises count j 0 (omega arith) end in omega arith)
           ]
 
-    pub heads_more : (new : List Head) → PutsHead old head new → AreHeadsOf codes (count + 1) new
+    pub heads_more : (new : List RowHead) → PutsHead old head new → AreHeadsOf codes (count + 1) new
     heads_more new puts = elim puts [
       | inl stays ↦ subst (AreHeadsOf codes (count + 1)) (sym stays.0)
           (heads_stay stays.1.0 stays.1.1 stays.1.2)
@@ -119,6 +121,6 @@ module _ (codes : List ℕ) (rises : IsStrictlyIncreasing codes) (count : ℕ)
     ]
 
 -- all codes have their heads
-pub heads_end : (codes : List ℕ) (heads : List Head) → AreHeadsOf codes (length codes) heads
+pub heads_end : (codes : List ℕ) (heads : List RowHead) → AreHeadsOf codes (length codes) heads
     → AreHeads codes heads
 heads_end codes heads are = record { rises = are.rises; each = are.each; all = are.all }

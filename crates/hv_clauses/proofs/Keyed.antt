@@ -12,7 +12,7 @@ use Rattle.hv_task.proofs.Rising.{rises_apart}
 use Rattle.hv_clauses.specs.Rows.{IsRow}
 use Rattle.hv_clauses.specs.Working.Rows.{AreCoded, AreHeads, IsEndBefore, IsFirstHead}
 use Rattle.hv_clauses.specs.Working.Rows.{IsPartOf, code, key_of, place_of_code}
-use Rattle.hv_clauses.specs.declared.rows.Head.{Head}
+use Rattle.hv_clauses.specs.declared.rows.RowHead.{RowHead}
 
 -- the two parts of a code
 pub key_of-code : (key number : ℕ) → number < 4294967296 → key_of (code key number) ≡ key
@@ -155,18 +155,18 @@ coded_size Pair codes numbers rows = sym
     (ap length rows.numbers_are ∙ length-map codes place_of_code)
 
 -- where a head is of a greater key, so are those after it
-pub more_after : (heads : List Head) (key place : ℕ) (e : Head)
+pub more_after : (heads : List RowHead) (key place : ℕ) (e : RowHead)
     → IsNonDecreasingBy (λ h. h.key) heads → place < length heads → key < (get_or heads place e).key
-    → (k : ℕ) (d : Head) → place ≤ k → k < length heads → key + 1 ≤ (get_or heads k d).key
+    → (k : ℕ) (d : RowHead) → place ≤ k → k < length heads → key + 1 ≤ (get_or heads k d).key
 more_after heads key place e rises less more k d late within =
     let order = rises place k d late within in
-    let same = ap (λ (h : Head). h.key) (get_or_default heads place d e less) in
+    let same = ap (λ (h : RowHead). h.key) (get_or_default heads place d e less) in
     omega arith
 
 -- The head at a place is of the key, and those before it are of lesser ones.
-pub first_here : (heads : List Head) (key place : ℕ) (e : Head)
+pub first_here : (heads : List RowHead) (key place : ℕ) (e : RowHead)
     → IsNonDecreasingBy (λ h. h.key) heads → place < length heads → (get_or heads place e).key ≡ key
-    → ((k : ℕ) (d : Head) → k < place → (get_or heads k d).key < key)
+    → ((k : ℕ) (d : RowHead) → k < place → (get_or heads k d).key < key)
     → IsFirstHead key heads place
 first_here heads key place e rises less is before =
     record {
@@ -174,28 +174,28 @@ first_here heads key place e rises less is before =
       before = before;
       after = λ k d late within.
           let order = rises place k d late within in
-          let same = ap (λ (h : Head). h.key) (get_or_default heads place d e less) in
+          let same = ap (λ (h : RowHead). h.key) (get_or_default heads place d e less) in
           omega arith;
     }
 
 -- The head before a place is of a lesser key.
-pub less_before : (heads : List Head) (key place : ℕ) (e : Head)
+pub less_before : (heads : List RowHead) (key place : ℕ) (e : RowHead)
     → IsNonDecreasingBy (λ h. h.key) heads → place < length heads
     → (get_or heads place e).key < key
-    → (k : ℕ) (d : Head) → k < place + 1 → (get_or heads k d).key < key
+    → (k : ℕ) (d : RowHead) → k < place + 1 → (get_or heads k d).key < key
 less_before heads key place e rises less lesser k d below =
     let order = rises k place d (omega arith) less in
-    let same = ap (λ (h : Head). h.key) (get_or_default heads place d e less) in
+    let same = ap (λ (h : RowHead). h.key) (get_or_default heads place d e less) in
     omega arith
 
 -- Heads among which so many are of lesser keys.
-module _ (codes : List ℕ) (heads : List Head) (are : AreHeads codes heads) (key place : ℕ)
+module _ (codes : List ℕ) (heads : List RowHead) (are : AreHeads codes heads) (key place : ℕ)
     (first : IsFirstHead key heads place) where
-  none : Head
+  none : RowHead
   none = record { key = 0; start = 0 }
 
   -- the next one begins where the codes of this key and greater ones do
-  pub begins_at : (d : Head) → place < length heads
+  pub begins_at : (d : RowHead) → place < length heads
       → IsEndBefore key codes (get_or heads place d).start
   begins_at d less =
       let own = are.each place d less in

@@ -18,8 +18,8 @@ use Rattle.hv_clauses.proofs.Trailed.{length-marks}
 
 -- What is known before follows from the clauses, and then the literals of the cube were made true.
 module _ (atoms : ℕ) (clauses : List (List Literal)) (cube : List Literal)
-    (start forced : Knowledge) (wide : length start.base ≡ atoms)
-    (follows : (state : List Bool) → length state ≡ length start.base
+    (start forced : Knowledge) (wide : length start.roots ≡ atoms)
+    (follows : (state : List Bool) → length state ≡ length start.roots
     → in_clauses clauses state ≡ true → Agrees (marks_of start) state) where
   agrees_start : (state : List Bool) → length state ≡ atoms → in_clauses clauses state ≡ true
       → Agrees (marks_of start) state
@@ -39,14 +39,14 @@ module _ (atoms : ℕ) (clauses : List (List Literal)) (cube : List Literal)
 
   module _ (first : IsConcluded (λ state. in_cube cube (over [] state) ≡ true)
       (AreKnownTrue [] cube) (marks_of start) (marks_of forced) true)
-      (same : forced.base ≡ start.base) (closed : Knowledge) where
+      (same : forced.roots ≡ start.roots) (closed : Knowledge) where
     agrees_forced : (state : List Bool) → length state ≡ atoms → in_cube cube state ≡ true
         → in_clauses clauses state ≡ true → Agrees (marks_of forced) state
     agrees_forced state size inside holds =
         first.follows state (sized state size) (ap (in_cube cube) (over-nil state) ∙ inside)
         (agrees_start state size holds)
 
-    forced_wide : (state : List Bool) → length state ≡ atoms → length state ≡ length forced.base
+    forced_wide : (state : List Bool) → length state ≡ atoms → length state ≡ length forced.roots
     forced_wide state size = size ∙ sym (ap length same ∙ wide)
 
     -- no state that agrees with what is known meets the clauses
@@ -78,5 +78,5 @@ module _ (atoms : ℕ) (clauses : List (List Literal)) (cube : List Literal)
     meets_completed speaks second found long false completed = λ state size inside.
         false_from_ne_true (in_clauses clauses state)
         (λ holds. completed.refuted refl state
-        (size ∙ sym (length-marks closed ∙ (ap length second.base ∙ (ap length same ∙ wide))))
+        (size ∙ sym (length-marks closed ∙ (ap length second.roots ∙ (ap length same ∙ wide))))
         (ap (in_clauses clauses) (over-nil state) ∙ holds))

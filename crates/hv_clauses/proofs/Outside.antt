@@ -176,7 +176,7 @@ module _ (i : ℕ) (clause cube : List Literal) (within : i < length clause) whe
     );
   }
 
-  -- the literal can't be put in: its opposite stands in the clause before it
+  -- the literal can't be put in: its opposite is in the clause before it
   pub denied_clash : IsDenied i clause cube → Contains cube (opposite (opposite item))
       → is_tautology clause ≡ true
   denied_clash so_far there =

@@ -11,14 +11,14 @@ use Rattle.hv_sets.specs.declared.operand.Operand.{Operand}
 use Rattle.hv_sets.specs.declared.operand.Which.{Which}
 use Rattle.hv_sets.specs.declared.operand.Which.TheVariants as W
 use Rattle.hv_sets.specs.Cubes.{opposite}
-use Rattle.hv_clauses.specs.declared.occurrences.Signed.{Signed}
-use Rattle.hv_clauses.specs.declared.owners.SignedOwners.{SignedOwners}
-use Rattle.hv_clauses.specs.declared.rows.Head.{Head}
+use Rattle.hv_clauses.specs.declared.occurrences.SignedOccurrences.{SignedOccurrences}
+use Rattle.hv_clauses.specs.declared.literal_owners.SignedOwners.{SignedOwners}
+use Rattle.hv_clauses.specs.declared.rows.RowHead.{RowHead}
 use Rattle.hv_clauses.specs.Working.Clausal.{late}
 use Rattle.hv_clauses.specs.Working.Occurrences.{AreOccurrences}
 use Rattle.hv_clauses.specs.Working.Owners.{AreSignedOwners, Gains, HasLiteral, IsCodeOfHead}
 use Rattle.hv_clauses.specs.Working.Owners.{ListsUpto, Owns, PutsOwner}
-use Rattle.hv_clauses.specs.Working.Posed.{Problem, formulas}
+use Rattle.hv_clauses.specs.Working.Posed.{ProblemState, formulas}
 use Rattle.hv_clauses.specs.Working.Problem.{AreLeft, IsLeft, IsLeftOf}
 use Rattle.hv_clauses.specs.Working.Rows.{AreCoded, IsPartOf, code, key_of, place_of_code}
 use Rattle.hv_clauses.specs.Working.Signed.{StandsAs}
@@ -27,10 +27,10 @@ use Rattle.hv_clauses.proofs.Chasing.{kept_beyond}
 use Rattle.hv_clauses.proofs.Keyed.{code_is, key_of-code, row_from}
 
 -- each atom that stands somewhere with this sign has a head
-pub head_of : (sign : Bool) (clauses : List (List Literal)) (signed : Signed)
+pub head_of : (sign : Bool) (clauses : List (List Literal)) (signed : SignedOccurrences)
     → AreOccurrences sign clauses signed → (atom place : ℕ) → StandsAs sign clauses atom place
     → (j : ℕ) × (j < length signed.heads.items)
-    × ((d : Head) → (get_or signed.heads.items j d).key ≡ atom)
+    × ((d : RowHead) → (get_or signed.heads.items j d).key ≡ atom)
 head_of sign clauses signed are atom place stands =
     let small = are.coded.small atom place stands in
     let own = (are.coded.has (code atom place)).1 (atom, place, refl, small, stands) in
@@ -49,9 +49,10 @@ number_in W.Start = 0
 number_in W.Goal = 0
 
 -- where the codes of the heads of an operand's set were put, its literals were
-pub puts_owner : (p : Problem) (operand : Operand) (number : ℕ) → operand.which ≡ W.Set number
+pub puts_owner : (p : ProblemState) (operand : Operand) (number : ℕ) → operand.which ≡ W.Set number
     → (sign : Bool) (clauses : List (List Literal)) → clauses ≡ formulas p number
-    → (signed : Signed) → AreOccurrences sign clauses signed → (place : ℕ) (old new : List ℕ)
+    → (signed : SignedOccurrences) → AreOccurrences sign clauses signed → (place : ℕ) (old new :
+    List ℕ)
     → Gains (IsCodeOfHead signed.heads.items place) old new
     → PutsOwner p operand sign place old new
 unfolding number_in
@@ -72,7 +73,7 @@ puts_owner p operand number which sign clauses same signed are place old new gai
 }
 
 -- the codes of one operand more
-pub lists_upto : (p : Problem) (sign : Bool) (k : ℕ) (codes new : List ℕ) (operand : Operand)
+pub lists_upto : (p : ProblemState) (sign : Bool) (k : ℕ) (codes new : List ℕ) (operand : Operand)
     → slice_get p.query.positive k ≡ Some operand → ListsUpto p sign k codes
     → PutsOwner p operand sign k codes new → ListsUpto p sign (k + 1) new
 lists_upto p sign k codes new operand here lists puts = λ j atom less owns. elim (cases_lt j k) [
@@ -91,8 +92,8 @@ lists_upto p sign k codes new operand here lists puts = λ j atom less owns. eli
       )
 ]
 
--- the same of the operand that stands in the list
-pub codes_more : (p : Problem) (sign : Bool) (k : ℕ) (codes new : List ℕ) (xs : List Operand)
+-- the same of the operand that is in the list
+pub codes_more : (p : ProblemState) (sign : Bool) (k : ℕ) (codes new : List ℕ) (xs : List Operand)
     (d : Operand) → xs ≡ p.query.positive → k < length xs → ListsUpto p sign k codes
     → PutsOwner p (get_or xs k d) sign k codes new → ListsUpto p sign (k + 1) new
 codes_more p sign k codes new xs d same less lists puts =
@@ -100,7 +101,7 @@ codes_more p sign k codes new xs d same less lists puts =
     (ap (λ os. slice_get os k) (sym same) ∙ slice_get-get_or xs k d less) lists puts
 
 -- the row of an atom has each operand in which it stands
-pub row_has : (p : Problem) (sign : Bool) (owners : SignedOwners)
+pub row_has : (p : ProblemState) (sign : Bool) (owners : SignedOwners)
     → (are : AreSignedOwners p sign owners) → (atom : ℕ) (part : List ℕ)
     → IsPartOf atom are.codes owners.places.items part → (place : ℕ)
     → Owns p (record { atom = atom; positive = sign }) place → Contains part place
@@ -146,7 +147,7 @@ module _ (task : Strips) (formulas : ℕ → List (List Literal)) (e : List ℕ)
 
 -- where only the operands that have the opposite of the literal at a place of the trail are
 -- followed up, nothing more than what comes from the next place on is left
-pub owners_left : (p : Problem) (k : Knowledge) (from : ℕ) (literal : Literal)
+pub owners_left : (p : ProblemState) (k : Knowledge) (from : ℕ) (literal : Literal)
     → from < length k.trail → get_or k.trail from literal ≡ literal → AreLeft p k from
     → (row : List ℕ)
     → ((place : ℕ) → Owns p (opposite literal) place → Contains row place)

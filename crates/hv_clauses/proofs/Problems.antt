@@ -18,7 +18,7 @@ use Rattle.hv_clauses.specs.Working.Clausal.{clauses_in, clauses_of_state, late}
 use Rattle.hv_clauses.specs.Kinded.{IsShort}
 use Rattle.hv_clauses.specs.Marks.{over}
 use Rattle.hv_clauses.specs.Working.Marks.{KeepsKnown}
-use Rattle.hv_clauses.specs.Working.Posed.{InEach, Problem, formulas}
+use Rattle.hv_clauses.specs.Working.Posed.{InEach, ProblemState, formulas}
 use Rattle.hv_clauses.specs.Working.Problem.{AreEachSettled, AreLeft, InOne, IsLeft, IsLeftOf}
 use Rattle.hv_clauses.specs.Working.Trail.{Grows, Knowledge, marks_of}
 use Rattle.hv_clauses.specs.Units.{IsSettled, value_of}
@@ -108,10 +108,10 @@ kept_earlier e clauses k from later h within kept = λ place less apart. kept pl
         )
 
 -- where what was known before settles all clauses, nothing comes from them but by the trail
-pub kept_based : (clauses : List (List Literal)) (k : Knowledge) → AreSettled [] clauses k.base
+pub kept_based : (clauses : List (List Literal)) (k : Knowledge) → AreSettled [] clauses k.roots
     → AreKept [] clauses k 0
 kept_based clauses k settled = λ place less.
-    let start : Knowledge = record { base = k.base; trail = [] } in
+    let start : Knowledge = record { roots = k.roots; trail = [] } in
     kept_on [] (clause_at clauses place) start k 0 refl (k.trail, refl) (omega arith)
     (kept_settled [] clauses start 0 settled place less)
 
@@ -119,7 +119,7 @@ pub followed_from : (P : List Bool → Type 0) (D : List ℕ → Type 0) (a b : 
     → IsConcluded P D (marks_of a) (marks_of b) r → Grows a b
     → IsFollowed P a b r
 followed_from P D a b r one grown = record {
-  base = grown.base;
+  roots = grown.roots;
   more = grown.more;
   grows = grown.grows;
   follows = λ state size holds agrees. one.follows state (size ∙ sym (length-marks a)) holds agrees;
@@ -131,7 +131,7 @@ followed_from P D a b r one grown = record {
 pub followed_empty : (P : List Bool → Type 0) (k : Knowledge) → ((state : List Bool) → P state → ⊥)
     → IsFollowed P k k false
 followed_empty P k none = record {
-  base = refl;
+  roots = refl;
   more = ([], sym (append-nil k.trail));
   grows = extends_same (marks_of k);
   follows = λ state size holds agrees. agrees;
@@ -166,7 +166,7 @@ start_literal_in n held e p state less size same =
     ∙ true_at e clauses p (omega arith) state (start_holds n held e state size same))
 
 -- What is said of what is named, seen through an effect, is said of the operand.
-module _ (p : Problem) (o : Operand) (which : Which) (is : o.which ≡ which) (seen : List ℕ)
+module _ (p : ProblemState) (o : Operand) (which : Which) (is : o.which ≡ which) (seen : List ℕ)
     (through : seen ≡ late p.effect o.after) where
   pub followed_in : (a b : Knowledge) (r : Bool)
       → IsFollowed (λ s. in_which p.task (tests_of (formulas p)) which (over seen s) ≡ true) a b r
@@ -191,7 +191,7 @@ module _ (p : Problem) (o : Operand) (which : Which) (is : o.which ≡ which) (s
       (subst (λ w. IsLeft p.task (formulas p) (late p.effect o.after) w k from) is left)
 
 -- The positive operands, one after the other.
-module _ (p : Problem) where
+module _ (p : ProblemState) where
   pub all_end : (k : Knowledge) (from : ℕ) → length k.trail ≤ from → AreLeft p k from
       → AreEachSettled p (marks_of k)
   all_end k from h left = λ j d less.

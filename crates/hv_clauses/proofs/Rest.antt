@@ -138,7 +138,7 @@ module _ (count clause done at other : ℕ) (order places : List ℕ)
         ∙ (ap (λ xs. get_or new_order (get_or xs c 0) 0) is_places ∙ new_back c few);
   }
 
--- each clause stands at its own place
+-- each clause is at its own place
 pub arranged_rising : (count : ℕ) (arranged : Arranged) → count ≤ 4294967295
     → length arranged.order.items ≡ count → length arranged.places.items ≡ count
     → arranged.done ≡ 0 → ((k : ℕ) → k < count → get_or arranged.order.items k 0 ≡ k)

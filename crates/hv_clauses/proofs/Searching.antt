@@ -11,7 +11,7 @@ use Rattle.hv_clauses.specs.Clausal.{tests_of}
 use Rattle.hv_clauses.specs.Working.Clausal.{late}
 use Rattle.hv_clauses.specs.Working.Found.{IsFound, IsMetBelow}
 use Rattle.hv_clauses.specs.Marks.{over}
-use Rattle.hv_clauses.specs.Working.Posed.{IsPosed, Problem, choices, formulas}
+use Rattle.hv_clauses.specs.Working.Posed.{IsPosed, ProblemState, choices, formulas}
 use Rattle.hv_clauses.specs.Working.Posed.{sizes, width}
 use Rattle.hv_clauses.specs.Working.Problem.{FitsChoice}
 use Rattle.std.proofs.lemmas.Bool.{and_from, and_parts}
@@ -25,7 +25,7 @@ all_same : {X : Type 0} (p q : X → Bool) (xs : List X) → ((x : X) → p x �
 all_same p q [] same = refl
 all_same p q (x ∷ xs) same = ap₂ (λ a b. a && b) (same x) (all_same p q xs same)
 
-module _ (p : Problem) (posed : IsPosed p) where
+module _ (p : ProblemState) (posed : IsPosed p) where
   -- a state seen through the effect is the one that the operand is asked about
   seen_is : (state : List Bool) → length state ≡ width p → (after : Bool)
       → over (late p.effect after) state ≡ asked (action_of p.task p.query.action) after state

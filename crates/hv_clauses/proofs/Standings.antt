@@ -1,4 +1,4 @@
--- Where a literal stands: the part of the lists that is its own, and what stands beside it there.
+-- Where a literal stands: the part of the lists that is its own, and what is beside it there.
 use Rattle.std.proofs.Common.{◌≡◌, ℕ, ◌+◌, ◌-◌, ◌<◌, ◌≤◌, ◌∙◌, Bool, true, false, List, inl, inr}
 use Rattle.std.proofs.Common.{length, get_or, sym, ap, arith, subst}
 use Rattle.std.proofs.lemmas.Bool.{cases_lt}
@@ -8,14 +8,15 @@ use Rattle.std.proofs.Math.ListN.{get_or-eq_default}
 use Rattle.std.specs.Prelude.{min, slice_range}
 use Rattle.hv_sets.specs.declared.literal.Literal.{Literal}
 use Rattle.hv_clauses.specs.declared.occurrences.Occurrences.{Occurrences}
-use Rattle.hv_clauses.specs.declared.occurrences.Signed.{Signed}
+use Rattle.hv_clauses.specs.declared.occurrences.SignedOccurrences.{SignedOccurrences}
 use Rattle.hv_clauses.specs.declared.occurrences.Standing.{Standing}
-use Rattle.hv_clauses.specs.declared.rows.Head.{Head}
+use Rattle.hv_clauses.specs.declared.rows.RowHead.{RowHead}
 use Rattle.hv_clauses.specs.Implied.{IsPair}
 use Rattle.hv_clauses.specs.Negative.{StandsNegatively}
 use Rattle.hv_clauses.specs.Rows.{IsRow}
 use Rattle.hv_clauses.specs.Clausal.{clause_at}
-use Rattle.hv_clauses.specs.Working.Occurrences.{AreBeside, AreOccurrences, AreStanding, IsBeside}
+use Rattle.hv_clauses.specs.Working.Occurrences.{ArePartners, AreOccurrences, AreStanding}
+use Rattle.hv_clauses.specs.Working.Occurrences.{IsPartner}
 use Rattle.hv_clauses.specs.Working.Occurrences.{IsIndexOf, entry_or_none, no_literal}
 use Rattle.hv_clauses.specs.Working.Rows.{AreCoded, AreHeads, IsEndBefore, place_of_code}
 use Rattle.hv_clauses.specs.Working.Signed.{StandsAs}
@@ -56,8 +57,8 @@ entry_between entries from upto k less = elim (cases_lt (from + k) (length entri
         omega arith
 
 -- The bounds of the part of a literal, as the heads tell them.
-module _ (clauses : List (List Literal)) (literal : Literal) (listed : Signed)
-    (are : AreOccurrences literal.positive clauses listed) (heads tails : List Head)
+module _ (clauses : List (List Literal)) (literal : Literal) (listed : SignedOccurrences)
+    (are : AreOccurrences literal.positive clauses listed) (heads tails : List RowHead)
     (len from upto : ℕ) (size : len ≡ length listed.places.items)
     (first : heads ≡ listed.heads.items) (second : tails ≡ listed.heads.items)
     (starts : (codes : List ℕ) → AreHeads codes heads → length codes ≡ len
@@ -81,13 +82,13 @@ module _ (clauses : List (List Literal)) (literal : Literal) (listed : Signed)
 -- The part of the lists of a sign that is of one atom.
 module _ (sign : Bool) (clauses : List (List Literal)) (codes places entries : List ℕ)
     (coded : AreCoded (StandsAs sign clauses) codes places)
-    (beside : AreBeside sign clauses codes entries) (atom from upto : ℕ)
+    (partners : ArePartners sign clauses codes entries) (atom from upto : ℕ)
     (starts : IsEndBefore atom codes from) (ends : IsEndBefore (atom + 1) codes upto) where
   pub standing_row : IsRow (StandsAs sign clauses) atom (slice_range places from upto)
   standing_row = row_is (StandsAs sign clauses) codes places coded atom from upto starts ends
 
   pub standing_beside : (k : ℕ) → k < length (slice_range places from upto)
-      → IsBeside (clause_at clauses (get_or (slice_range places from upto) k 0))
+      → IsPartner (clause_at clauses (get_or (slice_range places from upto) k 0))
       (record { atom = atom; positive = sign })
       (entry_or_none (slice_range entries (min from (length entries)) (min upto (length entries)))
       k)
@@ -96,29 +97,29 @@ module _ (sign : Bool) (clauses : List (List Literal)) (codes places entries : L
       (row_ends (StandsAs sign clauses) codes places coded atom from upto starts ends) in
       let less : k < upto - from = omega arith in
       let far = ends.within in
-      let own = beside (from + k) (omega arith) in
+      let own = partners (from + k) (omega arith) in
       let number = number_at (StandsAs sign clauses) codes places coded atom from upto starts ends k
       0 less in
       let key = key_at (StandsAs sign clauses) codes places coded atom from upto starts ends k
       less in
-      subst (IsBeside (clause_at clauses (get_or (slice_range places from upto) k 0))
+      subst (IsPartner (clause_at clauses (get_or (slice_range places from upto) k 0))
       (record { atom = atom; positive = sign })) (sym (entry_between entries from upto k less))
-      (subst (λ n. IsBeside (clause_at clauses n) (record { atom = atom; positive = sign })
+      (subst (λ n. IsPartner (clause_at clauses n) (record { atom = atom; positive = sign })
       (entry_or_none entries (from + k))) (sym number)
-      (subst (λ n. IsBeside (clause_at clauses (place_of_code (get_or codes (from + k) 0)))
+      (subst (λ n. IsPartner (clause_at clauses (place_of_code (get_or codes (from + k) 0)))
       (record { atom = n; positive = sign }) (entry_or_none entries (from + k))) key own))
 
   -- and lists that are these parts
   pub standing_parts : (ps es : List ℕ) → ps ≡ slice_range places from upto
       → es ≡ slice_range entries (min from (length entries)) (min upto (length entries))
       → IsRow (StandsAs sign clauses) atom ps
-      × ((k : ℕ) → k < length ps → IsBeside (clause_at clauses (get_or ps k 0))
+      × ((k : ℕ) → k < length ps → IsPartner (clause_at clauses (get_or ps k 0))
       (record { atom = atom; positive = sign }) (entry_or_none es k))
   standing_parts ps es same_places same_entries = (
     subst (IsRow (StandsAs sign clauses) atom) (sym same_places) standing_row,
-    subst (λ es. (k : ℕ) → k < length ps → IsBeside (clause_at clauses (get_or ps k 0))
+    subst (λ es. (k : ℕ) → k < length ps → IsPartner (clause_at clauses (get_or ps k 0))
         (record { atom = atom; positive = sign }) (entry_or_none es k)) (sym same_entries)
-        (subst (λ ps. (k : ℕ) → k < length ps → IsBeside (clause_at clauses (get_or ps k 0))
+        (subst (λ ps. (k : ℕ) → k < length ps → IsPartner (clause_at clauses (get_or ps k 0))
         (record { atom = atom; positive = sign })
         (entry_or_none (slice_range entries (min from (length entries)) (min upto (length entries)))
         k)) (sym same_places) standing_beside),
@@ -152,10 +153,10 @@ module _ (clauses : List (List Literal)) (standing : Standing) (are : AreStandin
       (Contains-get_or standing.places.now index 0 less) in
       stands.among
 
-  -- it is a pair with what stands beside
+  -- it is a pair with what is beside
   pub pair_at : (other : Literal) → other ≡ literal_of (entry_or_none standing.entries.now index)
       → (entry_or_none standing.entries.now index ≡ no_literal → ⊥)
       → IsPair (clause_at clauses (get_or standing.places.now index 0)) standing.literal other
   pair_at other is some =
       subst (IsPair (clause_at clauses (get_or standing.places.now index 0)) standing.literal)
-      (sym is) ((are.beside index less).pair some)
+      (sym is) ((are.partners index less).pair some)

@@ -7,8 +7,8 @@ use Rattle.hv_sets.specs.declared.operand.Operand.{Operand}
 use Rattle.hv_sets.specs.declared.operand.Which.TheVariants as W
 use Rattle.hv_sets.specs.Query.{in_which}
 use Rattle.hv_sets.specs.Truth.{in_clauses}
-use Rattle.hv_clauses.specs.Working.Posed.{InEach, Problem, formulas, width}
-use Rattle.hv_clauses.specs.Working.Base.{AreSettledBut, untouched}
+use Rattle.hv_clauses.specs.Working.Posed.{InEach, ProblemState, formulas, width}
+use Rattle.hv_clauses.specs.Working.Roots.{AreSettledBut, untouched}
 use Rattle.hv_clauses.specs.Clausal.{tests_of}
 use Rattle.hv_clauses.specs.Working.Clausal.{late}
 use Rattle.hv_clauses.specs.Working.Closure.{AreForced}
@@ -18,7 +18,7 @@ use Rattle.hv_clauses.specs.Working.Trail.{marked}
 use Rattle.hv_clauses.proofs.Marked.{length-over}
 use Rattle.hv_clauses.proofs.Untouched.{agrees_beside, settled_but}
 
-module _ (p : Problem) (operand : Operand) (number : ℕ)
+module _ (p : ProblemState) (operand : Operand) (number : ℕ)
     (among : Contains p.query.positive operand) (is : operand.which ≡ W.Set number) where
   -- a state that is in each positive operand is in this one
   pub inside_after : (state : List Bool) → InEach p state
@@ -29,16 +29,16 @@ module _ (p : Problem) (operand : Operand) (number : ℕ)
       ∙ All-contains (λ (o : Operand). in_which p.task (tests_of (formulas p)) o.which
       (over (late p.effect o.after) state) ≡ true) p.query.positive operand inside among
 
-  pub start_of_forced : (literals base : List Literal) (seen : List ℕ)
-      → base ≡ untouched seen literals → seen ≡ late p.effect operand.after
+  pub start_of_forced : (literals roots : List Literal) (seen : List ℕ)
+      → roots ≡ untouched seen literals → seen ≡ late p.effect operand.after
       → AreForced (width p) (formulas p number) literals
-      → IsStart p (record { operand = Some operand; base = base })
-  start_of_forced literals base seen base_is seen_is forced =
+      → IsStart p (record { operand = Some operand; roots = roots })
+  start_of_forced literals roots seen base_is seen_is forced =
       let e = late p.effect operand.after in
-      let at : base ≡ untouched e literals = base_is ∙ ap (λ x. untouched x literals) seen_is in
-      subst (λ b. IsStart p (record { operand = Some operand; base = b })) (sym at)
+      let at : roots ≡ untouched e literals = base_is ∙ ap (λ x. untouched x literals) seen_is in
+      subst (λ b. IsStart p (record { operand = Some operand; roots = b })) (sym at)
       (record {
-        based = λ n same.
+        rooted = λ n same.
             let equal : W.Set number ≡ W.Set n = sym is ∙ same in
             let here : number ≡ n = cc in
             subst (λ k. AreSettledBut e (formulas p k) (marked (width p) (untouched e literals)))

@@ -3,16 +3,17 @@ use Rattle.std.proofs.Common.{◌≡◌, ◌<◌, ℕ, List, length, get_or, Som
 use Rattle.std.specs.List.{All}
 use Rattle.std.proofs.lemmas.Option.{slice_get-get_or}
 use Rattle.hv_sets.specs.declared.literal.Literal.{Literal}
-use Rattle.hv_clauses.specs.Clausal.{AreClauses, Formula}
+use Rattle.hv_clauses.specs.Clausal.{AreClauses, FormulaState}
 use Rattle.hv_clauses.specs.Working.Kinded.{IsKinded}
 use Rattle.hv_clauses.specs.Store.{AreOver, clauses_found, formula_at}
 
-module _ (IsOf : List Literal → Type 0) (formulas : List Formula)
+module _ (IsOf : List Literal → Type 0) (formulas : List FormulaState)
     (kept : All (IsKinded IsOf) formulas) (number : ℕ) (within : number < length formulas) where
-  found : (default : Formula) → slice_get formulas number ≡ Some (get_or formulas number default)
+  found : (default : FormulaState) → slice_get formulas number ≡ Some (get_or formulas number
+      default)
   found default = slice_get-get_or formulas number default within
 
-  none : Formula
+  none : FormulaState
   none = record { atoms = 0; clauses = [] }
 
   pub stored_kind : All IsOf (formula_at formulas number)

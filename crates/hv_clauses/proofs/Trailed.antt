@@ -139,16 +139,16 @@ literal_is l = by l.atom l.positive
         ap₂ (λ (a r : ℕ). let l : Literal = record { atom = a; positive = r == 1 } in l)
         (div-mul-add p 2 0 (omega arith)) (mod-mul-add p 2 0 (omega arith))
 
--- the front of a trail
+-- the prefix of a trail
 pub trail_front : (queue : List ℕ) (len part : ℕ) → part ≤ len
     → trail_of queue part ≡ take part (trail_of queue len)
 trail_front queue len part h = sym (take-map literal_of part (take len queue)
     ∙ ap (map literal_of) (take-take part len queue h))
 
 -- a part of a trail is a trail
-pub joined_part : (base : List ℕ) (places queue : List ℕ) (len part : ℕ)
-    → AreJoined base places queue len → part ≤ len → AreJoined base places queue part
-joined_part base places queue len part j h = record {
+pub joined_part : (roots : List ℕ) (places queue : List ℕ) (len part : ℕ)
+    → AreJoined roots places queue len → part ≤ len → AreJoined roots places queue part
+joined_part roots places queue len part j h = record {
   places_room = j.places_room;
   queue_room = j.queue_room;
   within = let w = j.within in omega arith;
@@ -158,28 +158,28 @@ joined_part base places queue len part j h = record {
 }
 
 -- no two entries are of one atom
-pub entry_once : (base : List ℕ) (places queue : List ℕ) (len i k : ℕ)
-    → AreJoined base places queue len → i < len → k < len
+pub entry_once : (roots : List ℕ) (places queue : List ℕ) (len i k : ℕ)
+    → AreJoined roots places queue len → i < len → k < len
     → get_or queue i 0 / 2 ≡ get_or queue k 0 / 2 → i ≡ k
-entry_once base places queue len i k j hi hk e = sym (j.back i hi)
+entry_once roots places queue len i k j hi hk e = sym (j.back i hi)
     ∙ (ap (λ p. get_or places p 0) e ∙ j.back k hk)
 
 -- what is known of an atom of which no entry is, and of that of an entry
-pub read_none : (base : List ℕ) (places queue : List ℕ) (len p : ℕ)
-    → AreJoined base places queue len
+pub read_none : (roots : List ℕ) (places queue : List ℕ) (len p : ℕ)
+    → AreJoined roots places queue len
     → ((k : ℕ) → k < len → get_or queue k 0 / 2 ≡ p → ⊥)
-    → known (marks_of (record { base = base; trail = trail_of queue len })) p ≡ known base p
-read_none base places queue len p j none =
+    → known (marks_of (record { roots = roots; trail = trail_of queue len })) p ≡ known roots p
+read_none roots places queue len p j none =
     let size = length-trail queue len j.within in
-    written_none (trail_of queue len) base p
+    written_none (trail_of queue len) roots p
     (λ k d h e. none k (omega arith) (sym (ap
     (λ (l : Literal). l.atom) (trail_at queue len k d j.within (omega arith))) ∙ e))
 
-pub read_some : (base : List ℕ) (places queue : List ℕ) (len k : ℕ)
-    → AreJoined base places queue len → k < len
-    → known (marks_of (record { base = base; trail = trail_of queue len })) (get_or queue k 0 / 2)
+pub read_some : (roots : List ℕ) (places queue : List ℕ) (len k : ℕ)
+    → AreJoined roots places queue len → k < len
+    → known (marks_of (record { roots = roots; trail = trail_of queue len })) (get_or queue k 0 / 2)
     ≡ Some (get_or queue k 0 % 2 == 1)
-read_some base places queue len k j h =
+read_some roots places queue len k j h =
     let size = length-trail queue len j.within in
     let d = literal_of 0 in
     let at : get_or (trail_of queue len) k d
@@ -187,37 +187,37 @@ read_some base places queue len k j h =
     let atom : (get_or (trail_of queue len) k d).atom ≡ get_or queue k 0 / 2 = ap
     (λ (l : Literal). l.atom) at in
     let below = j.below k h in
-    sym (ap (known (written (trail_of queue len) base)) atom)
-    ∙ (written_at (trail_of queue len) base k d (omega arith) (omega arith)
-    (λ i e less same. entry_once base places queue len i k j (omega arith) h
+    sym (ap (known (written (trail_of queue len) roots)) atom)
+    ∙ (written_at (trail_of queue len) roots k d (omega arith) (omega arith)
+    (λ i e less same. entry_once roots places queue len i k j (omega arith) h
     (sym (ap (λ (l : Literal). l.atom) (trail_at queue len i e j.within (omega arith)))
     ∙ (same ∙ atom)))
     ∙ ap (λ (l : Literal). Some l.positive) at)
 
 -- each entry takes one from what is unknown
-pub unknown_left : (base : List ℕ) (places queue : List ℕ) (len : ℕ)
-    → AreJoined base places queue len
-    → unknown_in (marks_of (record { base = base; trail = trail_of queue len })) + len
-    ≤ unknown_in base
-unknown_left base places queue zero j = omega arith
-unknown_left base places queue (suc len) j =
-    let before = joined_part base places queue (suc len) len j (omega arith) in
-    let less = unknown_left base places queue len before in
+pub unknown_left : (roots : List ℕ) (places queue : List ℕ) (len : ℕ)
+    → AreJoined roots places queue len
+    → unknown_in (marks_of (record { roots = roots; trail = trail_of queue len })) + len
+    ≤ unknown_in roots
+unknown_left roots places queue zero j = omega arith
+unknown_left roots places queue (suc len) j =
+    let before = joined_part roots places queue (suc len) len j (omega arith) in
+    let less = unknown_left roots places queue len before in
     let room = j.within in
     let l = literal_of (get_or queue len 0) in
-    let old = marks_of (record { base = base; trail = trail_of queue len }) in
-    let size : length old ≡ length base = length-written (trail_of queue len) base in
+    let old = marks_of (record { roots = roots; trail = trail_of queue len }) in
+    let size : length old ≡ length roots = length-written (trail_of queue len) roots in
     let below = j.below len (omega arith) in
     let none : known old l.atom ≡ None =
-    read_none base places queue len l.atom before
-    (λ k h e. let same = entry_once base places queue (suc len) k len j (omega arith)
+    read_none roots places queue len l.atom before
+    (λ k h e. let same = entry_once roots places queue (suc len) k len j (omega arith)
     (omega arith) e in omega arith)
     ∙ j.fresh len (omega arith) in
     let one = unknown-set old l.atom l.positive (omega arith) none in
-    let more : marks_of (record { base = base; trail = trail_of queue (suc len) })
+    let more : marks_of (record { roots = roots; trail = trail_of queue (suc len) })
     ≡ slice_set old l.atom (mark_for l.positive) =
-    ap (λ ls. written ls base) (trail_more queue len room)
-    ∙ written-push (trail_of queue len) l base in
+    ap (λ ls. written ls roots) (trail_more queue len room)
+    ∙ written-push (trail_of queue len) l roots in
     let count = ap unknown_in more in omega arith
   where
     trail_more : (queue : List ℕ) (len : ℕ) → suc len ≤ length queue
@@ -227,40 +227,42 @@ unknown_left base places queue (suc len) j =
         ap (trail_of queue) e ∙ map_more literal_of queue len 0 (omega arith)
 
 -- so where something is unknown there is room
-pub room_left : (base : List ℕ) (places queue : List ℕ) (len p : ℕ)
-    → AreJoined base places queue len → p < length base
-    → known (marks_of (record { base = base; trail = trail_of queue len })) p ≡ None
-    → len < length base
-room_left base places queue len p j h none =
-    let old = marks_of (record { base = base; trail = trail_of queue len }) in
-    let size : length old ≡ length base = length-written (trail_of queue len) base in
+pub room_left : (roots : List ℕ) (places queue : List ℕ) (len p : ℕ)
+    → AreJoined roots places queue len → p < length roots
+    → known (marks_of (record { roots = roots; trail = trail_of queue len })) p ≡ None
+    → len < length roots
+room_left roots places queue len p j h none =
+    let old = marks_of (record { roots = roots; trail = trail_of queue len }) in
+    let size : length old ≡ length roots = length-written (trail_of queue len) roots in
     let one = unknown-set old p true (omega arith) none in
-    let left = unknown_left base places queue len j in
-    let most = count_by-le-length (λ (x : ℕ). x == 0) base in omega arith
+    let left = unknown_left roots places queue len j in
+    let most = count_by-le-length (λ (x : ℕ). x == 0) roots in omega arith
 
 -- one entry more
-pub joined_more : (base : List ℕ) (places queue : List ℕ) (len p entry : ℕ)
-    → AreJoined base places queue len → p < length base
-    → known (marks_of (record { base = base; trail = trail_of queue len })) p ≡ None → entry / 2 ≡ p
-    → AreJoined base (slice_set places p len) (slice_set queue len entry) (len + 1)
-joined_more base places queue len p entry j h none e =
-    let room = room_left base places queue len p j h none in
+pub joined_more : (roots : List ℕ) (places queue : List ℕ) (len p entry : ℕ)
+    → AreJoined roots places queue len → p < length roots
+    → known (marks_of (record { roots = roots; trail = trail_of queue len })) p ≡ None → entry / 2 ≡
+    p
+    → AreJoined roots (slice_set places p len) (slice_set queue len entry) (len + 1)
+joined_more roots places queue len p entry j h none e =
+    let room = room_left roots places queue len p j h none in
     let a = length-set places p len in
     let b = length-set queue len entry in
     let pr = j.places_room in
     let qr = j.queue_room in
     let apart : (k : ℕ) → k < len → get_or queue k 0 / 2 ≡ p → ⊥ = λ k less same.
-    (let known_p : known (marks_of (record { base = base; trail = trail_of queue len })) p
+    (let known_p : known (marks_of (record { roots = roots; trail = trail_of queue len })) p
     ≡ Some (get_or queue k 0 % 2 == 1) =
-    sym (ap (known (marks_of (record { base = base; trail = trail_of queue len }))) same)
-    ∙ read_some base places queue len k j less in
+    sym (ap (known (marks_of (record { roots = roots; trail = trail_of queue len }))) same)
+    ∙ read_some roots places queue len k j less in
     let clash : None ≡ Some (get_or queue k 0 % 2 == 1) = sym none ∙ known_p in absurd cc) in
-    let open_base : known base p ≡ None = sym (read_none base places queue len p j apart) ∙ none in
+    let open_base : known roots p ≡ None = sym (read_none roots places queue len p j apart) ∙ none
+    in
     record {
       places_room = omega arith;
       queue_room = omega arith;
       within = omega arith;
-      below = below_more (λ k. get_or (slice_set queue len entry) k 0 / 2 < length base) len
+      below = below_more (λ k. get_or (slice_set queue len entry) k 0 / 2 < length roots) len
           (λ k less. let same = get_or-set_other queue len k entry 0 (λ x. omega arith) in
           let old = j.below k less in let z = ap (λ n. n / 2) same in omega arith)
           (let same = get_or-set_same queue len entry 0 (omega arith) in
@@ -269,10 +271,10 @@ joined_more base places queue len p entry j h none e =
           (get_or (slice_set queue len entry) k 0 / 2) 0 ≡ k) len
           (λ k less.
           let other : (get_or queue k 0 / 2 ≡ p → ⊥) = λ same.
-          (let known_p : known (marks_of (record { base = base; trail = trail_of queue len })) p
+          (let known_p : known (marks_of (record { roots = roots; trail = trail_of queue len })) p
           ≡ Some (get_or queue k 0 % 2 == 1) =
-          sym (ap (known (marks_of (record { base = base; trail = trail_of queue len }))) same)
-          ∙ read_some base places queue len k j less in cc) in
+          sym (ap (known (marks_of (record { roots = roots; trail = trail_of queue len }))) same)
+          ∙ read_some roots places queue len k j less in cc) in
           ap (λ n. get_or (slice_set places p len) (n / 2) 0)
           (get_or-set_other queue len k entry 0 (λ x. omega arith))
           ∙ (get_or-set_other places p (get_or queue k 0 / 2) len 0 other ∙ j.back k less))
@@ -280,29 +282,29 @@ joined_more base places queue len p entry j h none e =
           (get_or-set_same queue len entry 0 (omega arith))
           ∙ (ap (λ n. get_or (slice_set places p len) n 0) e
           ∙ get_or-set_same places p len 0 (omega arith)));
-      fresh = below_more (λ k. known base (get_or (slice_set queue len entry) k 0 / 2) ≡ None) len
-          (λ k less. ap (λ n. known base (n / 2))
+      fresh = below_more (λ k. known roots (get_or (slice_set queue len entry) k 0 / 2) ≡ None) len
+          (λ k less. ap (λ n. known roots (n / 2))
           (get_or-set_other queue len k entry 0 (λ x. omega arith)) ∙ j.fresh k less)
-          (ap (λ n. known base (n / 2)) (get_or-set_same queue len entry 0 (omega arith))
-          ∙ (ap (known base) e ∙ open_base));
+          (ap (λ n. known roots (n / 2)) (get_or-set_same queue len entry 0 (omega arith))
+          ∙ (ap (known roots) e ∙ open_base));
     }
 
 -- why no entry is of an atom: its place is none of an entry, or that entry is of another atom
-pub no_entry_past : (base : List ℕ) (places queue : List ℕ) (len p place : ℕ)
-    → AreJoined base places queue len → p < length base
+pub no_entry_past : (roots : List ℕ) (places queue : List ℕ) (len p place : ℕ)
+    → AreJoined roots places queue len → p < length roots
     → place ≡ get_or places p place → len ≤ place → (k : ℕ) → k < len → get_or queue k 0 / 2 ≡ p → ⊥
-no_entry_past base places queue len p place j h read past k less e =
+no_entry_past roots places queue len p place j h read past k less e =
     let room = j.places_room in
     let at : place ≡ get_or places p 0 = read ∙ get_or_default places p place 0 (omega arith) in
     let back : get_or places p 0 ≡ k = sym (ap (λ n. get_or places n 0) e) ∙ j.back k less in
     omega arith
 
-pub no_entry_other : (base : List ℕ) (places queue : List ℕ) (len p place entry : ℕ)
-    → AreJoined base places queue len → p < length base
+pub no_entry_other : (roots : List ℕ) (places queue : List ℕ) (len p place entry : ℕ)
+    → AreJoined roots places queue len → p < length roots
     → place ≡ get_or places p place → place < len → entry ≡ get_or queue place entry
     → (entry / 2 ≡ p → ⊥)
     → (k : ℕ) → k < len → get_or queue k 0 / 2 ≡ p → ⊥
-no_entry_other base places queue len p place entry j h read less entry_read other k below e =
+no_entry_other roots places queue len p place entry j h read less entry_read other k below e =
     let room = j.places_room in
     let within = j.within in
     let at : place ≡ get_or places p 0 = read ∙ get_or_default places p place 0 (omega arith) in
@@ -313,24 +315,24 @@ no_entry_other base places queue len p place entry j h read less entry_read othe
     other (ap (λ n. n / 2) here ∙ e)
 
 -- and what the entry at the place of an atom says, if it is of the atom
-pub read_entry : (base : List ℕ) (places queue : List ℕ) (len p place entry : ℕ)
-    → AreJoined base places queue len → place < len
+pub read_entry : (roots : List ℕ) (places queue : List ℕ) (len p place entry : ℕ)
+    → AreJoined roots places queue len → place < len
     → entry ≡ get_or queue place entry → entry / 2 ≡ p
-    → known (marks_of (record { base = base; trail = trail_of queue len })) p
+    → known (marks_of (record { roots = roots; trail = trail_of queue len })) p
     ≡ Some (entry % 2 == 1)
-read_entry base places queue len p place entry j less read e =
+read_entry roots places queue len p place entry j less read e =
     let within = j.within in
     let here : get_or queue place 0 ≡ entry = sym
     (read ∙ get_or_default queue place entry 0 (omega arith)) in
-    sym (ap (known (marks_of (record { base = base; trail = trail_of queue len })))
+    sym (ap (known (marks_of (record { roots = roots; trail = trail_of queue len })))
     (ap (λ n. n / 2) here ∙ e))
-    ∙ (read_some base places queue len place j less ∙ ap (λ (n : ℕ). Some (n % 2 == 1)) here)
+    ∙ (read_some roots places queue len place j less ∙ ap (λ (n : ℕ). Some (n % 2 == 1)) here)
 
 pub length-marked : (n : ℕ) (ls : List Literal) → length (marked n ls) ≡ n
 length-marked n ls = length-written ls (replicate n 0) ∙ length-zeros n
 
-pub length-marks : (k : Knowledge) → length (marks_of k) ≡ length k.base
-length-marks k = length-written k.trail k.base
+pub length-marks : (k : Knowledge) → length (marks_of k) ≡ length k.roots
+length-marks k = length-written k.trail k.roots
 
 -- twice an atom, and one more if it is positive
 pub entry_below : (atom : ℕ) (sign : Bool) → atom < 2 ^ 31 → atom * 2 + bool_byte sign < 2 ^ 32
@@ -338,9 +340,9 @@ entry_below atom true less = omega arith
 entry_below atom false less = omega arith
 
 -- room without an entry
-pub joined_none : (base places queue : List ℕ) → length base ≤ length places
-    → length base ≤ length queue → AreJoined base places queue 0
-joined_none base places queue a b = record {
+pub joined_none : (roots places queue : List ℕ) → length roots ≤ length places
+    → length roots ≤ length queue → AreJoined roots places queue 0
+joined_none roots places queue a b = record {
   places_room = a;
   queue_room = b;
   within = omega arith;

@@ -45,7 +45,7 @@ module _ (s : List Bool) where
       ap₂ (λ a b. a && b) (all 0 (omega arith))
       (clauses_by cs (λ p less. all (suc p) (omega (arith, less))))
 
-  -- a state of a cube is in each front of it
+  -- a state of a cube is in each prefix of it
   pub push_front : (ls : List Literal) (l : Literal) → in_cube (ls ++ l ∷ []) s ≡ true
       → in_cube ls s ≡ true
   push_front [] l h = refl

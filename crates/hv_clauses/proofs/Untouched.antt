@@ -11,7 +11,7 @@ use Rattle.std.specs.Option.{option_map}
 use Rattle.hv_task.specs.State.{has_atom}
 use Rattle.hv_sets.specs.declared.literal.Literal.{Literal}
 use Rattle.hv_sets.specs.Truth.{in_clauses}
-use Rattle.hv_clauses.specs.Working.Base.{AreSettledBut, put_unless, untouched}
+use Rattle.hv_clauses.specs.Working.Roots.{AreSettledBut, put_unless, untouched}
 use Rattle.hv_clauses.specs.Working.Chase.{AreKept, IsFollowed, IsKept}
 use Rattle.hv_clauses.specs.Working.Closure.{AreForced, AreNever}
 use Rattle.hv_clauses.specs.Clausal.{clause_at}
@@ -23,7 +23,7 @@ use Rattle.hv_clauses.specs.Working.Units.{AreSettled}
 use Rattle.hv_clauses.proofs.Chasing.{followed_none, kept_on}
 use Rattle.hv_clauses.proofs.Marked.{has_atom-over_none, has_atom-over_some, known_past}
 use Rattle.hv_clauses.proofs.Marked.{known_within, length-over}
-use Rattle.hv_clauses.proofs.Touching.{turned_by, turned_or}
+use Rattle.hv_clauses.proofs.Affected.{turned_by, turned_or}
 use Rattle.hv_clauses.proofs.Trailed.{known-replicate, known-set_other, known-set_same}
 use Rattle.hv_clauses.proofs.Trailed.{length-marked}
 
@@ -193,13 +193,13 @@ module _ (e : List ℕ) (n : ℕ) (ls : List Literal) where
 -- once each clause was looked at of which the effect makes a literal false, nothing is left but
 -- what comes from the trail
 pub turned_kept : (e : List ℕ) (clauses : List (List Literal)) (k : Knowledge)
-    → AreSettledBut e clauses k.base
+    → AreSettledBut e clauses k.roots
     → ((v : Bool) (place : ℕ) (l : Literal) → place < length clauses
     → Contains (clause_at clauses place) l → known e l.atom ≡ Some v
     → l.positive ≡ not v → IsKept e (clause_at clauses place) k 0)
     → AreKept e clauses k 0
 turned_kept e clauses k but seen = λ place less.
-    let start : Knowledge = record { base = k.base; trail = [] } in
+    let start : Knowledge = record { roots = k.roots; trail = [] } in
     elim (turned_or e false (clause_at clauses place)) [
       | inl all ↦ kept_on e (clause_at clauses place) start k 0 refl (k.trail, refl) (omega arith)
           (λ apart. but place less all)
@@ -235,10 +235,10 @@ value_made e m l made =
 
 -- where no state meets the condition, nothing is left
 followed_out : (Holds : List Bool → Type 0) (k : Knowledge)
-    → ((state : List Bool) → length state ≡ length k.base → Holds state → ⊥)
+    → ((state : List Bool) → length state ≡ length k.roots → Holds state → ⊥)
     → IsFollowed Holds k k false
 followed_out Holds k out = record {
-  base = none.base;
+  roots = none.roots;
   more = none.more;
   grows = none.grows;
   follows = λ state size holds agrees. agrees;
@@ -249,7 +249,7 @@ followed_out Holds k out = record {
     none = followed_none Holds k
 
 pub followed_never : (e : List ℕ) (clauses : List (List Literal)) (n : ℕ) (k : Knowledge)
-    → length k.base ≡ n → AreNever n clauses
+    → length k.roots ≡ n → AreNever n clauses
     → IsFollowed (λ s. in_clauses clauses (over e s) ≡ true) k k false
 followed_never e clauses n k size never = followed_out _ k
     (λ state same holds. never (over e state) (length-over e state ∙ (same ∙ size)) holds)
@@ -257,18 +257,18 @@ followed_never e clauses n k size never = followed_out _ k
 -- so it is where the effect makes a literal false that the clauses force
 pub followed_forced : (e : List ℕ) (clauses : List (List Literal)) (forced : List Literal)
     (k : Knowledge) (l : Literal)
-    → AreForced (length k.base) clauses forced → known e l.atom ≡ Some (not l.positive)
-    → known (marked (length k.base) forced) l.atom ≡ Some l.positive
+    → AreForced (length k.roots) clauses forced → known e l.atom ≡ Some (not l.positive)
+    → known (marked (length k.roots) forced) l.atom ≡ Some l.positive
     → IsFollowed (λ s. in_clauses clauses (over e s) ≡ true) k k false
 followed_forced e clauses forced k l are made said = followed_out _ k
     (λ state size holds. clash l.positive
     (sym (are.follows (over e state) (length-over e state ∙ size) holds l.atom l.positive said)
     ∙ has_atom-over_some e state l.atom (not l.positive) (within state size) made))
   where
-    within : (state : List Bool) → length state ≡ length k.base → l.atom < length state
+    within : (state : List Bool) → length state ≡ length k.roots → l.atom < length state
     within state size =
-        let less = known_within (marked (length k.base) forced) l.atom l.positive said in
-        let wide = length-marked (length k.base) forced in
+        let less = known_within (marked (length k.roots) forced) l.atom l.positive said in
+        let wide = length-marked (length k.roots) forced in
         omega arith
 
     clash : (sign : Bool) → sign ≡ not sign → ⊥

@@ -7,12 +7,12 @@ use Rattle.hv_sets.specs.Cubes.{SpeakBelow}
 use Rattle.hv_sets.specs.Truth.{in_clauses}
 
 -- what a set is that clauses give: how many atoms the task has, and the clauses
-pub record Formula : Type 0 where
+pub record FormulaState : Type 0 where
   pub atoms : ℕ
   pub clauses : List (List Literal)
 
 -- the state is in the set: each clause is true in it
-abbrev pub in_formula : Formula → List Bool → Bool
+abbrev pub in_formula : FormulaState → List Bool → Bool
 in_formula formula state = in_clauses formula.clauses state
 
 -- the clauses speak of atoms below this number alone

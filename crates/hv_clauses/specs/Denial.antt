@@ -4,7 +4,7 @@ use Rattle.std.specs.Prelude.{if◌then◌else◌, List, [], ◌∷◌, map, Opt
 use Rattle.std.specs.List.{list_any}
 use Rattle.std.proofs.Math.Bool.{beq}
 use Rattle.hv_sets.specs.declared.literal.Literal.{Literal}
-use Rattle.hv_clauses.specs.Clausal.{Formula}
+use Rattle.hv_clauses.specs.Clausal.{FormulaState}
 
 -- the literal of this atom with this sign is among these
 abbrev pub names_literal : List Literal → ℕ → Bool → Bool
@@ -42,5 +42,5 @@ abbrev pub denial_step : List Literal → Option (List Literal)
 denial_step clause = if is_tautology clause then None else Some (denial clause)
 
 -- the steps of the walk: one for each clause, in order
-abbrev pub steps_of : Formula → List (Option (List Literal))
+abbrev pub steps_of : FormulaState → List (Option (List Literal))
 steps_of formula = map denial_step formula.clauses

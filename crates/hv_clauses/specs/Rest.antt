@@ -6,7 +6,7 @@ use Rattle.hv_sets.specs.Truth.{in_clause, in_cube}
 use Rattle.hv_clauses.specs.declared.arranged.Arranged.{Arranged}
 use Rattle.hv_clauses.specs.Clausal.{clause_at}
 
--- each of so many places stands in the order, where its own entry says
+-- each of so many places is in the order, where its own entry says
 pub record IsArranged (count : ℕ) (arranged : Arranged) : Type 0 where
   pub fits : count ≤ 4294967295
   pub size : length arranged.order.items ≡ count

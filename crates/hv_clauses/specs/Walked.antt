@@ -9,7 +9,7 @@ use Rattle.hv_clauses.specs.Clausal.{clause_at}
 abbrev pub place_in : ℕ → ℕ
 place_in c = c % 268435456
 
--- the codes stand for places below this number, and for each of these
+-- the codes denote places below this number, and for each of these
 pub record OrdersUpto (upto : ℕ) (codes : List ℕ) : Type 0 where
   pub only : (c : ℕ) → Contains codes c → place_in c < upto
   pub each : (p : ℕ) → p < upto → (c : ℕ) × Contains codes c × (place_in c ≡ p)

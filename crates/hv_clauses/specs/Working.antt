@@ -21,10 +21,10 @@ pub mod Rows
 pub mod Signed
 pub mod Implied
 pub mod Lists
-pub mod Base
+pub mod Roots
 pub mod Front
-pub mod Touched
-pub mod Room
+pub mod Affected
+pub mod Buffers
 pub mod Asking
 pub mod Walked
 pub mod Rest

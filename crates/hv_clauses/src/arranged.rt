@@ -1,4 +1,4 @@
-//! The places of clauses, of which those that are told of stand in front.
+//! The places of clauses, of which those that are told of are in front.
 
 ghost use Rattle.std.specs.Prelude.{◌≡◌, ◌<◌, ◌≤◌, ℕ, [], Bool, List, IfOk, true, length};
 ghost use Rattle.std.specs.Prelude.{slice_index_or, OnOk};

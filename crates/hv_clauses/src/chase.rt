@@ -11,11 +11,11 @@ ghost use Rattle.hv_clauses.specs.Working.Occurrences.{AreStanding, IsIndexOf};
 ghost use Rattle.hv_clauses.specs.Working.Trail.{marks_of};
 ghost use Rattle.hv_clauses.specs.Units.{IsSettled, value_of};
 
-use crate::change::Effect;
-use crate::look::Scan;
+use crate::effect::ActionEffect;
 use crate::occurrences::{Occurrences, Standing};
-use crate::trail::Marks;
-use crate::{beside, literals, look};
+use crate::trail::Assignment;
+use crate::watched::Scan;
+use crate::{literals, partners, watched};
 use hv_sets::{Clauses, Literal};
 
 // Puts on the trail what the clause at this place says next. The answer is false if the clause is
@@ -23,15 +23,15 @@ use hv_sets::{Clauses, Literal};
 pub(crate) fn step(
     clause: &[Literal],
     place: usize,
-    effect: &Effect<'_>,
-    marks: &mut Marks<'_>,
+    effect: &ActionEffect<'_>,
+    marks: &mut Assignment<'_>,
 ) -> bool
-    requires { SpeakBelow (length marks.old.base) clause.now }
+    requires { SpeakBelow (length marks.old.roots) clause.now }
     ensures followed { IsFollowed (λ state. in_clause clause.now (over effect.now state) ≡ true)
         marks.old marks.new result }
     ensures settled { result ≡ true → IsSettled effect.now (marks_of marks.new) clause.now }
 {
-    let found = look::look(clause, marks.watch(place), effect, marks);
+    let found = watched::scan_clause(clause, marks.watch(place), effect, marks);
     marks.remember(place, found.watch);
     match found.scan {
         Scan::Settled => true,
@@ -44,8 +44,12 @@ pub(crate) fn step(
 }
 
 // Looks at each clause once.
-pub(crate) fn start(clauses: &Clauses, effect: &Effect<'_>, marks: &mut Marks<'_>) -> bool
-    requires { AreClauses (length marks.old.base) clauses.now }
+pub(crate) fn start(
+    clauses: &Clauses,
+    effect: &ActionEffect<'_>,
+    marks: &mut Assignment<'_>,
+) -> bool
+    requires { AreClauses (length marks.old.roots) clauses.now }
     ensures followed { IsFollowed (λ state. in_clauses clauses.now (over effect.now state) ≡ true)
         marks.old marks.new result }
     ensures kept { result ≡ true
@@ -64,11 +68,11 @@ pub(crate) fn start(clauses: &Clauses, effect: &Effect<'_>, marks: &mut Marks<'_
 pub(crate) fn visit(
     clauses: &Clauses,
     occurs: &Occurrences,
-    effect: &Effect<'_>,
-    marks: &mut Marks<'_>,
+    effect: &ActionEffect<'_>,
+    marks: &mut Assignment<'_>,
     from: usize,
 ) -> bool
-    requires clauses { AreClauses (length marks.old.base) clauses.now }
+    requires clauses { AreClauses (length marks.old.roots) clauses.now }
     requires index { IsIndexOf clauses.now occurs.now }
     requires from { from < length marks.old.trail }
     requires kept { AreKept effect.now clauses.now marks.old from }
@@ -93,10 +97,10 @@ pub(crate) fn visit(
 pub(crate) fn visit_all(
     clauses: &Clauses,
     standing: &Standing<'_>,
-    effect: &Effect<'_>,
-    marks: &mut Marks<'_>,
+    effect: &ActionEffect<'_>,
+    marks: &mut Assignment<'_>,
 ) -> bool
-    requires clauses { AreClauses (length marks.old.base) clauses.now }
+    requires clauses { AreClauses (length marks.old.roots) clauses.now }
     requires standing { AreStanding clauses.now standing.now }
     requires out { value_of effect.now (marks_of marks.old) standing.now.literal ≡ Some false }
     ensures followed { IsFollowed (λ state. in_clauses clauses.now (over effect.now state) ≡ true)
@@ -118,10 +122,10 @@ fn visit_one(
     clauses: &Clauses,
     standing: &Standing<'_>,
     index: usize,
-    effect: &Effect<'_>,
-    marks: &mut Marks<'_>,
+    effect: &ActionEffect<'_>,
+    marks: &mut Assignment<'_>,
 ) -> bool
-    requires clauses { AreClauses (length marks.old.base) clauses.now }
+    requires clauses { AreClauses (length marks.old.roots) clauses.now }
     requires standing { AreStanding clauses.now standing.now }
     requires index { index < length standing.now.places.now }
     requires out { value_of effect.now (marks_of marks.old) standing.now.literal ≡ Some false }
@@ -130,7 +134,7 @@ fn visit_one(
     ensures settled { result ≡ true → IsSettled effect.now (marks_of marks.new)
         (clause_at clauses.now (slice_index standing.now.places.now index)) }
 {
-    match beside::literal_at(standing.entries, index) {
+    match partners::literal_at(standing.entries, index) {
         Some(other) => literals::force(other, effect, marks),
         None => {
             let place = standing.places[index];

@@ -10,7 +10,7 @@ ghost use Rattle.hv_clauses.specs.Working.Units.{IsConcluded};
 use crate::clause_kind::ClauseKind;
 use crate::literals;
 use crate::problem::Problem;
-use crate::trail::Marks;
+use crate::trail::Assignment;
 use hv_sets::{Literal, Operand, Which};
 use std::slice;
 
@@ -59,10 +59,10 @@ pub(crate) fn deny_clause<K: ClauseKind>(
     problem: &Problem<'_, K>,
     operand: Operand,
     place: u64,
-    marks: &mut Marks<'_>,
+    marks: &mut Assignment<'_>,
 ) -> bool
     requires place { place < size_in problem.now operand.which }
-    requires size { length marks.old.base ≡ width problem.now }
+    requires size { length marks.old.roots ≡ width problem.now }
     ensures denied { IsConcluded (MissesClause problem.now operand place)
         (IsMissed problem.now operand place) (marks_of marks.old) (marks_of marks.new) result }
     ensures grown { Grows marks.old marks.new }
@@ -91,10 +91,10 @@ pub(crate) fn deny_clause<K: ClauseKind>(
 pub(crate) fn deny_all<K: ClauseKind>(
     problem: &Problem<'_, K>,
     number: u64,
-    marks: &mut Marks<'_>,
+    marks: &mut Assignment<'_>,
 ) -> bool
     requires number { number < choices problem.now }
-    requires size { length marks.old.base ≡ width problem.now }
+    requires size { length marks.old.roots ≡ width problem.now }
     ensures denied { IsConcluded (MissesAll problem.now number) (AreMissed problem.now number)
         (marks_of marks.old) (marks_of marks.new) result }
     ensures grown { Grows marks.old marks.new }

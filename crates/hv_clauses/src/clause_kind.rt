@@ -6,10 +6,10 @@ ghost use Rattle.hv_sets.specs.declared.literal.Literal.{Literal};
 ghost use Rattle.hv_sets.specs.Kinds.{IsFirstOther};
 ghost use Rattle.hv_clauses.specs.Kinded.{CompletesClauses, IsShort};
 ghost use Rattle.hv_clauses.specs.declared.completion.Completion.{Completion};
-ghost use Rattle.hv_clauses.specs.declared.listing.Listing.{Listing};
+ghost use Rattle.hv_clauses.specs.declared.kept_lists.KeptLists.{KeptLists};
 
 use crate::completion::Completion;
-use crate::listing::Listing;
+use crate::kept_lists::KeptLists;
 use hv_sets::Literal;
 use std::alloc::AllocError;
 
@@ -25,7 +25,7 @@ pub trait ClauseKind {
     ghost completed_by: { Completion };
 
     // Which lists a formula keeps, to hand them out.
-    ghost listed_by: { Listing };
+    ghost listed_by: { KeptLists };
 
     // The fault is right for these clauses.
     ghost is_fault: { List (List Literal) → Self.Fault → Type 0 };
@@ -39,7 +39,7 @@ pub trait ClauseKind {
         ensures { result ≡ completed_by };
 
     /// Which lists a formula of the kind keeps, to hand them out.
-    fn listing() -> Listing
+    fn listing() -> KeptLists
         ensures { result ≡ listed_by };
 
     /// The fault of clauses of which the one at this place is the first that is of another kind.
@@ -47,7 +47,7 @@ pub trait ClauseKind {
         ensures { (clauses : List (List Literal)) → IsFirstOther is_of clauses place
             → is_fault clauses result };
 
-    // Want of memory may come at any time.
+    // Memory may run out at any time.
     ghost memory_is_fault: { (clauses : List (List Literal)) (error : AllocError)
         (fault : Self.Fault) → Self.Fault.from_gives error fault → is_fault clauses fault };
 

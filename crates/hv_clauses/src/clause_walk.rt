@@ -11,7 +11,7 @@ ghost use Rattle.hv_clauses.specs.Working.Walked.{denial_for, denied_along};
 use crate::clause_kind::ClauseKind;
 use crate::formula::Formula;
 use crate::ranking;
-use hv_paths::{Stop, Walker};
+use hv_paths::{WalkStop, Walker};
 use hv_sets::Literal;
 use std::alloc::{AllocError, Global};
 
@@ -83,8 +83,8 @@ impl<'a, K: ClauseKind> Walker for ClauseWalk<'a, K> {
         Ok(Some(kept))
     }
 
-    fn stop(&self) -> Stop<'_> {
-        Stop::Cube(self.literals.as_slice())
+    fn stop(&self) -> WalkStop<'_> {
+        WalkStop::Cube(self.literals.as_slice())
     }
 }
 

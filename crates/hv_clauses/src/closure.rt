@@ -13,11 +13,11 @@ ghost use Rattle.hv_clauses.specs.Working.Occurrences.{IsIndexOf};
 ghost use Rattle.hv_clauses.specs.Working.Trail.{marked, marks_of};
 ghost use Rattle.hv_clauses.specs.Working.Units.{AreSettled};
 
-use crate::change::Effect;
-use crate::constraint::Alone;
+use crate::constraint::BareClauses;
+use crate::effect::ActionEffect;
 use crate::occurrences::Occurrences;
-use crate::trail::Marks;
-use crate::{chase, complete};
+use crate::trail::Assignment;
+use crate::{chase, propagation};
 use hv_sets::{Clauses, Literal};
 use std::alloc::{AllocError, Global};
 
@@ -34,7 +34,7 @@ pub(crate) struct Closure {
 
 impl Closure {
     /// What follows from these clauses, which speak of so many atoms. More than 2^32 clauses are
-    /// taken as want of memory. No line has so many: a clause takes two bytes at least, its space
+    /// taken as out of memory. No line has so many: a clause takes two bytes at least, its space
     /// among them, and so does a literal, so a line of 16,777,216 bytes has fewer than 8,388,608.
     pub(crate) fn of(alloc: Global, atoms: usize, clauses: &Clauses) -> Result<Closure, AllocError>
         requires few { atoms ≤ 2 ^ 31 }
@@ -94,7 +94,7 @@ fn force(
     let places = places.as_mut_slice();
     let queue = queue.as_mut_slice();
     let watched = places_watched.as_mut_slice();
-    let mut marks = Marks::over(atoms, &[], places, queue, watched);
+    let mut marks = Assignment::over(atoms, &[], places, queue, watched);
     if !conclude(clauses, occurs, &mut marks) {
         return Ok(false);
     }
@@ -103,30 +103,30 @@ fn force(
 }
 
 // Marks what follows from the clauses. The answer is false only if they are true in no state.
-fn conclude(clauses: &Clauses, occurs: &Occurrences, marks: &mut Marks<'_>) -> bool
-    requires clauses { AreClauses (length marks.old.base) clauses.now }
+fn conclude(clauses: &Clauses, occurs: &Occurrences, marks: &mut Assignment<'_>) -> bool
+    requires clauses { AreClauses (length marks.old.roots) clauses.now }
     requires index { IsIndexOf clauses.now occurs.now }
     requires none { marks.old.trail ≡ [] }
-    requires unknown { (p : ℕ) → known marks.old.base p ≡ None }
+    requires unknown { (p : ℕ) → known marks.old.roots p ≡ None }
     ensures settled { result ≡ true → AreSettled [] clauses.now (marks_of marks.new) }
-    ensures follows { result ≡ true → (state : List Bool) → length state ≡ length marks.old.base →
+    ensures follows { result ≡ true → (state : List Bool) → length state ≡ length marks.old.roots →
         in_clauses clauses.now state ≡ true → Agrees (marks_of marks.new) state }
-    ensures never { result ≡ false → AreNever (length marks.old.base) clauses.now }
-    ensures size { length marks.new.base ≡ length marks.old.base }
+    ensures never { result ≡ false → AreNever (length marks.old.roots) clauses.now }
+    ensures size { length marks.new.roots ≡ length marks.old.roots }
 {
-    let none = Effect::none();
+    let none = ActionEffect::none();
     if !chase::start(clauses, &none, marks) {
         return false;
     }
-    let alone = Alone { clauses, occurs };
-    complete::close(&alone, marks, 0)
+    let bare = BareClauses { clauses, occurs };
+    propagation::close(&bare, marks, 0)
 }
 
 // Lists what is known, by rising atoms.
-fn list(marks: &Marks<'_>, forced: &mut Vec<Literal>) -> Result<(), AllocError>
+fn list(marks: &Assignment<'_>, forced: &mut Vec<Literal>) -> Result<(), AllocError>
     requires none { forced.old.items ≡ [] }
     ensures rises { IfOk result (λ _. IsStrictlyIncreasing (atoms_of forced.new.items)) }
-    ensures same { IfOk result (λ _. (p : ℕ) → known (marked (length marks.now.base)
+    ensures same { IfOk result (λ _. (p : ℕ) → known (marked (length marks.now.roots)
         forced.new.items) p ≡ known (marks_of marks.now) p) }
 {
     for atom in 0..marks.atoms() as u32 {

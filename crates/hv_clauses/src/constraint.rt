@@ -9,10 +9,10 @@ ghost use Rattle.hv_clauses.specs.Working.Occurrences.{IsIndexOf};
 ghost use Rattle.hv_clauses.specs.Working.Trail.{Grows, Knowledge, marks_of};
 ghost use Rattle.hv_clauses.specs.Working.Units.{AreSettled};
 
-use crate::change::Effect;
 use crate::chase;
+use crate::effect::ActionEffect;
 use crate::occurrences::Occurrences;
-use crate::trail::Marks;
+use crate::trail::Assignment;
 use hv_sets::Clauses;
 
 // A condition on states of which can be told what follows from what was found out last.
@@ -31,8 +31,8 @@ pub(crate) trait Constraint {
 
     // Follows up the literal at this place of the trail. The answer is false only if no state that
     // agrees with what was known meets the condition.
-    fn visit(&self, marks: &mut Marks<'_>, from: usize) -> bool
-        requires over { is_over self.now (length marks.old.base) }
+    fn visit(&self, marks: &mut Assignment<'_>, from: usize) -> bool
+        requires over { is_over self.now (length marks.old.roots) }
         requires from { from < length marks.old.trail }
         requires left { left self.now marks.old from }
         ensures followed { IsFollowed (admits self.now) marks.old marks.new result }
@@ -48,23 +48,23 @@ pub(crate) trait Constraint {
 
 // Clauses, and where their literals stand.
 #[derive(Drop)]
-pub(crate) struct Alone<'a> {
+pub(crate) struct BareClauses<'a> {
     pub clauses: &'a Clauses,
     pub occurs: &'a Occurrences,
 }
 
-impl Constraint for Alone<'_> {
-    ghost is_over = { λ alone atoms. AreClauses atoms alone.clauses.now × IsIndexOf
-        alone.clauses.now alone.occurs.now };
+impl Constraint for BareClauses<'_> {
+    ghost is_over = { λ bare atoms. AreClauses atoms bare.clauses.now × IsIndexOf
+        bare.clauses.now bare.occurs.now };
 
-    ghost admits = { λ alone state. in_clauses alone.clauses.now (over [] state) ≡ true };
+    ghost admits = { λ bare state. in_clauses bare.clauses.now (over [] state) ≡ true };
 
-    ghost settled = { λ alone marks. AreSettled [] alone.clauses.now marks };
+    ghost settled = { λ bare marks. AreSettled [] bare.clauses.now marks };
 
-    ghost left = { λ alone k from. AreKept [] alone.clauses.now k from };
+    ghost left = { λ bare k from. AreKept [] bare.clauses.now k from };
 
-    fn visit(&self, marks: &mut Marks<'_>, from: usize) -> bool {
-        let none = Effect::none();
+    fn visit(&self, marks: &mut Assignment<'_>, from: usize) -> bool {
+        let none = ActionEffect::none();
         chase::visit(self.clauses, self.occurs, &none, marks, from)
     }
 

@@ -10,13 +10,13 @@ ghost use Rattle.hv_clauses.specs.Working.Marks.{Agrees};
 ghost use Rattle.hv_clauses.specs.Working.Trail.{Grows, marks_of};
 ghost use Rattle.hv_clauses.specs.Working.Units.{AreFalse};
 
-use crate::change::Effect;
+use crate::effect::ActionEffect;
 use crate::literals;
-use crate::trail::Marks;
+use crate::trail::Assignment;
 use hv_sets::{Clauses, Literal};
 use hv_task::State;
 
-// Looks for a state of the cube in which a clause is false, in room for each atom. The answer is
+// Looks for a state of the cube in which a clause is false, in space for each atom. The answer is
 // false if there is one.
 pub(crate) fn cover(
     clauses: &Clauses,
@@ -36,20 +36,25 @@ pub(crate) fn cover(
     ensures state { length state.new ≡ length state.old }
 {
     let atoms = state.atoms() as usize;
-    let mut marks = Marks::over(atoms, &[], places, queue, &mut []);
+    let mut marks = Assignment::over(atoms, &[], places, queue, &mut []);
     cover_from(clauses, cube, &mut marks, state)
 }
 
 // The same from marks that say nothing.
-fn cover_from(clauses: &Clauses, cube: &[Literal], marks: &mut Marks<'_>, state: &mut State) -> bool
+fn cover_from(
+    clauses: &Clauses,
+    cube: &[Literal],
+    marks: &mut Assignment<'_>,
+    state: &mut State,
+) -> bool
     requires clauses { AreClauses (length state.old) clauses.now }
     requires cube { SpeakBelow (length state.old) cube.now }
-    requires marks { length marks.old.base ≡ length state.old }
+    requires marks { length marks.old.roots ≡ length state.old }
     requires none { (p : ℕ) → known (marks_of marks.old) p ≡ None }
     ensures covers { Covers result (length state.old) (in_clauses clauses.now) cube.now state.new }
     ensures state { length state.new ≡ length state.old }
 {
-    let none = Effect::none();
+    let none = ActionEffect::none();
     if !literals::force_all(cube, &none, marks) {
         return true;
     }
@@ -64,15 +69,15 @@ fn cover_from(clauses: &Clauses, cube: &[Literal], marks: &mut Marks<'_>, state:
 
 // Marks the literals of the clause as false. The answer is false if the clause is true in each
 // state that agrees with what is known: that is then as it was.
-fn breaks(clause: &[Literal], marks: &mut Marks<'_>) -> bool
-    requires { SpeakBelow (length marks.old.base) clause.now }
+fn breaks(clause: &[Literal], marks: &mut Assignment<'_>) -> bool
+    requires { SpeakBelow (length marks.old.roots) clause.now }
     ensures broken { result ≡ true → AreFalse [] clause.now (marks_of marks.new) × Grows marks.old
         marks.new }
     ensures same { result ≡ false → marks.new ≡ marks.old }
-    ensures true_in { result ≡ false → (state : List Bool) → length state ≡ length marks.old.base →
+    ensures true_in { result ≡ false → (state : List Bool) → length state ≡ length marks.old.roots →
         Agrees (marks_of marks.old) state → in_clause clause.now state ≡ true }
 {
-    let none = Effect::none();
+    let none = ActionEffect::none();
     if literals::has_true(clause, &none, marks) {
         return false;
     }

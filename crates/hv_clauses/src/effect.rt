@@ -1,51 +1,123 @@
-//! What an action asks for.
+//! What an action does to a state.
 
-ghost use Rattle.std.specs.Prelude.{◌≡◌, true, length};
-ghost use Rattle.hv_task.specs.State.{AreBelow, has_all};
+ghost use Rattle.std.specs.Prelude.{◌≡◌, ◌<◌, ◌↔◌, [], ℕ, IsTrue, IfSome, Some, length};
+ghost use Rattle.std.specs.List.{Contains};
+ghost use Rattle.std.specs.List.Sorted.{IsStrictlyIncreasing};
+ghost use Rattle.hv_task.specs.Working.AtomList.{IsPlaceOf};
+ghost use Rattle.hv_task.specs.Strips.{atoms};
 ghost use Rattle.hv_sets.specs.Query.{action_of};
-ghost use Rattle.hv_clauses.specs.Working.Effect.{AreMarkedIn, IsEnabled};
-ghost use Rattle.hv_clauses.specs.Working.Posed.{Applies, width};
-ghost use Rattle.hv_clauses.specs.Working.Trail.{Grows, marks_of};
-ghost use Rattle.hv_clauses.specs.Working.Units.{IsConcluded};
+ghost use Rattle.hv_clauses.specs.Working.Clausal.{late};
+ghost use Rattle.hv_clauses.specs.Working.Effect.{IsEffect};
+ghost use Rattle.hv_clauses.specs.Marks.{known};
 
-use crate::change::Effect;
-use crate::clause_kind::ClauseKind;
-use crate::literals;
-use crate::problem::Problem;
-use crate::trail::Marks;
-use hv_sets::Literal;
+use hv_task::Task;
+use std::marker::Model;
 
-// Marks what the action asks for. The answer is false if it is applicable in no state that agrees
-// with the marks.
-pub(crate) fn mark_pre<K: ClauseKind>(problem: &Problem<'_, K>, marks: &mut Marks<'_>) -> bool
-    requires { length marks.old.base ≡ width problem.now }
-    ensures marked { IsConcluded (Applies problem.now)
-        (IsEnabled (action_of problem.now.task problem.now.query.action)) (marks_of marks.old)
-        (marks_of marks.new) result }
-    ensures grown { Grows marks.old marks.new }
-{
-    match problem.action() {
-        None => true,
-        Some(action) => force_in(action.pre.as_slice(), marks),
+/// The effect of an action: the atoms that it adds, and those that it deletes unless it adds them,
+/// rising.
+#[derive(Drop)]
+pub(crate) struct ActionEffect<'a> {
+    atoms: usize,
+    add: &'a [u32],
+    del: &'a [u32],
+}
+
+impl<'a> Model for ActionEffect<'a> {
+    ghost use Rattle.std.specs.Prelude.{ℕ, List};
+    ghost use Rattle.std.specs.List.Sorted.{IsStrictlyIncreasing};
+    ghost use Rattle.hv_task.specs.State.{AreBelow};
+    ghost use Rattle.hv_clauses.specs.Working.Effect.{effect_of};
+
+    ghost Value = { List ℕ };
+
+    ghost view = { λ s. effect_of s.atoms s.add.now s.del.now };
+
+    ghost invariant = { λ s. IsStrictlyIncreasing s.add.now × IsStrictlyIncreasing s.del.now ×
+        AreBelow s.atoms s.add.now × AreBelow s.atoms s.del.now };
+}
+
+impl<'a> ActionEffect<'a> {
+    /// No effect.
+    pub(crate) fn none() -> ActionEffect<'a>
+        ensures { result ≡ [] }
+    {
+        ActionEffect {
+            atoms: 0,
+            add: &[],
+            del: &[],
+        }
+    }
+
+    /// The effect of an action of the task, or of none.
+    pub(crate) fn of(task: &'a Task, action: Option<u32>) -> ActionEffect<'a>
+        requires action { IfSome action (λ a. a < length task.now.actions) }
+        ensures effect { IsEffect (action_of task.now action) result }
+        ensures size { length result ≡ atoms task.now }
+    {
+        let atoms = task.atoms() as usize;
+        match action {
+            None => ActionEffect {
+                atoms,
+                add: &[],
+                del: &[],
+            },
+            Some(number) => {
+                let action = task.action(number);
+                ActionEffect {
+                    atoms,
+                    add: action.add.as_slice(),
+                    del: action.del.as_slice(),
+                }
+            }
+        }
+    }
+
+    /// The same effect, or none.
+    pub(crate) fn late(&self, after: bool) -> ActionEffect<'a>
+        ensures { result ≡ late self.now after }
+    {
+        if after {
+            ActionEffect {
+                atoms: self.atoms,
+                add: self.add,
+                del: self.del,
+            }
+        } else {
+            ActionEffect::none()
+        }
+    }
+
+    /// What an atom is made, if that is known.
+    pub(crate) fn read(&self, atom: u32) -> Option<bool>
+        ensures { result ≡ known self.now atom }
+    {
+        if is_among(self.add, atom) {
+            return Some(true);
+        }
+        if is_among(self.del, atom) {
+            return Some(false);
+        }
+        None
+    }
+
+    /// Atoms among which are all that are put in (true) or out (false).
+    pub(crate) fn turned(&self, value: bool) -> &[u32]
+        ensures { (p : ℕ) → known self.now p ≡ Some value → Contains result.now p }
+    {
+        if value { self.add } else { self.del }
     }
 }
 
-// Marks each atom as in. The answer is false if one is known to be out.
-fn force_in(atoms: &[u32], marks: &mut Marks<'_>) -> bool
-    requires { AreBelow (length marks.old.base) atoms.now }
-    ensures marked { IsConcluded (λ state. has_all atoms.now state ≡ true) (AreMarkedIn atoms.now)
-        (marks_of marks.old) (marks_of marks.new) result }
-    ensures grown { Grows marks.old marks.new }
+fn is_among(atoms: &[u32], atom: u32) -> bool
+    requires { IsStrictlyIncreasing atoms.now }
+    ensures { IsTrue result ↔ Contains atoms.now atom }
 {
-    let none = Effect::none();
-    for atom in atoms {
-        let literal = Literal {
-            atom: *atom,
-            positive: true,
-        };
-        if !literals::force(literal, &none, marks) {
-            return false;
-        }
-    }
-    true
+    place_of(atoms, atom).is_ok()
+}
+
+fn place_of(atoms: &[u32], atom: u32) -> Result<usize, usize>
+    requires { IsStrictlyIncreasing atoms.now }
+    ensures { IsPlaceOf atoms.now atom result }
+{
+    atoms.binary_search(&atom)
 }

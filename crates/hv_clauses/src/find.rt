@@ -7,7 +7,7 @@ ghost use Rattle.hv_sets.specs.Cost.{ClausesPass, IsAnswer};
 ghost use Rattle.hv_sets.specs.Query.{IsReady, is_clash};
 ghost use Rattle.hv_sets.specs.Room.{HasRoom, KeepsLengths};
 ghost use Rattle.hv_clauses.specs.Clausal.{tests_of, sizes_of};
-ghost use Rattle.hv_clauses.specs.Working.Found.{IsBased, IsSearchBegun, IsFound, IsMet};
+ghost use Rattle.hv_clauses.specs.Working.Found.{AreFollowedRoots, IsSearchBegun, IsFound, IsMet};
 ghost use Rattle.hv_clauses.specs.Working.Found.{IsMetBelow};
 ghost use Rattle.hv_clauses.specs.Working.Posed.{Applies, InEach, IsPosed, choices, formulas};
 ghost use Rattle.hv_clauses.specs.Working.Posed.{width};
@@ -20,15 +20,15 @@ use crate::clause_kind::ClauseKind;
 use crate::constraint::Constraint;
 use crate::formulas::Formulas;
 use crate::problem::{self, Problem};
-use crate::trail::Marks;
-use crate::{choices, complete, effect, frame, fronts, owners, start, touched};
+use crate::trail::Assignment;
+use crate::{affected, choices, fronts, literal_owners, precondition, propagation, refuted, start};
 use hv_sets::{Finding, Operand, Query, Scratch};
 use hv_task::{State, Task};
 use std::alloc::Global;
 
 /// The exact answer to a query over a store of clauses of one kind: Over exactly where there are
 /// more choices of one clause of each negative operand than the budget; else Clash exactly where
-/// some state is a counterexample, and such a state then stands in the scratch; else Empty. It
+/// some state is a counterexample, and such a state then is in the scratch; else Empty. It
 /// takes memory only from what is given here, for lists of the operands where there are many, and
 /// does without where there is none.
 pub(crate) fn find_in<K: ClauseKind>(
@@ -71,7 +71,7 @@ struct Means {
     alloc: Option<Global>,
 }
 
-// Starts at what follows from one positive operand alone, in room for each atom.
+// Starts at what follows from one positive operand alone, in space for each atom.
 fn search<K: ClauseKind>(
     problem: &Problem<'_, K>,
     means: Means,
@@ -96,38 +96,43 @@ fn search<K: ClauseKind>(
         return false;
     };
     let atoms = problem.atoms() as usize;
-    let based = start.operand;
-    let mut marks = Marks::from(atoms, start.base, places, queue, watches);
-    search_from(problem, based, means, &mut marks, state)
+    let rooted = start.operand;
+    let mut marks = Assignment::from(atoms, start.roots, places, queue, watches);
+    search_from(problem, rooted, means, &mut marks, state)
 }
 
 // Marks what follows from the precondition and the positive operands, and then tries the choices.
-// Where more is to be gone through than literals stand in the positive operands, those that have
+// Where more is to be gone through than literals are in the positive operands, those that have
 // each literal are listed first.
 fn search_from<K: ClauseKind>(
     problem: &Problem<'_, K>,
-    based: Option<Operand>,
+    rooted: Option<Operand>,
     means: Means,
-    marks: &mut Marks<'_>,
+    marks: &mut Assignment<'_>,
     state: &mut State,
 ) -> bool
     requires cost { means.cost ≡ choices problem.now }
-    requires marks { length marks.old.base ≡ width problem.now }
+    requires marks { length marks.old.roots ≡ width problem.now }
     requires none { marks.old.trail ≡ [] }
-    requires based { IsBasedOn problem.now based marks.old.base }
+    requires rooted { IsBasedOn problem.now rooted marks.old.roots }
     requires follows { HoldInEach problem.now (marks_of marks.old) }
     requires state { length state.old ≡ width problem.now }
     ensures met { IsMetBelow result (choices problem.now) (width problem.now)
         (FitsChoice problem.now) state.new }
     ensures state { length state.new ≡ length state.old }
 {
-    let size = owners::size_of(problem);
-    let Some(place) = mark_base(problem, based, owners::patience(problem, size), marks) else {
+    let size = literal_owners::size_of(problem);
+    let Some(place) = mark_base(
+        problem,
+        rooted,
+        literal_owners::patience(problem, size),
+        marks,
+    ) else {
         return false;
     };
     let cost = means.cost;
-    let pays = place < marks.len() || owners::pays(problem, size, cost);
-    match owners::listed(means.alloc, problem, pays) {
+    let pays = place < marks.len() || literal_owners::pays(problem, size, cost);
+    match literal_owners::listed(means.alloc, problem, pays) {
         None => search_on(problem, place, cost, marks, state),
         Some(owners) => search_on(&problem.with(owners), place, cost, marks, state),
     }
@@ -138,7 +143,7 @@ fn search_on<K: ClauseKind>(
     problem: &Problem<'_, K>,
     place: usize,
     cost: u64,
-    marks: &mut Marks<'_>,
+    marks: &mut Assignment<'_>,
     state: &mut State,
 ) -> bool
     requires cost { cost ≡ choices problem.now }
@@ -148,7 +153,7 @@ fn search_on<K: ClauseKind>(
         (FitsChoice problem.now) state.new }
     ensures state { length state.new ≡ length state.old }
 {
-    if !complete::close(problem, marks, place) {
+    if !propagation::close(problem, marks, place) {
         return false;
     }
     choose(problem, cost, marks, state)
@@ -159,25 +164,25 @@ fn search_on<K: ClauseKind>(
 // state meets these.
 fn mark_base<K: ClauseKind>(
     problem: &Problem<'_, K>,
-    based: Option<Operand>,
+    rooted: Option<Operand>,
     upto: usize,
-    marks: &mut Marks<'_>,
+    marks: &mut Assignment<'_>,
 ) -> Option<usize>
-    requires marks { length marks.old.base ≡ width problem.now }
+    requires marks { length marks.old.roots ≡ width problem.now }
     requires none { marks.old.trail ≡ [] }
-    requires based { IsBasedOn problem.now based marks.old.base }
+    requires rooted { IsBasedOn problem.now rooted marks.old.roots }
     requires follows { HoldInEach problem.now (marks_of marks.old) }
     ensures { MatchOption result ((state : List Bool) → length state ≡ width problem.now
         → Applies problem.now state → InEach problem.now state → ⊥)
         (λ place. IsSearchBegun problem.now place marks.new) }
 {
-    if !effect::mark_pre(problem, marks) {
+    if !precondition::mark_pre(problem, marks) {
         return None;
     }
-    if !problem::start_all(problem, based, marks) {
+    if !problem::start_all(problem, rooted, marks) {
         return None;
     }
-    complete::close_upto(problem, marks, upto)
+    propagation::close_upto(problem, marks, upto)
 }
 
 // Tries choices of one clause of each negative operand. The answer is true once one fits some
@@ -185,18 +190,18 @@ fn mark_base<K: ClauseKind>(
 fn choose<K: ClauseKind>(
     problem: &Problem<'_, K>,
     cost: u64,
-    marks: &mut Marks<'_>,
+    marks: &mut Assignment<'_>,
     state: &mut State,
 ) -> bool
     requires cost { cost ≡ choices problem.now }
-    requires based { IsBased problem.now marks.old }
+    requires rooted { AreFollowedRoots problem.now marks.old }
     requires state { length state.old ≡ width problem.now }
     ensures met { IsMetBelow result (choices problem.now)
         (width problem.now) (FitsChoice problem.now) state.new }
     ensures state { length state.new ≡ length state.old }
 {
-    match frame::framed(problem) {
-        Some(operand) => touched::choose_touched(problem, operand, marks, state),
+    match refuted::asked_twice(problem) {
+        Some(operand) => affected::choose_affected(problem, operand, marks, state),
         None => fronts::choose_each(problem, cost, marks, state),
     }
 }
@@ -206,17 +211,17 @@ fn choose<K: ClauseKind>(
 pub(crate) fn decide<K: ClauseKind>(
     problem: &Problem<'_, K>,
     number: u64,
-    marks: &mut Marks<'_>,
+    marks: &mut Assignment<'_>,
     state: &mut State,
 ) -> bool
     requires number { number < choices problem.now }
-    requires based { IsBased problem.now marks.old }
+    requires rooted { AreFollowedRoots problem.now marks.old }
     requires state { length state.old ≡ width problem.now }
     ensures met { IsMet result (width problem.now) (FitsChoice problem.now number) state.new }
     ensures same { marks.new ≡ marks.old }
     ensures state { length state.new ≡ length state.old }
 {
-    if frame::is_refuted(problem, number, marks) {
+    if refuted::is_refuted(problem, number, marks) {
         return false;
     }
     let point = marks.len();
@@ -229,11 +234,11 @@ pub(crate) fn decide<K: ClauseKind>(
 fn try_choice<K: ClauseKind>(
     problem: &Problem<'_, K>,
     number: u64,
-    marks: &mut Marks<'_>,
+    marks: &mut Assignment<'_>,
     state: &mut State,
 ) -> bool
     requires number { number < choices problem.now }
-    requires based { IsBased problem.now marks.old }
+    requires rooted { AreFollowedRoots problem.now marks.old }
     requires state { length state.old ≡ width problem.now }
     ensures met { IsMet result (width problem.now) (FitsChoice problem.now number) state.new }
     ensures grown { Grows marks.old marks.new }
@@ -245,8 +250,8 @@ fn try_choice<K: ClauseKind>(
     if !choices::deny_all(problem, number, marks) {
         return false;
     }
-    if !complete::close(problem, marks, point) {
+    if !propagation::close(problem, marks, point) {
         return false;
     }
-    complete::complete(how, problem, marks, state)
+    propagation::complete(how, problem, marks, state)
 }

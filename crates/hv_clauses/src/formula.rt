@@ -17,15 +17,15 @@ ghost use Rattle.hv_clauses.specs.Working.Kinded.{IsKinded};
 ghost use Rattle.hv_clauses.specs.Working.Laws as laws;
 ghost use Rattle.hv_clauses.specs.Negative.{StandsNegatively};
 ghost use Rattle.hv_clauses.specs.Rows.{IsRow};
-ghost use Rattle.hv_clauses.specs.declared.listing.Listing.TheVariants as L;
+ghost use Rattle.hv_clauses.specs.declared.kept_lists.KeptLists.TheVariants as L;
 ghost use Rattle.hv_clauses.specs.Working.Occurrences.{IsIndexOf};
 
 use crate::clause_kind::ClauseKind;
 use crate::closure::Closure;
-use crate::constraint::Alone;
-use crate::lists::Lists;
+use crate::constraint::BareClauses;
+use crate::implication_lists::ImplicationLists;
 use crate::occurrences::Occurrences;
-use crate::{alone, cover, denial, implied, rows};
+use crate::{cover, denial, implied, meet, rows};
 use hv_sets::{Clauses, Covering, Cube, Cursor, Literal, Outside, Scratch, StateSet, Step};
 use hv_task::{State, Task};
 use std::alloc::{AllocError, Global};
@@ -37,18 +37,18 @@ pub struct Formula<K: ClauseKind> {
     atoms: u32,
     clauses: Clauses,
     closure: Closure,
-    lists: Lists,
+    lists: ImplicationLists,
     kind: PhantomData<K>,
 }
 
 impl<K: ClauseKind> Model for Formula<K> {
-    ghost use Rattle.hv_clauses.specs.Clausal.{Formula};
+    ghost use Rattle.hv_clauses.specs.Clausal.{FormulaState};
     ghost use Rattle.hv_clauses.specs.Working.Kinded.{IsKinded};
     ghost use Rattle.hv_clauses.specs.Working.Closure.{IsClosure};
     ghost use Rattle.hv_clauses.specs.Working.Lists.{AreListsOf};
     ghost use Rattle.std.specs.Prelude.{◌≤◌, ◌^◌};
 
-    ghost Value = { Formula };
+    ghost Value = { FormulaState };
 
     ghost view = { λ s. record { atoms = s.atoms; clauses = s.clauses } };
 
@@ -59,8 +59,8 @@ impl<K: ClauseKind> Model for Formula<K> {
 
 impl<K: ClauseKind> Formula<K> {
     /// The formula of these clauses over the states of the task. More than 4,294,967,296 clauses
-    /// are answered as want of memory, and so are more than 4,294,967,295 literals of one sign or
-    /// implications. A formula that is read stands in a line, which has fewer than 8,388,608.
+    /// are answered as out of memory, and so are more than 4,294,967,295 literals of one sign or
+    /// implications. A formula that is read is in a line, which has fewer than 8,388,608.
     pub fn new(alloc: Global, task: &Task, clauses: &Clauses) -> Result<Formula<K>, K::Fault>
         requires { AreClauses (atoms task.now) clauses.now }
         ensures ok { IfOk result
@@ -83,7 +83,7 @@ impl<K: ClauseKind> Formula<K> {
     {
         let atoms = task.atoms();
         let copy = clauses.copy(alloc)?;
-        let lists = Lists::new(alloc, K::listing(), clauses)?;
+        let lists = ImplicationLists::new(alloc, K::listing(), clauses)?;
         let closure = Closure::of(alloc, atoms as usize, clauses)?;
         Ok(Formula {
             atoms,
@@ -110,7 +110,7 @@ impl<K: ClauseKind> Formula<K> {
         &self.clauses
     }
 
-    /// The numbers of the clauses in which the atom stands negatively: they rise, and each stands
+    /// The numbers of the clauses in which the atom occurs negatively: they rise, and each stands
     /// there once. It takes no memory.
     pub fn occurrences(&self, atom: u32) -> &[usize]
         requires { K.listed_by ≡ L.Negative }
@@ -148,14 +148,14 @@ impl<K: ClauseKind> Formula<K> {
     }
 
     // Its clauses with the places of their literals.
-    pub(crate) fn alone(&self) -> Alone<'_>
+    pub(crate) fn bare(&self) -> BareClauses<'_>
         ensures clauses { result.clauses.now ≡ self.now.clauses }
         ensures index { IsIndexOf result.clauses.now result.occurs.now }
         ensures below { AreClauses self.now.atoms result.clauses.now }
         ensures kind { All K.is_of result.clauses.now }
         ensures few { self.now.atoms ≤ 2 ^ 31 }
     {
-        Alone {
+        BareClauses {
             clauses: &self.clauses,
             occurs: &self.closure.occurs,
         }
@@ -173,7 +173,7 @@ impl<K: ClauseKind> Formula<K> {
         Some(self.closure.forced.as_slice())
     }
 
-    /// Whether some state is in the cube and in the set. One such state then stands in the scratch.
+    /// Whether some state is in the cube and in the set. One such state then is in the scratch.
     /// It takes no memory.
     pub fn meets_in(&self, cube: &Cube, scratch: &mut Scratch) -> bool
         requires cube { SpeakBelow self.now.atoms cube.now }
@@ -186,7 +186,7 @@ impl<K: ClauseKind> Formula<K> {
         let places = scratch.marks.as_mut_slice();
         let queue = scratch.queue.as_mut_slice();
         let watches = scratch.counts.as_mut_slice();
-        alone::meet(
+        meet::meet(
             self,
             cube.as_slice(),
             places,
@@ -197,7 +197,7 @@ impl<K: ClauseKind> Formula<K> {
     }
 
     /// Whether each state of the cube is in the set. Otherwise a state of the cube outside the set
-    /// stands in the scratch. It takes no memory.
+    /// is in the scratch. It takes no memory.
     pub fn covers_in(&self, cube: &Cube, scratch: &mut Scratch) -> bool
         requires cube { SpeakBelow self.now.atoms cube.now }
         requires room { HasRoom self.now.atoms 0 (length self.now.clauses) scratch.old }

@@ -29,10 +29,10 @@ pub struct Formulas<K: ClauseKind> {
 impl<K: ClauseKind> Model for Formulas<K> {
     ghost use Rattle.std.specs.Prelude.{List};
     ghost use Rattle.std.specs.List.{All};
-    ghost use Rattle.hv_clauses.specs.Clausal.{Formula};
+    ghost use Rattle.hv_clauses.specs.Clausal.{FormulaState};
     ghost use Rattle.hv_clauses.specs.Working.Kinded.{IsKinded};
 
-    ghost Value = { List Formula };
+    ghost Value = { List FormulaState };
 
     ghost view = { λ s. s.sets.items };
 

@@ -4,7 +4,7 @@
 
 ghost use Rattle.std.specs.Prelude.{◌≡◌, ◌<◌, ◌≤◌, ◌+◌, ◌*◌, ◌/◌, ◌%◌, ◌^◌, ℕ, Bool, List, Some};
 ghost use Rattle.std.specs.Prelude.{MatchOption, false, true, length, slice_get};
-ghost use Rattle.hv_clauses.specs.Working.Found.{IsBased, IsMet, IsMetBelow};
+ghost use Rattle.hv_clauses.specs.Working.Found.{AreFollowedRoots, IsMet, IsMetBelow};
 ghost use Rattle.hv_clauses.specs.Working.Front.{AreRefuted, IsAdvanced, IsFront, IsNever};
 ghost use Rattle.hv_clauses.specs.Working.Front.{block_end, block_length};
 ghost use Rattle.hv_clauses.specs.Working.Marks.{Agrees};
@@ -15,8 +15,8 @@ ghost use Rattle.hv_clauses.specs.Working.Trail.{Grows, marks_of};
 use crate::clause_kind::ClauseKind;
 use crate::constraint::Constraint;
 use crate::problem::Problem;
-use crate::trail::Marks;
-use crate::{choices, complete, frame};
+use crate::trail::Assignment;
+use crate::{choices, propagation, refuted};
 use hv_sets::Operand;
 use hv_task::State;
 
@@ -24,11 +24,11 @@ use hv_task::State;
 pub(crate) fn choose_each<K: ClauseKind>(
     problem: &Problem<'_, K>,
     cost: u64,
-    marks: &mut Marks<'_>,
+    marks: &mut Assignment<'_>,
     state: &mut State,
 ) -> bool
     requires cost { cost ≡ choices problem.now }
-    requires based { IsBased problem.now marks.old }
+    requires rooted { AreFollowedRoots problem.now marks.old }
     requires state { length state.old ≡ width problem.now }
     ensures met { IsMetBelow result cost (width problem.now) (FitsChoice problem.now) state.new }
     ensures state { length state.new ≡ length state.old }
@@ -49,12 +49,12 @@ fn explore<K: ClauseKind>(
     problem: &Problem<'_, K>,
     number: u64,
     cost: u64,
-    marks: &mut Marks<'_>,
+    marks: &mut Assignment<'_>,
     state: &mut State,
 ) -> Option<u64>
     requires cost { cost ≡ choices problem.now }
     requires number { number < cost }
-    requires based { IsBased problem.now marks.old }
+    requires rooted { AreFollowedRoots problem.now marks.old }
     requires state { length state.old ≡ width problem.now }
     ensures tried { MatchOption result (IsMetBelow true cost (width problem.now)
         (FitsChoice problem.now) state.new)
@@ -73,12 +73,12 @@ fn explore_on<K: ClauseKind>(
     problem: &Problem<'_, K>,
     number: u64,
     cost: u64,
-    marks: &mut Marks<'_>,
+    marks: &mut Assignment<'_>,
     state: &mut State,
 ) -> Option<u64>
     requires cost { cost ≡ choices problem.now }
     requires number { number < cost }
-    requires based { IsBased problem.now marks.old }
+    requires rooted { AreFollowedRoots problem.now marks.old }
     requires state { length state.old ≡ width problem.now }
     ensures tried { MatchOption result (IsMetBelow true cost (width problem.now)
         (FitsChoice problem.now) state.new)
@@ -107,7 +107,7 @@ fn explore_on<K: ClauseKind>(
 
 // The first choice from this one on, among those with the same clauses of the operands behind this
 // one, whose clause of this operand isn't refuted at once; it is followed up. Each clause of it
-// stands for so many numbers. The answer is None if each is refuted: then no such choice fits any
+// denotes so many numbers. The answer is None if each is refuted: then no such choice fits any
 // state.
 fn first_open<K: ClauseKind>(
     problem: &Problem<'_, K>,
@@ -115,7 +115,7 @@ fn first_open<K: ClauseKind>(
     place: usize,
     next: u64,
     part: u64,
-    marks: &mut Marks<'_>,
+    marks: &mut Assignment<'_>,
 ) -> Option<u64>
     requires here { slice_get problem.now.query.negative place ≡ Some operand }
     requires next { next < choices problem.now }
@@ -161,7 +161,7 @@ fn fix<K: ClauseKind>(
     operand: Operand,
     place: usize,
     rest: u64,
-    marks: &mut Marks<'_>,
+    marks: &mut Assignment<'_>,
 ) -> bool
     requires here { slice_get problem.now.query.negative place ≡ Some operand }
     requires some { 0 < size_in problem.now operand.which }
@@ -173,7 +173,7 @@ fn fix<K: ClauseKind>(
     ensures grown { Grows marks.old marks.new }
 {
     let digit = rest % problem.count_of(operand.which);
-    if frame::is_clause_true(problem, operand, digit, marks) {
+    if refuted::is_clause_true(problem, operand, digit, marks) {
         return false;
     }
     let point = marks.len();
@@ -190,10 +190,10 @@ fn deny<K: ClauseKind>(
     problem: &Problem<'_, K>,
     operand: Operand,
     digit: u64,
-    marks: &mut Marks<'_>,
+    marks: &mut Assignment<'_>,
 ) -> bool
     requires digit { digit < size_in problem.now operand.which }
-    requires wide { length marks.old.base ≡ width problem.now }
+    requires wide { length marks.old.roots ≡ width problem.now }
     requires left { AreLeft problem.now marks.old (length marks.old.trail) }
     ensures follows { (state : List Bool) → length state ≡ width problem.now
         → InEach problem.now state → MissesClause problem.now operand digit state
@@ -210,14 +210,14 @@ fn deny<K: ClauseKind>(
     if !choices::deny_clause(problem, operand, digit, marks) {
         return false;
     }
-    complete::close(problem, marks, point)
+    propagation::close(problem, marks, point)
 }
 
 // Completes what is known where a clause of each negative operand is chosen.
 fn finish<K: ClauseKind>(
     problem: &Problem<'_, K>,
     number: u64,
-    marks: &mut Marks<'_>,
+    marks: &mut Assignment<'_>,
     state: &mut State,
 ) -> bool
     requires front { IsFront problem.now 0 number marks.old }
@@ -228,5 +228,5 @@ fn finish<K: ClauseKind>(
 {
     let how = problem.completion();
     problem.laws();
-    complete::complete(how, problem, marks, state)
+    propagation::complete(how, problem, marks, state)
 }

@@ -10,13 +10,17 @@ ghost use Rattle.hv_clauses.specs.Working.Trail.{Grows, marks_of};
 ghost use Rattle.hv_clauses.specs.Units.{value_of};
 ghost use Rattle.hv_clauses.specs.Working.Units.{AreFalse, AreKnownTrue, IsConcluded};
 
-use crate::change::Effect;
-use crate::trail::Marks;
+use crate::effect::ActionEffect;
+use crate::trail::Assignment;
 use hv_sets::Literal;
 
 // Whether a literal is true, as far as that is known.
 #[inline(always)]
-pub(crate) fn value(effect: &Effect<'_>, marks: &Marks<'_>, literal: Literal) -> Option<bool>
+pub(crate) fn value(
+    effect: &ActionEffect<'_>,
+    marks: &Assignment<'_>,
+    literal: Literal,
+) -> Option<bool>
     ensures { result ≡ value_of effect.now (marks_of marks.now) literal }
 {
     let known = match effect.read(literal.atom) {
@@ -30,7 +34,11 @@ pub(crate) fn value(effect: &Effect<'_>, marks: &Marks<'_>, literal: Literal) ->
 }
 
 // Whether a literal of the clause is known to be true.
-pub(crate) fn has_true(clause: &[Literal], effect: &Effect<'_>, marks: &Marks<'_>) -> bool
+pub(crate) fn has_true(
+    clause: &[Literal],
+    effect: &ActionEffect<'_>,
+    marks: &Assignment<'_>,
+) -> bool
     ensures { result ≡ true → (l : Literal) × Contains clause.now l ×
         (value_of effect.now (marks_of marks.now) l ≡ Some true) }
 {
@@ -43,8 +51,8 @@ pub(crate) fn has_true(clause: &[Literal], effect: &Effect<'_>, marks: &Marks<'_
 }
 
 // Marks a literal as true. The answer is false if it is known to be false.
-pub(crate) fn force(literal: Literal, effect: &Effect<'_>, marks: &mut Marks<'_>) -> bool
-    requires { literal.atom < length marks.old.base }
+pub(crate) fn force(literal: Literal, effect: &ActionEffect<'_>, marks: &mut Assignment<'_>) -> bool
+    requires { literal.atom < length marks.old.roots }
     ensures forced { IsConcluded (λ state. in_literal literal (over effect.now state) ≡ true)
         (λ marks. value_of effect.now marks literal ≡ Some true) (marks_of marks.old)
         (marks_of marks.new) result }
@@ -60,8 +68,12 @@ pub(crate) fn force(literal: Literal, effect: &Effect<'_>, marks: &mut Marks<'_>
 }
 
 // Marks each literal as true. The answer is false if one is known to be false.
-pub(crate) fn force_all(literals: &[Literal], effect: &Effect<'_>, marks: &mut Marks<'_>) -> bool
-    requires { SpeakBelow (length marks.old.base) literals.now }
+pub(crate) fn force_all(
+    literals: &[Literal],
+    effect: &ActionEffect<'_>,
+    marks: &mut Assignment<'_>,
+) -> bool
+    requires { SpeakBelow (length marks.old.roots) literals.now }
     ensures forced { IsConcluded (λ state. in_cube literals.now (over effect.now state) ≡ true)
         (AreKnownTrue effect.now literals.now) (marks_of marks.old) (marks_of marks.new) result }
     ensures grown { Grows marks.old marks.new }
@@ -75,8 +87,12 @@ pub(crate) fn force_all(literals: &[Literal], effect: &Effect<'_>, marks: &mut M
 }
 
 // Marks each literal as false. The answer is false if one is known to be true.
-pub(crate) fn deny(clause: &[Literal], effect: &Effect<'_>, marks: &mut Marks<'_>) -> bool
-    requires { SpeakBelow (length marks.old.base) clause.now }
+pub(crate) fn deny(
+    clause: &[Literal],
+    effect: &ActionEffect<'_>,
+    marks: &mut Assignment<'_>,
+) -> bool
+    requires { SpeakBelow (length marks.old.roots) clause.now }
     ensures denied { IsConcluded (λ state. in_clause clause.now (over effect.now state) ≡ false)
         (AreFalse effect.now clause.now) (marks_of marks.old) (marks_of marks.new) result }
     ensures grown { Grows marks.old marks.new }

@@ -21,7 +21,7 @@ use std::alloc::{AllocError, Global};
 const SHORT: usize = 16;
 
 /// What is tried of a formula for a listed state. Where there are many clauses of one or two
-/// literals of one sign alone, these stand in rows: for each atom the flags of the others are this
+/// literals of one sign alone, these are in rows: for each atom the flags of the others are this
 /// sign where one clause has both. Of the other clauses some are tried one by one, and those with a
 /// negative literal, where that is said, where the state holds its atom.
 #[derive(Drop)]
@@ -50,7 +50,7 @@ impl Mates {
         }
     }
 
-    // Those of these clauses. More than 4,294,967,295 are taken as want of memory; a line has fewer
+    // Those of these clauses. More than 4,294,967,295 are taken as out of memory; a line has fewer
     // than 8,388,608.
     pub(crate) fn of(alloc: Global, atoms: u32, clauses: &Clauses) -> Result<Mates, AllocError>
         requires { AreClauses atoms clauses.now }
@@ -299,7 +299,7 @@ fn agrees(row: &State, sign: bool, state: &State) -> bool
     }
 }
 
-// Whether the clauses are true in which one of these atoms stands negatively.
+// Whether the clauses are true in which one of these atoms occurs negatively.
 fn are_true_at(clauses: &Clauses, occurs: &Occurrences, held: &[u32], state: &State) -> bool
     requires clauses { AreClauses (length state.now) clauses.now }
     requires occurs { IsIndexOf clauses.now occurs.now }
@@ -313,7 +313,7 @@ fn are_true_at(clauses: &Clauses, occurs: &Occurrences, held: &[u32], state: &St
     true
 }
 
-// Whether the clauses are true in which the atom stands negatively.
+// Whether the clauses are true in which the atom occurs negatively.
 fn are_true_under(clauses: &Clauses, occurs: &Occurrences, atom: u32, state: &State) -> bool
     requires clauses { AreClauses (length state.now) clauses.now }
     requires occurs { IsIndexOf clauses.now occurs.now }

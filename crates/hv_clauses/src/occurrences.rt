@@ -7,8 +7,8 @@ ghost use Rattle.hv_sets.specs.Cubes.{SpeakBelow};
 ghost use Rattle.hv_clauses.specs.Working.Occurrences.{AreOccurrences, AreStanding, IsIndexOf};
 ghost use Rattle.hv_clauses.specs.Working.Occurrences.{signed};
 
-use crate::rows::Head;
-use crate::{beside, rows, signed};
+use crate::rows::RowHead;
+use crate::{partners, rows, signed};
 use hv_sets::{Clauses, Literal};
 use std::alloc::{AllocError, Global};
 
@@ -16,17 +16,17 @@ use std::alloc::{AllocError, Global};
 /// of the atom, each once, and where those of each atom begin. At the same place of another list
 /// stands the other literal of a clause of two; from the end of that list on there is none.
 #[derive(Drop)]
-pub(crate) struct Signed {
-    pub heads: Vec<Head>,
+pub(crate) struct SignedOccurrences {
+    pub heads: Vec<RowHead>,
     pub places: Vec<usize>,
-    pub beside: Vec<u32>,
+    pub partners: Vec<u32>,
 }
 
 /// Where the literals of clauses stand, for each sign.
 #[derive(Drop)]
 pub(crate) struct Occurrences {
-    pub negative: Signed,
-    pub positive: Signed,
+    pub negative: SignedOccurrences,
+    pub positive: SignedOccurrences,
 }
 
 /// Where one literal stands.
@@ -42,14 +42,14 @@ pub(crate) struct Standing<'a> {
 
 impl Occurrences {
     /// Where the literals of these clauses stand. More than 2^32 literals of one sign are taken as
-    /// want of memory; a line has fewer than 8,388,608 literals.
+    /// out of memory; a line has fewer than 8,388,608 literals.
     pub(crate) fn new(alloc: Global, clauses: &Clauses) -> Result<Occurrences, AllocError>
         requires few { length clauses.now ≤ 2 ^ 32 }
         requires below { All (SpeakBelow (2 ^ 31)) clauses.now }
         ensures { IfOk result (IsIndexOf clauses.now) }
     {
-        let negative = Signed::new(alloc, clauses, false)?;
-        let positive = Signed::new(alloc, clauses, true)?;
+        let negative = SignedOccurrences::new(alloc, clauses, false)?;
+        let positive = SignedOccurrences::new(alloc, clauses, true)?;
         Ok(Occurrences { negative, positive })
     }
 
@@ -64,16 +64,16 @@ impl Occurrences {
     }
 
     // Where the literals of one sign stand.
-    pub(crate) fn signed(&self, sign: bool) -> &Signed
+    pub(crate) fn signed(&self, sign: bool) -> &SignedOccurrences
         ensures { result.now ≡ signed self.now sign }
     {
         if sign { &self.positive } else { &self.negative }
     }
 }
 
-impl Signed {
+impl SignedOccurrences {
     // Where the literals of this sign stand.
-    fn new(alloc: Global, clauses: &Clauses, sign: bool) -> Result<Signed, AllocError>
+    fn new(alloc: Global, clauses: &Clauses, sign: bool) -> Result<SignedOccurrences, AllocError>
         requires few { length clauses.now ≤ 2 ^ 32 }
         requires below { All (SpeakBelow (2 ^ 31)) clauses.now }
         ensures { IfOk result (AreOccurrences sign clauses.now) }
@@ -81,12 +81,12 @@ impl Signed {
         let mut places = signed::codes_of(alloc, clauses, sign)?;
         rows::sort(&mut places);
         let heads = rows::heads_of(alloc, &places)?;
-        let beside = beside::entries_of(alloc, clauses, &places, sign)?;
+        let partners = partners::entries_of(alloc, clauses, &places, sign)?;
         rows::strip(&mut places);
-        Ok(Signed {
+        Ok(SignedOccurrences {
             heads,
             places,
-            beside,
+            partners,
         })
     }
 
@@ -103,7 +103,7 @@ impl Signed {
         Standing {
             literal,
             places: &self.places[own.from..own.upto],
-            entries: part(&self.beside, own.from, own.upto),
+            entries: part(&self.partners, own.from, own.upto),
         }
     }
 }

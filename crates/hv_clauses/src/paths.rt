@@ -1,9 +1,9 @@
 //! Formulas walked over and asked about along paths.
 
-use crate::asked::FormulaAsk;
 use crate::clause_kind::ClauseKind;
 use crate::clause_walk::ClauseWalk;
 use crate::formula::Formula;
+use crate::formula_ask::FormulaAsk;
 use crate::listed_ask::ListedAsk;
 use crate::rest_ask::RestAsk;
 use hv_paths::{InsideAsked, OutsideAsk, OutsideAsked, OutsideWalked};

@@ -9,7 +9,7 @@ ghost use Rattle.hv_sets.specs.declared.operand.Operand.{Operand as OperandOf};
 ghost use Rattle.hv_sets.specs.Names.{AsksAbout};
 ghost use Rattle.hv_sets.specs.Query.{IsNamed, IsReady, action_of};
 ghost use Rattle.hv_sets.specs.Truth.{in_clauses, is_same};
-ghost use Rattle.hv_clauses.specs.Working.Base.{AreSettledBut};
+ghost use Rattle.hv_clauses.specs.Working.Roots.{AreSettledBut};
 ghost use Rattle.hv_clauses.specs.Working.Chase.{AreKept, IsFollowed};
 ghost use Rattle.hv_clauses.specs.Working.Clausal.{Completes, clauses_of_state, late, unit};
 ghost use Rattle.hv_clauses.specs.Marks.{over};
@@ -21,15 +21,15 @@ ghost use Rattle.hv_clauses.specs.Working.Units.{AreSettled};
 ghost use Rattle.hv_clauses.specs.Working.Start.{IsBasedOn};
 ghost use Rattle.hv_clauses.specs.Store.{AreOver};
 
-use crate::change::Effect;
 use crate::clause_kind::ClauseKind;
 use crate::completion::Completion;
 use crate::constraint::Constraint;
+use crate::effect::ActionEffect;
 use crate::formula::Formula;
 use crate::formulas::Formulas;
-use crate::owners::Owners;
-use crate::trail::Marks;
-use crate::{chase, choices, literals, turned};
+use crate::literal_owners::ClauseOwners;
+use crate::trail::Assignment;
+use crate::{chase, choices, falsified, literals};
 use hv_sets::{Literal, Operand, Query, Which};
 use hv_task::{Action, AtomList, Task};
 use std::marker::Model;
@@ -40,17 +40,17 @@ pub(crate) struct Problem<'a, K: ClauseKind> {
     task: &'a Task,
     store: &'a Formulas<K>,
     query: &'a Query,
-    effect: Effect<'a>,
+    effect: ActionEffect<'a>,
     // Where there are many positive operands, those that have each literal.
-    owners: Option<Owners>,
+    owners: Option<ClauseOwners>,
 }
 
 impl<'a, K: ClauseKind> Model for Problem<'a, K> {
     ghost use Rattle.std.specs.Prelude.{IfSome};
     ghost use Rattle.hv_clauses.specs.Working.Owners.{AreOwners};
-    ghost use Rattle.hv_clauses.specs.Working.Posed.{IsPosed, Problem};
+    ghost use Rattle.hv_clauses.specs.Working.Posed.{IsPosed, ProblemState};
 
-    ghost Value = { Problem };
+    ghost Value = { ProblemState };
 
     ghost view = { λ s. record {
       task = s.task.now;
@@ -83,7 +83,7 @@ impl<'a, K: ClauseKind> Problem<'a, K> {
         ensures store { result.store ≡ store.now }
         ensures query { result.query ≡ query.now }
     {
-        let effect = Effect::of(task, query.action);
+        let effect = ActionEffect::of(task, query.action);
         Problem {
             task,
             store,
@@ -94,7 +94,7 @@ impl<'a, K: ClauseKind> Problem<'a, K> {
     }
 
     /// The same, with the positive operands that have each literal.
-    pub(crate) fn with(&self, owners: Owners) -> Problem<'a, K>
+    pub(crate) fn with(&self, owners: ClauseOwners) -> Problem<'a, K>
         requires { AreOwners self.now owners }
         ensures { result ≡ self.now }
     {
@@ -108,7 +108,7 @@ impl<'a, K: ClauseKind> Problem<'a, K> {
     }
 
     // The positive operands that have each literal, if they were listed.
-    fn owners(&self) -> Option<&Owners>
+    fn owners(&self) -> Option<&ClauseOwners>
         ensures { IfSome result (λ owners. AreOwners self.now owners.now) }
     {
         self.owners.as_ref()
@@ -129,7 +129,7 @@ impl<'a, K: ClauseKind> Problem<'a, K> {
     }
 
     /// The effect of its action.
-    pub(crate) fn effect(&self) -> &Effect<'a>
+    pub(crate) fn effect(&self) -> &ActionEffect<'a>
         ensures { result.now ≡ self.now.effect }
     {
         &self.effect
@@ -178,7 +178,7 @@ impl<'a, K: ClauseKind> Problem<'a, K> {
     }
 
     /// The effect through which an operand is asked about.
-    pub(crate) fn seen(&self, after: bool) -> Effect<'a>
+    pub(crate) fn seen(&self, after: bool) -> ActionEffect<'a>
         ensures { result ≡ late self.now.effect after }
     {
         self.effect.late(after)
@@ -238,7 +238,7 @@ impl<K: ClauseKind> Constraint for Problem<'_, K> {
 
     ghost left = { AreLeft };
 
-    fn visit(&self, marks: &mut Marks<'_>, from: usize) -> bool {
+    fn visit(&self, marks: &mut Assignment<'_>, from: usize) -> bool {
         match self.owners() {
             None => visit_each(self, marks, from),
             Some(owners) => visit_owners(self, owners, marks, from),
@@ -250,8 +250,12 @@ impl<K: ClauseKind> Constraint for Problem<'_, K> {
 
 // Follows up the literal at this place of the trail in each positive operand.
 #[inline(always)]
-fn visit_each<K: ClauseKind>(problem: &Problem<'_, K>, marks: &mut Marks<'_>, from: usize) -> bool
-    requires size { length marks.old.base ≡ width problem.now }
+fn visit_each<K: ClauseKind>(
+    problem: &Problem<'_, K>,
+    marks: &mut Assignment<'_>,
+    from: usize,
+) -> bool
+    requires size { length marks.old.roots ≡ width problem.now }
     requires from { from < length marks.old.trail }
     requires left { AreLeft problem.now marks.old from }
     ensures followed { IsFollowed (InEach problem.now) marks.old marks.new result }
@@ -270,12 +274,12 @@ fn visit_each<K: ClauseKind>(problem: &Problem<'_, K>, marks: &mut Marks<'_>, fr
 #[inline(never)]
 fn visit_owners<K: ClauseKind>(
     problem: &Problem<'_, K>,
-    owners: &Owners,
-    marks: &mut Marks<'_>,
+    owners: &ClauseOwners,
+    marks: &mut Assignment<'_>,
     from: usize,
 ) -> bool
     requires owners { AreOwners problem.now owners.now }
-    requires size { length marks.old.base ≡ width problem.now }
+    requires size { length marks.old.roots ≡ width problem.now }
     requires from { from < length marks.old.trail }
     requires left { AreLeft problem.now marks.old from }
     ensures followed { IsFollowed (InEach problem.now) marks.old marks.new result }
@@ -299,10 +303,10 @@ fn visit_owners<K: ClauseKind>(
 fn visit_place<K: ClauseKind>(
     problem: &Problem<'_, K>,
     place: u32,
-    marks: &mut Marks<'_>,
+    marks: &mut Assignment<'_>,
     from: usize,
 ) -> bool
-    requires size { length marks.old.base ≡ width problem.now }
+    requires size { length marks.old.roots ≡ width problem.now }
     requires from { from < length marks.old.trail }
     requires left { AreLeft problem.now marks.old from }
     ensures followed { IsFollowed (InEach problem.now) marks.old marks.new result }
@@ -321,11 +325,11 @@ fn visit_place<K: ClauseKind>(
 fn visit_operand<K: ClauseKind>(
     problem: &Problem<'_, K>,
     operand: Operand,
-    marks: &mut Marks<'_>,
+    marks: &mut Assignment<'_>,
     from: usize,
 ) -> bool
     requires named { IsNamed (length problem.now.store) operand.which }
-    requires size { length marks.old.base ≡ width problem.now }
+    requires size { length marks.old.roots ≡ width problem.now }
     requires from { from < length marks.old.trail }
     requires left { IsLeftOf problem.now operand marks.old from }
     ensures followed { IsFollowed (InOne problem.now operand) marks.old marks.new result }
@@ -343,17 +347,17 @@ fn visit_operand<K: ClauseKind>(
 // which the effect makes a literal false.
 pub(crate) fn start_all<K: ClauseKind>(
     problem: &Problem<'_, K>,
-    based: Option<Operand>,
-    marks: &mut Marks<'_>,
+    rooted: Option<Operand>,
+    marks: &mut Assignment<'_>,
 ) -> bool
-    requires size { length marks.old.base ≡ width problem.now }
-    requires based { IsBasedOn problem.now based marks.old.base }
+    requires size { length marks.old.roots ≡ width problem.now }
+    requires rooted { IsBasedOn problem.now rooted marks.old.roots }
     ensures followed { IsFollowed (InEach problem.now) marks.old marks.new result }
     ensures left { result ≡ true → AreLeft problem.now marks.new 0 }
 {
     let positive = problem.positive();
     for operand in positive {
-        if !start_operand(problem, *operand, based, marks) {
+        if !start_operand(problem, *operand, rooted, marks) {
             return false;
         }
     }
@@ -365,12 +369,12 @@ pub(crate) fn start_all<K: ClauseKind>(
 fn start_operand<K: ClauseKind>(
     problem: &Problem<'_, K>,
     operand: Operand,
-    based: Option<Operand>,
-    marks: &mut Marks<'_>,
+    rooted: Option<Operand>,
+    marks: &mut Assignment<'_>,
 ) -> bool
     requires named { IsNamed (length problem.now.store) operand.which }
-    requires size { length marks.old.base ≡ width problem.now }
-    requires based { IsBasedOn problem.now based marks.old.base }
+    requires size { length marks.old.roots ≡ width problem.now }
+    requires rooted { IsBasedOn problem.now rooted marks.old.roots }
     ensures followed { IsFollowed (InOne problem.now operand) marks.old marks.new result }
     ensures left { result ≡ true → IsLeftOf problem.now operand marks.new 0 }
 {
@@ -381,7 +385,7 @@ fn start_operand<K: ClauseKind>(
         Which::Goal => start_goal(problem, &seen, marks),
         Which::Set(number) => {
             let set = problem.set(number);
-            if is_based(operand, based) {
+            if is_based(operand, rooted) {
                 return start_turned(set, &seen, marks);
             }
             chase::start(set.clauses(), &seen, marks)
@@ -390,9 +394,13 @@ fn start_operand<K: ClauseKind>(
 }
 
 // Looks at each clause of a set of which the effect makes a literal false.
-fn start_turned<K: ClauseKind>(set: &Formula<K>, effect: &Effect<'_>, marks: &mut Marks<'_>) -> bool
-    requires size { length marks.old.base ≡ set.now.atoms }
-    requires but { AreSettledBut effect.now set.now.clauses marks.old.base }
+fn start_turned<K: ClauseKind>(
+    set: &Formula<K>,
+    effect: &ActionEffect<'_>,
+    marks: &mut Assignment<'_>,
+) -> bool
+    requires size { length marks.old.roots ≡ set.now.atoms }
+    requires but { AreSettledBut effect.now set.now.clauses marks.old.roots }
     ensures followed { IsFollowed (λ state. in_clauses set.now.clauses (over effect.now state)
         ≡ true) marks.old marks.new result }
     ensures kept { result ≡ true → AreKept effect.now set.now.clauses marks.new 0 }
@@ -400,27 +408,27 @@ fn start_turned<K: ClauseKind>(set: &Formula<K>, effect: &Effect<'_>, marks: &mu
     let Some(forced) = set.forced() else {
         return false;
     };
-    turned::start(set.clauses(), set.occurs(), forced, effect, marks)
+    falsified::start(set.clauses(), set.occurs(), forced, effect, marks)
 }
 
 // Whether the operand is that on which all is based.
-fn is_based(operand: Operand, based: Option<Operand>) -> bool
-    ensures { result ≡ true → (base : OperandOf) × (based ≡ Some base) ×
-        (operand.which ≡ base.which) × (operand.after ≡ base.after) }
+fn is_based(operand: Operand, rooted: Option<Operand>) -> bool
+    ensures { result ≡ true → (roots : OperandOf) × (rooted ≡ Some roots) ×
+        (operand.which ≡ roots.which) × (operand.after ≡ roots.after) }
 {
-    let Some(base) = based else {
+    let Some(roots) = rooted else {
         return false;
     };
-    operand.which == base.which && operand.after == base.after
+    operand.which == roots.which && operand.after == roots.after
 }
 
 // Makes each atom as it is in the initial state.
 fn start_start<K: ClauseKind>(
     problem: &Problem<'_, K>,
-    effect: &Effect<'_>,
-    marks: &mut Marks<'_>,
+    effect: &ActionEffect<'_>,
+    marks: &mut Assignment<'_>,
 ) -> bool
-    requires size { length marks.old.base ≡ width problem.now }
+    requires size { length marks.old.roots ≡ width problem.now }
     ensures followed { IsFollowed (λ state. is_same (start_state problem.now.task)
         (over effect.now state) ≡ true) marks.old marks.new result }
     ensures settled { result ≡ true → AreSettled effect.now
@@ -438,10 +446,10 @@ fn start_start<K: ClauseKind>(
 // Makes each atom of the goal true.
 fn start_goal<K: ClauseKind>(
     problem: &Problem<'_, K>,
-    effect: &Effect<'_>,
-    marks: &mut Marks<'_>,
+    effect: &ActionEffect<'_>,
+    marks: &mut Assignment<'_>,
 ) -> bool
-    requires size { length marks.old.base ≡ width problem.now }
+    requires size { length marks.old.roots ≡ width problem.now }
     ensures followed { IsFollowed (λ state. is_goal problem.now.task (over effect.now state) ≡ true)
         marks.old marks.new result }
     ensures settled { result ≡ true → AreSettled effect.now

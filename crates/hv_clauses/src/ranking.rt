@@ -19,7 +19,7 @@ const KEYS: usize = 1 << 17;
 
 const LAST: usize = KEYS - 1;
 
-// Where a literal stands in the order of the walk: by the place of its atom, where places are told.
+// Where a literal is in the order of the walk: by the place of its atom, where places are told.
 fn key_of(literal: Literal, places: Option<&[u32]>) -> usize {
     let place = match places {
         None => literal.atom,
@@ -52,7 +52,7 @@ pub(crate) fn place_of(code: usize) -> usize
 }
 
 // The places of the clauses, in the order of their first two literals. More than 268,435,456
-// clauses are taken as want of memory.
+// clauses are taken as out of memory.
 pub(crate) fn of_clauses(
     alloc: Global,
     clauses: &Clauses,
@@ -72,7 +72,7 @@ pub(crate) fn of_clauses(
 }
 
 // The places of the literals of a clause, in the order of the walk. More than 268,435,456 literals
-// are taken as want of memory.
+// are taken as out of memory.
 pub(crate) fn of_literals(
     codes: &mut Vec<usize>,
     clause: &[Literal],

@@ -5,7 +5,7 @@
 ghost use Rattle.std.specs.Prelude.{◌≡◌, ◌+◌, ◌↔◌, ℕ, List, length, map, true, IfOk, OnOk};
 ghost use Rattle.std.specs.List.{Contains};
 ghost use Rattle.std.specs.List.Sorted.{IsNonDecreasingBy, IsStrictlyIncreasing};
-ghost use Rattle.hv_clauses.specs.declared.rows.Head.{Head};
+ghost use Rattle.hv_clauses.specs.declared.rows.RowHead.{RowHead};
 ghost use Rattle.hv_clauses.specs.Working.Rows.{AreHeads, HasHeads, IsEndBefore, IsFirstHead};
 ghost use Rattle.hv_clauses.specs.Working.Rows.{IsPartOf, PutsHead, code, key_of, place_of_code};
 
@@ -15,7 +15,7 @@ const WIDTH: usize = 1 << 32;
 
 /// Where the numbers of a key begin.
 #[derive(Clone, Copy, Debug, PartialEq, Eq)]
-pub(crate) struct Head {
+pub(crate) struct RowHead {
     /// The key.
     pub key: u32,
     /// The place of its first number.
@@ -24,7 +24,7 @@ pub(crate) struct Head {
 
 /// Where the numbers of a key stand: from a place up to another one.
 #[derive(Clone, Copy, Debug, PartialEq, Eq)]
-pub(crate) struct Part {
+pub(crate) struct RowRange {
     pub from: usize,
     pub upto: usize,
 }
@@ -94,9 +94,9 @@ pub(crate) fn numbers_of(alloc: Global, codes: &[usize]) -> Result<Vec<u32>, All
     Ok(numbers)
 }
 
-// Where the numbers of each key begin. More than 2^32 codes are taken as want of memory; a line
+// Where the numbers of each key begin. More than 2^32 codes are taken as out of memory; a line
 // has fewer than 8,388,608 literals, or implications.
-pub(crate) fn heads_of(alloc: Global, codes: &[usize]) -> Result<Vec<Head>, AllocError>
+pub(crate) fn heads_of(alloc: Global, codes: &[usize]) -> Result<Vec<RowHead>, AllocError>
     requires { IsStrictlyIncreasing codes.now }
     ensures { IfOk result (λ heads. AreHeads codes.now heads.items) }
 {
@@ -108,7 +108,7 @@ pub(crate) fn heads_of(alloc: Global, codes: &[usize]) -> Result<Vec<Head>, Allo
         let key = key_in(codes[start]);
         put_head(
             &mut heads,
-            Head {
+            RowHead {
                 key,
                 start: start as u32,
             },
@@ -118,7 +118,7 @@ pub(crate) fn heads_of(alloc: Global, codes: &[usize]) -> Result<Vec<Head>, Allo
 }
 
 // Puts a head last, unless the last one is of the same key.
-fn put_head(heads: &mut Vec<Head>, head: Head) -> Result<(), AllocError>
+fn put_head(heads: &mut Vec<RowHead>, head: RowHead) -> Result<(), AllocError>
     ensures { OnOk result (PutsHead heads.old.items head heads.new.items) }
 {
     if let Some(last) = heads.last() {
@@ -130,8 +130,8 @@ fn put_head(heads: &mut Vec<Head>, head: Head) -> Result<(), AllocError>
     Ok(())
 }
 
-// Where the numbers of a key stand among so many.
-pub(crate) fn part_of(heads: &[Head], len: usize, key: u32) -> Part
+// Where the numbers of a key are among so many.
+pub(crate) fn part_of(heads: &[RowHead], len: usize, key: u32) -> RowRange
     requires { HasHeads heads.now len }
     ensures from { (codes : List ℕ) → AreHeads codes heads.now → length codes ≡ len
         → IsEndBefore key codes result.from }
@@ -140,14 +140,14 @@ pub(crate) fn part_of(heads: &[Head], len: usize, key: u32) -> Part
 {
     let first = count_below(heads, key);
     let next = count_upto(heads, first, key);
-    Part {
+    RowRange {
         from: begin_at(heads, len, first),
         upto: begin_at(heads, len, next),
     }
 }
 
 // Where the numbers of the head at a place begin, or the end of so many.
-fn begin_at(heads: &[Head], len: usize, place: usize) -> usize
+fn begin_at(heads: &[RowHead], len: usize, place: usize) -> usize
     ensures { (codes : List ℕ) (key : ℕ) → AreHeads codes heads.now → length codes ≡ len
         → IsFirstHead key heads.now place → IsEndBefore key codes result }
 {
@@ -158,7 +158,7 @@ fn begin_at(heads: &[Head], len: usize, place: usize) -> usize
 }
 
 // How many heads are of lesser keys.
-fn count_below(heads: &[Head], key: u32) -> usize
+fn count_below(heads: &[RowHead], key: u32) -> usize
     requires { IsNonDecreasingBy (λ h. h.key) heads.now }
     ensures { IsFirstHead key heads.now result }
 {
@@ -170,7 +170,7 @@ fn count_below(heads: &[Head], key: u32) -> usize
 }
 
 // Where the head of a key stands, if each greater key up to the last has a head.
-fn near_of(heads: &[Head], key: u32) -> usize {
+fn near_of(heads: &[RowHead], key: u32) -> usize {
     match heads.last() {
         Some(last) => {
             let missing = (last.key as usize + 1).saturating_sub(heads.len());
@@ -181,7 +181,7 @@ fn near_of(heads: &[Head], key: u32) -> usize {
 }
 
 // Whether the head at a place is the first one of the key.
-fn is_first(heads: &[Head], place: usize, key: u32) -> bool
+fn is_first(heads: &[RowHead], place: usize, key: u32) -> bool
     requires { IsNonDecreasingBy (λ h. h.key) heads.now }
     ensures { result ≡ true → IsFirstHead key heads.now place }
 {
@@ -192,7 +192,7 @@ fn is_first(heads: &[Head], place: usize, key: u32) -> bool
 }
 
 // How many heads are of this key or lesser ones, where so many are of lesser ones.
-fn count_upto(heads: &[Head], from: usize, key: u32) -> usize
+fn count_upto(heads: &[RowHead], from: usize, key: u32) -> usize
     requires rises { IsNonDecreasingBy (λ h. h.key) heads.now }
     requires from { IsFirstHead key heads.now from }
     ensures { IsFirstHead (key + 1) heads.now result }
@@ -206,7 +206,7 @@ fn count_upto(heads: &[Head], from: usize, key: u32) -> usize
 }
 
 // The part of the numbers that are of the key.
-pub(crate) fn numbers_at<'a>(heads: &[Head], numbers: &'a [u32], key: u32) -> &'a [u32]
+pub(crate) fn numbers_at<'a>(heads: &[RowHead], numbers: &'a [u32], key: u32) -> &'a [u32]
     requires { HasHeads heads.now (length numbers.now) }
     ensures { (codes : List ℕ) → AreHeads codes heads.now → length codes ≡ length numbers.now
         → IsPartOf key codes numbers.now result.now }

@@ -6,10 +6,10 @@ ghost use Rattle.hv_sets.specs.Query.{IsNamed};
 ghost use Rattle.hv_clauses.specs.Working.Posed.{InEach, width};
 ghost use Rattle.hv_clauses.specs.Working.Start.{IsSetAmong, IsStart};
 
-use crate::base::Base;
 use crate::clause_kind::ClauseKind;
 use crate::formulas::Formulas;
 use crate::problem::Problem;
+use crate::roots::Roots;
 use hv_sets::{Operand, Which};
 
 /// A positive operand on which all is based, if there is one, and what is known before the search
@@ -17,7 +17,7 @@ use hv_sets::{Operand, Which};
 #[derive(Drop)]
 pub(crate) struct Start<'a> {
     pub operand: Option<Operand>,
-    pub base: Base<'a>,
+    pub roots: Roots<'a>,
 }
 
 // What follows from one positive operand that is a set: what the set forces, but for the atoms that
@@ -37,11 +37,11 @@ pub(crate) fn start_of<'a, K: ClauseKind>(problem: &Problem<'a, K>) -> Option<St
 // Nothing.
 fn nothing<'a>() -> Start<'a>
     ensures operand { result.operand ≡ None }
-    ensures base { result.base ≡ [] }
+    ensures roots { result.roots ≡ [] }
 {
     Start {
         operand: None,
-        base: Base::of(&[]),
+        roots: Roots::of(&[]),
     }
 }
 
@@ -79,7 +79,7 @@ fn start_at<'a, K: ClauseKind>(problem: &Problem<'a, K>, operand: Operand) -> Op
         None => None,
         Some(forced) => Some(Start {
             operand: Some(operand),
-            base: Base::beside(forced, seen),
+            roots: Roots::unaffected(forced, seen),
         }),
     }
 }

@@ -7,80 +7,80 @@ ghost use Rattle.hv_sets.specs.Cubes.{atoms_of};
 ghost use Rattle.hv_clauses.specs.Marks.{filled, known};
 ghost use Rattle.hv_clauses.specs.Working.Trail.{marked, marks_of};
 
-use crate::base::Base;
-use crate::look::Watch;
-use crate::room::Room;
+use crate::buffers::Buffers;
+use crate::roots::Roots;
+use crate::watched::Watch;
 use hv_sets::Literal;
 use hv_task::State;
 use std::alloc::{AllocError, Global};
 use std::marker::Model;
 
 /// What is known of the atoms of a task: literals that were known before, which stay as they are,
-/// and those that were found true since, in room that others lend, whatever stands there, or that
+/// and those that were found true since, in memory that others lend, whatever is there, or that
 /// it owns. To forget the latest of these costs nothing. Beside these, in room that may be of any
 /// length, it remembers places of clauses, of which nothing is said.
 #[derive(Drop)]
-pub(crate) struct Marks<'a> {
+pub(crate) struct Assignment<'a> {
     atoms: usize,
-    base: Base<'a>,
+    roots: Roots<'a>,
     // For each atom of a literal of the trail the place of its entry, and the entries.
-    room: Room<'a>,
+    buffers: Buffers<'a>,
     len: usize,
     // For each clause, by its place, the two places at which the last look into it ended.
     watches: &'a mut [u32],
 }
 
-impl<'a> Model for Marks<'a> {
+impl<'a> Model for Assignment<'a> {
     ghost use Rattle.std.specs.Prelude.{◌≤◌, ◌^◌};
-    ghost use Rattle.hv_clauses.specs.Working.Room.{places_in, queue_in};
+    ghost use Rattle.hv_clauses.specs.Working.Buffers.{places_in, queue_in};
     ghost use Rattle.hv_clauses.specs.Working.Trail.{AreJoined, Knowledge, marked, trail_of};
 
     ghost Value = { Knowledge };
 
     ghost view = { λ s. record {
-      base = marked s.atoms s.base;
-      trail = trail_of (queue_in s.room) s.len;
+      roots = marked s.atoms s.roots;
+      trail = trail_of (queue_in s.buffers) s.len;
     } };
 
-    ghost invariant = { λ s. (s.atoms ≤ 2 ^ 31) × AreJoined (marked s.atoms s.base)
-        (places_in s.room) (queue_in s.room) s.len };
+    ghost invariant = { λ s. (s.atoms ≤ 2 ^ 31) × AreJoined (marked s.atoms s.roots)
+        (places_in s.buffers) (queue_in s.buffers) s.len };
 }
 
-impl<'a> Marks<'a> {
+impl<'a> Assignment<'a> {
     /// Nothing more than these literals, for a task with so many atoms.
     pub(crate) fn over(
         atoms: usize,
-        base: &'a [Literal],
+        roots: &'a [Literal],
         places: &'a mut [u32],
         queue: &'a mut [u32],
         watches: &'a mut [u32],
-    ) -> Marks<'a>
+    ) -> Assignment<'a>
         requires few { atoms ≤ 2 ^ 31 }
-        requires rises { IsStrictlyIncreasing (atoms_of base.now) }
+        requires rises { IsStrictlyIncreasing (atoms_of roots.now) }
         requires places { atoms ≤ length places.old }
         requires queue { atoms ≤ length queue.old }
-        ensures { result ≡ record { base = marked atoms base.now; trail = [] } }
+        ensures { result ≡ record { roots = marked atoms roots.now; trail = [] } }
     {
-        Marks::from(atoms, Base::of(base), places, queue, watches)
+        Assignment::from(atoms, Roots::of(roots), places, queue, watches)
     }
 
     /// The same of literals beside an effect.
     pub(crate) fn from(
         atoms: usize,
-        base: Base<'a>,
+        roots: Roots<'a>,
         places: &'a mut [u32],
         queue: &'a mut [u32],
         watches: &'a mut [u32],
-    ) -> Marks<'a>
+    ) -> Assignment<'a>
         requires few { atoms ≤ 2 ^ 31 }
         requires places { atoms ≤ length places.old }
         requires queue { atoms ≤ length queue.old }
-        ensures { result ≡ record { base = marked atoms base.entry; trail = [] } }
+        ensures { result ≡ record { roots = marked atoms roots.entry; trail = [] } }
     {
-        Marks {
+        Assignment {
             atoms,
-            base,
-            room: Room::lent(places, queue),
+            roots,
+            buffers: Buffers::lent(places, queue),
             len: 0,
             watches,
         }
@@ -90,17 +90,17 @@ impl<'a> Marks<'a> {
     pub(crate) fn owned(
         alloc: Global,
         atoms: usize,
-        base: Base<'a>,
-    ) -> Result<Marks<'a>, AllocError>
+        roots: Roots<'a>,
+    ) -> Result<Assignment<'a>, AllocError>
         requires few { atoms ≤ 2 ^ 31 }
         ensures { IfOk result
-            (λ marks. marks ≡ record { base = marked atoms base.entry; trail = [] }) }
+            (λ marks. marks ≡ record { roots = marked atoms roots.entry; trail = [] }) }
     {
-        let room = Room::owned(alloc, atoms)?;
-        Ok(Marks {
+        let buffers = Buffers::owned(alloc, atoms)?;
+        Ok(Assignment {
             atoms,
-            base,
-            room,
+            roots,
+            buffers,
             len: 0,
             watches: &mut [],
         })
@@ -108,7 +108,7 @@ impl<'a> Marks<'a> {
 
     /// How many atoms the task has.
     pub(crate) fn atoms(&self) -> usize
-        ensures atoms { result ≡ length self.now.base }
+        ensures atoms { result ≡ length self.now.roots }
         ensures few { result ≤ 2 ^ 31 }
     {
         self.atoms
@@ -117,7 +117,7 @@ impl<'a> Marks<'a> {
     /// How long the trail is.
     pub(crate) fn len(&self) -> usize
         ensures len { result ≡ length self.now.trail }
-        ensures few { result ≤ length self.now.base }
+        ensures few { result ≤ length self.now.roots }
     {
         self.len
     }
@@ -125,7 +125,7 @@ impl<'a> Marks<'a> {
     /// Forgets all but the first so many literals of the trail.
     pub(crate) fn undo(&mut self, len: usize)
         requires { len ≤ length self.old.trail }
-        ensures { self.new ≡ record { base = self.old.base; trail = take len self.old.trail } }
+        ensures { self.new ≡ record { roots = self.old.roots; trail = take len self.old.trail } }
     {
         self.len = len;
     }
@@ -138,27 +138,28 @@ impl<'a> Marks<'a> {
         if at >= self.atoms {
             return None;
         }
-        let place = self.room.place(at) as usize;
+        let place = self.buffers.place(at) as usize;
         if place >= self.len {
-            return self.base.read(self.atoms, atom);
+            return self.roots.read(self.atoms, atom);
         }
-        let entry = self.room.entry(place) as usize;
+        let entry = self.buffers.entry(place) as usize;
         if entry / 2 != at {
-            return self.base.read(self.atoms, atom);
+            return self.roots.read(self.atoms, atom);
         }
         Some(entry % 2 == 1)
     }
 
     /// Puts a literal on the trail, of whose atom nothing is known.
     pub(crate) fn write(&mut self, literal: Literal)
-        requires atom { literal.atom < length self.old.base }
+        requires atom { literal.atom < length self.old.roots }
         requires unknown { known (marks_of self.old) literal.atom ≡ None }
         ensures { self.new
-            ≡ record { base = self.old.base; trail = self.old.trail ++ literal ∷ [] } }
+            ≡ record { roots = self.old.roots; trail = self.old.trail ++ literal ∷ [] } }
     {
-        self.room.set_place(literal.atom as usize, self.len as u32);
+        self.buffers
+            .set_place(literal.atom as usize, self.len as u32);
         let entry = literal.atom * 2 + literal.positive as u32;
-        self.room.set_entry(self.len, entry);
+        self.buffers.set_entry(self.len, entry);
         self.len += 1;
     }
 
@@ -166,9 +167,9 @@ impl<'a> Marks<'a> {
     pub(crate) fn get(&self, place: usize) -> Literal
         requires { place < length self.now.trail }
         ensures here { slice_get self.now.trail place ≡ Some result }
-        ensures below { result.atom < length self.now.base }
+        ensures below { result.atom < length self.now.roots }
     {
-        let entry = self.room.entry(place);
+        let entry = self.buffers.entry(place);
         Literal {
             atom: entry / 2,
             positive: entry % 2 == 1,
@@ -203,7 +204,7 @@ impl<'a> Marks<'a> {
     /// Makes it the state with what is known put over it, in which each atom of which nothing is
     /// known has this value.
     pub(crate) fn fill(&self, value: bool, state: &mut State)
-        requires { length state.old ≡ length self.now.base }
+        requires { length state.old ≡ length self.now.roots }
         ensures { state.new ≡ filled value (marks_of self.now) }
     {
         for atom in 0..state.atoms() {

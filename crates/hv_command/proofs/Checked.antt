@@ -6,20 +6,21 @@ use Rattle.std.specs.Option.{option_map}
 use Rattle.hv_bytes.specs.Files.{Names, bytes_of}
 use Rattle.hv_bytes.specs.Standard.{standard}
 use Rattle.hv_task.specs.Strips.{Strips, atoms}
-use Rattle.hv_task_text.specs.TaskText.{IsFirstFault, IsReadFrom, TaskText}
+use Rattle.hv_task_text.specs.TaskText.{HasTaskFault, IsTaskReadFrom, TaskText}
 use Rattle.hv_task_text.specs.declared.fault.TaskFault.{TaskFault}
 use Rattle.hv_task_text.specs.declared.fault.TaskFault.TheVariants as F
 use Rattle.hv_lines.specs.Judged.{Accepts, Concludes, Judged, JudgedBytes, Judgement, LineText}
 use Rattle.hv_lines.specs.Judged.{NoConclusion, Refused, Unsolvable, outline_of}
 use Rattle.hv_lines.specs.declared.reason.Reason.{Reason}
-use Rattle.hv_checker.specs.Stands.{CheckerState, SaysEnd, Refusal, Stands, StandsAt, refusal_at}
-use Rattle.hv_checker.specs.Stands.{refusal_of}
+use Rattle.hv_checker.specs.Checkers.{CheckerState, SaysEnd, Refusal, HasJudged, HasJudgedAt}
+use Rattle.hv_checker.specs.Checkers.{refusal_at}
+use Rattle.hv_checker.specs.Checkers.{refusal_of}
 use Rattle.hv_checker.specs.declared.stop.Stop.{Stop}
 use Rattle.hv_checker.specs.declared.stop.Stop.TheVariants as C
 use Rattle.hv_checker.specs.declared.piece.End.{End}
 use Rattle.hv_checker.specs.declared.piece.End.TheVariants as E
-use Rattle.hv_bdd.specs.NodeText.{AreTextOf, IsFirstFault as IsFirstNodesFault}
-use Rattle.hv_bdd.specs.NodeText.{IsReadFrom as IsNodesRead}
+use Rattle.hv_bdd.specs.NodeText.{AreNodeTextOf, HasNodesFault as IsFirstNodesFault}
+use Rattle.hv_bdd.specs.NodeText.{IsNodesReadFrom as IsNodesRead}
 use Rattle.hv_bdd.specs.Nodes.{NodeList, no_nodes}
 use Rattle.hv_lines.specs.Drafts.{IsGoodTable, default_budget, draft_setting}
 use Rattle.hv_lines.specs.Spelling.{proof_text}
@@ -32,14 +33,14 @@ use Rattle.hv_lines.specs.Setting.{Setting, setting_of}
 use Rattle.hv_lines.specs.Versions.{judged_so_far}
 use Rattle.hv_checker.proofs.OneJudgement.{judged_once}
 use Rattle.hv_replay.specs.Logs.{SearchLog}
-use Rattle.hv_replay.specs.LogText.{AreTextOf as AreTextOfLog, IsFirstFault as IsFirstLogFault}
-use Rattle.hv_replay.specs.LogText.{IsReadFrom as IsLogRead, log_limits}
+use Rattle.hv_replay.specs.LogText.{AreLogTextOf as AreTextOfLog, HasLogFault as IsFirstLogFault}
+use Rattle.hv_replay.specs.LogText.{IsLogReadFrom as IsLogRead, log_limits}
 use Rattle.hv_replay.specs.declared.fault.LogFault.{LogFault}
 use Rattle.hv_replay.specs.declared.fault.LogFault.TheVariants as L
-use Rattle.hv_sas.specs.Answer.{IsReadFrom as IsSasRead, sas_in}
+use Rattle.hv_sas.specs.Answer.{IsSasReadFrom as IsSasRead, sas_in}
 use Rattle.hv_sas.specs.declared.fault.SasFault.{SasFault}
 use Rattle.hv_sas.specs.declared.fault.SasFault.TheVariants as A
-use Rattle.hv_sas.specs.declared.task.Sas.{Sas}
+use Rattle.hv_sas.specs.declared.sas_task.Sas.{Sas}
 use Rattle.hv_bound.specs.PlanFile.{IsPlanRead, plan_answer, plan_file, plan_in, plan_limits}
 use Rattle.hv_bound.specs.declared.fault.PlanFault.{PlanFault}
 use Rattle.hv_bound.specs.declared.fault.PlanFault.TheVariants as B
@@ -67,10 +68,10 @@ use Rattle.hv_command.specs.declared.status.Status.TheVariants as S
 -- the answer to a refused proof
 pub refused_reply : (report : Report) (checker : CheckerState) (line : ℕ) (reason : Reason)
     (end : End) (status : Status) (text : List ℕ)
-    → end ≡ E.Refused line → ((pieces : List LineText) → Stands checker pieces
+    → end ≡ E.Refused line → ((pieces : List LineText) → HasJudged checker pieces
     → SaysEnd checker pieces end)
     → option_map (λ (r : Refusal). r.reason) (refusal_of checker) ≡ Some reason → status ≡ S.Refused
-    → text ≡ refused_text line reason → (pieces : List LineText) → Stands checker pieces
+    → text ≡ refused_text line reason → (pieces : List LineText) → HasJudged checker pieces
     → AnswersPieces report checker.setting pieces status text
 refused_reply report checker line reason end status text is judged told status_is text_is pieces
     stands =
@@ -85,8 +86,8 @@ pub on_all : (held : Option Names) (A : Type 0) → A → IfSome held (λ _. A)
 on_all None A holds = tt
 on_all (Some h) A holds = holds
 
--- what is answered after a text, whatever the shelf tells: to the value that was read, or to the
--- first fault
+-- what is answered after a text, whatever is known of the source: to the value that was read, or to
+-- the first fault
 module _ {A F : Type 0} (StandsFor : Names → A → Type 0) (HasFault : Names → F → Type 0)
     (fault_text : F → List ℕ) (Answers : Names → A → Status → List ℕ → Type 0) (status : Status)
     (text : List ℕ) where
@@ -112,22 +113,23 @@ module _ (held : Option Names) (name : List ℕ) (Answers : Names → Strips →
         → IfSome held (λ h. AfterTask (bytes_of h name) (Answers h) status text)
     task_answer task status text =
         value_answer (λ h. TaskText standard (bytes_of h name))
-        (λ h. IsFirstFault (pieces_of standard (bytes_of h name))) task_fault_text Answers status
+        (λ h. HasTaskFault (pieces_of standard (bytes_of h name))) task_fault_text Answers status
         text held task
 
     -- the answer to a task text with a fault
     pub task_fault : (fault : TaskFault) (status : Status) (text : List ℕ)
-        → IfSome held (λ h. IsReadFrom standard (bytes_of h name) (Err fault)) → IsTextFault fault
+        → IfSome held (λ h. IsTaskReadFrom standard (bytes_of h name) (Err fault)) → IsTextFault
+        fault
         → status ≡ S.BadInput → text ≡ task_fault_text fault
         → IfSome held (λ h. AfterTask (bytes_of h name) (Answers h) status text)
     task_fault fault status text read is_fault =
         fault_answer (λ h. TaskText standard (bytes_of h name))
-        (λ h. IsFirstFault (pieces_of standard (bytes_of h name))) task_fault_text Answers status
+        (λ h. HasTaskFault (pieces_of standard (bytes_of h name))) task_fault_text Answers status
         text held fault (first held fault read is_fault)
       where
         first : (files : Option Names) (f : TaskFault)
-            → IfSome files (λ h. IsReadFrom standard (bytes_of h name) (Err f)) → IsTextFault f
-            → IfSome files (λ h. IsFirstFault (pieces_of standard (bytes_of h name)) f)
+            → IfSome files (λ h. IsTaskReadFrom standard (bytes_of h name) (Err f)) → IsTextFault f
+            → IfSome files (λ h. HasTaskFault (pieces_of standard (bytes_of h name)) f)
         first None f told is = tt
         first (Some h) (F.Place line kind) told is = told
         first (Some h) (F.Limit line limit) told is = told
@@ -235,7 +237,7 @@ module _ (held : Option Names) (name : List ℕ) (Answers : List ℕ → Status 
       first (Some h) B.ReadFault told is = absurd is
       first (Some h) B.Memory told is = absurd is
 
--- the answer to a job that reads a file, whatever the shelf tells
+-- the answer to a job that reads a file, whatever is known of the source
 pub told_job : (covered : Covered) (job other : Job) (name : List ℕ) (held : Option Names)
     (status : Status) (text : List ℕ)
     → other ≡ job → HasName (Some job) name
@@ -262,12 +264,13 @@ told_result covered job other name held (Err fault) same has answers = tt
 module _ (report : Report) (task : Strips) (proof_name nodes_name : List ℕ) (budget : ℕ) where
   -- the answer to nodes that were read
   pub nodes_answer : (held : Option Names) (list : NodeList) (status : Status) (text : List ℕ)
-      → IfSome held (λ h. AreTextOf (atoms task) (pieces_of standard (bytes_of h nodes_name)) list)
+      → IfSome held (λ h. AreNodeTextOf (atoms task) (pieces_of standard (bytes_of h nodes_name))
+      list)
       → IfSome held (λ h. AnswersProof report (setting_of task list budget) (bytes_of h proof_name)
       status text)
       → IfSome held (λ h. AnswersTask report task proof_name (Some nodes_name) budget h status text)
   nodes_answer held list status text =
-      value_answer (λ h. AreTextOf (atoms task) (pieces_of standard (bytes_of h nodes_name)))
+      value_answer (λ h. AreNodeTextOf (atoms task) (pieces_of standard (bytes_of h nodes_name)))
       (λ h. IsFirstNodesFault (atoms task) (pieces_of standard (bytes_of h nodes_name)))
       nodes_fault_text
       (λ h nodes. AnswersProof report (setting_of task nodes budget) (bytes_of h proof_name))
@@ -280,7 +283,7 @@ module _ (report : Report) (task : Strips) (proof_name nodes_name : List ℕ) (b
       → status ≡ S.BadInput → text ≡ nodes_fault_text fault
       → IfSome held (λ h. AnswersTask report task proof_name (Some nodes_name) budget h status text)
   nodes_fault held fault status text read is_fault =
-      fault_answer (λ h. AreTextOf (atoms task) (pieces_of standard (bytes_of h nodes_name)))
+      fault_answer (λ h. AreNodeTextOf (atoms task) (pieces_of standard (bytes_of h nodes_name)))
       (λ h. IsFirstNodesFault (atoms task) (pieces_of standard (bytes_of h nodes_name)))
       nodes_fault_text
       (λ h nodes. AnswersProof report (setting_of task nodes budget) (bytes_of h proof_name))
@@ -316,7 +319,7 @@ of_file held task_name nodes_name status text {report} {other} {name} {proof_nam
 -- the lines of a checker that refused nothing are those that are accepted of all pieces
 pub all_accepted : (checker : CheckerState) (stop : Stop) (pieces : List LineText)
     → refusal_at checker.fed checker.part stop ≡ None → (stop ≡ C.Memory → ⊥)
-    → StandsAt checker stop pieces
+    → HasJudgedAt checker stop pieces
     → Accepts checker.setting (reverse (judged_so_far pieces)) checker.lines
 all_accepted checker C.Going pieces none found stands = stands.2
 all_accepted checker (C.Refused reason) pieces none found stands = absurd (cc)

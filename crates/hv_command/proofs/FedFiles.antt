@@ -4,12 +4,12 @@ use Rattle.std.proofs.Common.{append_assoc, ap, length, refl, subst, sym}
 use Rattle.std.proofs.lemmas.List.{map-append}
 use Rattle.std.specs.Io.KnownBytes.{IsAtEnd}
 use Rattle.hv_bytes.specs.FirstLine.{BeginsLong, FitsLimits, MovesBytes, TakesLine}
-use Rattle.hv_bytes.specs.Pieces.{Piece, as_pieces, pieces_of}
+use Rattle.hv_bytes.specs.Pieces.{PieceBytes, as_pieces, pieces_of}
 use Rattle.hv_bytes.specs.Working.Pieces.{GaveLines}
 use Rattle.hv_bytes.specs.Standard.{standard}
 use Rattle.hv_bytes.proofs.WholeText.{gave_all, gave_front, gave_long, gave_more}
 use Rattle.hv_lines.specs.declared.reason.Reason.{Reason}
-use Rattle.hv_checker.specs.Stands.{CheckerState, Stands, StandsAt}
+use Rattle.hv_checker.specs.Checkers.{CheckerState, HasJudged, HasJudgedAt}
 use Rattle.hv_checker.specs.Stopping.{stop_after}
 use Rattle.hv_checker.specs.declared.piece.Fed.{Fed}
 use Rattle.hv_checker.specs.declared.piece.Fed.TheVariants as F
@@ -24,14 +24,14 @@ pub record IsFeeding (file coming : Option (List ℕ)) (earlier number : ℕ) (c
   pub few : checker.fed ≤ number
   pub given : List (List ℕ)
   pub gave : GaveLines standard file given coming earlier
-  pub stands : Stands checker (as_pieces given)
+  pub stands : HasJudged checker (as_pieces given)
 
 -- a line that was given was fed too
 pub record IsFed (file coming : Option (List ℕ)) (earlier : ℕ) (checker : CheckerState) : Type 0
   where
     pub given : List (List ℕ)
     pub gave : GaveLines standard file given coming earlier
-    pub stands : Stands checker (as_pieces given)
+    pub stands : HasJudged checker (as_pieces given)
 
 -- a line is given and fed
 pub fed_line : (file old new : Option (List ℕ)) (line : List ℕ) (before after number : ℕ)
@@ -39,20 +39,20 @@ pub fed_line : (file old new : Option (List ℕ)) (line : List ℕ) (before afte
     → IsFeeding file old before number was → TakesLine old new line
     → MovesBytes old new before after
     → FitsLimits standard.line standard.file before (length line)
-    → ((pieces : List Piece) → Stands was pieces → Stands is (pieces ++ Some line ∷ []))
+    → ((pieces : List PieceBytes) → HasJudged was pieces → HasJudged is (pieces ++ Some line ∷ []))
     → IsFed file new after is
 fed_line file old new line before after number was is so_far takes passes fits stands = record {
   given = so_far.given ++ line ∷ [];
   gave = gave_more standard file old new so_far.given line before after so_far.gave takes passes
       fits;
-  stands = subst (λ ps. Stands is ps) (sym (map-append (λ l. Some l) so_far.given (line ∷ [])))
+  stands = subst (λ ps. HasJudged is ps) (sym (map-append (λ l. Some l) so_far.given (line ∷ [])))
       (stands (as_pieces so_far.given) so_far.stands);
 }
 
 -- where a piece was refused, it is so of all longer lists too
-refused_longer : (checker : CheckerState) (reason : Reason) (pieces rest : List Piece)
-    → StandsAt checker (S.Refused reason) pieces
-    → StandsAt checker (S.Refused reason) (pieces ++ rest)
+refused_longer : (checker : CheckerState) (reason : Reason) (pieces rest : List PieceBytes)
+    → HasJudgedAt checker (S.Refused reason) pieces
+    → HasJudgedAt checker (S.Refused reason) (pieces ++ rest)
 refused_longer checker reason pieces rest (front, bad, behind, cut, counted, part, accepts, why) = (
   front,
   bad,
@@ -65,42 +65,43 @@ refused_longer checker reason pieces rest (front, bad, behind, cut, counted, par
   why,
 )
 
-pub stands_longer : (checker : CheckerState) (reason : Reason) (pieces rest : List Piece)
+pub stands_longer : (checker : CheckerState) (reason : Reason) (pieces rest : List PieceBytes)
     → checker.stop ≡ S.Refused reason
-    → Stands checker pieces → Stands checker (pieces ++ rest)
+    → HasJudged checker pieces → HasJudged checker (pieces ++ rest)
 stands_longer checker reason pieces rest e stands =
-    subst (λ s. StandsAt checker s (pieces ++ rest)) (sym e)
-    (refused_longer checker reason pieces rest (subst (λ s. StandsAt checker s pieces) e stands))
+    subst (λ s. HasJudgedAt checker s (pieces ++ rest)) (sym e)
+    (refused_longer checker reason pieces rest (subst (λ s. HasJudgedAt checker s pieces) e stands))
 
 -- a line was refused: the checker is as the whole file leaves it
 pub fed_refused : (file coming : Option (List ℕ)) (earlier : ℕ) (checker : CheckerState)
     (reason : Reason)
     → IsFed file coming earlier checker → checker.stop ≡ S.Refused reason
-    → IfSome file (λ bytes. Stands checker (pieces_of standard bytes))
+    → IfSome file (λ bytes. HasJudged checker (pieces_of standard bytes))
 fed_refused None coming earlier checker reason fed e = tt
 fed_refused (Some bytes) coming earlier checker reason fed e =
     let front = gave_front standard (Some bytes) coming fed.given earlier fed.gave in
-    subst (λ ps. Stands checker ps) (sym front.1)
+    subst (λ ps. HasJudged checker ps) (sym front.1)
     (stands_longer checker reason (as_pieces fed.given) front.0 e fed.stands)
 
 -- the file ended: the checker is as the whole file leaves it
 pub fed_all : (file coming : Option (List ℕ)) (earlier number : ℕ) (checker : CheckerState)
     → IsFeeding file coming earlier number checker → IsAtEnd coming
-    → IfSome file (λ bytes. Stands checker (pieces_of standard bytes))
+    → IfSome file (λ bytes. HasJudged checker (pieces_of standard bytes))
 fed_all None coming earlier number checker so_far end = tt
 fed_all (Some bytes) coming earlier number checker so_far end =
-    subst (λ ps. Stands checker ps) (sym (gave_all standard (Some bytes) coming so_far.given earlier
+    subst (λ ps. HasJudged checker ps) (sym (gave_all standard (Some bytes) coming so_far.given
+    earlier
     so_far.gave end)) so_far.stands
 
 -- a long line was fed, which is the last piece: the checker is as the whole file leaves it
 pub fed_long : (file coming : Option (List ℕ)) (earlier number : ℕ) (was is : CheckerState)
     → IsFeeding file coming earlier number was
     → BeginsLong coming standard.line standard.file earlier
-    → ((pieces : List Piece) → Stands was pieces → Stands is (pieces ++ None ∷ []))
-    → IfSome file (λ bytes. Stands is (pieces_of standard bytes))
+    → ((pieces : List PieceBytes) → HasJudged was pieces → HasJudged is (pieces ++ None ∷ []))
+    → IfSome file (λ bytes. HasJudged is (pieces_of standard bytes))
 fed_long None coming earlier number was is so_far long stands = tt
 fed_long (Some bytes) coming earlier number was is so_far long stands =
-    subst (λ ps. Stands is ps) (sym (gave_long standard (Some bytes) coming so_far.given earlier
+    subst (λ ps. HasJudged is ps) (sym (gave_long standard (Some bytes) coming so_far.given earlier
     so_far.gave long))
     (stands (as_pieces so_far.given) so_far.stands)
 

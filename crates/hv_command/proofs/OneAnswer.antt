@@ -4,12 +4,12 @@ use Rattle.std.proofs.Common.{Ok, Err, IsSome, inl, inr, ap, arith, refl, revers
 use Rattle.std.proofs.Common.{sym}
 use Rattle.std.specs.Option.{option_map}
 use Rattle.hv_bytes.specs.Files.{Names, bytes_of}
-use Rattle.hv_bytes.specs.Pieces.{Piece, pieces_of}
+use Rattle.hv_bytes.specs.Pieces.{PieceBytes, pieces_of}
 use Rattle.hv_bytes.specs.Standard.{standard}
 use Rattle.hv_task.specs.Strips.{Strips, atoms}
-use Rattle.hv_task_text.specs.TaskText.{AreTextOf, IsFirstFault, TaskText}
-use Rattle.hv_bdd.specs.NodeText.{AreTextOf as AreTextOfNodes}
-use Rattle.hv_bdd.specs.NodeText.{IsFirstFault as IsFirstNodesFault}
+use Rattle.hv_task_text.specs.TaskText.{AreTaskTextOf, HasTaskFault, TaskText}
+use Rattle.hv_bdd.specs.NodeText.{AreNodeTextOf as AreTextOfNodes}
+use Rattle.hv_bdd.specs.NodeText.{HasNodesFault as IsFirstNodesFault}
 use Rattle.hv_bdd.specs.Nodes.{no_nodes}
 use Rattle.hv_task_text.proofs.OneAnswer.{one_fault, one_task, text_or_fault}
 use Rattle.hv_bdd.proofs.OneAnswer.{one_fault as one_nodes_fault, one_list}
@@ -28,7 +28,7 @@ use Rattle.hv_explain.specs.Explained.{IsExplanation}
 use Rattle.hv_lines.specs.declared.line.Line.{Line}
 use Rattle.hv_proof_text.specs.Closed.{closed_text}
 use Rattle.hv_replay.specs.Logs.{SearchLog}
-use Rattle.hv_replay.specs.LogText.{AreTextOf as AreTextOfLog, IsFirstFault as IsFirstLogFault}
+use Rattle.hv_replay.specs.LogText.{AreLogTextOf as AreTextOfLog, HasLogFault as IsFirstLogFault}
 use Rattle.hv_replay.specs.LogText.{log_limits}
 use Rattle.hv_replay.proofs.OneAnswer.{one_fault as one_log_fault, one_log}
 use Rattle.hv_replay.proofs.OneAnswer.{text_or_fault as log_or_fault}
@@ -151,7 +151,7 @@ one_text NoConclusion Unsolvable e = absurd (cc)
 one_text NoConclusion (Refused q s) e = absurd (cc)
 one_text NoConclusion NoConclusion e = (refl, inl refl)
 
--- what is told of one judgement is one text
+-- what is said of one judgement is one text
 one_told : (setting : Setting) (pieces : List LineText) (a b : Judgement) (report : Report)
     (t v : List ℕ) → outline_of a ≡ outline_of b
     → IsTold setting pieces a report t → IsTold setting pieces b report v → AreOneText t v
@@ -199,7 +199,7 @@ are_one s u t v same one = (same, inl one)
 is_one : (s u : Status) (t v : List ℕ) → s ≡ u → t ≡ v → IsOne s u t v
 is_one s u t v same one = (same, λ _. inl one)
 
--- A text stands for one value, or has one first fault: so what is answered after it is one, where
+-- A text denotes one value, or has one first fault: so what is answered after it is one, where
 -- the answers to its value are.
 module _ {A F : Type 0} (StandsFor : A → Type 0) (HasFault : F → Type 0)
     (fault_text : F → List ℕ) (Answers : A → Status → List ℕ → Type 0)
@@ -234,7 +234,7 @@ module _ (bytes : List ℕ) (Answers : Strips → Status → List ℕ → Type 0
       → AfterTask bytes Answers u v → Same s u t v
   one_after_task =
       let pieces = pieces_of standard bytes in
-      one_after (TaskText standard bytes) (IsFirstFault pieces) task_fault_text Answers Same
+      one_after (TaskText standard bytes) (HasTaskFault pieces) task_fault_text Answers Same
       (one_task pieces) (text_or_fault pieces) (one_fault pieces) same_texts same_answers
 
 module _ (report : Report) (task : Strips) (few : atoms task < 10 ^ 18) (proof_name : List ℕ)

@@ -14,7 +14,7 @@ use Rattle.hv_fronts.proofs.BoundTexts.{read_back}
 use Rattle.hv_fronts.proofs.SasTexts.{sas_read_back}
 use Rattle.hv_sas.specs.Answer.{sas_in}
 use Rattle.hv_sas.specs.Made.{strips_of}
-use Rattle.hv_sas.specs.declared.task.Sas.{Sas}
+use Rattle.hv_sas.specs.declared.sas_task.Sas.{Sas}
 use Rattle.hv_command.proofs.Computed.{one_value_of}
 use Rattle.hv_lines.specs.Drafts.{DraftState, IsGoodTable, draft_setting}
 use Rattle.hv_lines.specs.Judged.{Concludes, JudgedBytes, Unsolvable}

@@ -3,12 +3,12 @@ use Rattle.std.proofs.Common.{◌≡◌, ◌≤◌, ◌<◌, ◌^◌, ℕ, ◌�
 use Rattle.std.proofs.Common.{ap, append-nil, arith, inl, inr, length, reverse, subst, sym}
 use Rattle.std.proofs.lemmas.List.{reverse-append}
 use Rattle.hv_bytes.specs.Files.{Names, bytes_of}
-use Rattle.hv_bytes.specs.Pieces.{Piece, pieces_of}
+use Rattle.hv_bytes.specs.Pieces.{PieceBytes, pieces_of}
 use Rattle.hv_bytes.specs.Standard.{most_file_bytes, standard}
 use Rattle.hv_task.specs.Strips.{Strips, atoms}
-use Rattle.hv_task_text.specs.TaskText.{AreTextOf, TaskText}
+use Rattle.hv_task_text.specs.TaskText.{AreTaskTextOf, TaskText}
 use Rattle.hv_task_text.proofs.OneAnswer.{one_task}
-use Rattle.hv_bdd.specs.NodeText.{AreTextOf as AreTextOfNodes}
+use Rattle.hv_bdd.specs.NodeText.{AreNodeTextOf as AreTextOfNodes}
 use Rattle.hv_bdd.specs.Nodes.{NodeList, no_nodes}
 use Rattle.hv_bdd.proofs.OneAnswer.{one_list}
 use Rattle.hv_lines.specs.Judged.{Accepts, Concludes, Judged, JudgedBytes, Judgement, LineText}
@@ -29,7 +29,8 @@ use Rattle.hv_command.specs.declared.status.Status.{Status}
 use Rattle.hv_command.specs.declared.status.Status.TheVariants as S
 
 -- a task text names few atoms
-pub few_atoms : (pieces : List Piece) (task : Strips) → AreTextOf pieces task → atoms task < 10 ^ 18
+pub few_atoms : (pieces : List PieceBytes) (task : Strips) → AreTaskTextOf pieces task → atoms task
+    < 10 ^ 18
 few_atoms pieces task text =
     let few = text.2.legal.is_head.names.few in
     let same = ap (λ (t : Strips). atoms t) text.2.says in
@@ -55,7 +56,7 @@ module _ (setting : Setting) (lines : List Line) where
   none_lacking P.PastEnd pieces accepts =
       subst (λ ps. Accepts setting (reverse ps) lines) (append-nil pieces) accepts
 
--- what is told of a proof that is judged so is judged so
+-- what is said of a proof that is judged so is judged so
 module _ (setting : Setting) (bytes text : List ℕ) (small : length text ≤ most_file_bytes) where
   told_judged : (judgement : Judgement) → Judged setting (pieces_of standard bytes) judgement
       → judgement_status judgement ≡ S.Done

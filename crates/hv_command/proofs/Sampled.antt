@@ -523,7 +523,7 @@ same_clauses lines expr x clauses is at e =
     let one : E.Horn x ≡ E.Horn clauses = sym is ∙ same_Some expr (E.Horn clauses) there in
     cc
 
--- what is told of a proof is its line
+-- what is said of a proof is its line
 pub told_line : (kind old new said : List ℕ) (lines : List Line) (count size : ℕ)
     → said ≡ unsolvable_text → size ≡ length lines
     → new ≡ old ++ (kind ++ codes " clauses " ++ decimal count ++ codes " lines " ++ decimal size

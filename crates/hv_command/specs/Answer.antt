@@ -6,12 +6,12 @@ use Rattle.hv_bytes.specs.Pieces.{pieces_of}
 use Rattle.hv_bytes.specs.Standard.{most_file_bytes, standard}
 use Rattle.hv_task.specs.Plan.{IsUnsolvable}
 use Rattle.hv_task.specs.Strips.{Strips, atoms, start_state}
-use Rattle.hv_task_text.specs.TaskText.{TaskText, IsFirstFault}
-use Rattle.hv_bdd.specs.NodeText.{AreTextOf, IsFirstFault as IsFirstNodesFault}
+use Rattle.hv_task_text.specs.TaskText.{TaskText, HasTaskFault}
+use Rattle.hv_bdd.specs.NodeText.{AreNodeTextOf, HasNodesFault as IsFirstNodesFault}
 use Rattle.hv_bdd.specs.Nodes.{NodeList, no_nodes}
 use Rattle.hv_lines.specs.Judged.{LineText, Accepts, Judged, JudgedBytes, Judgement, Unsolvable}
 use Rattle.hv_lines.specs.Judged.{Refused, NoConclusion}
-use Rattle.hv_lines.specs.Meaning.{AllTrue, StateSet}
+use Rattle.hv_lines.specs.Meaning.{AllTrue, SetOfStates}
 use Rattle.hv_lines.specs.Setting.{Setting, setting_of}
 use Rattle.hv_lines.specs.Versions.{judged_so_far}
 use Rattle.hv_lines.specs.declared.line.Line.{Line}
@@ -22,7 +22,7 @@ use Rattle.hv_proof_text.specs.Closed.{closed_text}
 use Rattle.hv_reach.specs.Written.{IsPairsProof, IsRelaxedProof, PairsExclude, RelaxedExcludes}
 use Rattle.hv_replay.specs.Closed.{IsClosed, IsFirstHole}
 use Rattle.hv_replay.specs.Logs.{SearchLog}
-use Rattle.hv_replay.specs.LogText.{AreTextOf as AreTextOfLog, IsFirstFault as IsFirstLogFault}
+use Rattle.hv_replay.specs.LogText.{AreLogTextOf as AreTextOfLog, HasLogFault as IsFirstLogFault}
 use Rattle.hv_replay.specs.LogText.{log_limits}
 use Rattle.hv_replay.specs.Progress.{IsProof as IsLogProof}
 use Rattle.hv_replay.specs.declared.hole.ReplayFault.{ReplayFault}
@@ -31,11 +31,11 @@ use Rattle.hv_trap.specs.Written.{IsTrapProof}
 use Rattle.hv_task_text.specs.Canonical.{canonical_of}
 use Rattle.hv_sas.specs.Answer.{sas_in}
 use Rattle.hv_sas.specs.Made.{strips_of}
-use Rattle.hv_sas.specs.declared.task.Sas.{Sas}
+use Rattle.hv_sas.specs.declared.sas_task.Sas.{Sas}
 use Rattle.hv_bound.specs.Bounded.{IsTooLarge, bounded_task}
 use Rattle.hv_bound.specs.PlanAnswers.{IsPlanAnswer}
 use Rattle.hv_bound.specs.PlanFile.{plan_in, plan_limits}
-use Rattle.hv_bound.specs.declared.checking.PlanAnswer.{PlanAnswer}
+use Rattle.hv_bound.specs.declared.plan_check.PlanAnswer.{PlanAnswer}
 use Rattle.hv_command.specs.Replies.{usage_text, hole_text, judgement_status, judgement_text}
 use Rattle.hv_command.specs.Replies.{log_fault_text, no_proof_text, nodes_fault_text}
 use Rattle.hv_command.specs.Replies.{plan_fault_text, plan_status, plan_text, sas_fault_text}
@@ -51,7 +51,7 @@ use Rattle.hv_command.specs.declared.job.Kind.TheVariants as K
 use Rattle.hv_command.specs.declared.status.Status.{Status}
 use Rattle.hv_command.specs.declared.status.Status.TheVariants as S
 
--- the answer after a text that stands for a value or has a fault: its fault, or else what is
+-- the answer after a text that denotes a value or has a fault: its fault, or else what is
 -- answered to the value
 abbrev pub AfterText : {A F : Type 0} → (A → Type 0) → (F → Type 0) → (F → List ℕ)
     → (A → Status → List ℕ → Type 0)
@@ -63,7 +63,7 @@ AfterText {A} {F} StandsFor HasFault fault_text Answers status text =
 -- the answer after the bytes of a task
 abbrev pub AfterTask : List ℕ → (Strips → Status → List ℕ → Type 0) → Status → List ℕ → Type 0
 AfterTask bytes Answers status text =
-    AfterText (TaskText standard bytes) (IsFirstFault (pieces_of standard bytes)) task_fault_text
+    AfterText (TaskText standard bytes) (HasTaskFault (pieces_of standard bytes)) task_fault_text
     Answers status text
 
 -- the answer after the node file of a task: where none is named, the nodes are 0 and 1 alone
@@ -71,7 +71,7 @@ abbrev pub AfterNodes : Strips → Option (List ℕ) → Names → (NodeList →
     → Status → List ℕ → Type 0
 AfterNodes task None held Answers status text = Answers (no_nodes (atoms task)) status text
 AfterNodes task (Some name) held Answers status text =
-    AfterText (AreTextOf (atoms task) (pieces_of standard (bytes_of held name)))
+    AfterText (AreNodeTextOf (atoms task) (pieces_of standard (bytes_of held name)))
     (IsFirstNodesFault (atoms task) (pieces_of standard (bytes_of held name))) nodes_fault_text
     Answers status text
 
@@ -158,7 +158,7 @@ AnswersProduce kind task status text =
 
 -- which states of which tasks are covered by the pruners that are handed in
 abbrev pub Covered : Type 1
-Covered = Strips → StateSet
+Covered = Strips → SetOfStates
 
 -- the answer after the bytes of a log of the task
 abbrev pub AfterLog : Strips → List ℕ → (SearchLog → Status → List ℕ → Type 0)
@@ -237,8 +237,8 @@ Answer covered (Some (J.Plan task plan)) held status text =
     AfterTask (bytes_of held task) (λ given. AfterPlan (bytes_of held plan) (AnswersPlan given))
     status text
 
--- The same where the shelf tells its bytes. Otherwise it is the answer of a job that reads no file,
--- whatever the files hold, and nothing is said of other jobs.
+-- The same where the source's bytes are known. Otherwise it is the answer of a job that reads no
+-- file, whatever the files hold, and nothing is said of other jobs.
 abbrev pub AnswersTold : Covered → Option Job → Option Names → Status → List ℕ → Type 0
 AnswersTold covered job None status text =
     ((name : List ℕ) → HasName job name → ⊥) → (held : Names) → Answer covered job held status text
@@ -253,7 +253,7 @@ IsReplayProof _ status = ⊥
 abbrev pub HasNodes : Strips → Option (List ℕ) → Names → NodeList → Type 0
 HasNodes task None held nodes = nodes ≡ no_nodes (atoms task)
 HasNodes task (Some name) held nodes =
-    AreTextOf (atoms task) (pieces_of standard (bytes_of held name)) nodes
+    AreNodeTextOf (atoms task) (pieces_of standard (bytes_of held name)) nodes
 
 -- What the program says is true: where it answers yes to a task, no list of actions leads from the
 -- initial state to the goal, and every `k` line that is accepted, also before a line that is
@@ -290,7 +290,7 @@ IsSound (Some (J.Sas file)) held status = Unit {0}
 IsSound (Some (J.Bound task most)) held status = Unit {0}
 IsSound (Some (J.Plan task plan)) held status = Unit {0}
 
--- the same where the shelf tells its bytes
+-- the same where the source's bytes are known
 abbrev pub IsSoundTold : Option Job → Option Names → Status → Type 0
 IsSoundTold job None status = Unit {0}
 IsSoundTold job (Some held) status = IsSound job held status
@@ -343,7 +343,7 @@ IsAccepted (Some (J.Bound task most)) held status text =
     status ≡ S.Done → length text ≤ most_file_bytes → IsBoundReadBack most task held text
 IsAccepted (Some (J.Plan task plan)) held status text = Unit {0}
 
--- the same where the shelf tells its bytes
+-- the same where the source's bytes are known
 abbrev pub IsAcceptedTold : Option Job → Option Names → Status → List ℕ → Type 0
 IsAcceptedTold job None status text = Unit {0}
 IsAcceptedTold job (Some held) status text = IsAccepted job held status text

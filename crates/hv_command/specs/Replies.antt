@@ -9,23 +9,23 @@ use Rattle.hv_lines.specs.declared.reason.Reason.{Reason}
 use Rattle.hv_lines.specs.declared.reason.Reason.TheVariants as R
 use Rattle.hv_task_text.specs.declared.fault.TaskFault.{TaskFault}
 use Rattle.hv_task_text.specs.declared.fault.TaskFault.TheVariants as F
-use Rattle.hv_task_text.specs.Words.{kind_word, limit_word}
+use Rattle.hv_task_text.specs.Words.{task_kind_word, task_limit_word}
 use Rattle.hv_bdd.specs.declared.fault.NodesFault.{NodesFault}
 use Rattle.hv_bdd.specs.declared.fault.NodesFault.TheVariants as N
-use Rattle.hv_bdd.specs.Words.{kind_word as node_kind_word, limit_word as node_limit_word}
+use Rattle.hv_bdd.specs.Words.{node_kind_word, node_limit_word}
 use Rattle.hv_replay.specs.declared.fault.LogFault.{LogFault}
 use Rattle.hv_replay.specs.declared.fault.LogFault.TheVariants as L
 use Rattle.hv_replay.specs.declared.hole.ReplayFault.{ReplayFault}
 use Rattle.hv_replay.specs.declared.hole.ReplayFault.TheVariants as H
-use Rattle.hv_replay.specs.Words.{limit_word as log_limit_word}
+use Rattle.hv_replay.specs.Words.{log_limit_word}
 use Rattle.hv_sas.specs.declared.fault.SasFault.{SasFault}
 use Rattle.hv_sas.specs.declared.fault.SasFault.TheVariants as A
-use Rattle.hv_sas.specs.Words.{kind_word as sas_kind_word, limit_word as sas_limit_word}
+use Rattle.hv_sas.specs.Words.{sas_kind_word, sas_limit_word}
 use Rattle.hv_sas.specs.Words.{which_word}
 use Rattle.hv_bound.specs.declared.fault.PlanFault.{PlanFault}
 use Rattle.hv_bound.specs.declared.fault.PlanFault.TheVariants as B
-use Rattle.hv_bound.specs.declared.checking.PlanAnswer.{PlanAnswer}
-use Rattle.hv_bound.specs.declared.checking.PlanAnswer.TheVariants as W
+use Rattle.hv_bound.specs.declared.plan_check.PlanAnswer.{PlanAnswer}
+use Rattle.hv_bound.specs.declared.plan_check.PlanAnswer.TheVariants as W
 use Rattle.hv_command.specs.declared.status.Status.{Status}
 use Rattle.hv_command.specs.declared.status.Status.TheVariants as S
 
@@ -119,9 +119,9 @@ judgement_text NoConclusion = no_conclusion_text
 -- the first fault of the task text
 abbrev pub task_fault_text : TaskFault → List ℕ
 task_fault_text (F.Place line kind) = line_of (codes "task line " ++ decimal line
-    ++ codes ": place " ++ kind_word kind)
+    ++ codes ": place " ++ task_kind_word kind)
 task_fault_text (F.Limit line limit) = line_of (codes "task line " ++ decimal line
-    ++ codes ": limit " ++ limit_word limit)
+    ++ codes ": limit " ++ task_limit_word limit)
 task_fault_text F.ReadFault = []
 task_fault_text F.Memory = []
 

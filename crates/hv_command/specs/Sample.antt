@@ -1,4 +1,4 @@
--- The sample: a task made from a number of rooms, and what is told of its two proofs.
+-- The sample: a task made from a number of rooms, and what is said of its two proofs.
 use Rattle.std.specs.Prelude.{◌+◌, ◌-◌, ◌*◌, ◌/◌, ◌%◌, ℕ, List, [], ◌∷◌, ◌++◌, codes, decimal}
 use Rattle.std.specs.Prelude.{map}
 use Rattle.std.specs.List.{range_with_len}
@@ -35,7 +35,7 @@ sample_task rooms = record {
 abbrev pub unreached_pairs : ℕ → ℕ
 unreached_pairs rooms = rooms * (rooms - 1) / 2 + rooms + 1
 
--- what is told of a proof, which is judged to show that the task has no plan: how many clauses its
+-- what is said of a proof, which is judged to show that the task has no plan: how many clauses its
 -- formula has, and how many lines it has
 abbrev pub proof_line : List ℕ → ℕ → ℕ → List ℕ
 proof_line kind clauses lines =
@@ -46,7 +46,7 @@ proof_line kind clauses lines =
 abbrev pub count_line : List ℕ → ℕ → List ℕ
 count_line name number = line_of (name ++ decimal number)
 
--- what is told of the sample: the proof by reached atoms has a clause for the key, and that by
+-- what is said of the sample: the proof by reached atoms has a clause for the key, and that by
 -- reached pairs one for each pair that isn't reached
 abbrev pub sample_text : ℕ → List ℕ
 sample_text rooms =

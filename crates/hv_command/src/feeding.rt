@@ -4,7 +4,7 @@ ghost use Rattle.std.specs.Prelude.{◌≡◌, ◌≢◌, ◌≤◌, [], IfSome,
 ghost use Rattle.hv_bytes.specs.Devices.{Rose};
 ghost use Rattle.hv_bytes.specs.Files.{bytes_of};
 ghost use Rattle.hv_bytes.specs.Pieces.{pieces_of};
-ghost use Rattle.hv_checker.specs.Stands.{Stands};
+ghost use Rattle.hv_checker.specs.Checkers.{HasJudged};
 ghost use Rattle.hv_bytes.specs.Standard.{standard};
 ghost use Rattle.hv_checker.specs.declared.stop.Stop.TheVariants as C;
 
@@ -24,9 +24,9 @@ pub(crate) fn feed_file<S: Shelf>(
     requires allowed { IsTrue (S.allows shelf.old name.now) }
     requires unfed { checker.old.fed ≡ 0 }
     requires going { checker.old.stop ≡ C.Going }
-    requires stands { Stands checker.old [] }
+    requires stands { HasJudged checker.old [] }
     ensures fed { OnOk result (IfSome (S.held shelf.old) (λ held.
-        Stands checker.new (pieces_of standard (bytes_of held name.now)))) }
+        HasJudged checker.new (pieces_of standard (bytes_of held name.now)))) }
     ensures setting { checker.new.setting ≡ checker.old.setting }
     ensures found { OnOk result (checker.new.stop ≢ C.Memory) }
     ensures held { S.held shelf.new ≡ S.held shelf.old }

@@ -11,7 +11,7 @@ ghost use Rattle.hv_command.specs.Words.{sample_with, sas_of};
 ghost use Rattle.hv_bytes.specs.Decimals.{IsDecimal};
 ghost use Rattle.hv_words.specs.Forms.{texts_of};
 
-use crate::words::Words;
+use crate::command_words::Words;
 use hv_bytes::read_decimal;
 use hv_words::{CheckWords, read_check, read_one, read_two};
 use std::alloc::{AllocError, Global};
@@ -102,7 +102,7 @@ pub enum Job {
         task: FileName,
         log: FileName,
     },
-    /// `sample N`: the task of so many rooms, from 3 to 64, and what is told of its two proofs.
+    /// `sample N`: the task of so many rooms, from 3 to 64, and what is said of its two proofs.
     Sample {
         rooms: u32,
     },
@@ -137,7 +137,7 @@ pub enum Kind {
     Trap,
 }
 
-/// What is told of a proof that shows that the task has no plan; of another one is told why it
+/// What is said of a proof that shows that the task has no plan; of another one is told why it
 /// doesn't.
 #[derive(Clone, Copy, Debug, PartialEq, Eq)]
 pub(crate) enum Report {

@@ -2,7 +2,7 @@
 #![tactic(auto)]
 
 mod bounding;
-mod checking;
+pub mod command_words;
 mod feeding;
 pub mod job;
 mod job_fault;
@@ -10,6 +10,7 @@ pub mod laws;
 mod planning;
 mod producing;
 mod proof_file;
+mod proof_jobs;
 mod replaying;
 mod reply;
 pub mod sample;
@@ -18,11 +19,10 @@ pub mod status;
 mod task_fault;
 pub mod top;
 mod translating;
-pub mod words;
 
+pub use command_words::Words;
 pub use job::{FileName, Job, Kind, read_job};
 pub use laws::{accepted, one_answer};
 pub use sample::sample_task;
 pub use status::Status;
 pub use top::run;
-pub use words::Words;

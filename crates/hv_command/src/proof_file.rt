@@ -6,7 +6,7 @@ ghost use Rattle.hv_lines.specs.Setting.{most_budget};
 use crate::job::{FileName, Report};
 
 /// A proof that is judged: the name of its file, what a query of a basic statement may cost, and
-/// what is told of it where it shows that the task has no plan.
+/// what is said of it where it shows that the task has no plan.
 #[derive(Clone, Copy)]
 pub(crate) struct ProofFile<'a> {
     pub name: &'a FileName,

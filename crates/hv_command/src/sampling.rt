@@ -18,11 +18,11 @@ ghost use Rattle.hv_command.specs.Sample.{sample_text, unreached_pairs};
 ghost use Rattle.hv_command.specs.Words.{IsRooms};
 ghost use Rattle.hv_command.specs.declared.status.Status.TheVariants as S;
 
-use crate::checking::check_proof;
 use crate::job::{DEFAULT_BUDGET, FileName, Report};
 use crate::job_fault::JobFault;
 use crate::producing::written;
 use crate::proof_file::ProofFile;
+use crate::proof_jobs::check_proof;
 use crate::reply::Reply;
 use crate::sample::sample_task;
 use crate::status::Status;
@@ -43,7 +43,7 @@ pub(crate) fn sample(alloc: Global, rooms: u32) -> Result<Reply, AllocError>
     Ok(answer)
 }
 
-// What is told of the task of so many rooms.
+// What is said of the task of so many rooms.
 fn task_reply(alloc: Global, task: &Task, rooms: u32) -> Result<Reply, AllocError>
     requires rooms { IsRooms rooms }
     requires task { task.now ≡ sample_task rooms }
@@ -82,7 +82,7 @@ fn push_count(text: &mut Text, name: &[u8], number: u32) -> Result<(), AllocErro
     Ok(())
 }
 
-// Appends what is told of the proof by reached atoms.
+// Appends what is said of the proof by reached atoms.
 fn push_relaxed(alloc: Global, text: &mut Text, task: &Task, rooms: u32) -> Result<(), AllocError>
     requires rooms { IsRooms rooms }
     requires task { task.now ≡ sample_task rooms }
@@ -98,7 +98,7 @@ fn push_relaxed(alloc: Global, text: &mut Text, task: &Task, rooms: u32) -> Resu
     }
 }
 
-// Appends what is told of the proof by reached pairs.
+// Appends what is said of the proof by reached pairs.
 fn push_pairs(alloc: Global, text: &mut Text, task: &Task, rooms: u32) -> Result<(), AllocError>
     requires rooms { IsRooms rooms }
     requires task { task.now ≡ sample_task rooms }
@@ -117,7 +117,7 @@ fn push_pairs(alloc: Global, text: &mut Text, task: &Task, rooms: u32) -> Result
     }
 }
 
-// Appends what is told of a proof: its number of clauses and of lines, and what it is judged from
+// Appends what is said of a proof: its number of clauses and of lines, and what it is judged from
 // its bytes.
 fn push_proof(
     alloc: Global,

@@ -13,7 +13,7 @@ pub enum Status {
     /// The words are no job.
     Usage,
     /// The task text, the node file, the log, the translator's file or the plan file isn't in its
-    /// grammar, or passes a limit.
+    /// grammar, or exceeds a limit.
     BadInput,
     /// A file can't be opened or read.
     ReadFault,

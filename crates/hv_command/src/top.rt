@@ -11,24 +11,24 @@ ghost use Rattle.hv_command.specs.Words.{HasName, IsBounded, job_of};
 ghost use Rattle.hv_command.specs.declared.status.Status.{Status as StatusOf};
 
 use crate::bounding::bound;
-use crate::checking::check;
+use crate::command_words::Words;
 use crate::job::{Job, Report, read_job};
 use crate::job_fault::JobFault;
 use crate::planning::plan_files;
 use crate::producing::produce;
 use crate::proof_file::ProofFile;
+use crate::proof_jobs::check;
 use crate::replaying::replay_files;
 use crate::reply::{Reply, fixed};
 use crate::sampling::sample;
 use crate::status::Status;
 use crate::translating::translate;
-use crate::words::Words;
 use hv_bytes::{Shelf, Sink, send};
 use hv_lines::Pruner;
 use std::alloc::Global;
 
 /// Does what the words ask for: reads the files that they name from the shelf, and writes the
-/// answer to the sink. The whole answer stands in memory before its first byte is written. A replay
+/// answer to the sink. The whole answer is in memory before its first byte is written. A replay
 /// asks these pruners, in order, why a pruned state is dead; they are dropped at the end.
 pub fn run<S: Shelf, K: Sink>(
     alloc: Global,
@@ -77,7 +77,7 @@ pub fn run<S: Shelf, K: Sink>(
         × IsSoundTold (job_of words.now) (S.held shelf.old) status
         × AppendsFront (K.taken out.old) (K.taken out.new) text }
 
-    // want of memory
+    // out of memory
     ensures memory { result ≡ Status.Memory → out.new ≡ out.old }
 {
     let mut pruners = pruners;

@@ -36,7 +36,7 @@ fn lamp_with(alloc: Global, number: usize, other: &str) -> Result<Vec<u8>, Alloc
     Ok(text)
 }
 
-// Whether what is told of this translator's file is the text of this short form.
+// Whether what is said of this translator's file is the text of this short form.
 fn is_told_of(alloc: Global, file: &[u8], answer: &str) -> Result<bool, AllocError> {
     let told = told(alloc, "sas task", file, b"")?;
     is_text(alloc, told.as_slice(), answer)
@@ -48,7 +48,7 @@ fn is_made(alloc: Global, number: usize, other: &str, answer: &str) -> Result<bo
     is_told_of(alloc, file.as_slice(), answer)
 }
 
-// The number of a line, what stands there, and the answer.
+// The number of a line, what is there, and the answer.
 static LAMPS: [(usize, &str, &str); 10] = [
     (
         0,

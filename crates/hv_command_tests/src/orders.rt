@@ -310,7 +310,7 @@ static FALLING: [(&str, &str, &str); 7] = [
     ("", " 0", "1 no conclusion"),
     (" --budget 2", " 0", "1 no conclusion"),
     (" --budget 1", " 0", "1 line 4: budget"),
-    // the last atom is missing, stands twice, or isn't one of the task's
+    // the last atom is missing, occurs twice, or isn't one of the task's
     ("", "", "3 nodes line 1: place permutation"),
     ("", " 1", "3 nodes line 1: place permutation"),
     ("", " 0 0", "3 nodes line 1: place permutation"),
@@ -333,7 +333,7 @@ fn all_falling(
     Ok(())
 }
 
-// The nodes stand in the falling order alone.
+// The nodes are in the falling order alone.
 fn needs_the_order(alloc: Global, task: &[u8]) -> Result<bool, AllocError> {
     let nodes = b"nodes 2\n0 1 0\n65534 2 0\n";
     tells_of_widest(alloc, task, "", nodes, "3 nodes line 3: place order")

@@ -26,7 +26,7 @@ fn is_accepted(
     is_done(alloc, words.as_str(), task, proof)
 }
 
-// Whether what was told is a proof that is accepted within the budget, and within no smaller one.
+// Whether what was said is a proof that is accepted within the budget, and within no smaller one.
 fn costs(alloc: Global, task: &[u8], told: &[u8], budget: u32) -> Result<bool, AllocError> {
     let within = is_accepted(alloc, task, told, budget)?;
     let below = budget > 1 && is_accepted(alloc, task, told, budget.saturating_sub(1))?;
@@ -103,7 +103,7 @@ static PROOFS: [(&str, &str, &str, u32); 3] = [
     ),
 ];
 
-// A kind and a task of which no such proof is written, and what is told.
+// A kind and a task of which no such proof is written, and what is said.
 static REFUSED: [(&str, &str, &str); 5] = [
     ("relaxed", GOAL_AT_THE_START, "1 no proof"),
     ("relaxed", ONE_OF_TWO, "1 no proof"),

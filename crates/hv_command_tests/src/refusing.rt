@@ -76,13 +76,13 @@ fn told_of(alloc: Global, log: &str) -> Result<Vec<u8>, AllocError> {
     told_with(alloc, "replay task proof", files, refused_pruner(alloc)?)
 }
 
-// Whether want of memory is told, with nothing written.
+// Whether running out of memory is told, with nothing written.
 fn tells_want_of_memory(alloc: Global, log: &str) -> Result<bool, AllocError> {
     let told = told_of(alloc, log)?;
     Ok(told.as_slice() == b"6 ".as_slice())
 }
 
-// Nothing else stands in the way: with one question less the log is replayed.
+// Nothing else is in the way: with one question less the log is replayed.
 #[test]
 fn tells_that_a_pruner_was_refused_memory(rt: HostRuntime) -> Result<(), Fail> {
     assert!(rt; tells_want_of_memory(rt.alloc(), ASKED_TWICE)?);
@@ -90,7 +90,7 @@ fn tells_that_a_pruner_was_refused_memory(rt: HostRuntime) -> Result<(), Fail> {
     Ok(())
 }
 
-// Whether a replay of this log with these pruners meets want of memory.
+// Whether a replay of this log with these pruners runs out of memory.
 fn is_refused(
     alloc: Global,
     log: &str,
@@ -101,7 +101,7 @@ fn is_refused(
     Ok(text.as_bytes() == b"memory".as_slice())
 }
 
-// Whether a first replay meets want of memory, and a second one with the same pruner writes what a
+// Whether a first replay runs out of memory, and a second one with the same pruner writes what a
 // new pruner does.
 fn is_begun_anew(alloc: Global) -> Result<bool, AllocError> {
     let mut pruners = refused_pruner(alloc)?;

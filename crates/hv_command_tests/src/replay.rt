@@ -39,7 +39,7 @@ fn replayed(alloc: Global, task: &str, log: &str) -> Result<Vec<u8>, AllocError>
     )
 }
 
-// Whether what was told is a proof of the task, which `check` accepts.
+// Whether what was said is a proof of the task, which `check` accepts.
 fn is_proof(alloc: Global, task: &str, told: &[u8]) -> Result<bool, AllocError> {
     match told.strip_prefix(b"0 ") {
         None => Ok(false),
@@ -212,7 +212,7 @@ fn put_proof(
     }
 }
 
-// Adds the file that the short form stands for.
+// Adds the file that the short form denotes.
 fn add_file(
     alloc: Global,
     shelf: &mut SureShelf,

@@ -37,7 +37,7 @@ pub(crate) fn rooms_text(alloc: Global) -> Result<Text, AllocError> {
     write_task(alloc, &task)
 }
 
-// Whether `check` accepts what was told as a proof of the task.
+// Whether `check` accepts what was said as a proof of the task.
 fn is_accepted(alloc: Global, task: &[u8], told: &[u8]) -> Result<bool, AllocError> {
     let proof = told.strip_prefix(b"0 ").unwrap_or(b"");
     is_done(alloc, "check task proof", task, proof)

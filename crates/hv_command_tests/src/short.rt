@@ -48,7 +48,7 @@ const REST: &str = concat!(
     "k 3 d 6 sd 2 0\nk 4 d 3 pg 1 0 3\nk 5 s 1 3 b1\nk 6 d 1 sd 5 4\nk 7 u ci 6\n"
 );
 
-// Puts what a letter of a short form stands for last.
+// Puts what a letter of a short form denotes last.
 fn put_letter(text: &mut Vec<u8>, letter: u8) -> Result<(), AllocError> {
     match letter {
         b'/' => text.push(b'\n')?,
@@ -59,7 +59,7 @@ fn put_letter(text: &mut Vec<u8>, letter: u8) -> Result<(), AllocError> {
     Ok(())
 }
 
-// Puts what a short form stands for last.
+// Puts what a short form denotes last.
 fn put_letters(text: &mut Vec<u8>, short: &str) -> Result<(), AllocError> {
     for letter in short.as_bytes() {
         put_letter(text, *letter)?;
@@ -67,7 +67,7 @@ fn put_letters(text: &mut Vec<u8>, short: &str) -> Result<(), AllocError> {
     Ok(())
 }
 
-/// The text that a short form stands for: `/` is an LF, `@` the lines that most proofs begin with,
+/// The text that a short form denotes: `/` is an LF, `@` the lines that most proofs begin with,
 /// and `%` those behind set 3.
 pub(crate) fn written(alloc: Global, short: &str) -> Result<Vec<u8>, AllocError> {
     let mut text = Vec::new(alloc);
@@ -244,14 +244,14 @@ pub(crate) fn told_with_fault(
     told_to_faulty(alloc, words, &mut shelf, write)
 }
 
-/// Whether what was told is the text of this short form and an LF.
+/// Whether what was said is the text of this short form and an LF.
 pub(crate) fn is_text(alloc: Global, told: &[u8], short: &str) -> Result<bool, AllocError> {
     let mut text = written(alloc, short)?;
     text.push(b'\n')?;
     Ok(text.as_slice() == told)
 }
 
-/// Whether what was told is one of these answers, which are parted by `|`.
+/// Whether what was said is one of these answers, which are parted by `|`.
 pub(crate) fn is_one_of(alloc: Global, told: &[u8], answers: &str) -> Result<bool, AllocError> {
     for answer in answers.split('|') {
         if is_text(alloc, told, answer)? {

@@ -10,7 +10,7 @@ ghost use Rattle.hv_explain.specs.Needed.{IsConclusion};
 use hv_lines::{Statement, Table};
 use std::alloc::{AllocError, Global};
 
-/// A mark for each `k` line, by its identifier: whether the line is needed. A premise stands before
+/// A mark for each `k` line, by its identifier: whether the line is needed. A premise is before
 /// the line that it is one of, so the lines are gone through once, from the last to the first.
 pub(crate) fn needed(alloc: Global, table: &Table) -> Result<Vec<bool>, AllocError>
     ensures { IfOk result (λ marks. MarkNeeded table.now.lines marks.items) }

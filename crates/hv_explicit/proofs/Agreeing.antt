@@ -24,7 +24,7 @@ module _ (touched : ℕ → Bool) (one other : List ℕ) (rises : IsStrictlyIncr
     ahead = λ m n less upto in_. absurd (omega arith);
   }
 
-  -- what is untouched stands in both or in none
+  -- what is untouched is in both or in none
   over_from : (n : ℕ) → n < length other → touched (get_or other n 0) ≡ false
       → ((p : ℕ) → touched p ≡ false → names_atom other p ≡ names_atom one p)
       → (m : ℕ) × (m < length one) × (get_or one m 0 ≡ get_or other n 0)

@@ -21,8 +21,9 @@ use Rattle.hv_sets.specs.Cost.{IsAnswer, StatesPass, states_of}
 use Rattle.hv_sets.specs.Query.{IsAnchor, IsNamed, IsReady, action_of, asked, in_operand}
 use Rattle.hv_sets.specs.Query.{may_apply}
 use Rattle.hv_sets.specs.Truth.{in_states, is_same}
-use Rattle.hv_explicit.specs.Listing.{AreOver, Listing, count_found, in_found, in_listing, in_set}
-use Rattle.hv_explicit.specs.Listing.{states_listed}
+use Rattle.hv_explicit.specs.ListedStates.{AreListsOver, ListedStates, count_found, in_found}
+use Rattle.hv_explicit.specs.ListedStates.{in_listing, in_set}
+use Rattle.hv_explicit.specs.ListedStates.{states_listed}
 use Rattle.hv_explicit.specs.Working.Search.{IsFoundListed, ListedSearch, NamesAnchor, clashes_in}
 use Rattle.hv_explicit.specs.Working.Search.{in_named}
 
@@ -52,10 +53,10 @@ asked_before (Some action) true state e = let f : true ≡ false = e in absurd c
 asked_before (Some action) false state e = refl
 
 -- a set of the store is over the task
-pub over_at : (sets : List Listing) (n number : ℕ) (set : Listing) → AreOver sets n
+pub over_at : (sets : List ListedStates) (n number : ℕ) (set : ListedStates) → AreListsOver sets n
     → slice_get sets number ≡ Some set → set.atoms ≡ n
 over_at sets n number set over named =
-    All-contains (λ (s : Listing). s.atoms ≡ n) sets set over (
+    All-contains (λ (s : ListedStates). s.atoms ≡ n) sets set over (
       number,
       slice_get_within sets number set named,
       get_or_from_slice_get sets number set set
@@ -63,7 +64,7 @@ over_at sets n number set over named =
     )
 
 -- each state of a set of the store is in it
-pub anchor_has : (s : ListedSearch) (number : ℕ) (set : Listing) → set.atoms ≡ atoms s.task
+pub anchor_has : (s : ListedSearch) (number : ℕ) (set : ListedStates) → set.atoms ≡ atoms s.task
     → slice_get s.sets number ≡ Some set
     → All (λ held. in_named s (W.Set number) (state_of (atoms s.task) held) ≡ true) set.states
 anchor_has s number set over named = λ k d within.
@@ -163,7 +164,7 @@ module _ (s : ListedSearch) where
         f
 
     -- the states of a set of the store
-    pub answer_set : (found : Finding) (budget number : ℕ) (set : Listing) (last : List Bool)
+    pub answer_set : (found : Finding) (budget number : ℕ) (set : ListedStates) (last : List Bool)
         → set.atoms ≡ atoms s.task → which ≡ W.Set number → slice_get s.sets number ≡ Some set
         → IsFoundListed found budget s set.states last
         → IsAnswer found (StatesPass (states_listed s.sets) s.query budget) (atoms s.task)

@@ -16,7 +16,7 @@ use Rattle.hv_task.proofs.Next.{unnamed}
 use Rattle.hv_sets.specs.Query.{action_of, asked, in_operand, may_apply}
 use Rattle.hv_sets.specs.declared.operand.Operand.{Operand}
 use Rattle.hv_explicit.specs.Codes.{IsBelow}
-use Rattle.hv_explicit.specs.Listing.{in_set}
+use Rattle.hv_explicit.specs.ListedStates.{in_set}
 use Rattle.hv_explicit.specs.Working.Search.{HasJust, ListedSearch, clashes_in, in_either, in_named}
 use Rattle.hv_explicit.specs.Working.Search.{is_fit}
 
@@ -28,7 +28,7 @@ past_all n held p below past = unnamed held p
 pub below_list : (n : ℕ) (held : List ℕ) → AreBelow n held → IsBelow n (names_atom held)
 below_list n held below p past = past_all n held p below past
 
--- a list stands for its state
+-- a list denotes its state
 pub stands_list : (task : Strips) (held : List ℕ) → AreBelow (atoms task) held
     → HasJust task (names_atom held) (state_of (atoms task) held)
 stands_list task held below = record {
@@ -64,7 +64,7 @@ below_after n action held below over p past =
     (past_all n action.add p over.add past)
     (and_right (not (names_atom action.del p)) (names_atom held p) (past_all n held p below past))
 
--- and stands for the successor
+-- and denotes the successor
 pub stands_after : (task : Strips) (action : Action) (held : List ℕ) → AreBelow (atoms task) held
     → IsOver (atoms task) action
     → HasJust task (is_after action held) (successor action (state_of (atoms task) held))

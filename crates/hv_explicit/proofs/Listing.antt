@@ -14,7 +14,7 @@ use Rattle.hv_sets.specs.declared.literal.Literal.{Literal}
 use Rattle.hv_sets.specs.Cubes.{SpeakBelow, atoms_of}
 use Rattle.hv_sets.specs.Truth.{in_cube, in_states, is_same}
 use Rattle.hv_sets.specs.Walks.{Meets}
-use Rattle.hv_explicit.specs.Listing.{full_cube}
+use Rattle.hv_explicit.specs.ListedStates.{full_cube}
 
 -- the cube of one state speaks of the atoms of its task alone
 pub full_below : (n : ℕ) (held : List ℕ) → SpeakBelow n (full_cube n held)

@@ -16,7 +16,7 @@ use Rattle.hv_task.proofs.Rising.{same_rising}
 use Rattle.hv_sets.specs.Truth.{in_states, is_same}
 use Rattle.hv_explicit.specs.Codes.{IsBelow, IsSetOf}
 use Rattle.hv_explicit.specs.Working.Codes.{HasListed, IsCode, IsListCode, IsSame}
-use Rattle.hv_explicit.specs.Listing.{AreRising, AreStates}
+use Rattle.hv_explicit.specs.ListedStates.{AreRising, AreStates}
 use Rattle.hv_explicit.specs.Working.Listing.{AreFirsts, IsEnteredState, IsIndex, first_at}
 use Rattle.hv_explicit.specs.Working.Places.{IsEnd, code_at}
 use Rattle.hv_explicit.proofs.Coded.{from_same, into_same}
@@ -26,7 +26,7 @@ pub here : (states : List (List ℕ)) (k : ℕ) (held : List ℕ) → slice_get 
     → get_or states k [] ≡ held
 here states k held at = get_or_from_slice_get states k held [] at
 
--- a state of the list is below the bound, and its atoms leave room for one more in 32 bits
+-- a state of the list is below the bound, and its atoms leave space for one more in 32 bits
 pub room_at : (n : ℕ) (states : List (List ℕ)) (k : ℕ) (held : List ℕ) → n < 2 ^ 32
     → AreStates n states → slice_get states k ≡ Some held
     → AreBelow (2 ^ 32 - 1) held
@@ -176,7 +176,7 @@ all_from_firsts P states firsts are each k d within =
     let e = are.each k within in
     subst P (e.2 ∙ get_or_default states k [] d within) (each e.0 e.1)
 
--- a state that some entry stands for is listed, and each listed state has an entry
+-- a state that some entry denotes is listed, and each listed state has an entry
 pub listed_first : (set : ℕ → Bool) (states : List (List ℕ)) (firsts : List ℕ)
     → AreFirsts states firsts (length states)
     → IsEnteredState set states firsts ↔ HasListed set states

@@ -13,16 +13,17 @@ use Rattle.hv_sets.specs.declared.operand.Which.TheVariants as W
 use Rattle.hv_explicit.specs.Codes.{IsBelow, IsSetOf}
 use Rattle.hv_explicit.specs.Working.Codes.{HasListed, IsSame}
 use Rattle.hv_explicit.specs.Working.Coding.{IsCodeBy}
-use Rattle.hv_explicit.specs.Listing.{AreOver, AreRising, AreStates, Listing, in_found, in_listing}
-use Rattle.hv_explicit.specs.Listing.{in_set}
+use Rattle.hv_explicit.specs.ListedStates.{AreListsOver, AreRising, AreStates, ListedStates}
+use Rattle.hv_explicit.specs.ListedStates.{in_found, in_listing}
+use Rattle.hv_explicit.specs.ListedStates.{in_set}
 use Rattle.hv_explicit.specs.Working.Listing.{AreFirsts, first_at}
 use Rattle.hv_explicit.specs.Working.Owners.{AreEntered, AreListings, IsEntered, IsOwned, IsOwner}
 use Rattle.hv_explicit.specs.Working.Owners.{IsOwnerIndex, KeepsEntries, entry_at}
 use Rattle.hv_explicit.specs.Working.Places.{code_at}
 use Rattle.hv_explicit.specs.declared.coding.Coding.{Coding}
 use Rattle.hv_explicit.specs.declared.coding.Coding.TheVariants as K
-use Rattle.hv_explicit.specs.declared.owners.Entry.{Entry}
-use Rattle.hv_explicit.specs.declared.owners.Owners.{Owners}
+use Rattle.hv_explicit.specs.declared.state_owners.ListedAt.{ListedAt}
+use Rattle.hv_explicit.specs.declared.state_owners.StateOwners.{StateOwners}
 use Rattle.std.proofs.lemmas.Bool.{both_ways, cases_lt}
 use Rattle.hv_task.specs.State.{names_atom}
 use Rattle.hv_explicit.proofs.Coded.{same_from, sip_same}
@@ -31,20 +32,22 @@ use Rattle.hv_explicit.proofs.LookUp.{all_from_firsts, listed_decides}
 use Rattle.hv_explicit.proofs.Anchored.{over_at}
 
 -- a set that has a state is a set of the store
-set_of : (sets : List Listing) (number : ℕ) (state : List Bool) → in_set sets number state ≡ true
-    → (set : Listing) × (slice_get sets number ≡ Some set) × (in_listing set state ≡ true)
+set_of : (sets : List ListedStates) (number : ℕ) (state : List Bool) → in_set sets number state ≡
+    true
+    → (set : ListedStates) × (slice_get sets number ≡ Some set) × (in_listing set state ≡ true)
 set_of sets number state has = by (slice_get sets number) refl
   where
-    by : (found : Option Listing) → slice_get sets number ≡ found
-        → (set : Listing) × (slice_get sets number ≡ Some set) × (in_listing set state ≡ true)
+    by : (found : Option ListedStates) → slice_get sets number ≡ found
+        → (set : ListedStates) × (slice_get sets number ≡ Some set) × (in_listing set state ≡ true)
     by None e = let no : false ≡ true = sym (ap (λ s. in_found s state) e) ∙ has in absurd cc
     by (Some set) e = (set, e, sym (ap (λ s. in_found s state) e) ∙ has)
 
-listed_at : (sets : List Listing) (number : ℕ) (set : Listing) → AreListings sets
+listed_at : (sets : List ListedStates) (number : ℕ) (set : ListedStates) → AreListings sets
     → slice_get sets number ≡ Some set
     → AreStates set.atoms set.states × AreRising set.states
 listed_at sets number set listed at =
-    All-contains (λ (s : Listing). AreStates s.atoms s.states × AreRising s.states) sets set listed
+    All-contains (λ (s : ListedStates). AreStates s.atoms s.states × AreRising s.states) sets set
+    listed
     (number, slice_get_within sets number set at, get_or_from_slice_get sets number set set at)
 
 -- a set of atoms has one code by a coding
@@ -54,12 +57,12 @@ one_code_by (K.Sums key) f g a b one other same = one_code key f g a b one other
 one_code_by K.Sips f g a b one other same =
     one.3 ∙ sip_same g b one.0 other one.1 (λ p. sym (same p) ∙ same_from f one.0 one.2 p)
 
-module _ (n : ℕ) (sets : List Listing) (operands : List Operand) (after : Bool)
-    (over : AreOver sets n) (listed : AreListings sets)
+module _ (n : ℕ) (sets : List ListedStates) (operands : List Operand) (after : Bool)
+    (over : AreListsOver sets n) (listed : AreListings sets)
     (held : ℕ → Bool) (state : List Bool) (size : length state ≡ n) (below : IsBelow n held)
     (agree : IsSetOf held state) where
   -- whether a set lists the state
-  in_set_is : (number : ℕ) (set : Listing) → slice_get sets number ≡ Some set
+  in_set_is : (number : ℕ) (set : ListedStates) → slice_get sets number ≡ Some set
       → (in_listing set state ≡ true) ↔ HasListed held set.states
   in_set_is number set at =
       let same : set.atoms ≡ n = over_at sets n number set over at in
@@ -69,7 +72,7 @@ module _ (n : ℕ) (sets : List Listing) (operands : List Operand) (after : Bool
       (listed_decides n held state size below agree set.states are)
 
   -- an entry that was met shows a set
-  pub owned_from : (entry : Entry) → IsOwner held sets operands after entry
+  pub owned_from : (entry : ListedAt) → IsOwner held sets operands after entry
       → IsOwned sets operands after state
   owned_from entry owner = (
     entry.set,
@@ -79,7 +82,7 @@ module _ (n : ℕ) (sets : List Listing) (operands : List Operand) (after : Bool
   )
 
   -- a set that lists the state has an entry under the code
-  pub owner_of : (owners : Owners) (code : ℕ) → AreEntered owners sets
+  pub owner_of : (owners : StateOwners) (code : ℕ) → AreEntered owners sets
       → IsCodeBy owners.coding held code
       → IsOwned sets operands after state
       → (e : ℕ) × (e < length owners.codes) × (code_at owners.codes e ≡ code)
@@ -103,7 +106,7 @@ module _ (n : ℕ) (sets : List Listing) (operands : List Operand) (after : Bool
       )
 
 -- a set of the longer store is one of the shorter, or the last
-in_pushed : (sets : List Listing) (last : Listing) (number : ℕ) (set : Listing)
+in_pushed : (sets : List ListedStates) (last : ListedStates) (number : ℕ) (set : ListedStates)
     → slice_get (sets ++ last ∷ []) number ≡ Some set
     → (slice_get sets number ≡ Some set) ⊎ ((number ≡ length sets) × (last ≡ set))
 in_pushed [] last zero set e = inr (refl, cc)
@@ -116,7 +119,7 @@ in_pushed (first ∷ sets) last (suc number) set e =
     ]
 
 -- and each of the shorter is one of the longer
-in_longer : (sets : List Listing) (last : Listing) (number : ℕ) (set : Listing)
+in_longer : (sets : List ListedStates) (last : ListedStates) (number : ℕ) (set : ListedStates)
     → slice_get sets number ≡ Some set → slice_get (sets ++ last ∷ []) number ≡ Some set
 in_longer [] last zero set e = let f : None ≡ Some set = e in absurd cc
 in_longer [] last (suc number) set e = let f : None ≡ Some set = e in absurd cc
@@ -129,7 +132,7 @@ on_err (Ok x) P p = tt
 on_err (Err e) P p = p
 
 -- where nothing is known
-pub index_unknown : (owners : Owners) (sets : List Listing) → owners.known ≡ false
+pub index_unknown : (owners : StateOwners) (sets : List ListedStates) → owners.known ≡ false
     → length owners.codes ≤ length owners.entries.items → IsOwnerIndex owners sets
 index_unknown owners sets not size = record {
   entered = λ known. absurd (both_ways owners.known not known);
@@ -137,7 +140,7 @@ index_unknown owners sets not size = record {
 }
 
 -- the same sets, with more entries
-pub index_kept : (old new : Owners) (sets : List Listing) → IsOwnerIndex old sets
+pub index_kept : (old new : StateOwners) (sets : List ListedStates) → IsOwnerIndex old sets
     → new.known ≡ old.known → KeepsEntries old new → length new.codes ≤ length new.entries.items
     → IsOwnerIndex new sets
 index_kept old new sets index same keeps size = record {
@@ -147,7 +150,7 @@ index_kept old new sets index same keeps size = record {
 }
 
 -- one set more, whose states are entered
-pub index_more : (owners : Owners) (sets : List Listing) (last : Listing)
+pub index_more : (owners : StateOwners) (sets : List ListedStates) (last : ListedStates)
     → IsOwnerIndex owners sets
     → All (λ held. IsEntered owners (length sets) last.states held) last.states
     → IsOwnerIndex owners (sets ++ last ∷ [])
@@ -155,7 +158,7 @@ index_more owners sets last index new = record {
   entered = λ known number set at. elim (in_pushed sets last number set at) [
     | inl old ↦ index.entered known number set old
     | inr here ↦
-        subst (λ (s : Listing). All (λ held. IsEntered owners number s.states held) s.states)
+        subst (λ (s : ListedStates). All (λ held. IsEntered owners number s.states held) s.states)
         here.1
         (subst (λ j. All (λ held. IsEntered owners j last.states held) last.states)
         (sym here.0) new)
@@ -164,7 +167,7 @@ index_more owners sets last index new = record {
 }
 
 -- one set less
-pub index_less : (owners : Owners) (sets : List Listing) (last : Listing)
+pub index_less : (owners : StateOwners) (sets : List ListedStates) (last : ListedStates)
     → IsOwnerIndex owners (sets ++ last ∷ []) → IsOwnerIndex owners sets
 index_less owners sets last index = record {
   entered = λ known number set at. index.entered known number set
@@ -173,13 +176,14 @@ index_less owners sets last index = record {
 }
 
 -- the sets of the store with one more
-pub listed_more : (sets : List Listing) (last : Listing) → AreListings sets
+pub listed_more : (sets : List ListedStates) (last : ListedStates) → AreListings sets
     → AreStates last.atoms last.states × AreRising last.states → AreListings (sets ++ last ∷ [])
 listed_more sets last listed new =
-    All-push (λ (s : Listing). AreStates s.atoms s.states × AreRising s.states) sets last listed new
+    All-push (λ (s : ListedStates). AreStates s.atoms s.states × AreRising s.states) sets last
+    listed new
 
 -- every first state is entered, so each state is
-pub all_entered : (owners : Owners) (number : ℕ) (states : List (List ℕ)) (firsts : List ℕ)
+pub all_entered : (owners : StateOwners) (number : ℕ) (states : List (List ℕ)) (firsts : List ℕ)
     → AreFirsts states firsts (length states)
     → ((e : ℕ) → e < length firsts → IsEntered owners number states (first_at states firsts e))
     → All (λ held. IsEntered owners number states held) states
@@ -187,15 +191,15 @@ all_entered owners number states firsts are entered =
     all_from_firsts (IsEntered owners number states) states firsts are entered
 
 -- so many sets are entered
-pub record AreSome (owners : Owners) (sets : List Listing) (count : ℕ) : Type 0 where
+pub record AreSome (owners : StateOwners) (sets : List ListedStates) (count : ℕ) : Type 0 where
   pub known : owners.known ≡ true
   pub size : length owners.codes ≤ length owners.entries.items
-  pub each : (number : ℕ) → number < count → (set : Listing)
+  pub each : (number : ℕ) → number < count → (set : ListedStates)
       → slice_get sets number ≡ Some set
       → All (λ held. IsEntered owners number set.states held) set.states
 
 -- none, to begin with
-pub some_first : (owners : Owners) (sets : List Listing) → owners.known ≡ true
+pub some_first : (owners : StateOwners) (sets : List ListedStates) → owners.known ≡ true
     → owners.entries.items ≡ [] → owners.codes ≡ [] → AreSome owners sets 0
 some_first owners sets known entries codes = record {
   known = known;
@@ -204,7 +208,7 @@ some_first owners sets known entries codes = record {
 }
 
 -- one more
-pub some_next : (old new : Owners) (sets : List Listing) (count : ℕ) (last : Listing)
+pub some_next : (old new : StateOwners) (sets : List ListedStates) (count : ℕ) (last : ListedStates)
     → AreSome old sets count → slice_get sets count ≡ Some last
     → new.known ≡ old.known → KeepsEntries old new → length new.codes ≤ length new.entries.items
     → All (λ held. IsEntered new count last.states held) last.states
@@ -220,13 +224,14 @@ some_next old new sets count last some at known keeps size entered = record {
         let one : Some last ≡ Some set = sym at ∙ ap (λ k. slice_get sets k) same ∙ here in
         let it : last ≡ set = cc in
         subst (λ j. All (λ held. IsEntered new j set.states held) set.states) same
-        (subst (λ (s : Listing). All (λ held. IsEntered new count s.states held) s.states) it
+        (subst (λ (s : ListedStates). All (λ held. IsEntered new count s.states held) s.states) it
         entered)
   ];
 }
 
 -- all
-pub some_all : (owners : Owners) (sets : List Listing) (count : ℕ) → AreSome owners sets count
+pub some_all : (owners : StateOwners) (sets : List ListedStates) (count : ℕ) → AreSome owners sets
+    count
     → length sets ≤ count → IsOwnerIndex owners sets
 some_all owners sets count some all = record {
   entered = λ known number set at. some.each number

@@ -1,4 +1,4 @@
 pub mod Codes
-pub mod Listing
+pub mod ListedStates
 pub mod Walked
 pub mod Working

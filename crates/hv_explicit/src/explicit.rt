@@ -11,16 +11,16 @@ ghost use Rattle.hv_sets.specs.Cubes.{SpeakBelow};
 ghost use Rattle.hv_sets.specs.Walks.{IsStateOf, Meets};
 ghost use Rattle.hv_sets.specs.Truth.{in_states};
 ghost use Rattle.hv_explicit.specs.Codes.{IsBelow, IsSetOf};
-ghost use Rattle.hv_explicit.specs.Listing.{AreRising, AreStates, full_cube, full_cubes};
-ghost use Rattle.hv_explicit.specs.Listing.{in_listing};
+ghost use Rattle.hv_explicit.specs.ListedStates.{AreRising, AreStates, full_cube, full_cubes};
+ghost use Rattle.hv_explicit.specs.ListedStates.{in_listing};
 ghost use Rattle.hv_explicit.specs.Working.Codes.{IsSame};
 ghost use Rattle.hv_explicit.specs.Working.Listing.{AreFirsts, ArePlacesOf};
 ghost use Rattle.hv_explicit.specs.Working.Holders.{AreHolders, IsHolderIndex, listed_places};
 ghost use Rattle.hv_explicit.specs.Working.Laws as laws;
 
 use crate::firsts::{Firsts, coded_state, firsts_of, is_at, look_up};
-use crate::holders::{Holders, Part, holders_of, holding_all};
-use crate::sought::{Coded, Outcome, Read, Sought};
+use crate::holders::{Holders, SomePlaces, holders_of, holding_all};
+use crate::sought::{ActionResult, Coded, ReadInOrder, Sought};
 use hv_sets::{Cube, Cursor, Inside, Literal, Scratch, StateList, StateSet, Step};
 use hv_task::{Action, Atoms, State, Task, names_atom};
 use std::alloc::{AllocError, Global};
@@ -42,9 +42,9 @@ pub struct Explicit {
 
 impl Model for Explicit {
     ghost use Rattle.hv_explicit.specs.Working.Holders.{IsKeptListing};
-    ghost use Rattle.hv_explicit.specs.Listing.{Listing};
+    ghost use Rattle.hv_explicit.specs.ListedStates.{ListedStates};
 
-    ghost Value = { Listing };
+    ghost Value = { ListedStates };
 
     ghost view = { λ s. record { atoms = s.atoms; states = s.states } };
 
@@ -53,7 +53,7 @@ impl Model for Explicit {
 
 impl Explicit {
     /// The set of these states of the task, which are shared where the list is, and else copied.
-    /// More than 4,294,967,295 states are answered as want of memory; a line has fewer than
+    /// More than 4,294,967,295 states are answered as out of memory; a line has fewer than
     /// 8,388,608, since a state takes two bytes at least.
     pub fn new(alloc: Global, task: &Task, states: &StateList) -> Result<Explicit, AllocError>
         requires { AreStates (atoms task.now) states.now }
@@ -63,7 +63,7 @@ impl Explicit {
         Explicit::from_list(alloc, task, states.copy(alloc)?)
     }
 
-    /// The set of these states of the task. There is no room for more than 4,294,967,295.
+    /// The set of these states of the task. There is no space for more than 4,294,967,295.
     pub fn from_list(alloc: Global, task: &Task, states: StateList) -> Result<Explicit, AllocError>
         requires { AreStates (atoms task.now) states }
         ensures { IfOk result (λ set. set ≡ record { atoms = atoms task.now; states = states }) }
@@ -101,7 +101,7 @@ impl Explicit {
         &self,
         alloc: Global,
         atoms: &[u32],
-    ) -> Result<Option<Part<'_>>, AllocError>
+    ) -> Result<Option<SomePlaces<'_>>, AllocError>
         ensures { IfOk result (λ o. IfSome o (λ part.
             AreHolders self.now.states atoms.now (listed_places part))) }
     {
@@ -118,7 +118,7 @@ impl Explicit {
         ensures { (state : List Bool) → length state ≡ self.now.atoms
             → IsSetOf (A.has held.now) state → result ≡ in_listing self.now state }
     {
-        self.has(&Read { set: held })
+        self.has(&ReadInOrder { set: held })
     }
 
     /// Whether the result of the action in the state of these atoms is listed. It isn't built.
@@ -129,7 +129,7 @@ impl Explicit {
             → IsSetOf (is_after action.now held.now) state → result ≡ in_listing self.now state }
     {
         let state = Coded::new(self.firsts.key, held);
-        self.has(&Outcome::of(state, action))
+        self.has(&ActionResult::of(state, action))
     }
 
     /// How many states are listed.

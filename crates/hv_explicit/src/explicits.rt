@@ -6,13 +6,13 @@ ghost use Rattle.hv_task.specs.Strips.{atoms};
 ghost use Rattle.hv_sets.specs.Cost.{StatesPass};
 ghost use Rattle.hv_sets.specs.Query.{HasAnchor, IsReady};
 ghost use Rattle.hv_explicit.specs.Codes.{IsBelow, IsSetOf};
-ghost use Rattle.hv_explicit.specs.Listing.{AreOver, in_set, states_listed};
+ghost use Rattle.hv_explicit.specs.ListedStates.{AreListsOver, in_set, states_listed};
 ghost use Rattle.hv_explicit.specs.Working.Owners.{IsOwned};
 
 use crate::explicit::Explicit;
-use crate::owners::{Owners, find_owner, take_in};
-use crate::search::Search;
+use crate::sets_query::SetsQuery;
 use crate::sought::Sought;
+use crate::state_owners::{StateOwners, find_owner, take_in};
 use hv_sets::{Family, Finding, Operands, Query, Scratch};
 use hv_task::Task;
 use std::alloc::{AllocError, Global};
@@ -22,15 +22,15 @@ use std::marker::Model;
 #[derive(Drop)]
 pub struct Explicits {
     sets: Vec<Explicit>,
-    owners: Owners,
+    owners: StateOwners,
 }
 
 impl Model for Explicits {
     ghost use Rattle.std.specs.Prelude.{List};
-    ghost use Rattle.hv_explicit.specs.Listing.{Listing};
+    ghost use Rattle.hv_explicit.specs.ListedStates.{ListedStates};
     ghost use Rattle.hv_explicit.specs.Working.Owners.{IsStore};
 
-    ghost Value = { List Listing };
+    ghost Value = { List ListedStates };
 
     ghost view = { λ s. s.sets.items };
 
@@ -44,7 +44,7 @@ impl Explicits {
     {
         Explicits {
             sets: Vec::new(alloc),
-            owners: Owners::unknown(alloc),
+            owners: StateOwners::unknown(alloc),
         }
     }
 
@@ -86,7 +86,7 @@ impl Explicits {
         held: &A,
         atoms: u32,
     ) -> Option<bool>
-        requires over { AreOver self.now atoms }
+        requires over { AreListsOver self.now atoms }
         requires below { IsBelow atoms (A.has held.now) }
         ensures { IfSome result (λ yes. (state : List Bool) → length state ≡ atoms
             → IsSetOf (A.has held.now) state
@@ -106,7 +106,7 @@ impl Explicits {
 impl Family for Explicits {
     ghost has = { in_set };
 
-    ghost is_over = { AreOver };
+    ghost is_over = { AreListsOver };
 
     ghost count = { λ sets. length sets };
 
@@ -123,6 +123,6 @@ impl Family for Explicits {
         scratch: &mut Scratch,
     ) -> Result<Finding, AllocError> {
         scratch.reserve(task.atoms(), 0, 0)?;
-        Search::new(task, self, query).answer(alloc, budget, &mut scratch.state)
+        SetsQuery::new(task, self, query).answer(alloc, budget, &mut scratch.state)
     }
 }

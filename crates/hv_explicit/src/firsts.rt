@@ -2,7 +2,7 @@
 
 ghost use Rattle.std.specs.Prelude.{◌≡◌, ◌<◌, ◌+◌, ◌-◌, ◌^◌, ◌↔◌, ℕ, true, false, [], length};
 ghost use Rattle.std.specs.Prelude.{slice_index, slice_index_or, IsTrue, IfOk, IfSome, OnOk};
-ghost use Rattle.hv_explicit.specs.Listing.{AreRising, AreStates};
+ghost use Rattle.hv_explicit.specs.ListedStates.{AreRising, AreStates};
 ghost use Rattle.hv_explicit.specs.Working.Codes.{IsCode, IsSame};
 ghost use Rattle.hv_explicit.specs.Working.Listing.{AreFirsts, ArePlacesOf, IsEnteredState};
 ghost use Rattle.hv_explicit.specs.Working.Listing.{IsIndex};

@@ -1,19 +1,19 @@
 //! Explicit sets: sets of states that are listed one by one.
 #![tactic(auto)]
 
+mod atom_columns;
 mod codes;
 mod coding;
-mod columns;
 pub mod explicit;
 pub mod explicits;
 mod firsts;
 mod holders;
-mod owners;
 mod paths;
 mod places;
 mod results;
-mod search;
+mod sets_query;
 mod sought;
+mod state_owners;
 pub mod state_walk;
 
 pub use explicit::Explicit;

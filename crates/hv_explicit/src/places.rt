@@ -24,13 +24,13 @@ pub(crate) struct Places {
     before: Vec<u32>,
     // For each slot, one more than the last place in it, or 0.
     heads: Vec<u32>,
-    turn: Turn,
+    turn: CodeFactor,
 }
 
 // The factor by which codes fall into slots, and how often it may be changed before there are more
 // slots.
 #[derive(Clone, Copy)]
-struct Turn {
+struct CodeFactor {
     factor: u64,
     left: u32,
 }
@@ -56,7 +56,7 @@ impl Places {
             codes: Vec::new(alloc),
             before: Vec::new(alloc),
             heads: Vec::new(alloc),
-            turn: Turn {
+            turn: CodeFactor {
                 factor: 0x9e37_79b9_7f4a_7c15,
                 left: TURNS,
             },
@@ -71,7 +71,7 @@ impl Places {
         self.codes.len()
     }
 
-    /// Puts a code last. There is no room for more than 4,294,967,295.
+    /// Puts a code last. There is no space for more than 4,294,967,295.
     #[tactic(auto, using(crate::proofs::Linked::linked_push))]
     pub(crate) fn push(&mut self, code: u64) -> Result<(), AllocError>
         ensures ok { OnOk result (self.new ≡ self.old ++ code ∷ []) }
@@ -182,10 +182,10 @@ fn link(codes: &[u64], factor: u64, before: &mut Vec<u32>, heads: &mut Vec<u32>,
 // Makes more slots than there are codes.
 fn widen(
     codes: &[u64],
-    turn: Turn,
+    turn: CodeFactor,
     before: &mut Vec<u32>,
     heads: &mut Vec<u32>,
-) -> Result<Turn, AllocError>
+) -> Result<CodeFactor, AllocError>
     requires table { IsPlaceTable codes.now before.old.items heads.old.items turn.factor }
     ensures table { IfOk result (λ new.
         IsPlaceTable codes.now before.new.items heads.new.items new.factor) }
@@ -200,13 +200,13 @@ fn widen(
     let mut wider = vec![in *heads.allocator(); 0; size]?;
     link_all(codes, turn.factor, before, &mut wider);
     *heads = wider;
-    Ok(Turn {
+    Ok(CodeFactor {
         factor: turn.factor,
         left: TURNS,
     })
 }
 
-// Makes room for one place more.
+// Makes space for one place more.
 fn lengthen(
     codes: &[u64],
     factor: u64,
@@ -227,7 +227,12 @@ fn lengthen(
 }
 
 // Where the last place came into a long chain, links all again by another factor.
-fn settle(codes: &[u64], turn: Turn, before: &mut Vec<u32>, heads: &mut Vec<u32>) -> Turn
+fn settle(
+    codes: &[u64],
+    turn: CodeFactor,
+    before: &mut Vec<u32>,
+    heads: &mut Vec<u32>,
+) -> CodeFactor
     requires few { length codes.now < 2 ^ 32 }
     requires before { length codes.now ≤ length before.old.items }
     requires heads { 0 < length heads.old.items }
@@ -241,7 +246,7 @@ fn settle(codes: &[u64], turn: Turn, before: &mut Vec<u32>, heads: &mut Vec<u32>
     if turn.left == 0 || !is_crowded(codes, before.as_slice()) {
         return turn;
     }
-    let next = Turn {
+    let next = CodeFactor {
         factor: turn.factor.wrapping_mul(0xd134_2543_de82_ef95),
         left: turn.left - 1,
     };

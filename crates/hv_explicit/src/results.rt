@@ -131,7 +131,7 @@ fn pass(list: &[u32], from: usize, bound: u32, action: &Action) -> Option<usize>
     Some(at)
 }
 
-// The next place, where the atom stands at this one, or this one, if the action touches the atom.
+// The next place, where the atom is at this one, or this one, if the action touches the atom.
 fn meet(list: &[u32], place: usize, atom: u32, action: &Action) -> Option<usize>
     requires { place ≤ length list.now }
     ensures { MatchOption result

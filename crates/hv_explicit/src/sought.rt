@@ -87,7 +87,7 @@ impl Sought for Coded<'_> {
 /// What an action makes of the state of these atoms, which rise, and its code by a key. It is read
 /// without being built.
 #[derive(Clone, Copy)]
-pub(crate) struct Outcome<'a> {
+pub(crate) struct ActionResult<'a> {
     pub held: &'a [u32],
     pub action: &'a Action,
     pub key: u64,
@@ -96,14 +96,14 @@ pub(crate) struct Outcome<'a> {
     pub ghost coded: { IsAfterCode key action.now held.now code },
 }
 
-impl<'a> Outcome<'a> {
+impl<'a> ActionResult<'a> {
     /// What the action makes of the state.
-    pub(crate) fn of(state: Coded<'a>, action: &'a Action) -> Outcome<'a>
+    pub(crate) fn of(state: Coded<'a>, action: &'a Action) -> ActionResult<'a>
         ensures held { result.held.now ≡ state.entry.atoms.now }
         ensures action { result.action.now ≡ action.now }
     {
         let code = code_after(state.key, state.code, state.atoms, action);
-        Outcome {
+        ActionResult {
             held: state.atoms,
             action,
             key: state.key,
@@ -112,7 +112,7 @@ impl<'a> Outcome<'a> {
     }
 }
 
-impl Sought for Outcome<'_> {
+impl Sought for ActionResult<'_> {
     ghost has = { λ s. is_after s.action.now s.held.now };
 
     fn code(&self, key: u64, atoms: u32) -> u64 {
@@ -146,11 +146,11 @@ impl Sought for Outcome<'_> {
 
 /// A set of atoms that is read in order.
 #[derive(Drop)]
-pub(crate) struct Read<'a, A> {
+pub(crate) struct ReadInOrder<'a, A> {
     pub set: &'a A,
 }
 
-impl<A: Atoms> Sought for Read<'_, A> {
+impl<A: Atoms> Sought for ReadInOrder<'_, A> {
     ghost has = { λ s. A.has s.set.now };
 
     fn code(&self, key: u64, atoms: u32) -> u64 {

@@ -1,12 +1,12 @@
-//! The walk over listed states. It stands at each as a state, and writes no cube.
+//! The walk over listed states. It is at each as a state, and writes no cube.
 
 ghost use Rattle.std.specs.Prelude.{◌≡◌, ◌≤◌, ◌<◌, Bool, List, [], IfOk, drop, length};
 ghost use Rattle.hv_sets.specs.Walks.{IsStateOf, in_cubes};
-ghost use Rattle.hv_explicit.specs.Listing.{full_cubes, in_listing};
+ghost use Rattle.hv_explicit.specs.ListedStates.{full_cubes, in_listing};
 ghost use Rattle.hv_explicit.specs.Walked.{StandsAfter, path_at};
 
 use crate::explicit::Explicit;
-use hv_paths::{Stop, Walker};
+use hv_paths::{WalkStop, Walker};
 use hv_task::State;
 use std::alloc::{AllocError, Global};
 
@@ -56,11 +56,11 @@ impl<'a> Walker for StateWalk<'a> {
         Ok(Some(0))
     }
 
-    fn stop(&self) -> Stop<'_> {
+    fn stop(&self) -> WalkStop<'_> {
         let states = self.set.states();
         if self.taken == 0 {
-            return Stop::Cube(&[]);
+            return WalkStop::Cube(&[]);
         }
-        Stop::State(states.get(self.taken - 1), &self.state)
+        WalkStop::State(states.get(self.taken - 1), &self.state)
     }
 }

@@ -6,7 +6,7 @@ ghost use Rattle.hv_task.specs.State.{AreBelow};
 ghost use Rattle.hv_task.specs.Strips.{IsOver, atoms};
 ghost use Rattle.hv_sets.specs.Query.{HasAnchor, IsNamed, IsReady};
 ghost use Rattle.hv_sets.specs.declared.operand.Which.TheVariants as W;
-ghost use Rattle.hv_explicit.specs.Listing.{AreOver, AreStates};
+ghost use Rattle.hv_explicit.specs.ListedStates.{AreListsOver, AreStates};
 
 use crate::{Explicit, Explicits};
 use hv_sets::{
@@ -161,7 +161,7 @@ fn wide_query_of(
 fn many_sets_of(alloc: Global, task: &Task, masks: &[u32]) -> Result<Explicits, AllocError>
     requires { atoms task.now ≡ 2 }
     ensures len { IfOk result (λ sets. length sets ≡ length masks.now) }
-    ensures over { IfOk result (λ sets. AreOver sets 2) }
+    ensures over { IfOk result (λ sets. AreListsOver sets 2) }
 {
     let mut sets = Explicits::new(alloc);
     for mask in masks {
@@ -181,7 +181,7 @@ fn found_in(
 ) -> Result<u32, AllocError>
     requires atoms { atoms task.now ≡ 2 }
     requires actions { length task.now.actions ≡ 1 }
-    requires sets { AreOver sets.now 2 }
+    requires sets { AreListsOver sets.now 2 }
     requires ready { IsReady (length sets.now) query.now }
     requires anchor { HasAnchor query.now }
     requires action { IfSome query.now.action (λ a. a < 1) }

@@ -1,4 +1,4 @@
-//! Tests of what stands beside the checker: translators' tasks, cost bounds and plans. It has tests
+//! Tests of what is beside the checker: translators' tasks, cost bounds and plans. It has tests
 //! alone.
 #![tactic(auto)]
 

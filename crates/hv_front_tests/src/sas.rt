@@ -15,10 +15,10 @@ const NAME: &str = "sas";
 
 /// A line of a text, the word of its part, and whether it is a name, so that a beginning of it is
 /// one as well.
-type Row = (&'static str, &'static str, bool);
+type TextRow = (&'static str, &'static str, bool);
 
 /// A lamp and its switch.
-static SWITCH: [Row; 31] = [
+static SWITCH: [TextRow; 31] = [
     ("begin_version", "version", false),
     ("3", "version", false),
     ("end_version", "version", false),
@@ -53,7 +53,7 @@ static SWITCH: [Row; 31] = [
 ];
 
 /// A robot in one of three rooms, and a key that it has or that lies in the middle room.
-static KEY: [Row; 73] = [
+static KEY: [TextRow; 73] = [
     ("begin_version", "version", false),
     ("3", "version", false),
     ("end_version", "version", false),
@@ -129,7 +129,7 @@ static KEY: [Row; 73] = [
     ("0", "axioms", false),
 ];
 
-/// A line of the switch, what stands in its place, and the answer.
+/// A line of the switch, what is in its place, and the answer.
 static SPELLINGS: [(usize, &str, &str); 79] = [
     (0, "", "read"),
     (1, "begin", "place 1 version"),
@@ -243,7 +243,12 @@ fn push_line(text: &mut Vec<u8>, line: &str) -> Result<(), AllocError> {
 }
 
 // The text with this in place of the line of this number.
-fn spelled(alloc: Global, rows: &[Row], number: usize, line: &str) -> Result<Vec<u8>, AllocError> {
+fn spelled(
+    alloc: Global,
+    rows: &[TextRow],
+    number: usize,
+    line: &str,
+) -> Result<Vec<u8>, AllocError> {
     let mut text = Vec::new(alloc);
     for (place, row) in rows.iter().enumerate() {
         push_line(&mut text, if place + 1 == number { line } else { row.0 })?;
@@ -297,7 +302,7 @@ fn is_answered(alloc: Global, text: &[u8], limits: Limits, want: &str) -> Result
 // Whether the text with this in place of a line is answered so within the limits.
 fn tells(
     alloc: Global,
-    rows: &[Row],
+    rows: &[TextRow],
     number: usize,
     line: &str,
     limits: Limits,
@@ -329,7 +334,12 @@ fn sums_of_values(rt: HostRuntime) -> Result<(), Fail> {
 }
 
 // The beginning of the text that ends after so many bytes of the line at this place.
-fn begun(alloc: Global, rows: &[Row], place: usize, part: usize) -> Result<Vec<u8>, AllocError> {
+fn begun(
+    alloc: Global,
+    rows: &[TextRow],
+    place: usize,
+    part: usize,
+) -> Result<Vec<u8>, AllocError> {
     let mut text = Vec::new(alloc);
     for row in rows.iter().take(place) {
         push_line(&mut text, row.0)?;
@@ -351,7 +361,7 @@ fn put_part(text: &mut Vec<u8>, line: &str, part: usize) -> Result<(), AllocErro
 
 // The place of the line that is missed where the text ends after so many bytes of this one: the
 // line itself, unless this much of it is a line of its form.
-fn missed(row: Row, place: usize, part: usize) -> usize
+fn missed(row: TextRow, place: usize, part: usize) -> usize
     requires { place < 100 }
 {
     if part == row.0.len() || (row.2 && 0 < part) {
@@ -362,7 +372,7 @@ fn missed(row: Row, place: usize, part: usize) -> usize
 }
 
 // Whether the fault is that the line at this place isn't there.
-fn is_missing(fault: SasFault, rows: &[Row], missing: usize) -> bool {
+fn is_missing(fault: SasFault, rows: &[TextRow], missing: usize) -> bool {
     match (fault, rows.get(missing)) {
         (SasFault::Place(line, kind), Some(row)) => {
             line == missing as u64 + 1 && kind.word() == row.1
@@ -375,7 +385,7 @@ fn is_missing(fault: SasFault, rows: &[Row], missing: usize) -> bool {
 fn is_refused_at(
     alloc: Global,
     text: &[u8],
-    rows: &[Row],
+    rows: &[TextRow],
     missing: usize,
 ) -> Result<bool, AllocError> {
     match read(alloc, text, Limits::STANDARD).err() {
@@ -388,7 +398,7 @@ fn is_refused_at(
 // Whether the text is refused rightly where it ends after so many bytes of the line at this place.
 fn is_cut_rightly(
     alloc: Global,
-    rows: &[Row],
+    rows: &[TextRow],
     place: usize,
     part: usize,
 ) -> Result<bool, AllocError>
@@ -401,7 +411,7 @@ fn is_cut_rightly(
 }
 
 // Whether it is so at each byte of the line.
-fn is_line_cut_rightly(alloc: Global, rows: &[Row], place: usize) -> Result<bool, AllocError>
+fn is_line_cut_rightly(alloc: Global, rows: &[TextRow], place: usize) -> Result<bool, AllocError>
     requires place { place < length rows.now }
     requires few { length rows.now < 100 }
 {
@@ -414,7 +424,7 @@ fn is_line_cut_rightly(alloc: Global, rows: &[Row], place: usize) -> Result<bool
 }
 
 // The first line at which it isn't so.
-fn first_wrong_line(alloc: Global, rows: &[Row]) -> Result<Option<usize>, AllocError>
+fn first_wrong_line(alloc: Global, rows: &[TextRow]) -> Result<Option<usize>, AllocError>
     requires { length rows.now < 100 }
 {
     for place in 0..rows.len() {
@@ -534,7 +544,7 @@ const LIT: &str =
     "begin_atoms:2\nAtom lit()\nNegatedAtom lit()\nend_atoms\nbegin_init\n1\nend_init\n\
     begin_goal\n0\nend_goal\nbegin_actions:1\nbegin_action\nswitch\n";
 
-/// What stands in the place of a line of the switch, and the lines of the action behind its name.
+/// What is in the place of a line of the switch, and the lines of the action behind its name.
 static MADE: [(usize, &str, &str); 4] = [
     (0, "", "cost:1\nPRE:1\nADD:0\nDEL:1\n"),
     (28, "0 0 -1 0", "cost:1\nADD:0\nDEL:1\n"),

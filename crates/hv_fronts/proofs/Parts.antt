@@ -5,14 +5,14 @@ use Rattle.std.specs.Prelude.{IfOk, Result}
 use Rattle.std.proofs.lemmas.List.{length_push}
 use Rattle.std.proofs.lemmas.List.Elements.{All-cons, All-head, All-nil, All-push, All-tail}
 use Rattle.hv_bytes.specs.LineCuts.{IsClean, lines_of}
-use Rattle.hv_bytes.specs.Pieces.{Piece, fits_limits, pieces_after, pieces_of}
+use Rattle.hv_bytes.specs.Pieces.{PieceBytes, fits_limits, pieces_after, pieces_of}
 use Rattle.hv_bytes.specs.declared.cutting.Limits.{Limits}
 use Rattle.hv_grammar.specs.Parsers.{Outcome, Parser, after, end_of_input, iterate, line, long}
 use Rattle.hv_grammar.specs.Parsers.{one_more, parsed, pure, refused, repeat, tested, ◌>>=◌, ◌>>◌}
 use Rattle.hv_task_text.proofs.CleanLines.{clean_lines}
 
 -- the piece is long, or a line without an LF
-abbrev pub IsCleanPiece : Piece → Type 0
+abbrev pub IsCleanPiece : PieceBytes → Type 0
 IsCleanPiece None = Unit {0}
 IsCleanPiece (Some line) = IsClean line
 
@@ -47,7 +47,7 @@ Gives P (long n) = Unit {0}
 
 -- each value that the part makes of pieces without an LF is such a one
 pub record Makes {A B : Type 0} (P : A → Type 0) (part : Parser B A) : Type 0 where
-  pub gives : (n : ℕ) (ps : List Piece) → All IsCleanPiece ps → Gives P (part n ps)
+  pub gives : (n : ℕ) (ps : List PieceBytes) → All IsCleanPiece ps → Gives P (part n ps)
 
 -- whatever the value
 abbrev pub IsAny : {A : Type 0} → A → Type 0
@@ -91,13 +91,13 @@ pub makes_weaker : {A B : Type 0} (P Q : A → Type 0) (part : Parser B A)
 makes_weaker P Q part more is =
     record { gives = λ n ps clean. weaker_gives P Q (part n ps) more (is.gives n ps clean) }
 
-tested_gives : {A B : Type 0} (P : A → Type 0) (n : ℕ) (ps : List Piece) (r : Result A B)
+tested_gives : {A B : Type 0} (P : A → Type 0) (n : ℕ) (ps : List PieceBytes) (r : Result A B)
     → All IsCleanPiece ps → IfOk r P → Gives P (tested n ps r)
 tested_gives P n ps (Ok a) clean h = (h, clean)
 tested_gives P n ps (Err b) clean h = tt
 
 line_gives : {A B : Type 0} (P : A → Type 0) (lacking : B) (test : List ℕ → Result A B) (n : ℕ)
-    (ps : List Piece) → ((l : List ℕ) → IsClean l → IfOk (test l) P) → All IsCleanPiece ps
+    (ps : List PieceBytes) → ((l : List ℕ) → IsClean l → IfOk (test l) P) → All IsCleanPiece ps
     → Gives P (line lacking test n ps)
 line_gives P lacking test n [] is clean = tt
 line_gives P lacking test n (None ∷ ps) is clean = tt
@@ -119,7 +119,7 @@ pub makes_any : {A B : Type 0} (lacking : B) (test : List ℕ → Result A B)
     → Makes IsAny (line lacking test)
 makes_any lacking test = makes_line IsAny lacking test (λ l clean. any_ok (test l))
 
-end_gives : {B : Type 0} (extra : B) (n : ℕ) (ps : List Piece) → All IsCleanPiece ps
+end_gives : {B : Type 0} (extra : B) (n : ℕ) (ps : List PieceBytes) → All IsCleanPiece ps
     → Gives IsAny (end_of_input extra n ps)
 end_gives extra n [] clean = (tt, clean)
 end_gives extra n (None ∷ ps) clean = tt

@@ -21,10 +21,10 @@ use Rattle.hv_sas.specs.Working.Reading.{AreEffects, AreWithin}
 use Rattle.hv_sas.specs.declared.fault.SasKind.{SasKind}
 use Rattle.hv_sas.specs.declared.fault.SasKind.TheVariants as K
 use Rattle.hv_sas.specs.declared.fault.SasRefusal.{SasRefusal}
-use Rattle.hv_sas.specs.declared.task.Effect.{Effect}
-use Rattle.hv_sas.specs.declared.task.Sas.{Sas}
-use Rattle.hv_sas.specs.declared.task.SasOperator.{SasOperator}
-use Rattle.hv_sas.specs.declared.task.SasVariable.{SasVariable}
+use Rattle.hv_sas.specs.declared.sas_task.Effect.{Effect}
+use Rattle.hv_sas.specs.declared.sas_task.Sas.{Sas}
+use Rattle.hv_sas.specs.declared.sas_task.SasOperator.{SasOperator}
+use Rattle.hv_sas.specs.declared.sas_task.SasVariable.{SasVariable}
 use Rattle.hv_sas.proofs.Members.{any_has, contains_has}
 use Rattle.hv_task_text.specs.Canonical.{IsWritableName}
 use Rattle.hv_fronts.proofs.Parts.{AreMany, Gives, IsAny, Makes, clean_file, makes_any, makes_end}

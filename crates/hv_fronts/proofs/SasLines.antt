@@ -7,8 +7,8 @@ use Rattle.hv_bytes.specs.Fields.{cut_fields}
 use Rattle.hv_bytes.specs.LineCuts.{IsClean}
 use Rattle.hv_grammar.specs.Forms.{at_most, decimal_of}
 use Rattle.hv_sas.specs.declared.fault.SasKind.{SasKind}
-use Rattle.hv_sas.specs.declared.task.Effect.{Effect}
-use Rattle.hv_sas.specs.declared.task.SasVariable.{SasVariable}
+use Rattle.hv_sas.specs.declared.sas_task.Effect.{Effect}
+use Rattle.hv_sas.specs.declared.sas_task.SasVariable.{SasVariable}
 use Rattle.hv_sas.specs.Lines.{before_of, effect_fields, effect_from, effect_in, fact_in, fact_of}
 use Rattle.hv_sas.specs.Lines.{has_effect_on, is_below, name_of, operator_cost, operator_effect}
 use Rattle.hv_sas.specs.Lines.{operators_of, start_value, two_of, unconditional, unless_twice}

@@ -11,9 +11,9 @@ use Rattle.hv_task.proofs.Sets.{set_rises}
 use Rattle.hv_sas.specs.Made.{operator_action, strips_of}
 use Rattle.hv_sas.specs.Meaning.{SasSolves}
 use Rattle.hv_sas.specs.Variables.{values_in}
-use Rattle.hv_sas.specs.declared.task.Sas.{Sas}
-use Rattle.hv_sas.specs.declared.task.SasOperator.{SasOperator}
-use Rattle.hv_sas.specs.declared.task.SasVariable.{SasVariable}
+use Rattle.hv_sas.specs.declared.sas_task.Sas.{Sas}
+use Rattle.hv_sas.specs.declared.sas_task.SasOperator.{SasOperator}
+use Rattle.hv_sas.specs.declared.sas_task.SasVariable.{SasVariable}
 use Rattle.hv_sas.proofs.Legal.{is_task}
 use Rattle.hv_sas.proofs.Plans.{keeps_plans}
 use Rattle.hv_task_text.specs.Canonical.{HasWritableNames, IsWritableName}

@@ -8,7 +8,7 @@ ghost use Rattle.hv_task.specs.Strips.{Strips};
 ghost use Rattle.hv_task_text.specs.TaskText.{TaskText};
 ghost use Rattle.hv_bound.specs.Bounded.{bounded_task};
 ghost use Rattle.hv_bound.specs.Costs.{IsSolvable, IsSolvableWithin, cost_of_list};
-ghost use Rattle.hv_sas.specs.declared.task.Sas.{Sas};
+ghost use Rattle.hv_sas.specs.declared.sas_task.Sas.{Sas};
 ghost use Rattle.hv_sas.specs.Made.{strips_of};
 ghost use Rattle.hv_sas.specs.Meaning.{SasSolves};
 ghost use Rattle.hv_fronts.specs.BoundTexts.{IsBoundText};

@@ -5,7 +5,7 @@ use Rattle.std.specs.Prelude.{IsErrOf, Result}
 use Rattle.std.specs.Io.KnownBytes.{IsAtEnd}
 use Rattle.hv_bytes.specs.Devices.{Rose}
 use Rattle.hv_bytes.specs.FirstLine.{BeginsLong, FitsLimits, MovesBytes, TakesLine}
-use Rattle.hv_bytes.specs.Pieces.{Piece}
+use Rattle.hv_bytes.specs.Pieces.{PieceBytes}
 use Rattle.hv_bytes.specs.States.{LinesState, coming_of, size_of}
 use Rattle.hv_bytes.specs.declared.cutting.LineFault.{LineFault}
 use Rattle.hv_bytes.specs.declared.cutting.LineFault.TheVariants as L
@@ -31,7 +31,7 @@ pub line_next : (old new : Position)
     → new.lines.earlier ≡ old.lines.earlier + size_of (length new.lines.line) new.lines.ended
     → old.lines.ended ≡ false → HasLine old new
 line_next old new first sums fits same number counted going = record {
-  line = subst (λ limits. IfSome (coming old) (λ ps. (qs : List Piece)
+  line = subst (λ limits. IfSome (coming old) (λ ps. (qs : List PieceBytes)
       × (ps ≡ Some new.lines.line ∷ qs)
       × (cut limits new.lines.earlier (coming_of new.lines new.left) ≡ Some qs))) (sym same)
       (cut_line old.lines.limits (coming_of old.lines old.left) (coming_of new.lines new.left)

@@ -5,13 +5,13 @@ use Rattle.std.specs.Prelude.{option_map}
 use Rattle.std.specs.Io.KnownBytes.{IsAtEnd}
 use Rattle.hv_bytes.specs.FirstLine.{BeginsLong, FitsLimits, IsFirstLine, MovesBytes, TakesLine}
 use Rattle.hv_bytes.specs.LineCuts.{lines_of}
-use Rattle.hv_bytes.specs.Pieces.{Piece, pieces_after}
+use Rattle.hv_bytes.specs.Pieces.{PieceBytes, pieces_after}
 use Rattle.hv_bytes.specs.declared.cutting.Limits.{Limits}
 use Rattle.hv_bytes.proofs.LineLaws.{lines_of-first}
 use Rattle.hv_bytes.proofs.WholeText.{pieces-line, pieces-long}
 
 -- the pieces of the bytes to come
-abbrev pub cut : Limits → ℕ → Option (List ℕ) → Option (List Piece)
+abbrev pub cut : Limits → ℕ → Option (List ℕ) → Option (List PieceBytes)
 cut limits earlier known = option_map (λ bytes. pieces_after limits earlier (lines_of bytes)) known
 
 pieces_taken : (limits : Limits) (old line new : List ℕ) (before after : ℕ)
@@ -33,7 +33,7 @@ pub cut_line : (limits : Limits) (old new : Option (List ℕ)) (line : List ℕ)
     → TakesLine old new line → MovesBytes old new before after
     → FitsLimits limits.line limits.file before (length line)
     → IfSome (cut limits before old)
-    (λ ps. (qs : List Piece) × (ps ≡ Some line ∷ qs) × (cut limits after new ≡ Some qs))
+    (λ ps. (qs : List PieceBytes) × (ps ≡ Some line ∷ qs) × (cut limits after new ≡ Some qs))
 cut_line limits None new line before after first sums fits = tt
 cut_line limits (Some old) None line before after first sums fits = absurd first
 cut_line limits (Some old) (Some new) line before after first sums fits = (

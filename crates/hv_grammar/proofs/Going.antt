@@ -3,7 +3,7 @@ use Rattle.std.proofs.Common.{◌≡◌, ℕ, ◌≤◌, List, Option, None, Som
 use Rattle.std.proofs.Common.{ap, subst, ◌∙◌, arith, Ok, Err}
 use Rattle.std.specs.Prelude.{Result, option_map, IsErrAnd}
 use Rattle.hv_bytes.specs.Devices.{Rose}
-use Rattle.hv_bytes.specs.Pieces.{Piece}
+use Rattle.hv_bytes.specs.Pieces.{PieceBytes}
 use Rattle.hv_grammar.specs.declared.fault.ParseFault.{ParseFault}
 use Rattle.hv_grammar.specs.declared.fault.ParseFault.TheVariants as F
 use Rattle.hv_grammar.specs.Parsers.{Outcome, Parser, after, long, parsed, pure, refused, ◌>>=◌}
@@ -55,7 +55,7 @@ from_some : {A : Type 0} (a b : A) → ◌≡◌ {A = Option A} (Some a) (Some b
 from_some a b e = cc
 
 part_next : {A B C : Type 0} (part : Parser B A) (rest : A → Parser B C) (a : A) (n m : ℕ)
-    (cs ds : Option (List Piece))
+    (cs ds : Option (List PieceBytes))
     → IfSome (option_map (part n) cs)
     (λ o. ◌≡◌ {A = Option (Outcome B A)} (option_map (pure a m) ds) (Some o))
     → IfSome (option_map ((part >>= rest) n) cs)
@@ -66,7 +66,8 @@ part_next part rest a n m (Some ps) (Some qs) h =
     ap (λ o. Some (after o rest)) (from_some (parsed a m qs) (part n ps) h)
 
 part_stop : {A B C : Type 0} (part : Parser B A) (rest : A → Parser B C) (n : ℕ)
-    (cs : Option (List Piece)) (bad : Outcome B A) → IfSome (option_map (part n) cs) (λ o. o ≡ bad)
+    (cs : Option (List PieceBytes)) (bad : Outcome B A) → IfSome (option_map (part n) cs) (λ o. o ≡
+    bad)
     → IfSome (option_map ((part >>= rest) n) cs) (λ o. o ≡ after bad rest)
 part_stop part rest n None bad h = tt
 part_stop part rest n (Some ps) bad h = ap (λ o. after o rest) h
@@ -95,10 +96,10 @@ pub go : {A B C : Type 0} {whole : Parser B C} {part : Parser B A} (rest : A →
 go rest g r = next _ _ rest _ _ _ _ g r
 
 part_moves : {A B C : Type 0} (part : Parser B A) (now later : Parser B C) (a : A) (n m : ℕ)
-    (cs ds : Option (List Piece))
+    (cs ds : Option (List PieceBytes))
     → IfSome (option_map (part n) cs)
     (λ o. ◌≡◌ {A = Option (Outcome B A)} (option_map (pure a m) ds) (Some o))
-    → ((ps qs : List Piece) → part n ps ≡ parsed a m qs → now n ps ≡ later m qs)
+    → ((ps qs : List PieceBytes) → part n ps ≡ parsed a m qs → now n ps ≡ later m qs)
     → IfSome (option_map (now n) cs)
     (λ o. ◌≡◌ {A = Option (Outcome B C)} (option_map (later m) ds) (Some o))
 part_moves part now later a n m None ds h same = tt
@@ -109,7 +110,7 @@ part_moves part now later a n m (Some ps) (Some qs) h same =
 -- one part on, where what is left is another thing afterwards
 pub moves : {A B C : Type 0} (whole now later : Parser B C) (part : Parser B A) (a : A)
     (old mid new : Position) → Goes whole old now mid → Reads part mid new (Ok a)
-    → ((ps qs : List Piece) → part mid.lines.number ps ≡ parsed a new.lines.number qs
+    → ((ps qs : List PieceBytes) → part mid.lines.number ps ≡ parsed a new.lines.number qs
     → now mid.lines.number ps ≡ later new.lines.number qs)
     → Goes whole old later new
 moves whole now later part a old mid new g r same = record {
@@ -120,7 +121,7 @@ moves whole now later part a old mid new g r same = record {
 }
 
 refused_in : {A B : Type 0} (rest : Parser B A) (m : ℕ) (b : B) (n : ℕ)
-    (cs : Option (List Piece)) → ((ps : List Piece) → rest n ps ≡ refused m b)
+    (cs : Option (List PieceBytes)) → ((ps : List PieceBytes) → rest n ps ≡ refused m b)
     → IfSome (option_map (rest n) cs) (λ o. o ≡ refused m b)
 refused_in rest m b n None same = tt
 refused_in rest m b n (Some ps) same = same ps
@@ -128,7 +129,7 @@ refused_in rest m b n (Some ps) same = same ps
 -- what is left is a refusal already, whatever is read until it is said
 pub refuses : {A B : Type 0} (whole rest : Parser B A) (m : ℕ) (b : B) (old mid new : Position)
     → Goes whole old rest mid → KeepsShelf mid new
-    → ((ps : List Piece) → rest mid.lines.number ps ≡ refused m b)
+    → ((ps : List PieceBytes) → rest mid.lines.number ps ≡ refused m b)
     → Reads whole old new (Err (F.Refused m b))
 refuses whole rest m b old mid new g keeps same = record {
   yields = same_then (outcome_at whole old) (outcome_at rest mid) (λ o. o ≡ refused m b) g.same
@@ -244,7 +245,7 @@ mapped f g None same = refl
 mapped f g (Some a) same = ap (λ b. Some b) (same a)
 
 pub exchange : {A B : Type 0} {whole part : Parser B A} (other : Parser B A) {old mid : Position}
-    → Goes whole old part mid → ((n : ℕ) (ps : List Piece) → other n ps ≡ part n ps)
+    → Goes whole old part mid → ((n : ℕ) (ps : List PieceBytes) → other n ps ≡ part n ps)
     → Goes whole old other mid
 exchange {A = A} {B = B} {whole = whole} {part = part} other {old = old} {mid = mid} g same =
     record {

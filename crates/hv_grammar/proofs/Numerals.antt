@@ -87,7 +87,7 @@ pub short_answer : (bytes : List ℕ) (o : Option ℕ) → IfSome o (IsShortDeci
 short_answer bytes None some none = short_or_none bytes (short_decimal_of bytes) refl none
 short_answer bytes (Some n) some none = sym (short_of bytes n some)
 
--- What stands behind a word.
+-- What is behind a word.
 
 same_number : (n : ℕ) → nat_eq n n ≡ true
 same_number n = (Decides-eqb n n).1 refl

@@ -3,7 +3,7 @@ use Rattle.std.proofs.Common.{◌≡◌, ℕ, List, Option, None, Some, IfSome, 
 use Rattle.std.proofs.Common.{subst, ◌∙◌}
 use Rattle.std.specs.Prelude.{IsErrAnd, Result, option_map}
 use Rattle.hv_bytes.specs.Files.{Names, Opens, bytes_of}
-use Rattle.hv_bytes.specs.Pieces.{Piece, pieces_of}
+use Rattle.hv_bytes.specs.Pieces.{PieceBytes, pieces_of}
 use Rattle.hv_bytes.specs.States.{LinesState, coming_of, no_lines}
 use Rattle.hv_bytes.specs.declared.cutting.Limits.{Limits}
 use Rattle.hv_grammar.proofs.Coming.{cut}
@@ -17,11 +17,11 @@ use Rattle.hv_grammar.specs.Working.Reads.{IsReadAs}
 from_some : {A : Type 0} (a b : A) → ◌≡◌ {A = Option A} (Some a) (Some b) → a ≡ b
 from_some a b e = cc
 
-value_of : {A B : Type 0} (part : Parser B A) (a : A) (n m : ℕ) (ps : List Piece)
-    (cs ds : Option (List Piece)) → cs ≡ Some ps → n ≡ 0
+value_of : {A B : Type 0} (part : Parser B A) (a : A) (n m : ℕ) (ps : List PieceBytes)
+    (cs ds : Option (List PieceBytes)) → cs ≡ Some ps → n ≡ 0
     → IfSome (option_map (part n) cs)
     (λ o. ◌≡◌ {A = Option (Outcome B A)} (option_map (pure a m) ds) (Some o))
-    → (k : ℕ) × (qs : List Piece) × (part 0 ps ≡ parsed a k qs)
+    → (k : ℕ) × (qs : List PieceBytes) × (part 0 ps ≡ parsed a k qs)
 value_of part a n m ps None ds c z h = absurd cc
 value_of part a n m ps (Some rs) None c z h = absurd cc
 value_of part a n m ps (Some rs) (Some qs) c z h = (
@@ -31,14 +31,14 @@ value_of part a n m ps (Some rs) (Some qs) c z h = (
       ∙ sym (from_some (parsed a m qs) (part n rs) h),
 )
 
-fault_of : {A B : Type 0} (part : Parser B A) (bad : Outcome B A) (n : ℕ) (ps : List Piece)
-    (cs : Option (List Piece)) → cs ≡ Some ps → n ≡ 0
+fault_of : {A B : Type 0} (part : Parser B A) (bad : Outcome B A) (n : ℕ) (ps : List PieceBytes)
+    (cs : Option (List PieceBytes)) → cs ≡ Some ps → n ≡ 0
     → IfSome (option_map (part n) cs) (λ o. o ≡ bad) → part 0 ps ≡ bad
 fault_of part bad n ps None c z h = absurd cc
 fault_of part bad n ps (Some rs) c z h =
     ap (part 0) (sym (from_some rs ps c)) ∙ ap (λ k. part k rs) (sym z) ∙ h
 
-from_answers : {A B : Type 0} (part : Parser B A) (old new : Position) (ps : List Piece)
+from_answers : {A B : Type 0} (part : Parser B A) (old new : Position) (ps : List PieceBytes)
     (result : Result A (ParseFault B)) → coming old ≡ Some ps → old.lines.number ≡ 0
     → Yields part old new result → IsReadAs (part 0 ps) result
 from_answers part old new ps (Ok a) c n h =

@@ -17,7 +17,7 @@ abbrev pub short_decimal_of : List ℕ → Option ℕ
 short_decimal_of bytes =
     option_and_then (λ n. cond (nat_lt n (10 ^ 9)) (Some n) None) (decimal_of bytes)
 
--- what stands behind the word, where the bytes begin with it
+-- what is behind the word, where the bytes begin with it
 abbrev pub rest_behind : List ℕ → List ℕ → Option (List ℕ)
 rest_behind [] bytes = Some bytes
 rest_behind (w ∷ word) [] = None

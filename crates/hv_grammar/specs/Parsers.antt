@@ -2,18 +2,18 @@
 -- format.
 use Rattle.std.specs.Prelude.{ℕ, zero, suc, ◌+◌, List, [], ◌∷◌, ◌++◌, Option, None, Some, Result}
 use Rattle.std.specs.Prelude.{Ok, Err}
-use Rattle.hv_bytes.specs.Pieces.{Piece}
+use Rattle.hv_bytes.specs.Pieces.{PieceBytes}
 
 -- What comes of the pieces of a file from some place on: a value, behind so many lines of the file
 -- and before these pieces; or the line of this number is refused, in this way; or it is long.
 pub data Outcome (B A : Type 0) : Type 0 where
-  parsed : A → ℕ → List Piece → Outcome B A
+  parsed : A → ℕ → List PieceBytes → Outcome B A
   refused : ℕ → B → Outcome B A
   long : ℕ → Outcome B A
 
 -- a part of a format: what comes of it behind so many lines of the file and before these pieces
 abbrev pub Parser : Type 0 → Type 0 → Type 0
-Parser B A = ℕ → List Piece → Outcome B A
+Parser B A = ℕ → List PieceBytes → Outcome B A
 
 -- Sequence.
 
@@ -41,7 +41,7 @@ pure a n ps = parsed a n ps
 -- One line.
 
 -- what comes of a line, by what the test says of it
-abbrev pub tested : {A B : Type 0} → ℕ → List Piece → Result A B → Outcome B A
+abbrev pub tested : {A B : Type 0} → ℕ → List PieceBytes → Result A B → Outcome B A
 tested n ps (Ok a) = parsed a n ps
 tested n ps (Err b) = refused n b
 
@@ -82,7 +82,7 @@ abbrev pub repeat : {A B : Type 0} → ℕ → Parser B A → Parser B (List A)
 repeat k part = iterate k (one_more part) []
 
 -- the value is done, or one more line follows
-abbrev pub done_or : {A B : Type 0} → A → ℕ → List Piece → (A → Outcome B A) → Option A
+abbrev pub done_or : {A B : Type 0} → A → ℕ → List PieceBytes → (A → Outcome B A) → Option A
     → Outcome B A
 done_or a n ps rest None = parsed a n ps
 done_or a n ps rest (Some b) = rest b
@@ -114,7 +114,7 @@ onward test a (Some b) = many test b
 
 -- The end of the input.
 
--- nothing stands here
+-- nothing is here
 abbrev pub end_of_input : {B : Type 0} → B → Parser B (Unit {0})
 end_of_input extra n [] = parsed tt n []
 end_of_input extra n (None ∷ ps) = long (n + 1)

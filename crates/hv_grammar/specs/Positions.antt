@@ -1,11 +1,11 @@
--- Where a source of lines stands in a file, and how it moves on.
+-- Where a source of lines is in a file, and how it moves on.
 use Rattle.std.specs.Prelude.{◌≡◌, ℕ, ◌+◌, ◌^◌, ◌≤◌, Bool, true, false, List, [], ◌∷◌, Option, None}
 use Rattle.std.specs.Prelude.{Some, Result, Ok, Err, IfSome, OnOk, option_map, length}
 use Rattle.hv_bytes.specs.Devices.{Rose}
 use Rattle.hv_bytes.specs.Files.{Names}
 use Rattle.hv_bytes.specs.FirstLine.{FitsLimits}
 use Rattle.hv_bytes.specs.LineCuts.{lines_of}
-use Rattle.hv_bytes.specs.Pieces.{Piece, pieces_after}
+use Rattle.hv_bytes.specs.Pieces.{PieceBytes, pieces_after}
 use Rattle.hv_bytes.specs.States.{LinesState, coming_of, size_of}
 use Rattle.hv_bytes.specs.declared.cutting.LineFault.{LineFault}
 use Rattle.hv_bytes.specs.declared.cutting.LineFault.TheVariants as L
@@ -16,7 +16,7 @@ use Rattle.hv_bytes.specs.declared.cutting.Next.TheVariants as N
 pub record Position : Type 0 where
   -- what the cutter of lines says
   pub lines : LinesState
-  -- what the shelf tells: the bytes left in the open file, and those under each name
+  -- what is known of the source: the bytes left in the open file, and those under each name
   pub left : Option (List ℕ)
   pub held : Option Names
   -- the names that may be opened
@@ -25,8 +25,8 @@ pub record Position : Type 0 where
   -- which shelf it is
   pub shelf : ℕ
 
--- the pieces that are still to come, where the shelf tells what it has left
-abbrev pub coming : Position → Option (List Piece)
+-- the pieces that are still to come, where what the source has left is known
+abbrev pub coming : Position → Option (List PieceBytes)
 coming p =
     option_map (λ bytes. pieces_after p.lines.limits p.lines.earlier (lines_of bytes))
     (coming_of p.lines p.left)
@@ -47,7 +47,7 @@ pub record CanRead (p : Position) : Type 0 where
 
 -- One line on. Told or not, the line counts, with its bytes and its LF, and is within the limits.
 pub record HasLine (old new : Position) : Type 0 where
-  pub line : IfSome (coming old) (λ ps. (qs : List Piece) × (ps ≡ Some new.lines.line ∷ qs)
+  pub line : IfSome (coming old) (λ ps. (qs : List PieceBytes) × (ps ≡ Some new.lines.line ∷ qs)
       × (coming new ≡ Some qs))
   pub number : new.lines.number ≡ old.lines.number + 1
   pub going : old.lines.ended ≡ false
@@ -67,7 +67,7 @@ pub record HasLong (old new : Position) : Type 0 where
   pub long : IfSome (coming old) (λ ps. ps ≡ None ∷ [])
   pub number : new.lines.number ≡ old.lines.number
 
--- what is answered where the next line is asked for; want of memory is free here
+-- what is answered where the next line is asked for; running out of memory is free here
 abbrev pub IsAdvance : Position → Position → Result Next LineFault → Type 0
 IsAdvance old new (Ok N.Line) = HasLine old new
 IsAdvance old new (Ok N.End) = HasEnded old new

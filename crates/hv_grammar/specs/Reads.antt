@@ -8,11 +8,12 @@ use Rattle.hv_grammar.specs.Parsers.{Outcome, Parser, long, pure, refused}
 use Rattle.hv_grammar.specs.Positions.{CanRead, HasEnded, HasLine, HasLong, KeepsShelf, Position}
 use Rattle.hv_grammar.specs.Positions.{coming}
 
--- what comes of a part from here on, where the shelf tells what it has left
+-- what comes of a part from here on, where what the source has left is known
 abbrev pub outcome_at : {A B : Type 0} → Parser B A → Position → Option (Outcome B A)
 outcome_at part p = option_map (part p.lines.number) (coming p)
 
--- the answer is what comes of the part; faults of the device and want of memory are free here
+-- the answer is what comes of the part; faults of the device and running out of memory are free
+-- here
 abbrev pub Yields : {A B : Type 0} → Parser B A → Position → Position → Result A (ParseFault B)
     → Type 0
 Yields part old new (Ok a) =

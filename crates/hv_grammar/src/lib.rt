@@ -9,7 +9,7 @@
 //! 5. What follows may hang on the value of the line before it: one line of lookahead.
 //! 6. Repetition: so many times (`repeat` for a list, `iterate` for a value that goes on), up to a
 //!    closing line (`many_till`), or up to the end of the input, lines being skipped (`many`).
-//! 7. `end_of_input` is where nothing more may stand. That a line is long comes before its form,
+//! 7. `end_of_input` is where nothing more may be. That a line is long comes before its form,
 //!    and the test of a line says which of its faults comes first.
 //! 8. A reader is a small function a part, over a `Source`: the open file and the place in it, as
 //!    one value. Its clause is `Reads part old new result`, by the positions of the source.

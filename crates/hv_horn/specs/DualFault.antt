@@ -7,13 +7,13 @@ use Rattle.hv_sets.specs.Kinds.{IsDualHornClause, IsFirstOther}
 use Rattle.hv_horn.specs.declared.dual_horn.DualHornFault.{DualHornFault}
 use Rattle.hv_horn.specs.declared.dual_horn.DualHornFault.TheVariants as D
 
--- the clause that is named is the first that is no dual Horn clause; want of memory may come at any
+-- the clause that is named is the first that is no dual Horn clause; memory may run out at any
 -- time
-abbrev pub IsFault : List (List Literal) → DualHornFault → Type 0
-IsFault clauses (D.NotDual place) = IsFirstOther IsDualHornClause clauses place
-IsFault clauses D.Memory = ⊤
+abbrev pub IsDualHornFault : List (List Literal) → DualHornFault → Type 0
+IsDualHornFault clauses (D.NotDual place) = IsFirstOther IsDualHornClause clauses place
+IsDualHornFault clauses D.Memory = ⊤
 
--- want of memory is always right
+-- out of memory is always right
 pub memory_is_fault : (clauses : List (List Literal)) (error : NoMemory) (fault : DualHornFault)
-    → fault ≡ D.Memory → IsFault clauses fault
-memory_is_fault clauses error fault is = subst (IsFault clauses) (sym is) tt
+    → fault ≡ D.Memory → IsDualHornFault clauses fault
+memory_is_fault clauses error fault is = subst (IsDualHornFault clauses) (sym is) tt

@@ -7,12 +7,12 @@ use Rattle.hv_sets.specs.Kinds.{IsFirstOther, IsHornClause}
 use Rattle.hv_horn.specs.declared.horn.HornFault.{HornFault}
 use Rattle.hv_horn.specs.declared.horn.HornFault.TheVariants as H
 
--- the clause that is named is the first that is no Horn clause; want of memory may come at any time
-abbrev pub IsFault : List (List Literal) → HornFault → Type 0
-IsFault clauses (H.NotHorn place) = IsFirstOther IsHornClause clauses place
-IsFault clauses H.Memory = ⊤
+-- the clause that is named is the first that is no Horn clause; memory may run out at any time
+abbrev pub IsHornFault : List (List Literal) → HornFault → Type 0
+IsHornFault clauses (H.NotHorn place) = IsFirstOther IsHornClause clauses place
+IsHornFault clauses H.Memory = ⊤
 
--- want of memory is always right
+-- out of memory is always right
 pub memory_is_fault : (clauses : List (List Literal)) (error : NoMemory) (fault : HornFault)
-    → fault ≡ H.Memory → IsFault clauses fault
-memory_is_fault clauses error fault is = subst (IsFault clauses) (sym is) tt
+    → fault ≡ H.Memory → IsHornFault clauses fault
+memory_is_fault clauses error fault is = subst (IsHornFault clauses) (sym is) tt

@@ -3,13 +3,13 @@
 ghost use Rattle.std.specs.Prelude.{◌≡◌, true, false};
 ghost use Rattle.hv_sets.specs.Kinds.{IsHornClause};
 ghost use Rattle.hv_clauses.specs.declared.completion.Completion.TheVariants as C;
-ghost use Rattle.hv_clauses.specs.declared.listing.Listing.TheVariants as L;
-ghost use Rattle.hv_horn.specs.Fault.{IsFault, memory_is_fault};
+ghost use Rattle.hv_clauses.specs.declared.kept_lists.KeptLists.TheVariants as L;
+ghost use Rattle.hv_horn.specs.Fault.{IsHornFault, memory_is_fault};
 ghost use Rattle.hv_horn.specs.Working.Laws as laws;
 ghost use Rattle.hv_horn.specs.declared.horn.HornFault.TheVariants as F;
 
 use crate::headed::is_headed;
-use hv_clauses::{ClauseKind, Completion, Formula, Formulas, Listing};
+use hv_clauses::{ClauseKind, Completion, Formula, Formulas, KeptLists};
 use hv_sets::Literal;
 use std::alloc::AllocError;
 use thiserror::Error;
@@ -53,7 +53,7 @@ impl ClauseKind for HornKind {
 
     ghost listed_by = { L.Negative };
 
-    ghost is_fault = { IsFault };
+    ghost is_fault = { IsHornFault };
 
     fn takes(clause: &[Literal]) -> bool {
         is_headed(true, clause)
@@ -63,8 +63,8 @@ impl ClauseKind for HornKind {
         Completion::Fill(false)
     }
 
-    fn listing() -> Listing {
-        Listing::Negative
+    fn listing() -> KeptLists {
+        KeptLists::Negative
     }
 
     fn other(place: usize) -> HornFault {

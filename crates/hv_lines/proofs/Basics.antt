@@ -16,8 +16,8 @@ use Rattle.hv_lines.specs.Numbering.{IsTable, expr_at}
 use Rattle.hv_lines.specs.Queries.{horn_in, horns_of, operand_of, which_at}
 use Rattle.hv_lines.specs.Setting.{Setting}
 use Rattle.hv_lines.specs.Shapes.{AskingsRise, HasSides, IsAsked, IsLeftLeaf, IsLiteralOf}
-use Rattle.hv_lines.specs.Shapes.{IsQuestion, Question, and_parts, asks_sides_after, or_parts}
-use Rattle.hv_lines.specs.declared.family.FormulaFamily.TheVariants as F
+use Rattle.hv_lines.specs.Shapes.{IsQuestion, QuestionState, and_parts, asks_sides_after, or_parts}
+use Rattle.hv_lines.specs.declared.formula_family.FormulaFamily.TheVariants as F
 use Rattle.hv_lines.specs.declared.line.Constant.TheVariants as C
 use Rattle.hv_lines.specs.declared.line.Expr.TheVariants as E
 use Rattle.hv_lines.specs.declared.line.Line.{Line}
@@ -39,7 +39,7 @@ IsHornSet lines set = IsSetOf F.Horn lines set
 -- what is asked where all leaves are Horn formulas or constants: those of the left side before the
 -- action, and those of the right
 -- side as the word says
-abbrev pub horn_question : Word → List ℕ → List ℕ → Option ℕ → Question
+abbrev pub horn_question : Word → List ℕ → List ℕ → Option ℕ → QuestionState
 horn_question word lefts rights acts = record {
   family = F.Horn;
   positive = asked_all false lefts;

@@ -19,7 +19,8 @@ use Rattle.hv_lines.specs.declared.line.Expr.{Expr}
 use Rattle.hv_lines.specs.declared.line.Expr.TheVariants as E
 use Rattle.hv_lines.specs.declared.line.Line.{Line}
 use Rattle.hv_lines.specs.declared.line.Line.TheVariants as L
-use Rattle.hv_lines.specs.Meaning.{StateSet, ActionSet, IsAfter, IsBefore, holds, pick_set, acts_of}
+use Rattle.hv_lines.specs.Meaning.{SetOfStates, ActionSet, IsAfter, IsBefore, holds, pick_set}
+use Rattle.hv_lines.specs.Meaning.{acts_of}
 use Rattle.hv_lines.specs.Meaning.{sets_of}
 
 bool_dec : (b : Bool) → Dec (b ≡ true)
@@ -106,7 +107,7 @@ state_dec (suc n) P each =
     first (true ∷ t) e p = inr (t, omega arith, p)
 
 -- one of two sets, by a test
-pick_dec : (test : Bool) (here there : StateSet) (s : List Bool) → Dec (here s) → Dec (there s)
+pick_dec : (test : Bool) (here there : SetOfStates) (s : List Bool) → Dec (here s) → Dec (there s)
     → Dec (pick_set test here there s)
 pick_dec true here there s d e = d
 pick_dec false here there s d e = e
@@ -149,7 +150,7 @@ module _ (task : Strips) where
       (λ number. step_dec (slice_get task.actions number) (acts number) s P each)
       (length task.actions)
 
-  before_dec : (S : StateSet) (acts : ActionSet) (s : List Bool) → IsState task s
+  before_dec : (S : SetOfStates) (acts : ActionSet) (s : List Bool) → IsState task s
       → ((t : List Bool) → IsState task t → Dec (S t))
       → Dec (IsBefore task S acts s)
   unfolding SomeStep StepTo
@@ -170,7 +171,7 @@ module _ (task : Strips) where
       ))
       (some_step_dec acts s S (λ a. each (successor a s) (IsState-successor task a s is_state)))
 
-  after_dec : (S : StateSet) (acts : ActionSet) (s : List Bool)
+  after_dec : (S : SetOfStates) (acts : ActionSet) (s : List Bool)
       → ((t : List Bool) → IsState task t → Dec (S t))
       → Dec (IsAfter task S acts s)
   unfolding SomeStep StepTo
@@ -205,7 +206,7 @@ module _ (task : Strips) where
       (some_step_dec acts t (λ r. r ≡ s) (λ a. same_dec (successor a t) s))))
 
   module _ (nodes : NodeList) where
-    holds_dec : (acts : ℕ → ActionSet) (sets : ℕ → StateSet)
+    holds_dec : (acts : ℕ → ActionSet) (sets : ℕ → SetOfStates)
         → ((e : ℕ) (s : List Bool) → IsState task s → Dec (sets e s)) → (x : Expr)
         → (s : List Bool) → IsState task s → Dec (holds task nodes acts sets x s)
     holds_dec acts sets each (E.Constant C.Empty) s is_state = no (λ h. h)

@@ -7,7 +7,7 @@ use Rattle.hv_task.specs.Strips.{Strips, atoms}
 use Rattle.hv_bdd.specs.Nodes.{NodeList, no_nodes}
 use Rattle.hv_lines.specs.Drafts.{IsGoodTable, onto, prelude}
 use Rattle.hv_lines.specs.Literals.{IsLiteral, IsPlainSet}
-use Rattle.hv_lines.specs.Meaning.{StateSet, sets_of}
+use Rattle.hv_lines.specs.Meaning.{SetOfStates, sets_of}
 use Rattle.hv_lines.specs.Numbering.{IsTable, acts_at, expr_at, expr_count, known_count}
 use Rattle.hv_lines.specs.Numbering.{statement_at}
 use Rattle.hv_lines.specs.Pruning.{BeginsAsDraft, DeniesFew, Extends, GoesOn, IsDeadBy}
@@ -148,22 +148,22 @@ module _ (task : Strips) (old new : List Line) (extends : Extends task old new) 
   dead_by_extended state line by = record {
     set = by.set;
     dead = dead_literal_extended by.set line by.dead;
-    holds = subst (λ (S : StateSet). S state)
+    holds = subst (λ (S : SetOfStates). S state)
         (sym (states_extended by.set (literal_below by.set by.dead.literal))) by.holds;
   }
 
-  pub noted_extended : (covered : StateSet) (note : Note) → IsNoted task covered old note
+  pub noted_extended : (covered : SetOfStates) (note : Note) → IsNoted task covered old note
       → IsNoted task covered new note
   noted_extended covered note noted = record {
     dead = dead_literal_extended note.set note.line noted.dead;
     within = λ state is_state inside.
         noted.within state is_state
-        (subst (λ (S : StateSet). S state) (states_extended note.set
+        (subst (λ (S : SetOfStates). S state) (states_extended note.set
         (literal_below note.set noted.dead.literal)) inside);
   }
 
 -- a note whose literal holds a state shows that the state is dead
-pub noted_dead : (task : Strips) (covered : StateSet) (lines : List Line) (note : Note)
+pub noted_dead : (task : Strips) (covered : SetOfStates) (lines : List Line) (note : Note)
     (state : List Bool)
     → IsNoted task covered lines note → states_in task lines note.set state
     → IsDeadBy task lines state note.line

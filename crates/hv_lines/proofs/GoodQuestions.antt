@@ -1,4 +1,4 @@
--- A line is good where no query of its question passes the budget, and none has a counterexample.
+-- A line is good where no query of its question exceeds the budget, and none has a counterexample.
 use Rattle.std.proofs.Common.{◌≡◌, ℕ, ◌<◌, ◌∙◌, ◌⊎◌, ◌↔◌, ◌&&◌, Bool, true, false, not, List, []}
 use Rattle.std.proofs.Common.{Option, Some, None, length, map, refl, sym, subst, inl, inr}
 use Rattle.std.proofs.lemmas.Bool.{and_parts as both_true, false_from_ne_true}
@@ -16,9 +16,9 @@ use Rattle.hv_lines.specs.Numbering.{IsTable, expr_at}
 use Rattle.hv_lines.specs.Queries.{IsOffered, PassesBudget, asked_actions, has_of, operand_of}
 use Rattle.hv_lines.specs.Queries.{query_of, which_at}
 use Rattle.hv_lines.specs.Setting.{Setting}
-use Rattle.hv_lines.specs.Shapes.{IsQuestion, OfSets, Question, family_of}
+use Rattle.hv_lines.specs.Shapes.{IsQuestion, OfSets, QuestionState, family_of}
 use Rattle.hv_lines.specs.Verdicts.{DecidesNothing, IsVerdict}
-use Rattle.hv_lines.specs.declared.family.FormulaFamily.{FormulaFamily}
+use Rattle.hv_lines.specs.declared.formula_family.FormulaFamily.{FormulaFamily}
 use Rattle.hv_lines.specs.declared.line.Constant.{Constant}
 use Rattle.hv_lines.specs.declared.line.Expr.{Expr}
 use Rattle.hv_lines.specs.declared.line.Expr.TheVariants as E
@@ -48,7 +48,7 @@ pub constant_set : (family : FormulaFamily) (lines : List Line) (set : ℕ) (con
     → expr_at lines set ≡ Some (E.Constant constant) → IsSetOf family lines set
 constant_set family lines set constant at = (E.Constant constant, at, inr tt, inl refl)
 
-module _ (setting : Setting) (lines : List Line) (table : IsTable lines) (q : Question) where
+module _ (setting : Setting) (lines : List Line) (table : IsTable lines) (q : QuestionState) where
   abbrev In : ℕ → List Bool → Type 0
   In set state = sets_of setting.task setting.nodes lines set state
 

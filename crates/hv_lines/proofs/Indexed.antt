@@ -19,7 +19,7 @@ use Rattle.hv_lines.proofs.Laws.{acts_at_more, expr_at_more, statement_at_more, 
 use Rattle.hv_lines.proofs.Laws.{premises_at_more, acts_at_here, expr_at_here, statement_at_here}
 use Rattle.hv_lines.proofs.Laws.{word_at_here, premises_at_here}
 
--- what stands at a place of a list stands there in a longer list
+-- what is at a place of a list is there in a longer list
 slice_get-append : {X : Type 0} (xs ys : List X) (k : ℕ) (x : X) → slice_get xs k ≡ Some x
     → slice_get (xs ++ ys) k ≡ Some x
 slice_get-append [] ys k x h = absurd (cc)

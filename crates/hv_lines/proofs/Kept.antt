@@ -8,7 +8,7 @@ use Rattle.hv_lines.specs.declared.line.Statement.{Statement}
 use Rattle.hv_lines.specs.declared.line.Statement.TheVariants as T
 use Rattle.hv_lines.specs.Numbering.{acts_count, expr_count, statement_at, SpeaksBelow, MayFollow}
 use Rattle.hv_lines.specs.Numbering.{IsTable}
-use Rattle.hv_lines.specs.Meaning.{StateSet, ActionSet, sets_of, IsTrueStatement, AllTrue}
+use Rattle.hv_lines.specs.Meaning.{SetOfStates, ActionSet, sets_of, IsTrueStatement, AllTrue}
 use Rattle.hv_lines.proofs.Laws.{acts_more, sets_more, speaks_at, found_cases}
 
 module _ (task : Strips) (nodes : NodeList) where
@@ -17,13 +17,14 @@ module _ (task : Strips) (nodes : NodeList) where
       → e < expr_count older → (state : List Bool)
       → sets_of task nodes older e state → sets_of task nodes (line ∷ older) e state
   kept_in line older e next below state inside =
-      subst (λ (S : StateSet). S state) (sym (sets_more task nodes line older e next below)) inside
+      subst (λ (S : SetOfStates). S state) (sym (sets_more task nodes line older e next below))
+      inside
 
   pub kept_out : (line : Line) (older : List Line) (e : ℕ) → MayFollow older line
       → e < expr_count older → (state : List Bool)
       → sets_of task nodes (line ∷ older) e state → sets_of task nodes older e state
   kept_out line older e next below state inside =
-      subst (λ (S : StateSet). S state) (sets_more task nodes line older e next below) inside
+      subst (λ (S : SetOfStates). S state) (sets_more task nodes line older e next below) inside
 
   -- a true statement stays true
   pub kept_true : (line : Line) (older : List Line) (st : Statement) → MayFollow older line

@@ -20,7 +20,7 @@ use Rattle.hv_lines.specs.declared.line.Word.{Word}
 use Rattle.hv_lines.specs.Numbering.{acts_count, expr_count, known_count, acts_at, expr_at}
 use Rattle.hv_lines.specs.Numbering.{statement_at, word_at, premises_at, ActsReferBelow}
 use Rattle.hv_lines.specs.Numbering.{ExprRefersBelow, SpeaksBelow, MayFollow, IsTable}
-use Rattle.hv_lines.specs.Meaning.{StateSet, ActionSet, has_action, IsAfter, IsBefore, holds}
+use Rattle.hv_lines.specs.Meaning.{SetOfStates, ActionSet, has_action, IsAfter, IsBefore, holds}
 use Rattle.hv_lines.specs.Meaning.{pick_acts, pick_set, acts_of, sets_of}
 
 -- the counts grow
@@ -236,7 +236,7 @@ SpeaksBelow-more (T.ActSub x y) a b m n g h speaks =
 SpeaksBelow-more (T.Dead e) a b m n g h speaks = omega arith
 SpeaksBelow-more T.Unsolvable a b m n g h speaks = tt
 
--- what a line refers to stands before it
+-- what a line refers to is before it
 
 pub acts_refer : (lines : List Line) (a : ℕ) (x : Acts) → IsTable lines → acts_at lines a ≡ Some x
     → ActsReferBelow a x
@@ -367,12 +367,12 @@ acts_law (L.Known id st w ps ∷ older) a x table h = acts_law older a x table.1
 
 -- an added line doesn't change earlier sets
 
-pick_set-false : (test : Bool) (here there : StateSet) → test ≡ false
+pick_set-false : (test : Bool) (here there : SetOfStates) → test ≡ false
     → pick_set test here there ≡ there
 pick_set-false true here there h = absurd (cc)
 pick_set-false false here there h = refl
 
-pick_set-true : (test : Bool) (here there : StateSet) → test ≡ true
+pick_set-true : (test : Bool) (here there : SetOfStates) → test ≡ true
     → pick_set test here there ≡ here
 pick_set-true true here there h = refl
 pick_set-true false here there h = absurd (cc)
@@ -389,7 +389,7 @@ module _ (task : Strips) (nodes : NodeList) where
   sets_more (L.Known id st w ps) older e next below = refl
 
   -- what a set holds depends on the earlier ones that it refers to
-  pub holds_same : (acts other_acts : ℕ → ActionSet) (sets other_sets : ℕ → StateSet) (m n : ℕ)
+  pub holds_same : (acts other_acts : ℕ → ActionSet) (sets other_sets : ℕ → SetOfStates) (m n : ℕ)
       (x : Expr)
       → ((a : ℕ) → a < m → acts a ≡ other_acts a) → ((e : ℕ) → e < n → sets e ≡ other_sets e)
       → ExprRefersBelow m n x
@@ -406,18 +406,18 @@ module _ (task : Strips) (nodes : NodeList) where
   holds_same acts other_acts sets other_sets m n (E.States xs) same_acts same_sets refers = refl
   holds_same acts other_acts sets other_sets m n (E.Node x) same_acts same_sets refers = refl
   holds_same acts other_acts sets other_sets m n (E.Not e) same_acts same_sets refers =
-      ap (λ (S : StateSet). λ state. S state → ⊥) (same_sets e refers)
+      ap (λ (S : SetOfStates). λ state. S state → ⊥) (same_sets e refers)
   holds_same acts other_acts sets other_sets m n (E.And e f) same_acts same_sets refers =
-      ap (λ (S : StateSet). λ state. S state × sets f state) (same_sets e refers.0)
-      ∙ ap (λ (S : StateSet). λ state. other_sets e state × S state) (same_sets f refers.1)
+      ap (λ (S : SetOfStates). λ state. S state × sets f state) (same_sets e refers.0)
+      ∙ ap (λ (S : SetOfStates). λ state. other_sets e state × S state) (same_sets f refers.1)
   holds_same acts other_acts sets other_sets m n (E.Or e f) same_acts same_sets refers =
-      ap (λ (S : StateSet). λ state. S state ⊎ sets f state) (same_sets e refers.0)
-      ∙ ap (λ (S : StateSet). λ state. other_sets e state ⊎ S state) (same_sets f refers.1)
+      ap (λ (S : SetOfStates). λ state. S state ⊎ sets f state) (same_sets e refers.0)
+      ∙ ap (λ (S : SetOfStates). λ state. other_sets e state ⊎ S state) (same_sets f refers.1)
   holds_same acts other_acts sets other_sets m n (E.After e by) same_acts same_sets refers =
-      ap (λ (S : StateSet). λ state. IsAfter task S (acts by) state) (same_sets e refers.0)
+      ap (λ (S : SetOfStates). λ state. IsAfter task S (acts by) state) (same_sets e refers.0)
       ∙ ap (λ (X : ActionSet). λ state. IsAfter task (other_sets e) X state) (same_acts by refers.1)
   holds_same acts other_acts sets other_sets m n (E.Before e by) same_acts same_sets refers =
-      ap (λ (S : StateSet). λ state. IsBefore task S (acts by) state) (same_sets e refers.0)
+      ap (λ (S : SetOfStates). λ state. IsBefore task S (acts by) state) (same_sets e refers.0)
       ∙ ap (λ (X : ActionSet). λ state. IsBefore task (other_sets e) X state)
       (same_acts by refers.1)
 
@@ -464,11 +464,11 @@ module _ (task : Strips) (nodes : NodeList) where
       → sets_of task nodes lines e state → holds task nodes (acts_of lines)
       (sets_of task nodes lines) x state
   set_out lines e x table h state inside = subst
-      (λ (S : StateSet). S state) (sets_at lines e x table h) inside
+      (λ (S : SetOfStates). S state) (sets_at lines e x table h) inside
 
   pub set_in : (lines : List Line) (e : ℕ) (x : Expr) → IsTable lines → expr_at lines e ≡ Some x
       → (state : List Bool)
       → holds task nodes (acts_of lines) (sets_of task nodes lines) x state
       → sets_of task nodes lines e state
   set_in lines e x table h state inside = subst
-      (λ (S : StateSet). S state) (sym (sets_at lines e x table h)) inside
+      (λ (S : SetOfStates). S state) (sym (sets_at lines e x table h)) inside

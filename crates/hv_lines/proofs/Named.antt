@@ -18,8 +18,8 @@ use Rattle.hv_lines.specs.Queries.{collected, dual_in, horn_in, two_in, listed_i
 use Rattle.hv_lines.specs.Queries.{count_of, named_by, which_at, has_of}
 use Rattle.hv_lines.specs.Setting.{Setting}
 use Rattle.hv_lines.specs.Shapes.{family_of}
-use Rattle.hv_lines.specs.declared.family.FormulaFamily.{FormulaFamily}
-use Rattle.hv_lines.specs.declared.family.FormulaFamily.TheVariants as F
+use Rattle.hv_lines.specs.declared.formula_family.FormulaFamily.{FormulaFamily}
+use Rattle.hv_lines.specs.declared.formula_family.FormulaFamily.TheVariants as F
 use Rattle.hv_lines.specs.declared.line.Constant.TheVariants as C
 use Rattle.hv_lines.specs.declared.line.Expr.{Expr}
 use Rattle.hv_lines.specs.declared.line.Expr.TheVariants as E
@@ -53,7 +53,7 @@ module _ {Formula : Type 0} (formula_in : Expr → List Formula) where
   abbrev pub count_before : List Line → ℕ → ℕ
   count_before lines wanted = length (collected formula_in (older_than lines wanted))
 
-  -- a formula stands in the store at the number of formulas before it
+  -- a formula is in the store at the number of formulas before it
   pub found_number : (lines : List Line) (id : ℕ) (expr : Expr) (x d : Formula)
       → expr_at lines id ≡ Some expr → formula_in expr ≡ x ∷ []
       → (count_before lines id < length (collected formula_in lines))

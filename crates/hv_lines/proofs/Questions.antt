@@ -2,8 +2,8 @@
 use Rattle.std.proofs.Common.{◌≡◌, ℕ, ◌∙◌, List, Option, Some, None, refl, sym, ap, subst, inl, inr}
 use Rattle.std.proofs.lemmas.Option.{same_Some}
 use Rattle.hv_lines.specs.Shapes.{HasSides, IsFamilyOf, IsOfFamily, IsQuestion, IsStep}
-use Rattle.hv_lines.specs.Shapes.{IsWithinFamily, Question, family_of, asked_step}
-use Rattle.hv_lines.specs.declared.family.FormulaFamily.{FormulaFamily}
+use Rattle.hv_lines.specs.Shapes.{IsWithinFamily, QuestionState, family_of, asked_step}
+use Rattle.hv_lines.specs.declared.formula_family.FormulaFamily.{FormulaFamily}
 use Rattle.hv_lines.specs.declared.line.Line.{Line}
 use Rattle.hv_lines.specs.declared.line.Word.{Word}
 use Rattle.hv_lines.specs.declared.line.Word.TheVariants as W
@@ -19,7 +19,7 @@ module _ (lines : List Line) (word : Word) (left right : ℕ) where
       cc (none)
 
   -- no question has the word of two families
-  pub two_no_question : (q : Question) → word ≡ W.B4 → IsQuestion lines word left right q → ⊥
+  pub two_no_question : (q : QuestionState) → word ≡ W.B4 → IsQuestion lines word left right q → ⊥
   two_no_question q is shaped = by q.acts
       (subst (λ w. HasSides lines w left right q.acts) is shaped.sides)
     where
@@ -65,7 +65,7 @@ module _ (lines : List Line) (word : Word) (left right : ℕ) where
         | inr (sign, asked, there, of) ↦ family_by f g asked.0 of (also.within sign asked there)
       ]
 
-  pub question_once : (p q : Question) → IsQuestion lines word left right p
+  pub question_once : (p q : QuestionState) → IsQuestion lines word left right p
       → IsQuestion lines word left right q → p ≡ q
   question_once p q is also =
       let family : p.family ≡ q.family = family_once p.family q.family is.family also.family in

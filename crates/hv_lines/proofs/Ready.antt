@@ -14,10 +14,11 @@ use Rattle.hv_lines.specs.Numbering.{IsTable, expr_at, expr_count}
 use Rattle.hv_lines.specs.Queries.{actions_below, NamesNodes, asked_actions, count_of, dual_in}
 use Rattle.hv_lines.specs.Queries.{horn_in, listed_in, named_by, operand_of, query_of, two_in}
 use Rattle.hv_lines.specs.Queries.{which_at}
-use Rattle.hv_lines.specs.Shapes.{Askings, AskingsRise, HasSides, IsAsked, IsQuestion, Question}
+use Rattle.hv_lines.specs.Shapes.{Askings, AskingsRise, HasSides, IsAsked, IsQuestion}
+use Rattle.hv_lines.specs.Shapes.{QuestionState}
 use Rattle.hv_lines.specs.Shapes.{asks_sides_after, family_of}
-use Rattle.hv_lines.specs.declared.family.FormulaFamily.{FormulaFamily}
-use Rattle.hv_lines.specs.declared.family.FormulaFamily.TheVariants as F
+use Rattle.hv_lines.specs.declared.formula_family.FormulaFamily.{FormulaFamily}
+use Rattle.hv_lines.specs.declared.formula_family.FormulaFamily.TheVariants as F
 use Rattle.hv_lines.specs.declared.line.Constant.TheVariants as C
 use Rattle.hv_lines.specs.declared.line.Expr.{Expr}
 use Rattle.hv_lines.specs.declared.line.Expr.TheVariants as E
@@ -68,7 +69,8 @@ no_acts task lines None c = refl
 no_acts task lines (Some acts) c =
     let w = some_below lines acts (length task.actions) None c in absurd (cc (w.1))
 
-module _ (lines : List Line) (table : IsTable lines) (word : Word) (left right : ℕ) (q : Question)
+module _ (lines : List Line) (table : IsTable lines) (word : Word) (left right : ℕ) (q :
+    QuestionState)
     (is : IsQuestion lines word left right q) where
   -- what is asked about is a formula or constant
   plain_from : (sign : Bool) (a : ℕ × Bool) → IsAsked lines word left right sign a

@@ -203,7 +203,7 @@ module _ (setting : Setting) (lines : List Line) (line : Line) where
       passes_all (LinePasses setting lines line)
       (next_test O.Truth (upto_truth formed rule shape offered within) true)
 
-  -- a good line may stand after the lines before it
+  -- a good line may be after the lines before it
   pub good_next : IsGood setting lines line → MayFollow lines line
   good_next good = let known : IsKnown setting.task setting.nodes lines line = good O.Reference in
       record { numbered = good O.Number; back = known.0 }

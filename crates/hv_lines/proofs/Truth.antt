@@ -23,11 +23,12 @@ use Rattle.hv_lines.specs.Queries.{query_of, which_at, PassesBudget}
 use Rattle.hv_lines.specs.Setting.{Setting}
 use Rattle.hv_lines.specs.Shapes.{AreTwo, OfSets, OfTwo, OfActs, HasSides, IsAndLeaf, IsAsked}
 use Rattle.hv_lines.specs.Shapes.{IsLeftLeaf, IsOrLeaf, IsQuestion, IsLiteralOf, IsRightLeaf}
-use Rattle.hv_lines.specs.Shapes.{IsStep, Question, and_parts, or_parts, after_parts, before_parts}
+use Rattle.hv_lines.specs.Shapes.{IsStep, QuestionState, and_parts, or_parts, after_parts}
+use Rattle.hv_lines.specs.Shapes.{before_parts}
 use Rattle.hv_lines.specs.Shapes.{asks_sides_after, asks_step_after, family_of, asked_step, alone}
 use Rattle.hv_lines.specs.Shapes.{of_left, of_right}
 use Rattle.hv_lines.specs.Verdicts.{DecidesNothing, IsVerdict, IsVerdictOfActs, IsVerdictOfTwo}
-use Rattle.hv_lines.specs.declared.family.FormulaFamily.{FormulaFamily}
+use Rattle.hv_lines.specs.declared.formula_family.FormulaFamily.{FormulaFamily}
 use Rattle.hv_lines.specs.declared.line.Expr.{Expr}
 use Rattle.hv_lines.specs.declared.line.Expr.TheVariants as E
 use Rattle.hv_lines.specs.declared.line.Line.{Line}
@@ -110,7 +111,8 @@ module _ (setting : Setting) (lines : List Line) (table : IsTable lines) where
       set_in setting.task setting.nodes lines set (E.Or left right) table is state
       (inr (from_leaf right leaf of state inside))
 
-  module _ (word : Word) (left right : ℕ) (q : Question) (is : IsQuestion lines word left right q)
+  module _ (word : Word) (left right : ℕ) (q : QuestionState) (is : IsQuestion lines word left right
+      q)
     where
       abbrev Has : ℕ → List Bool → Bool
       Has set state = in_which setting.task (has_of setting lines q.family) (which_at lines set)
@@ -204,7 +206,8 @@ asked_for lines acts number (suc n) below among =
           (Contains-push (actions_below lines acts n) (Some n)))
     ]
 
-query_there : (setting : Setting) (lines : List Line) (q : Question) (actions : List (Option ℕ))
+query_there : (setting : Setting) (lines : List Line) (q : QuestionState) (actions : List (Option
+    ℕ))
     (action : Option ℕ) → Contains actions action
     → (place : ℕ) × (slice_get (map (query_of lines q) actions) place
     ≡ Some (query_of lines q action))
@@ -226,7 +229,8 @@ module _ (setting : Setting) (lines : List Line) (table : IsTable lines) where
   asked_state (Some a) t is_state true = IsState-successor setting.task a t is_state
   asked_state (Some a) t is_state false = is_state
 
-  module _ (word : Word) (left right : ℕ) (q : Question) (is : IsQuestion lines word left right q)
+  module _ (word : Word) (left right : ℕ) (q : QuestionState) (is : IsQuestion lines word left right
+      q)
       (settled : (place : ℕ) (query : Query)
       → slice_get (queries_of setting.task lines q) place ≡ Some query
       → DecidesNothing (PassesBudget setting lines q.family)

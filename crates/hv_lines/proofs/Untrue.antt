@@ -19,7 +19,8 @@ use Rattle.hv_lines.specs.Queries.{queries_of, query_of}
 use Rattle.hv_lines.specs.Setting.{Setting}
 use Rattle.hv_lines.specs.Shapes.{AreTwo, HasSides, IsAndLeaf, IsAsked, IsLeftLeaf, IsLiteralOf}
 use Rattle.hv_lines.specs.Shapes.{IsOrLeaf, IsQuestion, IsRightLeaf, OfActs, OfSets, OfTwo}
-use Rattle.hv_lines.specs.Shapes.{Question, alone, and_parts, asks_sides_after, asks_step_after}
+use Rattle.hv_lines.specs.Shapes.{QuestionState, alone, and_parts, asks_sides_after}
+use Rattle.hv_lines.specs.Shapes.{asks_step_after}
 use Rattle.hv_lines.specs.Shapes.{family_of, of_left, of_right, or_parts, asked_step}
 use Rattle.hv_lines.specs.Verdicts.{IsDecided, IsVerdict, IsVerdictOfActs, IsVerdictOfTwo}
 use Rattle.hv_lines.specs.declared.line.Expr.{Expr}
@@ -119,7 +120,8 @@ module _ (setting : Setting) (lines : List Line) (table : IsTable lines) where
         or_by set w.0 w.1 none (λ part less there_too all. outside_leaves n part
         (omega (arith, less, below)) there_too all) (or_parts w.0) refl inside
 
-  module _ (word : Word) (left right : ℕ) (q : Question) (is : IsQuestion lines word left right q)
+  module _ (word : Word) (left right : ℕ) (q : QuestionState) (is : IsQuestion lines word left right
+      q)
       (number : Option ℕ) (act : Option Action) (is_action : action_of setting.task number ≡ act)
       (t : List Bool)
       (clash : is_clash setting.task (has_of setting lines q.family) (query_of lines q number) t
@@ -199,7 +201,8 @@ module _ (setting : Setting) (lines : List Line) (table : IsTable lines) where
             ((named setting lines table word left right q is true (set, after) there of.1
             (asked act after t)).0 (asked_in (set, after) there))
 
-  module _ (word : Word) (left right : ℕ) (q : Question) (is : IsQuestion lines word left right q)
+  module _ (word : Word) (left right : ℕ) (q : QuestionState) (is : IsQuestion lines word left right
+      q)
       (left_there : left < expr_count lines) (right_there : right < expr_count lines)
       (claim : IsTrueStatement setting.task setting.nodes lines (T.Sub left right)) where
     abbrev Clashes : Option ℕ → List Bool → Type 0

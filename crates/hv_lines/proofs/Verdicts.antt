@@ -12,7 +12,8 @@ use Rattle.hv_lines.specs.Mixed.{Signed, cost_of, is_between}
 use Rattle.hv_lines.specs.Order.{without_state}
 use Rattle.hv_lines.specs.Queries.{PassesBudget, has_of, queries_of}
 use Rattle.hv_lines.specs.Setting.{Setting}
-use Rattle.hv_lines.specs.Shapes.{Basic, OfSets, OfTwo, OfActs, AreTwo, IsShaped, Question}
+use Rattle.hv_lines.specs.Shapes.{BasicState, OfSets, OfTwo, OfActs, AreTwo, IsShaped}
+use Rattle.hv_lines.specs.Shapes.{QuestionState}
 use Rattle.hv_lines.specs.Verdicts.{IsDecided, IsDecisive, IsOutside, DecidesNothing, IsVerdict}
 use Rattle.hv_lines.specs.Verdicts.{IsVerdictOf, IsVerdictOfActs, IsVerdictOfSets, IsVerdictOfSides}
 use Rattle.hv_lines.specs.Verdicts.{IsVerdictOfTwo}
@@ -153,20 +154,20 @@ module _ (task : Strips) (lines : List Line) (first second : ℕ) where
   acts_verdict_once V.NotOffered w is also = absurd is
 
 module _ (setting : Setting) (lines : List Line) where
-  DecidedBy : Question → Verdict → Type 0
+  DecidedBy : QuestionState → Verdict → Type 0
   DecidedBy q v =
       IsDecided (PassesBudget setting lines q.family)
       (is_clash setting.task (has_of setting lines q.family)) (atoms setting.task)
       (queries_of setting.task lines q) v
 
-  by_queries : (q : Question) (v w : Verdict) → DecidedBy q v → DecidedBy q w → IsSame v w
+  by_queries : (q : QuestionState) (v w : Verdict) → DecidedBy q v → DecidedBy q w → IsSame v w
   unfolding DecidedBy
   by_queries q v w is also =
       decided_once (PassesBudget setting lines q.family)
       (is_clash setting.task (has_of setting lines q.family))
       (atoms setting.task) (queries_of setting.task lines q) v w is also
 
-  sets_verdict_once : (question : Question) (v w : Verdict)
+  sets_verdict_once : (question : QuestionState) (v w : Verdict)
       → IsVerdictOfSets setting lines question v
       → IsVerdictOfSets setting lines question w → IsSame v w
   unfolding DecidedBy
@@ -202,7 +203,7 @@ module _ (setting : Setting) (lines : List Line) where
       (subst (λ e. IsVerdictOfSides setting (c, x.1) (e, y.1) v) second
       (subst (λ e. IsVerdictOfSides setting (e, x.1) (b, y.1) v) first is)) also
 
-  verdict_of_once : (basic : Basic) (v w : Verdict) → IsVerdictOf setting lines basic v
+  verdict_of_once : (basic : BasicState) (v w : Verdict) → IsVerdictOf setting lines basic v
       → IsVerdictOf setting lines basic w → IsSame v w
   verdict_of_once (OfSets word question) v w is also = sets_verdict_once question v w is also
   verdict_of_once (OfTwo x y) v w is also = two_verdict_once x y v w is also
@@ -218,7 +219,7 @@ module _ (setting : Setting) (lines : List Line) where
       λ i. OfTwo (first.0 i, first.1 i) (second.0 i, second.1 i)
 
   -- a statement with its word asks one thing
-  pub shaped_once : (statement : Statement) (word : Word) (a b : Basic)
+  pub shaped_once : (statement : Statement) (word : Word) (a b : BasicState)
       → IsShaped lines statement word a → IsShaped lines statement word b → a ≡ b
   shaped_once (T.Sub left right) word (OfSets w p) (OfSets u q) is also =
       let same : p ≡ q = question_once lines word left right p q is.1 also.1 in
@@ -266,7 +267,7 @@ module _ (setting : Setting) (lines : List Line) where
         → without_state (R.False a) ≡ without_state (R.False b)
     outlines actions states = λ i. R.False (record { action = actions i; state = states i })
 
-    clash_of_once : (basic : Basic) → IsVerdictOf setting lines basic (V.False a)
+    clash_of_once : (basic : BasicState) → IsVerdictOf setting lines basic (V.False a)
         → IsVerdictOf setting lines basic (V.False b)
         → without_state (R.False a) ≡ without_state (R.False b)
     clash_of_once (OfSets word question) is also =

@@ -2,7 +2,7 @@
 use Rattle.std.proofs.Common.{◌≡◌, ◌==◌, ◌∙◌, ◌+◌, ℕ, Bool, List, [], ◌∷◌, ◌++◌, Option, Some}
 use Rattle.std.proofs.Common.{None, append-nil, ap, arith, cond, false, inl, inr, length, refl}
 use Rattle.std.proofs.Common.{subst, suc, sym, true}
-use Rattle.hv_bytes.specs.Pieces.{Piece}
+use Rattle.hv_bytes.specs.Pieces.{PieceBytes}
 use Rattle.hv_lines.specs.Judged.{IsPassedOver}
 use Rattle.hv_lines.specs.Spelling.{IsSkipped, Spells, spelling_of}
 use Rattle.hv_lines.specs.Versions.{first_mark, is_mark, judged_as, judged_from, judged_so_far}
@@ -15,20 +15,20 @@ use Rattle.hv_lines.specs.declared.part.Part.TheVariants as P
 
 -- pieces, and behind them others
 
-pub judged_append : (part : Part) (front rest : List Piece)
+pub judged_append : (part : Part) (front rest : List PieceBytes)
     → judged_from part (front ++ rest)
     ≡ judged_from part front ++ judged_from (part_from part front) rest
 judged_append part [] rest = refl
 judged_append part (piece ∷ front) rest =
     ap (λ ps. judged_as part piece ∷ ps) (judged_append (part_after part piece) front rest)
 
-pub part_append : (part : Part) (front rest : List Piece)
+pub part_append : (part : Part) (front rest : List PieceBytes)
     → part_from part (front ++ rest) ≡ part_from (part_from part front) rest
 part_append part [] rest = refl
 part_append part (piece ∷ front) rest = part_append (part_after part piece) front rest
 
 -- each piece is judged at its own place
-pub judged_length : (part : Part) (pieces : List Piece)
+pub judged_length : (part : Part) (pieces : List PieceBytes)
     → length (judged_from part pieces) ≡ length pieces
 judged_length part [] = refl
 judged_length part (piece ∷ rest) =
@@ -36,28 +36,28 @@ judged_length part (piece ∷ rest) =
 
 -- an open proof is judged as it is
 
-judged_open : (pieces : List Piece) → judged_from P.Open pieces ≡ pieces
+judged_open : (pieces : List PieceBytes) → judged_from P.Open pieces ≡ pieces
 judged_open [] = refl
 judged_open (piece ∷ rest) = ap (λ ps. piece ∷ ps) (judged_open rest)
 
-part_open : (pieces : List Piece) → part_from P.Open pieces ≡ P.Open
+part_open : (pieces : List PieceBytes) → part_from P.Open pieces ≡ P.Open
 part_open [] = refl
 part_open (piece ∷ rest) = part_open rest
 
-pub open_as_is : (pieces : List Piece)
+pub open_as_is : (pieces : List PieceBytes)
     → judged_from P.Open pieces ++ missing_end (part_from P.Open pieces) ≡ pieces
 open_as_is pieces =
     ap (λ part. judged_from P.Open pieces ++ missing_end part) (part_open pieces)
     ∙ (append-nil (judged_from P.Open pieces) ∙ judged_open pieces)
 
-open_by : (marked : Bool) (piece : Piece) (rest : List Piece) → marked ≡ false
+open_by : (marked : Bool) (piece : PieceBytes) (rest : List PieceBytes) → marked ≡ false
     → (cond marked (Some []) piece ∷ judged_from (cond marked P.BeforeEnd P.Open) rest)
     ++ missing_end (part_from (cond marked P.BeforeEnd P.Open) rest) ≡ piece ∷ rest
 open_by true piece rest plain = absurd (cc)
 open_by false piece rest plain = ap (λ ps. piece ∷ ps) (open_as_is rest)
 
 -- so is a proof whose first line isn't the first mark
-pub open_whole : (piece : Piece) (rest : List Piece) → is_mark P.AtStart piece ≡ false
+pub open_whole : (piece : PieceBytes) (rest : List PieceBytes) → is_mark P.AtStart piece ≡ false
     → judged_whole (piece ∷ rest) ≡ piece ∷ rest
 open_whole piece rest plain = open_by (is_mark P.AtStart piece) piece rest plain
 
@@ -101,7 +101,7 @@ last_stays (inr comment) = absurd (omega arith)
 -- how one piece is judged
 
 -- a mark is judged as an empty line
-pub marked_empty : (part : Part) (piece : Piece) → is_mark part piece ≡ true
+pub marked_empty : (part : Part) (piece : PieceBytes) → is_mark part piece ≡ true
     → judged_as part piece ≡ Some []
 marked_empty P.AtStart piece marked = ap (λ b. cond b (Some []) piece) marked
 marked_empty P.Open piece marked = absurd (cc)
@@ -116,7 +116,7 @@ behind_as_is (byte ∷ bytes) (inr comment) =
     ap (λ b. cond b (byte ∷ bytes) last_mark)
     (subst (λ n. (n == 35) ≡ true) (sym comment) refl)
 
-pub skipped_as_is : (part : Part) (piece : Piece) → is_mark part piece ≡ false
+pub skipped_as_is : (part : Part) (piece : PieceBytes) → is_mark part piece ≡ false
     → IsPassedOver piece → judged_as part piece ≡ piece
 skipped_as_is P.AtStart piece plain skipped = ap (λ b. cond b (Some []) piece) plain
 skipped_as_is P.Open piece plain skipped = refl
@@ -134,7 +134,7 @@ behind_skipped : (bytes : List ℕ) → IsSkipped (line_behind bytes) → IsSkip
 behind_skipped [] skipped = skipped
 behind_skipped (byte ∷ bytes) skipped = skipped_by (byte == 35) byte bytes skipped
 
-pub passed_over : (part : Part) (piece : Piece) → is_mark part piece ≡ false
+pub passed_over : (part : Part) (piece : PieceBytes) → is_mark part piece ≡ false
     → IsPassedOver (judged_as part piece) → IsPassedOver piece
 passed_over P.AtStart piece plain skipped =
     subst (λ b. IsPassedOver (cond b (Some []) piece)) plain skipped

@@ -1,4 +1,4 @@
--- The table of words: each word stands in the list of all words, no two are spelled alike, and a
+-- The table of words: each word is in the list of all words, no two are spelled alike, and a
 -- spelling is no other token.
 use Rattle.std.proofs.Common.{◌≡◌, ℕ, ◌<◌, ◌≤◌, ◌∙◌, ◌&&◌, Bool, true, false, cond, eqb, ltb, List}
 use Rattle.std.proofs.Common.{[], ◌∷◌, Option, Some, None, get_or, refl, sym, ap, subst, arith}

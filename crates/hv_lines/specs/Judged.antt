@@ -1,6 +1,6 @@
 -- What a checker says of a whole proof.
 use Rattle.std.specs.Prelude.{◌≡◌, ◌+◌, ◌⊎◌, ℕ, List, [], ◌∷◌, ◌++◌, Some, None, length, reverse}
-use Rattle.hv_bytes.specs.Pieces.{Piece, pieces_of}
+use Rattle.hv_bytes.specs.Pieces.{PieceBytes, pieces_of}
 use Rattle.hv_bytes.specs.declared.cutting.Limits.{Limits}
 use Rattle.hv_lines.specs.Spelling.{Spells, IsSkipped}
 use Rattle.hv_lines.specs.Rules.{Says}
@@ -16,7 +16,7 @@ use Rattle.hv_lines.specs.declared.reason.Reason.{Reason}
 
 -- a piece of a proof: the bytes of a line without its LF, or none where the line is too long
 abbrev pub LineText : Type 0
-LineText = Piece
+LineText = PieceBytes
 
 -- a piece is skipped: it is an empty line or a comment
 abbrev pub IsPassedOver : LineText → Type 0

@@ -20,8 +20,8 @@ use Rattle.hv_lines.specs.declared.line.Statement.{Statement}
 use Rattle.hv_lines.specs.declared.line.Statement.TheVariants as T
 
 -- a set of states, by the fact that a state is in it
-abbrev pub StateSet : Type 1
-StateSet = List Bool → Type 0
+abbrev pub SetOfStates : Type 1
+SetOfStates = List Bool → Type 0
 
 -- a set of actions, by the test whether an action's number is in it
 abbrev pub ActionSet : Type 0
@@ -34,7 +34,7 @@ has_action acts (A.List actions) number = list_any (λ n. nat_eq n number) actio
 has_action acts (A.Both left right) number = acts left number || acts right number
 
 -- progression: the state is the result of one of the actions, applied in a state of the set
-pub record IsAfter (task : Strips) (set : StateSet) (acts : ActionSet) (state : List Bool)
+pub record IsAfter (task : Strips) (set : SetOfStates) (acts : ActionSet) (state : List Bool)
     : Type 0 where
   pub before : List Bool
   pub is_state : IsState task before
@@ -47,7 +47,7 @@ pub record IsAfter (task : Strips) (set : StateSet) (acts : ActionSet) (state : 
   pub result : successor action before ≡ state
 
 -- regression: one of the actions is applicable in the state, with its result in the set
-pub record IsBefore (task : Strips) (set : StateSet) (acts : ActionSet) (state : List Bool)
+pub record IsBefore (task : Strips) (set : SetOfStates) (acts : ActionSet) (state : List Bool)
     : Type 0 where
   pub number : ℕ
   pub action : Action
@@ -57,7 +57,7 @@ pub record IsBefore (task : Strips) (set : StateSet) (acts : ActionSet) (state :
   pub inside : set (successor action state)
 
 -- the states of a set, where the earlier action sets and sets have these
-abbrev pub holds : Strips → NodeList → (ℕ → ActionSet) → (ℕ → StateSet) → Expr → StateSet
+abbrev pub holds : Strips → NodeList → (ℕ → ActionSet) → (ℕ → SetOfStates) → Expr → SetOfStates
 holds task nodes acts sets (E.Constant C.Empty) state = ⊥
 holds task nodes acts sets (E.Constant C.Start) state = state ≡ start_state task
 holds task nodes acts sets (E.Constant C.Goal) state = is_goal task state ≡ true
@@ -78,7 +78,7 @@ pick_acts true here there = here
 pick_acts false here there = there
 
 -- the first set, or the second
-abbrev pub pick_set : Bool → StateSet → StateSet → StateSet
+abbrev pub pick_set : Bool → SetOfStates → SetOfStates → SetOfStates
 pick_set true here there = here
 pick_set false here there = there
 
@@ -91,7 +91,7 @@ acts_of (L.Expr id expr ∷ older) wanted = acts_of older wanted
 acts_of (L.Known id statement word premises ∷ older) wanted = acts_of older wanted
 
 -- the states of each set of the lines, the newest line first
-abbrev pub sets_of : Strips → NodeList → List Line → ℕ → StateSet
+abbrev pub sets_of : Strips → NodeList → List Line → ℕ → SetOfStates
 sets_of task nodes [] wanted = λ state. ⊥
 sets_of task nodes (L.Acts id acts ∷ older) wanted = sets_of task nodes older wanted
 sets_of task nodes (L.Expr id expr ∷ older) wanted =

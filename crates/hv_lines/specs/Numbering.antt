@@ -111,12 +111,12 @@ RefersBack older (L.Known id statement word premises) =
     SpeaksBelow (acts_count older) (expr_count older) statement
     × AreBelow (known_count older) premises
 
--- the line may stand after these
+-- the line may be after these
 pub record MayFollow (older : List Line) (line : Line) : Type 0 where
   pub numbered : IsNumbered older line
   pub back : RefersBack older line
 
--- each line may stand after those before it
+-- each line may be after those before it
 abbrev pub IsTable : List Line → Type 0
 IsTable [] = Unit {0}
 IsTable (line ∷ older) = MayFollow older line × IsTable older

@@ -5,7 +5,7 @@ use Rattle.hv_task.specs.Strips.{Strips, IsState, atoms}
 use Rattle.hv_bdd.specs.Nodes.{no_nodes}
 use Rattle.hv_lines.specs.Drafts.{DraftState, IsGoodTable, default_budget, onto, prelude}
 use Rattle.hv_lines.specs.Literals.{IsLiteral}
-use Rattle.hv_lines.specs.Meaning.{StateSet, sets_of}
+use Rattle.hv_lines.specs.Meaning.{SetOfStates, sets_of}
 use Rattle.hv_lines.specs.Numbering.{expr_at, statement_at}
 use Rattle.hv_lines.specs.declared.line.Expr.TheVariants as E
 use Rattle.hv_lines.specs.declared.line.Line.{Line}
@@ -25,7 +25,7 @@ abbrev pub Extends : Strips → List Line → List Line → Type 0
 Extends task old new = GoesOn old new × IsGoodTable task new
 
 -- the states of the set in a draft for the task, where there is no node file
-abbrev pub states_in : Strips → List Line → ℕ → StateSet
+abbrev pub states_in : Strips → List Line → ℕ → SetOfStates
 states_in task lines set = sets_of task (no_nodes (atoms task)) lines set
 
 -- where the set is the negation of listed states, these are at most 1,000,000: so many as a query
@@ -48,9 +48,9 @@ pub record IsDeadBy (task : Strips) (lines : List Line) (state : List Bool) (lin
   pub dead : IsDeadLiteral lines set line
   pub holds : states_in task lines set state
 
--- what was noted stands in the lines: the line says that the literal is dead, and the literal holds
+-- what was noted is in the lines: the line says that the literal is dead, and the literal holds
 -- covered states alone
-pub record IsNoted (task : Strips) (covered : StateSet) (lines : List Line) (note : Note)
+pub record IsNoted (task : Strips) (covered : SetOfStates) (lines : List Line) (note : Note)
     : Type 0 where
   pub dead : IsDeadLiteral lines note.set note.line
   pub within : (state : List Bool) → IsState task state → states_in task lines note.set state
@@ -76,7 +76,8 @@ NoneNoted task lines notes state =
 -- How a pruner with notes answers of a state: the line that it found, its notes and the draft
 -- before and after. A block is what it writes for this state: lines, and the note of what they
 -- show.
-pub record IsPrunerAnswer (task : Strips) (covered : StateSet) (IsBlock : List Line → Note → Type 0)
+pub record IsPrunerAnswer (task : Strips) (covered : SetOfStates) (IsBlock : List Line → Note → Type
+    0)
     (state : List Bool) (found : Option ℕ) (notes : List Note) (draft : DraftState)
     (new_notes : List Note) (new_draft : DraftState) : Type 0 where
   -- where a note's literal holds the state, the first such note answers

@@ -16,9 +16,9 @@ use Rattle.hv_bdd.specs.Nodes.{in_node}
 use Rattle.hv_lines.specs.Meaning.{acts_of}
 use Rattle.hv_lines.specs.Numbering.{expr_at}
 use Rattle.hv_lines.specs.Setting.{Setting}
-use Rattle.hv_lines.specs.Shapes.{Question}
-use Rattle.hv_lines.specs.declared.family.FormulaFamily.{FormulaFamily}
-use Rattle.hv_lines.specs.declared.family.FormulaFamily.TheVariants as F
+use Rattle.hv_lines.specs.Shapes.{QuestionState}
+use Rattle.hv_lines.specs.declared.formula_family.FormulaFamily.{FormulaFamily}
+use Rattle.hv_lines.specs.declared.formula_family.FormulaFamily.TheVariants as F
 use Rattle.hv_lines.specs.declared.line.Constant.TheVariants as C
 use Rattle.hv_lines.specs.declared.line.Expr.{Expr}
 use Rattle.hv_lines.specs.declared.line.Expr.TheVariants as E
@@ -177,7 +177,7 @@ abbrev pub operand_of : List Line → ℕ × Bool → Operand
 operand_of lines asked = record { which = which_at lines asked.0; id = asked.0; after = asked.1 }
 
 -- the query of a question for an action, or without one
-abbrev pub query_of : List Line → Question → Option ℕ → Query
+abbrev pub query_of : List Line → QuestionState → Option ℕ → Query
 query_of lines question action = record {
   positive = map (λ asked. operand_of lines asked) question.positive;
   negative = map (λ asked. operand_of lines asked) question.negative;
@@ -197,13 +197,13 @@ asked_actions task lines None = None ∷ []
 asked_actions task lines (Some acts) = actions_below lines acts (length task.actions)
 
 -- the queries of a question, in order
-abbrev pub queries_of : Strips → List Line → Question → List Query
+abbrev pub queries_of : Strips → List Line → QuestionState → List Query
 queries_of task lines question =
     map (query_of lines question) (asked_actions task lines question.acts)
 
 -- The question is one that is decided: over explicit sets there has to be an anchor, whose states
 -- are gone through.
-abbrev pub IsOffered : List Line → Question → Type 0
+abbrev pub IsOffered : List Line → QuestionState → Type 0
 IsOffered lines question = IsOfferedOver question.family
   where
     IsOfferedOver : FormulaFamily → Type 0

@@ -4,8 +4,8 @@ use Rattle.std.specs.Prelude.{Some, None, length, slice_get}
 use Rattle.std.specs.List.{Contains}
 use Rattle.hv_lines.specs.Literals.{IsPlainSet, IsLiteral}
 use Rattle.hv_lines.specs.Numbering.{expr_at}
-use Rattle.hv_lines.specs.declared.family.FormulaFamily.{FormulaFamily}
-use Rattle.hv_lines.specs.declared.family.FormulaFamily.TheVariants as F
+use Rattle.hv_lines.specs.declared.formula_family.FormulaFamily.{FormulaFamily}
+use Rattle.hv_lines.specs.declared.formula_family.FormulaFamily.TheVariants as F
 use Rattle.hv_lines.specs.declared.line.Expr.{Expr}
 use Rattle.hv_lines.specs.declared.line.Expr.TheVariants as E
 use Rattle.hv_lines.specs.declared.line.Line.{Line}
@@ -129,7 +129,7 @@ abbrev pub asks_step_after : Word → Bool
 asks_step_after W.B3 = true
 asks_step_after _ = false
 
--- the leaf stands on the left, beside the step or in its set, and is asked about after the action
+-- the leaf is on the left, beside the step or in its set, and is asked about after the action
 -- or before it
 abbrev pub IsLeftLeaf : List Line → Word → ℕ → ℕ → Bool → Type 0
 IsLeftLeaf lines word left leaf after =
@@ -137,7 +137,7 @@ IsLeftLeaf lines word left leaf after =
     ⊎ ((step : ℕ) × (set : ℕ) × (acts : ℕ) × IsAndLeaf lines left step
     × IsStep lines word step set acts × IsAndLeaf lines set leaf × (after ≡ asks_step_after word))
 
--- the leaf stands on the right, and is asked about after the action or before it
+-- the leaf is on the right, and is asked about after the action or before it
 abbrev pub IsRightLeaf : List Line → Word → ℕ → ℕ → Bool → Type 0
 IsRightLeaf lines word right leaf after =
     IsOrLeaf lines right leaf × (after ≡ asks_sides_after word)
@@ -187,7 +187,7 @@ abbrev pub AskedBefore : ℕ × Bool → ℕ × Bool → Type 0
 AskedBefore first second =
     (first.0 < second.0) ⊎ ((first.0 ≡ second.0) × (first.1 ≡ false) × (second.1 ≡ true))
 
--- each comes before those that follow it, so none stands twice
+-- each comes before those that follow it, so none occurs twice
 abbrev pub AskingsRise : Askings → Type 0
 AskingsRise askings =
     (i j : ℕ) (first second : ℕ × Bool) → i < j → slice_get askings i ≡ Some first
@@ -208,7 +208,7 @@ pub record IsFamilyOf (lines : List Line) (word : Word) (left right : ℕ) (fami
 
 -- a basic statement of sets by what it asks: its family, what is asked about with each sign, and
 -- the action set of its step
-pub record Question : Type 0 where
+pub record QuestionState : Type 0 where
   pub family : FormulaFamily
   pub positive : Askings
   pub negative : Askings
@@ -216,7 +216,7 @@ pub record Question : Type 0 where
 
 -- the question is that of the statement that the left set is within the right one, which has the
 -- shape of the word
-pub record IsQuestion (lines : List Line) (word : Word) (left right : ℕ) (question : Question)
+pub record IsQuestion (lines : List Line) (word : Word) (left right : ℕ) (question : QuestionState)
     : Type 0 where
   pub sides : HasSides lines word left right question.acts
   -- what is asked about, in order
@@ -243,13 +243,13 @@ pub record AreTwo (lines : List Line) (left right : ℕ) (x y : ℕ × Bool) : T
 
 -- a basic statement: of sets of one family, with its word, of formulas of two families, the left
 -- one first, each itself (true) or its negation (false), or of two action sets
-pub data Basic : Type 0 where
-  OfSets : Word → Question → Basic
-  OfTwo : ℕ × Bool → ℕ × Bool → Basic
-  OfActs : ℕ → ℕ → Basic
+pub data BasicState : Type 0 where
+  OfSets : Word → QuestionState → BasicState
+  OfTwo : ℕ × Bool → ℕ × Bool → BasicState
+  OfActs : ℕ → ℕ → BasicState
 
 -- the statement with the word has its shape, and asks this
-abbrev pub IsShaped : List Line → Statement → Word → Basic → Type 0
+abbrev pub IsShaped : List Line → Statement → Word → BasicState → Type 0
 IsShaped lines (T.Sub left right) word (OfSets asked question) =
     (asked ≡ word) × IsQuestion lines word left right question
 IsShaped lines (T.Sub left right) word (OfTwo x y) = (word ≡ W.B4) × AreTwo lines left right x y
@@ -258,4 +258,4 @@ IsShaped lines _ _ _ = ⊥
 
 -- the statement has the shape of the word
 abbrev pub HasShape : List Line → Statement → Word → Type 0
-HasShape lines statement word = (basic : Basic) × IsShaped lines statement word basic
+HasShape lines statement word = (basic : BasicState) × IsShaped lines statement word basic

@@ -29,7 +29,7 @@ constant_field C.Empty = codes "e"
 constant_field C.Start = codes "i"
 constant_field C.Goal = codes "g"
 
--- the number n stands for the atom n - 1; a dash before it negates it
+-- the number n denotes the atom n - 1; a dash before it negates it
 abbrev pub literal_field : Literal → List ℕ
 literal_field literal =
     cond literal.positive (decimal (literal.atom + 1)) (45 ∷ decimal (literal.atom + 1))
@@ -127,14 +127,14 @@ StatementFits (T.ActSub left right) = FitsDecimal left × FitsDecimal right
 StatementFits (T.Dead set) = FitsDecimal set
 StatementFits T.Unsolvable = Unit {0}
 
--- how many premises a word has after a statement, where it may stand there
+-- how many premises a word has after a statement, where it may be there
 abbrev pub premises_of : Statement → Word → Option ℕ
 premises_of statement word =
     cond (is_kind (word_row word).after (kind_of_statement statement))
     (Some (word_row word).premises) None
 
 -- the line has a spelling: its numbers are short enough, lists rise where they must, and the word
--- may stand there with as many premises
+-- may be there with as many premises
 abbrev pub IsSpelled : Line → Type 0
 IsSpelled (L.Acts id acts) = FitsDecimal id × ActsFit acts
 IsSpelled (L.Expr id expr) = FitsDecimal id × ExprFits expr

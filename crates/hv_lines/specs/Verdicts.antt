@@ -9,7 +9,7 @@ use Rattle.hv_lines.specs.Mixed.{Signed, cost_of, is_between}
 use Rattle.hv_lines.specs.Numbering.{expr_at}
 use Rattle.hv_lines.specs.Queries.{IsOffered, PassesBudget, has_of, queries_of}
 use Rattle.hv_lines.specs.Setting.{Setting}
-use Rattle.hv_lines.specs.Shapes.{Basic, OfSets, OfTwo, OfActs, Question, IsShaped}
+use Rattle.hv_lines.specs.Shapes.{BasicState, OfSets, OfTwo, OfActs, QuestionState, IsShaped}
 use Rattle.hv_lines.specs.declared.line.Expr.{Expr}
 use Rattle.hv_lines.specs.declared.line.Line.{Line}
 use Rattle.hv_lines.specs.declared.line.Statement.{Statement}
@@ -38,7 +38,7 @@ module _ (Passes : Query → Type 0) (clash : Query → List Bool → Bool) (ato
       × ((state : List Bool) × (found.state ≡ Some state) × (length state ≡ atoms)
       × (clash query state ≡ true))
 
-  -- The verdict of a list of queries: the first that passes the budget or has a counterexample
+  -- The verdict of a list of queries: the first that exceeds the budget or has a counterexample
   -- decides.
   abbrev pub IsDecided : List Query → Verdict → Type 0
   IsDecided queries V.True =
@@ -49,7 +49,7 @@ module _ (Passes : Query → Type 0) (clash : Query → List Bool → Bool) (ato
   IsDecided queries V.NotOffered = ⊥
 
 -- the verdict of a question
-abbrev pub IsVerdictOfSets : Setting → List Line → Question → Verdict → Type 0
+abbrev pub IsVerdictOfSets : Setting → List Line → QuestionState → Verdict → Type 0
 IsVerdictOfSets setting lines question V.NotOffered = IsOffered lines question → ⊥
 IsVerdictOfSets setting lines question verdict =
     IsOffered lines question
@@ -103,7 +103,7 @@ IsVerdictOfActs task lines first second V.Over = ⊥
 IsVerdictOfActs task lines first second V.NotOffered = ⊥
 
 -- the verdict of a basic statement
-abbrev pub IsVerdictOf : Setting → List Line → Basic → Verdict → Type 0
+abbrev pub IsVerdictOf : Setting → List Line → BasicState → Verdict → Type 0
 IsVerdictOf setting lines (OfSets word question) verdict =
     IsVerdictOfSets setting lines question verdict
 IsVerdictOf setting lines (OfTwo x y) verdict = IsVerdictOfTwo setting lines x y verdict
@@ -113,4 +113,5 @@ IsVerdictOf setting lines (OfActs first second) verdict =
 -- the verdict of a statement with its word, where it has the shape
 abbrev pub IsVerdict : Setting → List Line → Statement → Word → Verdict → Type 0
 IsVerdict setting lines statement word verdict =
-    (basic : Basic) × IsShaped lines statement word basic × IsVerdictOf setting lines basic verdict
+    (basic : BasicState) × IsShaped lines statement word basic × IsVerdictOf setting lines basic
+    verdict

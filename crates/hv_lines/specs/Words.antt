@@ -1,4 +1,4 @@
--- The table of words: each with its spelling, the statements after which it may stand, how many
+-- The table of words: each with its spelling, the statements after which it may be, how many
 -- premises it has, and whether it is a rule.
 use Rattle.std.specs.Prelude.{ℕ, List, Bool, true, false, codes}
 use Rattle.hv_lines.specs.declared.line.Statement.{Statement}

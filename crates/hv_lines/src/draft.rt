@@ -1,4 +1,4 @@
-//! Drafts of proofs: tables of good lines, with room for more.
+//! Drafts of proofs: tables of good lines, with space for more.
 
 ghost use Rattle.std.specs.Prelude.{◌≡◌, ◌<◌, ◌≤◌, ◌+◌, ◌^◌, ◌∷◌, [], length, IfOk, OnOk, OnErr};
 ghost use Rattle.hv_lines.specs.Drafts.{IsGoodNext, IsGoodTable, conclusion, id_of, most_lines};
@@ -51,7 +51,7 @@ impl Draft {
     }
 
     /// Takes the memory for so many further lines. Where the lines and these would be more than
-    /// 2^59, it answers want of memory.
+    /// 2^59, it answers out of memory.
     pub fn reserve(&mut self, lines: usize) -> Result<(), AllocError>
         ensures spare { OnOk result (lines ≤ self.new.spare) }
         ensures more { self.old.spare ≤ self.new.spare }

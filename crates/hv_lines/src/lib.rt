@@ -6,7 +6,7 @@ pub mod action_list;
 /// Drafts of proofs.
 pub mod draft;
 /// The families of formulas.
-pub mod family;
+pub mod formula_family;
 /// The lines of a proof.
 pub mod line;
 /// What pruners note.
@@ -28,7 +28,7 @@ pub mod words;
 
 pub use action_list::ActionList;
 pub use draft::{Draft, conclusion};
-pub use family::FormulaFamily;
+pub use formula_family::FormulaFamily;
 pub use line::{Acts, Constant, Expr, Line, Statement, Word};
 pub use note::Note;
 pub use part::Part;

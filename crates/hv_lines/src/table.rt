@@ -18,11 +18,11 @@ use std::marker::Model;
 #[derive(Drop)]
 pub struct Table {
     lines: Vec<Line>,
-    /// Where the `a` line of each identifier stands among the lines.
+    /// Where the `a` line of each identifier is among the lines.
     acts: Vec<usize>,
-    /// Where the `e` line of each identifier stands among the lines.
+    /// Where the `e` line of each identifier is among the lines.
     exprs: Vec<usize>,
-    /// Where the `k` line of each identifier stands among the lines.
+    /// Where the `k` line of each identifier is among the lines.
     knowns: Vec<usize>,
 }
 

@@ -1,4 +1,4 @@
-//! The table of words: how each is spelled, after which statements it may stand, how many premises
+//! The table of words: how each is spelled, after which statements it may be, how many premises
 //! it has, and whether it is a rule. Whoever reads, writes or tests a word looks it up here.
 
 ghost use Rattle.std.specs.Prelude.{◌≡◌, ◌≤◌, MatchOption, IfSome};
@@ -26,7 +26,7 @@ pub enum StatementKind {
 pub struct WordRow {
     /// Its two bytes in a proof text.
     pub spelling: [u8; 2],
-    /// The kind of the statements after which it may stand.
+    /// The kind of the statements after which it may be.
     pub after: StatementKind,
     /// How many premises it has.
     pub premises: usize,
@@ -116,7 +116,7 @@ impl Word {
         }
     }
 
-    /// How many premises the word has after the statement, where it may stand there.
+    /// How many premises the word has after the statement, where it may be there.
     pub fn premises_after(self, statement: &Statement) -> Option<usize>
         ensures same { result ≡ premises_of statement.now self }
         ensures few { IfSome result (λ count. count ≤ 3) }

@@ -3,7 +3,7 @@ use Rattle.std.proofs.Common.{◌≡◌, ℕ, zero, suc, ◌&&◌, Bool, true, f
 use Rattle.hv_sets.specs.declared.literal.Literal.{Literal}
 use Rattle.hv_sets.specs.Truth.{in_cube, in_literal}
 
--- a state of a cube is in the cube of each of its fronts
+-- a state of a cube is in the cube of each of its prefixes
 pub cube_front : (k : ℕ) (cube : List Literal) (s : List Bool) → in_cube cube s ≡ true
     → in_cube (take k cube) s ≡ true
 cube_front zero cube s h = refl

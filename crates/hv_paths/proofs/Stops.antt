@@ -1,4 +1,4 @@
--- A walk that stands at one state alone.
+-- A walk that is at one state alone.
 use Rattle.std.proofs.Common.{◌≡◌, ◌∙◌, ℕ, Bool, true, false, List, refl, sym, ap, subst}
 use Rattle.hv_task.proofs.Places.{beq-Decides}
 use Rattle.hv_sets.specs.declared.literal.Literal.{Literal}

@@ -1,4 +1,4 @@
--- Walks over cubes that have fronts in common, and questions that are asked along them.
+-- Walks over cubes that have prefixes in common, and questions that are asked along them.
 use Rattle.std.specs.Prelude.{◌≡◌, ◌≤◌, ◌+◌, ◌||◌, ℕ, Bool, true, false, List, [], ◌∷◌, length}
 use Rattle.std.specs.Prelude.{take, Option, None, Some}
 use Rattle.hv_sets.specs.declared.literal.Literal.{Literal}
@@ -6,8 +6,8 @@ use Rattle.hv_task.specs.State.{AreBelow, state_of}
 use Rattle.hv_sets.specs.Cubes.{SpeakBelow}
 use Rattle.hv_sets.specs.Truth.{in_cube, is_same}
 use Rattle.hv_sets.specs.Walks.{IsStateOf, in_cubes}
-use Rattle.hv_paths.specs.declared.walker.Stop.{Stop}
-use Rattle.hv_paths.specs.declared.walker.Stop.TheVariants as P
+use Rattle.hv_paths.specs.declared.walker.WalkStop.{WalkStop}
+use Rattle.hv_paths.specs.declared.walker.WalkStop.TheVariants as P
 
 -- so many literals at the front are the same in both cubes
 pub record KeepsFront (kept : ℕ) (old new : List Literal) : Type 0 where
@@ -57,7 +57,7 @@ IsCubeOfOne atoms cube one =
 
 -- where a walk stands, of which this is the cube: at its literals; or at the one state of it, which
 -- holds just the atoms that are listed
-abbrev pub IsStop : ℕ → List Literal → Stop → Type 0
+abbrev pub IsStop : ℕ → List Literal → WalkStop → Type 0
 IsStop atoms cube (P.Cube literals) = (literals.now ≡ cube) × SpeakBelow atoms literals.now
 IsStop atoms cube (P.State held state) =
     AreBelow atoms held.now × IsStateOf atoms state.now

@@ -62,7 +62,7 @@ pub trait Asker {
         ensures wanted { (s : List Bool) → wanted self.new s ≡ wanted self.old s };
 
     /// Whether some state that is looked for is in the cube of what is assumed. One such state then
-    /// stands in the scratch.
+    /// is in the scratch.
     fn meets(&mut self, alloc: Global, scratch: &mut Scratch) -> Result<bool, AllocError>
         requires stands { stands self.old }
         requires open { alive self.old ≡ true }

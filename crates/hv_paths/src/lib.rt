@@ -17,4 +17,4 @@ pub use plain_inside::InsideAsk;
 pub use plain_outside::OutsideAsk;
 pub use plain_walker::{InsideWalk, OutsideWalk};
 pub use sets::{InsideAsked, InsideWalked, OutsideAsked, OutsideWalked};
-pub use walker::{Stop, Walker};
+pub use walker::{WalkStop, Walker};

@@ -9,12 +9,12 @@ ghost use Rattle.hv_sets.specs.Walks.{IsStateOf, Meets};
 ghost use Rattle.hv_paths.specs.Along.{IsBarren, MeetsSome};
 
 use crate::asker::Asker;
-use crate::walker::{Stop, Walker};
+use crate::walker::{WalkStop, Walker};
 use hv_sets::{Literal, Scratch};
 use hv_task::State;
 use std::alloc::{AllocError, Global};
 
-/// Whether some state that is looked for is in a cube of the walk. One such state then stands in
+/// Whether some state that is looked for is in a cube of the walk. One such state then is in
 /// the scratch. From one cube to the next only what differs is taken back and assumed.
 pub fn meet_along<W: Walker, A: Asker>(
     alloc: Global,
@@ -68,8 +68,8 @@ fn stop_at<W: Walker, A: Asker>(
     ensures lengths { KeepsLengths scratch.old scratch.new }
 {
     match walk.stop() {
-        Stop::Cube(path) => follow(alloc, path, kept, asked, scratch),
-        Stop::State(held, state) => {
+        WalkStop::Cube(path) => follow(alloc, path, kept, asked, scratch),
+        WalkStop::State(held, state) => {
             let yes = look(alloc, held, state, kept, asked, scratch)?;
             Ok(yes)
         }

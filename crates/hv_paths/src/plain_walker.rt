@@ -6,7 +6,7 @@ ghost use Rattle.hv_sets.specs.Walks.{in_cubes, IsStateOf};
 ghost use Rattle.hv_paths.specs.Along.{cubes_of};
 ghost use Rattle.hv_paths.specs.Working.Along.{TakesNext};
 
-use crate::walker::{Stop, Walker};
+use crate::walker::{WalkStop, Walker};
 use hv_sets::{Cube, Cursor, Inside, Outside, Step};
 use std::alloc::{AllocError, Global};
 
@@ -51,8 +51,8 @@ impl<'a, L: Inside> Walker for InsideWalk<'a, L> {
         }
     }
 
-    fn stop(&self) -> Stop<'_> {
-        Stop::Cube(self.cube.as_slice())
+    fn stop(&self) -> WalkStop<'_> {
+        WalkStop::Cube(self.cube.as_slice())
     }
 }
 
@@ -100,8 +100,8 @@ impl<'a, R: Outside> Walker for OutsideWalk<'a, R> {
         }
     }
 
-    fn stop(&self) -> Stop<'_> {
-        Stop::Cube(self.cube.as_slice())
+    fn stop(&self) -> WalkStop<'_> {
+        WalkStop::Cube(self.cube.as_slice())
     }
 }
 

@@ -10,7 +10,7 @@ use std::alloc::AllocError;
 
 /// Where a walk stands: at a cube, by its literals; or at one state alone, by the atoms that it
 /// holds and as a state.
-pub enum Stop<'a> {
+pub enum WalkStop<'a> {
     Cube(&'a [Literal]),
     State(&'a [u32], &'a State),
 }
@@ -30,7 +30,7 @@ pub trait Walker {
     ghost left: { Self → List (List Literal) };
 
     /// Takes the next cube, and tells with how many of the literals of the one before it begins.
-    /// After the last cube, and after want of memory, the walk is over.
+    /// After the last cube, and after running out of memory, the walk is over.
     fn advance(&mut self) -> Result<Option<usize>, AllocError>
         requires { stands self.old }
         ensures step { IfOk result (λ kept.
@@ -38,8 +38,8 @@ pub trait Walker {
         ensures stands { IfOk result (λ kept. IfSome kept (λ _. stands self.new)) }
         ensures atoms { atoms self.new ≡ atoms self.old };
 
-    /// Where the walk stands after the last step.
-    fn stop(&self) -> Stop<'_>
+    /// Where the walk is after the last step.
+    fn stop(&self) -> WalkStop<'_>
         requires { stands self.now }
         ensures { IsStop (atoms self.now) (path self.now) result };
 }

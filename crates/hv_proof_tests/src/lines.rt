@@ -7,7 +7,7 @@ use hv_task::{State, Task};
 use std::alloc::{AllocError, Global};
 use std::test::Fail;
 
-// More lines than this no table has room for.
+// More lines than this no table has space for.
 const MOST_LINES: usize = 1 << 59;
 
 // Two sets with all actions between them, and a claim.
@@ -82,7 +82,7 @@ fn is_begun(table: &Table) -> bool {
         && says(table, 0, Statement::Dead(0), Word::Ed, &[])
 }
 
-// Whether room for seven lines is got, and kept where more is refused.
+// Whether space for seven lines is got, and kept where more is refused.
 fn has_room(draft: &mut Draft) -> Result<bool, AllocError> {
     draft.reserve(7)?;
     let roomy = draft.spare() >= 7;
@@ -90,7 +90,7 @@ fn has_room(draft: &mut Draft) -> Result<bool, AllocError> {
     Ok(roomy & refused & (draft.spare() >= 7))
 }
 
-// Whether a draft of the task begins with five lines, and gets room for more.
+// Whether a draft of the task begins with five lines, and gets space for more.
 fn is_drafted(alloc: Global, task: &Task) -> Result<bool, AllocError> {
     let mut draft = Draft::new(alloc, task)?;
     Ok(is_begun(draft.table()) & has_room(&mut draft)?)

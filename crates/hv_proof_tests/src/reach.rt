@@ -52,7 +52,7 @@ fn reaches(alloc: Global, changes: &[Change], bits: u32, digits: u32) -> Result<
     are_reached(alloc, &task, bits, digits)
 }
 
-// A chain of 70 atoms whose actions stand in the order that is worst.
+// A chain of 70 atoms whose actions are in the order that is worst.
 fn chain(alloc: Global) -> Result<Task, AllocError>
     ensures { IfOk result (λ task. atoms task ≡ 70) }
 {

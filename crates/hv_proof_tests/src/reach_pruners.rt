@@ -55,7 +55,7 @@ fn answer_for(
 }
 
 /// An atom, and what a pruner answers for the state that holds it alone.
-type Asked = (u32, Option<usize>);
+type AskedReach = (u32, Option<usize>);
 
 // Whether a pruner answers so for the one and then for the other.
 fn are_answers(
@@ -63,8 +63,8 @@ fn are_answers(
     alloc: Global,
     task: &Task,
     draft: &mut Draft,
-    one: Asked,
-    other: Asked,
+    one: AskedReach,
+    other: AskedReach,
 ) -> Result<bool, AllocError>
     requires good { IsGoodTable task.now draft.old.lines }
     requires fits { FitRelaxed task.now draft.old.lines pruner.old }
@@ -79,8 +79,8 @@ fn are_first_answers(
     alloc: Global,
     task: &Task,
     draft: &mut Draft,
-    one: Asked,
-    other: Asked,
+    one: AskedReach,
+    other: AskedReach,
 ) -> Result<bool, AllocError>
     requires { IsGoodTable task.now draft.old.lines }
 {
@@ -88,8 +88,13 @@ fn are_first_answers(
     are_answers(&mut pruner, alloc, task, draft, one, other)
 }
 
-// The same in a new draft, in which one block stands at last.
-fn answers(alloc: Global, task: &Task, one: Asked, other: Asked) -> Result<bool, AllocError> {
+// The same in a new draft, in which one block is at last.
+fn answers(
+    alloc: Global,
+    task: &Task,
+    one: AskedReach,
+    other: AskedReach,
+) -> Result<bool, AllocError> {
     let mut draft = Draft::new(alloc, task)?;
     let alike = are_first_answers(alloc, task, &mut draft, one, other)?;
     Ok(alike && draft.table().len() == 13)

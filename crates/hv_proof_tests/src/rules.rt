@@ -6,10 +6,10 @@ use hv_rules::{is_rule, rule_fits};
 use std::alloc::{AllocError, Global};
 use std::test::Fail;
 
-type Case = (Word, Statement, &'static [usize]);
+type RuleCase = (Word, Statement, &'static [usize]);
 
 /// A row of each rule, after the lines of `example`.
-static FITTING: [Case; 23] = [
+static FITTING: [RuleCase; 23] = [
     (Word::Ed, Statement::Dead(0), &[]),
     (Word::Ud, Statement::Dead(6), &[0, 1]),
     (Word::Sd, Statement::Dead(5), &[2, 1]),
@@ -37,7 +37,7 @@ static FITTING: [Case; 23] = [
 
 /// Rows with one letter wrong: another set, another action set, another claim, or premises
 /// exchanged.
-static UNFITTING: [Case; 53] = [
+static UNFITTING: [RuleCase; 53] = [
     (Word::Ed, Statement::Dead(2), &[]),
     (Word::Ed, Statement::Dead(4), &[]),
     (Word::Ud, Statement::Dead(6), &[1, 0]),
@@ -217,7 +217,7 @@ fn example(alloc: Global) -> Result<Table, Fail> {
 }
 
 /// Whether the rule fits, after the lines of the table.
-fn fits(table: &Table, row: Case) -> Result<bool, Fail> {
+fn fits(table: &Table, row: RuleCase) -> Result<bool, Fail> {
     let (word, statement, ids) = row;
     let premises = premises_of(ids)?;
     let knowns = table.known_count();

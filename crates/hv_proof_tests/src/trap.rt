@@ -9,7 +9,7 @@ use hv_trap::{TrapFault, greatest_trap, prove_trap};
 use std::alloc::{AllocError, Global};
 use std::test::Fail;
 
-// The clauses as numbers: 1 stands for atom 0, -1 for its negation, and so on; 0 ends a clause.
+// The clauses as numbers: 1 denotes atom 0, -1 for its negation, and so on; 0 ends a clause.
 fn numbers_in(alloc: Global, clauses: &Clauses) -> Result<Vec<i64>, AllocError> {
     let mut numbers = Vec::new(alloc);
     for place in 0..clauses.len() {

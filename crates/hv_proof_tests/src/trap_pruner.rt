@@ -44,7 +44,7 @@ fn answer_for(
 }
 
 /// Atoms, and what a pruner answers for the state that holds them.
-type Asked<'a> = (&'a [u32], Option<usize>);
+type AskedTrap<'a> = (&'a [u32], Option<usize>);
 
 // Whether a pruner answers so for the one and then for the other.
 fn are_answers(
@@ -52,8 +52,8 @@ fn are_answers(
     alloc: Global,
     task: &Task,
     draft: &mut Draft,
-    one: Asked<'_>,
-    other: Asked<'_>,
+    one: AskedTrap<'_>,
+    other: AskedTrap<'_>,
 ) -> Result<bool, AllocError>
     requires good { IsGoodTable task.now draft.old.lines }
     requires fits { AreTrapNotes task.now draft.old.lines pruner.old }
@@ -68,8 +68,8 @@ fn are_first_answers(
     alloc: Global,
     task: &Task,
     draft: &mut Draft,
-    one: Asked<'_>,
-    other: Asked<'_>,
+    one: AskedTrap<'_>,
+    other: AskedTrap<'_>,
 ) -> Result<bool, AllocError>
     requires { IsGoodTable task.now draft.old.lines }
 {
@@ -77,12 +77,12 @@ fn are_first_answers(
     are_answers(&mut pruner, alloc, task, draft, one, other)
 }
 
-// The same in a new draft, in which one block stands at last.
+// The same in a new draft, in which one block is at last.
 fn answers(
     alloc: Global,
     task: &Task,
-    one: Asked<'_>,
-    other: Asked<'_>,
+    one: AskedTrap<'_>,
+    other: AskedTrap<'_>,
 ) -> Result<bool, AllocError> {
     let mut draft = Draft::new(alloc, task)?;
     let alike = are_first_answers(alloc, task, &mut draft, one, other)?;

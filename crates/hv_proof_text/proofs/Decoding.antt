@@ -1,4 +1,4 @@
--- A field stands for one token: tokens are read back from their fields.
+-- A field denotes one token: tokens are read back from their fields.
 use Rattle.std.proofs.Common.{◌≡◌, ℕ, ◌<◌, ◌≤◌, ◌^◌, ◌∙◌, true, false, cond, eqb, ltb, List, []}
 use Rattle.std.proofs.Common.{◌∷◌, Option, None, Some, length, map, drop, get_or, refl, sym, ap}
 use Rattle.std.proofs.Common.{arith, decimal, lit<}
@@ -20,7 +20,7 @@ use Rattle.hv_proof_text.specs.declared.token.Token.TheVariants as T
 use Rattle.hv_bytes.specs.Fields.{cut_fields}
 use Rattle.hv_proof_text.specs.Working.Tokens.{AreTokens, IsToken, field_of, letter_field}
 
--- where one field stands for no token, the fields stand for no tokens
+-- where one field denotes no token, the fields denote no tokens
 pub no_tokens : (fields : List (List ℕ)) (i : ℕ) (field : List ℕ) → i < length fields
     → field ≡ get_or fields i field
     → ((token : Token) → IsToken token → field_of token ≡ field → ⊥) → (tokens : List Token)
@@ -125,7 +125,7 @@ decode_all (token ∷ tokens) short =
     (decode_token token (All-head IsToken token tokens short))
     ∙ ap (λ ts. token ∷ ts) (decode_all tokens (All-tail IsToken token tokens short))
 
--- the same fields stand for the same tokens
+-- the same fields denote the same tokens
 pub same_tokens : (xs ys : List Token) → All IsToken xs → All IsToken ys
     → map field_of xs ≡ map field_of ys → xs ≡ ys
 same_tokens xs ys left right e = sym (decode_all xs left) ∙ ap (map decode) e ∙ decode_all ys right

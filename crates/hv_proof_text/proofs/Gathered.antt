@@ -85,7 +85,7 @@ module _ {A : Type 0} (whole left : List Token → Option A) (fields rest : List
     (P : A → List Token → Type 0)
     (so_far : Gathers whole fields left rest)
     (only : (tokens : List Token) (x : A) → P x tokens → whole tokens ≡ Some x) where
-  -- where a field can't be read, the fields stand for nothing
+  -- where a field can't be read, the fields denote nothing
   pub gathers_stop : (field : List ℕ) (later : List (List ℕ)) → rest ≡ field ∷ later
       → StopsAtField left field
       → (x : A) → StandFor (P x) fields → ⊥
@@ -98,7 +98,7 @@ module _ {A : Type 0} (whole left : List Token → Option A) (fields rest : List
       ap whole split.2 ∙ so_far.3 (split.0 ∷ split.1) ∙ stops split.0 split.3 split.4 split.1 in
       none_and_some none (only stand.0 x stand.2)
 
-  -- at the end, what is left is what the fields stand for
+  -- at the end, what is left is what the fields denote
   pub gathers_end : (found : Option A) → rest ≡ []
       → MatchOption found (left [] ≡ None) (λ x. left [] ≡ Some x)
       → ((tokens : List Token) (x : A) → whole tokens ≡ Some x → P x tokens)
@@ -128,7 +128,7 @@ stops_at before field own short is none = λ token long same tokens.
     subst (λ t. before (t ∷ tokens) ≡ None) (same_token own token short long (is ∙ sym same))
     (none tokens)
 
--- the tokens behind the first one stand for the fields behind the first one
+-- the tokens behind the first one denote the fields behind the first one
 pub tokens_behind : (token : Token) (tokens : List Token) (fields later : List (List ℕ))
     (field : List ℕ)
     → AreTokens (token ∷ tokens) fields → fields ≡ field ∷ later → AreTokens tokens later
@@ -197,7 +197,7 @@ pub counted_no_count : {A : Type 0} (P : A → List Token → Type 0) (size : A 
 counted_no_count P size fields never x stand =
     never (size x) stand.2.0 (subst (λ ts. AreTokens ts fields) stand.2.1 stand.1)
 
--- tokens that are read to the end stand for all fields
+-- tokens that are read to the end denote all fields
 pub gathers_tokens : (items : List Token) (fields rest : List (List ℕ))
     → Gathers (λ ts. ts) fields (λ ts. items ++ ts) rest → rest ≡ []
     → AreTokens items fields
@@ -208,7 +208,7 @@ gathers_tokens items fields rest so_far none =
     ∙ ap (λ fs. map field_of done ++ fs) (sym none) ∙ so_far.2 in
     subst (λ ts. AreTokens ts fields) same (record { each = so_far.1; same = spelled })
 
--- where a field stands for no token, the fields stand for no tokens
+-- where a field denotes no token, the fields denote no tokens
 pub gathers_no_token : {A : Type 0} (whole left : List Token → A) (fields rest : List (List ℕ))
     → Gathers whole fields left rest
     → (field : List ℕ) (later : List (List ℕ)) → rest ≡ field ∷ later

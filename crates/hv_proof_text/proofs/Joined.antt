@@ -10,7 +10,7 @@ use Rattle.hv_lines.specs.Spelling.{proof_text, spelling_of}
 use Rattle.hv_lines.specs.declared.line.Line.{Line}
 use Rattle.hv_proof_text.specs.Working.Writing.{with_fields}
 
--- what stands before stays before
+-- what is before stays before
 front : (before text : List ℕ) (fields : List (List ℕ))
     → with_fields (before ++ text) fields ≡ before ++ with_fields text fields
 front before text [] = refl

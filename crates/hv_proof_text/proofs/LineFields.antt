@@ -246,7 +246,7 @@ tokens_short (N.Known id statement word premises) spelled =
     (short_statement statement spelled.1)
     (All-cons IsToken (T.Word word) (map number premises) tt (short_numbers premises spelled.2))))
 
--- the tokens of a line stand for the fields of the bytes that it spells
+-- the tokens of a line denote the fields of the bytes that it spells
 
 cut_tokens : (tokens : List Token) (first : Token) (rest : List Token) → tokens ≡ first ∷ rest
     → All IsToken tokens

@@ -8,7 +8,7 @@ use Rattle.hv_proof_text.specs.Working.Gathering.{BeginsWithCount, StandFor}
 use Rattle.hv_proof_text.specs.Working.Heads.{listed_by, listed_kind, listed_letter}
 use Rattle.hv_proof_text.specs.Working.Tokens.{AreClauseTokens, AreRisingNumbers, AreStateTokens}
 use Rattle.hv_proof_text.specs.Working.Tokens.{AreTokens}
-use Rattle.hv_proof_text.specs.declared.shapes.Listed.{Listed}
+use Rattle.hv_proof_text.specs.declared.token_rows.ListKind.{ListKind}
 use Rattle.hv_proof_text.specs.declared.token.Letter.{Letter}
 use Rattle.hv_proof_text.specs.declared.token.Token.{Token}
 use Rattle.hv_proof_text.proofs.Decoding.{same_tokens}
@@ -46,17 +46,17 @@ module _ (id : ℕ) (fields : List (List ℕ)) where
   states_none never line stand =
       let form = stand.2.1 in never form.0 (stand.0, stand.1, (form.1, form.2, form.3))
 
--- a list stands behind its own letters alone
+-- a list is behind its own letters alone
 
-abbrev AreLetters : Letter → Letter → Listed → Type 0
+abbrev AreLetters : Letter → Letter → ListKind → Type 0
 AreLetters letter kind listed = (letter ≡ listed_letter listed) × (kind ≡ listed_kind listed)
 
-behind_a : (kind : Letter) (listed : Listed) → listed_by L.A kind ≡ Some listed
+behind_a : (kind : Letter) (listed : ListKind) → listed_by L.A kind ≡ Some listed
     → AreLetters L.A kind listed
 behind_a L.B listed e = subst (AreLetters L.A L.B) (some_injective e) (refl, refl)
 behind_a _ listed e = absurd (cc)
 
-behind_e : (kind : Letter) (listed : Listed) → listed_by L.E kind ≡ Some listed
+behind_e : (kind : Letter) (listed : ListKind) → listed_by L.E kind ≡ Some listed
     → AreLetters L.E kind listed
 behind_e L.H listed e = subst (AreLetters L.E L.H) (some_injective e) (refl, refl)
 behind_e L.D listed e = subst (AreLetters L.E L.D) (some_injective e) (refl, refl)
@@ -64,7 +64,8 @@ behind_e L.T listed e = subst (AreLetters L.E L.T) (some_injective e) (refl, ref
 behind_e L.X listed e = subst (AreLetters L.E L.X) (some_injective e) (refl, refl)
 behind_e _ listed e = absurd (cc)
 
-pub listed_letters : (letter kind : Letter) (listed : Listed) → listed_by letter kind ≡ Some listed
+pub listed_letters : (letter kind : Letter) (listed : ListKind) → listed_by letter kind ≡ Some
+    listed
     → AreLetters letter kind listed
 listed_letters L.A kind listed e = behind_a kind listed e
 listed_letters L.E kind listed e = behind_e kind listed e

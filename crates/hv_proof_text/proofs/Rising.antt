@@ -80,7 +80,7 @@ increasing_more ns n rises below k within =
       | inr (inr greater) ↦ absurd (omega (arith, length_push ns n))
     ]
 
--- a number put into a list of lesser ones stands last
+-- a number put into a list of lesser ones occurs last
 pub inserted_last : (old : List ℕ) (n : ℕ) (new : List ℕ) → IsStrictlyIncreasing old
     → All (λ a. a < n) old → Inserts old n new
     → new ≡ old ++ n ∷ []

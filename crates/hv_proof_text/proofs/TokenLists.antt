@@ -1,4 +1,4 @@
--- Lists of tokens read from the front: rising numbers, states and clauses.
+-- Lists of tokens read from the prefix: rising numbers, states and clauses.
 use Rattle.std.proofs.Common.{◌≡◌, ℕ, ◌+◌, ◌-◌, ◌<◌, ◌≤◌, ◌^◌, ◌∙◌, ◌⊎◌, inl, inr, ◌&&◌, Bool, true}
 use Rattle.std.proofs.Common.{false, cond, eqb, ltb, leb, List, [], ◌∷◌, ◌++◌, map, Option, Some}
 use Rattle.std.proofs.Common.{None, refl, sym, ap, arith, subst, append_assoc}

@@ -1,4 +1,4 @@
-//! The fields of a line, one after the other, and the tokens that they stand for.
+//! The fields of a line, one after the other, and the tokens that they denote.
 
 ghost use Rattle.std.specs.Prelude.{◌≡◌, ◌<◌, ◌≤◌, ◌^◌, ℕ, ◌∷◌, true, false, decimal, length, List};
 ghost use Rattle.std.specs.Prelude.{MatchOption, Ok};

@@ -1,4 +1,4 @@
-//! Lines from tokens: what may stand behind each letter.
+//! Lines from tokens: what may be behind each letter.
 
 ghost use Rattle.std.specs.Prelude.{◌≡◌, ℕ, List, ◌∷◌, None, MatchOption, IfOk, length};
 ghost use Rattle.hv_lines.specs.Spelling.{Spells};
@@ -17,9 +17,9 @@ ghost use Rattle.hv_proof_text.specs.Working.Tokens.{AreStateTokens};
 ghost use Rattle.hv_proof_text.specs.declared.token.Token.{Token};
 
 use crate::fields::{first_number, tokens_in};
-use crate::shapes::{Head, Listed};
 use crate::token::{Letter, Token};
-use crate::{lists, shapes};
+use crate::token_rows::{LineHead, ListKind};
+use crate::{lists, token_rows};
 use hv_lines::{ActionList, Acts, Expr, Line, Premises, Statement, Word};
 use hv_sets::{Clauses, StateList};
 use std::alloc::{AllocError, Global};
@@ -38,21 +38,21 @@ fn claim_of(kind: Letter, tokens: &[Token]) -> Option<Claim<'_>>
         (λ claim. ClaimForm kind tokens.now claim.statement claim.rest.now) }
 {
     match kind {
-        Letter::S => match shapes::two_first(tokens) {
+        Letter::S => match token_rows::two_first(tokens) {
             Some(first) => Some(Claim {
                 statement: Statement::Sub(first.left, first.right),
                 rest: first.rest,
             }),
             None => None,
         },
-        Letter::A => match shapes::two_first(tokens) {
+        Letter::A => match token_rows::two_first(tokens) {
             Some(first) => Some(Claim {
                 statement: Statement::ActSub(first.left, first.right),
                 rest: first.rest,
             }),
             None => None,
         },
-        Letter::D => match shapes::counted(tokens) {
+        Letter::D => match token_rows::counted(tokens) {
             Some(first) => Some(Claim {
                 statement: Statement::Dead(first.0 as usize),
                 rest: first.1,
@@ -80,9 +80,9 @@ fn support_of(statement: &Statement, tokens: &[Token]) -> Option<Support>
         ((word : Word) (premises : List ℕ) → SupportForm statement.now tokens.now word premises → ⊥)
         (λ support. SupportForm statement.now tokens.now support.word support.premises) }
 {
-    let (word, rest) = shapes::word_first(tokens)?;
+    let (word, rest) = token_rows::word_first(tokens)?;
     let count = word.premises_after(statement)?;
-    let premises = shapes::premises_in(count, rest)?;
+    let premises = token_rows::premises_in(count, rest)?;
     Some(Support { word, premises })
 }
 
@@ -98,7 +98,7 @@ fn acts_of(kind: Letter, tokens: &[Token]) -> Option<Acts>
             [] => Some(Acts::All),
             _ => None,
         },
-        Letter::U => match shapes::two_numbers(tokens) {
+        Letter::U => match token_rows::two_numbers(tokens) {
             Some(pair) => Some(Acts::Both(pair.0, pair.1)),
             None => None,
         },
@@ -114,13 +114,13 @@ fn expr_of(kind: Letter, tokens: &[Token]) -> Option<Expr>
         (λ expr. ExprForm kind tokens.now expr) }
 {
     match kind {
-        Letter::C => shapes::constant_of(tokens).map(Expr::Constant),
-        Letter::B => shapes::one_short_number(tokens).map(Expr::Node),
-        Letter::N => shapes::one_number(tokens).map(Expr::Not),
-        Letter::I => shapes::two_numbers(tokens).map(|pair| Expr::And(pair.0, pair.1)),
-        Letter::U => shapes::two_numbers(tokens).map(|pair| Expr::Or(pair.0, pair.1)),
-        Letter::P => shapes::two_numbers(tokens).map(|pair| Expr::After(pair.0, pair.1)),
-        Letter::R => shapes::two_numbers(tokens).map(|pair| Expr::Before(pair.0, pair.1)),
+        Letter::C => token_rows::constant_of(tokens).map(Expr::Constant),
+        Letter::B => token_rows::one_short_number(tokens).map(Expr::Node),
+        Letter::N => token_rows::one_number(tokens).map(Expr::Not),
+        Letter::I => token_rows::two_numbers(tokens).map(|pair| Expr::And(pair.0, pair.1)),
+        Letter::U => token_rows::two_numbers(tokens).map(|pair| Expr::Or(pair.0, pair.1)),
+        Letter::P => token_rows::two_numbers(tokens).map(|pair| Expr::After(pair.0, pair.1)),
+        Letter::R => token_rows::two_numbers(tokens).map(|pair| Expr::Before(pair.0, pair.1)),
         _ => None,
     }
 }
@@ -230,7 +230,7 @@ fn counted_states(alloc: Global, fields: Option<&[u8]>) -> Result<Option<StateLi
 /// The line of a list behind its head.
 fn listed_line(
     alloc: Global,
-    listed: Listed,
+    listed: ListKind,
     id: usize,
     fields: Option<&[u8]>,
 ) -> Result<Option<Line>, AllocError>
@@ -243,35 +243,35 @@ fn listed_line(
         (fields_behind fields.entry (λ f. f.now)))) }
 {
     match listed {
-        Listed::Actions => match counted_actions(alloc, fields)? {
+        ListKind::Actions => match counted_actions(alloc, fields)? {
             Some(actions) => Ok(Some(Line::Acts {
                 id,
                 acts: Acts::List(actions),
             })),
             None => Ok(None),
         },
-        Listed::Horn => match counted_clauses(alloc, fields)? {
+        ListKind::Horn => match counted_clauses(alloc, fields)? {
             Some(clauses) => Ok(Some(Line::Expr {
                 id,
                 expr: Expr::Horn(clauses),
             })),
             None => Ok(None),
         },
-        Listed::Dual => match counted_clauses(alloc, fields)? {
+        ListKind::Dual => match counted_clauses(alloc, fields)? {
             Some(clauses) => Ok(Some(Line::Expr {
                 id,
                 expr: Expr::Dual(clauses),
             })),
             None => Ok(None),
         },
-        Listed::Two => match counted_clauses(alloc, fields)? {
+        ListKind::Two => match counted_clauses(alloc, fields)? {
             Some(clauses) => Ok(Some(Line::Expr {
                 id,
                 expr: Expr::Two(clauses),
             })),
             None => Ok(None),
         },
-        Listed::States => match counted_states(alloc, fields)? {
+        ListKind::States => match counted_states(alloc, fields)? {
             Some(states) => Ok(Some(Line::Expr {
                 id,
                 expr: Expr::States(states),
@@ -285,7 +285,7 @@ fn listed_line(
 fn line_by(
     alloc: Global,
     tokens: &mut Vec<Token>,
-    head: &Head<'_>,
+    head: &LineHead<'_>,
 ) -> Result<Option<Line>, AllocError>
     ensures { IfOk result (λ found. MatchOption found
         ((line : Line) → StandFor (λ ts. LineForm head.now.letter head.now.id head.now.kind ts line)
@@ -293,7 +293,7 @@ fn line_by(
         (λ line. StandFor (λ ts. LineForm head.now.letter head.now.id head.now.kind ts line)
         (fields_behind head.now.rest (λ f. f.now)))) }
 {
-    if let Some(listed) = shapes::listed_by(head.letter, head.kind) {
+    if let Some(listed) = token_rows::listed_by(head.letter, head.kind) {
         return listed_line(alloc, listed, head.id, head.rest);
     }
     if tokens_in(tokens, head.rest)? {
@@ -313,7 +313,7 @@ pub(crate) fn line_of(
         ((line : Line) → Spells line bytes.now → ⊥)
         (λ line. Spells line bytes.now)) }
 {
-    match shapes::head_of(bytes) {
+    match token_rows::head_of(bytes) {
         Some(head) => line_by(alloc, tokens, &head),
         None => Ok(None),
     }

@@ -6,8 +6,8 @@ mod forms;
 pub mod laws;
 mod lists;
 pub mod read;
-mod shapes;
 mod token;
+mod token_rows;
 pub mod write;
 
 pub use laws::{closed_back, one_line, read_back};

@@ -1,5 +1,5 @@
 //! Lists in a line: actions, clauses and states, each with its end. Their fields are taken one by
-//! one, so that the tokens of a list never stand in memory together.
+//! one, so that the tokens of a list never are in memory together.
 
 ghost use Rattle.std.specs.Prelude.{◌≡◌, ◌<◌, ◌^◌, ℕ, List, [], ◌∷◌, ◌++◌, MatchOption, IfOk, OnOk};
 ghost use Rattle.std.specs.Prelude.{true, false, None, Ok, Some};
@@ -12,8 +12,8 @@ ghost use Rattle.hv_proof_text.specs.Working.Pieces as Pieces;
 ghost use Rattle.hv_proof_text.specs.Working.Tokens.{AreRisingNumbers, AreClauseTokens};
 ghost use Rattle.hv_proof_text.specs.Working.Tokens.{AreStateTokens};
 
-use crate::shapes::NOT_SHORT;
 use crate::token::{Token, token_of};
+use crate::token_rows::NOT_SHORT;
 use hv_bytes::split_field;
 use hv_lines::ActionList;
 use hv_sets::{Clauses, ClausesBuilder, Literal, StateList, StateListBuilder};
@@ -96,7 +96,7 @@ pub(crate) fn rising_numbers(
     }
 }
 
-/// Puts the number of a field last. The answer is false where none can stand there.
+/// Puts the number of a field last. The answer is false where none can be there.
 fn take_number(numbers: &mut ActionList, least: &mut u32, field: &[u8]) -> Result<bool, AllocError>
     ensures taken { result ≡ Ok true → ReadsField (numbers_from numbers.old least.old) field.now
         (numbers_from numbers.new least.new) }
@@ -145,7 +145,7 @@ pub(crate) fn clauses_in(
 }
 
 /// Takes a field of clauses: a literal goes last in the clause that is begun, and an end ends it.
-/// The answer is false where neither can stand there.
+/// The answer is false where neither can be there.
 fn take_in_clauses(clauses: &mut ClausesBuilder, field: &[u8]) -> Result<bool, AllocError>
     ensures taken { result ≡ Ok true
         → ReadsField (clauses_from clauses.old.whole clauses.old.begun) field.now
@@ -211,7 +211,7 @@ pub(crate) fn states_in(
 }
 
 /// Takes a field of states: an atom goes last in the state that is begun, and an end ends it. The
-/// answer is false where neither can stand there.
+/// answer is false where neither can be there.
 fn take_in_states(
     states: &mut StateListBuilder,
     least: &mut u32,
@@ -255,21 +255,21 @@ fn closed_states(states: StateListBuilder) -> Option<StateList>
     }
 }
 
-/// How many ends and how many items a list is given room for before it is read.
+/// How many ends and how many items a list is given space for before it is read.
 #[derive(Clone, Copy)]
-struct Room {
+struct ListRoom {
     ends: usize,
     items: usize,
 }
 
-/// Room for so many ends, but for no more than the fields can have, an end and a space each, and
+/// Space for so many ends, but for no more than the fields can have, an end and a space each, and
 /// for as many items as the rest has at least where none has more than six bytes with its space.
-fn room_for(fields: Option<&[u8]>, count: u64) -> Room {
+fn room_for(fields: Option<&[u8]>, count: u64) -> ListRoom {
     let bytes = match fields {
         Some(fields) => fields.len(),
         None => 0,
     };
     let ends = count.min(bytes as u64 / 2 + 1) as usize;
     let items = bytes.saturating_sub(ends).saturating_sub(ends) / 6;
-    Room { ends, items }
+    ListRoom { ends, items }
 }

@@ -1,4 +1,4 @@
-//! Tokens: what a field of a line stands for.
+//! Tokens: what a field of a line denotes.
 
 ghost use Rattle.std.specs.Prelude.{◌≡◌, ◌<◌, ◌^◌, ◌↔◌, ℕ, ◌∷◌, IsTrue, MatchOption, codes};
 ghost use Rattle.std.specs.Prelude.{decimal};
@@ -30,7 +30,7 @@ pub(crate) enum Letter {
     X,
 }
 
-/// What a field stands for.
+/// What a field denotes.
 #[derive(Clone, Copy)]
 pub(crate) enum Token {
     Letter(Letter),
@@ -43,7 +43,7 @@ pub(crate) enum Token {
     End,
 }
 
-/// The one token that the field stands for, where there is one.
+/// The one token that the field denotes, where there is one.
 pub(crate) fn token_of(field: &[u8]) -> Option<Token>
     ensures { MatchOption result
         ((token : Token) → IsToken token → field_of token ≡ field.now → ⊥)

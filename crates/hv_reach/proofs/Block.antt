@@ -18,7 +18,7 @@ use Rattle.hv_lines.specs.Setting.{Setting}
 use Rattle.hv_lines.specs.Shapes.{and_parts, or_parts}
 use Rattle.hv_lines.specs.Spelling.{FitsDecimal, FitsLiteral}
 use Rattle.hv_lines.specs.declared.line.Acts.TheVariants as A
-use Rattle.hv_lines.specs.declared.family.FormulaFamily.TheVariants as F
+use Rattle.hv_lines.specs.declared.formula_family.FormulaFamily.TheVariants as F
 use Rattle.hv_lines.specs.declared.line.Constant.TheVariants as C
 use Rattle.hv_lines.specs.declared.line.Expr.TheVariants as E
 use Rattle.hv_lines.specs.declared.line.Line.{Line}

@@ -17,7 +17,7 @@ use Rattle.hv_sets.specs.Truth.{in_clause, in_clauses}
 use Rattle.hv_sets.specs.declared.literal.Literal.{Literal}
 use Rattle.hv_reach.specs.Reached.{ClosedAtoms, ClosedPairs, HasPairsOf, LeavesAlone, ReachedAtom}
 use Rattle.hv_reach.specs.Reached.{ReachedPair}
-use Rattle.hv_lines.specs.Meaning.{StateSet}
+use Rattle.hv_lines.specs.Meaning.{SetOfStates}
 use Rattle.hv_reach.specs.Pruners.{PairsCover}
 use Rattle.hv_reach.specs.Working.Pruners.{ShowsWhyDead}
 use Rattle.hv_reach.specs.Written.{IsDenial, PairsExclude, PairsExcludeFrom, RelaxedExcludes}
@@ -459,7 +459,7 @@ module _ (task : Strips) (start : List Bool) (r : ℕ → ℕ → Bool)
     }
 
 -- a formula that shows why the initial state is dead separates it from the goal
-pub reason_separates : (task : Strips) (covered : StateSet) (clauses : List (List Literal))
+pub reason_separates : (task : Strips) (covered : SetOfStates) (clauses : List (List Literal))
     → ShowsWhyDead task covered (start_state task) clauses
     → Separates task clauses
 reason_separates task covered clauses reason = record { dead = reason.dead; starts = reason.holds }

@@ -21,7 +21,7 @@ use Rattle.hv_reach.specs.Pruners.{AreDescribed, Describes, HoldsAtomsOf, HoldsP
 use Rattle.hv_reach.specs.Working.Pruners.{AreDiagonals}
 use Rattle.hv_reach.specs.Reached.{HasPairsOf, has_pair}
 
--- what stands at a place
+-- what is at a place
 pub described_at : {X : Type 0} (Holds : List X → List Bool → Type 0) (task : Strips)
     (lines : List Line) (notes : List Note)
     (reached : List (List X)) → AreDescribed Holds task lines notes reached

@@ -179,7 +179,7 @@ none_columns atoms start rows columns size sized none past = record {
       (get_or_past rows (start + j) [] (omega (arith, past))));
 }
 
--- what stands at a place of a list with one item written, and with one more
+-- what is at a place of a list with one item written, and with one more
 
 pub written_at : {X : Type 0} (xs : List X) (i : ℕ) (y : X) (j : ℕ) (z : X)
     → slice_get (set xs i y) j ≡ Some z

@@ -80,7 +80,7 @@ lowered_after n old new flags raised x m step e =
       | inr down ↦ down
     ]
 
--- where a flag is lowered, each action is ready or one of those that the flag stands for
+-- where a flag is lowered, each action is ready or one of those that the flag denotes
 pub ready_lowered : (n : ℕ) (actions : List Action) (index : List (Vec ℕ)) (row : Vec ℕ)
     (rows : List (List Bool)) (flags : List Bool) (x : ℕ)
     → IsActionIndex n actions index → slice_get index x ≡ Some row

@@ -1,4 +1,4 @@
--- What stands after a pruner's answer: in each of the three cases.
+-- What is after a pruner's answer: in each of the three cases.
 use Rattle.std.proofs.Common.{◌≡◌, ℕ, ◌+◌, ◌≤◌, ◌∙◌, ◌↔◌, ◌++◌, Bool, true, false, List, [], ◌∷◌}
 use Rattle.std.proofs.Common.{Option, Some, None, Result, Ok, Err, is_some, length, refl, sym, ap}
 use Rattle.std.proofs.Common.{subst, inl, inr, arith}
@@ -8,7 +8,7 @@ use Rattle.hv_task.specs.Strips.{Strips, IsState, IsTask, atoms}
 use Rattle.hv_sets.specs.Truth.{in_clauses}
 use Rattle.hv_sets.specs.declared.literal.Literal.{Literal}
 use Rattle.hv_lines.specs.Drafts.{DraftState, IsGoodTable, draft_setting, most_lines, onto}
-use Rattle.hv_lines.specs.Meaning.{StateSet}
+use Rattle.hv_lines.specs.Meaning.{SetOfStates}
 use Rattle.hv_lines.specs.Numbering.{IsTable, expr_at, expr_count, known_count, statement_at}
 use Rattle.hv_lines.specs.Pruning.{BeginsAsDraft, Extends, IsDeadBy, IsFirstNoted, IsNoted}
 use Rattle.hv_lines.specs.Pruning.{NoneNoted}
@@ -32,7 +32,7 @@ use Rattle.hv_reach.specs.Working.Written.{IsDeadEnd}
 use Rattle.hv_reach.proofs.Block.{good_block}
 use Rattle.hv_reach.proofs.Described.{described_pushed}
 
-module _ (task : Strips) (covered : StateSet) (IsBlock : List Line → Note → Type 0)
+module _ (task : Strips) (covered : SetOfStates) (IsBlock : List Line → Note → Type 0)
     (state : List Bool) (notes : List Note) (draft : DraftState)
     (is_state : IsState task state) (good : IsGoodTable task draft.lines)
     (fits : AreHornNotes task covered draft.lines notes) where
@@ -96,7 +96,7 @@ pub none_told : (task : Strips) (lines : List Line) (notes : List Note) (state :
 none_told task lines notes state None is told = told
 none_told task lines notes state (Some line) is told = absurd (cc (is))
 
-pub outcome_told : (task : Strips) (covered : StateSet) (IsBlock : List Line → Note → Type 0)
+pub outcome_told : (task : Strips) (covered : SetOfStates) (IsBlock : List Line → Note → Type 0)
     (state : List Bool) (notes : List Note)
     (draft : DraftState) → IsState task state → IsGoodTable task draft.lines
     → AreHornNotes task covered draft.lines notes
@@ -158,7 +158,7 @@ module _ (task : Strips) (lines : List Line) (clauses : List (List Literal)) (m 
   abbrev Noted : Note
   Noted = record { set = m; line = k + 3 }
 
-  module _ (covered : StateSet) (state : List Bool)
+  module _ (covered : SetOfStates) (state : List Bool)
       (reason : ShowsWhyDead task covered state clauses) where
     written_noted : IsNoted task covered Written Noted
     written_noted = record {
@@ -226,7 +226,7 @@ module _ (task : Strips) (lines : List Line) (clauses : List (List Literal)) (m 
     }
 
   -- what is kept of the block's formula is right
-  pub written_described : {X : Type 0} (Holds : List X → List Bool → Type 0) (covered : StateSet)
+  pub written_described : {X : Type 0} (Holds : List X → List Bool → Type 0) (covered : SetOfStates)
       (notes : List Note)
       (reached : List (List X)) (item : List X) → AreHornNotes task covered lines notes
       → AreDescribed Holds task lines notes reached
@@ -252,8 +252,8 @@ module _ (task : Strips) (lines : List Line) (clauses : List (List Literal)) (m 
         ),
       ))))
 
--- the notes fit the draft also after want of memory
-pub fits_after : {X : Type 0} (task : Strips) (covered : StateSet)
+-- the notes fit the draft also after running out of memory
+pub fits_after : {X : Type 0} (task : Strips) (covered : SetOfStates)
     (IsBlock : List Line → Note → Type 0) (state : List Bool) (notes : List Note)
     (draft : DraftState) (new_notes : List Note) (new : DraftState) (result : Result (Option ℕ) X)
     → IfOk result (λ found. IsOutcome task covered IsBlock state found notes draft new_notes new)

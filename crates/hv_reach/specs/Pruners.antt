@@ -5,7 +5,7 @@ use Rattle.std.specs.List.{All}
 use Rattle.hv_task.specs.State.{has_atom}
 use Rattle.hv_task.specs.Strips.{Strips, IsState, atoms}
 use Rattle.hv_sets.specs.declared.literal.Literal.{Literal}
-use Rattle.hv_lines.specs.Meaning.{StateSet}
+use Rattle.hv_lines.specs.Meaning.{SetOfStates}
 use Rattle.hv_lines.specs.Numbering.{expr_at, expr_count, known_count}
 use Rattle.hv_lines.specs.Pruning.{IsNoted, states_in}
 use Rattle.hv_lines.specs.declared.line.Expr.TheVariants as E
@@ -58,8 +58,8 @@ IsDenied bound lines set =
     (clauses : List (List Literal)) × (expr_at lines set ≡ Some (E.Horn clauses))
     × All (IsDenial bound) clauses
 
--- the notes stand in the lines, and each is of such a formula
-abbrev pub AreHornNotes : Strips → StateSet → List Line → List Note → Type 0
+-- the notes are in the lines, and each is of such a formula
+abbrev pub AreHornNotes : Strips → SetOfStates → List Line → List Note → Type 0
 AreHornNotes task covered lines notes =
     (k : ℕ) (note : Note) → slice_get notes k ≡ Some note
     → IsNoted task covered lines note × IsDenied (atoms task) lines note.set
@@ -103,7 +103,7 @@ AreDescribed Holds task lines notes reached =
     × ((k : ℕ) (note : Note) → slice_get notes k ≡ Some note
     → IfSome (slice_get reached k) (Describes Holds task lines note.set))
 
--- the notes of a pruner by reached atoms stand in the lines, what it has for each is right, and
+-- the notes of a pruner by reached atoms are in the lines, what it has for each is right, and
 -- what the search goes by is that of the task
 abbrev pub FitRelaxed : Strips → List Line → RelaxedNotes → Type 0
 FitRelaxed task lines kept =

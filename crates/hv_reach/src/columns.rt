@@ -8,7 +8,7 @@ ghost use Rattle.hv_reach.specs.Reached.{has_pair};
 use hv_task::{Atoms, Hint, State};
 use std::alloc::{AllocError, Global};
 
-/// The columns for so many atoms of a block without rows, with room for so many rows.
+/// The columns for so many atoms of a block without rows, with space for so many rows.
 pub(crate) fn empty_columns(alloc: Global, atoms: u32, room: u32) -> Result<Vec<State>, AllocError>
     ensures size { IfOk result (λ columns. length columns.items ≡ atoms) }
     ensures columns { IfOk result (λ columns. AreColumns room columns.items) }

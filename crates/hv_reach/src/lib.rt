@@ -2,7 +2,7 @@
 //! that there is no plan where the goal isn't reached; and pruners by them.
 #![tactic(auto)]
 
-pub mod atoms;
+pub mod atom_search;
 mod columns;
 pub mod fault;
 mod horn_proof;
@@ -11,20 +11,20 @@ pub mod laws;
 mod mask;
 mod note_rows;
 mod notes;
+pub mod pair_formula;
 pub mod pair_pruner;
-pub mod paired;
+mod pair_search;
+mod pair_table;
 pub mod pairs;
 mod passed;
 pub mod relaxed;
 pub mod relaxed_pruner;
-mod search;
-mod table;
 
-pub use atoms::reached_atoms;
+pub use atom_search::reached_atoms;
 pub use fault::ReachFault;
 pub use laws::{laws_of_covered_states, laws_of_pair_proofs, laws_of_relaxed_proofs};
+pub use pair_formula::prove_pairs;
 pub use pair_pruner::PairPruner;
-pub use paired::prove_pairs;
 pub use pairs::{Pairs, reached_pairs};
 pub use relaxed::prove_relaxed;
 pub use relaxed_pruner::RelaxedPruner;

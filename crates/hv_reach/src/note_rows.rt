@@ -12,7 +12,7 @@ use hv_task::State;
 use std::alloc::{AllocError, Global};
 use std::marker::Model;
 
-// How many rows stand in a block.
+// How many rows are in a block.
 const BLOCK: usize = 512;
 
 /// A row of atoms for each note, and the same rows by atom.
@@ -61,7 +61,7 @@ impl NoteRows {
         self.blocks.clear();
     }
 
-    /// Makes room for a further row, over as many atoms as the others.
+    /// Makes space for a further row, over as many atoms as the others.
     pub(crate) fn reserve(&mut self, alloc: Global, atoms: u32) -> Result<(), AllocError>
         requires { AreRowsOver atoms self.old.rows }
         ensures rows { self.new.rows ≡ self.old.rows }

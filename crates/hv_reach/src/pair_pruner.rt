@@ -14,7 +14,7 @@ ghost use Rattle.hv_reach.specs.Working.Pruners.{AreDiagonals, IsOutcome};
 
 use crate::index::index;
 use crate::notes::{Noted, write_block};
-use crate::paired::{MOST_ATOMS, pairs_formula, pairs_reason};
+use crate::pair_formula::{MOST_ATOMS, pairs_formula, pairs_reason};
 use crate::pairs::Pairs;
 use hv_lines::{Draft, Pruner};
 use hv_task::{State, Task};
@@ -74,7 +74,7 @@ impl PairPruner {
 
     /// The line of the first note whose formula holds the state. Where there is none and the state
     /// is covered, the block of the pairs reached from it is put last into the draft, and noted.
-    /// After want of memory, draft and notes are as before.
+    /// After running out of memory, draft and notes are as before.
     pub fn answer(
         &mut self,
         alloc: Global,

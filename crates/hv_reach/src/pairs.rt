@@ -10,8 +10,8 @@ ghost use Rattle.hv_reach.specs.Working.Table.{IsPairTable};
 
 use crate::index::index;
 use crate::mask::{diagonal, has_pairs};
-use crate::search::{close, turn};
-use crate::table::{mark_all, table};
+use crate::pair_search::{close, turn};
+use crate::pair_table::{mark_all, table};
 use hv_task::{State, Task};
 use std::alloc::{AllocError, Global};
 use std::marker::Model;

@@ -11,7 +11,7 @@ ghost use Rattle.hv_reach.specs.Reached.{ReachedAtom};
 ghost use Rattle.hv_reach.specs.Written.{IsRelaxedProof, RelaxedExcludes, RelaxedExcludesFrom};
 ghost use Rattle.hv_reach.specs.Written.{atom_clauses, relaxed_formula};
 
-use crate::atoms::AtomSearch;
+use crate::atom_search::AtomSearch;
 use crate::horn_proof::{denied, horn_proof};
 use crate::mask::row_has;
 use hv_lines::Draft;

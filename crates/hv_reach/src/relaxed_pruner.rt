@@ -13,7 +13,7 @@ ghost use Rattle.hv_reach.specs.Pruners.{IsRelaxedBlock};
 ghost use Rattle.hv_reach.specs.Working.Pruners.{IsOutcome};
 ghost use Rattle.hv_reach.specs.Written.{RelaxedExcludesFrom};
 
-use crate::atoms::AtomSearch;
+use crate::atom_search::AtomSearch;
 use crate::notes::{Noted, write_block};
 use crate::relaxed::{relaxed_formula, relaxed_reason};
 use hv_lines::{Draft, Pruner};
@@ -59,7 +59,7 @@ impl RelaxedPruner {
 
     /// The line of the first note whose formula holds the state. Where there is none and the state
     /// is covered, the block of the atoms reached from it is put last into the draft, and noted.
-    /// After want of memory, draft and notes are as before.
+    /// After running out of memory, draft and notes are as before.
     pub fn answer(
         &mut self,
         alloc: Global,

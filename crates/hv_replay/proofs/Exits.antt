@@ -15,12 +15,12 @@ use Rattle.hv_task.specs.Strips.{IsOver, Strips, atoms, is_goal, start_state}
 use Rattle.hv_task.proofs.Places.{has_all-Decides, has_atom_past, has_atom-state_of}
 use Rattle.hv_task.proofs.Places.{length-state_of, names_atom-Decides}
 use Rattle.hv_explicit.specs.Codes.{IsSetOf}
-use Rattle.hv_explicit.specs.Listing.{Listing, in_listing}
+use Rattle.hv_explicit.specs.ListedStates.{ListedStates, in_listing}
 use Rattle.hv_explicit.proofs.Clashes.{applies, applies_not, stands_after, stands_list}
 use Rattle.hv_replay.specs.Closed.{IsGoalFree, state_in}
 use Rattle.hv_replay.specs.Working.Following.{StaysListed}
 use Rattle.hv_replay.specs.Logs.{LogEntry, SearchLog, StandsInLog}
-use Rattle.hv_replay.specs.Working.Waiting.{AreWaiting, IsIn}
+use Rattle.hv_replay.specs.Working.Waiting.{AreWaiting, IsWaitingIn}
 use Rattle.hv_replay.proofs.Followed.{same_entry}
 
 -- a list has all of these atoms exactly where its state has
@@ -45,7 +45,7 @@ goal_free task log place x stands expanded false same = (
 )
 
 -- the initial state is looked up by its list
-pub start_found : (task : Strips) (held : List ℕ) (set : Listing) → AreBelow (atoms task) held
+pub start_found : (task : Strips) (held : List ℕ) (set : ListedStates) → AreBelow (atoms task) held
     → held ≡ task.start → set.atoms ≡ atoms task
     → (found : Bool) → ((state : List Bool) → length state ≡ set.atoms
     → IsSetOf (names_atom held) state → found ≡ in_listing set state)
@@ -66,66 +66,68 @@ exit_more P bound old new upto before here small =
           λ holds. before (omega arith) (subst P same holds)
     ]
 
-module _ (task : Strips) (set : Listing) (held : List ℕ) (below : AreBelow (atoms task) held) where
-  abbrev state : List Bool
-  state = state_of (atoms task) held
+module _ (task : Strips) (set : ListedStates) (held : List ℕ) (below : AreBelow (atoms task) held)
+  where
+    abbrev state : List Bool
+    state = state_of (atoms task) held
 
-  module _ (number : ℕ) (action : Action) (named : slice_get task.actions number ≡ Some action)
-      (over : IsOver (atoms task) action) where
-    same_action : (a : Action) → slice_get task.actions number ≡ Some a → action ≡ a
-    same_action a at = let f : ◌≡◌ {A = Option Action} (Some action) (Some a) = sym named ∙ at in cc
+    module _ (number : ℕ) (action : Action) (named : slice_get task.actions number ≡ Some action)
+        (over : IsOver (atoms task) action) where
+      same_action : (a : Action) → slice_get task.actions number ≡ Some a → action ≡ a
+      same_action a at = let f : ◌≡◌ {A = Option Action} (Some action) (Some a) = sym named ∙ at in cc
 
-    -- an action whose precondition isn't held leads nowhere
-    pub stays_put : (All (λ p. has_atom state p ≡ true) action.pre → ⊥)
-        → StaysListed task set state number
-    stays_put none = λ a at can.
-        let no : has_all action.pre state ≡ false =
-        false_from_ne_true (has_all action.pre state)
-        (λ yes. none ((has_all-Decides action.pre state).0 yes)) in
-        let f : false ≡ true = sym no ∙ (ap (λ (x : Action). applicable x state) (same_action a at)
-        ∙ can) in absurd cc
+      -- an action whose precondition isn't held leads nowhere
+      pub stays_put : (All (λ p. has_atom state p ≡ true) action.pre → ⊥)
+          → StaysListed task set state number
+      stays_put none = λ a at can.
+          let no : has_all action.pre state ≡ false =
+          false_from_ne_true (has_all action.pre state)
+          (λ yes. none ((has_all-Decides action.pre state).0 yes)) in
+          let f : false ≡ true = sym no ∙ (ap (λ (x : Action). applicable x state) (same_action a at)
+          ∙ can) in absurd cc
 
-    -- the result of another is looked up
-    pub stays_listed : set.atoms ≡ atoms task → All (λ p. has_atom state p ≡ true) action.pre
-        → (found : Bool)
-        → ((s : List Bool) → length s ≡ set.atoms → IsSetOf (is_after action held) s
-        → found ≡ in_listing set s)
-        → (found ≡ true) ↔ StaysListed task set state number
-    stays_listed size all found tells =
-        let stands = stands_after task action held below over in
-        let is : found ≡ in_listing set (successor action state) = tells (successor action state)
-        (stands.of_task ∙ sym size) stands.same in (
-          λ yes a at can. subst (λ (x : Action). in_listing set (successor x state) ≡ true)
-              (same_action a at) (sym is ∙ yes),
-          λ stays. is ∙ stays action named ((has_all-Decides action.pre state).1 all),
-        )
+      -- the result of another is looked up
+      pub stays_listed : set.atoms ≡ atoms task → All (λ p. has_atom state p ≡ true) action.pre
+          → (found : Bool)
+          → ((s : List Bool) → length s ≡ set.atoms → IsSetOf (is_after action held) s
+          → found ≡ in_listing set s)
+          → (found ≡ true) ↔ StaysListed task set state number
+      stays_listed size all found tells =
+          let stands = stands_after task action held below over in
+          let is : found ≡ in_listing set (successor action state) = tells (successor action state)
+          (stands.of_task ∙ sym size) stands.same in (
+            λ yes a at can. subst (λ (x : Action). in_listing set (successor x state) ≡ true)
+                (same_action a at) (sym is ∙ yes),
+            λ stays. is ∙ stays action named ((has_all-Decides action.pre state).1 all),
+          )
 
-  -- an atom that the state has stands in the list
-  held_at : (p : ℕ) → has_atom state p ≡ true → (i : ℕ) × (i < length held) × (get_or held i 0 ≡ p)
-  held_at p has =
-      elim (cases_lt p (atoms task)) [
-        | inl less ↦
-            let w = (names_atom-Decides held p).0
-            (sym (has_atom-state_of (atoms task) held p less) ∙ has) in
-            (w.0, w.1, get_or_default held w.0 0 p w.1 ∙ w.2)
-        | inr past ↦
-            let f : true ≡ false = sym has ∙ has_atom_past state p
-            (omega (arith, length-state_of (atoms task) held)) in absurd cc
-      ]
+    -- an atom that the state has is in the list
+    held_at : (p : ℕ) → has_atom state p ≡ true → (i : ℕ) × (i < length held) × (get_or held i 0 ≡ p)
+    held_at p has =
+        elim (cases_lt p (atoms task)) [
+          | inl less ↦
+              let w = (names_atom-Decides held p).0
+              (sym (has_atom-state_of (atoms task) held p less) ∙ has) in
+              (w.0, w.1, get_or_default held w.0 0 p w.1 ∙ w.2)
+          | inr past ↦
+              let f : true ≡ false = sym has ∙ has_atom_past state p
+              (omega (arith, length-state_of (atoms task) held)) in absurd cc
+        ]
 
-  -- the actions in the rows of the held atoms, and in the last row, are all that may be applicable
-  pub all_asked : (rows : List (Vec ℕ)) → AreWaiting (atoms task) task.actions rows → (least : ℕ)
-      → ((k : ℕ) → IsIn rows (atoms task) k → k < least → StaysListed task set state k)
-      → ((i : ℕ) → i < length held → (k : ℕ) → IsIn rows (get_or held i 0) k → k < least
-      → StaysListed task set state k)
-      → (k : ℕ) → k < least → StaysListed task set state k
-  all_asked rows waits least last each k less = λ a at can.
-      elim (waits.each k a at) [
-        | inl w ↦
-            let has : has_atom state w.0 ≡ true =
-            All-contains (λ p. has_atom state p ≡ true) a.pre w.0
-            ((has_all-Decides a.pre state).0 can) w.1 in
-            let place = held_at w.0 has in
-            each place.0 place.1 k (subst (λ p. IsIn rows p k) (sym place.2) w.2) less a at can
-        | inr row ↦ last k row less a at can
-      ]
+    -- the actions in the rows of the held atoms, and in the last row, are all that may be applicable
+    pub all_asked : (rows : List (Vec ℕ)) → AreWaiting (atoms task) task.actions rows → (least : ℕ)
+        → ((k : ℕ) → IsWaitingIn rows (atoms task) k → k < least → StaysListed task set state k)
+        → ((i : ℕ) → i < length held → (k : ℕ) → IsWaitingIn rows (get_or held i 0) k → k < least
+        → StaysListed task set state k)
+        → (k : ℕ) → k < least → StaysListed task set state k
+    all_asked rows waits least last each k less = λ a at can.
+        elim (waits.each k a at) [
+          | inl w ↦
+              let has : has_atom state w.0 ≡ true =
+              All-contains (λ p. has_atom state p ≡ true) a.pre w.0
+              ((has_all-Decides a.pre state).0 can) w.1 in
+              let place = held_at w.0 has in
+              each place.0 place.1 k (subst (λ p. IsWaitingIn rows p k) (sym place.2) w.2) less a at
+              can
+          | inr row ↦ last k row less a at can
+        ]

@@ -21,9 +21,10 @@ use Rattle.hv_lines.specs.Numbering.{IsTable, expr_at}
 use Rattle.hv_lines.specs.Queries.{listed_in, listed_of, operand_of, query_of, which_at}
 use Rattle.hv_lines.specs.Queries.{PassesBudget}
 use Rattle.hv_lines.specs.Setting.{Setting}
-use Rattle.hv_lines.specs.Shapes.{AskingsRise, HasSides, IsAsked, IsOfFamily, IsQuestion, Question}
+use Rattle.hv_lines.specs.Shapes.{AskingsRise, HasSides, IsAsked, IsOfFamily, IsQuestion}
+use Rattle.hv_lines.specs.Shapes.{QuestionState}
 use Rattle.hv_lines.specs.Shapes.{asks_sides_after, family_of}
-use Rattle.hv_lines.specs.declared.family.FormulaFamily.TheVariants as F
+use Rattle.hv_lines.specs.declared.formula_family.FormulaFamily.TheVariants as F
 use Rattle.hv_lines.specs.declared.line.Constant.TheVariants as C
 use Rattle.hv_lines.specs.declared.line.Expr.{Expr}
 use Rattle.hv_lines.specs.declared.line.Expr.TheVariants as E
@@ -126,7 +127,7 @@ start_anchors lines set at goal =
     let e : true ≡ false = ap is_goal_which same in cc (e)
 
 -- what is asked: the sets on the left before the action, and those on the right as the word says
-abbrev pub listed_question : Word → List ℕ → List ℕ → Option ℕ → Question
+abbrev pub listed_question : Word → List ℕ → List ℕ → Option ℕ → QuestionState
 listed_question word lefts rights acts = record {
   family = F.States;
   positive = asked_all false lefts;
@@ -152,7 +153,7 @@ module _ (setting : Setting) (lines : List Line) (table : IsTable lines) (id lef
     (some : (x : ℕ) × (Contains lefts x ⊎ Contains rights x) × IsOfFamily lines F.States x)
     (anchor : (x : ℕ) × Contains lefts x × (which_at lines x ≡ S.Goal → ⊥))
     (within : (x : ℕ) → Contains lefts x → states_at lines x ≤ setting.budget) where
-  abbrev q : Question
+  abbrev q : QuestionState
   q = listed_question word lefts rights acts
 
   asked_listed : (sign : Bool) (a : ℕ × Bool) → IsAsked lines word left right sign a

@@ -7,23 +7,23 @@ use Rattle.hv_task.specs.State.{applicable, state_of, successor}
 use Rattle.hv_task.specs.Strips.{Strips}
 use Rattle.hv_sets.specs.Truth.{InStates, in_states}
 use Rattle.hv_sets.proofs.Listed.{in_states-Decides}
-use Rattle.hv_explicit.specs.Listing.{Listing, in_listing}
+use Rattle.hv_explicit.specs.ListedStates.{ListedStates, in_listing}
 use Rattle.hv_replay.specs.Closed.{IsFirstWithout, IsGoalFree, IsLogged, LeadsOn, state_in}
 use Rattle.hv_replay.specs.Working.Following.{HasExpanded, ListsLog, StaysListed}
 use Rattle.hv_replay.specs.Logs.{LogEntry, SearchLog, StandsInLog}
 
--- one entry stands at a place
+-- one entry is at a place
 pub same_entry : (log : SearchLog) (place : ℕ) (a b : LogEntry) → StandsInLog log place a
     → StandsInLog log place b → a ≡ b
 same_entry log place a b p q = let e : ◌≡◌ {A = Option LogEntry} (Some a) (Some b) = sym p ∙ q in cc
 
-atoms_of_listing : (n : ℕ) (states : List (List ℕ)) (set : Listing) (state : List Bool)
+atoms_of_listing : (n : ℕ) (states : List (List ℕ)) (set : ListedStates) (state : List Bool)
     → set.atoms ≡ n → set.states ≡ states
     → in_listing set state ≡ in_states n states state
 atoms_of_listing n states set state a s = ap (λ m. in_states m set.states state) a
     ∙ ap (λ ss. in_states n ss state) s
 
-module _ (log : SearchLog) (set : Listing) (are : ListsLog log set) (state : List Bool) where
+module _ (log : SearchLog) (set : ListedStates) (are : ListsLog log set) (state : List Bool) where
   abbrev states : List (List ℕ)
   states = map (λ (entry : LogEntry). entry.state) log.entries
 
@@ -71,7 +71,7 @@ module _ (log : SearchLog) (set : Listing) (are : ListsLog log set) (state : Lis
 
 module _ (task : Strips) (log : SearchLog) (place : ℕ) (x : LogEntry)
     (stands : StandsInLog log place x) where
-  module _ (set : Listing) (are : ListsLog log set) (holds : x.expanded ≡ true) where
+  module _ (set : ListedStates) (are : ListsLog log set) (holds : x.expanded ≡ true) where
     pub leads_from : (number : ℕ) → StaysListed task set (state_in log x) number
         → LeadsOn task log place number
     leads_from number stays = λ e a at more is can.
@@ -110,7 +110,7 @@ module _ (task : Strips) (log : SearchLog) where
   leads_all all place number = λ e a at holds is can. all place number
       (slice_get_within log.entries place e at) e a at holds is can
 
-  pub not_listed : (set : Listing) (state : List Bool) → ListsLog log set
+  pub not_listed : (set : ListedStates) (state : List Bool) → ListsLog log set
       → in_listing set state ≡ false → IsLogged log state → ⊥
   not_listed set state are fails holds = let f : false ≡ true = sym fails
       ∙ from_listed log set are state holds in absurd cc

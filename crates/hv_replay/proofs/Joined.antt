@@ -10,7 +10,7 @@ use Rattle.std.proofs.lemmas.List.Sums.{sum_by-cons, sum_by_push}
 use Rattle.hv_bytes.specs.FirstLine.{last_byte}
 use Rattle.hv_bytes.specs.Files.{Names, bytes_of}
 use Rattle.hv_bytes.specs.LineCuts.{lines_of}
-use Rattle.hv_bytes.specs.Pieces.{Piece, as_pieces, fits_limits, pieces_after, pieces_of}
+use Rattle.hv_bytes.specs.Pieces.{PieceBytes, as_pieces, fits_limits, pieces_after, pieces_of}
 use Rattle.hv_bytes.specs.declared.cutting.Limits.{Limits}
 use Rattle.hv_bytes.proofs.WholeText.{fits_from-true}
 use Rattle.hv_grammar.specs.Parsers.{Outcome, after, done_or, end_of_input, followed, long}
@@ -18,7 +18,7 @@ use Rattle.hv_grammar.specs.Parsers.{many_till, parsed, pure, refused, ◌>>◌}
 use Rattle.hv_grammar.specs.Working.Reads.{IsReadAs}
 use Rattle.hv_replay.specs.LogFile.{end_line, log_file, log_line}
 use Rattle.hv_replay.specs.Logs.{AreFew, IsLogEntry, LogEntry, SearchLog, entry_line, listed_bytes}
-use Rattle.hv_replay.specs.LogText.{AreTextOf, IsReadFrom, log_limits}
+use Rattle.hv_replay.specs.LogText.{AreLogTextOf, IsLogReadFrom, log_limits}
 use Rattle.hv_replay.specs.declared.fault.LogRefusal.{LogRefusal}
 use Rattle.hv_replay.specs.declared.fault.LogRefusal.TheVariants as R
 use Rattle.hv_replay.proofs.Passed.{end_is, end_said, entry_more, entry_said, few_first}
@@ -28,7 +28,7 @@ abbrev lines_from : List LogEntry → List (List ℕ)
 lines_from entries = map entry_line entries ++ end_line ∷ []
 
 -- what follows a line of a log, by what is said of it
-abbrev behind : ℕ → List LogEntry → ℕ → List Piece → Result (Option (List LogEntry)) LogRefusal
+abbrev behind : ℕ → List LogEntry → ℕ → List PieceBytes → Result (Option (List LogEntry)) LogRefusal
     → Outcome LogRefusal (List LogEntry)
 behind atoms entries n ps said =
     followed n (done_or entries n ps (λ more. many_till R.Place (log_line atoms) more n ps)) said
@@ -55,8 +55,8 @@ module _ (atoms : ℕ) where
       (let e : n + 1 + length rest + 1 ≡ n + suc (length rest) + 1 = omega arith in e)
 
   -- a text of a log is read as this log
-  pub text_is_read : (pieces : List Piece) (log : SearchLog) → atoms < 10 ^ 18
-      → AreTextOf atoms pieces log
+  pub text_is_read : (pieces : List PieceBytes) (log : SearchLog) → atoms < 10 ^ 18
+      → AreLogTextOf atoms pieces log
       → log_file atoms 0 pieces ≡ parsed log (length log.entries + 1) []
   text_is_read pieces log small (over, text) =
       let each = subst (λ n. All (IsLogEntry n) log.entries) over text.legal.each in
@@ -70,8 +70,8 @@ module _ (atoms : ℕ) where
   -- And back: what comes of the pieces is the log of which they are the text.
 
   -- entries were read behind the first ones
-  record Reading (front : List LogEntry) (ps : List Piece) (entries : List LogEntry)
-      (qs : List Piece) (rest : List LogEntry) : Type 0
+  record EntriesRead (front : List LogEntry) (ps : List PieceBytes) (entries : List LogEntry)
+      (qs : List PieceBytes) (rest : List LogEntry) : Type 0
     where
       pub entries_are : entries ≡ front ++ rest
       pub each : All (IsLogEntry atoms) rest
@@ -79,16 +79,16 @@ module _ (atoms : ℕ) where
       pub pieces : ps ≡ as_pieces (lines_from rest) ++ qs
 
   -- the same of any first entries
-  abbrev Reads : List Piece → Type 0
+  abbrev Reads : List PieceBytes → Type 0
   Reads ps =
-      (front entries : List LogEntry) (n m : ℕ) (qs : List Piece) → AreFew front
+      (front entries : List LogEntry) (n m : ℕ) (qs : List PieceBytes) → AreFew front
       → many_till R.Place (log_line atoms) front n ps ≡ parsed entries m qs
-      → (rest : List LogEntry) × Reading front ps entries qs rest
+      → (rest : List LogEntry) × EntriesRead front ps entries qs rest
 
-  turn_is : (front entries : List LogEntry) (n m : ℕ) (line : List ℕ) (ps qs : List Piece)
+  turn_is : (front entries : List LogEntry) (n m : ℕ) (line : List ℕ) (ps qs : List PieceBytes)
       (said : Result (Option (List LogEntry)) LogRefusal) → Reads ps → AreFew front
       → log_line atoms front line ≡ said → behind atoms front n ps said ≡ parsed entries m qs
-      → (rest : List LogEntry) × Reading front (Some line ∷ ps) entries qs rest
+      → (rest : List LogEntry) × EntriesRead front (Some line ∷ ps) entries qs rest
   turn_is front entries n m line ps qs (Err b) more few is e = absurd cc
   turn_is front entries n m line ps qs (Ok None) more few is e =
       let same : front ≡ entries = cc in
@@ -116,19 +116,19 @@ module _ (atoms : ℕ) where
         },
       )
 
-  lines_are : (ps : List Piece) → Reads ps
+  lines_are : (ps : List PieceBytes) → Reads ps
   lines_are [] front entries n m qs few e = absurd cc
   lines_are (None ∷ ps) front entries n m qs few e = absurd cc
   lines_are (Some line ∷ ps) front entries n m qs few e =
       turn_is front entries (n + 1) m line ps qs (log_line atoms front line) (lines_are ps) few refl
       e
 
-  same_log : (a b : SearchLog) (n m : ℕ) (ps qs : List Piece)
+  same_log : (a b : SearchLog) (n m : ℕ) (ps qs : List PieceBytes)
       → ◌≡◌ {A = Outcome LogRefusal SearchLog} (parsed a n ps) (parsed b m qs) → a ≡ b
   same_log a b n m ps qs e = cc
 
   nothing_behind : (o : Outcome LogRefusal (List LogEntry)) (log : SearchLog) (n : ℕ)
-      (rest : List Piece)
+      (rest : List PieceBytes)
       → after o (λ entries. end_of_input R.Place
       >> pure (record { atoms = atoms; entries = entries })) ≡ parsed log n rest
       → (m : ℕ) × (o ≡ parsed log.entries m []) × (log.atoms ≡ atoms)
@@ -174,7 +174,7 @@ fit_more limits earlier g given last (inr more) =
 
 fit_first : (limits : Limits) (earlier : ℕ) (g l : List ℕ) (given lines : List (List ℕ)) (t : Bool)
     → fits_limits limits earlier (length l) ≡ t
-    → ◌≡◌ {A = List Piece} (Some g ∷ as_pieces given)
+    → ◌≡◌ {A = List PieceBytes} (Some g ∷ as_pieces given)
     (cond t (Some l ∷ pieces_after limits (earlier + (length l + 1)) lines) (None ∷ []))
     → (as_pieces given ≡ pieces_after limits (earlier + (length l + 1)) lines
     → Fit limits (earlier + (length l + 1)) given)
@@ -208,9 +208,9 @@ few_bytes bytes entries e =
       | inr fit ↦ omega arith
     ]
 
-pub read_is_text : (atoms : ℕ) (bytes : List ℕ) (log : SearchLog) (n : ℕ) (rest : List Piece)
+pub read_is_text : (atoms : ℕ) (bytes : List ℕ) (log : SearchLog) (n : ℕ) (rest : List PieceBytes)
     → log_file atoms 0 (pieces_of log_limits bytes) ≡ parsed log n rest
-    → AreTextOf atoms (pieces_of log_limits bytes) log
+    → AreLogTextOf atoms (pieces_of log_limits bytes) log
 read_is_text atoms bytes log n rest e =
     let pieces = pieces_of log_limits bytes in
     let o = nothing_behind atoms (many_till R.Place (log_line atoms) [] 0 pieces) log n rest e in
@@ -236,8 +236,8 @@ pub answers_log : (files : Option Names) (name : List ℕ) (atoms : ℕ) (log re
     → log ≡ read
     → IfSome files (λ f. IsReadAs (log_file atoms 0 (pieces_of log_limits (bytes_of f name)))
     (Ok read))
-    → IfSome files (λ f. IsReadFrom atoms (bytes_of f name) (Ok log))
+    → IfSome files (λ f. IsLogReadFrom atoms (bytes_of f name) (Ok log))
 answers_log None name atoms log read same h = tt
 answers_log (Some f) name atoms log read same h =
-    subst (AreTextOf atoms (pieces_of log_limits (bytes_of f name))) (sym same)
+    subst (AreLogTextOf atoms (pieces_of log_limits (bytes_of f name))) (sym same)
     (read_is_text atoms (bytes_of f name) read h.0 h.1 h.2)

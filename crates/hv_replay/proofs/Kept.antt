@@ -7,7 +7,7 @@ use Rattle.std.proofs.lemmas.List.{map-append}
 use Rattle.std.proofs.lemmas.List.Elements.{All-map, All-weaker, filter-append}
 use Rattle.std.proofs.lemmas.Option.{slice_get_cases}
 use Rattle.hv_task.specs.State.{AreBelow}
-use Rattle.hv_explicit.specs.Listing.{AreStates}
+use Rattle.hv_explicit.specs.ListedStates.{AreStates}
 use Rattle.hv_replay.specs.Expanded.{expanded_in}
 use Rattle.hv_replay.specs.Logs.{IsAtomSet, IsLog, LogEntry, SearchLog, StandsInLog}
 use Rattle.hv_replay.specs.Working.Logs.{entries_of}

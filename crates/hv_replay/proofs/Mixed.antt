@@ -14,8 +14,8 @@ use Rattle.hv_lines.specs.Numbering.{IsTable, expr_at}
 use Rattle.hv_lines.specs.Setting.{Setting}
 use Rattle.hv_lines.specs.Shapes.{AreTwo, IsLiteralOf, OfTwo, family_of}
 use Rattle.hv_lines.specs.Verdicts.{IsVerdict}
-use Rattle.hv_lines.specs.declared.family.FormulaFamily.{FormulaFamily}
-use Rattle.hv_lines.specs.declared.family.FormulaFamily.TheVariants as F
+use Rattle.hv_lines.specs.declared.formula_family.FormulaFamily.{FormulaFamily}
+use Rattle.hv_lines.specs.declared.formula_family.FormulaFamily.TheVariants as F
 use Rattle.hv_lines.specs.declared.line.Expr.{Expr}
 use Rattle.hv_lines.specs.declared.line.Expr.TheVariants as E
 use Rattle.hv_lines.specs.declared.line.Line.{Line}

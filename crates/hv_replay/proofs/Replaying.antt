@@ -1,4 +1,4 @@
--- How a replay goes on, entry by entry, and what stands at its end.
+-- How a replay goes on, entry by entry, and what is at its end.
 use Rattle.std.proofs.Common.{◌≡◌, ℕ, zero, suc, ◌+◌, ◌<◌, ◌≤◌, ◌∙◌, ◌⊎◌, ◌↔◌, ◌++◌, Bool, true}
 use Rattle.std.proofs.Common.{false, List, [], ◌∷◌, Option, Some, Result, Ok, Err, IfErr, IfOk}
 use Rattle.std.proofs.Common.{OnOk, cond, inl, inr, length, map, not, sym, ap, subst, take, arith}

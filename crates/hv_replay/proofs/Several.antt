@@ -77,7 +77,7 @@ pub written_back : {X : Type 0} (n : ℕ) (new rest : List X) → length new ≡
 written_back n new rest size = take-append-le n new rest (omega (arith, size))
     ∙ take_all n new (omega (arith, size))
 
--- what is told of a state is told of the same one by another list
+-- what is said of a state is told of the same one by another list
 pub covered_at : {E : Type 0} (r : Result Bool E) (Q : List ℕ → Type 0) (x y : List ℕ)
     (P : Type 0) → x ≡ y → IfOk r (λ b. b ≡ true → Q x) → IfOk r (λ b. b ≡ true → P → Q y)
 covered_at (Ok b) Q x y P e h = λ is _. subst Q e (h is)

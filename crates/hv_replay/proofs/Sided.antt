@@ -17,7 +17,7 @@ use Rattle.hv_lines.specs.Queries.{which_at}
 use Rattle.hv_lines.specs.Setting.{Setting}
 use Rattle.hv_lines.specs.Shapes.{HasSides, IsAndLeaf, IsAsked, IsLeftLeaf, IsLiteralOf, IsOfFamily}
 use Rattle.hv_lines.specs.Shapes.{IsOrLeaf, and_parts, or_parts, alone}
-use Rattle.hv_lines.specs.declared.family.FormulaFamily.TheVariants as F
+use Rattle.hv_lines.specs.declared.formula_family.FormulaFamily.TheVariants as F
 use Rattle.hv_lines.specs.declared.line.Expr.TheVariants as E
 use Rattle.hv_lines.specs.declared.line.Line.{Line}
 use Rattle.hv_lines.specs.declared.line.Line.TheVariants as L

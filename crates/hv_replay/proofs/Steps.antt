@@ -85,7 +85,7 @@ module _ (n : ℕ) where
   picked_in (x ∷ entries) (suc place) entry at is = stays_in x entries (state_of n entry.state)
       x.expanded (picked_in entries place entry at is)
 
--- an expanded state stands in the log as one
+-- an expanded state is in the log as one
 pub expanded_out : (log : SearchLog) (state : List Bool) → IsExpanded log state
     → (place : ℕ) × (entry : LogEntry) × StandsInLog log place entry × (entry.expanded ≡ true)
     × (state_in log entry ≡ state)

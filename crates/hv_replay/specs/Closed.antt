@@ -4,7 +4,7 @@ use Rattle.std.specs.Prelude.{◌≡◌, ◌<◌, ◌+◌, ℕ, Bool, true, fals
 use Rattle.hv_task.specs.declared.action.Action.{Action}
 use Rattle.hv_task.specs.State.{applicable, state_of, successor}
 use Rattle.hv_task.specs.Strips.{Strips, is_goal, start_state}
-use Rattle.hv_lines.specs.Meaning.{StateSet}
+use Rattle.hv_lines.specs.Meaning.{SetOfStates}
 use Rattle.hv_replay.specs.Logs.{LogEntry, SearchLog, StandsInLog}
 use Rattle.hv_replay.specs.declared.hole.ReplayFault.{ReplayFault}
 use Rattle.hv_replay.specs.declared.hole.ReplayFault.TheVariants as H
@@ -33,7 +33,7 @@ LeadsOn task log place number =
     → IsLogged log (successor action (state_in log entry))
 
 -- a pruned state at this place is covered
-abbrev pub IsJustified : SearchLog → StateSet → ℕ → Type 0
+abbrev pub IsJustified : SearchLog → SetOfStates → ℕ → Type 0
 IsJustified log covered place =
     (entry : LogEntry) → StandsInLog log place entry → entry.expanded ≡ false
     → covered (state_in log entry)
@@ -47,7 +47,7 @@ pub record IsSearchFollowed (task : Strips) (log : SearchLog) : Type 0 where
   pub leads : (place number : ℕ) → LeadsOn task log place number
 
 -- the log is closed: it is followed, and each pruned state is covered
-pub record IsClosed (task : Strips) (log : SearchLog) (covered : StateSet) : Type 0 where
+pub record IsClosed (task : Strips) (log : SearchLog) (covered : SetOfStates) : Type 0 where
   pub followed : IsSearchFollowed task log
   pub justified : (place : ℕ) → IsJustified log covered place
 
@@ -57,7 +57,7 @@ IsFirstWithout Holds number = (Holds number → ⊥) × ((before : ℕ) → befo
 
 -- the first hole of a log: the first sentence that fails, in this order, with its first line; and
 -- for an open action the least one there
-abbrev pub IsFirstHole : Strips → SearchLog → StateSet → ReplayFault → Type 0
+abbrev pub IsFirstHole : Strips → SearchLog → SetOfStates → ReplayFault → Type 0
 IsFirstHole task log covered H.NoInitial = IsLogged log (start_state task) → ⊥
 IsFirstHole task log covered (H.GoalExpanded line) =
     IsLogged log (start_state task)

@@ -15,7 +15,7 @@ pub record SearchLog : Type 0 where
   pub atoms : ℕ
   pub entries : List LogEntry
 
--- the entry stands at this place
+-- the entry is at this place
 abbrev pub StandsInLog : SearchLog → ℕ → LogEntry → Type 0
 StandsInLog log place entry = slice_get log.entries place ≡ Some entry
 

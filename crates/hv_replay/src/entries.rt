@@ -5,12 +5,12 @@ ghost use Rattle.hv_grammar.specs.Working.Reads.{placed};
 ghost use Rattle.hv_replay.specs.LogFile.{log_line, with_entry};
 ghost use Rattle.hv_replay.specs.Logs.{IsAtomSet, IsLog, listed_bytes};
 ghost use Rattle.hv_replay.specs.Working.Logs.{entries_of};
-ghost use Rattle.hv_replay.specs.Working.Reading.{HoldsLog, IsReading, IsSaid, begun_entry};
+ghost use Rattle.hv_replay.specs.Working.Reading.{HoldsLog, IsReadingLog, IsSaid, begun_entry};
 ghost use Rattle.hv_replay.specs.Working.Reading.{entries_in, going_on};
 
-use crate::counts::Counts;
 use crate::fault::LogRefusal;
-use crate::line::{kind_of_letter, put_atoms};
+use crate::log_counts::Counts;
+use crate::log_line::{kind_of_letter, put_atoms};
 use hv_bytes::split_field;
 use hv_grammar::ParseFault;
 use hv_sets::{StateList, StateListBuilder};
@@ -30,7 +30,7 @@ impl Entries {
     /// No entry, of a task with so many atoms.
     pub(crate) fn new(alloc: Global, atoms: u32) -> Entries
         requires { atoms ≤ 65535 }
-        ensures ready { IsReading result }
+        ensures ready { IsReadingLog result }
         ensures atoms { result.atoms ≡ atoms }
         ensures none { entries_in result ≡ [] }
     {
@@ -52,11 +52,11 @@ impl Entries {
         line: &[u8],
         number: u64,
     ) -> Result<bool, ParseFault<LogRefusal>>
-        requires ready { IsReading self.old }
+        requires ready { IsReadingLog self.old }
         requires room { listed_bytes (entries_in self.old) + length line.now ≤ 8388608 }
         ensures said { IsSaid number (log_line self.old.atoms (entries_in self.old) line.now)
             (going_on self.new result) }
-        ensures ready { OnOk result (IsReading self.new) }
+        ensures ready { OnOk result (IsReadingLog self.new) }
         ensures atoms { OnOk result (self.new.atoms ≡ self.old.atoms) }
         ensures same { result ≡ Ok false → entries_in self.new ≡ entries_in self.old }
     {
@@ -83,7 +83,7 @@ impl Entries {
         ensures said { IsSaid number
             (with_entry (entries_in self.old) (Some (begun_entry expanded self.old)))
             (placed (Some (entries_in self.new)) result) }
-        ensures ready { OnOk result (IsReading self.new) }
+        ensures ready { OnOk result (IsReadingLog self.new) }
         ensures atoms { OnOk result (self.new.atoms ≡ self.old.atoms) }
     {
         match self.counts.with(expanded) {
@@ -100,7 +100,7 @@ impl Entries {
 
     /// The states, and for each whether it is an expanded one.
     pub(crate) fn lists(self) -> (StateList, Vec<bool>)
-        requires { IsReading self }
+        requires { IsReadingLog self }
         ensures log { IsLog self.atoms (entries_of result.1.items result.0) }
         ensures same { entries_of result.1.items result.0 ≡ entries_in self }
         ensures size { length result.1.items ≡ length result.0 }

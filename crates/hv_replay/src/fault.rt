@@ -3,13 +3,13 @@
 ghost use Rattle.std.specs.Prelude.{◌≡◌};
 ghost use Rattle.hv_replay.specs.declared.fault.LogFault.TheVariants as F;
 ghost use Rattle.hv_replay.specs.LogFile.{log_fault};
-ghost use Rattle.hv_replay.specs.Words.{limit_word};
+ghost use Rattle.hv_replay.specs.Words.{log_limit_word};
 
 use hv_grammar::ParseFault;
 use std::alloc::AllocError;
 use thiserror::Error;
 
-/// A limit that a line of a log passes.
+/// A limit that a line of a log exceeds.
 #[derive(Clone, Copy, Debug, PartialEq, Eq)]
 pub enum LogLimit {
     /// The line ends past byte 8,388,608 of the log, whatever its form.
@@ -25,7 +25,7 @@ pub enum LogLimit {
 pub enum LogRefusal {
     /// No line of a log is there: neither a state nor the end, or a line behind the end.
     Place,
-    /// The line is that of a state, and passes this limit.
+    /// The line is that of a state, and exceeds this limit.
     Limit(LogLimit),
 }
 
@@ -36,7 +36,7 @@ pub enum LogFault {
     /// No line of a log is there: neither a state nor the end, or a line behind the end.
     #[error("line {0} isn't what the log has there")]
     Place(u64),
-    /// The line passes a limit.
+    /// The line exceeds a limit.
     #[error("line {0} passes a limit")]
     Limit(u64, LogLimit),
     /// The shelf failed.
@@ -72,7 +72,7 @@ impl From<ParseFault<LogRefusal>> for LogFault {
 impl LogLimit {
     /// The word that names the limit in a refusal.
     pub fn word(&self) -> &'static str
-        ensures { result.now ≡ limit_word self.now }
+        ensures { result.now ≡ log_limit_word self.now }
     {
         match self {
             LogLimit::Bytes => "bytes",

@@ -3,16 +3,16 @@
 
 mod boxes;
 mod closing;
-mod counts;
 mod entries;
 pub mod fault;
 pub mod hole;
 pub mod laws;
-mod line;
 pub mod log;
+mod log_counts;
+mod log_line;
+pub mod log_proof;
 mod open;
 mod origin;
-pub mod proof;
 mod pruned;
 pub mod read;
 mod waiting;
@@ -21,5 +21,5 @@ pub use fault::{LogFault, LogLimit, LogRefusal};
 pub use hole::ReplayFault;
 pub use laws::{one_answer, one_first_hole, text_by_lines};
 pub use log::Log;
-pub use proof::replay;
+pub use log_proof::replay;
 pub use read::read_log;

@@ -5,7 +5,7 @@ ghost use Rattle.std.specs.List.Sorted.{IsStrictlyIncreasing};
 ghost use Rattle.hv_task.specs.Strips.{atoms};
 ghost use Rattle.hv_replay.specs.Working.Following.{ListsLog};
 ghost use Rattle.hv_replay.specs.Logs.{IsAtomSet, IsLog, LogEntry, StandsInLog};
-ghost use Rattle.hv_replay.specs.Working.Reading.{IsReading, log_of};
+ghost use Rattle.hv_replay.specs.Working.Reading.{IsReadingLog, log_of};
 
 use crate::entries::Entries;
 use hv_explicit::Explicit;
@@ -43,7 +43,7 @@ impl Model for Log {
 impl Log {
     /// The log of these entries, of states of the task.
     pub(crate) fn new(task: &Task, entries: Entries) -> Result<Log, AllocError>
-        requires ready { IsReading entries }
+        requires ready { IsReadingLog entries }
         requires atoms { entries.atoms ≡ atoms task.now }
         ensures { IfOk result (λ log. log ≡ log_of entries) }
     {

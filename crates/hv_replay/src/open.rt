@@ -8,7 +8,7 @@ ghost use Rattle.hv_replay.specs.Closed.{IsFirstWithout, LeadsOn};
 ghost use Rattle.hv_replay.specs.Logs.{IsAtomSet};
 ghost use Rattle.hv_replay.specs.Working.Following.{HasExpanded, IsOpen, LeadAllOn, StaysFrom};
 ghost use Rattle.hv_replay.specs.Working.Following.{StaysListed};
-ghost use Rattle.hv_replay.specs.Working.Waiting.{AreWaiting, IsIn};
+ghost use Rattle.hv_replay.specs.Working.Waiting.{AreWaiting, IsWaitingIn};
 
 use crate::log::Log;
 use crate::origin::Origin;
@@ -41,7 +41,7 @@ pub(crate) fn first_open(
 
 // The least action that leads from the entry at this place, where it is an expanded state, to a
 // state that isn't listed. From the entries at the places in `asked` every action leads on; each
-// place stands in the slot of its state, and a slot without one has the number of all entries.
+// place is in the slot of its state, and a slot without one has the number of all entries.
 // `state` is one to write to.
 fn open_action(
     task: &Task,
@@ -154,7 +154,7 @@ fn least_in(origin: &Origin<'_>, rows: &Vec<Vec<u32>>, place: u32, bound: u32) -
         rows.now.items }
     requires place { place ≤ atoms origin.now.task.now }
     ensures upto { result ≤ bound }
-    ensures stay { (action : ℕ) → IsIn rows.now.items place action → action < result
+    ensures stay { (action : ℕ) → IsWaitingIn rows.now.items place action → action < result
         → StaysFrom origin.now action }
     ensures exit { result < bound → StaysFrom origin.now result → ⊥ }
 {

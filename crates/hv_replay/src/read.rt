@@ -10,8 +10,8 @@ ghost use Rattle.hv_grammar.specs.Reads.{Reads};
 ghost use Rattle.hv_task.specs.Strips.{atoms};
 ghost use Rattle.hv_replay.specs.LogFile.{log_file, log_line};
 ghost use Rattle.hv_replay.specs.Logs.{listed_bytes};
-ghost use Rattle.hv_replay.specs.LogText.{IsReadFrom, log_limits};
-ghost use Rattle.hv_replay.specs.Working.Reading.{IsReading, as_entries, as_log, entries_in};
+ghost use Rattle.hv_replay.specs.LogText.{IsLogReadFrom, log_limits};
+ghost use Rattle.hv_replay.specs.Working.Reading.{IsReadingLog, as_entries, as_log, entries_in};
 ghost use Rattle.hv_replay.specs.Working.Reading.{going_on};
 ghost use Rattle.hv_replay.specs.declared.fault.LogRefusal.TheVariants as Refusal;
 
@@ -38,9 +38,9 @@ pub fn read_log<S: Shelf>(
 ) -> Result<Log, LogFault>
     requires { IsTrue (S.allows shelf.old name.now) }
 
-    // where the shelf tells what it holds
+    // where the source's bytes are known
     ensures read { IfSome (S.held shelf.old) (λ held.
-        IsReadFrom (atoms task.now) (bytes_of held name.now) result) }
+        IsLogReadFrom (atoms task.now) (bytes_of held name.now) result) }
     ensures atoms { IfOk result (λ log. log.atoms ≡ atoms task.now) }
 
     ensures held { S.held shelf.new ≡ S.held shelf.old }
@@ -71,7 +71,7 @@ fn whole<R: Source>(
     requires fresh { (R.position reader.old).lines ≡ no_lines log_limits }
     ensures reads { Reads (log_file atoms)
         (R.position reader.old) (R.position reader.new) (as_log result) }
-    ensures ready { IfOk result IsReading }
+    ensures ready { IfOk result IsReadingLog }
     ensures atoms { IfOk result (λ entries. entries.atoms ≡ atoms) }
 {
     let entries = entries(alloc, reader, atoms)?;
@@ -89,7 +89,7 @@ fn entries<R: Source>(
     requires fresh { (R.position reader.old).lines ≡ no_lines log_limits }
     ensures reads { Reads (many_till Refusal.Place (log_line atoms) [])
         (R.position reader.old) (R.position reader.new) (as_entries result) }
-    ensures ready { IfOk result IsReading }
+    ensures ready { IfOk result IsReadingLog }
     ensures atoms { IfOk result (λ entries. entries.atoms ≡ atoms) }
 {
     let mut entries = Entries::new(alloc, atoms);
@@ -104,11 +104,11 @@ fn next_entry<R: Source>(
 ) -> Result<bool, ParseFault<LogRefusal>>
     requires can { CanRead (R.position reader.old) }
     requires limits { (R.position reader.old).lines.limits ≡ log_limits }
-    requires ready { IsReading entries.old }
+    requires ready { IsReadingLog entries.old }
     requires bytes { listed_bytes (entries_in entries.old) ≤ (R.position reader.old).lines.earlier }
     ensures reads { Reads (line Refusal.Place (log_line entries.old.atoms (entries_in entries.old)))
         (R.position reader.old) (R.position reader.new) (going_on entries.new result) }
-    ensures ready { OnOk result (IsReading entries.new) }
+    ensures ready { OnOk result (IsReadingLog entries.new) }
     ensures atoms { OnOk result (entries.new.atoms ≡ entries.old.atoms) }
     ensures bytes { OnOk result (listed_bytes (entries_in entries.new)
         ≤ (R.position reader.new).lines.earlier) }

@@ -4,7 +4,7 @@ ghost use Rattle.std.specs.Prelude.{◌≡◌, ◌<◌, ◌≤◌, ◌+◌, [], 
 ghost use Rattle.std.specs.List.{Contains};
 ghost use Rattle.hv_task.specs.State.{AreBelow};
 ghost use Rattle.hv_task.specs.Strips.{atoms};
-ghost use Rattle.hv_replay.specs.Working.Waiting.{AreWaiting, IsIn, IsUnder, RowsBelow};
+ghost use Rattle.hv_replay.specs.Working.Waiting.{AreWaiting, IsWaitingIn, IsUnder, WaitingBelow};
 
 use hv_task::Task;
 use std::alloc::{AllocError, Global};
@@ -26,7 +26,7 @@ pub(crate) fn waiting(alloc: Global, task: &Task) -> Result<Vec<Vec<u32>>, Alloc
 // So many empty rows.
 fn empty_rows(alloc: Global, count: u32) -> Result<Vec<Vec<u32>>, AllocError>
     ensures size { IfOk result (λ rows. length rows.items ≡ count) }
-    ensures below { IfOk result (λ rows. (bound : ℕ) → RowsBelow bound rows.items) }
+    ensures below { IfOk result (λ rows. (bound : ℕ) → WaitingBelow bound rows.items) }
 {
     let mut rows = Vec::new(alloc);
     for place in 0..count {
@@ -47,10 +47,11 @@ fn enter(
     requires size { length rows.old.items ≡ atoms + 1 }
     requires below { AreBelow atoms places.now }
     ensures size { length rows.new.items ≡ length rows.old.items }
-    ensures keeps { OnOk result ((p k : ℕ) → IsIn rows.old.items p k → IsIn rows.new.items p k) }
+    ensures keeps { OnOk result ((p k : ℕ) → IsWaitingIn rows.old.items p k → IsWaitingIn
+        rows.new.items p k) }
     ensures under { OnOk result (IsUnder atoms places.now rows.new.items number) }
     ensures below { OnOk result ((bound : ℕ) → number < bound
-        → RowsBelow bound rows.old.items → RowsBelow bound rows.new.items) }
+        → WaitingBelow bound rows.old.items → WaitingBelow bound rows.new.items) }
 {
     match shortest(rows, places) {
         Some(place) => enter_one(rows, place, number),
@@ -79,10 +80,11 @@ fn shortest(rows: &Vec<Vec<u32>>, places: &[u32]) -> Option<u32>
 fn enter_one(rows: &mut Vec<Vec<u32>>, place: u32, number: u32) -> Result<(), AllocError>
     requires { place < length rows.old.items }
     ensures size { length rows.new.items ≡ length rows.old.items }
-    ensures keeps { OnOk result ((p k : ℕ) → IsIn rows.old.items p k → IsIn rows.new.items p k) }
-    ensures has { OnOk result (IsIn rows.new.items place number) }
+    ensures keeps { OnOk result ((p k : ℕ) → IsWaitingIn rows.old.items p k → IsWaitingIn
+        rows.new.items p k) }
+    ensures has { OnOk result (IsWaitingIn rows.new.items place number) }
     ensures below { OnOk result ((bound : ℕ) → number < bound
-        → RowsBelow bound rows.old.items → RowsBelow bound rows.new.items) }
+        → WaitingBelow bound rows.old.items → WaitingBelow bound rows.new.items) }
 {
     rows[place as usize].push(number)?;
     Ok(())

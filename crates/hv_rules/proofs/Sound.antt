@@ -21,7 +21,8 @@ use Rattle.hv_lines.specs.declared.line.Statement.TheVariants as T
 use Rattle.hv_lines.specs.declared.line.Word.{Word}
 use Rattle.hv_lines.specs.declared.line.Word.TheVariants as W
 use Rattle.hv_lines.specs.Numbering.{IsTable}
-use Rattle.hv_lines.specs.Meaning.{StateSet, ActionSet, IsAfter, IsBefore, holds, acts_of, sets_of}
+use Rattle.hv_lines.specs.Meaning.{SetOfStates, ActionSet, IsAfter, IsBefore, holds, acts_of}
+use Rattle.hv_lines.specs.Meaning.{sets_of}
 use Rattle.hv_lines.specs.Meaning.{IsTrueStatement}
 use Rattle.hv_lines.specs.Rules.{IsExpr, IsAll, Says, Fits, FitsEd, FitsUd, FitsSd, FitsPg, FitsPi}
 use Rattle.hv_lines.specs.Rules.{FitsRg, FitsRi, FitsCi, FitsCg, FitsUr, FitsUl, FitsIr, FitsIl}
@@ -32,7 +33,7 @@ use Rattle.hv_lines.proofs.Decided.{set_stable}
 use Rattle.hv_rules.specs.Soundness.{PremisesAreTrue}
 
 -- the same step, from a state of another set, by an action of another action set
-after_by : (task : Strips) (S T : StateSet) (A B : ActionSet) (s : List Bool)
+after_by : (task : Strips) (S T : SetOfStates) (A B : ActionSet) (s : List Bool)
     (i : IsAfter task S A s) → T i.before → B i.number ≡ true
     → IsAfter task T B s
 after_by task S T A B s i inside among = record {
@@ -81,7 +82,7 @@ module _ (task : Strips) (nodes : NodeList) (lines : List Line) (table : IsTable
   -- where all results of a set are within a union, each step from the set leads there
   leads : (e a u x : ℕ) → IsTrueStatement task nodes lines (T.Sub u x)
       → IsExpr lines u (E.After e a) → IsAll lines a
-      → (S : StateSet) → ((s : List Bool) → sets_of task nodes lines x s → S s)
+      → (S : SetOfStates) → ((s : List Bool) → sets_of task nodes lines x s → S s)
       → Leads task (sets_of task nodes lines e) S
   leads e a u x within after is_all S there s number action is_state named applies inside nowhere =
       let next = successor action s in
@@ -101,7 +102,7 @@ module _ (task : Strips) (nodes : NodeList) (lines : List Line) (table : IsTable
 
   leads_back : (e a u x : ℕ) → IsTrueStatement task nodes lines (T.Sub u x)
       → IsExpr lines u (E.Before e a) → IsAll lines a
-      → (S : StateSet) → ((s : List Bool) → sets_of task nodes lines x s → S s)
+      → (S : SetOfStates) → ((s : List Bool) → sets_of task nodes lines x s → S s)
       → LeadsBack task (sets_of task nodes lines e) S
   leads_back e a u x within before is_all S there s number action is_state named applies inside
       nowhere =

@@ -5,11 +5,11 @@ ghost use Rattle.hv_lines.specs.Rules.{FitsEd, FitsUd, FitsSd, FitsPg, FitsPi, F
 ghost use Rattle.hv_rules.specs.Working.Standing.{StandsIn};
 
 use crate::look::{is_all, is_constant, says};
-use crate::row::Row;
+use crate::rule_row::RuleRow;
 use hv_lines::{Constant, Expr, Statement};
 
 /// The empty set is dead.
-pub fn fits_ed(row: &Row<'_>) -> bool
+pub fn fits_ed(row: &RuleRow<'_>) -> bool
     requires { StandsIn row.now.table.now.lines row.now.statement row.now.premises.now }
     ensures { IsTrue result
         ↔ FitsEd row.now.table.now.lines row.now.statement row.now.premises.now }
@@ -24,7 +24,7 @@ pub fn fits_ed(row: &Row<'_>) -> bool
 }
 
 /// The union of two dead sets is dead.
-pub fn fits_ud(row: &Row<'_>) -> bool
+pub fn fits_ud(row: &RuleRow<'_>) -> bool
     requires { StandsIn row.now.table.now.lines row.now.statement row.now.premises.now }
     ensures { IsTrue result
         ↔ FitsUd row.now.table.now.lines row.now.statement row.now.premises.now }
@@ -43,7 +43,7 @@ pub fn fits_ud(row: &Row<'_>) -> bool
 }
 
 /// A set within a dead set is dead.
-pub fn fits_sd(row: &Row<'_>) -> bool
+pub fn fits_sd(row: &RuleRow<'_>) -> bool
     requires { StandsIn row.now.table.now.lines row.now.statement row.now.premises.now }
     ensures { IsTrue result
         ↔ FitsSd row.now.table.now.lines row.now.statement row.now.premises.now }
@@ -61,7 +61,7 @@ pub fn fits_sd(row: &Row<'_>) -> bool
 }
 
 /// What leads only into itself or a dead set, and whose goal states are dead, is dead.
-pub fn fits_pg(row: &Row<'_>) -> bool
+pub fn fits_pg(row: &RuleRow<'_>) -> bool
     requires { StandsIn row.now.table.now.lines row.now.statement row.now.premises.now }
     ensures { IsTrue result
         ↔ FitsPg row.now.table.now.lines row.now.statement row.now.premises.now }
@@ -97,7 +97,7 @@ pub fn fits_pg(row: &Row<'_>) -> bool
 
 /// What is outside a set that holds the initial state and leads only into itself or a dead set is
 /// dead.
-pub fn fits_pi(row: &Row<'_>) -> bool
+pub fn fits_pi(row: &RuleRow<'_>) -> bool
     requires { StandsIn row.now.table.now.lines row.now.statement row.now.premises.now }
     ensures { IsTrue result
         ↔ FitsPi row.now.table.now.lines row.now.statement row.now.premises.now }
@@ -133,7 +133,7 @@ pub fn fits_pi(row: &Row<'_>) -> bool
 
 /// What is outside a set that is led into only from itself or a dead set is dead, where the goal
 /// states out there are.
-pub fn fits_rg(row: &Row<'_>) -> bool
+pub fn fits_rg(row: &RuleRow<'_>) -> bool
     requires { StandsIn row.now.table.now.lines row.now.statement row.now.premises.now }
     ensures { IsTrue result
         ↔ FitsRg row.now.table.now.lines row.now.statement row.now.premises.now }
@@ -171,7 +171,7 @@ pub fn fits_rg(row: &Row<'_>) -> bool
 }
 
 /// What is led into only from itself or a dead set, and doesn't hold the initial state, is dead.
-pub fn fits_ri(row: &Row<'_>) -> bool
+pub fn fits_ri(row: &RuleRow<'_>) -> bool
     requires { StandsIn row.now.table.now.lines row.now.statement row.now.premises.now }
     ensures { IsTrue result
         ↔ FitsRi row.now.table.now.lines row.now.statement row.now.premises.now }

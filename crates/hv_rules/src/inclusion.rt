@@ -6,11 +6,11 @@ ghost use Rattle.hv_lines.specs.Rules.{FitsSt};
 ghost use Rattle.hv_rules.specs.Working.Standing.{StandsIn};
 
 use crate::look::says;
-use crate::row::Row;
+use crate::rule_row::RuleRow;
 use hv_lines::{Expr, Statement};
 
 /// A set is within its union with another on the right.
-pub fn fits_ur(row: &Row<'_>) -> bool
+pub fn fits_ur(row: &RuleRow<'_>) -> bool
     requires { StandsIn row.now.table.now.lines row.now.statement row.now.premises.now }
     ensures { IsTrue result
         ↔ FitsUr row.now.table.now.lines row.now.statement row.now.premises.now }
@@ -28,7 +28,7 @@ pub fn fits_ur(row: &Row<'_>) -> bool
 }
 
 /// A set is within its union with another on the left.
-pub fn fits_ul(row: &Row<'_>) -> bool
+pub fn fits_ul(row: &RuleRow<'_>) -> bool
     requires { StandsIn row.now.table.now.lines row.now.statement row.now.premises.now }
     ensures { IsTrue result
         ↔ FitsUl row.now.table.now.lines row.now.statement row.now.premises.now }
@@ -46,7 +46,7 @@ pub fn fits_ul(row: &Row<'_>) -> bool
 }
 
 /// An intersection is within its left part.
-pub fn fits_ir(row: &Row<'_>) -> bool
+pub fn fits_ir(row: &RuleRow<'_>) -> bool
     requires { StandsIn row.now.table.now.lines row.now.statement row.now.premises.now }
     ensures { IsTrue result
         ↔ FitsIr row.now.table.now.lines row.now.statement row.now.premises.now }
@@ -64,7 +64,7 @@ pub fn fits_ir(row: &Row<'_>) -> bool
 }
 
 /// An intersection is within its right part.
-pub fn fits_il(row: &Row<'_>) -> bool
+pub fn fits_il(row: &RuleRow<'_>) -> bool
     requires { StandsIn row.now.table.now.lines row.now.statement row.now.premises.now }
     ensures { IsTrue result
         ↔ FitsIl row.now.table.now.lines row.now.statement row.now.premises.now }
@@ -82,7 +82,7 @@ pub fn fits_il(row: &Row<'_>) -> bool
 }
 
 /// Intersection distributes over union.
-pub fn fits_di(row: &Row<'_>) -> bool
+pub fn fits_di(row: &RuleRow<'_>) -> bool
     requires { StandsIn row.now.table.now.lines row.now.statement row.now.premises.now }
     ensures { IsTrue result
         ↔ FitsDi row.now.table.now.lines row.now.statement row.now.premises.now }
@@ -112,7 +112,7 @@ pub fn fits_di(row: &Row<'_>) -> bool
 }
 
 /// A union is within what both its parts are within.
-pub fn fits_su(row: &Row<'_>) -> bool
+pub fn fits_su(row: &RuleRow<'_>) -> bool
     requires { StandsIn row.now.table.now.lines row.now.statement row.now.premises.now }
     ensures { IsTrue result
         ↔ FitsSu row.now.table.now.lines row.now.statement row.now.premises.now }
@@ -131,7 +131,7 @@ pub fn fits_su(row: &Row<'_>) -> bool
 }
 
 /// What is within two sets is within their intersection.
-pub fn fits_si(row: &Row<'_>) -> bool
+pub fn fits_si(row: &RuleRow<'_>) -> bool
     requires { StandsIn row.now.table.now.lines row.now.statement row.now.premises.now }
     ensures { IsTrue result
         ↔ FitsSi row.now.table.now.lines row.now.statement row.now.premises.now }
@@ -150,7 +150,7 @@ pub fn fits_si(row: &Row<'_>) -> bool
 }
 
 /// Inclusion is transitive.
-pub fn fits_st(row: &Row<'_>) -> bool
+pub fn fits_st(row: &RuleRow<'_>) -> bool
     requires { StandsIn row.now.table.now.lines row.now.statement row.now.premises.now }
     ensures { IsTrue result
         ↔ FitsSt row.now.table.now.lines row.now.statement row.now.premises.now }

@@ -12,7 +12,7 @@ mod dead;
 mod inclusion;
 pub mod laws;
 mod look;
-mod row;
+mod rule_row;
 mod step;
 mod unsolvable;
 
@@ -20,7 +20,7 @@ use dead::{fits_ed, fits_pg, fits_pi, fits_rg, fits_ri, fits_sd, fits_ud};
 use hv_lines::{Premises, Statement, Table, Word};
 use inclusion::{fits_di, fits_il, fits_ir, fits_si, fits_st, fits_su, fits_ul, fits_ur};
 pub use laws::laws_of_rules;
-use row::Row;
+use rule_row::RuleRow;
 use step::{fits_at, fits_au, fits_pr, fits_pt, fits_pu, fits_rp};
 use unsolvable::{fits_cg, fits_ci};
 
@@ -40,7 +40,7 @@ pub fn rule_fits(table: &Table, statement: &Statement, word: Word, premises: &Pr
     requires premises { AreBelow (known_count table.now.lines) premises.now }
     ensures { IsTrue result ↔ Fits table.now.lines statement.now word premises.now }
 {
-    let row = Row {
+    let row = RuleRow {
         table,
         statement: *statement,
         premises: premises.as_slice(),

@@ -6,11 +6,11 @@ ghost use Rattle.hv_lines.specs.Rules.{FitsAt, FitsAu, FitsPt, FitsPu, FitsPr, F
 ghost use Rattle.hv_rules.specs.Working.Standing.{StandsIn};
 
 use crate::look::{says, says_results};
-use crate::row::Row;
+use crate::rule_row::RuleRow;
 use hv_lines::{Acts, Expr, Statement, Table};
 
 /// Fewer actions have fewer results.
-pub fn fits_at(row: &Row<'_>) -> bool
+pub fn fits_at(row: &RuleRow<'_>) -> bool
     requires { StandsIn row.now.table.now.lines row.now.statement row.now.premises.now }
     ensures { IsTrue result
         ↔ FitsAt row.now.table.now.lines row.now.statement row.now.premises.now }
@@ -34,7 +34,7 @@ pub fn fits_at(row: &Row<'_>) -> bool
 }
 
 /// Where the results of each of two action sets are within a set, so are those of their union.
-pub fn fits_au(row: &Row<'_>) -> bool
+pub fn fits_au(row: &RuleRow<'_>) -> bool
     requires { StandsIn row.now.table.now.lines row.now.statement row.now.premises.now }
     ensures { IsTrue result
         ↔ FitsAu row.now.table.now.lines row.now.statement row.now.premises.now }
@@ -68,7 +68,7 @@ fn unites_results(table: &Table, left: usize, right: usize, first: usize, second
 }
 
 /// A smaller set has fewer results.
-pub fn fits_pt(row: &Row<'_>) -> bool
+pub fn fits_pt(row: &RuleRow<'_>) -> bool
     requires { StandsIn row.now.table.now.lines row.now.statement row.now.premises.now }
     ensures { IsTrue result
         ↔ FitsPt row.now.table.now.lines row.now.statement row.now.premises.now }
@@ -92,7 +92,7 @@ pub fn fits_pt(row: &Row<'_>) -> bool
 }
 
 /// The results in a union are where those in both its parts are.
-pub fn fits_pu(row: &Row<'_>) -> bool
+pub fn fits_pu(row: &RuleRow<'_>) -> bool
     requires { StandsIn row.now.table.now.lines row.now.statement row.now.premises.now }
     ensures { IsTrue result
         ↔ FitsPu row.now.table.now.lines row.now.statement row.now.premises.now }
@@ -115,7 +115,7 @@ pub fn fits_pu(row: &Row<'_>) -> bool
 
 /// Where all results of a set are within another, the states with a result outside the other are
 /// outside the set.
-pub fn fits_pr(row: &Row<'_>) -> bool
+pub fn fits_pr(row: &RuleRow<'_>) -> bool
     requires { StandsIn row.now.table.now.lines row.now.statement row.now.premises.now }
     ensures { IsTrue result
         ↔ FitsPr row.now.table.now.lines row.now.statement row.now.premises.now }
@@ -140,7 +140,7 @@ pub fn fits_pr(row: &Row<'_>) -> bool
 
 /// Where the states with a result outside one set are outside another, all results of the other are
 /// within the one.
-pub fn fits_rp(row: &Row<'_>) -> bool
+pub fn fits_rp(row: &RuleRow<'_>) -> bool
     requires { StandsIn row.now.table.now.lines row.now.statement row.now.premises.now }
     ensures { IsTrue result
         ↔ FitsRp row.now.table.now.lines row.now.statement row.now.premises.now }

@@ -5,11 +5,11 @@ ghost use Rattle.hv_lines.specs.Rules.{FitsCi, FitsCg};
 ghost use Rattle.hv_rules.specs.Working.Standing.{StandsIn};
 
 use crate::look::is_constant;
-use crate::row::Row;
+use crate::rule_row::RuleRow;
 use hv_lines::{Constant, Statement};
 
 /// There is no plan where the initial state is dead.
-pub fn fits_ci(row: &Row<'_>) -> bool
+pub fn fits_ci(row: &RuleRow<'_>) -> bool
     requires { StandsIn row.now.table.now.lines row.now.statement row.now.premises.now }
     ensures { IsTrue result
         ↔ FitsCi row.now.table.now.lines row.now.statement row.now.premises.now }
@@ -27,7 +27,7 @@ pub fn fits_ci(row: &Row<'_>) -> bool
 }
 
 /// There is no plan where the goal states are dead.
-pub fn fits_cg(row: &Row<'_>) -> bool
+pub fn fits_cg(row: &RuleRow<'_>) -> bool
     requires { StandsIn row.now.table.now.lines row.now.statement row.now.premises.now }
     ensures { IsTrue result
         ↔ FitsCg row.now.table.now.lines row.now.statement row.now.premises.now }

@@ -11,8 +11,8 @@ use Rattle.hv_sas.specs.declared.fault.SasRefusal.{SasRefusal}
 use Rattle.hv_sas.specs.declared.fault.SasRefusal.TheVariants as R
 use Rattle.hv_sas.specs.declared.fault.SasFault.{SasFault}
 use Rattle.hv_sas.specs.declared.fault.SasFault.TheVariants as F
-use Rattle.hv_sas.specs.declared.task.Sas.{Sas}
-use Rattle.hv_sas.specs.Answer.{IsReadFrom, answer_of}
+use Rattle.hv_sas.specs.declared.sas_task.Sas.{Sas}
+use Rattle.hv_sas.specs.Answer.{IsSasReadFrom, answer_of}
 use Rattle.hv_sas.specs.Text.{sas_file}
 use Rattle.hv_sas.specs.Working.Reading.{sas_fault}
 
@@ -22,7 +22,7 @@ told (Ok sas) = Ok sas
 told (Err stop) = Err (sas_fault stop)
 
 read_from : (limits : Limits) (bytes : List ℕ) (r : Result Sas (ParseFault SasRefusal))
-    → IsReadAs (sas_file 0 (pieces_of limits bytes)) r → IsReadFrom limits bytes (told r)
+    → IsReadAs (sas_file 0 (pieces_of limits bytes)) r → IsSasReadFrom limits bytes (told r)
 read_from limits bytes (Ok sas) h = ap answer_of h.2
 read_from limits bytes (Err (P.Refused n (R.Place kind))) h = ap answer_of h
 read_from limits bytes (Err (P.Refused n (R.Unsupported which))) h = ap answer_of h
@@ -34,10 +34,10 @@ read_from limits bytes (Err P.Memory) h = tt
 pub read_told : (limits : Limits) (name : List ℕ) (files : Option Names)
     (r : Result Sas (ParseFault SasRefusal)) (result : Result Sas SasFault) → result ≡ told r
     → IfSome files (λ held. IsReadAs (sas_file 0 (pieces_of limits (bytes_of held name))) r)
-    → IfSome files (λ held. IsReadFrom limits (bytes_of held name) result)
+    → IfSome files (λ held. IsSasReadFrom limits (bytes_of held name) result)
 read_told limits name None r result e h = tt
 read_told limits name (Some held) r result e h =
-    subst (λ x. IsReadFrom limits (bytes_of held name) x) (sym e)
+    subst (λ x. IsSasReadFrom limits (bytes_of held name) x) (sym e)
     (read_from limits (bytes_of held name) r h)
 
 pub failed_from : (stop : ParseFault SasRefusal) → sas_fault stop ≡ F.ReadFault → stop ≡ P.ReadFault

@@ -1,4 +1,4 @@
--- States of the made task that stand for states of the finite-domain task.
+-- States of the made task that denote states of the finite-domain task.
 use Rattle.std.proofs.Common.{◌≡◌, ℕ, ◌<◌, ◌∙◌, inl, inr, Bool, true}
 use Rattle.std.proofs.Common.{◌&&◌, List, [], ◌∷◌, ◌++◌, Option, None, Some, IfSome, length}
 use Rattle.std.proofs.Common.{map}
@@ -12,11 +12,11 @@ use Rattle.hv_task.specs.State.{applicable, has_all, has_atom, names_atom, state
 use Rattle.hv_task.proofs.Places.{has_atom-state_of}
 use Rattle.hv_task.proofs.Places.{names_atom-Decides}
 use Rattle.hv_task.proofs.Sets.{listed_from_set, set_has}
-use Rattle.hv_sas.specs.declared.task.Effect.{Effect}
-use Rattle.hv_sas.specs.declared.task.Fact.{Fact}
-use Rattle.hv_sas.specs.declared.task.Sas.{Sas}
-use Rattle.hv_sas.specs.declared.task.SasOperator.{SasOperator}
-use Rattle.hv_sas.specs.declared.task.SasVariable.{SasVariable}
+use Rattle.hv_sas.specs.declared.sas_task.Effect.{Effect}
+use Rattle.hv_sas.specs.declared.sas_task.Fact.{Fact}
+use Rattle.hv_sas.specs.declared.sas_task.Sas.{Sas}
+use Rattle.hv_sas.specs.declared.sas_task.SasOperator.{SasOperator}
+use Rattle.hv_sas.specs.declared.sas_task.SasVariable.{SasVariable}
 use Rattle.hv_sas.specs.Variables.{IsEffectOn, IsFact, range_at, values_in}
 use Rattle.hv_sas.specs.Sound.{IsOperator, IsAssignment}
 use Rattle.hv_sas.specs.Meaning.{has_fact, holds_before, is_applicable}

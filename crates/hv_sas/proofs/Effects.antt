@@ -7,8 +7,8 @@ use Rattle.std.proofs.lemmas.Bool.{cases_eq}
 use Rattle.std.proofs.lemmas.List.{get_or-set_other, length-set}
 use Rattle.std.proofs.lemmas.List.Elements.{All-head, All-tail}
 use Rattle.std.proofs.lemmas.Grind.{get_or-set_at}
-use Rattle.hv_sas.specs.declared.task.Effect.{Effect}
-use Rattle.hv_sas.specs.declared.task.SasVariable.{SasVariable}
+use Rattle.hv_sas.specs.declared.sas_task.Effect.{Effect}
+use Rattle.hv_sas.specs.declared.sas_task.SasVariable.{SasVariable}
 use Rattle.hv_sas.specs.Variables.{IsEffectOn, range_at}
 use Rattle.hv_sas.specs.Sound.{HaveDistinctVariables, IsAssignment}
 use Rattle.hv_sas.specs.Meaning.{put_effects}

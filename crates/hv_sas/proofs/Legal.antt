@@ -10,10 +10,10 @@ use Rattle.std.proofs.lemmas.Option.{slice_get-get_or}
 use Rattle.hv_task.specs.State.{AreBelow}
 use Rattle.hv_task.specs.Strips.{IsOver, IsTask}
 use Rattle.hv_task.proofs.Sets.{set_rises}
-use Rattle.hv_sas.specs.declared.task.Fact.{Fact}
-use Rattle.hv_sas.specs.declared.task.Sas.{Sas}
-use Rattle.hv_sas.specs.declared.task.SasOperator.{SasOperator}
-use Rattle.hv_sas.specs.declared.task.SasVariable.{SasVariable}
+use Rattle.hv_sas.specs.declared.sas_task.Fact.{Fact}
+use Rattle.hv_sas.specs.declared.sas_task.Sas.{Sas}
+use Rattle.hv_sas.specs.declared.sas_task.SasOperator.{SasOperator}
+use Rattle.hv_sas.specs.declared.sas_task.SasVariable.{SasVariable}
 use Rattle.hv_sas.specs.Made.{fact_atom, operator_action, state_facts, strips_of, value_name}
 use Rattle.hv_sas.specs.Sound.{IsSoundSas}
 use Rattle.hv_sas.specs.Variables.{IsFact, range_of, values_in}

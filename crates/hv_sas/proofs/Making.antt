@@ -12,11 +12,11 @@ use Rattle.hv_task.specs.State.{AreBelow}
 use Rattle.hv_task.specs.Strips.{IsOver}
 use Rattle.hv_task.specs.declared.action.Action.{Action}
 use Rattle.hv_task.proofs.Sets.{set_below, set_more, set_same}
-use Rattle.hv_sas.specs.declared.task.Effect.{Effect}
-use Rattle.hv_sas.specs.declared.task.Fact.{Fact}
-use Rattle.hv_sas.specs.declared.task.Sas.{Sas}
-use Rattle.hv_sas.specs.declared.task.SasOperator.{SasOperator}
-use Rattle.hv_sas.specs.declared.task.SasVariable.{SasVariable}
+use Rattle.hv_sas.specs.declared.sas_task.Effect.{Effect}
+use Rattle.hv_sas.specs.declared.sas_task.Fact.{Fact}
+use Rattle.hv_sas.specs.declared.sas_task.Sas.{Sas}
+use Rattle.hv_sas.specs.declared.sas_task.SasOperator.{SasOperator}
+use Rattle.hv_sas.specs.declared.sas_task.SasVariable.{SasVariable}
 use Rattle.hv_sas.specs.Variables.{IsFact, range_at, values_in}
 use Rattle.hv_sas.specs.Made.{fact_after, fact_atom, fact_atoms, fact_before, facts_gone}
 use Rattle.hv_sas.specs.Made.{operator_action}

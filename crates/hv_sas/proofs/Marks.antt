@@ -6,8 +6,8 @@ use Rattle.std.specs.List.{list_any}
 use Rattle.std.proofs.lemmas.List.{get_or-replicate, length-replicate, length-set}
 use Rattle.hv_task.specs.State.{has_atom}
 use Rattle.hv_task.proofs.Places.{has_atom-set}
-use Rattle.hv_sas.specs.declared.task.Effect.{Effect}
-use Rattle.hv_sas.specs.declared.task.SasVariable.{SasVariable}
+use Rattle.hv_sas.specs.declared.sas_task.Effect.{Effect}
+use Rattle.hv_sas.specs.declared.sas_task.SasVariable.{SasVariable}
 use Rattle.hv_sas.specs.Working.Reading.{AreMarked}
 
 pub marked_none : (vs : List SasVariable) (n : ℕ) (marks : List Bool) → marks ≡ replicate n false

@@ -11,9 +11,9 @@ use Rattle.std.proofs.lemmas.Option.{slice_get_within}
 use Rattle.hv_task.specs.State.{applicable, state_of, successor}
 use Rattle.hv_task.specs.Strips.{is_goal, start_state}
 use Rattle.hv_task.specs.Plan.{Solves, go_on, run_of, step_of}
-use Rattle.hv_sas.specs.declared.task.Sas.{Sas}
-use Rattle.hv_sas.specs.declared.task.SasOperator.{SasOperator}
-use Rattle.hv_sas.specs.declared.task.SasVariable.{SasVariable}
+use Rattle.hv_sas.specs.declared.sas_task.Sas.{Sas}
+use Rattle.hv_sas.specs.declared.sas_task.SasOperator.{SasOperator}
+use Rattle.hv_sas.specs.declared.sas_task.SasVariable.{SasVariable}
 use Rattle.hv_sas.specs.Variables.{IsFact, values_in}
 use Rattle.hv_sas.specs.Sound.{IsOperator, IsSoundSas, IsAssignment}
 use Rattle.hv_sas.specs.Meaning.{SasSolves, has_fact, is_applicable, result_of, sas_run, sas_step}

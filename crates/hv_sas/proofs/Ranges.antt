@@ -1,7 +1,7 @@
 -- Ranges of variables of which there are few.
 use Rattle.std.proofs.Common.{ℕ, ◌<◌, ◌≤◌, List, arith}
 use Rattle.std.proofs.lemmas.List.Elements.{All-head, All-tail}
-use Rattle.hv_sas.specs.declared.task.SasVariable.{SasVariable}
+use Rattle.hv_sas.specs.declared.sas_task.SasVariable.{SasVariable}
 use Rattle.hv_sas.specs.Variables.{range_at}
 use Rattle.hv_sas.specs.Working.Reading.{AreVariables}
 use Rattle.hv_sas.proofs.Atoms.{range_within}

@@ -4,7 +4,7 @@ use Rattle.std.proofs.Common.{ap, arith}
 use Rattle.std.proofs.lemmas.List.Splits.{length-slice_split}
 use Rattle.hv_bytes.specs.Fields.{cut_fields}
 use Rattle.hv_sas.specs.Lines.{effect_in, two_of}
-use Rattle.hv_sas.specs.declared.task.SasVariable.{SasVariable}
+use Rattle.hv_sas.specs.declared.sas_task.SasVariable.{SasVariable}
 
 fields_some : (bytes : List ℕ) → 0 < length (cut_fields bytes)
 fields_some bytes = let e = length-slice_split (λ b. b == 32) bytes in omega arith

@@ -10,11 +10,11 @@ use Rattle.std.specs.List.{flat_map, list_all, range_with_len, slice_index}
 use Rattle.std.proofs.lemmas.Bool.{cases_eq, eq-eqb, eqb-true}
 use Rattle.hv_task.specs.State.{has_atom, names_atom, successor}
 use Rattle.hv_task.proofs.Places.{has_atom-successor, length-state_of, length-successor, same_state}
-use Rattle.hv_sas.specs.declared.task.Effect.{Effect}
-use Rattle.hv_sas.specs.declared.task.Fact.{Fact}
-use Rattle.hv_sas.specs.declared.task.Sas.{Sas}
-use Rattle.hv_sas.specs.declared.task.SasOperator.{SasOperator}
-use Rattle.hv_sas.specs.declared.task.SasVariable.{SasVariable}
+use Rattle.hv_sas.specs.declared.sas_task.Effect.{Effect}
+use Rattle.hv_sas.specs.declared.sas_task.Fact.{Fact}
+use Rattle.hv_sas.specs.declared.sas_task.Sas.{Sas}
+use Rattle.hv_sas.specs.declared.sas_task.SasOperator.{SasOperator}
+use Rattle.hv_sas.specs.declared.sas_task.SasVariable.{SasVariable}
 use Rattle.hv_sas.specs.Variables.{IsEffectOn, IsFact, range_at, values_in}
 use Rattle.hv_sas.specs.Sound.{IsOperator, IsAssignment}
 use Rattle.hv_sas.specs.Meaning.{has_fact, holds_before, is_applicable, put_effects, result_of}

@@ -3,10 +3,10 @@ use Rattle.std.proofs.Common.{◌≡◌, ◌≤◌, ◌&&◌, Bool, List, ℕ, l
 use Rattle.std.specs.Prelude.{◌↔◌, IsTrue}
 use Rattle.std.specs.List.{All}
 use Rattle.std.proofs.lemmas.Bool.{le-leb, leb-true}
-use Rattle.hv_sas.specs.declared.task.Fact.{Fact}
-use Rattle.hv_sas.specs.declared.task.Sas.{Sas}
-use Rattle.hv_sas.specs.declared.task.SasOperator.{SasOperator}
-use Rattle.hv_sas.specs.declared.task.SasVariable.{SasVariable}
+use Rattle.hv_sas.specs.declared.sas_task.Fact.{Fact}
+use Rattle.hv_sas.specs.declared.sas_task.Sas.{Sas}
+use Rattle.hv_sas.specs.declared.sas_task.SasOperator.{SasOperator}
+use Rattle.hv_sas.specs.declared.sas_task.SasVariable.{SasVariable}
 use Rattle.hv_sas.specs.Variables.{IsFact, values_in}
 use Rattle.hv_sas.specs.Sound.{HaveValues, IsOperator, IsSoundSas, IsAssignment}
 use Rattle.hv_sas.proofs.Members.{both, first_true, second_true}

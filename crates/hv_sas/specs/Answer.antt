@@ -1,6 +1,6 @@
--- What a translator file stands for, its first fault, and what a reader answers.
+-- What a translator file denotes, its first fault, and what a reader answers.
 use Rattle.std.specs.Prelude.{◌≡◌, ℕ, List, Result, Ok, Err}
-use Rattle.hv_bytes.specs.Pieces.{Piece, pieces_of}
+use Rattle.hv_bytes.specs.Pieces.{PieceBytes, pieces_of}
 use Rattle.hv_bytes.specs.declared.cutting.Limits.{Limits}
 use Rattle.hv_grammar.specs.Parsers.{Outcome, parsed, long, refused}
 use Rattle.hv_sas.specs.declared.fault.SasRefusal.{SasRefusal}
@@ -8,7 +8,7 @@ use Rattle.hv_sas.specs.declared.fault.SasRefusal.TheVariants as R
 use Rattle.hv_sas.specs.declared.fault.SasFault.{SasFault}
 use Rattle.hv_sas.specs.declared.fault.SasFault.TheVariants as F
 use Rattle.hv_sas.specs.declared.fault.SasLimit.TheVariants as L
-use Rattle.hv_sas.specs.declared.task.Sas.{Sas}
+use Rattle.hv_sas.specs.declared.sas_task.Sas.{Sas}
 use Rattle.hv_sas.specs.Text.{sas_file}
 
 -- the fault of a line that is refused in this way
@@ -23,19 +23,19 @@ answer_of (parsed sas line rest) = Ok sas
 answer_of (refused line bad) = Err (sas_fault_at line bad)
 answer_of (long line) = Err (F.Limit line L.Long)
 
--- what the pieces of a file stand for: the one task, or else their first fault
-abbrev pub sas_in : List Piece → Result Sas SasFault
+-- what the pieces of a file denote: the one task, or else their first fault
+abbrev pub sas_in : List PieceBytes → Result Sas SasFault
 sas_in pieces = answer_of (sas_file 0 pieces)
 
--- what a reader answers to these bytes: what the pieces stand for; faults of the device and want of
+-- what a reader answers to these bytes: what the pieces denote; faults of the device and want of
 -- memory are free here
-abbrev pub IsReadFrom : Limits → List ℕ → Result Sas SasFault → Type 0
-IsReadFrom limits bytes (Ok sas) = sas_in (pieces_of limits bytes) ≡ Ok sas
-IsReadFrom limits bytes (Err (F.Place line kind)) =
+abbrev pub IsSasReadFrom : Limits → List ℕ → Result Sas SasFault → Type 0
+IsSasReadFrom limits bytes (Ok sas) = sas_in (pieces_of limits bytes) ≡ Ok sas
+IsSasReadFrom limits bytes (Err (F.Place line kind)) =
     sas_in (pieces_of limits bytes) ≡ Err (F.Place line kind)
-IsReadFrom limits bytes (Err (F.Unsupported line which)) =
+IsSasReadFrom limits bytes (Err (F.Unsupported line which)) =
     sas_in (pieces_of limits bytes) ≡ Err (F.Unsupported line which)
-IsReadFrom limits bytes (Err (F.Limit line limit)) =
+IsSasReadFrom limits bytes (Err (F.Limit line limit)) =
     sas_in (pieces_of limits bytes) ≡ Err (F.Limit line limit)
-IsReadFrom limits bytes (Err F.ReadFault) = Unit {0}
-IsReadFrom limits bytes (Err F.Memory) = Unit {0}
+IsSasReadFrom limits bytes (Err F.ReadFault) = Unit {0}
+IsSasReadFrom limits bytes (Err F.Memory) = Unit {0}

@@ -13,9 +13,9 @@ use Rattle.hv_sas.specs.declared.fault.SasKind.{SasKind}
 use Rattle.hv_sas.specs.declared.fault.SasKind.TheVariants as K
 use Rattle.hv_sas.specs.declared.fault.SasLimit.TheVariants as L
 use Rattle.hv_sas.specs.declared.fault.SasWhich.TheVariants as W
-use Rattle.hv_sas.specs.declared.task.Effect.{Effect}
-use Rattle.hv_sas.specs.declared.task.Fact.{Fact}
-use Rattle.hv_sas.specs.declared.task.SasVariable.{SasVariable}
+use Rattle.hv_sas.specs.declared.sas_task.Effect.{Effect}
+use Rattle.hv_sas.specs.declared.sas_task.Fact.{Fact}
+use Rattle.hv_sas.specs.declared.sas_task.SasVariable.{SasVariable}
 use Rattle.hv_sas.specs.Variables.{range_at}
 
 -- the decimal, where it is one and is this number; another decimal isn't supported

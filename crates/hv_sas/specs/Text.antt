@@ -6,11 +6,11 @@ use Rattle.hv_sas.specs.declared.fault.SasRefusal.{SasRefusal}
 use Rattle.hv_sas.specs.declared.fault.SasKind.{SasKind}
 use Rattle.hv_sas.specs.declared.fault.SasKind.TheVariants as K
 use Rattle.hv_sas.specs.declared.fault.SasRefusal.TheVariants as R
-use Rattle.hv_sas.specs.declared.task.Effect.{Effect}
-use Rattle.hv_sas.specs.declared.task.Fact.{Fact}
-use Rattle.hv_sas.specs.declared.task.Sas.{Sas}
-use Rattle.hv_sas.specs.declared.task.SasOperator.{SasOperator}
-use Rattle.hv_sas.specs.declared.task.SasVariable.{SasVariable}
+use Rattle.hv_sas.specs.declared.sas_task.Effect.{Effect}
+use Rattle.hv_sas.specs.declared.sas_task.Fact.{Fact}
+use Rattle.hv_sas.specs.declared.sas_task.Sas.{Sas}
+use Rattle.hv_sas.specs.declared.sas_task.SasOperator.{SasOperator}
+use Rattle.hv_sas.specs.declared.sas_task.SasVariable.{SasVariable}
 use Rattle.hv_sas.specs.Lines.{axioms_of, fact_of, layer_of, metric_of, name_of, operator_cost}
 use Rattle.hv_sas.specs.Lines.{operator_effect, operators_of, start_value, values_of, version_of}
 use Rattle.hv_sas.specs.Variables.{values_in}

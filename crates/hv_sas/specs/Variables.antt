@@ -1,8 +1,8 @@
 -- Variables, values and facts of a finite-domain task.
 use Rattle.std.specs.Prelude.{◌<◌, ℕ, List, Option, None, Some, IfSome, length, slice_get, sum_by}
-use Rattle.hv_sas.specs.declared.task.Effect.{Effect}
-use Rattle.hv_sas.specs.declared.task.Fact.{Fact}
-use Rattle.hv_sas.specs.declared.task.SasVariable.{SasVariable}
+use Rattle.hv_sas.specs.declared.sas_task.Effect.{Effect}
+use Rattle.hv_sas.specs.declared.sas_task.Fact.{Fact}
+use Rattle.hv_sas.specs.declared.sas_task.SasVariable.{SasVariable}
 
 -- how many values the variable has: none where there is no such variable
 abbrev pub range_of : Option SasVariable → ℕ

@@ -7,19 +7,19 @@ use Rattle.hv_sas.specs.declared.fault.SasLimit.TheVariants as L
 use Rattle.hv_sas.specs.declared.fault.SasWhich.{SasWhich}
 use Rattle.hv_sas.specs.declared.fault.SasWhich.TheVariants as W
 
-abbrev pub kind_word : SasKind → List ℕ
-kind_word K.Version = codes "version"
-kind_word K.Metric = codes "metric"
-kind_word K.Variables = codes "variables"
-kind_word K.Variable = codes "variable"
-kind_word K.Mutexes = codes "mutexes"
-kind_word K.Mutex = codes "mutex"
-kind_word K.State = codes "state"
-kind_word K.Goal = codes "goal"
-kind_word K.Operators = codes "operators"
-kind_word K.Operator = codes "operator"
-kind_word K.Axioms = codes "axioms"
-kind_word K.End = codes "end"
+abbrev pub sas_kind_word : SasKind → List ℕ
+sas_kind_word K.Version = codes "version"
+sas_kind_word K.Metric = codes "metric"
+sas_kind_word K.Variables = codes "variables"
+sas_kind_word K.Variable = codes "variable"
+sas_kind_word K.Mutexes = codes "mutexes"
+sas_kind_word K.Mutex = codes "mutex"
+sas_kind_word K.State = codes "state"
+sas_kind_word K.Goal = codes "goal"
+sas_kind_word K.Operators = codes "operators"
+sas_kind_word K.Operator = codes "operator"
+sas_kind_word K.Axioms = codes "axioms"
+sas_kind_word K.End = codes "end"
 
 abbrev pub which_word : SasWhich → List ℕ
 which_word W.Version = codes "version"
@@ -28,9 +28,9 @@ which_word W.Condition = codes "condition"
 which_word W.Twice = codes "twice"
 which_word W.Axiom = codes "axiom"
 
-abbrev pub limit_word : SasLimit → List ℕ
-limit_word L.Values = codes "values"
-limit_word L.Operators = codes "operators"
-limit_word L.Name = codes "name"
-limit_word L.Cost = codes "cost"
-limit_word L.Long = codes "long"
+abbrev pub sas_limit_word : SasLimit → List ℕ
+sas_limit_word L.Values = codes "values"
+sas_limit_word L.Operators = codes "operators"
+sas_limit_word L.Name = codes "name"
+sas_limit_word L.Cost = codes "cost"
+sas_limit_word L.Long = codes "long"

@@ -1,7 +1,7 @@
 //! What may be refused with a translator file.
 
 ghost use Rattle.std.specs.Prelude.{◌≡◌};
-ghost use Rattle.hv_sas.specs.Words.{kind_word, limit_word, which_word};
+ghost use Rattle.hv_sas.specs.Words.{sas_kind_word, sas_limit_word, which_word};
 ghost use Rattle.hv_sas.specs.declared.fault.SasFault.TheVariants as F;
 
 use std::alloc::AllocError;
@@ -51,7 +51,7 @@ pub enum SasWhich {
     Axiom,
 }
 
-/// A limit that a line of a translator file passes.
+/// A limit that a line of a translator file exceeds.
 #[derive(Clone, Copy, Debug, PartialEq, Eq)]
 pub enum SasLimit {
     /// More than 65,535 values of the variables together.
@@ -73,7 +73,7 @@ pub enum SasRefusal {
     Place(SasKind),
     /// It has a form that isn't supported.
     Unsupported(SasWhich),
-    /// It is there, and passes this limit.
+    /// It is there, and exceeds this limit.
     Limit(SasLimit),
 }
 
@@ -87,7 +87,7 @@ pub enum SasFault {
     /// The line has a form that isn't supported.
     #[error("line {0} isn't supported")]
     Unsupported(u64, SasWhich),
-    /// The line has its form, and passes this limit; or it is long, whatever its form.
+    /// The line has its form, and exceeds this limit; or it is long, whatever its form.
     #[error("line {0} passes a limit")]
     Limit(u64, SasLimit),
     /// The shelf failed.
@@ -109,7 +109,7 @@ impl From<AllocError> for SasFault {
 impl SasKind {
     /// The word that names the kind in a refusal.
     pub fn word(&self) -> &'static str
-        ensures { result.now ≡ kind_word self.now }
+        ensures { result.now ≡ sas_kind_word self.now }
     {
         match self {
             SasKind::Version => "version",
@@ -146,7 +146,7 @@ impl SasWhich {
 impl SasLimit {
     /// The word that names the limit in a refusal.
     pub fn word(&self) -> &'static str
-        ensures { result.now ≡ limit_word self.now }
+        ensures { result.now ≡ sas_limit_word self.now }
     {
         match self {
             SasLimit::Values => "values",

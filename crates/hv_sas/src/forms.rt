@@ -10,8 +10,8 @@ ghost use Rattle.hv_sas.specs.Variables.{IsEffectOn, IsFact, range_at};
 ghost use Rattle.hv_sas.specs.Working.Reading.{AreMarked, AreVariables, fields_after_space, named};
 
 use crate::fault::{SasKind, SasLimit, SasRefusal, SasWhich};
+use crate::sas_task::{Effect, Fact, SasVariable};
 use crate::sound::range_at;
-use crate::task::{Effect, Fact, SasVariable};
 use hv_bytes::split_field;
 use hv_grammar::{at_most, decimal};
 use hv_task::State;

@@ -3,9 +3,9 @@
 
 ghost use Rattle.std.specs.Prelude.{◌≡◌, ◌<◌, ℕ, List, slice_get};
 ghost use Rattle.hv_task.specs.Strips.{IsTask};
-ghost use Rattle.hv_sas.specs.declared.task.Fact.{Fact};
-ghost use Rattle.hv_sas.specs.declared.task.Sas.{Sas};
-ghost use Rattle.hv_sas.specs.declared.task.SasVariable.{SasVariable};
+ghost use Rattle.hv_sas.specs.declared.sas_task.Fact.{Fact};
+ghost use Rattle.hv_sas.specs.declared.sas_task.Sas.{Sas};
+ghost use Rattle.hv_sas.specs.declared.sas_task.SasVariable.{SasVariable};
 ghost use Rattle.hv_sas.specs.Made.{fact_atom, strips_of, value_name};
 ghost use Rattle.hv_sas.specs.Sound.{IsSoundSas};
 ghost use Rattle.hv_sas.specs.Variables.{IsFact, values_in};

@@ -6,16 +6,16 @@ mod forms;
 pub mod laws;
 pub mod listed;
 pub mod read;
+pub mod sas_task;
 mod sound;
 pub mod strips;
-pub mod task;
 
 pub use fault::{SasFault, SasKind, SasLimit, SasRefusal, SasWhich};
 pub use laws::laws_of_made_tasks;
 pub use listed::Listed;
 pub use read::read_sas;
-pub use strips::to_strips;
-pub use task::{
+pub use sas_task::{
     Effect, Effects, Fact, Facts, Names, Operators, Sas, SasOperator, SasVariable, Values,
     Variables,
 };
+pub use strips::to_strips;

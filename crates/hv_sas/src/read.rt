@@ -13,7 +13,7 @@ ghost use Rattle.hv_grammar.specs.Working.Reads.{IsReadAs, placed};
 ghost use Rattle.hv_sas.specs.declared.fault.SasFault.TheVariants as F;
 ghost use Rattle.hv_sas.specs.declared.fault.SasKind.TheVariants as K;
 ghost use Rattle.hv_sas.specs.declared.fault.SasRefusal.TheVariants as Refusal;
-ghost use Rattle.hv_sas.specs.Answer.{IsReadFrom};
+ghost use Rattle.hv_sas.specs.Answer.{IsSasReadFrom};
 ghost use Rattle.hv_sas.specs.Lines.{axioms_of, has_effect_on, layer_of, metric_of, operator_cost};
 ghost use Rattle.hv_sas.specs.Lines.{operator_effect, operators_of, start_value, values_of};
 ghost use Rattle.hv_sas.specs.Lines.{version_of};
@@ -27,7 +27,7 @@ ghost use Rattle.hv_sas.specs.Working.Reading.{sas_fault};
 
 use crate::fault::{SasFault, SasKind, SasLimit, SasRefusal};
 use crate::forms;
-use crate::task::{
+use crate::sas_task::{
     Effect, Effects, Fact, Facts, Names, Operators, Sas, SasOperator, SasVariable, Values,
     Variables,
 };
@@ -38,9 +38,9 @@ use hv_grammar::{
 use hv_task::{Name, State};
 use std::alloc::{AllocError, Global};
 
-type Read<T> = Result<T, ParseFault<SasRefusal>>;
+type SasResult<T> = Result<T, ParseFault<SasRefusal>>;
 
-fn version_line<R: Source>(reader: &mut R) -> Read<()>
+fn version_line<R: Source>(reader: &mut R) -> SasResult<()>
     requires { CanRead (R.position reader.old) }
     ensures { Reads (line (Refusal.Place K.Version) version_of)
         (R.position reader.old) (R.position reader.new) result }
@@ -50,7 +50,7 @@ fn version_line<R: Source>(reader: &mut R) -> Read<()>
 }
 
 // The version.
-fn version<R: Source>(reader: &mut R) -> Read<()>
+fn version<R: Source>(reader: &mut R) -> SasResult<()>
     requires { CanRead (R.position reader.old) }
     ensures { Reads version
         (R.position reader.old) (R.position reader.new) result }
@@ -64,7 +64,7 @@ fn version<R: Source>(reader: &mut R) -> Read<()>
     word_line(reader, b"end_version", SasRefusal::Place(SasKind::Version))
 }
 
-fn metric_line<R: Source>(reader: &mut R) -> Read<bool>
+fn metric_line<R: Source>(reader: &mut R) -> SasResult<bool>
     requires { CanRead (R.position reader.old) }
     ensures { Reads (line (Refusal.Place K.Metric) metric_of)
         (R.position reader.old) (R.position reader.new) result }
@@ -74,7 +74,7 @@ fn metric_line<R: Source>(reader: &mut R) -> Read<bool>
 }
 
 // The metric.
-fn metric<R: Source>(reader: &mut R) -> Read<bool>
+fn metric<R: Source>(reader: &mut R) -> SasResult<bool>
     requires { CanRead (R.position reader.old) }
     ensures { Reads metric
         (R.position reader.old) (R.position reader.new) result }
@@ -86,7 +86,7 @@ fn metric<R: Source>(reader: &mut R) -> Read<bool>
 }
 
 // A name of this kind.
-fn name_line<R: Source>(alloc: Global, reader: &mut R, kind: SasKind) -> Read<Name>
+fn name_line<R: Source>(alloc: Global, reader: &mut R, kind: SasKind) -> SasResult<Name>
     requires { CanRead (R.position reader.old) }
     ensures { Reads (name_line kind)
         (R.position reader.old) (R.position reader.new) result }
@@ -97,7 +97,12 @@ fn name_line<R: Source>(alloc: Global, reader: &mut R, kind: SasKind) -> Read<Na
 }
 
 // One more name.
-fn one_name<R: Source>(alloc: Global, reader: &mut R, kind: SasKind, names: &mut Names) -> Read<()>
+fn one_name<R: Source>(
+    alloc: Global,
+    reader: &mut R,
+    kind: SasKind,
+    names: &mut Names,
+) -> SasResult<()>
     requires { CanRead (R.position reader.old) }
     ensures reads { Reads (one_more (name_line kind) names.old)
         (R.position reader.old) (R.position reader.new) (placed names.new result) }
@@ -109,7 +114,7 @@ fn one_name<R: Source>(alloc: Global, reader: &mut R, kind: SasKind, names: &mut
 }
 
 // So many names.
-fn names<R: Source>(alloc: Global, reader: &mut R, count: u64, kind: SasKind) -> Read<Names>
+fn names<R: Source>(alloc: Global, reader: &mut R, count: u64, kind: SasKind) -> SasResult<Names>
     requires { CanRead (R.position reader.old) }
     ensures reads { Reads (repeat count (name_line kind))
         (R.position reader.old) (R.position reader.new) result }
@@ -123,7 +128,7 @@ fn names<R: Source>(alloc: Global, reader: &mut R, count: u64, kind: SasKind) ->
     Ok(names)
 }
 
-fn layer_line<R: Source>(reader: &mut R) -> Read<()>
+fn layer_line<R: Source>(reader: &mut R) -> SasResult<()>
     requires { CanRead (R.position reader.old) }
     ensures { Reads (line (Refusal.Place K.Variable) layer_of)
         (R.position reader.old) (R.position reader.new) result }
@@ -133,7 +138,7 @@ fn layer_line<R: Source>(reader: &mut R) -> Read<()>
 }
 
 // How many values the next variable has, where the earlier ones have so many.
-fn range_line<R: Source>(reader: &mut R, used: u64, variables: &Variables) -> Read<u64>
+fn range_line<R: Source>(reader: &mut R, used: u64, variables: &Variables) -> SasResult<u64>
     requires can { CanRead (R.position reader.old) }
     requires used { used ≡ values_in variables.now }
     requires few { used ≤ 65535 }
@@ -152,7 +157,7 @@ fn variable<R: Source>(
     reader: &mut R,
     used: &mut u64,
     variables: &mut Variables,
-) -> Read<()>
+) -> SasResult<()>
     requires can { CanRead (R.position reader.old) }
     requires used { used.old ≡ values_in variables.old }
     requires variables { AreVariables variables.old }
@@ -181,7 +186,7 @@ fn variable<R: Source>(
 }
 
 // So many variables.
-fn variables<R: Source>(alloc: Global, reader: &mut R, count: u64) -> Read<Variables>
+fn variables<R: Source>(alloc: Global, reader: &mut R, count: u64) -> SasResult<Variables>
     requires { CanRead (R.position reader.old) }
     ensures reads { Reads (iterate count variable [])
         (R.position reader.old) (R.position reader.new) result }
@@ -197,7 +202,7 @@ fn variables<R: Source>(alloc: Global, reader: &mut R, count: u64) -> Read<Varia
 }
 
 // The variables.
-fn all_variables<R: Source>(alloc: Global, reader: &mut R) -> Read<Variables>
+fn all_variables<R: Source>(alloc: Global, reader: &mut R) -> SasResult<Variables>
     requires { CanRead (R.position reader.old) }
     ensures reads { Reads all_variables
         (R.position reader.old) (R.position reader.new) result }
@@ -208,7 +213,7 @@ fn all_variables<R: Source>(alloc: Global, reader: &mut R) -> Read<Variables>
 }
 
 // A fact of this kind.
-fn fact<R: Source>(reader: &mut R, kind: SasKind, variables: &Variables) -> Read<Fact>
+fn fact<R: Source>(reader: &mut R, kind: SasKind, variables: &Variables) -> SasResult<Fact>
     requires can { CanRead (R.position reader.old) }
     requires variables { AreVariables variables.now }
     ensures reads { Reads (fact kind variables.now)
@@ -228,7 +233,7 @@ fn one_fact<R: Source>(
     kind: SasKind,
     variables: &Variables,
     facts: &mut Facts,
-) -> Read<()>
+) -> SasResult<()>
     requires can { CanRead (R.position reader.old) }
     requires variables { AreVariables variables.now }
     ensures reads { Reads (one_more (fact kind variables.now) facts.old)
@@ -248,7 +253,7 @@ fn facts<R: Source>(
     kind: SasKind,
     variables: &Variables,
     count: u64,
-) -> Read<Facts>
+) -> SasResult<Facts>
     requires can { CanRead (R.position reader.old) }
     requires variables { AreVariables variables.now }
     ensures reads { Reads (repeat count (fact kind variables.now))
@@ -264,7 +269,7 @@ fn facts<R: Source>(
 }
 
 // One more fact of a mutex group, which isn't kept.
-fn mutex_fact<R: Source>(reader: &mut R, variables: &Variables) -> Read<()>
+fn mutex_fact<R: Source>(reader: &mut R, variables: &Variables) -> SasResult<()>
     requires can { CanRead (R.position reader.old) }
     requires variables { AreVariables variables.now }
     ensures { Reads (mutex_fact variables.now tt)
@@ -275,7 +280,7 @@ fn mutex_fact<R: Source>(reader: &mut R, variables: &Variables) -> Read<()>
 }
 
 // So many facts of a mutex group, which aren't kept.
-fn mutex_facts<R: Source>(reader: &mut R, variables: &Variables, count: u64) -> Read<()>
+fn mutex_facts<R: Source>(reader: &mut R, variables: &Variables, count: u64) -> SasResult<()>
     requires can { CanRead (R.position reader.old) }
     requires variables { AreVariables variables.now }
     ensures { Reads (iterate count (mutex_fact variables.now) tt)
@@ -289,7 +294,7 @@ fn mutex_facts<R: Source>(reader: &mut R, variables: &Variables, count: u64) -> 
 }
 
 // One more mutex group, which isn't kept.
-fn mutex<R: Source>(reader: &mut R, variables: &Variables) -> Read<()>
+fn mutex<R: Source>(reader: &mut R, variables: &Variables) -> SasResult<()>
     requires can { CanRead (R.position reader.old) }
     requires variables { AreVariables variables.now }
     ensures { Reads (mutex variables.now tt)
@@ -310,7 +315,7 @@ fn mutex<R: Source>(reader: &mut R, variables: &Variables) -> Read<()>
 }
 
 // So many mutex groups, which aren't kept.
-fn mutexes<R: Source>(reader: &mut R, variables: &Variables, count: u64) -> Read<()>
+fn mutexes<R: Source>(reader: &mut R, variables: &Variables, count: u64) -> SasResult<()>
     requires can { CanRead (R.position reader.old) }
     requires variables { AreVariables variables.now }
     ensures { Reads (iterate count (mutex variables.now) tt)
@@ -324,7 +329,7 @@ fn mutexes<R: Source>(reader: &mut R, variables: &Variables, count: u64) -> Read
 }
 
 // The mutex groups, which aren't kept.
-fn all_mutexes<R: Source>(reader: &mut R, variables: &Variables) -> Read<()>
+fn all_mutexes<R: Source>(reader: &mut R, variables: &Variables) -> SasResult<()>
     requires can { CanRead (R.position reader.old) }
     requires variables { AreVariables variables.now }
     ensures { Reads (all_mutexes variables.now)
@@ -335,7 +340,7 @@ fn all_mutexes<R: Source>(reader: &mut R, variables: &Variables) -> Read<()>
 }
 
 // The value of the variable of this number.
-fn value_line<R: Source>(reader: &mut R, variables: &Variables, var: u64) -> Read<u32>
+fn value_line<R: Source>(reader: &mut R, variables: &Variables, var: u64) -> SasResult<u32>
     requires can { CanRead (R.position reader.old) }
     requires variables { AreVariables variables.now }
     ensures reads { Reads (line (Refusal.Place K.State) (start_value variables.now var))
@@ -355,7 +360,7 @@ fn value<R: Source>(
     variables: &Variables,
     var: u64,
     values: &mut Values,
-) -> Read<()>
+) -> SasResult<()>
     requires can { CanRead (R.position reader.old) }
     requires variables { AreVariables variables.now }
     requires var { var ≡ length values.old }
@@ -371,7 +376,7 @@ fn value<R: Source>(
 }
 
 // A value for each variable.
-fn values<R: Source>(alloc: Global, reader: &mut R, variables: &Variables) -> Read<Values>
+fn values<R: Source>(alloc: Global, reader: &mut R, variables: &Variables) -> SasResult<Values>
     requires can { CanRead (R.position reader.old) }
     requires variables { AreVariables variables.now }
     ensures reads { Reads (iterate (length variables.now) (value variables.now) [])
@@ -386,7 +391,7 @@ fn values<R: Source>(alloc: Global, reader: &mut R, variables: &Variables) -> Re
 }
 
 // The initial state.
-fn start<R: Source>(alloc: Global, reader: &mut R, variables: &Variables) -> Read<Values>
+fn start<R: Source>(alloc: Global, reader: &mut R, variables: &Variables) -> SasResult<Values>
     requires can { CanRead (R.position reader.old) }
     requires variables { AreVariables variables.now }
     ensures reads { Reads (start variables.now)
@@ -400,7 +405,7 @@ fn start<R: Source>(alloc: Global, reader: &mut R, variables: &Variables) -> Rea
 }
 
 // The goal.
-fn goal<R: Source>(alloc: Global, reader: &mut R, variables: &Variables) -> Read<Facts>
+fn goal<R: Source>(alloc: Global, reader: &mut R, variables: &Variables) -> SasResult<Facts>
     requires can { CanRead (R.position reader.old) }
     requires variables { AreVariables variables.now }
     ensures reads { Reads (goal variables.now)
@@ -420,7 +425,7 @@ fn effect_line<R: Source>(
     variables: &Variables,
     earlier: &Effects,
     marks: &State,
-) -> Read<Effect>
+) -> SasResult<Effect>
     requires can { CanRead (R.position reader.old) }
     requires variables { AreVariables variables.now }
     requires marked { AreMarked variables.now earlier.now marks.now }
@@ -448,7 +453,7 @@ fn effect<R: Source>(
     variables: &Variables,
     marks: &mut State,
     effects: &mut Effects,
-) -> Read<()>
+) -> SasResult<()>
     requires can { CanRead (R.position reader.old) }
     requires variables { AreVariables variables.now }
     requires marked { AreMarked variables.now effects.old marks.old }
@@ -478,7 +483,7 @@ fn effects<R: Source>(
     reader: &mut R,
     variables: &Variables,
     count: u64,
-) -> Read<Effects>
+) -> SasResult<Effects>
     requires can { CanRead (R.position reader.old) }
     requires variables { AreVariables variables.now }
     ensures reads { Reads (iterate count (effect variables.now) [])
@@ -494,7 +499,7 @@ fn effects<R: Source>(
     Ok(effects)
 }
 
-fn cost_line<R: Source>(reader: &mut R) -> Read<u32>
+fn cost_line<R: Source>(reader: &mut R) -> SasResult<u32>
     requires { CanRead (R.position reader.old) }
     ensures { Reads (line (Refusal.Place K.Operator) operator_cost)
         (R.position reader.old) (R.position reader.new) result }
@@ -509,7 +514,7 @@ fn operator<R: Source>(
     reader: &mut R,
     variables: &Variables,
     operators: &mut Operators,
-) -> Read<()>
+) -> SasResult<()>
     requires can { CanRead (R.position reader.old) }
     requires variables { AreVariables variables.now }
     ensures reads { Reads (operator variables.now operators.old)
@@ -549,7 +554,7 @@ fn operators<R: Source>(
     reader: &mut R,
     variables: &Variables,
     count: u64,
-) -> Read<Operators>
+) -> SasResult<Operators>
     requires can { CanRead (R.position reader.old) }
     requires variables { AreVariables variables.now }
     ensures reads { Reads (iterate count (operator variables.now) [])
@@ -565,7 +570,7 @@ fn operators<R: Source>(
     Ok(operators)
 }
 
-fn operators_line<R: Source>(reader: &mut R) -> Read<u64>
+fn operators_line<R: Source>(reader: &mut R) -> SasResult<u64>
     requires { CanRead (R.position reader.old) }
     ensures reads { Reads (line (Refusal.Place K.Operators) operators_of)
         (R.position reader.old) (R.position reader.new) result }
@@ -576,7 +581,11 @@ fn operators_line<R: Source>(reader: &mut R) -> Read<u64>
 }
 
 // The operators.
-fn all_operators<R: Source>(alloc: Global, reader: &mut R, variables: &Variables) -> Read<Operators>
+fn all_operators<R: Source>(
+    alloc: Global,
+    reader: &mut R,
+    variables: &Variables,
+) -> SasResult<Operators>
     requires can { CanRead (R.position reader.old) }
     requires variables { AreVariables variables.now }
     ensures reads { Reads (all_operators variables.now)
@@ -588,7 +597,7 @@ fn all_operators<R: Source>(alloc: Global, reader: &mut R, variables: &Variables
     operators(alloc, reader, variables, count)
 }
 
-fn axioms_line<R: Source>(reader: &mut R) -> Read<()>
+fn axioms_line<R: Source>(reader: &mut R) -> SasResult<()>
     requires { CanRead (R.position reader.old) }
     ensures { Reads (line (Refusal.Place K.Axioms) axioms_of)
         (R.position reader.old) (R.position reader.new) result }
@@ -598,7 +607,7 @@ fn axioms_line<R: Source>(reader: &mut R) -> Read<()>
 }
 
 // The whole file.
-fn whole<R: Source>(alloc: Global, reader: &mut R) -> Read<Sas>
+fn whole<R: Source>(alloc: Global, reader: &mut R) -> SasResult<Sas>
     requires { CanRead (R.position reader.old) }
     ensures reads { Reads sas_file
         (R.position reader.old) (R.position reader.new) result }
@@ -639,7 +648,7 @@ fn sas_fault(stop: ParseFault<SasRefusal>) -> SasFault
 }
 
 // The file of this name, opened and read.
-fn opened<S: Shelf>(alloc: Global, shelf: &mut S, name: &str, limits: Limits) -> Read<Sas>
+fn opened<S: Shelf>(alloc: Global, shelf: &mut S, name: &str, limits: Limits) -> SasResult<Sas>
     requires allowed { IsTrue (S.allows shelf.old name.now) }
     requires line { limits.line ≤ 2 ^ 62 }
     requires file { limits.file ≤ 2 ^ 62 }
@@ -669,9 +678,9 @@ pub fn read_sas<S: Shelf>(
     requires line { limits.line ≤ 2 ^ 62 }
     requires file { limits.file ≤ 2 ^ 62 }
 
-    // where the shelf tells what it holds
+    // where the source's bytes are known
     ensures read { IfSome (S.held shelf.old) (λ held.
-        IsReadFrom limits (bytes_of held name.now) result) }
+        IsSasReadFrom limits (bytes_of held name.now) result) }
 
     // whether it tells or not
     ensures sound { IfOk result IsSoundSas }

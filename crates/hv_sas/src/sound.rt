@@ -2,11 +2,11 @@
 
 ghost use Rattle.std.specs.Prelude.{◌≡◌, ◌≢◌, ◌<◌, ◌≤◌, ◌↔◌, ℕ, All, IsTrue, length};
 ghost use Rattle.std.specs.List.{slice_index_or};
-ghost use Rattle.hv_sas.specs.declared.task.Effect.{Effect};
+ghost use Rattle.hv_sas.specs.declared.sas_task.Effect.{Effect};
 ghost use Rattle.hv_sas.specs.Variables.{IsEffectOn, IsFact, range_at, values_in};
 ghost use Rattle.hv_sas.specs.Sound.{HaveDistinctVariables, HaveValues, IsOperator, IsAssignment};
 
-use crate::task::{Effect, Fact, SasOperator, SasVariable};
+use crate::sas_task::{Effect, Fact, SasOperator, SasVariable};
 
 /// How many values the variables may have together.
 pub(crate) const MOST_VALUES: usize = 65_535;

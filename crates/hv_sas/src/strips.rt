@@ -5,9 +5,9 @@ ghost use Rattle.std.specs.Prelude.{IfOk, OnOk, filter, if◌then◌else◌, len
 ghost use Rattle.std.specs.List.{cons_option, filter_map, flat_map};
 ghost use Rattle.hv_task.specs.Plan.{Solves};
 ghost use Rattle.hv_task.specs.Strips.{atoms};
-ghost use Rattle.hv_sas.specs.declared.task.Effect.{Effect};
-ghost use Rattle.hv_sas.specs.declared.task.Fact.{Fact};
-ghost use Rattle.hv_sas.specs.declared.task.SasVariable.{SasVariable};
+ghost use Rattle.hv_sas.specs.declared.sas_task.Effect.{Effect};
+ghost use Rattle.hv_sas.specs.declared.sas_task.Fact.{Fact};
+ghost use Rattle.hv_sas.specs.declared.sas_task.SasVariable.{SasVariable};
 ghost use Rattle.hv_sas.specs.Variables.{IsEffectOn, IsFact, values_in};
 ghost use Rattle.hv_sas.specs.Meaning.{SasSolves};
 ghost use Rattle.hv_sas.specs.Sound.{IsAssignment, IsOperator, IsSoundSas};
@@ -15,8 +15,8 @@ ghost use Rattle.hv_sas.specs.Made.{fact_after, fact_atom, fact_atoms, fact_befo
 ghost use Rattle.hv_sas.specs.Made.{operator_action, state_facts, strips_of};
 ghost use Rattle.hv_sas.specs.Working.Making.{AreFirstAtoms, AddsFacts};
 
+use crate::sas_task::{Effect, Fact, Sas, SasOperator, SasVariable};
 use crate::sound::range_at;
-use crate::task::{Effect, Fact, Sas, SasOperator, SasVariable};
 use hv_task::{Action, AtomList, AtomSet, Name, Task};
 use std::alloc::{AllocError, Global};
 

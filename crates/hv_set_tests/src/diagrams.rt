@@ -513,7 +513,7 @@ fn answer(
 // What is asked of nodes: for a state in the one set and not in the other, where the negative set
 // is asked about after the action or before it.
 #[derive(Clone, Copy)]
-struct Asked {
+struct DiagramQuery {
     positive: Which,
     negative: Which,
     after: bool,
@@ -524,7 +524,7 @@ fn ask(
     alloc: Global,
     task: &Task,
     list: &Diagrams,
-    asked: Asked,
+    asked: DiagramQuery,
     budget: u64,
 ) -> Result<Option<Finding>, AllocError>
     requires atoms { list.now.atoms ≡ atoms task.now }
@@ -559,7 +559,7 @@ const TWO_SETS: &[u8] = b"nodes 6\n1 1 0\n0 2 0\n0 0 1\n0 1 0\n1 0 1\n2 0 1\n";
 fn finds_in(
     alloc: Global,
     task: &Task,
-    asked: Asked,
+    asked: DiagramQuery,
     budget: u64,
     want: Finding,
 ) -> Result<bool, NodesFault>
@@ -574,7 +574,7 @@ fn finds_in(
 }
 
 // The same for a task of three atoms with its action.
-fn finds(alloc: Global, asked: Asked, budget: u64, want: Finding) -> Result<bool, NodesFault>
+fn finds(alloc: Global, asked: DiagramQuery, budget: u64, want: Finding) -> Result<bool, NodesFault>
     requires positive { IsNamed 8 asked.positive }
     requires negative { IsNamed 8 asked.negative }
 {
@@ -584,28 +584,28 @@ fn finds(alloc: Global, asked: Asked, budget: u64, want: Finding) -> Result<bool
 
 #[test]
 fn live_tuples_are_counted_before_a_state_is_answered(rt: HostRuntime) -> Result<(), Fail> {
-    let within = Asked {
+    let within = DiagramQuery {
         positive: Which::Set(3),
         negative: Which::Set(2),
         after: false,
     };
     assert!(rt; finds(rt.alloc(), within, 2, Finding::Empty)?);
     assert!(rt; finds(rt.alloc(), within, 1, Finding::Over)?);
-    let beyond = Asked {
+    let beyond = DiagramQuery {
         positive: Which::Set(2),
         negative: Which::Set(3),
         after: false,
     };
     assert!(rt; finds(rt.alloc(), beyond, 4, Finding::Clash)?);
     assert!(rt; finds(rt.alloc(), beyond, 3, Finding::Over)?);
-    let led_out = Asked {
+    let led_out = DiagramQuery {
         positive: Which::Set(2),
         negative: Which::Set(2),
         after: true,
     };
     assert!(rt; finds(rt.alloc(), led_out, 2, Finding::Clash)?);
     assert!(rt; finds(rt.alloc(), led_out, 1, Finding::Over)?);
-    let none = Asked {
+    let none = DiagramQuery {
         positive: Which::Empty,
         negative: Which::Set(2),
         after: false,

@@ -23,7 +23,7 @@ pub(crate) trait OneHead: ClauseKind {
 
 /// The places of two literals, which may be one and the same. The place of a literal is twice its
 /// atom, and one more if it is negative.
-pub(crate) type Places = [u32; 2];
+pub(crate) type HeadPlaces = [u32; 2];
 
 fn literal_at(place: u32) -> Literal
     requires { place < 6 }
@@ -35,7 +35,7 @@ fn literal_at(place: u32) -> Literal
     }
 }
 
-fn clause_of_two(alloc: Global, places: Places) -> Result<Clause, AllocError>
+fn clause_of_two(alloc: Global, places: HeadPlaces) -> Result<Clause, AllocError>
     ensures { IfOk result (SpeakBelow 3) }
 {
     let mut clause = Clause::new(alloc);
@@ -45,7 +45,7 @@ fn clause_of_two(alloc: Global, places: Places) -> Result<Clause, AllocError>
 }
 
 // The clauses of these places.
-fn clauses_of(alloc: Global, clauses: [Places; 2]) -> Result<Clauses, AllocError>
+fn clauses_of(alloc: Global, clauses: [HeadPlaces; 2]) -> Result<Clauses, AllocError>
     ensures { IfOk result (AreClauses 3) }
 {
     let [first, second] = clauses;
@@ -59,7 +59,7 @@ fn clauses_of(alloc: Global, clauses: [Places; 2]) -> Result<Clauses, AllocError
 fn set_of<K: OneHead>(
     alloc: Global,
     task: &Task,
-    clauses: [Places; 2],
+    clauses: [HeadPlaces; 2],
 ) -> Result<Formula<K>, K::Fault>
     requires { atoms task.now ≡ 3 }
 {
@@ -71,7 +71,7 @@ fn set_of<K: OneHead>(
 fn fault_of<K: OneHead>(
     alloc: Global,
     task: &Task,
-    clauses: [Places; 2],
+    clauses: [HeadPlaces; 2],
 ) -> Result<Option<usize>, K::Fault>
     requires { atoms task.now ≡ 3 }
 {
@@ -82,13 +82,13 @@ fn fault_of<K: OneHead>(
 }
 
 // Both literals are of the sign, and of different atoms.
-fn is_other<K: OneHead>(places: Places) -> bool {
+fn is_other<K: OneHead>(places: HeadPlaces) -> bool {
     let sign = if K::is_positive() { 0 } else { 1 };
     places[0] % 2 == sign && places[1] % 2 == sign && places[0] != places[1]
 }
 
 // The place of the first such clause.
-fn fault_wanted<K: OneHead>(clauses: [Places; 2]) -> Option<usize> {
+fn fault_wanted<K: OneHead>(clauses: [HeadPlaces; 2]) -> Option<usize> {
     match (is_other::<K>(clauses[0]), is_other::<K>(clauses[1])) {
         (true, _) => Some(0),
         (false, true) => Some(1),
@@ -97,7 +97,7 @@ fn fault_wanted<K: OneHead>(clauses: [Places; 2]) -> Option<usize> {
 }
 
 // Whether the first other clause is named, for this first clause and each second one.
-fn is_named<K: OneHead>(alloc: Global, task: &Task, first: Places) -> Result<bool, K::Fault>
+fn is_named<K: OneHead>(alloc: Global, task: &Task, first: HeadPlaces) -> Result<bool, K::Fault>
     requires { atoms task.now ≡ 3 }
 {
     let mut right = true;
@@ -117,7 +117,7 @@ pub(crate) fn is_named_behind<K: OneHead>(alloc: Global, number: u32) -> Result<
 /// The place of the first of these clauses that is refused.
 pub(crate) fn first_refused<K: OneHead>(
     alloc: Global,
-    clauses: [Places; 2],
+    clauses: [HeadPlaces; 2],
 ) -> Result<Option<usize>, K::Fault> {
     let task = task_of_three(alloc)?;
     fault_of::<K>(alloc, &task, clauses)
@@ -128,7 +128,7 @@ fn put_sets<K: OneHead>(
     alloc: Global,
     task: &Task,
     sets: &mut Formulas<K>,
-    rows: [[Places; 2]; 2],
+    rows: [[HeadPlaces; 2]; 2],
 ) -> Result<bool, K::Fault>
     requires { atoms task.now ≡ 3 }
 {
@@ -167,7 +167,7 @@ fn are_two<K: OneHead>(
 fn numbers<K: OneHead>(
     alloc: Global,
     task: &Task,
-    rows: [[Places; 2]; 2],
+    rows: [[HeadPlaces; 2]; 2],
     holds: [bool; 2],
 ) -> Result<bool, K::Fault>
     requires { atoms task.now ≡ 3 }
@@ -182,7 +182,7 @@ fn numbers<K: OneHead>(
 /// the other.
 pub(crate) fn numbers_sets<K: OneHead>(
     alloc: Global,
-    rows: [[Places; 2]; 2],
+    rows: [[HeadPlaces; 2]; 2],
     holds: [bool; 2],
 ) -> Result<bool, K::Fault> {
     let task = task_of_three(alloc)?;

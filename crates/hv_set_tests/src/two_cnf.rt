@@ -6,15 +6,15 @@ ghost use Rattle.hv_sets.specs.Cubes.{SpeakBelow};
 ghost use Rattle.hv_clauses.specs.Clausal.{AreClauses};
 
 use crate::three_atoms::task_of_three;
-use hv_paths::{OutsideWalked, Stop, Walker};
+use hv_paths::{OutsideWalked, WalkStop, Walker};
 use hv_sets::{Clause, Clauses, Literal};
 use hv_task::Task;
 use hv_twocnf::{TwoCnf, TwoCnfFault};
 use std::alloc::{AllocError, Global};
 use std::test::Fail;
 
-// A clause is three numbers: 1 stands for atom 0, -1 for its negation, 2 for atom 1, and so on; 0
-// stands for no literal.
+// A clause is three numbers: 1 denotes atom 0, -1 for its negation, 2 for atom 1, and so on; 0
+// denotes no literal.
 fn put_literal(clause: &mut Clause, number: i32) -> Result<(), AllocError>
     requires { SpeakBelow 3 clause.old }
     ensures { OnOk result (SpeakBelow 3 clause.new) }
@@ -118,8 +118,8 @@ fn put_next<W: Walker>(walk: &mut W, numbers: &mut Vec<u32>) -> Result<bool, All
     };
     numbers.push(kept.min(u32::MAX as usize) as u32)?;
     match walk.stop() {
-        Stop::Cube(literals) => put_atoms(numbers, literals)?,
-        Stop::State(held, state) => {
+        WalkStop::Cube(literals) => put_atoms(numbers, literals)?,
+        WalkStop::State(held, state) => {
             let _ = held;
             let _ = state;
         },

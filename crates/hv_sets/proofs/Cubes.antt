@@ -144,7 +144,7 @@ module _ (xs : List Literal) (l : Literal) (place : ℕ) where
               (omega (arith, c.1)) in absurd (omega (arith, fits.1))
         ]
 
-    -- it stands there
+    -- it is there
     pub Adds-there : here.positive ≡ l.positive → Adds xs l xs
     Adds-there sign =
         let same : here ≡ l = λ i. record { atom = same_atom i; positive = sign i } in
@@ -164,7 +164,7 @@ module _ (xs : List Literal) (l : Literal) (place : ℕ) where
           );
         }
 
-    -- the opposite stands there exactly where the signs differ
+    -- the opposite is there exactly where the signs differ
     pub opposite_there : (here.positive ≡ l.positive → ⊥) → Contains xs (opposite l)
     opposite_there differ =
         let sign : here.positive ≡ not l.positive = differs here.positive l.positive differ in
@@ -185,7 +185,7 @@ module _ (xs : List Literal) (l : Literal) (place : ℕ) where
         clash true e = let f : true ≡ false = e in absurd cc
         clash false e = let f : false ≡ true = e in absurd cc
 
-    -- so a test of the signs tells whether the opposite stands there
+    -- so a test of the signs tells whether the opposite is there
     pub opposite_test : (beq here.positive l.positive ≡ false) ↔ Contains xs (opposite l)
     opposite_test = (
       λ e. opposite_there (λ same. let t = (booleans_Decides here.positive l.positive).1 same in

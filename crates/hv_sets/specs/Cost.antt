@@ -36,7 +36,7 @@ clauses_among task clauses (operand ∷ operands) =
     clauses_of task clauses operand.which + clauses_among task clauses operands
 
 -- over clauses, the cost of a query is the number of ways to choose one clause of each negative
--- operand: that passes the budget
+-- operand: that exceeds the budget
 abbrev pub ClausesPass : Strips → (ℕ → ℕ) → Query → ℕ → Type 0
 ClausesPass task clauses query budget = budget < choices_of task clauses query.negative
 
@@ -48,12 +48,12 @@ states_of states (W.Set number) = states number
 states_of states _ = 0
 
 -- over listed states, the cost of a query is the number of states that its anchor lists: that
--- passes the budget
+-- exceeds the budget
 abbrev pub StatesPass : (ℕ → ℕ) → Query → ℕ → Type 0
 StatesPass states query budget = (operand : Operand) × IsAnchor query.positive operand
     × (budget < states_of states operand.which)
 
--- the exact answer to a query: that its cost passes the budget, that this state is a
+-- the exact answer to a query: that its cost exceeds the budget, that this state is a
 -- counterexample, or that no state of the task is one
 abbrev pub IsAnswer : Finding → Type 0 → ℕ → (List Bool → Bool) → List Bool → Type 0
 IsAnswer F.Over Passes atoms clash found = Passes

@@ -3,7 +3,7 @@ use Rattle.std.specs.Prelude.{◌≡◌, ◌≤◌, ◌*◌, ℕ, length}
 use Rattle.std.specs.Vec.{vec_len}
 use Rattle.hv_sets.specs.declared.scratch.Scratch.{Scratch}
 
--- there is room for a task with so many atoms, and for so many operands and clauses
+-- there is space for a task with so many atoms, and for so many operands and clauses
 pub record HasRoom (atoms operands clauses : ℕ) (scratch : Scratch) : Type 0 where
   pub state : length scratch.state ≡ atoms
   pub marks : 4 * atoms ≤ vec_len scratch.marks

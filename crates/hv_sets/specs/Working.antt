@@ -2,4 +2,4 @@
 pub mod Cubes
 pub mod Names
 pub mod Pieces
-pub mod Held
+pub mod SharedValue

@@ -5,8 +5,8 @@ ghost use Rattle.std.specs.Prelude.{OnOk, OnErr};
 
 use crate::clause::Clause;
 use crate::flat::Flat;
-use crate::held::Held;
 use crate::literal::Literal;
+use crate::shared_value::SharedValue;
 use std::alloc::{AllocError, Global};
 use std::marker::Model;
 use std::rc::Rc;
@@ -15,13 +15,13 @@ use std::rc::Rc;
 #[derive(Drop)]
 pub struct Clauses {
     alloc: Global,
-    pieces: Held<Flat<Literal>>,
+    pieces: SharedValue<Flat<Literal>>,
 }
 
 impl Model for Clauses {
     ghost use Rattle.std.specs.Prelude.{◌≡◌, [], List};
     ghost use Rattle.hv_sets.specs.declared.literal.Literal.{Literal};
-    ghost use Rattle.hv_sets.specs.Working.Held.{held_value};
+    ghost use Rattle.hv_sets.specs.Working.SharedValue.{held_value};
 
     ghost Value = { List (List Literal) };
 
@@ -37,7 +37,7 @@ impl Clauses {
     {
         Clauses {
             alloc,
-            pieces: Held::Alone(Flat::new(alloc)),
+            pieces: SharedValue::Alone(Flat::new(alloc)),
         }
     }
 
@@ -47,8 +47,8 @@ impl Clauses {
     {
         let Clauses { alloc, pieces } = self;
         let pieces = match pieces {
-            Held::Alone(pieces) => Held::Together(Rc::new(alloc, pieces)?),
-            Held::Together(shared) => Held::Together(shared),
+            SharedValue::Alone(pieces) => SharedValue::Together(Rc::new(alloc, pieces)?),
+            SharedValue::Together(shared) => SharedValue::Together(shared),
         };
         Ok(Clauses { alloc, pieces })
     }
@@ -59,8 +59,8 @@ impl Clauses {
         ensures { IfOk result (λ copy. copy ≡ self.now) }
     {
         let pieces = match &self.pieces {
-            Held::Alone(pieces) => Held::Alone(pieces.copy(alloc)?),
-            Held::Together(shared) => Held::Together(shared.clone()?),
+            SharedValue::Alone(pieces) => SharedValue::Alone(pieces.copy(alloc)?),
+            SharedValue::Together(shared) => SharedValue::Together(shared.clone()?),
         };
         Ok(Clauses { alloc, pieces })
     }
@@ -75,18 +75,18 @@ impl Clauses {
     }
 
     /// Puts the clause of these literals last. Copies that are shared stay as they are. More than
-    /// 4,294,967,295 literals in all are answered as want of memory; a line has fewer than
+    /// 4,294,967,295 literals in all are answered as out of memory; a line has fewer than
     /// 8,388,608.
     pub fn push_literals(&mut self, literals: &[Literal]) -> Result<(), AllocError>
         ensures ok { OnOk result (self.new ≡ self.old ++ literals.now ∷ []) }
         ensures err { OnErr result (self.new ≡ self.old) }
     {
         match &mut self.pieces {
-            Held::Alone(pieces) => pieces.push(literals),
-            Held::Together(shared) => {
+            SharedValue::Alone(pieces) => pieces.push(literals),
+            SharedValue::Together(shared) => {
                 let mut own = shared.copy(self.alloc)?;
                 own.push(literals)?;
-                self.pieces = Held::Alone(own);
+                self.pieces = SharedValue::Alone(own);
                 Ok(())
             }
         }
@@ -142,7 +142,7 @@ impl ClausesBuilder {
         }
     }
 
-    /// Takes room for so many clauses more, and for so many literals.
+    /// Takes space for so many clauses more, and for so many literals.
     pub fn reserve(&mut self, clauses: usize, literals: usize) -> Result<(), AllocError>
         ensures { self.new ≡ self.old }
     {
@@ -159,7 +159,7 @@ impl ClausesBuilder {
     }
 
     /// Ends the clause that is begun; without a literal it is the empty one. More than
-    /// 4,294,967,295 literals in all are answered as want of memory; a line has fewer than
+    /// 4,294,967,295 literals in all are answered as out of memory; a line has fewer than
     /// 8,388,608.
     pub fn end(&mut self) -> Result<(), AllocError>
         ensures ok { OnOk result
@@ -184,7 +184,7 @@ impl ClausesBuilder {
         let ClausesBuilder { alloc, pieces } = self;
         Clauses {
             alloc,
-            pieces: Held::Alone(pieces),
+            pieces: SharedValue::Alone(pieces),
         }
     }
 }

@@ -44,7 +44,7 @@ impl Cube {
         }
     }
 
-    /// Puts a literal in. The answer is false if the opposite literal stands in the cube, which is
+    /// Puts a literal in. The answer is false if the opposite literal is in the cube, which is
     /// then unchanged.
     pub fn add(&mut self, literal: Literal) -> Result<bool, AllocError>
         ensures added { IfOk result (λ yes. yes ≡ true → Adds self.old literal self.new) }
@@ -53,7 +53,7 @@ impl Cube {
         // A literal of a greater atom than all others goes last.
         ensures last { IfOk result (λ yes. AreBelow literal.atom (atoms_of self.old) → (yes ≡ true)
             × (self.new ≡ self.old ++ literal ∷ [])) }
-        // A literal that stands in the cube changes nothing.
+        // A literal that is in the cube changes nothing.
         ensures there { IfOk result (λ _. Contains self.old literal → self.new ≡ self.old) }
         ensures refused { IfOk result (λ yes. yes ≡ false → self.new ≡ self.old) }
         ensures opposite { IfOk result (λ yes. (yes ≡ false)

@@ -31,7 +31,7 @@ pub trait Family {
     ghost passes: { Self → Strips → Query → ℕ → Type 0 };
 
     /// The exact answer to a query: Over exactly where it costs more than the budget; else Clash
-    /// exactly where some state is a counterexample, which then stands in the scratch; else Empty.
+    /// exactly where some state is a counterexample, which then is in the scratch; else Empty.
     fn find(
         &self,
         alloc: Global,

@@ -76,7 +76,7 @@ impl<T: Copy> Flat<T> {
     }
 
     /// Puts the piece of these items last, where none is begun. More than 4,294,967,295 items in
-    /// all are answered as want of memory; no line has so many.
+    /// all are answered as out of memory; no line has so many.
     pub(crate) fn push(&mut self, items: &[T]) -> Result<(), AllocError>
         requires { self.old.begun ≡ [] }
         ensures ok { OnOk result
@@ -92,7 +92,7 @@ impl<T: Copy> Flat<T> {
         Ok(())
     }
 
-    /// Takes room for so many pieces more, and for so many items.
+    /// Takes space for so many pieces more, and for so many items.
     pub(crate) fn reserve(&mut self, pieces: usize, items: usize) -> Result<(), AllocError>
         ensures { self.new ≡ self.old }
     {

@@ -9,12 +9,12 @@ pub mod cursor;
 pub mod family;
 pub mod finding;
 mod flat;
-mod held;
 pub mod literal;
 pub mod operand;
 pub mod operands;
 pub mod query;
 pub mod scratch;
+mod shared_value;
 pub mod state_list;
 pub mod state_set;
 

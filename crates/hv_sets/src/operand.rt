@@ -1,6 +1,6 @@
 //! Operands of a query: which set is asked about, and whether before the action or after it.
 
-/// The set that an operand stands for.
+/// The set that an operand denotes.
 #[derive(Clone, Copy, Debug, PartialEq, Eq, Hash)]
 pub enum Which {
     /// The set without states.

@@ -1,4 +1,4 @@
-//! Room for the work of calls, so that the next one needs no new memory.
+//! Space for the work of calls, so that the next one needs no new memory.
 
 ghost use Rattle.std.specs.Prelude.{◌≡◌, ◌≤◌, [], IfOk, OnOk};
 ghost use Rattle.std.specs.Vec.{vec_len};
@@ -7,8 +7,8 @@ ghost use Rattle.hv_sets.specs.Room.{HasRoom, KeepsLengths};
 use hv_task::State;
 use std::alloc::{AllocError, Global};
 
-/// Room for the work of a call, so that the next call needs no new memory. A call that takes a
-/// scratch says nothing of what stands in it afterwards, but for the state that it names, and that
+/// Space for the work of a call, so that the next call needs no new memory. A call that takes a
+/// scratch says nothing of what is in it afterwards, but for the state that it names, and that
 /// none of its four lengths fell.
 #[derive(Drop)]
 pub struct Scratch {
@@ -38,7 +38,7 @@ impl Scratch {
         })
     }
 
-    /// Makes room for a task with so many atoms, and for so many operands and clauses.
+    /// Makes space for a task with so many atoms, and for so many operands and clauses.
     pub fn reserve(&mut self, atoms: u32, operands: usize, clauses: usize) -> Result<(), AllocError>
         ensures room { OnOk result (HasRoom atoms operands clauses self.new) }
         ensures lengths { KeepsLengths self.old self.new }

@@ -7,7 +7,7 @@ ghost use Rattle.std.specs.List.Sorted.{IsStrictlyIncreasing};
 ghost use Rattle.hv_task.specs.State.{AreBelow};
 
 use crate::flat::Flat;
-use crate::held::Held;
+use crate::shared_value::SharedValue;
 use hv_task::AtomList;
 use std::alloc::{AllocError, Global};
 use std::marker::Model;
@@ -17,14 +17,14 @@ use std::rc::Rc;
 #[derive(Drop)]
 pub struct StateList {
     alloc: Global,
-    pieces: Held<Flat<u32>>,
+    pieces: SharedValue<Flat<u32>>,
 }
 
 impl Model for StateList {
     ghost use Rattle.std.specs.Prelude.{◌≡◌, ℕ, List, []};
     ghost use Rattle.std.specs.List.{All};
     ghost use Rattle.std.specs.List.Sorted.{IsStrictlyIncreasing};
-    ghost use Rattle.hv_sets.specs.Working.Held.{held_value};
+    ghost use Rattle.hv_sets.specs.Working.SharedValue.{held_value};
 
     ghost Value = { List (List ℕ) };
 
@@ -41,7 +41,7 @@ impl StateList {
     {
         StateList {
             alloc,
-            pieces: Held::Alone(Flat::new(alloc)),
+            pieces: SharedValue::Alone(Flat::new(alloc)),
         }
     }
 
@@ -51,8 +51,8 @@ impl StateList {
     {
         let StateList { alloc, pieces } = self;
         let pieces = match pieces {
-            Held::Alone(pieces) => Held::Together(Rc::new(alloc, pieces)?),
-            Held::Together(shared) => Held::Together(shared),
+            SharedValue::Alone(pieces) => SharedValue::Together(Rc::new(alloc, pieces)?),
+            SharedValue::Together(shared) => SharedValue::Together(shared),
         };
         Ok(StateList { alloc, pieces })
     }
@@ -63,8 +63,8 @@ impl StateList {
         ensures { IfOk result (λ copy. copy ≡ self.now) }
     {
         let pieces = match &self.pieces {
-            Held::Alone(pieces) => Held::Alone(pieces.copy(alloc)?),
-            Held::Together(shared) => Held::Together(shared.clone()?),
+            SharedValue::Alone(pieces) => SharedValue::Alone(pieces.copy(alloc)?),
+            SharedValue::Together(shared) => SharedValue::Together(shared.clone()?),
         };
         Ok(StateList { alloc, pieces })
     }
@@ -79,7 +79,7 @@ impl StateList {
     }
 
     /// Puts the state of these atoms last. Copies that are shared stay as they are. More than
-    /// 4,294,967,295 atoms in all are answered as want of memory; a line has fewer than
+    /// 4,294,967,295 atoms in all are answered as out of memory; a line has fewer than
     /// 8,388,608.
     pub fn push_atoms(&mut self, atoms: &[u32]) -> Result<(), AllocError>
         requires { IsStrictlyIncreasing atoms.now }
@@ -87,11 +87,11 @@ impl StateList {
         ensures err { OnErr result (self.new ≡ self.old) }
     {
         match &mut self.pieces {
-            Held::Alone(pieces) => pieces.push(atoms),
-            Held::Together(shared) => {
+            SharedValue::Alone(pieces) => pieces.push(atoms),
+            SharedValue::Together(shared) => {
                 let mut own = shared.copy(self.alloc)?;
                 own.push(atoms)?;
-                self.pieces = Held::Alone(own);
+                self.pieces = SharedValue::Alone(own);
                 Ok(())
             }
         }
@@ -154,7 +154,7 @@ impl StateListBuilder {
         }
     }
 
-    /// Takes room for so many states more, and for so many atoms.
+    /// Takes space for so many states more, and for so many atoms.
     pub fn reserve(&mut self, states: usize, atoms: usize) -> Result<(), AllocError>
         ensures { self.new ≡ self.old }
     {
@@ -172,7 +172,7 @@ impl StateListBuilder {
     }
 
     /// Ends the state that is begun; without an atom it is the one that holds none. More than
-    /// 4,294,967,295 atoms in all are answered as want of memory; a line has fewer than
+    /// 4,294,967,295 atoms in all are answered as out of memory; a line has fewer than
     /// 8,388,608.
     pub fn end(&mut self) -> Result<(), AllocError>
         ensures ok { OnOk result
@@ -205,7 +205,7 @@ impl StateListBuilder {
         let StateListBuilder { alloc, pieces } = self;
         StateList {
             alloc,
-            pieces: Held::Alone(pieces),
+            pieces: SharedValue::Alone(pieces),
         }
     }
 }

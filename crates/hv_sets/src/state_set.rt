@@ -33,7 +33,7 @@ pub trait StateSet {
         requires { IsStateOf (atoms self.now) state.now }
         ensures { result ≡ has self.now state.now };
 
-    /// Whether some state is in the cube and in the set. One such state then stands in the scratch.
+    /// Whether some state is in the cube and in the set. One such state then is in the scratch.
     fn meets(&self, alloc: Global, cube: &Cube, scratch: &mut Scratch) -> Result<bool, AllocError>
         requires { SpeakBelow (atoms self.now) cube.now }
         ensures meets { IfOk result (λ yes.
@@ -46,13 +46,13 @@ pub trait Outside: StateSet {
     // The steps of the walk over the complement.
     ghost outside: { Self → List (Option (List Literal)) };
 
-    // The cursor stands for this walk.
+    // The cursor denotes this walk.
     ghost stands_outside: { Self → Cursor → Type 0 };
 
     // The steps that are left where it does.
     ghost outside_left: { Self → Cursor → List (Option (List Literal)) };
 
-    /// Takes the next step. After want of memory the walk is over.
+    /// Takes the next step. After running out of memory the walk is over.
     fn outside_next(&self, cursor: &mut Cursor, cube: &mut Cube) -> Result<Step, AllocError>
         requires { stands_outside self.now cursor.old }
         ensures step { IfOk result (λ step.
@@ -67,7 +67,7 @@ pub trait Outside: StateSet {
         requires { cap ≤ most_counted }
         ensures { IfOk result (λ count. count ≡ min (length (outside self.now)) (cap + 1)) };
 
-    // A new cursor stands for the walk, and all its steps are left.
+    // A new cursor denotes the walk, and all its steps are left.
     ghost starts_outside: { (set : Self) (cursor : Cursor) → IsNew cursor
         → stands_outside set cursor };
 
@@ -84,13 +84,13 @@ pub trait Inside: StateSet {
     // The cubes of the walk over the set.
     ghost inside: { Self → List (List Literal) };
 
-    // The cursor stands for this walk.
+    // The cursor denotes this walk.
     ghost stands_inside: { Self → Cursor → Type 0 };
 
     // The cubes that are left where it does.
     ghost inside_left: { Self → Cursor → List (List Literal) };
 
-    /// Takes the next cube. After want of memory the walk is over.
+    /// Takes the next cube. After running out of memory the walk is over.
     fn inside_next(&self, cursor: &mut Cursor, cube: &mut Cube) -> Result<Step, AllocError>
         requires { stands_inside self.now cursor.old }
         ensures step { IfOk result (λ step.
@@ -105,7 +105,7 @@ pub trait Inside: StateSet {
         requires { cap ≤ most_counted }
         ensures { IfOk result (λ count. count ≡ min (length (inside self.now)) (cap + 1)) };
 
-    // A new cursor stands for the walk, and all its cubes are left.
+    // A new cursor denotes the walk, and all its cubes are left.
     ghost starts_inside: { (set : Self) (cursor : Cursor) → IsNew cursor
         → stands_inside set cursor };
 
@@ -120,7 +120,7 @@ pub trait Inside: StateSet {
 /// A set of which it can be told whether it has every state of a cube.
 pub trait Covering: StateSet {
     /// Whether each state of the cube is in the set. Otherwise a state of the cube outside the set
-    /// stands in the scratch.
+    /// is in the scratch.
     fn covers(&self, alloc: Global, cube: &Cube, scratch: &mut Scratch) -> Result<bool, AllocError>
         requires { SpeakBelow (Self.atoms self.now) cube.now }
         ensures covers { IfOk result (λ yes.

@@ -15,6 +15,6 @@ pub record Inserts (old : List ℕ) (atom : ℕ) (new : List ℕ) : Type 0 where
 abbrev pub IsListOf : List Bool → List ℕ → Type 0
 IsListOf state held = Lists (has_atom state) (length state) held
 
--- the atoms, of so many, that stand in the list: each once, rising
+-- the atoms, of so many, that are in the list: each once, rising
 abbrev pub set_of : ℕ → List ℕ → List ℕ
 set_of atoms listed = filter (λ atom. list_any (λ n. n == atom) listed) (range_with_len 0 atoms)

@@ -66,8 +66,8 @@ impl AtomSet {
     }
 }
 
-// Sorts the atoms where they are as many as there is room for, and says how many there is room for
-// then.
+// Sorts the atoms where they are as many as there is space for, and says how many there is space
+// for then.
 fn made_room(atoms: &mut Vec<u32>, room: usize) -> usize
     ensures { members atoms.new.items ≡ members atoms.old.items }
 {

@@ -158,8 +158,8 @@ impl State {
         clear_all(&mut self.words);
     }
 
-    /// Writes the atoms that it holds, rising, in place of what the list has. After want of memory
-    /// nothing is said of the list.
+    /// Writes the atoms that it holds, rising, in place of what the list has. After running out of
+    /// memory nothing is said of the list.
     pub fn list_atoms(&self, held: &mut Vec<u32>) -> Result<(), AllocError>
         ensures listed { OnOk result (IsListOf self.now held.new.items) }
     {

@@ -12,8 +12,8 @@ use Rattle.hv_task.specs.Strips.{Strips}
 use Rattle.hv_task.specs.declared.action.Action.{Action}
 use Rattle.hv_task.proofs.Lists.{take_next}
 use Rattle.hv_task_text.specs.Canonical.{bytes_of_lines, canonical_of, entry_of, head_of, with_lf}
-use Rattle.hv_task_text.specs.declared.lists.Item.TheVariants as I
-use Rattle.hv_task_text.specs.Written.{Head, item_line, name_lines, head_lines}
+use Rattle.hv_task_text.specs.declared.atom_lists.Item.TheVariants as I
+use Rattle.hv_task_text.specs.Written.{WrittenHead, item_line, name_lines, head_lines}
 use Rattle.hv_task_text.specs.Written.{entry_lines}
 
 -- one item more of a list whose items are written one after another
@@ -37,22 +37,23 @@ abbrev B : List (List ℕ) → List ℕ
 B lines = bytes_of_lines lines
 
 -- the text is the old one with these lines behind it
-record Adds (old text : List ℕ) (lines : List (List ℕ)) : Type 0 where
+record AddsItem (old text : List ℕ) (lines : List (List ℕ)) : Type 0 where
   pub same : text ≡ old ++ B lines
 
-lines_after : {old t u : List ℕ} {lines : List (List ℕ)} (more : List (List ℕ)) → Adds old t lines
-    → u ≡ t ++ B more → Adds old u (lines ++ more)
+lines_after : {old t u : List ℕ} {lines : List (List ℕ)} (more : List (List ℕ)) → AddsItem old t
+    lines
+    → u ≡ t ++ B more → AddsItem old u (lines ++ more)
 lines_after {old} {t} {u} {lines} more e f = record {
   same = f ∙ ap (λ s. s ++ B more) e.same ∙ append_assoc old (B lines) (B more)
       ∙ ap (λ bs. old ++ bs) (sym (flat_map-append with_lf lines more));
 }
 
-line_after : {old t u : List ℕ} {lines : List (List ℕ)} (line : List ℕ) → Adds old t lines
-    → u ≡ t ++ with_lf line → Adds old u (lines ++ line ∷ [])
+line_after : {old t u : List ℕ} {lines : List (List ℕ)} (line : List ℕ) → AddsItem old t lines
+    → u ≡ t ++ with_lf line → AddsItem old u (lines ++ line ∷ [])
 line_after {old} {t} line e f = lines_after (line ∷ []) e
     (f ∙ ap (λ bs. t ++ bs) (sym (append-nil (with_lf line))))
 
-first_line : {old u : List ℕ} (line : List ℕ) → u ≡ old ++ with_lf line → Adds old u (line ∷ [])
+first_line : {old u : List ℕ} (line : List ℕ) → u ≡ old ++ with_lf line → AddsItem old u (line ∷ [])
 first_line {old} line f = record {
   same = f
       ∙ ap (λ bs. old ++ bs) (sym (append-nil (with_lf line)));
@@ -77,7 +78,7 @@ head_shape : (names start goal : List (List ℕ)) (a b c d e : List ℕ)
 head_shape names start goal a b c d e = simp append_assoc
 
 -- the head of a text, from what was appended one after another
-pub head_written : (head : Head) (old a b c d e f g h : List ℕ)
+pub head_written : (head : WrittenHead) (old a b c d e f g h : List ℕ)
     → a ≡ old ++ B (name_lines (length head.names) head.names)
     → b ≡ a ++ with_lf (codes "end_atoms") → c ≡ b ++ with_lf (codes "begin_init")
     → d ≡ c ++ flat_map (λ n. with_lf ([] ++ decimal n)) head.start
@@ -88,7 +89,7 @@ head_written head old a b c d e f g h p q r s t u v w =
     let names = name_lines (length head.names) head.names in
     let start = map decimal head.start in
     let goal = map decimal head.goal in
-    let l0 : Adds old a names = record { same = p } in
+    let l0 : AddsItem old a names = record { same = p } in
     let la = line_after (codes "end_atoms") l0 q in
     let lb = line_after (codes "begin_init") la r in
     let lc = lines_after start lb (atoms_bytes c d [] head.start s) in
@@ -172,7 +173,7 @@ task_written task a b c d p q r s =
     ≡ B entries =
     sym (flat_map-flat_map with_lf entry_lines (map entry_of task.actions)
     ∙ flat_map-map (λ e. flat_map with_lf (entry_lines e)) entry_of task.actions) in
-    let l0 : Adds [] a head = record { same = p } in
+    let l0 : AddsItem [] a head = record { same = p } in
     let la = line_after (codes "begin_actions:" ++ decimal (length task.actions)) l0 q in
     let lb = lines_after entries la (r ∙ ap (λ bs. b ++ bs) m) in
     (line_after (codes "end_actions") lb s).same

@@ -7,7 +7,7 @@ use Rattle.std.specs.Fmt.{decimal}
 use Rattle.std.specs.List.{All, flat_map}
 use Rattle.std.proofs.lemmas.List.{length-map}
 use Rattle.hv_bytes.specs.Files.{Names, bytes_of}
-use Rattle.hv_bytes.specs.Pieces.{Piece, as_pieces, pieces_of}
+use Rattle.hv_bytes.specs.Pieces.{PieceBytes, as_pieces, pieces_of}
 use Rattle.hv_bytes.specs.declared.cutting.Limits.{Limits}
 use Rattle.hv_grammar.specs.Forms.{is_word, numbered_in, numbered_line, word_line}
 use Rattle.hv_grammar.specs.Parsers.{Parser, end_of_input, parsed, pure}
@@ -21,8 +21,9 @@ use Rattle.hv_task_text.specs.TaskFile.{action, action_lists, all_actions, atom_
 use Rattle.hv_task_text.specs.TaskFile.{atom_set, goal_atoms, item_or, list_till}
 use Rattle.hv_task_text.specs.TaskFile.{name_in, line_of_name}
 use Rattle.hv_task_text.specs.TaskFile.{start_atoms, task_file}
-use Rattle.hv_task_text.specs.TaskText.{AreTextOf, IsReadFrom}
-use Rattle.hv_task_text.specs.Written.{AreActions, AreNames, Entry, Head, IsEntry, IsItem}
+use Rattle.hv_task_text.specs.TaskText.{AreTaskTextOf, IsTaskReadFrom}
+use Rattle.hv_task_text.specs.Written.{AreActions, AreNames, WrittenAction, WrittenHead, IsEntry}
+use Rattle.hv_task_text.specs.Written.{IsItem}
 use Rattle.hv_task_text.specs.Written.{IsName, atom_lines, entry_lines, item_line}
 use Rattle.hv_task_text.specs.Written.{task_of, text_lines, written_action}
 use Rattle.hv_task_text.specs.declared.fault.TaskKind.{TaskKind}
@@ -30,7 +31,7 @@ use Rattle.hv_task_text.specs.declared.fault.TaskKind.TheVariants as K
 use Rattle.hv_task_text.specs.declared.fault.TaskLimit.TheVariants as W
 use Rattle.hv_task_text.specs.declared.fault.TaskRefusal.{TaskRefusal}
 use Rattle.hv_task_text.specs.declared.fault.TaskRefusal.TheVariants as R
-use Rattle.hv_task_text.specs.declared.lists.Item.{Item}
+use Rattle.hv_task_text.specs.declared.atom_lists.Item.{Item}
 use Rattle.hv_task_text.proofs.LineTests.{atom_said, atom_spelled, atoms_closed}
 use Rattle.hv_task_text.proofs.LineTests.{atoms_end, item_said}
 use Rattle.hv_task_text.proofs.LineTests.{item_spelled, items_closed, items_end}
@@ -49,7 +50,7 @@ use Rattle.hv_task_text.proofs.Parted.{splits_line, splits_list, splits_pure}
 abbrev set_lines : List ℕ → List ℕ → List ℕ → List (List ℕ)
 set_lines opening closing listed = opening ∷ map decimal listed ++ closing ∷ []
 
-abbrev counted_lines : List Entry → List (List ℕ)
+abbrev counted_lines : List WrittenAction → List (List ℕ)
 counted_lines actions =
     (codes "begin_actions:" ++ decimal (length actions)) ∷ flat_map entry_lines actions
     ++ codes "end_actions" ∷ []
@@ -158,7 +159,7 @@ goal_read atoms listed few below =
     (atom_set_read (codes "end_goal") K.GoalAtom atoms listed few
     (atoms_closed (codes "end_goal") K.GoalAtom atoms (no_number (codes "nd_goal"))) below)
 
-lists_read : (atoms : ℕ) (entry : Entry) → atoms ≤ 65535 → IsEntry atoms entry
+lists_read : (atoms : ℕ) (entry : WrittenAction) → atoms ≤ 65535 → IsEntry atoms entry
     → Spells (action_lists atoms entry.name entry.cost)
     (map item_line entry.items ++ codes "end_action" ∷ []) (written_action atoms entry)
 lists_read atoms entry few is =
@@ -173,7 +174,7 @@ lists_read atoms entry few is =
     entry.items [] (item_said atoms few) (items_closed atoms) is.items)
     (spells_none (written_action atoms entry)))
 
-action_read : (atoms : ℕ) (entry : Entry) → atoms ≤ 65535 → IsEntry atoms entry
+action_read : (atoms : ℕ) (entry : WrittenAction) → atoms ≤ 65535 → IsEntry atoms entry
     → Spells (action atoms) (entry_lines entry) (written_action atoms entry)
 action_read atoms entry few is =
     let cost = is.cost in
@@ -188,7 +189,7 @@ action_read atoms entry few is =
     (action_lists atoms entry.name) entry.cost listed (written_action atoms entry) cost
     (omega arith) (lists_read atoms entry few is)))
 
-actions_read : (atoms : ℕ) (entries : List Entry) → atoms ≤ 65535 → length entries ≤ 1000000
+actions_read : (atoms : ℕ) (entries : List WrittenAction) → atoms ≤ 65535 → length entries ≤ 1000000
     → All (IsEntry atoms) entries
     → Spells (all_actions atoms) (counted_lines entries) (map (written_action atoms) entries)
 actions_read atoms entries few many each =
@@ -206,7 +207,7 @@ actions_read atoms entries few many each =
     (spells_none (map (written_action atoms) entries))))
 
 -- the lines of a text, part by part
-abbrev parts : Head → List Entry → List (List ℕ)
+abbrev parts : WrittenHead → List WrittenAction → List (List ℕ)
 parts head actions =
     atom_lines head.names ++ (set_lines (codes "begin_init") (codes "end_init") head.start
     ++ (set_lines (codes "begin_goal") (codes "end_goal") head.goal ++ counted_lines actions))
@@ -225,7 +226,8 @@ shape names start goal actions a b c d e f =
     (sym (append_assoc goal (d ∷ []) last))
     ∙ sym (append_assoc start (b ∷ []) (c ∷ (goal ++ d ∷ []) ++ last)))
 
-in_parts : (head : Head) (actions : List Entry) → text_lines head actions ≡ parts head actions
+in_parts : (head : WrittenHead) (actions : List WrittenAction) → text_lines head actions ≡ parts
+    head actions
 in_parts head actions =
     shape (atom_lines head.names) (map decimal head.start) (map decimal head.goal)
     (flat_map entry_lines actions) (codes "begin_init") (codes "end_init") (codes "begin_goal")
@@ -247,7 +249,8 @@ after_start names start = goal_atoms (length names) >>= after_goal names start
 abbrev after_names : List (List ℕ) → Parser TaskRefusal Strips
 after_names names = start_atoms (length names) >>= after_start names
 
-task_ends : (head : Head) (actions : List Entry) → AreActions (length actions) head actions
+task_ends : (head : WrittenHead) (actions : List WrittenAction) → AreActions (length actions) head
+    actions
     → Ends task_file (parts head actions) (task_of head actions)
 task_ends head actions legal =
     let names = head.names in
@@ -273,7 +276,7 @@ task_ends head actions legal =
     (ends_pure (R.Place K.End) task)))))
 
 -- a text of a task is read as this task
-pub text_is_read : (pieces : List Piece) (task : Strips) → AreTextOf pieces task
+pub text_is_read : (pieces : List PieceBytes) (task : Strips) → AreTaskTextOf pieces task
     → task_file 0 pieces ≡ parsed task (length pieces) []
 text_is_read pieces task (head, actions, text) =
     let lines = parts head actions in
@@ -439,7 +442,7 @@ split_lists atoms name cost n m ps qs a e =
 
 abbrev IsBody : ℕ → Action → List (List ℕ) → Type 0
 IsBody atoms a lines =
-    (entry : Entry) × IsEntry atoms entry × (a ≡ written_action atoms entry)
+    (entry : WrittenAction) × IsEntry atoms entry × (a ≡ written_action atoms entry)
     × (codes "begin_action" ∷ lines ≡ entry_lines entry)
 
 split_body : (atoms : ℕ) → Splits (name_and_lists atoms) (IsBody atoms)
@@ -476,7 +479,7 @@ split_action atoms =
 -- the actions, behind their number
 abbrev AreWritten : ℕ → ℕ → List Action → List (List ℕ) → Type 0
 AreWritten atoms k actions lines =
-    (entries : List Entry) × All (IsEntry atoms) entries × (length entries ≡ k)
+    (entries : List WrittenAction) × All (IsEntry atoms) entries × (length entries ≡ k)
     × (actions ≡ map (written_action atoms) entries)
     × (lines ≡ flat_map entry_lines entries ++ codes "end_actions" ∷ [])
 
@@ -501,7 +504,7 @@ split_each_action atoms k n m ps qs actions e =
 -- what is said of all actions, and their lines
 abbrev AreAll : ℕ → List Action → List (List ℕ) → Type 0
 AreAll atoms actions lines =
-    (entries : List Entry) × All (IsEntry atoms) entries × (length entries ≤ 1000000)
+    (entries : List WrittenAction) × All (IsEntry atoms) entries × (length entries ≤ 1000000)
     × (actions ≡ map (written_action atoms) entries) × (lines ≡ counted_lines entries)
 
 split_actions : (atoms : ℕ) → Splits (all_actions atoms) (AreAll atoms)
@@ -529,8 +532,8 @@ same_parts : (a b c d e f g h : List (List ℕ)) → a ≡ b → c ≡ d → e �
     → a ++ (c ++ (e ++ g)) ≡ b ++ (d ++ (f ++ h))
 same_parts a b c d e f g h p q r s = cc
 
-pub read_is_text : (pieces : List Piece) (task : Strips) (n : ℕ) (rest : List Piece)
-    → task_file 0 pieces ≡ parsed task n rest → AreTextOf pieces task
+pub read_is_text : (pieces : List PieceBytes) (task : Strips) (n : ℕ) (rest : List PieceBytes)
+    → task_file 0 pieces ≡ parsed task n rest → AreTaskTextOf pieces task
 read_is_text pieces task n rest e =
     let w = came_of after_names (atom_names 0 pieces) task n rest e in
     let names = w.0 in
@@ -548,7 +551,7 @@ read_is_text pieces task n rest e =
     let end = ended (R.Place K.End)
     (record { names = names; start = w2.0; goal = w3.0; actions = w4.0 }) task w4.1 n w4.2 rest
     w4.4 in
-    let head : Head = record { names = names; start = x2.2.0; goal = x3.2.0 } in
+    let head : WrittenHead = record { names = names; start = x2.2.0; goal = x3.2.0 } in
     let entries = x4.2.0 in
     let last : w3.2 ≡ as_pieces x4.0 =
     x4.1 ∙ ap (λ rs. as_pieces x4.0 ++ rs) end.1 ∙ append-nil (as_pieces x4.0) in
@@ -576,7 +579,7 @@ read_is_text pieces task n rest e =
 -- the task that is answered is the one that comes of the whole file
 pub answers_task : (files : Option Names) (name : List ℕ) (limits : Limits) (task : Strips)
     → IfSome files (λ f. IsReadAs (task_file 0 (pieces_of limits (bytes_of f name))) (Ok task))
-    → IfSome files (λ f. IsReadFrom limits (bytes_of f name) (Ok task))
+    → IfSome files (λ f. IsTaskReadFrom limits (bytes_of f name) (Ok task))
 answers_task None name limits task h = tt
 answers_task (Some f) name limits task h =
     read_is_text (pieces_of limits (bytes_of f name)) task h.0 h.1 h.2

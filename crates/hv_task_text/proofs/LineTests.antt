@@ -22,8 +22,8 @@ use Rattle.hv_task_text.specs.declared.fault.TaskKind.TheVariants as K
 use Rattle.hv_task_text.specs.declared.fault.TaskLimit.TheVariants as W
 use Rattle.hv_task_text.specs.declared.fault.TaskRefusal.{TaskRefusal}
 use Rattle.hv_task_text.specs.declared.fault.TaskRefusal.TheVariants as R
-use Rattle.hv_task_text.specs.declared.lists.Item.{Item}
-use Rattle.hv_task_text.specs.declared.lists.Item.TheVariants as I
+use Rattle.hv_task_text.specs.declared.atom_lists.Item.{Item}
+use Rattle.hv_task_text.specs.declared.atom_lists.Item.TheVariants as I
 
 -- Names.
 

@@ -2,7 +2,7 @@
 use Rattle.std.proofs.Common.{◌≡◌, ℕ, ◌+◌, List, [], ◌∷◌, ◌++◌, Option, None}
 use Rattle.std.proofs.Common.{Some, Ok, Err, refl, subst}
 use Rattle.std.specs.Prelude.{IsErrAnd, Result}
-use Rattle.hv_bytes.specs.Pieces.{Piece}
+use Rattle.hv_bytes.specs.Pieces.{PieceBytes}
 use Rattle.hv_grammar.specs.Parsers.{Parser, after, done_or, followed, line}
 use Rattle.hv_grammar.specs.Parsers.{many_till, pure, tested}
 use Rattle.hv_grammar.specs.Parsers.{◌>>=◌}
@@ -28,7 +28,8 @@ module _ {A C : Type 0} (kind : TaskKind) (test : List ℕ → Result (Option A)
   later earlier None = rest earlier
   later earlier (Some a) = left (earlier ++ a ∷ [])
 
-  same_said : (earlier : List A) (n : ℕ) (ps : List Piece) (said : Result (Option A) TaskRefusal)
+  same_said : (earlier : List A) (n : ℕ) (ps : List PieceBytes) (said : Result (Option A)
+      TaskRefusal)
       → after (tested (n + 1) ps said) (later earlier)
       ≡ after (followed (n + 1) (done_or earlier (n + 1) ps
       (λ b. many_till (R.Place kind) (λ list bytes. with_said list (test bytes)) b (n + 1) ps))
@@ -37,7 +38,7 @@ module _ {A C : Type 0} (kind : TaskKind) (test : List ℕ → Result (Option A)
   same_said earlier n ps (Ok (Some a)) = refl
   same_said earlier n ps (Err bad) = refl
 
-  same_left : (earlier : List A) (n : ℕ) (ps : List Piece)
+  same_left : (earlier : List A) (n : ℕ) (ps : List PieceBytes)
       → (line (R.Place kind) test >>= later earlier) n ps ≡ left earlier n ps
   same_left earlier n [] = refl
   same_left earlier n (None ∷ ps) = refl

@@ -6,7 +6,7 @@ use Rattle.std.specs.Prelude.{Result}
 use Rattle.std.specs.List.{All, flat_map}
 use Rattle.std.proofs.lemmas.List.{map-append}
 use Rattle.std.proofs.lemmas.List.Elements.{All-cons, All-head, All-nil, All-tail}
-use Rattle.hv_bytes.specs.Pieces.{Piece, as_pieces}
+use Rattle.hv_bytes.specs.Pieces.{PieceBytes, as_pieces}
 use Rattle.hv_grammar.specs.Parsers.{Outcome, Parser, after, done_or}
 use Rattle.hv_grammar.specs.Parsers.{end_of_input, followed, iterate}
 use Rattle.hv_grammar.specs.Parsers.{line, long, many_till, one_more, parsed, pure, refused, tested}
@@ -16,7 +16,7 @@ use Rattle.hv_task_text.specs.declared.fault.TaskKind.{TaskKind}
 use Rattle.hv_task_text.specs.declared.fault.TaskRefusal.{TaskRefusal}
 use Rattle.hv_task_text.specs.declared.fault.TaskRefusal.TheVariants as R
 
-pub pieces_append : (xs ys : List (List ℕ)) (rest : List Piece)
+pub pieces_append : (xs ys : List (List ℕ)) (rest : List PieceBytes)
     → as_pieces (xs ++ ys) ++ rest ≡ as_pieces xs ++ (as_pieces ys ++ rest)
 pieces_append xs ys rest =
     ap (λ ps. ps ++ rest) (map-append (λ (l : List ℕ). Some l) xs ys)
@@ -26,10 +26,10 @@ pieces_append xs ys rest =
 
 abbrev pub Spells : {A B : Type 0} → Parser B A → List (List ℕ) → A → Type 0
 Spells part lines a =
-    (n : ℕ) (rest : List Piece) → part n (as_pieces lines ++ rest) ≡ parsed a
+    (n : ℕ) (rest : List PieceBytes) → part n (as_pieces lines ++ rest) ≡ parsed a
     (n + length lines) rest
 
-same_count : {A B : Type 0} (a : A) (n m : ℕ) (rest : List Piece) → n ≡ m
+same_count : {A B : Type 0} (a : A) (n m : ℕ) (rest : List PieceBytes) → n ≡ m
     → ◌≡◌ {A = Outcome B A} (parsed a n rest) (parsed a m rest)
 same_count a n m rest e = ap (λ k. parsed a k rest) e
 
@@ -42,7 +42,7 @@ spells_line lacking test l a e = λ n rest. ap (tested (n + 1) rest) e
 
 -- what follows a part goes on behind its lines
 pub over : {A B C : Type 0} (part : Parser B A) (f : A → Parser B C) (xs ys : List (List ℕ)) (a : A)
-    (n : ℕ) (rest : List Piece) → Spells part xs a
+    (n : ℕ) (rest : List PieceBytes) → Spells part xs a
     → (part >>= f) n (as_pieces (xs ++ ys) ++ rest) ≡ f a (n + length xs) (as_pieces ys ++ rest)
 over part f xs ys a n rest s =
     ap ((part >>= f) n) (pieces_append xs ys rest)
@@ -86,7 +86,7 @@ module _ {A : Type 0} (kind : TaskKind) (test : List ℕ → Result (Option A) T
   abbrev listing : List A → Parser TaskRefusal (List A)
   listing = many_till (R.Place kind) (λ earlier bytes. with_said earlier (test bytes))
 
-  abbrev going : List A → ℕ → List Piece → Result (Option A) TaskRefusal
+  abbrev going : List A → ℕ → List PieceBytes → Result (Option A) TaskRefusal
       → Outcome TaskRefusal (List A)
   going front n ps said =
       followed n (done_or front n ps (λ b. listing b n ps)) (with_said front said)
@@ -126,8 +126,8 @@ ends_then part f xs ys a c s t = λ n.
 
 -- what follows a part came of what the part left
 pub came_of : {A B C : Type 0} (f : A → Parser B C) (o : Outcome B A) (c : C) (m : ℕ)
-    (qs : List Piece) → after o f ≡ parsed c m qs
-    → (a : A) × (k : ℕ) × (rs : List Piece) × (o ≡ parsed a k rs) × (f a k rs ≡ parsed c m qs)
+    (qs : List PieceBytes) → after o f ≡ parsed c m qs
+    → (a : A) × (k : ℕ) × (rs : List PieceBytes) × (o ≡ parsed a k rs) × (f a k rs ≡ parsed c m qs)
 came_of f (parsed a k rs) c m qs e = (a, k, rs, refl, e)
 came_of f (refused k b) c m qs e = absurd cc
 came_of f (long k) c m qs e = absurd cc
@@ -135,14 +135,14 @@ came_of f (long k) c m qs e = absurd cc
 -- of each value that comes of a part, with the lines that it came of
 abbrev pub Splits : {A B : Type 0} → Parser B A → (A → List (List ℕ) → Type 0) → Type 0
 Splits {A} {B} part Says =
-    (n m : ℕ) (ps qs : List Piece) (a : A) → part n ps ≡ parsed a m qs
+    (n m : ℕ) (ps qs : List PieceBytes) (a : A) → part n ps ≡ parsed a m qs
     → (lines : List (List ℕ)) × (ps ≡ as_pieces lines ++ qs) × Says a lines
 
-pub same_parsed : {A B : Type 0} (a b : A) (n m : ℕ) (ps qs : List Piece)
+pub same_parsed : {A B : Type 0} (a b : A) (n m : ℕ) (ps qs : List PieceBytes)
     → ◌≡◌ {A = Outcome B A} (parsed a n ps) (parsed b m qs) → (a ≡ b) × (ps ≡ qs)
 same_parsed a b n m ps qs e = (cc, cc)
 
-said_line : {A B : Type 0} (n m : ℕ) (ps qs : List Piece) (said : Result A B) (a : A)
+said_line : {A B : Type 0} (n m : ℕ) (ps qs : List PieceBytes) (said : Result A B) (a : A)
     → tested n ps said ≡ parsed a m qs → (said ≡ Ok a) × (ps ≡ qs)
 said_line n m ps qs (Ok b) a e =
     let s = same_parsed b a n m ps qs e in (ap (λ x. Ok x) s.0, s.1)
@@ -228,15 +228,15 @@ module _ {A : Type 0} (kind : TaskKind) (test : List ℕ → Result (Option A) T
     pub lines_are : lines ≡ map spell xs ++ closing ∷ []
     pub each : All P xs
 
-  abbrev Lists : List Piece → Type 0
+  abbrev Lists : List PieceBytes → Type 0
   Lists ps =
-      (front made : List A) (n m : ℕ) (qs : List Piece)
+      (front made : List A) (n m : ℕ) (qs : List PieceBytes)
       → many_till (R.Place kind) (λ earlier bytes. with_said earlier (test bytes)) front n ps
       ≡ parsed made m qs
       → (lines : List (List ℕ)) × (ps ≡ as_pieces lines ++ qs)
       × ((xs : List A) × Listed front made lines xs)
 
-  said_next : (front made : List A) (n m : ℕ) (l : List ℕ) (ps qs : List Piece)
+  said_next : (front made : List A) (n m : ℕ) (l : List ℕ) (ps qs : List PieceBytes)
       (said : Result (Option A) TaskRefusal) → Lists ps → test l ≡ said
       → going kind test spell closing P front n ps said ≡ parsed made m qs
       → (lines : List (List ℕ)) × (Some l ∷ ps ≡ as_pieces lines ++ qs)
@@ -270,7 +270,7 @@ module _ {A : Type 0} (kind : TaskKind) (test : List ℕ → Result (Option A) T
         ),
       )
 
-  lists : (ps : List Piece) → Lists ps
+  lists : (ps : List PieceBytes) → Lists ps
   lists [] front made n m qs e = absurd cc
   lists (None ∷ ps) front made n m qs e = absurd cc
   lists (Some l ∷ ps) front made n m qs e =
@@ -281,15 +281,15 @@ module _ {A : Type 0} (kind : TaskKind) (test : List ℕ → Result (Option A) T
       (λ made lines. (xs : List A) × Listed front made lines xs)
   splits_list front n m ps qs made e = lists ps front made n m qs e
 
--- nothing stands behind the end
-pub ended : {A B : Type 0} (extra : B) (t a : A) (n m : ℕ) (ps qs : List Piece)
+-- nothing is behind the end
+pub ended : {A B : Type 0} (extra : B) (t a : A) (n m : ℕ) (ps qs : List PieceBytes)
     → (end_of_input extra >> pure t) n ps ≡ parsed a m qs → (a ≡ t) × (ps ≡ [])
 ended extra t a n m [] qs e = (sym (same_parsed t a n m [] qs e).0, refl)
 ended extra t a n m (None ∷ ps) qs e = absurd cc
 ended extra t a n m (Some l ∷ ps) qs e = absurd cc
 
 -- the pieces of two runs of lines
-pub glued : (pieces rs : List Piece) (xs ys : List (List ℕ)) → pieces ≡ as_pieces xs ++ rs
+pub glued : (pieces rs : List PieceBytes) (xs ys : List (List ℕ)) → pieces ≡ as_pieces xs ++ rs
     → rs ≡ as_pieces ys → pieces ≡ as_pieces (xs ++ ys)
 glued pieces rs xs ys p q =
     p ∙ ap (λ r. as_pieces xs ++ r) q ∙ sym (map-append (λ (l : List ℕ). Some l) xs ys)

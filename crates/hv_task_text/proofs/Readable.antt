@@ -30,9 +30,9 @@ use Rattle.hv_task_text.specs.Canonical.{bytes_of_lines, canonical_lines, canoni
 use Rattle.hv_task_text.specs.Canonical.{head_of, with_lf, HasWritableNames, IsWritableName}
 use Rattle.hv_task_text.specs.Working.Canonical.{IsStored}
 use Rattle.hv_task_text.specs.TaskText.{TaskText}
-use Rattle.hv_task_text.specs.declared.lists.Item.{Item}
-use Rattle.hv_task_text.specs.declared.lists.Item.TheVariants as I
-use Rattle.hv_task_text.specs.Written.{Entry, item_line, atom_lines}
+use Rattle.hv_task_text.specs.declared.atom_lists.Item.{Item}
+use Rattle.hv_task_text.specs.declared.atom_lists.Item.TheVariants as I
+use Rattle.hv_task_text.specs.Written.{WrittenAction, item_line, atom_lines}
 use Rattle.hv_task_text.specs.Written.{start_lines, goal_lines, head_lines, entry_lines, body_lines}
 use Rattle.hv_task_text.specs.Written.{pre_of, add_of, del_of, written_action, task_of}
 use Rattle.hv_task.proofs.Sets.{set_same}
@@ -61,7 +61,7 @@ pub clean_word : (bytes : List ℕ) → list_all (λ b. not (b == 10)) bytes ≡
 clean_word [] e = All-nil IsNoLf
 clean_word (b ∷ bytes) e = cleaner b bytes (b == 10) refl (clean_word bytes) e
 
--- a line that can stand in a text: it has no LF and is within the limit
+-- a line that can be in a text: it has no LF and is within the limit
 record IsLine (line : List ℕ) : Type 0 where
   pub clean : IsClean line
   pub short : length line ≤ most_line_bytes
@@ -96,7 +96,7 @@ line_of_item atoms (I.Pre n) few l = number_line (codes "PRE:") n refl (omega ar
 line_of_item atoms (I.Add n) few l = number_line (codes "ADD:") n refl (omega arith) (omega arith)
 line_of_item atoms (I.Del n) few l = number_line (codes "DEL:") n refl (omega arith) (omega arith)
 
-lines_of_entry : (atoms : ℕ) (entry : Entry) → atoms ≤ 65535 → IsEntry atoms entry
+lines_of_entry : (atoms : ℕ) (entry : WrittenAction) → atoms ≤ 65535 → IsEntry atoms entry
     → IsWritableName entry.name → All IsLine (entry_lines entry)
 lines_of_entry atoms entry few e name =
     let c = e.cost in

@@ -8,11 +8,11 @@ use Rattle.hv_task.specs.AtomList.{Inserts, set_of}
 use Rattle.hv_task.proofs.Sets.{set_more, set_same}
 use Rattle.hv_task_text.specs.Working.Reading.{AreOf, no_lists}
 use Rattle.hv_task_text.specs.Written.{add_of, del_of, pre_of}
-use Rattle.hv_task_text.specs.declared.lists.Item.{Item}
-use Rattle.hv_task_text.specs.declared.lists.Item.TheVariants as I
-use Rattle.hv_task_text.specs.declared.lists.Lists.{Lists}
+use Rattle.hv_task_text.specs.declared.atom_lists.Item.{Item}
+use Rattle.hv_task_text.specs.declared.atom_lists.Item.TheVariants as I
+use Rattle.hv_task_text.specs.declared.atom_lists.AtomLists.{AtomLists}
 
-module _ (atoms : ℕ) (items : List Item) (lists : Lists) (are : AreOf atoms items lists) where
+module _ (atoms : ℕ) (items : List Item) (lists : AtomLists) (are : AreOf atoms items lists) where
   pub with_pre : (n : ℕ) (new : List ℕ) → n < atoms → Inserts lists.pre n new
       → AreOf atoms (items ++ I.Pre n ∷ []) (record lists { pre = new })
   with_pre n new below inserts = record {
@@ -55,9 +55,9 @@ pub no_atom : (atoms : ℕ) → set_of atoms [] ≡ []
 no_atom atoms = set_same atoms [] (λ k less. absurd (omega arith)) (All-nil (λ n. n < atoms))
 
 -- before the first line
-pub none_read : (atoms : ℕ) (lists : Lists) → lists ≡ no_lists → AreOf atoms [] lists
+pub none_read : (atoms : ℕ) (lists : AtomLists) → lists ≡ no_lists → AreOf atoms [] lists
 none_read atoms lists none = record {
-  pre = ap (λ (l : Lists). l.pre) none ∙ sym (no_atom atoms);
-  add = ap (λ (l : Lists). l.add) none ∙ sym (no_atom atoms);
-  del = ap (λ (l : Lists). l.del) none ∙ sym (no_atom atoms);
+  pre = ap (λ (l : AtomLists). l.pre) none ∙ sym (no_atom atoms);
+  add = ap (λ (l : AtomLists). l.add) none ∙ sym (no_atom atoms);
+  del = ap (λ (l : AtomLists). l.del) none ∙ sym (no_atom atoms);
 }

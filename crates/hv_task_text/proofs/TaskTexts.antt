@@ -6,24 +6,26 @@ use Rattle.std.proofs.lemmas.List.{length-map}
 use Rattle.std.proofs.lemmas.List.Elements.{All-cons, All-head, All-map, All-nil, All-tail}
 use Rattle.std.proofs.lemmas.List.Elements.{All-weaker}
 use Rattle.hv_bytes.specs.LineCuts.{IsClean}
-use Rattle.hv_bytes.specs.Pieces.{Piece}
+use Rattle.hv_bytes.specs.Pieces.{PieceBytes}
 use Rattle.hv_bytes.specs.declared.cutting.Limits.{Limits}
 use Rattle.hv_task.specs.Strips.{Strips, IsOver, IsTask}
 use Rattle.hv_task.specs.declared.action.Action.{Action}
 use Rattle.hv_task_text.specs.Canonical.{HasWritableNames, IsWritableName}
-use Rattle.hv_task_text.specs.TaskText.{AreTextOf, TaskText}
+use Rattle.hv_task_text.specs.TaskText.{AreTaskTextOf, TaskText}
 use Rattle.hv_task_text.specs.Working.Canonical.{IsStored}
-use Rattle.hv_task_text.specs.Written.{Entry, Head, atom_lines, entry_lines, goal_lines, head_lines}
+use Rattle.hv_task_text.specs.Written.{WrittenAction, WrittenHead, atom_lines, entry_lines}
+use Rattle.hv_task_text.specs.Written.{goal_lines, head_lines}
 use Rattle.hv_task_text.specs.Written.{AreActions, IsEntry, start_lines, task_of, text_lines}
 use Rattle.hv_task_text.specs.Written.{written_action}
 use Rattle.hv_task.proofs.Sets.{set_below, set_rises}
 use Rattle.hv_task_text.proofs.CleanLines.{clean_pieces}
 
-pub action_over : (atoms : ℕ) (entry : Entry) → IsOver atoms (written_action atoms entry)
+pub action_over : (atoms : ℕ) (entry : WrittenAction) → IsOver atoms (written_action atoms entry)
 action_over atoms entry =
     record { pre = set_below atoms _; add = set_below atoms _; del = set_below atoms _ }
 
-legal_task : (head : Head) (actions : List Entry) → AreActions (length actions) head actions
+legal_task : (head : WrittenHead) (actions : List WrittenAction) → AreActions (length actions) head
+    actions
     → IsTask (task_of head actions)
 legal_task head actions legal = record {
   start = set_below (length head.names) head.start;
@@ -37,12 +39,12 @@ legal_task head actions legal = record {
       omega (arith, legal.few, size));
 }
 
--- a text stands for a task
-pub is_task : (pieces : List Piece) (task : Strips) → AreTextOf pieces task → IsTask task
+-- a text denotes a task
+pub is_task : (pieces : List PieceBytes) (task : Strips) → AreTaskTextOf pieces task → IsTask task
 is_task pieces task (head, actions, text) = subst IsTask text.says
     (legal_task head actions text.legal)
 
-action_stored : (atoms : ℕ) (entry : Entry) → IsEntry atoms entry
+action_stored : (atoms : ℕ) (entry : WrittenAction) → IsEntry atoms entry
     → IsStored (written_action atoms entry)
 action_stored atoms entry legal = record {
   cost = legal.cost;
@@ -51,16 +53,17 @@ action_stored atoms entry legal = record {
   del = set_rises atoms _;
 }
 
-legal_stored : (head : Head) (actions : List Entry) → AreActions (length actions) head actions
+legal_stored : (head : WrittenHead) (actions : List WrittenAction) → AreActions (length actions)
+    head actions
     → All IsStored (task_of head actions).actions
 legal_stored head actions legal =
     All-map IsStored (written_action (length head.names)) actions
     (All-weaker (IsEntry (length head.names))
-    (λ (entry : Entry). IsStored (written_action (length head.names) entry))
+    (λ (entry : WrittenAction). IsStored (written_action (length head.names) entry))
     (λ entry is. action_stored (length head.names) entry is) actions legal.each)
 
 -- its actions are those that a task in the program has
-pub are_stored : (pieces : List Piece) (task : Strips) → AreTextOf pieces task
+pub are_stored : (pieces : List PieceBytes) (task : Strips) → AreTaskTextOf pieces task
     → All IsStored task.actions
 are_stored pieces task (head, actions, text) =
     subst (λ (t : Strips). All IsStored t.actions) text.says (legal_stored head actions text.legal)
@@ -76,7 +79,7 @@ All-rest P [] ys all = all
 All-rest P (x ∷ xs) ys all = All-rest P xs ys (All-tail P x (xs ++ ys) all)
 
 -- the names of the atoms are lines of the text
-atom_names : (P : List ℕ → Type 0) (head : Head) (actions : List Entry)
+atom_names : (P : List ℕ → Type 0) (head : WrittenHead) (actions : List WrittenAction)
     → All P (text_lines head actions) → All P head.names
 atom_names P head actions all =
     let more = (codes "begin_actions:" ++ decimal (length actions))
@@ -94,18 +97,18 @@ atom_names P head actions all =
     All-tail P first head.names
     (All-front P (first ∷ head.names) (codes "end_atoms" ∷ []) atoms)
 
-names_of_entries : (P : List ℕ → Type 0) (actions : List Entry)
-    → All P (flat_map entry_lines actions) → All (λ (entry : Entry). P entry.name) actions
-names_of_entries P [] all = All-nil (λ (entry : Entry). P entry.name)
+names_of_entries : (P : List ℕ → Type 0) (actions : List WrittenAction)
+    → All P (flat_map entry_lines actions) → All (λ (entry : WrittenAction). P entry.name) actions
+names_of_entries P [] all = All-nil (λ (entry : WrittenAction). P entry.name)
 names_of_entries P (entry ∷ actions) all =
     let own = All-front P (entry_lines entry) (flat_map entry_lines actions) all in
     let later = All-rest P (entry_lines entry) (flat_map entry_lines actions) all in
-    All-cons (λ (entry : Entry). P entry.name) entry actions (own 1 [] (omega arith))
+    All-cons (λ (entry : WrittenAction). P entry.name) entry actions (own 1 [] (omega arith))
     (names_of_entries P actions later)
 
 -- and so are those of the actions
-action_names : (P : List ℕ → Type 0) (head : Head) (actions : List Entry)
-    → All P (text_lines head actions) → All (λ (entry : Entry). P entry.name) actions
+action_names : (P : List ℕ → Type 0) (head : WrittenHead) (actions : List WrittenAction)
+    → All P (text_lines head actions) → All (λ (entry : WrittenAction). P entry.name) actions
 action_names P head actions all =
     let first = codes "begin_actions:" ++ decimal (length actions) in
     let more = first ∷ flat_map entry_lines actions in
@@ -114,7 +117,8 @@ action_names P head actions all =
     (All-rest P (head_lines head) more
     (All-front P (head_lines head ++ more) (codes "end_actions" ∷ []) all)))
 
-legal_names : (head : Head) (actions : List Entry) → AreActions (length actions) head actions
+legal_names : (head : WrittenHead) (actions : List WrittenAction) → AreActions (length actions) head
+    actions
     → All IsClean (text_lines head actions) → HasWritableNames (task_of head actions)
 legal_names head actions legal clean =
     let of_atoms = atom_names IsClean head actions clean in

@@ -4,8 +4,8 @@ use Rattle.std.specs.List.{All, flat_map}
 use Rattle.hv_bytes.specs.LineCuts.{IsClean}
 use Rattle.hv_task.specs.Strips.{Strips}
 use Rattle.hv_task.specs.declared.action.Action.{Action}
-use Rattle.hv_task_text.specs.declared.lists.Item.TheVariants as I
-use Rattle.hv_task_text.specs.Written.{Entry, Head, text_lines}
+use Rattle.hv_task_text.specs.declared.atom_lists.Item.TheVariants as I
+use Rattle.hv_task_text.specs.Written.{WrittenAction, WrittenHead, text_lines}
 
 -- a line with its LF
 abbrev pub with_lf : List ℕ → List ℕ
@@ -17,7 +17,7 @@ bytes_of_lines lines = flat_map with_lf lines
 
 -- the canonical form of an action: first the PRE lines, then the ADD lines, then the DEL lines,
 -- each in the order of its set
-abbrev pub entry_of : Action → Entry
+abbrev pub entry_of : Action → WrittenAction
 entry_of action = record {
   name = action.name;
   cost = action.cost;
@@ -26,7 +26,7 @@ entry_of action = record {
 }
 
 -- what the text says of a task before its actions
-abbrev pub head_of : Strips → Head
+abbrev pub head_of : Strips → WrittenHead
 head_of task = record { names = task.names; start = task.start; goal = task.goal }
 
 -- the lines of the canonical text

@@ -3,7 +3,7 @@
 ghost use Rattle.std.specs.Prelude.{◌≡◌};
 ghost use Rattle.hv_task_text.specs.declared.fault.TaskFault.TheVariants as F;
 ghost use Rattle.hv_task_text.specs.TaskFile.{task_fault};
-ghost use Rattle.hv_task_text.specs.Words.{kind_word, limit_word};
+ghost use Rattle.hv_task_text.specs.Words.{task_kind_word, task_limit_word};
 
 use hv_grammar::ParseFault;
 use std::alloc::AllocError;
@@ -42,7 +42,7 @@ pub enum TaskKind {
     End,
 }
 
-/// A limit that a line of a task text passes.
+/// A limit that a line of a task text exceeds.
 #[derive(Clone, Copy, Debug, PartialEq, Eq)]
 pub enum TaskLimit {
     /// More than 65,535 atoms.
@@ -62,7 +62,7 @@ pub enum TaskLimit {
 pub enum TaskRefusal {
     /// The form that this place expects isn't there.
     Place(TaskKind),
-    /// The line has its form, and passes this limit.
+    /// The line has its form, and exceeds this limit.
     Limit(TaskLimit),
 }
 
@@ -73,7 +73,7 @@ pub enum TaskFault {
     /// The form that this place expects isn't there.
     #[error("line {0} isn't what the text expects there")]
     Place(u64, TaskKind),
-    /// The line has its form, and passes this limit; or it is long, whatever its form.
+    /// The line has its form, and exceeds this limit; or it is long, whatever its form.
     #[error("line {0} passes a limit")]
     Limit(u64, TaskLimit),
     /// The shelf failed.
@@ -109,7 +109,7 @@ impl From<ParseFault<TaskRefusal>> for TaskFault {
 impl TaskKind {
     /// The word that names the kind in a refusal.
     pub fn word(&self) -> &'static str
-        ensures { result.now ≡ kind_word self.now }
+        ensures { result.now ≡ task_kind_word self.now }
     {
         match self {
             TaskKind::BeginAtoms => "begin_atoms",
@@ -133,7 +133,7 @@ impl TaskKind {
 impl TaskLimit {
     /// The word that names the limit in a refusal.
     pub fn word(&self) -> &'static str
-        ensures { result.now ≡ limit_word self.now }
+        ensures { result.now ≡ task_limit_word self.now }
     {
         match self {
             TaskLimit::Atoms => "atoms",

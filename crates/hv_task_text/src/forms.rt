@@ -5,8 +5,8 @@ ghost use Rattle.hv_task_text.specs.TaskFile.{atom_behind, atom_of, atom_or, ite
 ghost use Rattle.hv_task_text.specs.Working.Reading.{is_short_name};
 ghost use Rattle.hv_task_text.specs.Written.{IsItem};
 
+use crate::atom_lists::Item;
 use crate::fault::{TaskKind, TaskLimit, TaskRefusal};
-use crate::lists::Item;
 use hv_grammar::{decimal, number_behind};
 
 const LONGEST_NAME: usize = 1_024;
@@ -49,7 +49,7 @@ pub fn atom_or(
     }
 }
 
-// The atom, of so many, that stands behind the word.
+// The atom, of so many, that is behind the word.
 fn atom_behind(word: &[u8], line: &[u8], atoms: u32) -> Option<u32>
     ensures atom { result ≡ atom_behind word.now atoms line.now }
     ensures below { IfSome result (λ n. n < atoms) }

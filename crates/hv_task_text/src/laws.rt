@@ -2,39 +2,39 @@
 //! functions that do nothing.
 
 ghost use Rattle.std.specs.Prelude.{◌≡◌, ℕ, List, [], length};
-ghost use Rattle.hv_bytes.specs.Pieces.{Piece};
+ghost use Rattle.hv_bytes.specs.Pieces.{PieceBytes};
 ghost use Rattle.hv_bytes.specs.declared.cutting.Limits.{Limits};
 ghost use Rattle.hv_grammar.specs.Parsers.{parsed};
 ghost use Rattle.hv_task.specs.Strips.{IsTask, Strips};
 ghost use Rattle.hv_task_text.specs.Canonical.{HasWritableNames};
 ghost use Rattle.hv_task_text.specs.declared.fault.TaskFault.{TaskFault};
 ghost use Rattle.hv_task_text.specs.TaskFile.{task_file};
-ghost use Rattle.hv_task_text.specs.TaskText.{AreTextOf, IsFirstFault, TaskText};
+ghost use Rattle.hv_task_text.specs.TaskText.{AreTaskTextOf, HasTaskFault, TaskText};
 
 /// The pieces of a file have one answer: they are the text of one task at most, a text has no
 /// fault, and the first fault is one.
 pub fn one_answer()
-    ensures one_task { (pieces : List Piece) (s t : Strips)
-        → AreTextOf pieces s → AreTextOf pieces t → s ≡ t }
-    ensures text_or_fault { (pieces : List Piece) (task : Strips) (fault : TaskFault)
-        → AreTextOf pieces task → IsFirstFault pieces fault → ⊥ }
-    ensures one_fault { (pieces : List Piece) (f g : TaskFault)
-        → IsFirstFault pieces f → IsFirstFault pieces g → f ≡ g }
+    ensures one_task { (pieces : List PieceBytes) (s t : Strips)
+        → AreTaskTextOf pieces s → AreTaskTextOf pieces t → s ≡ t }
+    ensures text_or_fault { (pieces : List PieceBytes) (task : Strips) (fault : TaskFault)
+        → AreTaskTextOf pieces task → HasTaskFault pieces fault → ⊥ }
+    ensures one_fault { (pieces : List PieceBytes) (f g : TaskFault)
+        → HasTaskFault pieces f → HasTaskFault pieces g → f ≡ g }
 {}
 
 /// What comes of the pieces of a file is a task exactly where they are the text of this task.
 pub fn text_by_lines()
-    ensures text { (pieces : List Piece) (task : Strips) → AreTextOf pieces task
+    ensures text { (pieces : List PieceBytes) (task : Strips) → AreTaskTextOf pieces task
         → task_file 0 pieces ≡ parsed task (length pieces) [] }
-    ensures value { (pieces : List Piece) (task : Strips) (n : ℕ) (rest : List Piece)
-        → task_file 0 pieces ≡ parsed task n rest → AreTextOf pieces task }
+    ensures value { (pieces : List PieceBytes) (task : Strips) (n : ℕ) (rest : List PieceBytes)
+        → task_file 0 pieces ≡ parsed task n rest → AreTaskTextOf pieces task }
 {}
 
 /// What a task that is read from a text keeps: it is within the limits of tasks, and each of its
 /// names can be written and read again.
 pub fn laws_of_read_tasks()
-    ensures tasks { (pieces : List Piece) (task : Strips)
-        → AreTextOf pieces task → IsTask task }
+    ensures tasks { (pieces : List PieceBytes) (task : Strips)
+        → AreTaskTextOf pieces task → IsTask task }
     ensures names { (limits : Limits) (bytes : List ℕ) (task : Strips)
         → TaskText limits bytes task → HasWritableNames task }
 {}

@@ -1,10 +1,10 @@
 //! Task texts: planning tasks read from text and written to it.
 #![tactic(auto)]
 
+mod atom_lists;
 pub mod fault;
 mod forms;
 pub mod laws;
-mod lists;
 pub mod read;
 pub mod write;
 

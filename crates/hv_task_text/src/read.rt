@@ -13,15 +13,15 @@ ghost use Rattle.hv_task.specs.Strips.{IsOver, atoms};
 ghost use Rattle.hv_task_text.specs.TaskFile.{action, action_lists, all_actions, atom_names};
 ghost use Rattle.hv_task_text.specs.TaskFile.{atom_or, atom_set, goal_atoms, item_or};
 ghost use Rattle.hv_task_text.specs.TaskFile.{line_of_name, start_atoms, task_file};
-ghost use Rattle.hv_task_text.specs.TaskText.{IsReadFrom};
+ghost use Rattle.hv_task_text.specs.TaskText.{IsTaskReadFrom};
 ghost use Rattle.hv_task_text.specs.Working.Reading.{no_lists, no_task};
 ghost use Rattle.hv_task_text.specs.Written.{IsItem};
 ghost use Rattle.hv_task_text.specs.declared.fault.TaskKind.TheVariants as Kind;
 ghost use Rattle.hv_task_text.specs.declared.fault.TaskRefusal.TheVariants as Refusal;
 
+use crate::atom_lists::{AtomLists, Item};
 use crate::fault::{TaskFault, TaskKind, TaskLimit, TaskRefusal};
 use crate::forms;
-use crate::lists::{Item, Lists};
 use hv_bytes::{Limits, Shelf};
 use hv_grammar::{
     ParseFault, Reader, Source, at_line, end_of_input, next_line, numbered_line, open, word_line,
@@ -182,7 +182,7 @@ fn action_lists<R: Source>(
     alloc: Global,
     reader: &mut R,
     atoms: u32,
-    lists: &mut Lists,
+    lists: &mut AtomLists,
     name: Name,
     cost: u32,
 ) -> Read<Action>
@@ -200,7 +200,12 @@ fn action_lists<R: Source>(
 }
 
 // An action in a task of so many atoms.
-fn action<R: Source>(alloc: Global, reader: &mut R, atoms: u32, lists: &mut Lists) -> Read<Action>
+fn action<R: Source>(
+    alloc: Global,
+    reader: &mut R,
+    atoms: u32,
+    lists: &mut AtomLists,
+) -> Read<Action>
     requires can { CanRead (R.position reader.old) }
     requires fresh { lists.old ≡ no_lists }
     ensures reads { Reads (action atoms) (R.position reader.old) (R.position reader.new) result }
@@ -228,7 +233,7 @@ fn one_action<R: Source>(
     alloc: Global,
     reader: &mut R,
     task: &mut Task,
-    lists: &mut Lists,
+    lists: &mut AtomLists,
 ) -> Read<()>
     requires can { CanRead (R.position reader.old) }
     requires fresh { lists.old ≡ no_lists }
@@ -254,7 +259,7 @@ fn actions<R: Source>(alloc: Global, reader: &mut R, task: &mut Task, count: u64
         (R.position reader.old) (R.position reader.new) (placed task.new.actions result) }
     ensures task { OnOk result (task.new ≡ record task.old { actions = task.new.actions }) }
 {
-    let mut lists = Lists::new(alloc);
+    let mut lists = AtomLists::new(alloc);
     for done in 0..count {
         let _ = done;
         one_action(alloc, reader, task, &mut lists)?;
@@ -313,9 +318,9 @@ pub fn read_task<S: Shelf>(
     requires line { limits.line ≤ 2 ^ 62 }
     requires file { limits.file ≤ 2 ^ 62 }
 
-    // where the shelf tells what it holds
+    // where the source's bytes are known
     ensures read { IfSome (S.held shelf.old) (λ held.
-        IsReadFrom limits (bytes_of held name.now) result) }
+        IsTaskReadFrom limits (bytes_of held name.now) result) }
 
     ensures held { S.held shelf.new ≡ S.held shelf.old }
     ensures allows { S.allows shelf.new ≡ S.allows shelf.old }

@@ -70,7 +70,7 @@ fn are(alloc: Global, lines: &[Vec<u8>], want: &str) -> Result<bool, AllocError>
     Ok(joined.as_slice() == want.as_bytes())
 }
 
-/// Whether the open file has these lines, each ended by `|`; `!` stands for a long line.
+/// Whether the open file has these lines, each ended by `|`; `!` denotes a long line.
 fn has_lines(
     alloc: Global,
     shelf: &mut MemoryShelf,
@@ -420,7 +420,7 @@ fn is_cut_within(
 
 #[test]
 fn refuses_long_lines(rt: HostRuntime) -> Result<(), Fail> {
-    // the last byte of an empty line is its LF, and that of another line stands before its LF
+    // the last byte of an empty line is its LF, and that of another line is before its LF
     for (text, line, file, want) in &LONG_LINES {
         assert!(rt;
             is_cut_within(rt.alloc(), text, *line, *file, want)?,

@@ -136,7 +136,7 @@ fn keeps(state: &mut State, hint: &mut Hint) -> bool
         & (state.next(65, hint) == Some(129))
 }
 
-// Whether the state then loses the atoms that it has no room for.
+// Whether the state then loses the atoms that it has no space for.
 fn loses(state: &mut State, hint: &mut Hint) -> Result<bool, AllocError> {
     state.resize(64)?;
     state.resize(130)?;

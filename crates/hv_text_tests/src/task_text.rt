@@ -41,7 +41,7 @@ static KEY_TASK: [&str; 27] = [
     "end_actions",
 ];
 
-/// A line of the key task, what stands in its place, and the answer.
+/// A line of the key task, what is in its place, and the answer.
 static SPELLINGS: [(usize, &str, &str); 62] = [
     (1, "begin_atoms:3", "read"),
     (1, "begin_atoms:03", "place 1 begin_atoms"),

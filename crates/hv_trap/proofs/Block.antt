@@ -17,7 +17,7 @@ use Rattle.hv_lines.specs.Setting.{Setting}
 use Rattle.hv_lines.specs.Shapes.{and_parts, or_parts}
 use Rattle.hv_lines.specs.Spelling.{FitsDecimal}
 use Rattle.hv_lines.specs.declared.line.Acts.TheVariants as A
-use Rattle.hv_lines.specs.declared.family.FormulaFamily.TheVariants as F
+use Rattle.hv_lines.specs.declared.formula_family.FormulaFamily.TheVariants as F
 use Rattle.hv_lines.specs.declared.line.Constant.TheVariants as C
 use Rattle.hv_lines.specs.declared.line.Expr.TheVariants as E
 use Rattle.hv_lines.specs.declared.line.Line.{Line}
@@ -36,7 +36,7 @@ use Rattle.hv_lines.proofs.Nexts.{next_claim}
 use Rattle.hv_lines.proofs.Elements.{cons_cases, head_in, nothing_in}
 use Rattle.hv_lines.proofs.PlainSides.{leaves_ba, one_leaf, rises_none, rises_one, rises_two}
 use Rattle.hv_lines.proofs.GoodQuestions.{constant_set, plain_set}
-use Rattle.hv_trap.specs.Written.{trap_block, trap_proof, with_budget}
+use Rattle.hv_trap.specs.Written.{trap_block, trap_proof, with_trap_budget}
 use Rattle.hv_trap.proofs.Formulas.{IsTrapFormula, formula_fits, formula_small, formula_two}
 use Rattle.hv_trap.proofs.Sides.{IsTwoSet, Literals}
 use Rattle.hv_trap.proofs.TwoBasics.{empty_clauses, good_two_b1, good_two_b3, two_clauses}
@@ -217,9 +217,9 @@ module _ (task : Strips) (old : List Line) (good : IsGoodTable task old) (s k : 
   empty_two = constant_set F.Two B5 0 C.Empty begun5.empty
 
   -- the basic statements are good with each budget that the clauses don't pass
-  pub line6 : (budget : ℕ) → length clauses ≤ budget → IsGood (with_budget task budget) B5 L6
+  pub line6 : (budget : ℕ) → length clauses ≤ budget → IsGood (with_trap_budget task budget) B5 L6
   line6 budget enough =
-      good_two_b3 (with_budget task budget) B5 table5 k (s + 2) (s + 3) (s ∷ []) (0 ∷ s ∷ [])
+      good_two_b3 (with_trap_budget task budget) B5 table5 k (s + 2) (s + 3) (s ∷ []) (0 ∷ s ∷ [])
       ((s, true) ∷ []) ((0, true) ∷ (s, true) ∷ [])
       ((refl, plain_set F.Two B5 s set_two), tt)
       ((refl, plain_set F.Two B5 0 empty_two), ((refl, plain_set F.Two B5 s set_two), tt))
@@ -230,16 +230,17 @@ module _ (task : Strips) (old : List Line) (good : IsGoodTable task old) (s k : 
       (empty_two, (set_two, tt)))
       ((s, true), inl (head_in (s, true) []), (E.Two clauses, at_set, refl))
       s 0 at_before (one_leaf and_parts B5 s (E.Two clauses) at_set refl)
-      (formed_sub (with_budget task budget) B5 k (s + 2) (s + 3) W.B3 (omega (arith, k_few)) k_is
+      (formed_sub (with_trap_budget task budget) B5 k (s + 2) (s + 3) W.B3 (omega (arith, k_few))
+      k_is
       (omega (arith, s_few)) (omega (arith, s_few))
       (omega (arith, s_is)) (omega (arith, s_is)) refl)
       (omega arith) (rises_one true s) (rises_two false 0 s (omega (arith, two_below)))
       (omega (
         arith,
         enough,
-        product_two (with_budget task budget) B5 0 s (length clauses)
-            (empty_clauses (with_budget task budget) B5 0 begun5.empty)
-            (two_clauses (with_budget task budget) B5 s clauses at_set),
+        product_two (with_trap_budget task budget) B5 0 s (length clauses)
+            (empty_clauses (with_trap_budget task budget) B5 0 begun5.empty)
+            (two_clauses (with_trap_budget task budget) B5 s clauses at_set),
       ))
       (λ number a named state is_state applies inside outside.
       outside (s, false) (second_of (0, false) (s, false) [])
@@ -267,9 +268,10 @@ module _ (task : Strips) (old : List Line) (good : IsGoodTable task old) (s k : 
   empty_two6 : IsTwoSet B6 0
   empty_two6 = constant_set F.Two B6 0 C.Empty begun5.empty
 
-  pub line7 : (budget : ℕ) → length clauses ≤ budget → IsGood (with_budget task budget) B6 L7
+  pub line7 : (budget : ℕ) → length clauses ≤ budget → IsGood (with_trap_budget task budget) B6 L7
   line7 budget enough =
-      good_two_b1 (with_budget task budget) B6 table6 (k + 1) (s + 4) 0 (2 ∷ (s + 1) ∷ []) (0 ∷ [])
+      good_two_b1 (with_trap_budget task budget) B6 table6 (k + 1) (s + 4) 0 (2 ∷ (s + 1) ∷ []) (0 ∷
+      [])
       ((2, true) ∷ (s, false) ∷ []) ((0, true) ∷ [])
       ((refl, plain_set F.Two B6 2 goal_two), ((at_not, plain_set F.Two B6 s set_two6), tt))
       ((refl, plain_set F.Two B6 0 empty_two6), tt)
@@ -280,16 +282,16 @@ module _ (task : Strips) (old : List Line) (good : IsGoodTable task old) (s k : 
       (leaves_ba and_parts B6 (s + 4) (s + 1) 2 (E.And (s + 1) 2) at_and refl
       (one_leaf and_parts B6 (s + 1) (E.Not s) at_not refl)
       (one_leaf and_parts B6 2 (E.Constant C.Goal) begun5.goal refl))
-      (formed_sub (with_budget task budget) B6 (k + 1) (s + 4) 0 W.B1 (omega (arith, k_few))
+      (formed_sub (with_trap_budget task budget) B6 (k + 1) (s + 4) 0 W.B1 (omega (arith, k_few))
       (omega (arith, k_is)) (omega (arith, s_few))
       (omega arith) (omega (arith, s_is)) (omega arith) refl)
       (omega arith) (rises_one false 2) (rises_two false 0 s (omega (arith, two_below)))
       (omega (
         arith,
         enough,
-        product_two (with_budget task budget) B6 0 s (length clauses)
-            (empty_clauses (with_budget task budget) B6 0 begun5.empty)
-            (two_clauses (with_budget task budget) B6 s clauses at_set),
+        product_two (with_trap_budget task budget) B6 0 s (length clauses)
+            (empty_clauses (with_trap_budget task budget) B6 0 begun5.empty)
+            (two_clauses (with_trap_budget task budget) B6 s clauses at_set),
       ))
       (λ state is_state inside outside.
       outside (s, false) (second_of (0, false) (s, false) [])
@@ -386,10 +388,10 @@ module _ (task : Strips) (clauses : List (List Literal)) (formula : IsTrapFormul
           (set_out task (draft_setting task).nodes Block 3 (E.Two clauses) block_table set_at state
           inside))
 
-      pub first : (budget : ℕ) → 0 < budget → IsGood (with_budget task budget) Block
+      pub first : (budget : ℕ) → 0 < budget → IsGood (with_trap_budget task budget) Block
           (L.Known 5 (T.Sub 1 4) W.B1 [])
       first budget some =
-          good_two_b1 (with_budget task budget) Block block_table 5 1 4 (1 ∷ []) (4 ∷ [])
+          good_two_b1 (with_trap_budget task budget) Block block_table 5 1 4 (1 ∷ []) (4 ∷ [])
           ((1, true) ∷ []) ((3, false) ∷ [])
           ((refl, plain_set F.Two Block 1 (constant_set F.Two Block 1 C.Start start_at)), tt)
           ((not_at, plain_set F.Two Block 3 (formula_is_two Block 3 clauses set_at)), tt)
@@ -399,7 +401,8 @@ module _ (task : Strips) (clauses : List (List Literal)) (formula : IsTrapFormul
           (formula_is_two Block 3 clauses set_at, tt))
           ((3, false), inr (head_in (3, false) []), (E.Two clauses, set_at, refl))
           (one_leaf and_parts Block 1 (E.Constant C.Start) start_at refl)
-          (formed_sub (with_budget task budget) Block 5 1 4 W.B1 (omega arith) refl (omega arith)
+          (formed_sub (with_trap_budget task budget) Block 5 1 4 W.B1 (omega arith) refl (omega
+          arith)
           (omega arith) (omega arith) (omega arith) refl)
           (omega arith) (rises_two false 1 3 (omega arith)) rises_none (omega (arith, some))
           (λ state is_state inside outside.

@@ -17,7 +17,7 @@ use Rattle.hv_lines.proofs.Drafting.{good_of, good_prelude}
 use Rattle.hv_lines.proofs.Extended.{prelude_has}
 use Rattle.hv_lines.proofs.Lengths.{clauses_short, decimal_short, weight}
 use Rattle.hv_trap.specs.Trap.{IsSatisfied}
-use Rattle.hv_trap.specs.Written.{IsModest, IsTrapProof, trap_proof, with_budget}
+use Rattle.hv_trap.specs.Written.{IsModestTrap, IsTrapProof, trap_proof, with_trap_budget}
 use Rattle.hv_trap.proofs.Block.{first, good_trap_proof, line6, line7}
 use Rattle.hv_trap.proofs.Formulas.{IsTrapFormula, formula_small, trap_formula}
 use Rattle.hv_trap.proofs.Trapped.{trap_satisfied}
@@ -29,7 +29,7 @@ module _ (task : Strips) (clauses : List (List Literal)) (formula : IsTrapFormul
 
   -- the seventeen lines are good with each budget that the clauses don't pass
   within_budget : (budget : ℕ) → length clauses ≤ budget → 0 < budget
-      → AreGood (with_budget task budget) (trap_proof clauses)
+      → AreGood (with_trap_budget task budget) (trap_proof clauses)
   within_budget budget enough some =
       all_other (draft_setting task) budget (trap_proof clauses)
       (good_of task (trap_proof clauses) good) (
@@ -77,11 +77,11 @@ module _ (task : Strips) (clauses : List (List Literal)) (formula : IsTrapFormul
 
 pub trap_modest : (task : Strips) (lines : List Line) → atoms task ≤ 64
     → IsSatisfied task (start_state task) → IsTrapProof task lines
-    → IsModest task 6112 lines
+    → IsModestTrap task 6112 lines
 trap_modest task lines few satisfied (c, trap, is) =
     let formula : IsTrapFormula task c = trap_formula task c few trap in
     let breaks = (trap_satisfied task c trap (start_state task)).1 satisfied in
-    subst (IsModest task 6112) (sym is) record {
+    subst (IsModestTrap task 6112) (sym is) record {
       cost = within_budget task c formula breaks 6112 formula.few (omega arith);
       bytes = lines_brief task c formula breaks;
     }

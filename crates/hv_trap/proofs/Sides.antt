@@ -6,9 +6,9 @@ use Rattle.std.proofs.lemmas.List.Elements.{Contains-append_right}
 use Rattle.std.specs.List.{Contains}
 use Rattle.hv_lines.specs.Literals.{IsLiteral}
 use Rattle.hv_lines.specs.Shapes.{Askings, AskingsRise, HasSides, IsAsked, IsFamilyOf, IsLeftLeaf}
-use Rattle.hv_lines.specs.Shapes.{IsLiteralOf, IsOfFamily, IsOrLeaf, IsQuestion, Question}
+use Rattle.hv_lines.specs.Shapes.{IsLiteralOf, IsOfFamily, IsOrLeaf, IsQuestion, QuestionState}
 use Rattle.hv_lines.specs.Shapes.{asks_sides_after, most_operands}
-use Rattle.hv_lines.specs.declared.family.FormulaFamily.TheVariants as F
+use Rattle.hv_lines.specs.declared.formula_family.FormulaFamily.TheVariants as F
 use Rattle.hv_lines.specs.declared.line.Line.{Line}
 use Rattle.hv_lines.specs.declared.line.Word.{Word}
 use Rattle.hv_lines.proofs.GoodQuestions.{IsSetOf}
@@ -139,7 +139,7 @@ from_picked after sign (l ∷ literals) a c =
     ]
 
 -- What is asked by a statement over 2CNF formulas with these literals on its sides: a literal on
--- the left stands on the side of its
+-- the left is on the side of its
 -- sign, and one on the right on the other.
 
 abbrev pub positives : Word → Bool → Literals → Literals → Askings
@@ -150,7 +150,7 @@ abbrev pub negatives : Word → Bool → Literals → Literals → Askings
 negatives word early lefts rights = picked (asks_sides_after word) true rights
     ++ picked early false lefts
 
-abbrev pub two_question : Word → Bool → Literals → Literals → Option ℕ → Question
+abbrev pub two_question : Word → Bool → Literals → Literals → Option ℕ → QuestionState
 two_question word early lefts rights acts = record {
   family = F.Two;
   positive = positives word early lefts rights;

@@ -21,7 +21,7 @@ use Rattle.hv_lines.specs.Setting.{Setting}
 use Rattle.hv_lines.specs.Shapes.{Askings, AskingsRise, HasSides, IsAndLeaf, IsLeftLeaf}
 use Rattle.hv_lines.specs.Shapes.{IsLiteralOf, IsOfFamily, IsOrLeaf, IsStep, alone, and_parts}
 use Rattle.hv_lines.specs.Shapes.{most_operands, or_parts}
-use Rattle.hv_lines.specs.declared.family.FormulaFamily.TheVariants as F
+use Rattle.hv_lines.specs.declared.formula_family.FormulaFamily.TheVariants as F
 use Rattle.hv_lines.specs.declared.line.Constant.TheVariants as C
 use Rattle.hv_lines.specs.declared.line.Expr.TheVariants as E
 use Rattle.hv_lines.specs.declared.line.Line.{Line}

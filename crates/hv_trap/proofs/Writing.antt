@@ -1,4 +1,4 @@
--- What stands after the pruner's answer: in each of its cases.
+-- What is after the pruner's answer: in each of its cases.
 use Rattle.std.proofs.Common.{◌≡◌, ℕ, ◌+◌, ◌≤◌, ◌∙◌, ◌++◌, Bool, false, List, [], ◌∷◌, Option, Some}
 use Rattle.std.proofs.Common.{None, Result, Ok, Err, length, slice_get, refl, sym, ap, subst, inl}
 use Rattle.std.proofs.Common.{inr, arith}
@@ -27,7 +27,7 @@ use Rattle.hv_lines.proofs.Laws.{expr_at_here, set_in, set_out, statement_at_her
 use Rattle.hv_lines.proofs.Elements.{last_cases}
 use Rattle.hv_trap.specs.Working.Fitting.{notes_fit}
 use Rattle.hv_trap.specs.Pruner.{AreTrapNotes, IsTrapBlock, IsTrapSet, TrapCovers}
-use Rattle.hv_trap.specs.Working.Pruner.{IsOutcome}
+use Rattle.hv_trap.specs.Working.Pruner.{IsTrapOutcome}
 use Rattle.hv_trap.specs.Trap.{AreTrapClauses}
 use Rattle.hv_trap.specs.Written.{trap_block}
 use Rattle.hv_trap.proofs.Block.{good_trap_block}
@@ -66,7 +66,7 @@ module _ (task : Strips) (lines : List Line) (table : IsTable lines) (set formul
       (set_out task (draft_setting task).nodes lines formula (E.Two clauses) table says state
       inside))
 
--- the clauses that stand there are those of the trap
+-- the clauses that are there are those of the trap
 pub asked_clauses : (task : Strips) (lines : List Line) (set : ℕ) → IsTrapSet task lines set
     → (formula : ℕ) (clauses : List (List Literal))
     → expr_at lines set ≡ Some (E.Not formula) → expr_at lines formula ≡ Some (E.Two clauses)
@@ -88,7 +88,7 @@ module _ (task : Strips) (state : List Bool) (notes : List Note) (draft : DraftS
     (good : IsGoodTable task draft.lines) (fits : AreTrapNotes task draft.lines notes) where
   -- a note's literal holds the state
   outcome_noted : (line : ℕ) → IsFirstNoted task draft.lines notes state line
-      → IsOutcome task state (Some line) notes draft notes draft
+      → IsTrapOutcome task state (Some line) notes draft notes draft
   outcome_noted line first = record {
     answer = record {
       noted = λ other also. (
@@ -114,7 +114,8 @@ module _ (task : Strips) (state : List Bool) (notes : List Note) (draft : DraftS
   }
 
   -- the state isn't covered
-  pub outcome_none : (TrapCovers task state → ⊥) → IsOutcome task state None notes draft notes draft
+  pub outcome_none : (TrapCovers task state → ⊥) → IsTrapOutcome task state None notes draft notes
+      draft
   outcome_none out = record {
     answer = record {
       noted = λ line first. absurd (out ((fits first.place first.note first.at).0.within state
@@ -132,7 +133,7 @@ module _ (task : Strips) (state : List Bool) (notes : List Note) (draft : DraftS
   -- the first note tells
   pub outcome_told : (note : Note) → slice_get notes 0 ≡ Some note → (found : Option ℕ)
       → SomeIff found (states_in task draft.lines note.set state) note.line
-      → IsOutcome task state found notes draft notes draft
+      → IsTrapOutcome task state found notes draft notes draft
   outcome_told note at None told =
       outcome_none (λ is. told (covered_in task draft.lines (table_of task draft.lines good)
       note.set (fits 0 note at).1 state is))
@@ -268,7 +269,7 @@ module _ (task : Strips) (lines : List Line) (clauses : List (List Literal)) (s 
           (breaks_set task Written table (s + 1) s clauses written_not written_set state
           ((trap_satisfied task clauses trap state).1 covered.1))
 
-      pub outcome_written : IsOutcome task state (Some (k + 3)) notes draft new_notes new
+      pub outcome_written : IsTrapOutcome task state (Some (k + 3)) notes draft new_notes new
       outcome_written = record {
         answer = record {
           noted = λ line first.
@@ -294,11 +295,11 @@ module _ (task : Strips) (lines : List Line) (clauses : List (List Literal)) (s 
             (subst (AreTrapNotes task Written) (sym also) (written_fits notes fits));
       }
 
--- the notes fit the draft also after want of memory
+-- the notes fit the draft also after running out of memory
 pub fits_after : {X : Type 0} (task : Strips) (state : List Bool) (notes : List Note)
     (draft : DraftState) (new_notes : List Note)
     (new : DraftState) (result : Result (Option ℕ) X)
-    → IfOk result (λ found. IsOutcome task state found notes draft new_notes new)
+    → IfOk result (λ found. IsTrapOutcome task state found notes draft new_notes new)
     → OnErr result (new ≡ draft) → OnErr result (new_notes ≡ notes)
     → AreTrapNotes task draft.lines notes
     → AreTrapNotes task new.lines new_notes

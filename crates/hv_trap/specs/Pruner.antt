@@ -32,7 +32,7 @@ IsTrapSet task lines set =
     (formula : ℕ) × (clauses : List (List Literal)) × (expr_at lines set ≡ Some (E.Not formula))
     × IsFormulaOf lines formula clauses × AreTrapClauses task clauses
 
--- the notes stand in the lines, and each is of this set
+-- the notes are in the lines, and each is of this set
 abbrev pub AreTrapNotes : Strips → List Line → List Note → Type 0
 AreTrapNotes task lines notes =
     (k : ℕ) (note : Note) → slice_get notes k ≡ Some note

@@ -41,11 +41,11 @@ IsTrapProof task lines =
     (clauses : List (List Literal)) × AreTrapClauses task clauses × (lines ≡ trap_proof clauses)
 
 -- what a draft for the task is judged by, with this budget in place of the default one
-abbrev pub with_budget : Strips → ℕ → Setting
-with_budget task budget = setting_of task (draft_setting task).nodes budget
+abbrev pub with_trap_budget : Strips → ℕ → Setting
+with_trap_budget task budget = setting_of task (draft_setting task).nodes budget
 
 -- no query of the lines costs more than so many clauses, since with that budget they are good too;
 -- and no line is longer than 7,400,000 bytes
-pub record IsModest (task : Strips) (clauses : ℕ) (lines : List Line) : Type 0 where
-  pub cost : AreGood (with_budget task clauses) lines
+pub record IsModestTrap (task : Strips) (clauses : ℕ) (lines : List Line) : Type 0 where
+  pub cost : AreGood (with_trap_budget task clauses) lines
   pub bytes : All (λ line. length (spelling_of line) ≤ 7400000) lines

@@ -4,19 +4,19 @@
 
 mod conjunctions;
 pub mod fault;
+mod implications;
 pub mod laws;
-mod mask;
+mod literal_mask;
+mod literal_table;
 mod notes;
-pub mod proof;
-pub mod pruner;
-mod rows;
-mod step;
 mod sweep;
-mod table;
 pub mod trap;
+pub mod trap_proof;
+pub mod trap_pruner;
+mod trap_query;
 
 pub use fault::TrapFault;
 pub use laws::{laws_of_trap_proofs, laws_of_traps};
-pub use proof::prove_trap;
-pub use pruner::TrapPruner;
 pub use trap::greatest_trap;
+pub use trap_proof::prove_trap;
+pub use trap_pruner::TrapPruner;

@@ -16,9 +16,9 @@ ghost use Rattle.hv_trap.specs.Trap.{AreTrapClauses};
 ghost use Rattle.hv_trap.specs.Written.{trap_block};
 
 use crate::fault::TrapFault;
-use crate::proof::trap_block;
-use crate::step::are_true_in;
 use crate::trap::greatest_trap;
+use crate::trap_proof::trap_block;
+use crate::trap_query::are_true_in;
 use hv_lines::{Draft, Expr, Note, Table};
 use hv_sets::Clauses;
 use hv_task::{State, Task};

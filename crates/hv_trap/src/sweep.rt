@@ -6,18 +6,18 @@ ghost use Rattle.hv_clauses.specs.Clausal.{AreClauses};
 ghost use Rattle.hv_trap.specs.Working.Room.{HasStates};
 ghost use Rattle.hv_trap.specs.Working.Trap.{EncloseTrap, Escapes};
 
-use crate::mask::{Mask, has_bit};
-use crate::rows::Rows;
-use crate::step::{are_true_in, true_in};
+use crate::implications::Implications;
+use crate::literal_mask::{Mask, has_bit};
+use crate::trap_query::{are_true_in, true_in};
 use hv_sets::Clauses;
 use hv_task::{State, Task};
 use std::alloc::{AllocError, Global};
 
 /// What follows by the clauses that are left, from which literals that changed in the last sweep
-/// and in this one, and room for two states.
+/// and in this one, and space for two states.
 #[derive(Drop)]
-pub(crate) struct Room {
-    rows: Rows,
+pub(crate) struct SweepState {
+    rows: Implications,
     earlier: Mask,
     changed: Mask,
     before: State,
@@ -31,8 +31,8 @@ pub(crate) fn take_out(alloc: Global, task: &Task, clauses: &mut Clauses) -> Res
     requires clauses { EncloseTrap task.now clauses.old }
     ensures { OnOk result (EncloseTrap task.now clauses.new) }
 {
-    let rows = Rows::of(clauses);
-    let mut room = Room {
+    let rows = Implications::of(clauses);
+    let mut room = SweepState {
         rows,
         earlier: Mask::all(),
         changed: Mask::none(),
@@ -48,7 +48,7 @@ pub(crate) fn take_out(alloc: Global, task: &Task, clauses: &mut Clauses) -> Res
 fn sweep(
     alloc: Global,
     task: &Task,
-    room: &mut Room,
+    room: &mut SweepState,
     clauses: &mut Clauses,
 ) -> Result<bool, AllocError>
     requires few { atoms task.now ≤ 64 }
@@ -70,7 +70,7 @@ fn sweep(
 }
 
 // Whether something else can be seen of the action than when it was visited last.
-fn has_news(task: &Task, room: &Room, action: u32) -> bool
+fn has_news(task: &Task, room: &SweepState, action: u32) -> bool
     requires few { atoms task.now ≤ 64 }
     requires action { action < length task.now.actions }
 {
@@ -82,7 +82,7 @@ fn has_news(task: &Task, room: &Room, action: u32) -> bool
 fn exhaust(
     alloc: Global,
     task: &Task,
-    room: &mut Room,
+    room: &mut SweepState,
     action: u32,
     clauses: &mut Clauses,
 ) -> Result<bool, AllocError>
@@ -97,7 +97,7 @@ fn exhaust(
 {
     let mut found = false;
     while visit(alloc, task, room, action, clauses)? {
-        let rows = Rows::of(clauses);
+        let rows = Implications::of(clauses);
         room.changed = room.changed.joined(rows.changed(&room.rows));
         room.rows = rows;
         found = true;
@@ -110,7 +110,7 @@ fn exhaust(
 fn visit(
     alloc: Global,
     task: &Task,
-    room: &mut Room,
+    room: &mut SweepState,
     action: u32,
     clauses: &mut Clauses,
 ) -> Result<bool, AllocError>

@@ -8,8 +8,8 @@ ghost use Rattle.hv_trap.specs.declared.fault.TrapFault.TheVariants as F;
 
 use crate::conjunctions::candidates;
 use crate::fault::TrapFault;
-use crate::step::round;
 use crate::sweep::take_out;
+use crate::trap_query::round;
 use hv_sets::Clauses;
 use hv_task::Task;
 use std::alloc::{AllocError, Global};

@@ -7,13 +7,13 @@ use Rattle.hv_sets.specs.Kinds.{IsFirstOther, IsTwoClause}
 use Rattle.hv_twocnf.specs.declared.two_cnf.TwoCnfFault.{TwoCnfFault}
 use Rattle.hv_twocnf.specs.declared.two_cnf.TwoCnfFault.TheVariants as F
 
--- the clause that is named is the first that has more than two different literals; want of memory
+-- the clause that is named is the first that has more than two different literals; out of memory
 -- may come at any time
-abbrev pub IsFault : List (List Literal) → TwoCnfFault → Type 0
-IsFault clauses (F.NotTwo place) = IsFirstOther IsTwoClause clauses place
-IsFault clauses F.Memory = ⊤
+abbrev pub IsTwoCnfFault : List (List Literal) → TwoCnfFault → Type 0
+IsTwoCnfFault clauses (F.NotTwo place) = IsFirstOther IsTwoClause clauses place
+IsTwoCnfFault clauses F.Memory = ⊤
 
--- want of memory is always right
+-- out of memory is always right
 pub memory_is_fault : (clauses : List (List Literal)) (error : NoMemory) (fault : TwoCnfFault)
-    → fault ≡ F.Memory → IsFault clauses fault
-memory_is_fault clauses error fault is = subst (IsFault clauses) (sym is) tt
+    → fault ≡ F.Memory → IsTwoCnfFault clauses fault
+memory_is_fault clauses error fault is = subst (IsTwoCnfFault clauses) (sym is) tt

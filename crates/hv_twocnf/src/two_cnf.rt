@@ -4,13 +4,13 @@ ghost use Rattle.std.specs.Prelude.{◌≡◌, ◌↔◌, IsTrue};
 ghost use Rattle.std.specs.List.{All};
 ghost use Rattle.hv_sets.specs.Kinds.{IsTwoClause};
 ghost use Rattle.hv_clauses.specs.declared.completion.Completion.TheVariants as C;
-ghost use Rattle.hv_clauses.specs.declared.listing.Listing.TheVariants as L;
-ghost use Rattle.hv_twocnf.specs.Working.Either.{IsEither};
-ghost use Rattle.hv_twocnf.specs.Fault.{IsFault, memory_is_fault};
+ghost use Rattle.hv_clauses.specs.declared.kept_lists.KeptLists.TheVariants as L;
+ghost use Rattle.hv_twocnf.specs.Working.Either.{IsOneOfTwo};
+ghost use Rattle.hv_twocnf.specs.Fault.{IsTwoCnfFault, memory_is_fault};
 ghost use Rattle.hv_twocnf.specs.Working.Laws as laws;
 ghost use Rattle.hv_twocnf.specs.declared.two_cnf.TwoCnfFault.TheVariants as F;
 
-use hv_clauses::{ClauseKind, Completion, Formula, Formulas, Listing};
+use hv_clauses::{ClauseKind, Completion, Formula, Formulas, KeptLists};
 use hv_sets::Literal;
 use std::alloc::AllocError;
 use thiserror::Error;
@@ -53,7 +53,7 @@ impl ClauseKind for TwoKind {
 
     ghost listed_by = { L.Implied };
 
-    ghost is_fault = { IsFault };
+    ghost is_fault = { IsTwoCnfFault };
 
     fn takes(clause: &[Literal]) -> bool {
         is_two(clause)
@@ -63,8 +63,8 @@ impl ClauseKind for TwoKind {
         Completion::Try
     }
 
-    fn listing() -> Listing {
-        Listing::Implied
+    fn listing() -> KeptLists {
+        KeptLists::Implied
     }
 
     fn other(place: usize) -> TwoCnfFault {
@@ -95,7 +95,7 @@ fn is_two(clause: &[Literal]) -> bool
 
 // Whether each literal of a clause is one of these two.
 fn has_only(clause: &[Literal], first: &Literal, second: &Literal) -> bool
-    ensures { IsTrue result ↔ All (IsEither first.now second.now) clause.now }
+    ensures { IsTrue result ↔ All (IsOneOfTwo first.now second.now) clause.now }
 {
     clause
         .iter()

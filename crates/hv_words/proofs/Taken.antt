@@ -75,7 +75,7 @@ module _ (name : Text) where
       (all.0, ap (first_of (codes "first")) all.1, ap (first_of (codes "second")) all.1)
 
 -- what is read in the matches
-pub record Reads (rows : List Row) (texts : CheckTexts) : Type 0 where
+pub record ReadsWord (rows : List Row) (texts : CheckTexts) : Type 0 where
   pub task : first_of (codes "task") rows ≡ Some texts.task
   pub proof : first_of (codes "proof") rows ≡ Some texts.proof
   pub nodes : first_of (codes "nodes") rows ≡ texts.nodes
@@ -158,7 +158,7 @@ module _ (name : Text) where
 
   abbrev pub Taken : List Text → CheckTexts → Type 0
   Taken words texts = (takes (check_app name) words ≡ true)
-      × Reads (matches_of (check_app name) words) texts
+      × ReadsWord (matches_of (check_app name) words) texts
 
   module _ (task proof : Text) (task_is : is_argument task ≡ true)
       (proof_is : is_argument proof ≡ true) where
@@ -184,12 +184,12 @@ module _ (name : Text) where
 
     taken : (options : List Text) (end : Walk) (given : OptionTexts) → from_arguments options end
         → Ends shape end.held
-        → Reads (finished shape.rules end.held) (texts given)
+        → ReadsWord (finished shape.rules end.held) (texts given)
         → Taken (task ∷ proof ∷ options) (texts given)
     taken options end given goes ends reads =
         let all = reached (check_app name) check_simple refl refl (task ∷ proof ∷ options) end
         (by_arguments end options goes) ends in
-        (all.0, subst (λ rows. Reads rows (texts given)) (sym all.1) reads)
+        (all.0, subst (λ rows. ReadsWord rows (texts given)) (sym all.1) reads)
 
     none_taken : Taken (task ∷ proof ∷ []) (texts (record { nodes = None; budget = None }))
     none_taken =
@@ -378,13 +378,13 @@ two_list name (first ∷ second ∷ third ∷ words) has = absurd (true≢false 
 pub check_list : (name : Text) (words : List Text) → is_some (check_texts words) ≡ true
     → (takes (check_app name) words ≡ true)
     × (given : CheckTexts) × (check_texts words ≡ Some given)
-    × Reads (matches_of (check_app name) words) given
+    × ReadsWord (matches_of (check_app name) words) given
 check_list name words has = go (check_texts words) refl has
   where
     go : (found : Option CheckTexts) → check_texts words ≡ found → is_some found ≡ true
         → (takes (check_app name) words ≡ true)
         × (given : CheckTexts) × (check_texts words ≡ Some given)
-        × Reads (matches_of (check_app name) words) given
+        × ReadsWord (matches_of (check_app name) words) given
     go None is none = absurd (true≢false (sym none))
     go (Some given) is some =
         let all = check_taken name words given is in

@@ -27,7 +27,7 @@ module _ (rules : List Rule) where
   met waiting position [] held h = absurd (true≢false (sym h))
   met waiting position (x ∷ xs) held h = met_at waiting position x xs held (not-true (eqb x 45) h)
 
-  -- where the walk stands before a word
+  -- where the walk is before a word
   abbrev pub at : Held → Waiting → ℕ → Walk
   at held waiting position = record {
     held = held;

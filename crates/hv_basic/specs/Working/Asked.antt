@@ -8,7 +8,7 @@ use Rattle.hv_sets.specs.declared.operand.Operand.{Operand}
 use Rattle.hv_sets.specs.declared.query.Query.{Query}
 use Rattle.hv_lines.specs.Queries.{operand_of}
 use Rattle.hv_lines.specs.declared.line.Line.{Line}
-use Rattle.hv_basic.specs.declared.literals.Asking.{Asking}
+use Rattle.hv_basic.specs.declared.signed_sets.Asking.{Asking}
 
 -- these are all that is asked about with the sign
 abbrev pub AreChosen : List Asking → Bool → List (ℕ × Bool) → Type 0

@@ -9,10 +9,10 @@ use Rattle.hv_sets.specs.declared.literal.Literal.{Literal}
 use Rattle.hv_sets.specs.declared.query.Query.{Query}
 use Rattle.hv_lines.specs.Queries.{PassesBudget, count_of, has_of, queries_of, query_of}
 use Rattle.hv_lines.specs.Verdicts.{IsDecided}
-use Rattle.hv_lines.specs.declared.family.FormulaFamily.{FormulaFamily}
+use Rattle.hv_lines.specs.declared.formula_family.FormulaFamily.{FormulaFamily}
 use Rattle.hv_lines.specs.declared.verdict.Verdict.{Verdict}
 use Rattle.hv_lines.specs.Setting.{Setting}
-use Rattle.hv_lines.specs.Shapes.{Question}
+use Rattle.hv_lines.specs.Shapes.{QuestionState}
 use Rattle.hv_lines.specs.declared.line.Line.{Line}
 use Rattle.hv_basic.specs.Working.Asked.{with_action}
 
@@ -40,7 +40,7 @@ IsDecidedIn setting lists queries verdict =
 
 -- the query, with each of these actions in turn, asks what the question asks; so many nodes there
 -- are
-pub record IsQueryFor (task : Strips) (nodes : ℕ) (lines : List Line) (question : Question)
+pub record IsQueryFor (task : Strips) (nodes : ℕ) (lines : List Line) (question : QuestionState)
     (query : Query)
     (actions : List (Option ℕ)) : Type 0
   where

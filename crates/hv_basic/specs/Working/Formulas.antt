@@ -4,7 +4,7 @@ use Rattle.hv_sets.specs.Cost.{IsAnswer}
 use Rattle.hv_sets.specs.declared.finding.Finding.{Finding}
 use Rattle.hv_clauses.specs.Clausal.{in_formula}
 use Rattle.hv_clauses.specs.Denial.{steps_of}
-use Rattle.hv_explicit.specs.Listing.{full_cubes, in_listing}
+use Rattle.hv_explicit.specs.ListedStates.{full_cubes, in_listing}
 use Rattle.hv_bdd.specs.Nodes.{NodeList, in_node}
 use Rattle.hv_bdd.specs.Paths.{path_cubes}
 use Rattle.hv_lines.specs.Mixed.{clause_count, count_unless, either_count, listed_count}
@@ -13,8 +13,8 @@ use Rattle.hv_lines.specs.declared.line.Expr.{Expr}
 use Rattle.hv_lines.specs.declared.line.Expr.TheVariants as E
 use Rattle.hv_task.specs.Strips.{atoms}
 use Rattle.hv_basic.specs.declared.case.Case.{Case}
-use Rattle.hv_basic.specs.declared.formula.AnyFormula.{AnyFormula}
-use Rattle.hv_basic.specs.declared.formula.AnyFormula.TheVariants as M
+use Rattle.hv_basic.specs.declared.any_formula.AnyFormula.{AnyFormula}
+use Rattle.hv_basic.specs.declared.any_formula.AnyFormula.TheVariants as M
 
 -- what an `e` line with this formula says
 abbrev pub expr_of : AnyFormula → Expr

@@ -6,19 +6,19 @@ use Rattle.hv_lines.specs.Literals.{IsLiteral}
 use Rattle.hv_lines.specs.Numbering.{expr_count}
 use Rattle.hv_lines.specs.Shapes.{IsAndLeaf, IsAsked, IsLeftLeaf, IsLiteralOf, IsOfFamily, IsStep}
 use Rattle.hv_lines.specs.Shapes.{IsWithinFamily, asks_step_after}
-use Rattle.hv_lines.specs.declared.family.FormulaFamily.{FormulaFamily}
-use Rattle.hv_lines.specs.declared.family.FormulaFamily.TheVariants as F
+use Rattle.hv_lines.specs.declared.formula_family.FormulaFamily.{FormulaFamily}
+use Rattle.hv_lines.specs.declared.formula_family.FormulaFamily.TheVariants as F
 use Rattle.hv_lines.specs.declared.line.Line.{Line}
 use Rattle.hv_lines.specs.declared.line.Word.{Word}
 use Rattle.hv_lines.specs.declared.line.Word.TheVariants as W
-use Rattle.hv_basic.specs.declared.literals.Asking.{Asking}
-use Rattle.hv_basic.specs.declared.literals.Literal.{Literal}
-use Rattle.hv_basic.specs.declared.literals.Others.{Others}
-use Rattle.hv_basic.specs.declared.literals.Others.TheVariants as O
+use Rattle.hv_basic.specs.declared.signed_sets.Asking.{Asking}
+use Rattle.hv_basic.specs.declared.signed_sets.SignedSet.{SignedSet}
+use Rattle.hv_basic.specs.declared.signed_sets.Others.{Others}
+use Rattle.hv_basic.specs.declared.signed_sets.Others.TheVariants as O
 use Rattle.hv_basic.specs.declared.sides.Sides.{Sides}
 
 -- the leaf is the literal
-abbrev pub IsThe : List Line → ℕ → Literal → Type 0
+abbrev pub IsThe : List Line → ℕ → SignedSet → Type 0
 IsThe lines leaf literal = IsLiteralOf lines leaf literal.set literal.is_plain
 
 -- the sign of what a literal asks about: its own on the left, the opposite on the right

@@ -6,7 +6,7 @@ use Rattle.hv_lines.specs.Shapes.{family_of}
 use Rattle.hv_lines.specs.declared.line.Expr.{Expr}
 use Rattle.hv_lines.specs.declared.line.Line.{Line}
 use Rattle.hv_basic.specs.Working.Gathered.{IsThe}
-use Rattle.hv_basic.specs.declared.literals.Leaf.{Leaf}
+use Rattle.hv_basic.specs.declared.signed_sets.Leaf.{Leaf}
 
 -- the identifiers of the leaves
 abbrev pub places : List Leaf → List ℕ

@@ -3,8 +3,8 @@ use Rattle.std.specs.Prelude.{◌≡◌, ◌<◌, ◌⊎◌, ◌↔◌, ℕ, Boo
 use Rattle.std.specs.List.{Contains}
 use Rattle.hv_lines.specs.Numbering.{expr_at, expr_count}
 use Rattle.hv_lines.specs.Shapes.{Askings, IsOrLeaf, IsQuestion}
-use Rattle.hv_lines.specs.Shapes.{IsWithinFamily, Question}
-use Rattle.hv_lines.specs.declared.family.FormulaFamily.{FormulaFamily}
+use Rattle.hv_lines.specs.Shapes.{IsWithinFamily, QuestionState}
+use Rattle.hv_lines.specs.declared.formula_family.FormulaFamily.{FormulaFamily}
 use Rattle.hv_lines.specs.declared.line.Expr.TheVariants as E
 use Rattle.hv_lines.specs.declared.line.Line.{Line}
 use Rattle.hv_lines.specs.declared.line.Word.{Word}
@@ -15,7 +15,7 @@ use Rattle.hv_basic.specs.Sharing.{ArePlain}
 use Rattle.hv_basic.specs.Working.Asked.{AreOperands}
 use Rattle.hv_basic.specs.Working.Gathered.{IsFamilyIn}
 use Rattle.hv_basic.specs.Working.Views.{question_of}
-use Rattle.hv_basic.specs.declared.literals.Asking.{Asking}
+use Rattle.hv_basic.specs.declared.signed_sets.Asking.{Asking}
 use Rattle.hv_basic.specs.declared.shared.Kept.{Kept}
 
 -- what is kept are formulas and constants, with their family and the operands that ask about them
@@ -68,5 +68,5 @@ pub record IsAskedBy (lines : List Line) (word : Word) (left right : ℕ) (kept 
 -- shape of the word
 abbrev pub IsVerdictOfSub : Setting → List Line → Word → ℕ → ℕ → Verdict → Type 0
 IsVerdictOfSub setting lines word left right verdict =
-    (question : Question) × IsQuestion lines word left right question
+    (question : QuestionState) × IsQuestion lines word left right question
     × IsVerdictOfSets setting lines question verdict

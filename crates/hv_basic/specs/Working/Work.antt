@@ -6,12 +6,12 @@ use Rattle.hv_lines.specs.Numbering.{expr_at}
 use Rattle.hv_lines.specs.Shapes.{and_parts, or_parts}
 use Rattle.hv_lines.specs.declared.line.Expr.{Expr}
 use Rattle.hv_lines.specs.declared.line.Line.{Line}
-use Rattle.hv_basic.specs.declared.leaves.Side.{Side}
-use Rattle.hv_basic.specs.declared.leaves.Side.TheVariants as S
+use Rattle.hv_basic.specs.declared.leaves.Half.{Half}
+use Rattle.hv_basic.specs.declared.leaves.Half.TheVariants as S
 
 -- the parts of a set on this side of a statement: an intersection's on the left, a union's on the
 -- right
-abbrev pub parts_on : Side → Expr → Option (ℕ × ℕ)
+abbrev pub parts_on : Half → Expr → Option (ℕ × ℕ)
 parts_on S.Left expr = and_parts expr
 parts_on S.Right expr = or_parts expr
 
@@ -38,7 +38,7 @@ LookedAt (Some parts) set old new found kept =
     AreAdded old new parts.0 parts.1 × (kept ≡ found) × (parts.0 < set) × (parts.1 < set)
 
 -- the same of the set of an identifier, on this side of a statement
-abbrev pub IsLookedAt : List Line → Side → ℕ → BTreeSet ℕ → BTreeSet ℕ → List ℕ → List ℕ → Type 0
+abbrev pub IsLookedAt : List Line → Half → ℕ → BTreeSet ℕ → BTreeSet ℕ → List ℕ → List ℕ → Type 0
 IsLookedAt lines side set old new found kept =
     (expr : Expr) × (expr_at lines set ≡ Some expr)
     × LookedAt (parts_on side expr) set old new found kept

@@ -12,7 +12,7 @@ use Rattle.hv_bdd.specs.Fronts.{AreBelowBound}
 abbrev pub IsContinued : List ℕ → List ℕ → Type 0
 IsContinued old new = (more : List ℕ) × (new ≡ old ++ more)
 
--- the node stands in the list, or was put last
+-- the node is in the list, or was put last
 abbrev pub LiesIn : List ℕ → ℕ → List ℕ → Type 0
 LiesIn old node new = ((new ≡ old) × Contains old node) ⊎ (new ≡ old ++ node ∷ [])
 

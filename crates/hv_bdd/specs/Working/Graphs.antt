@@ -10,7 +10,7 @@ use Rattle.hv_sets.specs.declared.operand.Which.TheVariants as W
 use Rattle.hv_bdd.specs.declared.asked.Asked.{Asked}
 use Rattle.hv_bdd.specs.Nodes.{in_node, node_count}
 use Rattle.hv_bdd.specs.Order.{atom_at}
-use Rattle.hv_bdd.specs.Live.{TupleSetting, asks_goal, moves, or_else, roots, start_bit}
+use Rattle.hv_bdd.specs.Live.{TupleSetting, asks_goal, moves, bit_or, roots, start_bit}
 use Rattle.hv_bdd.specs.Tuples.{Moves, TuplesPass}
 
 -- In a chain over so many places with these atoms, some places are asked for, each with the
@@ -31,7 +31,7 @@ module _ (n : ℕ) (atom_at : ℕ → ℕ) (asks bits : ℕ → Bool) where
 abbrev pub with_marks : List (Option Bool) → List Bool → List Bool
 with_marks marks [] = []
 with_marks [] (bit ∷ bits) = bit ∷ bits
-with_marks (mark ∷ marks) (bit ∷ bits) = or_else mark bit ∷ with_marks marks bits
+with_marks (mark ∷ marks) (bit ∷ bits) = bit_or mark bit ∷ with_marks marks bits
 
 module _ (S : TupleSetting) where
   -- how many nodes the graph of an operand has

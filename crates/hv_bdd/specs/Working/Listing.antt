@@ -4,7 +4,7 @@ use Rattle.hv_grammar.specs.Parsers.{Parser, refused}
 use Rattle.hv_grammar.specs.declared.fault.ParseFault.{ParseFault}
 use Rattle.hv_grammar.specs.declared.fault.ParseFault.TheVariants as P
 use Rattle.hv_bdd.specs.declared.fault.NodeRefusal.{NodeRefusal}
-use Rattle.hv_bdd.specs.declared.listing.Listing.{Listing}
+use Rattle.hv_bdd.specs.declared.node_listing.NodeListing.{NodeListing}
 use Rattle.hv_bdd.specs.declared.node.Node.{Node}
 use Rattle.hv_bdd.specs.declared.numbers.Triple.{Triple}
 use Rattle.hv_bdd.specs.NodeFile.{with_next}
@@ -43,20 +43,20 @@ behind_tried (Ok list) rest n ps = rest list n ps
 behind_tried (Err e) rest n ps = refused e.0 e.1
 
 -- the nodes that were read
-abbrev pub tried_by : Listing → Tried
+abbrev pub tried_by : NodeListing → Tried
 tried_by r = tried (Ok r.list) (map as_node r.waiting.items)
 
 -- how many they are
-abbrev pub read_count : Listing → ℕ
+abbrev pub read_count : NodeListing → ℕ
 read_count r = length r.list.nodes + length r.waiting.items
 
 -- a listing between two lines: the nodes of the list are noted, and with those that wait they are
 -- no more than a file may have
-pub record IsListing (r : Listing) : Type 0 where
+pub record IsListing (r : NodeListing) : Type 0 where
   pub seen : IsChained r.list.nodes r.seen
   pub few : read_count r ≤ 16777216
 
--- the fault is that of the nodes that were read; or want of memory
+-- the fault is that of the nodes that were read; or out of memory
 abbrev pub FailsTried : Tried → ParseFault NodeRefusal → Type 0
 FailsTried so_far (P.Refused n b) = so_far ≡ Err (n, b)
 FailsTried so_far (P.Long n) = ⊥
@@ -70,7 +70,7 @@ ListsAll (Ok _) old nodes new = tried (Ok old) nodes ≡ Ok new
 ListsAll (Err e) old nodes new = FailsTried (tried (Ok old) nodes) e
 
 -- the nodes that were read are the same ones
-pub record KeepsNodes (old new : Listing) : Type 0 where
+pub record KeepsNodes (old new : NodeListing) : Type 0 where
   pub ready : IsListing new
   pub same : tried_by new ≡ tried_by old
   pub size : read_count new ≡ read_count old
@@ -78,17 +78,18 @@ pub record KeepsNodes (old new : Listing) : Type 0 where
   pub order : new.list.order ≡ old.list.order
 
 -- room was made for one more, or a node that was read is refused
-abbrev pub MakesRoom : Result (Unit {0}) (ParseFault NodeRefusal) → Listing → Listing → Type 0
+abbrev pub MakesRoom : Result (Unit {0}) (ParseFault NodeRefusal) → NodeListing → NodeListing → Type
+    0
 MakesRoom (Ok _) old new = KeepsNodes old new
 MakesRoom (Err e) old new = FailsTried (tried_by old) e
 
 -- the nodes that waited were listed, or one of them is refused
-abbrev pub Settles : Result (Unit {0}) (ParseFault NodeRefusal) → Listing → Listing → Type 0
+abbrev pub Settles : Result (Unit {0}) (ParseFault NodeRefusal) → NodeListing → NodeListing → Type 0
 Settles (Ok _) old new = KeepsNodes old new × (new.waiting.items ≡ [])
 Settles (Err e) old new = FailsTried (tried_by old) e
 
 -- one more node was taken
-pub record TakesNode (old : Listing) (node : Node) (new : Listing) : Type 0 where
+pub record TakesNode (old : NodeListing) (node : Node) (new : NodeListing) : Type 0 where
   pub ready : IsListing new
   pub more : tried_by new ≡ then_listed (tried_by old) node
   pub size : read_count new ≡ read_count old + 1
@@ -96,17 +97,18 @@ pub record TakesNode (old : Listing) (node : Node) (new : Listing) : Type 0 wher
   pub order : new.list.order ≡ old.list.order
 
 -- one more node was taken, or an earlier one is refused
-abbrev pub PutsNode : Result (Unit {0}) (ParseFault NodeRefusal) → Listing → Triple → Listing
+abbrev pub PutsNode : Result (Unit {0}) (ParseFault NodeRefusal) → NodeListing → Triple →
+    NodeListing
     → Type 0
 PutsNode (Ok _) old triple new = TakesNode old (as_node triple) new
 PutsNode (Err e) old triple new = FailsTried (tried_by old) e
 
 -- the fault of a node that was read, or else this one
-abbrev pub IsEarliest : Listing → ParseFault NodeRefusal → ParseFault NodeRefusal → Type 0
+abbrev pub IsEarliest : NodeListing → ParseFault NodeRefusal → ParseFault NodeRefusal → Type 0
 IsEarliest r fault result =
     FailsTried (tried_by r) result ⊎ ((list : NodeList) × (tried_by r ≡ Ok list) × (result ≡ fault))
 
 -- the list of all nodes, or the fault of one of them
-abbrev pub Finishes : Result NodeList (ParseFault NodeRefusal) → Listing → Type 0
+abbrev pub Finishes : Result NodeList (ParseFault NodeRefusal) → NodeListing → Type 0
 Finishes (Ok list) r = tried_by r ≡ Ok list
 Finishes (Err e) r = FailsTried (tried_by r) e

@@ -13,7 +13,7 @@ use Rattle.hv_sets.specs.declared.operand.Which.TheVariants as W
 use Rattle.hv_sets.specs.declared.query.Query.{Query}
 use Rattle.hv_bdd.specs.declared.asked.Asked.{Asked}
 use Rattle.hv_bdd.specs.declared.reach.Reached.{Reached}
-use Rattle.hv_bdd.specs.declared.search.Link.{Link}
+use Rattle.hv_bdd.specs.declared.tuple_search.Link.{Link}
 use Rattle.hv_bdd.specs.Nodes.{NodeList, node_count}
 use Rattle.hv_bdd.specs.Order.{atom_at}
 use Rattle.hv_bdd.specs.Reduced.{IsReduced}
@@ -84,10 +84,10 @@ pub record IsExplored {O : Type 0} (m : Moves O) (os : List O) (root : List ℕ)
     (tuples : List (List ℕ)) (links : List Link) : Type 0 where
   pub size : length links ≡ length tuples
   pub upto : done ≤ length tuples
-  -- each tuple is reached, and none stands twice
+  -- each tuple is reached, and none occurs twice
   pub reached : All (IsReached m os root) tuples
   pub apart : (i j : ℕ) → i < j → j < length tuples → tuple_at tuples i ≡ tuple_at tuples j → ⊥
-  -- the tuple of roots is among them if it is live, and stands first
+  -- the tuple of roots is among them if it is live, and occurs first
   pub roots : (u : List ℕ) → if_live m os root ≡ Some u → Contains tuples u
   pub first : 0 < length tuples → if_live m os root ≡ Some (tuple_at tuples 0)
   -- the moves of the first so many lead to tuples among them

@@ -13,7 +13,7 @@ pub record TurnsTo (old new : List ℕ) : Type 0 where
   pub upto : length new ≤ length old + 1
   pub same : take (length new - 1) new ≡ take (length new - 1) old
 
--- the cursor stands for a walk over the paths from a node to an end, and these are the literals of
+-- the cursor denotes a walk over the paths from a node to an end, and these are the literals of
 -- its path
 pub record StandsWith (list : NodeList) (node end : ℕ) (cursor : Cursor)
     (literals : List Literal) : Type 0 where

@@ -2,7 +2,7 @@
 use Rattle.std.specs.Prelude.{ℕ, List, [], Option, None, Some, unwrap_or, option_map, slice_get}
 use Rattle.hv_bytes.specs.Files.{Names, bytes_of, File}
 
--- the bytes under a name, where a shelf tells what it holds
+-- the bytes under a name, where a source's bytes are known
 abbrev pub file_of : Option Names → List ℕ → Option (List ℕ)
 file_of None name = None
 file_of (Some held) name = Some (bytes_of held name)

@@ -2,7 +2,7 @@
 use Rattle.std.specs.Prelude.{◌≡◌, ℕ, ◌+◌, ◌<◌, List, ◌∷◌, length, take, drop, sum_by}
 use Rattle.hv_bytes.specs.LineCuts.{IsClean}
 
--- the first LF of these bytes stands at this place
+-- the first LF of these bytes is at this place
 pub record IsFirstLf (bytes : List ℕ) (at : ℕ) : Type 0 where
   pub within : at < length bytes
   pub clean : IsClean (take at bytes)

@@ -26,6 +26,6 @@ abbrev pub FitsSoFar : ℕ → ℕ → ℕ → List ℕ → Type 0
 FitsSoFar line_limit file_limit earlier line =
     line ≢ [] → FitsLimits line_limit file_limit earlier (length line)
 
--- the bytes begin with this front
+-- the bytes begin with this prefix
 abbrev pub BeginsWith : List ℕ → List ℕ → Type 0
 BeginsWith front bytes = take (length front) bytes ≡ front

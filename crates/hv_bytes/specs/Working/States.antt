@@ -14,7 +14,7 @@ pub record IsCounted
     pub lines_bound : number ≤ limits.file
     pub all_given : ended ≡ true → held ≡ []
 
--- how many bytes a block has room for
+-- how many bytes a block has space for
 abbrev pub block_size : ℕ
 block_size = 65536
 

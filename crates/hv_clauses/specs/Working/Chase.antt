@@ -29,10 +29,10 @@ AreKept effect clauses knowledge from =
 -- that agrees with what was known meets it.
 pub record IsFollowed (Holds : List Bool → Type 0) (old new : Knowledge)
     (result : Bool) : Type 0 where
-  pub base : new.base ≡ old.base
+  pub roots : new.roots ≡ old.roots
   pub more : (more : List Literal) × (new.trail ≡ old.trail ++ more)
   pub grows : KeepsKnown (marks_of old) (marks_of new)
-  pub follows : (state : List Bool) → length state ≡ length old.base → Holds state
+  pub follows : (state : List Bool) → length state ≡ length old.roots → Holds state
       → Agrees (marks_of old) state → Agrees (marks_of new) state
-  pub broken : result ≡ false → (state : List Bool) → length state ≡ length old.base → Holds state
+  pub broken : result ≡ false → (state : List Bool) → length state ≡ length old.roots → Holds state
       → Agrees (marks_of old) state → ⊥

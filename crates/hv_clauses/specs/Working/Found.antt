@@ -7,7 +7,7 @@ use Rattle.hv_sets.specs.Names.{AsksAbout}
 use Rattle.hv_sets.specs.Query.{IsNamed, action_of}
 use Rattle.hv_clauses.specs.Working.Effect.{IsEnabled}
 use Rattle.hv_clauses.specs.Working.Marks.{Agrees}
-use Rattle.hv_clauses.specs.Working.Posed.{Applies, InEach, Problem, width}
+use Rattle.hv_clauses.specs.Working.Posed.{Applies, InEach, ProblemState, width}
 use Rattle.hv_clauses.specs.Working.Problem.{AreLeft}
 use Rattle.hv_clauses.specs.Working.Trail.{Knowledge, marks_of}
 
@@ -30,22 +30,22 @@ IsMetBelow false bound atoms Holds found = (number : ℕ) → number < bound →
 
 -- the marks follow for each state in which the action is applicable and that is in each positive
 -- operand, and the action is applicable in each state that agrees with them
-pub record IsBase (p : Problem) (marks : List ℕ) : Type 0 where
+pub record AreRoots (p : ProblemState) (marks : List ℕ) : Type 0 where
   pub follows : (state : List Bool) → length state ≡ length marks → Applies p state
       → InEach p state → Agrees marks state
   pub enabled : IsEnabled (action_of p.task p.query.action) marks
 
 -- what is known is for the atoms of the task, it is such a base, and nothing is left to be followed
 -- up
-pub record IsBased (p : Problem) (knowledge : Knowledge) : Type 0 where
-  pub wide : length knowledge.base ≡ width p
-  pub base : IsBase p (marks_of knowledge)
+pub record AreFollowedRoots (p : ProblemState) (knowledge : Knowledge) : Type 0 where
+  pub wide : length knowledge.roots ≡ width p
+  pub roots : AreRoots p (marks_of knowledge)
   pub left : AreLeft p knowledge (length knowledge.trail)
 
 -- the same, where what the trail has from a place on is still to be followed up
-pub record IsSearchBegun (p : Problem) (place : ℕ) (knowledge : Knowledge) : Type 0 where
-  pub wide : length knowledge.base ≡ width p
-  pub base : IsBase p (marks_of knowledge)
+pub record IsSearchBegun (p : ProblemState) (place : ℕ) (knowledge : Knowledge) : Type 0 where
+  pub wide : length knowledge.roots ≡ width p
+  pub roots : AreRoots p (marks_of knowledge)
   pub within : place ≤ length knowledge.trail
   pub left : AreLeft p knowledge place
 
@@ -57,8 +57,8 @@ IsMetAmong false Asked bound atoms Holds found =
     (number : ℕ) → Asked number → (state : List Bool) → length state ≡ atoms
     → Holds number state → ⊥
 
--- this operand stands in the list, and each other one is the empty set
-pub record IsAlone (operand : Operand) (operands : List Operand) : Type 0 where
+-- this operand is in the list, and each other one is the empty set
+pub record IsSole (operand : Operand) (operands : List Operand) : Type 0 where
   pub place : ℕ
   pub here : slice_get operands place ≡ Some operand
   pub before : (k : ℕ) (o : Operand) → k < place → slice_get operands k ≡ Some o → o.which ≡ W.Empty
@@ -66,8 +66,8 @@ pub record IsAlone (operand : Operand) (operands : List Operand) : Type 0 where
 
 -- The query has just this one negative operand, but for the empty set, and it is a set of the store
 -- that is a positive operand at the other time.
-pub record IsFramed (p : Problem) (operand : Operand) : Type 0 where
-  pub alone : IsAlone operand p.query.negative
+pub record IsAskedTwice (p : ProblemState) (operand : Operand) : Type 0 where
+  pub sole : IsSole operand p.query.negative
   pub set : (number : ℕ) × (operand.which ≡ W.Set number)
   pub stored : IsNamed (length p.store) operand.which
   pub named : AsksAbout p.query.positive operand.which (not operand.after)

@@ -2,9 +2,9 @@
 use Rattle.std.specs.Prelude.{List}
 use Rattle.std.specs.List.{All}
 use Rattle.hv_sets.specs.declared.literal.Literal.{Literal}
-use Rattle.hv_clauses.specs.Clausal.{AreClauses, Formula}
+use Rattle.hv_clauses.specs.Clausal.{AreClauses, FormulaState}
 
 -- each clause is of the kind and over the atoms of the task
-pub record IsKinded (IsOf : List Literal → Type 0) (formula : Formula) : Type 0 where
+pub record IsKinded (IsOf : List Literal → Type 0) (formula : FormulaState) : Type 0 where
   pub of_kind : All IsOf formula.clauses
   pub below : AreClauses formula.atoms formula.clauses

@@ -21,12 +21,12 @@ use Rattle.hv_sets.specs.declared.literal.Literal.{Literal}
 use Rattle.hv_sets.specs.Cubes.{opposite}
 use Rattle.hv_sets.specs.Truth.{in_clause, in_clauses, in_cube, in_literal}
 use Rattle.hv_sets.specs.Walks.{IsNew, in_step, in_steps}
-use Rattle.hv_clauses.specs.Clausal.{Formula, in_formula}
+use Rattle.hv_clauses.specs.Clausal.{FormulaState, in_formula}
 use Rattle.hv_clauses.specs.Denial.{bound_of, denial, denial_at, denial_below, is_tautology}
 use Rattle.hv_clauses.specs.Denial.{names_literal, denial_step, steps_of}
 
 -- a new cursor has all steps before it
-pub starts_with_steps : (formula : Formula) (cursor : Cursor) → IsNew cursor
+pub starts_with_steps : (formula : FormulaState) (cursor : Cursor) → IsNew cursor
     → drop cursor.place (steps_of formula) ≡ steps_of formula
 starts_with_steps formula cursor new = ap (λ k. drop k (steps_of formula)) new.0
 
@@ -274,6 +274,6 @@ steps_are (clause ∷ clauses) state =
     ∙ neither (in_clause clause state) (in_clauses clauses state)
 
 -- the cubes of the walk have the states outside the set
-pub outside_are : (formula : Formula) (state : List Bool) → length state ≡ formula.atoms
+pub outside_are : (formula : FormulaState) (state : List Bool) → length state ≡ formula.atoms
     → in_steps (steps_of formula) state ≡ not (in_formula formula state)
 outside_are formula state size = steps_are formula.clauses state

@@ -12,7 +12,7 @@ abbrev pub IsFree : Bool → ℕ → List Bool → Type 0
 IsFree sign atoms row =
     (length row ≡ atoms) × ((q : ℕ) → q < atoms → has_atom row q ≡ not sign)
 
--- one of these atoms stands negatively in the clause of this number
+-- one of these atoms occurs negatively in the clause of this number
 abbrev pub StandsAmong : List ℕ → List (List Literal) → ℕ → Type 0
 StandsAmong held clauses c = (p : ℕ) × Contains held p × StandsAs false clauses p c
 

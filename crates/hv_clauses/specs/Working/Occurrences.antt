@@ -3,7 +3,7 @@ use Rattle.std.specs.Prelude.{◌≡◌, ◌<◌, ◌≤◌, ◌+◌, ◌⊎◌,
 use Rattle.std.specs.Prelude.{length, slice_index, slice_index_or}
 use Rattle.hv_sets.specs.declared.literal.Literal.{Literal}
 use Rattle.hv_clauses.specs.declared.occurrences.Occurrences.{Occurrences}
-use Rattle.hv_clauses.specs.declared.occurrences.Signed.{Signed}
+use Rattle.hv_clauses.specs.declared.occurrences.SignedOccurrences.{SignedOccurrences}
 use Rattle.hv_clauses.specs.declared.occurrences.Standing.{Standing}
 use Rattle.hv_clauses.specs.Clausal.{clause_at}
 use Rattle.hv_clauses.specs.Implied.{IsPair}
@@ -12,26 +12,26 @@ use Rattle.hv_clauses.specs.Working.Rows.{AreCoded, AreHeads, key_of, place_of_c
 use Rattle.hv_clauses.specs.Working.Signed.{StandsAs}
 use Rattle.hv_clauses.specs.Working.Trail.{literal_of}
 
--- the entry that stands for no literal
+-- the entry that denotes no literal
 abbrev pub no_literal : ℕ
 no_literal = 4294967295
 
--- The entry stands for the other literal of a clause, or for none. In a clause of two literals it
--- stands for the one beside this one.
-pub record IsBeside (clause : List Literal) (own : Literal) (entry : ℕ) : Type 0 where
+-- The entry denotes the other literal of a clause, or for none. In a clause of two literals it
+-- denotes the one beside this one.
+pub record IsPartner (clause : List Literal) (own : Literal) (entry : ℕ) : Type 0 where
   pub pair : (entry ≡ no_literal → ⊥) → IsPair clause own (literal_of entry)
   pub two : (other : Literal) → (clause ≡ own ∷ other ∷ []) ⊎ (clause ≡ other ∷ own ∷ [])
       → literal_of entry ≡ other
 
--- the entry at a place; past the end none stands for a literal
+-- the entry at a place; past the end none denotes a literal
 abbrev pub entry_or_none : List ℕ → ℕ → ℕ
 entry_or_none entries k = slice_index_or entries k no_literal
 
 -- the entries are those for the literals beside the ones with these codes
-abbrev pub AreBeside : Bool → List (List Literal) → List ℕ → List ℕ → Type 0
-AreBeside sign clauses codes entries =
+abbrev pub ArePartners : Bool → List (List Literal) → List ℕ → List ℕ → Type 0
+ArePartners sign clauses codes entries =
     (k : ℕ) → k < length codes
-    → IsBeside (clause_at clauses (place_of_code (slice_index codes k)))
+    → IsPartner (clause_at clauses (place_of_code (slice_index codes k)))
     (record { atom = key_of (slice_index codes k); positive = sign }) (entry_or_none entries k)
 
 -- the entry was put at a place, before which the others are as they were
@@ -40,16 +40,16 @@ pub record PutsEntry (old : List ℕ) (place entry : ℕ) (new : List ℕ) : Typ
   pub before : (k : ℕ) → k < place → entry_or_none new k ≡ entry_or_none old k
   pub few : length new ≤ place + 1
 
--- by rising atoms the places of the clauses with a literal of this sign, and what stands beside
+-- by rising atoms the places of the clauses with a literal of this sign, and what is beside
 pub record AreOccurrences (sign : Bool) (clauses : List (List Literal))
-    (listed : Signed) : Type 0 where
+    (listed : SignedOccurrences) : Type 0 where
   pub codes : List ℕ
   pub heads : AreHeads codes listed.heads.items
   pub coded : AreCoded (StandsAs sign clauses) codes listed.places.items
-  pub beside : AreBeside sign clauses codes listed.beside.items
+  pub partners : ArePartners sign clauses codes listed.partners.items
 
 -- the lists for the literals of this sign
-abbrev pub signed : Occurrences → Bool → Signed
+abbrev pub signed : Occurrences → Bool → SignedOccurrences
 signed occurs true = occurs.positive
 signed occurs false = occurs.negative
 
@@ -57,12 +57,12 @@ signed occurs false = occurs.negative
 abbrev pub IsIndexOf : List (List Literal) → Occurrences → Type 0
 IsIndexOf clauses occurs = (sign : Bool) → AreOccurrences sign clauses (signed occurs sign)
 
--- the places, rising, of all clauses that have the literal, and what stands beside it there
+-- the places, rising, of all clauses that have the literal, and what is beside it there
 pub record AreStanding (clauses : List (List Literal)) (standing : Standing) : Type 0 where
   pub row : IsRow (StandsAs standing.literal.positive clauses) standing.literal.atom
       standing.places.now
-  pub beside : (k : ℕ) → k < length standing.places.now
-      → IsBeside (clause_at clauses (slice_index standing.places.now k)) standing.literal
+  pub partners : (k : ℕ) → k < length standing.places.now
+      → IsPartner (clause_at clauses (slice_index standing.places.now k)) standing.literal
       (entry_or_none standing.entries.now k)
 
 -- the sign of the literals that are turned against an operand where their atoms are made this

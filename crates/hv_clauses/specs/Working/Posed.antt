@@ -7,49 +7,49 @@ use Rattle.hv_sets.specs.declared.operand.Which.{Which}
 use Rattle.hv_sets.specs.declared.query.Query.{Query}
 use Rattle.hv_sets.specs.Cost.{choices_of, clauses_of}
 use Rattle.hv_sets.specs.Query.{IsReady, action_of, may_apply}
-use Rattle.hv_clauses.specs.Clausal.{Formula, sizes_of}
+use Rattle.hv_clauses.specs.Clausal.{FormulaState, sizes_of}
 use Rattle.hv_clauses.specs.Store.{AreOver, formula_at}
 use Rattle.hv_clauses.specs.Working.Clausal.{InAll}
 use Rattle.hv_clauses.specs.Working.Effect.{IsEffect}
 
 -- a query, the task and the store of which it is asked, and the effect of its action
-pub record Problem : Type 0 where
+pub record ProblemState : Type 0 where
   pub task : Strips
-  pub store : List Formula
+  pub store : List FormulaState
   pub query : Query
   pub effect : List ℕ
 
 -- how many atoms the task has
-abbrev pub width : Problem → ℕ
+abbrev pub width : ProblemState → ℕ
 width p = atoms p.task
 
 -- the clauses of each set of the store, by number
-abbrev pub formulas : Problem → ℕ → List (List Literal)
+abbrev pub formulas : ProblemState → ℕ → List (List Literal)
 formulas p = formula_at p.store
 
 -- how many clauses each set of the store has, by number
-abbrev pub sizes : Problem → ℕ → ℕ
+abbrev pub sizes : ProblemState → ℕ → ℕ
 sizes p = sizes_of (formula_at p.store)
 
 -- how many clauses what is named has
-abbrev pub size_in : Problem → Which → ℕ
+abbrev pub size_in : ProblemState → Which → ℕ
 size_in p which = clauses_of p.task (sizes p) which
 
 -- how many choices there are of one clause of each negative operand
-abbrev pub choices : Problem → ℕ
+abbrev pub choices : ProblemState → ℕ
 choices p = choices_of p.task (sizes p) p.query.negative
 
 -- the action is applicable in the state, if there is one
-abbrev pub Applies : Problem → List Bool → Type 0
+abbrev pub Applies : ProblemState → List Bool → Type 0
 Applies p state = may_apply (action_of p.task p.query.action) state ≡ true
 
 -- the state, seen through the effect where that is meant, is in each positive operand
-abbrev pub InEach : Problem → List Bool → Type 0
+abbrev pub InEach : ProblemState → List Bool → Type 0
 InEach p state = InAll p.task (formulas p) p.effect p.query.positive state
 
 -- the query can be asked of the store: it is ready, the formulas are over the atoms of the task,
 -- and the effect is that of its action, which is one of the task
-pub record IsPosed (p : Problem) : Type 0 where
+pub record IsPosed (p : ProblemState) : Type 0 where
   pub ready : IsReady (length p.store) p.query
   pub over : AreOver p.store (atoms p.task)
   pub among : IfSome p.query.action (λ a. a < length p.task.actions)

@@ -2,10 +2,10 @@
 use Rattle.std.specs.Prelude.{◌≡◌, ◌<◌, ◌+◌, ◌⊎◌, ⊤, ℕ, false, List, None, Some}
 use Rattle.std.specs.List.{All, Contains}
 use Rattle.hv_sets.specs.declared.literal.Literal.{Literal}
-use Rattle.hv_clauses.specs.declared.look.Scan.{Scan}
-use Rattle.hv_clauses.specs.declared.look.Scan.TheVariants as S
-use Rattle.hv_clauses.specs.declared.look.Sight.{Sight}
-use Rattle.hv_clauses.specs.declared.look.Sight.TheVariants as T
+use Rattle.hv_clauses.specs.declared.watched.Scan.{Scan}
+use Rattle.hv_clauses.specs.declared.watched.Scan.TheVariants as S
+use Rattle.hv_clauses.specs.declared.watched.ScanState.{ScanState}
+use Rattle.hv_clauses.specs.declared.watched.ScanState.TheVariants as T
 use Rattle.hv_clauses.specs.Units.{IsSettled, value_of}
 use Rattle.hv_clauses.specs.Working.Units.{AreFalse}
 
@@ -17,16 +17,16 @@ Scans (S.Unit literal) effect marks clause =
     × All (λ l. (l ≡ literal) ⊎ (value_of effect marks l ≡ Some false)) clause
 Scans S.Broken effect marks clause = AreFalse effect clause marks
 
--- what is told of some literals of a clause is so: it is settled, or the literal that is left is an
+-- what is said of some literals of a clause is so: it is settled, or the literal that is left is an
 -- open one of the clause
-abbrev pub IsSight : Sight → List ℕ → List ℕ → List Literal → Type 0
-IsSight (T.Enough _) effect marks clause = IsSettled effect marks clause
-IsSight (T.Left None) effect marks clause = ⊤
-IsSight (T.Left (Some pending)) effect marks clause =
+abbrev pub IsScanState : ScanState → List ℕ → List ℕ → List Literal → Type 0
+IsScanState (T.Enough _) effect marks clause = IsSettled effect marks clause
+IsScanState (T.Left None) effect marks clause = ⊤
+IsScanState (T.Left (Some pending)) effect marks clause =
     Contains clause pending.literal × (value_of effect marks pending.literal ≡ None)
 
 -- a literal can be among those of which this is told: it is false, or the one that is left
-abbrev pub IsSeenIn : Sight → List ℕ → List ℕ → Literal → Type 0
+abbrev pub IsSeenIn : ScanState → List ℕ → List ℕ → Literal → Type 0
 IsSeenIn (T.Enough _) effect marks literal = ⊤
 IsSeenIn (T.Left None) effect marks literal = value_of effect marks literal ≡ Some false
 IsSeenIn (T.Left (Some pending)) effect marks literal =

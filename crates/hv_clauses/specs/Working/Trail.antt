@@ -9,7 +9,7 @@ use Rattle.hv_clauses.specs.Working.Marks.{KeepsKnown, mark_for}
 -- what was known before, as marks by atom, and the literals that were found true since, oldest
 -- first
 pub record Knowledge : Type 0 where
-  pub base : List ℕ
+  pub roots : List ℕ
   pub trail : List Literal
 
 -- the marks with each of these literals written, one after the other
@@ -23,29 +23,29 @@ marked atoms literals = written literals (replicate atoms 0)
 
 -- all that is known, as marks by atom
 abbrev pub marks_of : Knowledge → List ℕ
-marks_of knowledge = written knowledge.trail knowledge.base
+marks_of knowledge = written knowledge.trail knowledge.roots
 
 -- the trail goes on where it ended, and what was known stays known
 pub record Grows (old new : Knowledge) : Type 0 where
-  pub base : new.base ≡ old.base
+  pub roots : new.roots ≡ old.roots
   pub more : (more : List Literal) × (new.trail ≡ old.trail ++ more)
   pub grows : KeepsKnown (marks_of old) (marks_of new)
 
--- an entry of the queue stands for a literal: twice the atom, and one more if it is positive
+-- an entry of the queue denotes a literal: twice the atom, and one more if it is positive
 abbrev pub literal_of : ℕ → Literal
 literal_of entry = record { atom = entry / 2; positive = entry % 2 == 1 }
 
--- the literals that the first so many entries stand for
+-- the literals that the first so many entries denote
 abbrev pub trail_of : List ℕ → ℕ → List Literal
 trail_of queue len = map literal_of (take len queue)
 
 -- The places and the entries confirm each other: the place of the atom of each of the first so many
 -- entries is that entry's, and of none of these atoms something was known before. Nothing is said
 -- of other places and entries.
-pub record AreJoined (base : List ℕ) (places queue : List ℕ) (len : ℕ) : Type 0 where
-  pub places_room : length base ≤ length places
-  pub queue_room : length base ≤ length queue
+pub record AreJoined (roots : List ℕ) (places queue : List ℕ) (len : ℕ) : Type 0 where
+  pub places_room : length roots ≤ length places
+  pub queue_room : length roots ≤ length queue
   pub within : len ≤ length queue
-  pub below : (k : ℕ) → k < len → slice_index_or queue k 0 / 2 < length base
+  pub below : (k : ℕ) → k < len → slice_index_or queue k 0 / 2 < length roots
   pub back : (k : ℕ) → k < len → slice_index_or places (slice_index_or queue k 0 / 2) 0 ≡ k
-  pub fresh : (k : ℕ) → k < len → known base (slice_index_or queue k 0 / 2) ≡ None
+  pub fresh : (k : ℕ) → k < len → known roots (slice_index_or queue k 0 / 2) ≡ None

@@ -10,10 +10,10 @@ use Rattle.hv_task.proofs.Places.{beq-Decides, has_atom-state_of, length-state_o
 use Rattle.hv_sets.specs.declared.cursor.Cursor.{Cursor}
 use Rattle.hv_sets.specs.Truth.{in_cube, in_literal, in_states, is_same}
 use Rattle.hv_sets.specs.Walks.{IsNew, in_cubes}
-use Rattle.hv_explicit.specs.Listing.{Listing, full_cube, full_cubes, in_listing}
+use Rattle.hv_explicit.specs.ListedStates.{ListedStates, full_cube, full_cubes, in_listing}
 
 -- a new cursor has all cubes before it
-pub starts_with_all : (set : Listing) (cursor : Cursor) → IsNew cursor
+pub starts_with_all : (set : ListedStates) (cursor : Cursor) → IsNew cursor
     → drop cursor.place (full_cubes set) ≡ full_cubes set
 starts_with_all set cursor new = ap (λ k. drop k (full_cubes set)) new.0
 
@@ -98,6 +98,6 @@ cubes_are n [] state size = refl
 cubes_are n (held ∷ states) state size = ap₂
     (λ a b. a || b) (full_cube_is held state n size) (cubes_are n states state size)
 
-pub full_cubes_are : (set : Listing) (state : List Bool) → length state ≡ set.atoms
+pub full_cubes_are : (set : ListedStates) (state : List Bool) → length state ≡ set.atoms
     → in_cubes (full_cubes set) state ≡ in_listing set state
 full_cubes_are set state size = cubes_are set.atoms set.states state size

@@ -1,9 +1,9 @@
--- Working definitions beside those of `Listing`: for private contracts and proofs.
+-- Working definitions beside those of `ListedStates`: for private contracts and proofs.
 use Rattle.std.specs.Prelude.{◌≡◌, ◌<◌, ℕ, Bool, List, [], length, slice_index, slice_index_or}
 use Rattle.hv_explicit.specs.Working.Codes.{IsListCode, IsSame}
 use Rattle.hv_explicit.specs.Working.Places.{code_at}
 
--- the state at the place that stands at this entry
+-- the state at the place that is at this entry
 abbrev pub first_at : List (List ℕ) → List ℕ → ℕ → List ℕ
 first_at states firsts e = slice_index_or states (slice_index firsts e) []
 
@@ -11,7 +11,7 @@ first_at states firsts e = slice_index_or states (slice_index firsts e) []
 abbrev pub ArePlacesOf : List (List ℕ) → List ℕ → Type 0
 ArePlacesOf states places = (e : ℕ) → e < length places → slice_index places e < length states
 
--- the entries are places of the first so many states of a list, and each of these states stands at
+-- the entries are places of the first so many states of a list, and each of these states is at
 -- one of them
 pub record AreFirsts (states : List (List ℕ)) (firsts : List ℕ) (count : ℕ) : Type 0 where
   pub within : (e : ℕ) → e < length firsts → slice_index firsts e < count

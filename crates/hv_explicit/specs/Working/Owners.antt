@@ -8,21 +8,21 @@ use Rattle.hv_sets.specs.declared.operand.Operand.{Operand}
 use Rattle.hv_sets.specs.declared.operand.Which.TheVariants as W
 use Rattle.hv_explicit.specs.Working.Codes.{IsSame}
 use Rattle.hv_explicit.specs.Working.Coding.{IsCodeBy}
-use Rattle.hv_explicit.specs.Listing.{AreRising, AreStates, Listing, in_set}
+use Rattle.hv_explicit.specs.ListedStates.{AreRising, AreStates, ListedStates, in_set}
 use Rattle.hv_explicit.specs.Working.Places.{code_at}
-use Rattle.hv_explicit.specs.declared.owners.Entry.{Entry}
-use Rattle.hv_explicit.specs.declared.owners.Owners.{Owners}
+use Rattle.hv_explicit.specs.declared.state_owners.ListedAt.{ListedAt}
+use Rattle.hv_explicit.specs.declared.state_owners.StateOwners.{StateOwners}
 
 -- the entry at a place
-abbrev pub entry_at : List Entry → ℕ → Entry
+abbrev pub entry_at : List ListedAt → ℕ → ListedAt
 entry_at entries e = slice_index_or entries e (record { set = 0; place = 0 })
 
 -- the state of an entry of a set that lists these
-abbrev pub state_of_entry : List (List ℕ) → Entry → List ℕ
+abbrev pub state_of_entry : List (List ℕ) → ListedAt → List ℕ
 state_of_entry states entry = slice_index_or states entry.place []
 
 -- there is an entry of the set for this state, under its code
-abbrev pub IsEntered : Owners → ℕ → List (List ℕ) → List ℕ → Type 0
+abbrev pub IsEntered : StateOwners → ℕ → List (List ℕ) → List ℕ → Type 0
 IsEntered owners number states held =
     (e : ℕ) × (e < length owners.codes) × ((entry_at owners.entries.items e).set ≡ number)
     × ((entry_at owners.entries.items e).place < length states)
@@ -30,40 +30,40 @@ IsEntered owners number states held =
     × IsCodeBy owners.coding (names_atom held) (code_at owners.codes e)
 
 -- what was entered still is
-abbrev pub KeepsEntries : Owners → Owners → Type 0
+abbrev pub KeepsEntries : StateOwners → StateOwners → Type 0
 KeepsEntries old new =
     (number : ℕ) (states : List (List ℕ)) (held : List ℕ)
     → IsEntered old number states held → IsEntered new number states held
 
 -- each state of each set is entered; there may be more entries
-abbrev pub AreEntered : Owners → List Listing → Type 0
+abbrev pub AreEntered : StateOwners → List ListedStates → Type 0
 AreEntered owners sets =
-    (number : ℕ) (set : Listing) → slice_get sets number ≡ Some set
+    (number : ℕ) (set : ListedStates) → slice_get sets number ≡ Some set
     → All (λ held. IsEntered owners number set.states held) set.states
 
 -- the states of the sets are entered where they are known
-pub record IsOwnerIndex (owners : Owners) (sets : List Listing) : Type 0 where
+pub record IsOwnerIndex (owners : StateOwners) (sets : List ListedStates) : Type 0 where
   pub entered : owners.known ≡ true → AreEntered owners sets
   pub size : length owners.codes ≤ length owners.entries.items
 
 -- the states of the sets are states of their tasks, by lists that rise
-abbrev pub AreListings : List Listing → Type 0
+abbrev pub AreListings : List ListedStates → Type 0
 AreListings sets = All (λ set. AreStates set.atoms set.states × AreRising set.states) sets
 
 -- what a store of sets keeps
-pub record IsStore (sets : List Listing) (owners : Owners) : Type 0 where
+pub record IsStore (sets : List ListedStates) (owners : StateOwners) : Type 0 where
   pub listed : AreListings sets
   pub index : IsOwnerIndex owners sets
 
 -- the entry is of a set that these operands name, asked about after the action or before it, and
 -- its state has just these atoms
-abbrev pub IsOwner : (ℕ → Bool) → List Listing → List Operand → Bool → Entry → Type 0
+abbrev pub IsOwner : (ℕ → Bool) → List ListedStates → List Operand → Bool → ListedAt → Type 0
 IsOwner held sets operands after entry =
-    (set : Listing) × (slice_get sets entry.set ≡ Some set)
+    (set : ListedStates) × (slice_get sets entry.set ≡ Some set)
     × AsksAbout operands (W.Set entry.set) after
     × (entry.place < length set.states) × IsSame held (state_of_entry set.states entry)
 
 -- some set of the store is among the operands of this side, and has the state
-abbrev pub IsOwned : List Listing → List Operand → Bool → List Bool → Type 0
+abbrev pub IsOwned : List ListedStates → List Operand → Bool → List Bool → Type 0
 IsOwned sets operands after state =
     (number : ℕ) × AsksAbout operands (W.Set number) after × (in_set sets number state ≡ true)

@@ -12,17 +12,17 @@ use Rattle.hv_sets.specs.declared.query.Query.{Query}
 use Rattle.hv_sets.specs.Names.{AsksAbout}
 use Rattle.hv_sets.specs.Query.{HasAnchor, IsAnchor, IsNamed, IsReady, in_which, is_clash}
 use Rattle.hv_explicit.specs.Codes.{IsSetOf}
-use Rattle.hv_explicit.specs.Listing.{AreOver, Listing, in_set}
+use Rattle.hv_explicit.specs.ListedStates.{AreListsOver, ListedStates, in_set}
 
 -- a query, with the task and the sets of which it is asked
 pub record ListedSearch : Type 0 where
   pub task : Strips
-  pub sets : List Listing
+  pub sets : List ListedStates
   pub query : Query
 
 -- the query can be asked of the sets, which are over the task
 pub record IsListedSearch (s : ListedSearch) : Type 0 where
-  pub over : AreOver s.sets (atoms s.task)
+  pub over : AreListsOver s.sets (atoms s.task)
   pub ready : IsReady (length s.sets) s.query
   pub anchor : HasAnchor s.query
   pub action : IfSome s.query.action (λ a. a < length s.task.actions)

@@ -1,6 +1,6 @@
 ghost use Rattle.std.specs.Prelude.{◌<◌, ◌-◌, ◌^◌, OnOk, IfOk};
 ghost use Rattle.hv_task.specs.State.{AreBelow};
-ghost use Rattle.hv_explicit.specs.Listing.{AreStates};
+ghost use Rattle.hv_explicit.specs.ListedStates.{AreStates};
 
 use super::{Firsts, PLAIN, enter_all, firsts_of};
 use hv_sets::StateList;

@@ -1,4 +1,4 @@
--- What may stand behind a letter: the forms of lines, letter by letter.
+-- What may be behind a letter: the forms of lines, letter by letter.
 use Rattle.std.specs.Prelude.{◌≡◌, ℕ, List, [], ◌∷◌, Some, length, map}
 use Rattle.hv_sets.specs.declared.literal.Literal.{Literal}
 use Rattle.hv_lines.specs.Spelling.{FitsShortDecimal, premises_of}
@@ -76,7 +76,7 @@ ClaimForm L.D tokens statement rest = (set : ℕ) × (tokens ≡ number set ∷ 
 ClaimForm L.U tokens statement rest = (tokens ≡ rest) × (statement ≡ S.Unsolvable)
 ClaimForm _ tokens statement rest = ⊥
 
--- behind a statement: a word that may stand there, with as many premises as it has there
+-- behind a statement: a word that may be there, with as many premises as it has there
 abbrev pub SupportForm : Statement → List Token → Word → List ℕ → Type 0
 SupportForm statement tokens word premises =
     (tokens ≡ T.Word word ∷ map number premises)

@@ -16,7 +16,7 @@ abbrev pub fields_behind : {A : Type 0} → Option A → (A → List ℕ) → Li
 fields_behind None now = []
 fields_behind (Some rest) now = cut_fields (now rest)
 
--- the fields stand for tokens of which this holds
+-- the fields denote tokens of which this holds
 abbrev pub StandFor : (List Token → Type 0) → List (List ℕ) → Type 0
 StandFor holds fields = (tokens : List Token) × AreTokens tokens fields × holds tokens
 

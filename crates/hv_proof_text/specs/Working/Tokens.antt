@@ -1,4 +1,4 @@
--- The tokens of a line: each of its fields stands for one.
+-- The tokens of a line: each of its fields denotes one.
 use Rattle.std.specs.Prelude.{◌≡◌, ◌<◌, ◌+◌, ◌^◌, ℕ, List, [], ◌∷◌, ◌++◌, cond, length, map, codes}
 use Rattle.std.specs.Prelude.{decimal}
 use Rattle.std.specs.List.{All, flat_map}
@@ -54,7 +54,7 @@ IsToken (T.Number n) = n < 10 ^ 18
 IsToken (T.Minus n) = n < 10 ^ 18
 IsToken T.End = Unit {0}
 
--- each of the fields stands for one of the tokens, in order
+-- each of the fields denotes one of the tokens, in order
 pub record AreTokens (tokens : List Token) (fields : List (List ℕ)) : Type 0 where
   pub each : All IsToken tokens
   pub same : map field_of tokens ≡ fields

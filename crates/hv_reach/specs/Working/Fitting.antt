@@ -2,7 +2,7 @@
 use Rattle.std.specs.Prelude.{◌↔◌, Bool, List, Option, Some, None, IfSome, slice_get}
 use Rattle.std.proofs.Common.{subst, sym}
 use Rattle.hv_task.specs.Strips.{Strips}
-use Rattle.hv_lines.specs.Meaning.{StateSet}
+use Rattle.hv_lines.specs.Meaning.{SetOfStates}
 use Rattle.hv_lines.specs.Pruning.{Extends}
 use Rattle.hv_lines.specs.declared.line.Expr.TheVariants as E
 use Rattle.hv_lines.specs.declared.line.Line.{Line}
@@ -12,7 +12,7 @@ use Rattle.hv_reach.specs.Pruners.{AreHornNotes, AreDescribed, FitPairs, FitRela
 use Rattle.hv_reach.specs.Pruners.{HoldsPairsOf, PairNotes, PairsCover, RelaxedNotes, Describes}
 use Rattle.hv_reach.specs.Written.{RelaxedExcludesFrom}
 
-pub notes_fit : (task : Strips) (covered : StateSet) (old new : List Line) (notes : List Note)
+pub notes_fit : (task : Strips) (covered : SetOfStates) (old new : List Line) (notes : List Note)
     → AreHornNotes task covered old notes → Extends task old new
     → AreHornNotes task covered new notes
 notes_fit task covered old new notes fits extends k note at =
@@ -25,14 +25,14 @@ notes_fit task covered old new notes fits extends k note at =
       ),
     )
 
--- what is told of an item, in other words
+-- what is said of an item, in other words
 pub if_some : {X : Type 0} (found : Option X) (P Q : X → Type 0) → ((x : X) → P x → Q x)
     → IfSome found P → IfSome found Q
 if_some None P Q more fact = tt
 if_some (Some x) P Q more fact = more x fact
 
 pub described_fit : {X : Type 0} (Holds : List X → List Bool → Type 0) (task : Strips)
-    (covered : StateSet) (old new : List Line) (notes : List Note) (reached : List (List X))
+    (covered : SetOfStates) (old new : List Line) (notes : List Note) (reached : List (List X))
     → AreHornNotes task covered old notes → Extends task old new
     → AreDescribed Holds task old notes reached → AreDescribed Holds task new notes reached
 described_fit Holds task covered old new notes reached fits extends fact = (
@@ -43,7 +43,7 @@ described_fit Holds task covered old new notes reached fits extends fact = (
       (λ item this. (
         this.0,
         λ state is_state.
-            subst (λ (S : StateSet). S state ↔ Holds item state)
+            subst (λ (S : SetOfStates). S state ↔ Holds item state)
             (sym (states_extended task old new extends note.set
             (literal_below task old new extends note.set (fits k note at).0.dead.literal)))
             (this.1 state is_state),

@@ -1,4 +1,4 @@
--- What was reached for each note: a row of atoms, kept by note and by atom. Rows stand in blocks of
+-- What was reached for each note: a row of atoms, kept by note and by atom. Rows are in blocks of
 -- 512, and in a block there is for each atom a column, whose flag at a place says whether the row
 -- at this place of the block has the atom.
 use Rattle.std.specs.Prelude.{◌≡◌, ◌<◌, ◌≤◌, ◌+◌, ◌-◌, ◌*◌, ◌↔◌, min, ℕ, Bool, true, List, []}
@@ -46,7 +46,7 @@ AreBlocksOf atoms rows blocks =
     (b : ℕ) (block : Vec (List Bool)) → slice_get blocks b ≡ Some block
     → AreColumnsOf atoms (512 * b) rows block.items
 
--- the rows, over so many atoms, stand in these blocks, of which one at most has none
+-- the rows, over so many atoms, are in these blocks, of which one at most has none
 pub record AreRowsIn (atoms : ℕ) (blocks : List (Vec (List Bool))) (rows : List (List Bool))
     : Type 0 where
   pub over : AreRowsOver atoms rows
@@ -61,7 +61,7 @@ pub record KeptRows : Type 0 where
   pub atoms : ℕ
   pub room : ℕ
 
--- how many rows these two have room for
+-- how many rows these two have space for
 abbrev pub room_in : Vec (List Bool) → List (Vec (List Bool)) → ℕ
 room_in rows blocks =
     min (vec_capacity rows - vec_len rows) (512 * length blocks - length rows.items)

@@ -6,7 +6,7 @@ use Rattle.hv_task.specs.Strips.{Strips, IsState}
 use Rattle.hv_sets.specs.Truth.{in_clauses}
 use Rattle.hv_sets.specs.declared.literal.Literal.{Literal}
 use Rattle.hv_lines.specs.Drafts.{DraftState}
-use Rattle.hv_lines.specs.Meaning.{StateSet}
+use Rattle.hv_lines.specs.Meaning.{SetOfStates}
 use Rattle.hv_lines.specs.Pruning.{Extends, IsPrunerAnswer, IsDeadBy}
 use Rattle.hv_lines.specs.declared.line.Line.{Line}
 use Rattle.hv_lines.specs.declared.note.Note.{Note}
@@ -27,16 +27,16 @@ pub record AreDiagonals (rows : List (List Bool)) (tables : List (List (List Boo
 
 -- the formula shows why this state is dead: it is one of which a block is good, it holds the state,
 -- and it holds covered states alone
-pub record ShowsWhyDead (task : Strips) (covered : StateSet) (state : List Bool)
+pub record ShowsWhyDead (task : Strips) (covered : SetOfStates) (state : List Bool)
     (clauses : List (List Literal)) : Type 0 where
   pub dead : IsDeadEnd task clauses
   pub holds : in_clauses clauses state ≡ true
   pub within : (other : List Bool) → IsState task other → in_clauses clauses other ≡ true
       → covered other
 
--- what stands after an answer: whether there is one, what it shows, how the draft grew, and that
+-- what is after an answer: whether there is one, what it shows, how the draft grew, and that
 -- the notes fit it
-pub record IsOutcome (task : Strips) (covered : StateSet) (IsBlock : List Line → Note → Type 0)
+pub record IsOutcome (task : Strips) (covered : SetOfStates) (IsBlock : List Line → Note → Type 0)
     (state : List Bool) (found : Option ℕ) (notes : List Note) (draft : DraftState)
     (new_notes : List Note) (new_draft : DraftState) : Type 0 where
   pub answer : IsPrunerAnswer task covered IsBlock state found notes draft new_notes new_draft

@@ -5,7 +5,7 @@ use Rattle.std.specs.List.{All}
 use Rattle.hv_task.specs.declared.action.Action.{Action}
 use Rattle.hv_task.specs.State.{applicable, state_of, successor}
 use Rattle.hv_task.specs.Strips.{Strips, atoms}
-use Rattle.hv_explicit.specs.Listing.{Listing, in_listing}
+use Rattle.hv_explicit.specs.ListedStates.{ListedStates, in_listing}
 use Rattle.hv_replay.specs.Closed.{IsFirstHole, IsFirstWithout, IsSearchFollowed, LeadsOn}
 use Rattle.hv_replay.specs.Logs.{LogEntry, SearchLog, StandsInLog}
 use Rattle.hv_replay.specs.declared.hole.ReplayFault.{ReplayFault}
@@ -13,12 +13,12 @@ use Rattle.hv_replay.specs.declared.hole.ReplayFault.TheVariants as H
 use Rattle.hv_replay.specs.declared.origin.Origin.{Origin}
 
 -- the set has just the states of the log
-pub record ListsLog (log : SearchLog) (set : Listing) : Type 0 where
+pub record ListsLog (log : SearchLog) (set : ListedStates) : Type 0 where
   pub over : set.atoms ≡ log.atoms
   pub states : set.states ≡ map (λ (entry : LogEntry). entry.state) log.entries
 
 -- where the action of this number is applicable in the state, its result is in the set
-abbrev pub StaysListed : Strips → Listing → List Bool → ℕ → Type 0
+abbrev pub StaysListed : Strips → ListedStates → List Bool → ℕ → Type 0
 StaysListed task set state number =
     (action : Action) → slice_get task.actions number ≡ Some action
     → applicable action state ≡ true → in_listing set (successor action state) ≡ true
@@ -51,7 +51,7 @@ IsOpen task log found =
     × ((before action : ℕ) → before < found.0 → LeadsOn task log before action))
 
 -- what is answered of a log: that its search is followed to its end, or the first hole that it has
--- even where every state is covered; want of memory is free
+-- even where every state is covered; running out of memory is free
 abbrev pub Follows : Result (Unit {0}) ReplayFault → Strips → SearchLog → Type 0
 Follows (Ok _) task log = IsSearchFollowed task log
 Follows (Err H.Memory) task log = Unit {0}

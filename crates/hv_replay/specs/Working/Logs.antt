@@ -1,6 +1,6 @@
 -- Working definitions beside those of `Logs`: for private contracts and proofs.
 use Rattle.std.specs.Prelude.{ℕ, Bool, List, [], ◌∷◌}
-use Rattle.hv_replay.specs.declared.counts.Counts.{Counts}
+use Rattle.hv_replay.specs.declared.log_counts.Counts.{Counts}
 use Rattle.hv_replay.specs.Logs.{LogEntry, expanded_count, pruned_count}
 
 -- the entries of these states, each with the flag that says whether it is an expanded one

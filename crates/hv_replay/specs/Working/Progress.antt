@@ -4,7 +4,7 @@ use Rattle.std.specs.List.{Contains}
 use Rattle.hv_task.specs.State.{state_of}
 use Rattle.hv_task.specs.Strips.{Strips, atoms}
 use Rattle.hv_lines.specs.Drafts.{IsGoodTable}
-use Rattle.hv_lines.specs.Meaning.{StateSet}
+use Rattle.hv_lines.specs.Meaning.{SetOfStates}
 use Rattle.hv_lines.specs.Pruning.{states_in}
 use Rattle.hv_lines.specs.declared.line.Line.{Line}
 use Rattle.hv_replay.specs.Closed.{IsFirstWithout, IsJustified}
@@ -24,8 +24,8 @@ pub record IsProgress (task : Strips) (states : List (List ℕ)) (lines : List L
   pub inside : (held : List ℕ) → Contains states held
       → states_in task lines union.set (state_of (atoms task) held)
 
--- the fault names the first pruned state that isn't covered; want of memory is free
-abbrev pub IsUncovered : SearchLog → StateSet → ReplayFault → Type 0
+-- the fault names the first pruned state that isn't covered; running out of memory is free
+abbrev pub IsUncovered : SearchLog → SetOfStates → ReplayFault → Type 0
 IsUncovered log covered (H.Unjustified line) =
     (place : ℕ) × (line ≡ place + 1) × (place < length log.entries)
     × IsFirstWithout (IsJustified log covered) place

@@ -40,7 +40,7 @@ pub record HoldsLog (r : Entries) : Type 0 where
   pub size : length r.expanded.items ≡ length r.states.whole
 
 -- what the reader's methods ask of it: besides, no state is begun
-pub record IsReading (r : Entries) : Type 0 where
+pub record IsReadingLog (r : Entries) : Type 0 where
   pub holds : HoldsLog r
   pub none : r.states.begun ≡ []
 

@@ -1,7 +1,7 @@
 -- Working definitions beside those of `Made`: for private contracts and proofs.
 use Rattle.std.specs.Prelude.{◌≡◌, ◌≤◌, ◌<◌, ℕ, List, ◌++◌, length, slice_index, take}
-use Rattle.hv_sas.specs.declared.task.Fact.{Fact}
-use Rattle.hv_sas.specs.declared.task.SasVariable.{SasVariable}
+use Rattle.hv_sas.specs.declared.sas_task.Fact.{Fact}
+use Rattle.hv_sas.specs.declared.sas_task.SasVariable.{SasVariable}
 use Rattle.hv_sas.specs.Variables.{values_in}
 use Rattle.hv_sas.specs.Made.{fact_atoms}
 

@@ -14,8 +14,8 @@ use Rattle.hv_sas.specs.declared.fault.SasFault.TheVariants as F
 use Rattle.hv_sas.specs.declared.fault.SasLimit.TheVariants as L
 use Rattle.hv_sas.specs.Answer.{sas_fault_at}
 use Rattle.hv_sas.specs.Lines.{has_effect_on}
-use Rattle.hv_sas.specs.declared.task.Effect.{Effect}
-use Rattle.hv_sas.specs.declared.task.SasVariable.{SasVariable}
+use Rattle.hv_sas.specs.declared.sas_task.Effect.{Effect}
+use Rattle.hv_sas.specs.declared.sas_task.SasVariable.{SasVariable}
 use Rattle.hv_sas.specs.Sound.{HaveDistinctVariables, HaveValues}
 use Rattle.hv_sas.specs.Variables.{IsEffectOn, range_at, values_in}
 
@@ -28,7 +28,7 @@ pub record AreVariables (variables : List SasVariable) : Type 0 where
 abbrev pub named : List ℕ → Result (Unit {0}) SasRefusal
 named l = cond (nat_le (length l) 1024) (Ok tt) (Err (R.Limit L.Name))
 
--- the fields of what stands behind a space, where there is one
+-- the fields of what is behind a space, where there is one
 abbrev pub fields_after_space : Option (Bor (List ℕ)) → List (List ℕ)
 fields_after_space None = []
 fields_after_space (Some rest) = cut_fields rest.now

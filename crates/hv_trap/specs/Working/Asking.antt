@@ -6,7 +6,7 @@ use Rattle.hv_sets.specs.declared.literal.Literal.{Literal}
 use Rattle.hv_sets.specs.declared.operand.Operand.{Operand}
 use Rattle.hv_sets.specs.declared.operand.Which.TheVariants as W
 use Rattle.hv_clauses.specs.Store.{AreOver, formula_at}
-use Rattle.hv_trap.specs.declared.step.Asking.{Asking}
+use Rattle.hv_trap.specs.declared.trap_query.TrapQuery.{TrapQuery}
 
 -- the formula, asked about after the action (true) or before it (false)
 abbrev pub formula_asked : Bool → Operand
@@ -14,12 +14,12 @@ formula_asked after = record { which = W.Set 0; id = 0; after = after }
 
 -- there is one formula over the states of the task, and the query asks whether the state after an
 -- action is in it, and the one before is not
-pub record IsAsking (task : Strips) (asking : Asking) : Type 0 where
+pub record IsAsking (task : Strips) (asking : TrapQuery) : Type 0 where
   pub one : length asking.store ≡ 1
   pub over : AreOver asking.store (atoms task)
   pub positive : asking.query.positive ≡ formula_asked true ∷ []
   pub negative : asking.query.negative ≡ formula_asked false ∷ []
 
 -- the clauses of the formula
-abbrev pub clauses_asked : Asking → List (List Literal)
+abbrev pub clauses_asked : TrapQuery → List (List Literal)
 clauses_asked asking = formula_at asking.store 0

@@ -6,9 +6,9 @@ use Rattle.hv_lines.specs.Pruning.{Extends, IsPrunerAnswer, IsDeadBy}
 use Rattle.hv_lines.specs.declared.note.Note.{Note}
 use Rattle.hv_trap.specs.Pruner.{TrapCovers, IsTrapBlock, AreTrapNotes}
 
--- what stands after an answer: whether there is one, what it shows, how the draft grew, and that
+-- what is after an answer: whether there is one, what it shows, how the draft grew, and that
 -- the notes fit it
-pub record IsOutcome (task : Strips) (state : List Bool) (found : Option ℕ) (notes : List Note)
+pub record IsTrapOutcome (task : Strips) (state : List Bool) (found : Option ℕ) (notes : List Note)
     (draft : DraftState) (new_notes : List Note) (new_draft : DraftState) : Type 0 where
   pub answer : IsPrunerAnswer task (TrapCovers task) (IsTrapBlock task draft.lines) state found
       notes draft new_notes new_draft

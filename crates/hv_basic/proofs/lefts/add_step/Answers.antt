@@ -2,7 +2,7 @@ use Rattle.std.proofs.Common.{subst, sym, true}
 use Rattle.hv_lines.specs.Shapes.{asks_step_after}
 use Rattle.hv_basic.specs.Working.Gathered.{AreGathered, AreOthers}
 use Rattle.hv_basic.specs.Working.Leaves.{places}
-use Rattle.hv_basic.specs.declared.literals.Others.TheVariants as O
+use Rattle.hv_basic.specs.declared.signed_sets.Others.TheVariants as O
 use Rattle.hv_basic.proofs.Gathering.{read_there}
 use Rattle.hv_basic.proofs.Membership.{inner_fails}
 use Rattle.hv_basic.proofs.lefts.add_step.Goals as goal

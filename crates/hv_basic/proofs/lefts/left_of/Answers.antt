@@ -3,7 +3,7 @@ use Rattle.hv_lines.proofs.Shaped.{leaf_below}
 use Rattle.hv_lines.specs.Shapes.{and_parts, asks_sides_after}
 use Rattle.hv_basic.specs.Working.Gathered.{AreGathered, AreOthers}
 use Rattle.hv_basic.specs.Working.Leaves.{places}
-use Rattle.hv_basic.specs.declared.literals.Others.TheVariants as O
+use Rattle.hv_basic.specs.declared.signed_sets.Others.TheVariants as O
 use Rattle.hv_basic.proofs.Gathering.{read_there}
 use Rattle.hv_basic.proofs.LeftSides.{alone_fails, askings_alone, askings_step, left_alone}
 use Rattle.hv_basic.proofs.LeftSides.{left_read, left_step, more_fails, step_fails}

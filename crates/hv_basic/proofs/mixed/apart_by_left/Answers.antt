@@ -1,6 +1,6 @@
 use Rattle.std.proofs.Common.{Some, length, refl, subst, sym}
 use Rattle.hv_bdd.specs.Paths.{path_cubes}
-use Rattle.hv_explicit.specs.Listing.{full_cubes}
+use Rattle.hv_explicit.specs.ListedStates.{full_cubes}
 use Rattle.hv_mixed.specs.Inclusion.{complement, difference}
 use Rattle.hv_basic.specs.Working.Formulas.{IsFoundInclusion, formula_atoms, formula_has}
 use Rattle.hv_basic.specs.Working.Formulas.{inside_count}

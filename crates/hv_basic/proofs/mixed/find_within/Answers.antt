@@ -1,6 +1,6 @@
 use Rattle.std.proofs.Common.{Some, ap, length, subst, sym}
 use Rattle.std.proofs.lemmas.List.{length-map}
-use Rattle.hv_explicit.specs.Listing.{full_cube, full_cubes}
+use Rattle.hv_explicit.specs.ListedStates.{full_cube, full_cubes}
 use Rattle.hv_mixed.specs.Inclusion.{difference}
 use Rattle.hv_basic.specs.Working.Formulas.{IsFoundInclusion, formula_atoms, formula_has}
 use Rattle.hv_basic.specs.Working.Formulas.{within_cost}

@@ -1,5 +1,5 @@
 use Rattle.std.proofs.Common.{◌≡◌, arith, subst, true}
-use Rattle.hv_basic.specs.declared.literals.Asking.{Asking}
+use Rattle.hv_basic.specs.declared.signed_sets.Asking.{Asking}
 use Rattle.hv_basic.proofs.shared_verdicts.are_positive.Goals as goal
 
 pub returns : goal.returns

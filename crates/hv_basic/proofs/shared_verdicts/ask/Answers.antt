@@ -2,7 +2,7 @@ use Rattle.std.proofs.Common.{◌≡◌, true, refl, rules, subst}
 use Rattle.std.specs.List.{Contains}
 use Rattle.hv_basic.specs.Working.Asked.{AreChosen}
 use Rattle.hv_basic.specs.Working.Sharing.{IsFamilyBeside}
-use Rattle.hv_basic.specs.declared.literals.Asking.{Asking}
+use Rattle.hv_basic.specs.declared.signed_sets.Asking.{Asking}
 use Rattle.hv_basic.proofs.LeftSides.{question_by}
 use Rattle.hv_basic.proofs.shared_verdicts.ask.Goals as goal
 

@@ -4,8 +4,8 @@ use Rattle.hv_task.specs.Strips.{atoms}
 use Rattle.hv_sets.specs.Query.{HasAnchor}
 use Rattle.hv_bdd.specs.Nodes.{node_count}
 use Rattle.hv_lines.specs.Queries.{count_of, duals_of, horns_of, twos_of}
-use Rattle.hv_lines.specs.declared.family.FormulaFamily.{FormulaFamily}
-use Rattle.hv_lines.specs.declared.family.FormulaFamily.TheVariants as F
+use Rattle.hv_lines.specs.declared.formula_family.FormulaFamily.{FormulaFamily}
+use Rattle.hv_lines.specs.declared.formula_family.FormulaFamily.TheVariants as F
 use Rattle.hv_basic.specs.Cases.{lines_in, setting_in}
 use Rattle.hv_basic.specs.Working.Asked.{with_action}
 use Rattle.hv_basic.specs.Working.Deciding.{AreAllReady}

@@ -3,7 +3,7 @@ use Rattle.hv_grammar.specs.Parsers.{many}
 use Rattle.hv_grammar.specs.Positions.{CanRead}
 use Rattle.hv_grammar.proofs.Going.{Goes}
 use Rattle.hv_bound.specs.PlanFile.{plan_file, plan_limits, plan_line}
-use Rattle.hv_bound.proofs.Few.{AreFew}
+use Rattle.hv_bound.proofs.Few.{AreFewSteps}
 use Rattle.hv_bound.proofs.read.steps.Given as goal
 
 abbrev pub invariant-lines : goal.invariant-lines
@@ -12,7 +12,7 @@ invariant-lines g l = record {
       (g.R.Source.position l.reader);
   can : CanRead (g.R.Source.position l.reader);
   limits : (g.R.Source.position l.reader).lines.limits ≡ plan_limits;
-  few : AreFew l.list (g.R.Source.position l.reader).lines.earlier
+  few : AreFewSteps l.list (g.R.Source.position l.reader).lines.earlier
       (g.R.Source.position l.reader).lines.ended;
 }
 

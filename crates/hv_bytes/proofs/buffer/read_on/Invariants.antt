@@ -4,7 +4,7 @@ use Rattle.hv_bytes.specs.LineCuts.{IsClean}
 use Rattle.hv_bytes.specs.Working.LineParts.{BeginsWith, FitsSoFar}
 use Rattle.hv_bytes.proofs.buffer.read_on.Given as goal
 
--- the line so far was the front of the coming bytes, has no LF and fits, and no byte is held
+-- the line so far was the prefix of the coming bytes, has no LF and fits, and no byte is held
 abbrev pub invariant-parts : goal.invariant-parts
 invariant-parts g l =
     Consumes (prepend_known l.initial.line.items (g.S.Shelf.left l.initial.shelf))

@@ -12,7 +12,7 @@ pub step-requires : goal.step-requires
 step-requires c =
     clause_below c.args.effect.now c.args.clauses.now c.loop-place.place c.get.result.now
     (at_place c.loop-place-test.true c.len-place-end.ensures) c.get.ensures
-    _ _ c.requires (ap length c.loop-place.invariant.followed.base)
+    _ _ c.requires (ap length c.loop-place.invariant.followed.roots)
 
 pub returns-then-not-step-clause-followed : goal.returns-then-not-step-clause-followed
 returns-then-not-step-clause-followed c =
@@ -33,7 +33,7 @@ loop-place-preserved c =
           (at_place c.loop-place-test.true c.len-place-end.ensures) c.get.ensures _ _ _ _
           c.loop-place.invariant.followed step;
       kept = below_more (λ place. IsKept e (clause_at clauses place) new from) c.loop-place.place
-          (λ place less. kept_on e (clause_at clauses place) old new from step.base step.more
+          (λ place less. kept_on e (clause_at clauses place) old new from step.roots step.more
           (longer _ _ _ _ c.loop-place.invariant.followed)
           (c.loop-place.invariant.kept place less))
           (clause_kept e clauses c.loop-place.place c.get.result.now

@@ -1,6 +1,6 @@
 use Rattle.std.proofs.Common.{◌≡◌, ◌++◌, ◌∷◌, [], ◌∙◌, true, false, sym, ap, subst}
 use Rattle.hv_sets.specs.Truth.{in_clause}
-use Rattle.hv_clauses.specs.declared.look.Scan.{Scan}
+use Rattle.hv_clauses.specs.declared.watched.Scan.{Scan}
 use Rattle.hv_clauses.specs.Working.Chase.{IsFollowed}
 use Rattle.hv_clauses.specs.Working.Scan.{Scans}
 use Rattle.hv_clauses.specs.Marks.{over}
@@ -15,7 +15,7 @@ returns-in-Broken-clause-followed c =
     let m = c.args.marks.now in
     let clause = c.args.clause.now in
     let found = subst (λ (s : Scan). Scans s e (marks_of m) clause) c.in-Broken.is
-    c.look-found.ensures in
+    c.scan_clause-found.ensures in
     subst (λ (k : Knowledge). IsFollowed (λ s. in_clause clause (over e s) ≡ true) m k false)
     (sym c.remember.ensures)
     (broken_followed e m clause c.requires found)
@@ -26,9 +26,9 @@ returns-in-Unit-clause-followed c =
     let m = c.args.marks.now in
     let clause = c.args.clause.now in
     let found = subst (λ (s : Scan). Scans s e (marks_of m) clause) c.in-Unit.is
-    c.look-found.ensures in
+    c.scan_clause-found.ensures in
     let more = λ (k : Knowledge). let n : Knowledge = record
-    { base = k.base; trail = k.trail ++ c.in-Unit.literal ∷ [] } in n in
+    { roots = k.roots; trail = k.trail ++ c.in-Unit.literal ∷ [] } in n in
     subst (λ (k : Knowledge). IsFollowed (λ s. in_clause clause (over e s) ≡ true) m k true)
     (sym (c.write.ensures ∙ ap more c.remember.ensures))
     (step_followed e m c.in-Unit.literal clause c.requires found.0 found.1 found.2)
@@ -39,9 +39,9 @@ returns-in-Unit-clause-settled c = λ is.
     let m = c.args.marks.now in
     let clause = c.args.clause.now in
     let found = subst (λ (s : Scan). Scans s e (marks_of m) clause) c.in-Unit.is
-    c.look-found.ensures in
+    c.scan_clause-found.ensures in
     let more = λ (k : Knowledge). let n : Knowledge = record
-    { base = k.base; trail = k.trail ++ c.in-Unit.literal ∷ [] } in n in
+    { roots = k.roots; trail = k.trail ++ c.in-Unit.literal ∷ [] } in n in
     subst (λ (k : Knowledge). IsSettled e (marks_of k) clause)
     (sym (c.write.ensures ∙ ap more c.remember.ensures))
     (step_settled e m c.in-Unit.literal clause c.requires found.0 found.1)

@@ -13,7 +13,7 @@ use Rattle.hv_clauses.proofs.chase.visit_all.Goals as goal
 pub visit_one-requires-clause-clauses : goal.visit_one-requires-clause-clauses
 visit_one-requires-clause-clauses c =
     subst (λ n. AreClauses n c.args.clauses.now)
-    (sym (ap length c.loop-index.invariant.followed.base)) c.requires.clauses
+    (sym (ap length c.loop-index.invariant.followed.roots)) c.requires.clauses
 
 pub visit_one-requires-clause-out : goal.visit_one-requires-clause-out
 visit_one-requires-clause-out c =
@@ -43,7 +43,7 @@ loop-index-preserved c =
           _ _ _ _ (λ state size holds. holds) c.loop-index.invariant.followed step;
       seen = below_more (λ k. IsKept e (clause_at clauses (get_or places k 0)) new from) index
           (λ k less. kept_on e (clause_at clauses (get_or places k 0)) old new from
-          step.base step.more (longer _ _ _ _ c.loop-index.invariant.followed)
+          step.roots step.more (longer _ _ _ _ c.loop-index.invariant.followed)
           (c.loop-index.invariant.seen k less))
           (λ apart. c.if-not-visit_one.ensures.settled refl);
     }

@@ -9,7 +9,7 @@ use Rattle.hv_clauses.specs.Clausal.{clause_at}
 use Rattle.hv_clauses.specs.Marks.{over}
 use Rattle.hv_clauses.specs.Working.Trail.{marks_of}
 use Rattle.hv_clauses.specs.Units.{IsSettled}
-use Rattle.hv_clauses.proofs.Besides.{one_followed, pair_followed, pair_settled}
+use Rattle.hv_clauses.proofs.Partners.{one_followed, pair_followed, pair_settled}
 use Rattle.hv_clauses.proofs.Standings.{inside_at, pair_at}
 use Rattle.hv_clauses.proofs.chase.visit_one.Goals as goal
 
@@ -20,7 +20,7 @@ force-requires c =
     let index = c.args.index in
     let pair = pair_at clauses standing c.requires.standing index c.requires.index c.in-Some.other
     c.in-Some.ensures.0 c.in-Some.ensures.1 in
-    All-contains (λ (l : Literal). l.atom < length c.args.marks.now.base)
+    All-contains (λ (l : Literal). l.atom < length c.args.marks.now.roots)
     (clause_at clauses (get_or standing.places.now index 0)) c.in-Some.other
     (c.requires.clauses (get_or standing.places.now index 0) []
     (inside_at clauses standing c.requires.standing index c.requires.index)) pair.has_second
@@ -35,7 +35,7 @@ step-requires c =
     let place = get_or c.args.standing.now.places.now c.args.index 0 in
     let within = inside_at c.args.clauses.now c.args.standing.now c.requires.standing c.args.index
     c.requires.index in
-    subst (λ ls. SpeakBelow (length c.args.marks.now.base) ls)
+    subst (λ ls. SpeakBelow (length c.args.marks.now.roots) ls)
     (get_or_from_slice_get clauses place c.get.result.now [] c.get.ensures)
     (c.requires.clauses place [] within)
 

@@ -14,11 +14,11 @@ use Rattle.hv_clauses.proofs.closure.conclude.Goals as goal
 
 -- what was followed up where nothing was known
 module _ (clauses : List (List Literal)) (e : List ℕ) (k : Knowledge) (none : k.trail ≡ [])
-    (unknown : (p : ℕ) → known k.base p ≡ None) (plain : e ≡ []) where
+    (unknown : (p : ℕ) → known k.roots p ≡ None) (plain : e ≡ []) where
   agrees_start : (state : List Bool) → Agrees (marks_of k) state
   agrees_start state =
-      subst (λ ls. let m : Knowledge = record { base = k.base; trail = ls } in
-      Agrees (marks_of m) state) (sym none) (agrees_none k.base unknown state)
+      subst (λ ls. let m : Knowledge = record { roots = k.roots; trail = ls } in
+      Agrees (marks_of m) state) (sym none) (agrees_none k.roots unknown state)
 
   holds_start : (state : List Bool) → in_clauses clauses state ≡ true
       → in_clauses clauses (over e state) ≡ true
@@ -46,7 +46,7 @@ pub returns-clause-follows : goal.returns-clause-follows
 returns-clause-follows c = λ is state size holds.
     let k = c.args.marks.now in
     c.close.ensures.followed.follows state
-    (size ∙ sym (ap length c.if-not-start.ensures.followed.base))
+    (size ∙ sym (ap length c.if-not-start.ensures.followed.roots))
     (ap (in_clauses c.args.clauses.now) (over-nil state) ∙ holds)
     (c.if-not-start.ensures.followed.follows state size
     (holds_start c.args.clauses.now c.none-none.result k c.requires.none c.requires.unknown
@@ -58,7 +58,7 @@ pub returns-clause-never : goal.returns-clause-never
 returns-clause-never c = λ is state size holds.
     let k = c.args.marks.now in
     c.close.ensures.followed.broken is state
-    (size ∙ sym (ap length c.if-not-start.ensures.followed.base))
+    (size ∙ sym (ap length c.if-not-start.ensures.followed.roots))
     (ap (in_clauses c.args.clauses.now) (over-nil state) ∙ holds)
     (c.if-not-start.ensures.followed.follows state size
     (holds_start c.args.clauses.now c.none-none.result k c.requires.none c.requires.unknown

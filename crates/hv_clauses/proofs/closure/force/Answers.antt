@@ -6,7 +6,7 @@ use Rattle.hv_clauses.proofs.closure.force.Goals as goal
 
 pub returns-clause-forced : goal.returns-clause-forced
 returns-clause-forced c = λ _.
-    let wide = ap (λ (k : Knowledge). length k.base) c.over-marks.ensures
+    let wide = ap (λ (k : Knowledge). length k.roots) c.over-marks.ensures
     ∙ length-marked c.args.atoms [] in
     forced_from c.args.atoms c.args.clauses.now c.conclude.new.marks c.list.new.forced.items
     (c.if-not-conclude.ensures.size ∙ wide) c.in_ok-list.ensures.rises c.in_ok-list.ensures.same

@@ -8,7 +8,7 @@ use Rattle.hv_clauses.proofs.closure.list.Goals as goal
 pub loop-atom-preserved : goal.loop-atom-preserved
 loop-atom-preserved c =
     let k = c.args.marks.now in
-    let n = length k.base in
+    let n = length k.roots in
     let end = c.atoms-atom-end.ensures.atoms in
     let test = c.loop-atom-test.true in
     record {
@@ -30,5 +30,5 @@ returns-clause-same c =
     let end = c.atoms-atom-end.ensures.atoms in
     let few = c.atoms-atom-end.ensures.few in
     let past = c.loop-atom-test.false in
-    said_everywhere k c.loop-atom.forced.items (length k.base) refl
+    said_everywhere k c.loop-atom.forced.items (length k.roots) refl
     (λ p less. c.loop-atom.invariant.same p (omega arith))

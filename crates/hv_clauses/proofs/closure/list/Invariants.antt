@@ -7,6 +7,6 @@ use Rattle.hv_clauses.proofs.closure.list.Given as goal
 abbrev pub invariant-loop-atom : goal.invariant-loop-atom
 invariant-loop-atom l = record {
   listed : ListsBelow l.atom l.forced.items;
-  same : (p : ℕ) → p < l.atom → known (marked (length l.marks.base) l.forced.items) p
+  same : (p : ℕ) → p < l.atom → known (marked (length l.marks.roots) l.forced.items) p
       ≡ known (marks_of l.marks) p;
 }

@@ -32,7 +32,7 @@ returns-clause-same c = λ _.
     let k = c.args.marks.now in
     undone_same k c.deny.new.marks c.undo.new.self c.if-deny.ensures.grown
     (c.undo.ensures ∙ ap (λ n. let z : Knowledge = record
-    { base = c.deny.new.marks.base; trail = take n c.deny.new.marks.trail } in z)
+    { roots = c.deny.new.marks.roots; trail = take n c.deny.new.marks.trail } in z)
     c.len-point.ensures.len)
 
 pub returns-clause-true_in : goal.returns-clause-true_in

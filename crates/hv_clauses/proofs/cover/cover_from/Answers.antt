@@ -22,8 +22,8 @@ returns-then-not-force_all-clause-covers c = λ state size inside.
 
 pub breaks-requires : goal.breaks-requires
 breaks-requires c =
-    let wide = ap (λ (k : Knowledge). length k.base) c.loop-place.invariant.same
-    ∙ (ap length c.if-not-force_all.ensures.grown.base ∙ c.requires.marks) in
+    let wide = ap (λ (k : Knowledge). length k.roots) c.loop-place.invariant.same
+    ∙ (ap length c.if-not-force_all.ensures.grown.roots ∙ c.requires.marks) in
     let less : c.loop-place.place < length c.args.clauses.now =
     (let h = c.loop-place-test.true in let end = c.len-place-end.ensures in omega arith) in
     clause_below [] c.args.clauses.now c.loop-place.place c.get.result.now less c.get.ensures _ _
@@ -31,16 +31,16 @@ breaks-requires c =
 
 pub fill-requires : goal.fill-requires
 fill-requires c =
-    let wide = ap (λ (k : Knowledge). length k.base) c.loop-place.invariant.same
-    ∙ (ap length c.if-not-force_all.ensures.grown.base ∙ c.requires.marks) in
-    c.loop-place.invariant.state ∙ sym (ap length (c.if-breaks.ensures.broken refl).1.base ∙ wide)
+    let wide = ap (λ (k : Knowledge). length k.roots) c.loop-place.invariant.same
+    ∙ (ap length c.if-not-force_all.ensures.grown.roots ∙ c.requires.marks) in
+    c.loop-place.invariant.state ∙ sym (ap length (c.if-breaks.ensures.broken refl).1.roots ∙ wide)
 
 pub returns-then-breaks-clause-covers : goal.returns-then-breaks-clause-covers
 returns-then-breaks-clause-covers c =
     let lies = c.if-breaks.ensures.broken refl in
     let same = c.loop-place.invariant.same in
-    let wide = ap (λ (k : Knowledge). length k.base) same
-    ∙ (ap length c.if-not-force_all.ensures.grown.base ∙ c.requires.marks) in
+    let wide = ap (λ (k : Knowledge). length k.roots) same
+    ∙ (ap length c.if-not-force_all.ensures.grown.roots ∙ c.requires.marks) in
     let less : c.loop-place.place < length c.args.clauses.now =
     (let h = c.loop-place-test.true in let end = c.len-place-end.ensures in omega arith) in
     outside_found (length c.args.state.now) c.args.clauses.now c.args.cube.now
@@ -50,7 +50,7 @@ returns-then-breaks-clause-covers c =
     (forced_cube c.none-none.result c.args.cube.now _ _ _ c.none-none.ensures
     c.if-not-force_all.ensures.forced)
     (length-marks c.args.marks.now ∙ c.requires.marks)
-    (length-marks c.breaks.new.marks ∙ (ap length lies.1.base ∙ wide))
+    (length-marks c.breaks.new.marks ∙ (ap length lies.1.roots ∙ wide))
     c.requires.clauses c.requires.cube less
     (sym (get_or_from_slice_get c.args.clauses.now c.loop-place.place c.get.result.now
     c.get.result.now c.get.ensures)) refl lies.0
@@ -59,11 +59,11 @@ returns-then-breaks-clause-covers c =
 
 pub returns-then-breaks-clause-state : goal.returns-then-breaks-clause-state
 returns-then-breaks-clause-state c =
-    let wide = ap (λ (k : Knowledge). length k.base) c.loop-place.invariant.same
-    ∙ (ap length c.if-not-force_all.ensures.grown.base ∙ c.requires.marks) in
+    let wide = ap (λ (k : Knowledge). length k.roots) c.loop-place.invariant.same
+    ∙ (ap length c.if-not-force_all.ensures.grown.roots ∙ c.requires.marks) in
     ap length c.fill.ensures ∙ (length-low (marks_of c.breaks.new.marks)
     ∙ (length-marks c.breaks.new.marks ∙
-    (ap length (c.if-breaks.ensures.broken refl).1.base ∙ wide)))
+    (ap length (c.if-breaks.ensures.broken refl).1.roots ∙ wide)))
 
 pub loop-place-preserved : goal.loop-place-preserved
 loop-place-preserved c = record {
@@ -74,7 +74,7 @@ loop-place-preserved c = record {
       (ap (λ x. in_clause x state) (get_or_from_slice_get c.args.clauses.now c.loop-place.place
       c.get.result.now [] c.get.ensures)
       ∙ c.if-breaks.ensures.true_in refl state
-      (size ∙ sym (ap (λ (k : Knowledge). length k.base) c.loop-place.invariant.same))
+      (size ∙ sym (ap (λ (k : Knowledge). length k.roots) c.loop-place.invariant.same))
       (subst (λ (k : Knowledge). Agrees (marks_of k) state) (sym c.loop-place.invariant.same)
       agrees));
   state = c.loop-place.invariant.state;
@@ -90,5 +90,5 @@ returns-clause-covers c = λ state size inside.
     all_true c.args.clauses.now state
     (λ k d within. ap (λ x. in_clause x state) (get_or_default c.args.clauses.now k d [] within)
     ∙ c.loop-place.invariant.holds state (size
-    ∙ sym (ap length c.if-not-force_all.ensures.grown.base ∙ c.requires.marks)) agrees k
+    ∙ sym (ap length c.if-not-force_all.ensures.grown.roots ∙ c.requires.marks)) agrees k
     (let last = c.loop-place-test.false in let end = c.len-place-end.ensures in omega arith))

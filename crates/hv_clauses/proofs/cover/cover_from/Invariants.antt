@@ -8,7 +8,7 @@ use Rattle.hv_clauses.proofs.cover.cover_from.Given as goal
 abbrev pub invariant-loop-place : goal.invariant-loop-place
 invariant-loop-place l = record {
   same : l.marks ≡ l.initial.marks;
-  holds : (state : List Bool) → length state ≡ length l.initial.marks.base
+  holds : (state : List Bool) → length state ≡ length l.initial.marks.roots
       → Agrees (marks_of l.initial.marks) state
       → (k : ℕ) → k < l.place → in_clause (clause_at l.clauses k) state ≡ true;
   state : length l.state ≡ length l.fn.state;

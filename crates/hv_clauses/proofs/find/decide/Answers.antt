@@ -7,8 +7,8 @@ use Rattle.hv_clauses.proofs.find.decide.Goals as goal
 pub returns-then-is_refuted-clause-met : goal.returns-then-is_refuted-clause-met
 returns-then-is_refuted-clause-met g c = λ state size fits.
     c.if-is_refuted.ensures refl state size
-    (c.requires.based.base.follows state (size
-    ∙ sym (length-marks c.args.marks.now ∙ c.requires.based.wide)) fits.applies fits.inside)
+    (c.requires.rooted.roots.follows state (size
+    ∙ sym (length-marks c.args.marks.now ∙ c.requires.rooted.wide)) fits.applies fits.inside)
     fits.inside fits.outside
 
 pub returns-clause-same : goal.returns-clause-same
@@ -16,5 +16,5 @@ returns-clause-same g c =
     undone_same c.args.marks.now c.try_choice-met.new.marks c.undo.new.self
     c.try_choice-met.ensures.grown
     (c.undo.ensures ∙ ap (λ n. let z : Knowledge = record
-    { base = c.try_choice-met.new.marks.base; trail = take n c.try_choice-met.new.marks.trail }
+    { roots = c.try_choice-met.new.marks.roots; trail = take n c.try_choice-met.new.marks.trail }
     in z) c.len-point.ensures.len)

@@ -25,25 +25,25 @@ returns-then-not-mark_pre g c = λ state size applies inside.
     (c.requires.follows state size inside)
 
 pub start_all-requires-clause-size : goal.start_all-requires-clause-size
-start_all-requires-clause-size g c = ap length c.if-not-mark_pre.ensures.grown.base
+start_all-requires-clause-size g c = ap length c.if-not-mark_pre.ensures.grown.roots
     ∙ c.requires.marks
 
-pub start_all-requires-clause-based : goal.start_all-requires-clause-based
-start_all-requires-clause-based g c =
-    subst (λ b. IsBasedOn c.args.problem.now c.args.based b)
-    (sym c.if-not-mark_pre.ensures.grown.base) c.requires.based
+pub start_all-requires-clause-rooted : goal.start_all-requires-clause-rooted
+start_all-requires-clause-rooted g c =
+    subst (λ b. IsBasedOn c.args.problem.now c.args.rooted b)
+    (sym c.if-not-mark_pre.ensures.grown.roots) c.requires.rooted
 
 pub returns-then-not-start_all : goal.returns-then-not-start_all
 returns-then-not-start_all g c = λ state size applies inside.
     let k = c.args.marks.now in
     c.if-not-start_all.ensures.followed.broken refl state
-    (size ∙ sym (ap length c.if-not-mark_pre.ensures.grown.base ∙ c.requires.marks)) inside
+    (size ∙ sym (ap length c.if-not-mark_pre.ensures.grown.roots ∙ c.requires.marks)) inside
     (c.if-not-mark_pre.ensures.marked.follows state (size ∙ sym (length-marks k ∙ c.requires.marks))
     applies (c.requires.follows state size inside))
 
 pub close_upto-requires-clause-over : goal.close_upto-requires-clause-over
-close_upto-requires-clause-over g c = ap length c.if-not-start_all.ensures.followed.base
-    ∙ (ap length c.if-not-mark_pre.ensures.grown.base ∙ c.requires.marks)
+close_upto-requires-clause-over g c = ap length c.if-not-start_all.ensures.followed.roots
+    ∙ (ap length c.if-not-mark_pre.ensures.grown.roots ∙ c.requires.marks)
 
 pub close_upto-requires-clause-left : goal.close_upto-requires-clause-left
 close_upto-requires-clause-left g c = c.if-not-start_all.ensures.left refl
@@ -56,9 +56,9 @@ returns g c =
     let pre = c.if-not-mark_pre.ensures in
     let all = c.if-not-start_all.ensures.followed in
     let last = c.close_upto.ensures.followed in
-    let wide_pre = ap length pre.grown.base ∙ c.requires.marks in
-    let wide_all = ap length all.base ∙ wide_pre in
-    let wide = ap length last.base ∙ wide_all in
+    let wide_pre = ap length pre.grown.roots ∙ c.requires.marks in
+    let wide_all = ap length all.roots ∙ wide_pre in
+    let wide = ap length last.roots ∙ wide_all in
     match_from c.close_upto.result
     (λ place. (place ≤ length new.trail) × AreLeft p new place) _ (λ place. IsSearchBegun p place new)
     (λ none state size applies inside. last.broken none state (size ∙ sym wide_all) inside
@@ -67,7 +67,7 @@ returns g c =
     (c.requires.follows state size inside))))
     (λ place left. record {
       wide = wide;
-      base = record {
+      roots = record {
         follows = λ state long applies inside.
             let size = long ∙ (length-marks new ∙ wide) in
             last.follows state (size ∙ sym wide_all) inside

@@ -17,8 +17,8 @@ returns-in_default-clause-found g c =
 
 pub search_from-requires-clause-marks : goal.search_from-requires-clause-marks
 search_from-requires-clause-marks g c =
-    ap (λ (k : Knowledge). length k.base) c.from-marks.ensures
-    ∙ (length-marked c.atoms-atoms.result c.in-Some.start.base ∙ c.atoms-atoms.ensures.atoms)
+    ap (λ (k : Knowledge). length k.roots) c.from-marks.ensures
+    ∙ (length-marked c.atoms-atoms.result c.in-Some.start.roots ∙ c.atoms-atoms.ensures.atoms)
 
 pub returns-clause-found : goal.returns-clause-found
 returns-clause-found g c = found_from_met c.args.problem.now c.requires.posed c.search_from.result

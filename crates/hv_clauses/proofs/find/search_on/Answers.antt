@@ -8,23 +8,23 @@ pub returns-then-not-close-clause-met : goal.returns-then-not-close-clause-met
 returns-then-not-close-clause-met g c = λ number less state size fits.
     let begun = c.requires.begun in
     c.if-not-close.ensures.followed.broken refl state (size ∙ sym begun.wide) fits.inside
-    (begun.base.follows state (size ∙ sym (length-marks c.args.marks.now ∙ begun.wide))
+    (begun.roots.follows state (size ∙ sym (length-marks c.args.marks.now ∙ begun.wide))
     fits.applies fits.inside)
 
-pub choose-requires-clause-based : goal.choose-requires-clause-based
-choose-requires-clause-based g c =
+pub choose-requires-clause-rooted : goal.choose-requires-clause-rooted
+choose-requires-clause-rooted g c =
     let k = c.args.marks.now in
     let begun = c.requires.begun in
     let last = c.if-not-close.ensures.followed in
-    let wide = ap length last.base ∙ begun.wide in
+    let wide = ap length last.roots ∙ begun.wide in
     record {
       wide = wide;
-      base = record {
+      roots = record {
         follows = λ state long applies inside.
             let size = long ∙ (length-marks c.close.new.marks ∙ wide) in
             last.follows state (size ∙ sym begun.wide) inside
-            (begun.base.follows state (size ∙ sym (length-marks k ∙ begun.wide)) applies inside);
-        enabled = λ state agrees. begun.base.enabled state
+            (begun.roots.follows state (size ∙ sym (length-marks k ∙ begun.wide)) applies inside);
+        enabled = λ state agrees. begun.roots.enabled state
             (agrees_extends (marks_of k) (marks_of c.close.new.marks) state last.grows agrees);
       };
       left = c.if-not-close.ensures.left refl;

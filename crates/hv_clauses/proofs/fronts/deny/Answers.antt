@@ -8,7 +8,7 @@ use Rattle.hv_clauses.proofs.fronts.deny.Goals as goal
 
 pub close-requires-clause-over : goal.close-requires-clause-over
 close-requires-clause-over g c =
-    ap length c.if-not-deny_clause.ensures.grown.base ∙ c.requires.wide
+    ap length c.if-not-deny_clause.ensures.grown.roots ∙ c.requires.wide
 
 pub close-requires-clause-left : goal.close-requires-clause-left
 close-requires-clause-left g c =
@@ -33,7 +33,7 @@ pub returns-clause-follows : goal.returns-clause-follows
 returns-clause-follows g c = λ state size inside misses agrees.
     let k = c.args.marks.now in
     c.close.ensures.followed.follows state
-    (size ∙ sym (ap length c.if-not-deny_clause.ensures.grown.base ∙ c.requires.wide)) inside
+    (size ∙ sym (ap length c.if-not-deny_clause.ensures.grown.roots ∙ c.requires.wide)) inside
     (c.if-not-deny_clause.ensures.denied.follows state
     (size ∙ sym (length-marks k ∙ c.requires.wide)) misses agrees)
 
@@ -41,7 +41,7 @@ pub returns-clause-never : goal.returns-clause-never
 returns-clause-never g c = λ is state size inside misses agrees.
     let k = c.args.marks.now in
     c.close.ensures.followed.broken is state
-    (size ∙ sym (ap length c.if-not-deny_clause.ensures.grown.base ∙ c.requires.wide)) inside
+    (size ∙ sym (ap length c.if-not-deny_clause.ensures.grown.roots ∙ c.requires.wide)) inside
     (c.if-not-deny_clause.ensures.denied.follows state
     (size ∙ sym (length-marks k ∙ c.requires.wide)) misses agrees)
 

@@ -8,7 +8,7 @@ returns-clause-same g c =
     undone_same c.args.marks.now c.explore_on-tried.new.marks c.undo.new.self
     c.explore_on-tried.ensures.grown
     (c.undo.ensures ∙ ap (λ n. let z : Knowledge = record {
-      base = c.explore_on-tried.new.marks.base;
+      roots = c.explore_on-tried.new.marks.roots;
       trail = take n
           c.explore_on-tried.new.marks.trail;
     } in z) c.len-point.ensures.len)

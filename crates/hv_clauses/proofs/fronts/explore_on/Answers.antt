@@ -37,7 +37,7 @@ loop-fixed-init g c =
       block = c.requires.cost ∙ block_whole p
           (length c.negative-negative.result.now - 0) (omega (arith, upto));
       advanced = advanced_start p c.args.number c.args.cost _ c.args.marks.now upto c.requires.cost
-          c.requires.number c.requires.based;
+          c.requires.number c.requires.rooted;
       grown = grows_same c.args.marks.now;
     }
 

@@ -44,5 +44,5 @@ pub returns-clause-same : goal.returns-clause-same
 returns-clause-same g c = λ _.
     undone_same c.args.marks.now c.deny.new.marks c.undo.new.self c.if-deny.ensures.grown
     (c.undo.ensures ∙ ap (λ n. let z : Knowledge = record
-    { base = c.deny.new.marks.base; trail = take n c.deny.new.marks.trail } in z)
+    { roots = c.deny.new.marks.roots; trail = take n c.deny.new.marks.trail } in z)
     c.len-point.ensures.len)

@@ -13,12 +13,12 @@ loop-operand-init g c = record {
 
 pub start_operand-requires-clause-size : goal.start_operand-requires-clause-size
 start_operand-requires-clause-size g c =
-    ap length c.loop-operand.invariant.followed.base ∙ c.requires.size
+    ap length c.loop-operand.invariant.followed.roots ∙ c.requires.size
 
-pub start_operand-requires-clause-based : goal.start_operand-requires-clause-based
-start_operand-requires-clause-based g c =
-    subst (λ b. IsBasedOn c.args.problem.now c.args.based b)
-    (sym c.loop-operand.invariant.followed.base) c.requires.based
+pub start_operand-requires-clause-rooted : goal.start_operand-requires-clause-rooted
+start_operand-requires-clause-rooted g c =
+    subst (λ b. IsBasedOn c.args.problem.now c.args.rooted b)
+    (sym c.loop-operand.invariant.followed.roots) c.requires.rooted
 
 pub returns-then-not-start_operand-clause-followed :
     goal.returns-then-not-start_operand-clause-followed

@@ -25,7 +25,7 @@ goal_below bound goal items place literal below same less e =
 
 pub force-requires : goal.force-requires
 force-requires g c =
-    let wide = ap length c.loop-atom.invariant.followed.base in
+    let wide = ap length c.loop-atom.invariant.followed.roots in
     let same = c.as_slice-goal.ensures.items in
     let low = goal_below (atoms c.args.problem.now.task) c.goal.result.now
     c.as_slice-goal.result.now c.loop-atom.atom-index c.goal_literal-literal.result

@@ -1,7 +1,7 @@
 use Rattle.std.proofs.Common.{◌≡◌, ◌∙◌, true, false, length, sym, ap, arith, subst}
 use Rattle.hv_sets.specs.Truth.{in_clauses}
 use Rattle.hv_clauses.specs.Marks.{over}
-use Rattle.hv_clauses.specs.Working.Base.{AreSettledBut}
+use Rattle.hv_clauses.specs.Working.Roots.{AreSettledBut}
 use Rattle.hv_clauses.specs.Working.Chase.{AreKept, IsFollowed}
 use Rattle.hv_clauses.specs.Working.Clausal.{late}
 use Rattle.hv_clauses.specs.Working.Posed.{formulas}
@@ -45,12 +45,12 @@ pub start_turned-requires-clause-but : goal.start_turned-requires-clause-but
 start_turned-requires-clause-but g c =
     let p = c.args.problem.now in
     let is = c.is_based.ensures c.if-is_based.true in
-    let based = subst (λ b. IsBasedOn p b c.args.marks.now.base) is.1 c.requires.based in
+    let rooted = subst (λ b. IsBasedOn p b c.args.marks.now.roots) is.1 c.requires.rooted in
     let but : AreSettledBut (late p.effect (is.0).after) (formulas p c.in-Set.number)
-    c.args.marks.now.base = based c.in-Set.number (sym is.2 ∙ c.in-Set.is) in
-    subst (λ clauses. AreSettledBut c.seen-seen.result clauses c.args.marks.now.base)
+    c.args.marks.now.roots = rooted c.in-Set.number (sym is.2 ∙ c.in-Set.is) in
+    subst (λ clauses. AreSettledBut c.seen-seen.result clauses c.args.marks.now.roots)
     (sym c.set-set.ensures.clauses)
-    (subst (λ e. AreSettledBut e (formulas p c.in-Set.number) c.args.marks.now.base)
+    (subst (λ e. AreSettledBut e (formulas p c.in-Set.number) c.args.marks.now.roots)
     (sym (c.seen-seen.ensures ∙ ap (late p.effect) is.3)) but)
 
 pub returns-then-is_based-clause-followed : goal.returns-then-is_based-clause-followed

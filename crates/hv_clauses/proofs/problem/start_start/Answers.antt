@@ -16,7 +16,7 @@ use Rattle.hv_clauses.proofs.problem.start_start.Goals as goal
 pub force-requires : goal.force-requires
 force-requires g c =
     let at = ap (λ (l : Literal). l.atom) c.start_literal-literal.ensures in
-    let wide = ap length c.loop-atom.invariant.followed.base in
+    let wide = ap length c.loop-atom.invariant.followed.roots in
     omega (arith, at, wide, c.requires.size, c.atoms-atom-end.ensures.atoms, c.loop-atom-test.true)
 
 pub returns-then-not-force-clause-followed : goal.returns-then-not-force-clause-followed

@@ -2,7 +2,7 @@ use Rattle.std.proofs.Common.{◌≡◌, Option, None, MatchOption, true, sym, s
 use Rattle.hv_sets.specs.Truth.{in_clauses}
 use Rattle.hv_clauses.specs.Clausal.{AreClauses}
 use Rattle.hv_clauses.specs.Marks.{over}
-use Rattle.hv_clauses.specs.Working.Base.{AreSettledBut}
+use Rattle.hv_clauses.specs.Working.Roots.{AreSettledBut}
 use Rattle.hv_clauses.specs.Working.Chase.{AreKept, IsFollowed}
 use Rattle.hv_clauses.specs.Working.Closure.{AreForced}
 use Rattle.hv_clauses.specs.Working.Occurrences.{IsIndexOf}
@@ -35,7 +35,7 @@ start-requires-clause-forced g c =
 
 pub start-requires-clause-but : goal.start-requires-clause-but
 start-requires-clause-but g c =
-    subst (λ clauses. AreSettledBut c.args.effect.now clauses c.args.marks.now.base)
+    subst (λ clauses. AreSettledBut c.args.effect.now clauses c.args.marks.now.roots)
     (sym c.clauses.ensures.clauses) c.requires.but
 
 pub returns-clause-followed : goal.returns-clause-followed

@@ -14,7 +14,7 @@ loop-operand-init g c = record {
 
 pub visit_operand-requires-clause-size : goal.visit_operand-requires-clause-size
 visit_operand-requires-clause-size g c =
-    ap length c.loop-operand.invariant.followed.base ∙ c.requires.size
+    ap length c.loop-operand.invariant.followed.roots ∙ c.requires.size
 
 pub visit_operand-requires-clause-from : goal.visit_operand-requires-clause-from
 visit_operand-requires-clause-from g c =

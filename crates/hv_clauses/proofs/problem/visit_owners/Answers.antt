@@ -21,7 +21,7 @@ loop-place-init g c = record {
 
 pub visit_place-requires-clause-size : goal.visit_place-requires-clause-size
 visit_place-requires-clause-size g c =
-    ap length c.loop-place.invariant.followed.base ∙ c.requires.size
+    ap length c.loop-place.invariant.followed.roots ∙ c.requires.size
 
 pub visit_place-requires-clause-from : goal.visit_place-requires-clause-from
 visit_place-requires-clause-from g c =

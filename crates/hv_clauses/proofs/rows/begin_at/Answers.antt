@@ -1,5 +1,5 @@
 use Rattle.std.proofs.Common.{sym, subst}
-use Rattle.hv_clauses.specs.declared.rows.Head.{Head}
+use Rattle.hv_clauses.specs.declared.rows.RowHead.{RowHead}
 use Rattle.hv_clauses.specs.Working.Rows.{IsEndBefore}
 use Rattle.hv_clauses.proofs.Keyed.{begins_at, begins_past}
 use Rattle.hv_clauses.proofs.rows.begin_at.Goals as goal
@@ -8,7 +8,7 @@ pub returns-in-Some : goal.returns-in-Some
 returns-in-Some c = λ codes key are size first.
     let head = c.in-Some.head.now in
     let found = c.in-Some.ensures.lookup in
-    subst (λ (h : Head). IsEndBefore key codes h.start) (sym found.1)
+    subst (λ (h : RowHead). IsEndBefore key codes h.start) (sym found.1)
     (begins_at codes c.args.heads.now are key c.args.place first head found.3.0)
 
 pub returns-in-None : goal.returns-in-None

@@ -1,13 +1,13 @@
 use Rattle.std.proofs.Common.{ltb, ltb-true, ltb-false, rules, arith}
 use Rattle.std.proofs.lemmas.List.Sorted.{IsPartitionPoint-from_clause, IsPartitionedBy-ltb}
-use Rattle.hv_clauses.specs.declared.rows.Head.{Head}
+use Rattle.hv_clauses.specs.declared.rows.RowHead.{RowHead}
 use Rattle.hv_clauses.proofs.rows.count_below.Goals as goal
 
 pub returns : goal.returns
 returns c =
-    let parted = IsPartitionedBy-ltb (λ (h : Head). h.key) _ c.args.key c.requires in
+    let parted = IsPartitionedBy-ltb (λ (h : RowHead). h.key) _ c.args.key c.requires in
     let point = IsPartitionPoint-from_clause
-    (λ (h : Head). ltb h.key c.args.key) _ _ c.partition_point.ensures.partitioned
+    (λ (h : RowHead). ltb h.key c.args.key) _ _ c.partition_point.ensures.partitioned
     parted (λ a r q k. search rules) in
     record {
       within = c.partition_point.ensures.bound;

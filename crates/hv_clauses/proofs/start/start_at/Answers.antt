@@ -22,7 +22,7 @@ pub returns-in-Some : goal.returns-in-Some
 returns-in-Some g c =
     let p = c.args.problem.now in
     start_of_forced p c.args.operand c.in-Set.number c.requires.among c.in-Set.is
-    c.in-Some.forced.now _ _ c.beside.ensures c.seen-seen.ensures
+    c.in-Some.forced.now _ _ c.unaffected.ensures c.seen-seen.ensures
     (subst (λ n. AreForced n (formulas p c.in-Set.number) c.in-Some.forced.now) c.set.ensures.atoms
     (subst (λ clauses. AreForced c.set.result.now.atoms clauses c.in-Some.forced.now)
     c.set.ensures.clauses c.in-Some.ensures))

@@ -6,7 +6,7 @@ use Rattle.hv_bytes.specs.Standard.{standard}
 use Rattle.hv_bytes.specs.States.{coming_of}
 use Rattle.hv_bytes.specs.declared.cutting.Limits.{Limits}
 use Rattle.hv_bytes.proofs.WholeText.{known}
-use Rattle.hv_checker.specs.Stands.{Stands}
+use Rattle.hv_checker.specs.Checkers.{HasJudged}
 use Rattle.hv_checker.specs.Stopping.{stop_after}
 use Rattle.hv_command.proofs.FedFiles.{fed_line, fed_long, fed_refused, goes_on}
 use Rattle.hv_command.proofs.feeding.feed_file.Goals as goal
@@ -28,7 +28,7 @@ returns-in-Refused-clause-fed g c =
     c.feeding.lines.earlier (length l)) (sym c.line.ensures) (c.in-Ok-Line.ensures.fits (cc))))
     c.in_ok-feed-in-Ok-Line.ensures.stands in
     known (g.S.Shelf.held c.args.shelf.now) c.args.name.now
-    (λ bytes. Stands c.feed.new.self (pieces_of standard bytes))
+    (λ bytes. HasJudged c.feed.new.self (pieces_of standard bytes))
     (fed_refused file after c.next.new.self.earlier c.feed.new.self c.in-Refused.field-0 fed
     (c.in_ok-feed-in-Ok-Line.ensures.stop ∙ ap (stop_after c.feeding.checker.stop) c.in-Refused.is))
 
@@ -81,7 +81,7 @@ returns-in-Err-Long-clause-fed g c =
     let coming = coming_of c.feeding.lines (g.S.Shelf.left c.feeding.shelf) in
     let file = file_of (g.S.Shelf.held c.args.shelf.now) c.args.name.now in
     known (g.S.Shelf.held c.args.shelf.now) c.args.name.now
-    (λ bytes. Stands c.feed-in-Err-Long.new.self (pieces_of standard bytes))
+    (λ bytes. HasJudged c.feed-in-Err-Long.new.self (pieces_of standard bytes))
     (fed_long file coming c.feeding.lines.earlier c.feeding.lines.number c.feeding.checker
     c.feed-in-Err-Long.new.self c.feeding.invariant.feeding
     (subst (λ (limits : Limits). BeginsLong coming limits.line limits.file c.feeding.lines.earlier)

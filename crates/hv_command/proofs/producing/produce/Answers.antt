@@ -1,7 +1,7 @@
 use Rattle.std.proofs.Common.{Err, IfSome, subst}
 use Rattle.hv_bytes.specs.Files.{Names, bytes_of}
 use Rattle.hv_bytes.specs.Standard.{standard}
-use Rattle.hv_task_text.specs.TaskText.{IsReadFrom, TaskText}
+use Rattle.hv_task_text.specs.TaskText.{IsTaskReadFrom, TaskText}
 use Rattle.hv_command.specs.Answer.{AnswersProduce}
 use Rattle.hv_command.specs.Replies.{task_fault_text}
 use Rattle.hv_command.specs.Working.Replies.{IsTextFault}
@@ -30,6 +30,6 @@ returns-in_ok-answer-in-Err-clause-answer g c =
     task_fault (g.S.Shelf.held c.args.shelf.now) c.args.task.now
     (λ held. AnswersProduce c.args.kind) c.in-Err.fault answer.status answer.text
     (subst (λ name. IfSome (g.S.Shelf.held c.args.shelf.now)
-    (λ (h : Names). IsReadFrom standard (bytes_of h name) (Err c.in-Err.fault)))
+    (λ (h : Names). IsTaskReadFrom standard (bytes_of h name) (Err c.in-Err.fault)))
     c.as_str.ensures c.in-Err.ensures.read)
     said.1 said.0.status_is said.0.text_is

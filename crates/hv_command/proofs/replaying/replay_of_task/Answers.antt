@@ -1,7 +1,7 @@
 use Rattle.std.proofs.Common.{Err, Ok, IfSome, subst}
 use Rattle.hv_bytes.specs.Files.{Names, bytes_of}
 use Rattle.hv_task.specs.Strips.{atoms}
-use Rattle.hv_replay.specs.LogText.{IsReadFrom}
+use Rattle.hv_replay.specs.LogText.{IsLogReadFrom}
 use Rattle.hv_replay.proofs.Several.{AnyOf}
 use Rattle.hv_command.specs.Answer.{AnswersLog}
 use Rattle.hv_command.specs.Replies.{log_fault_text}
@@ -19,7 +19,7 @@ returns-in_ok-answer-in-Ok-clause-answer g c =
     (λ b. (goal.Pruner-dyn g (b.vtable, b.value)).covers b.value task state)) c.args.task.now)
     c.in-Ok.log answer.status answer.text
     (subst (λ name. IfSome (g.S.Shelf.held c.args.shelf.now)
-    (λ (h : Names). IsReadFrom (atoms c.args.task.now) (bytes_of h name) (Ok c.in-Ok.log)))
+    (λ (h : Names). IsLogReadFrom (atoms c.args.task.now) (bytes_of h name) (Ok c.in-Ok.log)))
     c.as_str.ensures c.in-Ok.ensures.read)
     c.in_ok-answer-in-Ok.ensures.answer
 
@@ -33,6 +33,6 @@ returns-in_ok-answer-in-Err-clause-answer g c =
     (λ b. (goal.Pruner-dyn g (b.vtable, b.value)).covers b.value task state)) c.args.task.now)
     c.in-Err.fault answer.status answer.text
     (subst (λ name. IfSome (g.S.Shelf.held c.args.shelf.now)
-    (λ (h : Names). IsReadFrom (atoms c.args.task.now) (bytes_of h name) (Err c.in-Err.fault)))
+    (λ (h : Names). IsLogReadFrom (atoms c.args.task.now) (bytes_of h name) (Err c.in-Err.fault)))
     c.as_str.ensures c.in-Err.ensures.read)
     said.1 said.0.status_is said.0.text_is

@@ -1,5 +1,5 @@
 use Rattle.std.proofs.Common.{◌≡◌}
-use Rattle.hv_explicit.specs.Listing.{full_cube}
+use Rattle.hv_explicit.specs.ListedStates.{full_cube}
 use Rattle.hv_explicit.proofs.explicit.fill.Given as goal
 
 abbrev pub invariant-loop-atom : goal.invariant-loop-atom

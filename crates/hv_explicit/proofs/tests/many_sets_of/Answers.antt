@@ -1,6 +1,6 @@
 use Rattle.std.proofs.Common.{◌≡◌, ◌∷◌, [], ap, arith, length, length-append, subst, sym}
 use Rattle.std.proofs.lemmas.List.Elements.{All-push}
-use Rattle.hv_explicit.specs.Listing.{AreOver, Listing}
+use Rattle.hv_explicit.specs.ListedStates.{AreListsOver, ListedStates}
 use Rattle.hv_explicit.proofs.tests.many_sets_of.Goals as goal
 
 pub loop-mask-preserved : goal.loop-mask-preserved
@@ -11,7 +11,8 @@ loop-mask-preserved c =
     record {
       len = let before = c.loop-mask.invariant.len in omega arith;
       over =
-          subst (λ sets. AreOver sets 2) (sym now)
-          (All-push (λ (set : Listing). set.atoms ≡ 2) c.loop-mask.sets c.in_ok-set_from.field-0
+          subst (λ sets. AreListsOver sets 2) (sym now)
+          (All-push (λ (set : ListedStates). set.atoms ≡ 2) c.loop-mask.sets
+          c.in_ok-set_from.field-0
           c.loop-mask.invariant.over c.in_ok-set_from.ensures);
     }

@@ -1,9 +1,9 @@
 use Rattle.std.proofs.Common.{◌≡◌, length}
-use Rattle.hv_explicit.specs.Listing.{AreOver}
+use Rattle.hv_explicit.specs.ListedStates.{AreListsOver}
 use Rattle.hv_explicit.proofs.tests.many_sets_of.Given as goal
 
 abbrev pub invariant-loop-mask : goal.invariant-loop-mask
 invariant-loop-mask l = record {
   len : length l.sets ≡ l.mask-index;
-  over : AreOver l.sets 2;
+  over : AreListsOver l.sets 2;
 }

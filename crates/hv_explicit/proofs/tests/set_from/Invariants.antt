@@ -1,4 +1,4 @@
-use Rattle.hv_explicit.specs.Listing.{AreStates}
+use Rattle.hv_explicit.specs.ListedStates.{AreStates}
 use Rattle.hv_explicit.proofs.tests.set_from.Given as goal
 
 abbrev pub invariant-loop-code : goal.invariant-loop-code

@@ -3,7 +3,7 @@ use Rattle.hv_sets.specs.Truth.{in_cube}
 use Rattle.hv_paths.proofs.Fronts.{cube_front}
 use Rattle.hv_paths.proofs.meeting.assume_rest.Goals as goal
 
--- no state of the whole cube is looked for, since none of its front is
+-- no state of the whole cube is looked for, since none of its prefix is
 pub returns-then-not-is_open-clause-barren : goal.returns-then-not-is_open-clause-barren
 returns-then-not-is_open-clause-barren g c = λ _ s of h.
     let i = c.loop-place.invariant in

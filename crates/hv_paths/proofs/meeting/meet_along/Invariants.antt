@@ -3,7 +3,7 @@ use Rattle.hv_sets.specs.Room.{KeepsLengths}
 use Rattle.hv_sets.specs.Walks.{IsStateOf, in_cubes}
 use Rattle.hv_paths.proofs.meeting.meet_along.Given as goal
 
--- what is assumed is a front of the last cube; what is left is part of the walk, and no state that
+-- what is assumed is a prefix of the last cube; what is left is part of the walk, and no state that
 -- is looked for is in the part that was done
 abbrev pub invariant-loop-kept : goal.invariant-loop-kept
 invariant-loop-kept g l =

@@ -5,7 +5,7 @@ use Rattle.hv_grammar.proofs.Going.{Goes}
 use Rattle.hv_replay.specs.LogFile.{log_line}
 use Rattle.hv_replay.specs.Logs.{listed_bytes}
 use Rattle.hv_replay.specs.LogText.{log_limits}
-use Rattle.hv_replay.specs.Working.Reading.{IsReading, entries_in}
+use Rattle.hv_replay.specs.Working.Reading.{IsReadingLog, entries_in}
 use Rattle.hv_replay.specs.declared.fault.LogRefusal.TheVariants as R
 use Rattle.hv_replay.proofs.read.entries.Given as goal
 
@@ -16,7 +16,7 @@ invariant-lines g l = record {
       (g.R.Source.position l.reader);
   can : CanRead (g.R.Source.position l.reader);
   limits : (g.R.Source.position l.reader).lines.limits ≡ log_limits;
-  ready : IsReading l.entries;
+  ready : IsReadingLog l.entries;
   atoms : l.entries.atoms ≡ l.fn.atoms;
   bytes : listed_bytes (entries_in l.entries) ≤ (g.R.Source.position l.reader).lines.earlier;
 }

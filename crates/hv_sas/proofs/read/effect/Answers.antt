@@ -1,5 +1,5 @@
 use Rattle.std.proofs.Common.{◌++◌, ◌∷◌, [], subst, sym, Bool, List, arith}
-use Rattle.hv_sas.specs.declared.task.Effect.{Effect}
+use Rattle.hv_sas.specs.declared.sas_task.Effect.{Effect}
 use Rattle.hv_sas.specs.Working.Reading.{AreMarked}
 use Rattle.hv_sas.proofs.Atoms.{range_within}
 use Rattle.hv_sas.proofs.Marks.{marked_push}

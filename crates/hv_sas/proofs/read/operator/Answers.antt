@@ -2,7 +2,7 @@ use Rattle.std.proofs.Common.{List, subst, sym}
 use Rattle.std.specs.List.{All}
 use Rattle.std.proofs.lemmas.List.Elements.{All-push}
 use Rattle.hv_grammar.proofs.Going.{done, filled_err, go, no_memory, start, stops}
-use Rattle.hv_sas.specs.declared.task.SasOperator.{SasOperator}
+use Rattle.hv_sas.specs.declared.sas_task.SasOperator.{SasOperator}
 use Rattle.hv_sas.specs.Sound.{IsOperator}
 use Rattle.hv_sas.specs.Text as text
 use Rattle.hv_sas.proofs.read.operator.Goals as goal

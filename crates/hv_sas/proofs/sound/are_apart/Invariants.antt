@@ -1,5 +1,5 @@
 use Rattle.std.proofs.Common.{ℕ, ◌<◌, ◌≢◌, length, get_or}
-use Rattle.hv_sas.specs.declared.task.Effect.{Effect}
+use Rattle.hv_sas.specs.declared.sas_task.Effect.{Effect}
 use Rattle.hv_sas.proofs.sound.are_apart.Given as goal
 
 abbrev pub invariant-loop-place : goal.invariant-loop-place

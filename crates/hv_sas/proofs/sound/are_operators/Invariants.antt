@@ -1,5 +1,5 @@
 use Rattle.std.proofs.Common.{ℕ, ◌<◌, get_or}
-use Rattle.hv_sas.specs.declared.task.SasOperator.{SasOperator}
+use Rattle.hv_sas.specs.declared.sas_task.SasOperator.{SasOperator}
 use Rattle.hv_sas.specs.Sound.{IsOperator}
 use Rattle.hv_sas.proofs.sound.are_operators.Given as goal
 

@@ -1,5 +1,5 @@
 use Rattle.std.proofs.Common.{ℕ, ◌<◌, ◌≢◌, get_or}
-use Rattle.hv_sas.specs.declared.task.Effect.{Effect}
+use Rattle.hv_sas.specs.declared.sas_task.Effect.{Effect}
 use Rattle.hv_sas.proofs.sound.is_apart_from_later.Given as goal
 
 abbrev pub invariant-loop-later : goal.invariant-loop-later

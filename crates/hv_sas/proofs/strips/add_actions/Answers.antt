@@ -1,5 +1,5 @@
 use Rattle.std.proofs.Common.{ap, ◌∙◌, ◌<◌, List, length, subst, get_or}
-use Rattle.hv_sas.specs.declared.task.SasOperator.{SasOperator}
+use Rattle.hv_sas.specs.declared.sas_task.SasOperator.{SasOperator}
 use Rattle.hv_sas.specs.Sound.{IsOperator}
 use Rattle.hv_sas.proofs.Making.{item_is}
 use Rattle.hv_sas.proofs.strips.add_actions.Goals as goal

@@ -1,7 +1,7 @@
 use Rattle.std.proofs.Common.{ap, ◌+◌, take, length, arith, length-append}
 use Rattle.std.specs.List.{flat_map}
 use Rattle.hv_task.specs.Strips.{Strips, atoms}
-use Rattle.hv_sas.specs.declared.task.SasVariable.{SasVariable}
+use Rattle.hv_sas.specs.declared.sas_task.SasVariable.{SasVariable}
 use Rattle.hv_sas.proofs.Making.{values_next, values_upto}
 use Rattle.hv_sas.proofs.Plans.{length-names}
 use Rattle.hv_sas.proofs.strips.add_variables.Goals as goal

@@ -1,6 +1,6 @@
 use Rattle.std.proofs.Common.{◌∙◌, [], List, subst, sym}
 use Rattle.std.specs.List.{flat_map}
-use Rattle.hv_sas.specs.declared.task.Effect.{Effect}
+use Rattle.hv_sas.specs.declared.sas_task.Effect.{Effect}
 use Rattle.hv_sas.specs.Made.{fact_before, facts_gone}
 use Rattle.hv_sas.specs.Working.Making.{AddsFacts}
 use Rattle.hv_sas.proofs.Making.{atoms_none, if_ok}

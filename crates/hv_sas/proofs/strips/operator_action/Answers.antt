@@ -1,7 +1,7 @@
 use Rattle.std.proofs.Common.{◌∙◌, ◌++◌, ap, map, List}
 use Rattle.std.specs.List.{filter_map, flat_map}
-use Rattle.hv_sas.specs.declared.task.Effect.{Effect}
-use Rattle.hv_sas.specs.declared.task.SasVariable.{SasVariable}
+use Rattle.hv_sas.specs.declared.sas_task.Effect.{Effect}
+use Rattle.hv_sas.specs.declared.sas_task.SasVariable.{SasVariable}
 use Rattle.hv_sas.specs.Made.{fact_atoms, fact_after, fact_before, facts_gone}
 use Rattle.hv_sas.proofs.Making.{same_action}
 use Rattle.hv_sas.proofs.strips.operator_action.Goals as goal

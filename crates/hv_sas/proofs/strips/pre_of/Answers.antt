@@ -1,6 +1,6 @@
 use Rattle.std.proofs.Common.{◌∙◌, [], List, subst, sym}
-use Rattle.hv_sas.specs.declared.task.Fact.{Fact}
-use Rattle.hv_sas.specs.declared.task.Effect.{Effect}
+use Rattle.hv_sas.specs.declared.sas_task.Fact.{Fact}
+use Rattle.hv_sas.specs.declared.sas_task.Effect.{Effect}
 use Rattle.std.specs.List.{filter_map}
 use Rattle.hv_sas.specs.Made.{fact_before}
 use Rattle.hv_sas.specs.Working.Making.{AddsFacts}

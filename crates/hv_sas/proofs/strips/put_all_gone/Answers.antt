@@ -1,7 +1,7 @@
 use Rattle.std.proofs.Common.{◌∙◌, ◌++◌, ap, take, sym, arith, List}
 use Rattle.std.specs.List.{flat_map}
-use Rattle.hv_sas.specs.declared.task.Effect.{Effect}
-use Rattle.hv_sas.specs.declared.task.Fact.{Fact}
+use Rattle.hv_sas.specs.declared.sas_task.Effect.{Effect}
+use Rattle.hv_sas.specs.declared.sas_task.Fact.{Fact}
 use Rattle.hv_sas.specs.Made.{fact_before, facts_gone}
 use Rattle.hv_sas.proofs.Making.{puts_next, puts_same, take_all}
 use Rattle.std.proofs.lemmas.List.{append-nil, take_more}

@@ -1,6 +1,6 @@
 use Rattle.std.proofs.Common.{take}
 use Rattle.std.specs.List.{flat_map}
-use Rattle.hv_sas.specs.declared.task.Effect.{Effect}
+use Rattle.hv_sas.specs.declared.sas_task.Effect.{Effect}
 use Rattle.hv_sas.specs.Made.{fact_before, facts_gone}
 use Rattle.hv_sas.specs.Working.Making.{AddsFacts}
 use Rattle.hv_sas.proofs.strips.put_all_gone.Given as goal

@@ -1,6 +1,6 @@
 use Rattle.std.proofs.Common.{Option, subst}
 use Rattle.std.specs.Prelude.{OnOk}
-use Rattle.hv_sas.specs.declared.task.Fact.{Fact}
+use Rattle.hv_sas.specs.declared.sas_task.Fact.{Fact}
 use Rattle.hv_sas.specs.Made.{facts_gone}
 use Rattle.hv_sas.specs.Working.Making.{AddsFacts}
 use Rattle.hv_sas.proofs.strips.put_gone.Goals as goal

@@ -1,7 +1,7 @@
 use Rattle.std.proofs.Common.{◌≡◌, ◌∙◌, ap, map, arith, ℕ, not, Bool}
 use Rattle.std.specs.Prelude.{◌==◌}
 use Rattle.std.specs.List.{filter, range_with_len}
-use Rattle.hv_sas.specs.declared.task.Fact.{Fact}
+use Rattle.hv_sas.specs.declared.sas_task.Fact.{Fact}
 use Rattle.hv_sas.specs.Variables.{range_at}
 use Rattle.hv_sas.proofs.Making.{few_at, puts_next, puts_same, range_more}
 use Rattle.std.proofs.lemmas.List.{map-append}

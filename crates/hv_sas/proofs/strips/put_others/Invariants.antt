@@ -1,7 +1,7 @@
 use Rattle.std.proofs.Common.{map, ℕ, not}
 use Rattle.std.specs.Prelude.{◌==◌}
 use Rattle.std.specs.List.{filter, range_with_len}
-use Rattle.hv_sas.specs.declared.task.Fact.{Fact}
+use Rattle.hv_sas.specs.declared.sas_task.Fact.{Fact}
 use Rattle.hv_sas.specs.Working.Making.{AddsFacts}
 use Rattle.hv_sas.proofs.strips.put_others.Given as goal
 

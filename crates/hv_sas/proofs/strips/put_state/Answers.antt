@@ -1,6 +1,6 @@
 use Rattle.std.proofs.Common.{◌≡◌, ◌∙◌, ap, map, arith, ℕ, length}
 use Rattle.std.specs.List.{range_with_len, slice_index}
-use Rattle.hv_sas.specs.declared.task.Fact.{Fact}
+use Rattle.hv_sas.specs.declared.sas_task.Fact.{Fact}
 use Rattle.hv_sas.proofs.Making.{few_variables, puts_next, puts_same, range_more}
 use Rattle.std.proofs.lemmas.List.{map-append}
 use Rattle.hv_sas.proofs.strips.put_state.Goals as goal

@@ -1,6 +1,6 @@
 use Rattle.std.proofs.Common.{ℕ, map}
 use Rattle.std.specs.List.{range_with_len, slice_index}
-use Rattle.hv_sas.specs.declared.task.Fact.{Fact}
+use Rattle.hv_sas.specs.declared.sas_task.Fact.{Fact}
 use Rattle.hv_sas.specs.Working.Making.{AddsFacts}
 use Rattle.hv_sas.proofs.strips.put_state.Given as goal
 

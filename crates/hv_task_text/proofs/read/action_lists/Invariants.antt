@@ -6,7 +6,7 @@ use Rattle.hv_task_text.specs.TaskFile.{action_lists, item_or}
 use Rattle.hv_task_text.specs.Working.Reading.{AreOf}
 use Rattle.hv_task_text.specs.Written.{written_action}
 use Rattle.hv_task_text.specs.declared.fault.TaskKind.TheVariants as K
-use Rattle.hv_task_text.specs.declared.lists.Item.{Item}
+use Rattle.hv_task_text.specs.declared.atom_lists.Item.{Item}
 use Rattle.hv_task_text.proofs.Listed.{left}
 use Rattle.hv_task_text.proofs.read.action_lists.Given as goal
 

@@ -1,25 +1,25 @@
 use Rattle.std.proofs.Common.{◌+◌, List, refl, subst}
 use Rattle.hv_lines.specs.Judged.{Concludes, LineText}
 use Rattle.hv_checker.proofs.GoodLines.{good_concludes}
-use Rattle.hv_checker.proofs.Standing.{end_missing, end_refused, says_missing}
-use Rattle.hv_checker.specs.Stands.{CheckerState, SaysEnd, Stands}
+use Rattle.hv_checker.proofs.Checkers.{end_missing, end_refused, says_missing}
+use Rattle.hv_checker.specs.Checkers.{CheckerState, SaysEnd, HasJudged}
 use Rattle.hv_checker.specs.declared.piece.End.TheVariants as E
 use Rattle.hv_checker.proofs.checker.Checker.end.Goals as goal
 
 pub returns-then-concludes-clause-sound : goal.returns-then-concludes-clause-sound
 returns-then-concludes-clause-sound c = λ same.
     rw (← c.self.view_is)
-    (good_concludes c.self.inside.bench.setting c.self.inside.bench.lines c.table.ensures.good
+    (good_concludes c.self.inside.judging.setting c.self.inside.judging.lines c.table.ensures.good
     (subst Concludes c.table.ensures.lines (c.if-concludes.ensures.0 refl)))
 
 pub returns-in-Refused-clause-judged : goal.returns-in-Refused-clause-judged
 returns-in-Refused-clause-judged c =
-    subst (λ (s : CheckerState). (pieces : List LineText) → Stands s pieces
+    subst (λ (s : CheckerState). (pieces : List LineText) → HasJudged s pieces
     → SaysEnd s pieces (E.Refused c.self.inside.fed)) c.self.view_is
     (λ pieces stands. end_refused
     (record {
-      setting = c.self.inside.bench.setting;
-      lines = c.self.inside.bench.lines;
+      setting = c.self.inside.judging.setting;
+      lines = c.self.inside.judging.lines;
       fed = c.self.inside.fed;
       part = c.self.inside.part;
       stop = c.self.inside.stop;
@@ -28,12 +28,12 @@ returns-in-Refused-clause-judged c =
 
 pub returns-then-is_before_end-clause-judged : goal.returns-then-is_before_end-clause-judged
 returns-then-is_before_end-clause-judged c =
-    subst (λ (s : CheckerState). (pieces : List LineText) → Stands s pieces
+    subst (λ (s : CheckerState). (pieces : List LineText) → HasJudged s pieces
     → SaysEnd s pieces (E.Refused (c.self.inside.fed + 1))) c.self.view_is
     (λ pieces stands. end_missing
     (record {
-      setting = c.self.inside.bench.setting;
-      lines = c.self.inside.bench.lines;
+      setting = c.self.inside.judging.setting;
+      lines = c.self.inside.judging.lines;
       fed = c.self.inside.fed;
       part = c.self.inside.part;
       stop = c.self.inside.stop;
@@ -44,8 +44,8 @@ pub returns-then-is_before_end-clause-says : goal.returns-then-is_before_end-cla
 returns-then-is_before_end-clause-says c = rw (← c.self.view_is)
     (says_missing
     (record {
-      setting = c.self.inside.bench.setting;
-      lines = c.self.inside.bench.lines;
+      setting = c.self.inside.judging.setting;
+      lines = c.self.inside.judging.lines;
       fed = c.self.inside.fed;
       part = c.self.inside.part;
       stop = c.self.inside.stop;

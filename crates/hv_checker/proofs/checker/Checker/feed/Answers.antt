@@ -1,11 +1,11 @@
 use Rattle.std.proofs.Common.{◌≡◌, ◌+◌, ◌∙◌, ap, subst, sym, true}
 use Rattle.hv_lines.specs.Judged.{LineText}
 use Rattle.hv_lines.specs.Versions.{is_mark, part_after}
-use Rattle.hv_checker.proofs.Standing.{feeds_on, stands_fed, stands_stopped}
-use Rattle.hv_checker.specs.Heard.{FeedsOn}
-use Rattle.hv_checker.specs.Stands.{CheckerState}
+use Rattle.hv_checker.proofs.Checkers.{feeds_on, stands_fed, stands_stopped}
+use Rattle.hv_checker.specs.PieceVerdicts.{IsFeedAnswer}
+use Rattle.hv_checker.specs.Checkers.{CheckerState}
 use Rattle.hv_checker.specs.Texts.{text_of}
-use Rattle.hv_checker.specs.Working.Heard.{TakesOn}
+use Rattle.hv_checker.specs.Working.PieceVerdicts.{IsPlainFeedAnswer}
 use Rattle.hv_checker.specs.declared.piece.Fed.TheVariants as F
 use Rattle.hv_checker.proofs.checker.Checker.feed.Goals as goal
 
@@ -36,12 +36,13 @@ returns-then-is_mark-clause-stands c = λ pieces stands.
 
 pub returns-in-Ok-clause-answers : goal.returns-in-Ok-clause-answers
 returns-in-Ok-clause-answers c = λ going.
-    subst (λ (s : CheckerState). FeedsOn s.setting s.part s.lines c.accept.new.self.lines
+    subst (λ (s : CheckerState). IsFeedAnswer s.setting s.part s.lines c.accept.new.self.lines
     (text_of c.args.piece) c.in-Ok.outcome.fed) c.self.view_is
-    (feeds_on c.self.inside.bench.setting c.self.inside.part c.self.inside.bench.lines
+    (feeds_on c.self.inside.judging.setting c.self.inside.part c.self.inside.judging.lines
     c.accept.new.self.lines (text_of c.args.piece) c.in-Ok.outcome.fed
     (sym c.is_mark.ensures ∙ c.if-is_mark.false)
-    (subst (λ (p : LineText). TakesOn c.self.inside.bench.setting c.self.inside.bench.lines
+    (subst (λ (p : LineText). IsPlainFeedAnswer c.self.inside.judging.setting
+    c.self.inside.judging.lines
     c.accept.new.self.lines p c.in-Ok.outcome.fed) c.judged_as.ensures c.in-Ok.ensures.accepted))
 
 pub returns-in-Ok-clause-stands : goal.returns-in-Ok-clause-stands

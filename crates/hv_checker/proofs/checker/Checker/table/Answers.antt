@@ -4,9 +4,9 @@ use Rattle.hv_checker.proofs.checker.Checker.table.Goals as goal
 pub returns-clause-sound : goal.returns-clause-sound
 returns-clause-sound c =
     rw (← c.self.view_is)
-    (good_true c.self.inside.bench.setting c.self.inside.bench.lines c.table.ensures.good)
+    (good_true c.self.inside.judging.setting c.self.inside.judging.lines c.table.ensures.good)
 
 pub returns-clause-each : goal.returns-clause-each
 returns-clause-each c =
     rw (← c.self.view_is)
-    (good_each c.self.inside.bench.setting c.self.inside.bench.lines c.table.ensures.good)
+    (good_each c.self.inside.judging.setting c.self.inside.judging.lines c.table.ensures.good)

@@ -1,5 +1,5 @@
 use Rattle.std.proofs.Common.{ℕ, List, ◌∙◌, length, sym, ap, arith, subst}
-use Rattle.hv_clauses.specs.Clausal.{Formula}
+use Rattle.hv_clauses.specs.Clausal.{FormulaState}
 use Rattle.hv_clauses.specs.Implied.{AreImplied}
 use Rattle.hv_clauses.specs.Working.Implied.{ImpliesNumber}
 use Rattle.hv_clauses.specs.Working.Lists.{AreListsOf}
@@ -11,7 +11,7 @@ use Rattle.hv_clauses.proofs.formula.Formula.implied.Goals as goal
 
 pub number_of-key-requires : goal.number_of-key-requires
 number_of-key-requires g c =
-    let atoms = ap (λ (f : Formula). f.atoms) c.self.view_is in
+    let atoms = ap (λ (f : FormulaState). f.atoms) c.self.view_is in
     omega (arith, c.self.invariant.0, c.requires.atom, atoms)
 
 pub numbers_at-requires : goal.numbers_at-requires
@@ -36,7 +36,7 @@ returns g c =
     (coded_size (ImpliesNumber s.clauses) rows.codes s.lists.numbers.items rows.coded
     ∙ ap (λ (xs : List ℕ). length xs) (sym numbers)) in
     subst (λ clauses. AreImplied clauses c.args.literal c.numbers_at.result.now)
-    (ap (λ (f : Formula). f.clauses) c.self.view_is)
+    (ap (λ (f : FormulaState). f.clauses) c.self.view_is)
     (implied_is s.clauses c.args.literal c.numbers_at.result.now
     (subst (λ (key : ℕ). IsRow (ImpliesNumber s.clauses) key c.numbers_at.result.now)
     c.number_of-key.ensures

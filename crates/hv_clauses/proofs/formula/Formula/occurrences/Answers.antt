@@ -1,6 +1,6 @@
 use Rattle.std.proofs.Common.{ap, subst}
 use Rattle.hv_sets.specs.declared.literal.Literal.{Literal}
-use Rattle.hv_clauses.specs.Clausal.{Formula}
+use Rattle.hv_clauses.specs.Clausal.{FormulaState}
 use Rattle.hv_clauses.specs.Negative.{StandsNegatively}
 use Rattle.hv_clauses.specs.Rows.{IsRow}
 use Rattle.hv_clauses.specs.Working.Signed.{StandsAs}
@@ -14,7 +14,7 @@ pub returns : goal.returns
 returns g c =
     let s = c.self.inside in
     subst (λ clauses. IsRow (StandsNegatively clauses) c.args.atom c.standing.result.places.now)
-    (ap (λ (f : Formula). f.clauses) c.self.view_is)
+    (ap (λ (f : FormulaState). f.clauses) c.self.view_is)
     (negative_row s.clauses c.args.atom c.standing.result.places.now
     (subst (λ (l : Literal). IsRow (StandsAs l.positive s.clauses) l.atom
     c.standing.result.places.now) c.standing.ensures.literal

@@ -1,5 +1,5 @@
 use Rattle.std.proofs.Common.{ap, subst}
-use Rattle.hv_clauses.specs.Clausal.{Formula}
+use Rattle.hv_clauses.specs.Clausal.{FormulaState}
 use Rattle.hv_clauses.specs.Working.Occurrences.{IsIndexOf}
 use Rattle.hv_clauses.proofs.formula.Formula.occurs.Goals as goal
 
@@ -7,4 +7,4 @@ pub returns : goal.returns
 returns g c =
     let s = c.self.inside in
     subst (λ clauses. IsIndexOf clauses s.closure.occurs)
-    (ap (λ (f : Formula). f.clauses) c.self.view_is) c.self.invariant.2.index
+    (ap (λ (f : FormulaState). f.clauses) c.self.view_is) c.self.invariant.2.index

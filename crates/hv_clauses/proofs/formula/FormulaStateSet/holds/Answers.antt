@@ -2,7 +2,7 @@ use Rattle.std.proofs.Common.{◌≡◌, ◌∙◌, [], true, length, sym, ap, a
 use Rattle.std.proofs.lemmas.List.Folds.{list_all_at}
 use Rattle.std.proofs.lemmas.Option.{get_or_from_slice_get}
 use Rattle.hv_sets.specs.Truth.{in_clause, in_clauses}
-use Rattle.hv_clauses.specs.Clausal.{Formula, clause_at}
+use Rattle.hv_clauses.specs.Clausal.{FormulaState, clause_at}
 use Rattle.hv_clauses.proofs.Effects.{list_all_from}
 use Rattle.std.proofs.lemmas.List.{get_or_default}
 use Rattle.hv_clauses.proofs.formula.FormulaStateSet.holds.Goals as goal
@@ -11,7 +11,7 @@ pub loop-place-preserved : goal.loop-place-preserved
 loop-place-preserved g c =
     let s = c.args.state.now in
     let clauses = c.args.self.now.clauses in
-    let view = ap (λ (f : Formula). f.clauses) c.self.view_is in
+    let view = ap (λ (f : FormulaState). f.clauses) c.self.view_is in
     record {
       holds = below_more (λ k. in_clause (clause_at clauses k) s ≡ true) c.loop-place.place
           c.loop-place.invariant.holds
@@ -26,7 +26,7 @@ returns-then-not-is_true_in g c =
     let s = c.args.state.now in
     let end = c.len-place-end.ensures in
     let less = c.loop-place-test.true in
-    let view = ap (λ (f : Formula). f.clauses) c.self.view_is in
+    let view = ap (λ (f : FormulaState). f.clauses) c.self.view_is in
     sym (ap (λ cs. in_clauses cs s) (sym view)
     ∙ list_all_at (λ x. in_clause x s) c.self.inside.clauses c.loop-place.place [] (omega arith)
     (ap (λ x. in_clause x s) (get_or_from_slice_get c.self.inside.clauses c.loop-place.place
@@ -38,7 +38,7 @@ returns g c =
     let s = c.args.state.now in
     let end = c.len-place-end.ensures in
     let past = c.loop-place-test.false in
-    let view = ap (λ (f : Formula). length f.clauses) c.self.view_is in
+    let view = ap (λ (f : FormulaState). length f.clauses) c.self.view_is in
     sym (list_all_from (λ x. in_clause x s) c.args.self.now.clauses
     (λ k d less. ap (λ x. in_clause x s) (get_or_default c.args.self.now.clauses k d [] less)
     ∙ c.loop-place.invariant.holds k (omega arith)))

@@ -1,7 +1,7 @@
 use Rattle.std.proofs.Common.{sym, subst}
 use Rattle.hv_clauses.specs.Kinded.{CompletesClauses}
 use Rattle.hv_clauses.specs.Working.Clausal.{Completes}
-use Rattle.hv_clauses.specs.Working.Posed.{InEach, Problem, width}
+use Rattle.hv_clauses.specs.Working.Posed.{InEach, ProblemState, width}
 use Rattle.hv_clauses.specs.Working.Problem.{AreEachSettled}
 use Rattle.hv_clauses.proofs.Deciding.{positive_completes}
 use Rattle.hv_clauses.proofs.problem.Problem.completion.Goals as goal
@@ -10,7 +10,8 @@ pub returns-clause-completes : goal.returns-clause-completes
 returns-clause-completes g c =
     let how = c.completion.result in
     let s = c.self.inside in
-    subst (λ (p : Problem). Completes how (InEach p) (AreEachSettled p) (width p)) c.self.view_is
+    subst (λ (p : ProblemState). Completes how (InEach p) (AreEachSettled p) (width p))
+    c.self.view_is
     (positive_completes (record {
       task = s.task.now;
       store = s.store.now;

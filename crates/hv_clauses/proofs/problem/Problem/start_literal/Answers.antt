@@ -1,7 +1,7 @@
 use Rattle.std.proofs.Common.{◌∙◌, ap}
 use Rattle.hv_task.specs.State.{names_atom}
 use Rattle.hv_sets.specs.declared.literal.Literal.{Literal}
-use Rattle.hv_clauses.specs.Working.Posed.{Problem}
+use Rattle.hv_clauses.specs.Working.Posed.{ProblemState}
 use Rattle.hv_clauses.proofs.OperandClauses.{names_from_test}
 use Rattle.hv_clauses.proofs.problem.Problem.start_literal.Goals as goal
 
@@ -11,4 +11,4 @@ returns g c =
     ap {B = Literal} (λ positive. record { atom = c.args.atom; positive = positive })
     (names_from_test c.has.result p.task.now.start c.start.result.now c.args.atom c.has.ensures
     c.start.ensures.start
-    ∙ ap (λ (q : Problem). names_atom q.task.start c.args.atom) c.self.view_is)
+    ∙ ap (λ (q : ProblemState). names_atom q.task.start c.args.atom) c.self.view_is)

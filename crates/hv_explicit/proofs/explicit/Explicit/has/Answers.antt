@@ -3,7 +3,7 @@ use Rattle.std.proofs.Math.Logic.Iff
 use Rattle.hv_sets.specs.Truth.{in_states}
 use Rattle.hv_explicit.specs.Codes.{IsBelow}
 use Rattle.hv_explicit.specs.Working.Codes.{HasListed}
-use Rattle.hv_explicit.specs.Listing.{Listing, in_listing}
+use Rattle.hv_explicit.specs.ListedStates.{ListedStates, in_listing}
 use Rattle.hv_explicit.specs.Working.Listing.{IsEnteredState}
 use Rattle.hv_explicit.proofs.LookUp.{listed_decides, listed_first, same_tests}
 use Rattle.hv_explicit.proofs.explicit.Explicit.has.Goals as goal
@@ -12,12 +12,12 @@ pub returns : goal.returns
 returns g c = λ state size agree.
     let held = g.A.Sought.has c.args.held.now in
     let mine : length state ≡ c.self.inside.atoms = size
-    ∙ sym (ap (λ (set : Listing). set.atoms) c.self.view_is) in
+    ∙ sym (ap (λ (set : ListedStates). set.atoms) c.self.view_is) in
     let below : IsBelow c.self.inside.atoms held = subst
-    (λ (set : Listing). IsBelow set.atoms held) (sym c.self.view_is) c.requires in
+    (λ (set : ListedStates). IsBelow set.atoms held) (sym c.self.view_is) c.requires in
     let found : (c.look_up.result ≡ true) ↔ IsEnteredState held c.self.inside.states
     c.self.inside.firsts.places.items = c.look_up.ensures in
-    subst (λ (set : Listing). c.look_up.result ≡ in_listing set state) c.self.view_is
+    subst (λ (set : ListedStates). c.look_up.result ≡ in_listing set state) c.self.view_is
     (same_tests {P = HasListed held c.self.inside.states} c.look_up.result
     (in_states c.self.inside.atoms c.self.inside.states state)
     (Iff.trans found (listed_first held c.self.inside.states c.self.inside.firsts.places.items

@@ -2,7 +2,7 @@ use Rattle.std.proofs.Common.{◌<◌, subst}
 use Rattle.std.specs.List.{All}
 use Rattle.std.specs.Option.{IfSome}
 use Rattle.std.specs.Result.{IfOk}
-use Rattle.hv_explicit.specs.Listing.{Listing}
+use Rattle.hv_explicit.specs.ListedStates.{ListedStates}
 use Rattle.hv_explicit.specs.Working.Holders.{AreHolders, listed_places}
 use Rattle.hv_explicit.proofs.Holding.{are_holders, held_index, zip_found}
 use Rattle.hv_explicit.proofs.explicit.Explicit.held_by.Goals as goal
@@ -11,7 +11,7 @@ pub returns-in-Some : goal.returns-in-Some
 returns-in-Some c =
     let s = c.self.inside in
     let h = c.in-Some.holders in
-    subst (λ (set : Listing). IfOk c.holding_all.result
+    subst (λ (set : ListedStates). IfOk c.holding_all.result
     (λ o. IfSome o (λ part. AreHolders set.states c.args.atoms.now (listed_places part))))
     c.self.view_is
     (zip_found _ _ _ c.holding_all.result c.holding_all.ensures.only c.holding_all.ensures.all

@@ -1,13 +1,13 @@
 use Rattle.std.proofs.Common.{◌≡◌, ◌+◌, ◌∷◌, drop, sym, subst, arith}
 use Rattle.std.proofs.lemmas.Option.{get_or_from_slice_get}
 use Rattle.hv_sets.specs.Cubes.{SpeakBelow}
-use Rattle.hv_explicit.specs.Listing.{Listing, full_cubes}
+use Rattle.hv_explicit.specs.ListedStates.{ListedStates, full_cubes}
 use Rattle.hv_explicit.proofs.Listing.{cube_taken, full_below}
 use Rattle.hv_explicit.proofs.explicit.ExplicitInside.inside_next.Goals as goal
 
 pub returns-clause-step : goal.returns-clause-step
 returns-clause-step c =
-    subst (λ (set : Listing). drop c.args.cursor.now.place (full_cubes set) ≡ c.fill.new.cube
+    subst (λ (set : ListedStates). drop c.args.cursor.now.place (full_cubes set) ≡ c.fill.new.cube
     ∷ drop (c.args.cursor.now.place + 1) (full_cubes set))
     c.self.view_is
     (cube_taken c.self.inside.atoms c.self.inside.states c.args.cursor.now.place c.get.result.now
@@ -18,6 +18,6 @@ returns-clause-step c =
 
 pub returns-clause-cube : goal.returns-clause-cube
 returns-clause-cube c =
-    subst (λ (set : Listing). SpeakBelow set.atoms c.fill.new.cube) c.self.view_is
+    subst (λ (set : ListedStates). SpeakBelow set.atoms c.fill.new.cube) c.self.view_is
     (subst (SpeakBelow c.self.inside.atoms) (sym c.in_ok-fill.ensures)
     (full_below c.self.inside.atoms c.get.result.now))

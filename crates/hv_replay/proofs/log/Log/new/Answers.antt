@@ -1,5 +1,5 @@
 use Rattle.std.proofs.Common.{subst}
-use Rattle.hv_explicit.specs.Listing.{AreStates}
+use Rattle.hv_explicit.specs.ListedStates.{AreStates}
 use Rattle.hv_replay.proofs.Kept.{states_below}
 use Rattle.hv_replay.proofs.log.Log.new.Goals as goal
 

@@ -1,0 +1,62 @@
+//! The queries of a statement, one after the other.
+
+ghost use Rattle.std.specs.Prelude.{◌≡◌, IfOk, length, map};
+ghost use Rattle.hv_task.specs.Strips.{atoms};
+ghost use Rattle.hv_sets.specs.Query.{HasAnchor, is_clash};
+ghost use Rattle.hv_sets.specs.Room.{KeepsLengths};
+ghost use Rattle.hv_lines.specs.Verdicts.{IsDecided};
+ghost use Rattle.hv_basic.specs.Working.Asked.{with_action};
+ghost use Rattle.hv_basic.specs.Working.Deciding.{AreAllReady};
+
+use crate::case::Case;
+use hv_lines::{Clash, Verdict};
+use hv_sets::{Family, Finding, Query, Scratch};
+use hv_task::State;
+use std::alloc::{AllocError, Global};
+
+/// The verdict of the queries for these actions: the first that exceeds the budget or has a
+/// counterexample decides.
+pub(crate) fn walk<F: Family>(
+    alloc: Global,
+    case: &Case<'_>,
+    sets: &F,
+    query: &mut Query,
+    actions: &[Option<u32>],
+    scratch: &mut Scratch,
+) -> Result<Verdict, AllocError>
+    requires ready { AreAllReady (F.count sets.now)
+        (length case.now.task.now.actions) query.old actions.now }
+    requires anchor { F.wants_anchor sets.now → HasAnchor query.old }
+    requires task { F.is_over sets.now (atoms case.now.task.now) }
+    ensures answer { IfOk result (IsDecided
+        (λ q. F.passes sets.now case.now.task.now q case.now.budget)
+        (is_clash case.now.task.now (F.has sets.now)) (atoms case.now.task.now)
+        (map (with_action query.old) actions.now)) }
+    ensures lengths { KeepsLengths scratch.old scratch.new }
+    ensures kept { query.new.negative ≡ query.old.negative }
+{
+    for action in actions {
+        query.action = *action;
+        match sets.find(alloc, case.task, query, case.budget, scratch)? {
+            Finding::Empty => {}
+            Finding::Over => return Ok(Verdict::Over),
+            Finding::Clash => {
+                let state = copy_of(alloc, scratch.state())?;
+                return Ok(Verdict::False(Clash {
+                    action: *action,
+                    state: Some(state),
+                }));
+            }
+        }
+    }
+    Ok(Verdict::True)
+}
+
+/// A copy of the state.
+pub(crate) fn copy_of(alloc: Global, state: &State) -> Result<State, AllocError>
+    ensures { IfOk result (λ copy. copy ≡ state.now) }
+{
+    let mut copy = State::empty(alloc, state.atoms())?;
+    copy.copy_from(state);
+    Ok(copy)
+}

@@ -1,0 +1,9 @@
+use Rattle.std.proofs.Common.{◌≡◌, drop}
+use Rattle.hv_bdd.specs.Live.{moves}
+use Rattle.hv_bdd.specs.Tuples.{is_live}
+use Rattle.hv_bdd.proofs.tuple_search.Search.is_live.Given as goal
+
+abbrev pub invariant-loop-k : goal.invariant-loop-k
+invariant-loop-k l =
+    is_live (moves l.self.setting) (drop l.k l.self.asked) (drop l.k l.tuple)
+    ≡ is_live (moves l.self.setting) l.self.asked l.tuple

@@ -1,0 +1,12 @@
+use Rattle.std.proofs.Common.{◌≡◌, ◌-◌}
+use Rattle.hv_bdd.specs.Working.Search.{Explored}
+use Rattle.hv_bdd.proofs.tuple_search.Search.reach.Given as goal
+
+abbrev pub invariant-loop-done : goal.invariant-loop-done
+invariant-loop-done l = record {
+  explored : Explored l.self l.done l.reached;
+  same : l.self ≡ l.fn.self;
+}
+
+abbrev pub decreases-loop-done : goal.decreases-loop-done
+decreases-loop-done l = l.budget - l.done

@@ -1,0 +1,128 @@
+//! Queries about nodes.
+
+ghost use Rattle.std.specs.Prelude.{◌≡◌, ◌<◌, ◌∷◌, [], length, IfOk, IfSome};
+ghost use Rattle.hv_task.specs.Strips.{atoms};
+ghost use Rattle.hv_sets.specs.Cost.{IsAnswer};
+ghost use Rattle.hv_sets.specs.Query.{action_of, is_clash};
+ghost use Rattle.hv_bdd.specs.Nodes.{in_node, node_count};
+ghost use Rattle.hv_bdd.specs.Live.{LivePass, asked_of, changed_by, needed_by, operands_of};
+
+use crate::asked::Asked;
+use crate::atom_bits::{AtomBits, ListedState};
+use crate::diagrams::Diagrams;
+use crate::goal::Goal;
+use crate::tuple_search::Search;
+use hv_sets::{Family, Finding, Operand, Query, Scratch};
+use hv_task::{State, Task};
+use std::alloc::{AllocError, Global};
+
+impl Family for Diagrams {
+    ghost has = { in_node };
+
+    ghost is_over = { λ list n. list.atoms ≡ n };
+
+    ghost count = { node_count };
+
+    ghost wants_anchor = { λ _. ⊥ };
+
+    ghost passes = { LivePass };
+
+    fn find(
+        &self,
+        alloc: Global,
+        task: &Task,
+        query: &Query,
+        budget: u64,
+        scratch: &mut Scratch,
+    ) -> Result<Finding, AllocError> {
+        let _atoms = self.atoms();
+        let atoms = task.atoms();
+        scratch.reserve(atoms, 0, 0)?;
+        let asked = operands_of(alloc, query)?;
+        let operands = asked.as_slice();
+        let held = ListedState::new(atoms, task.goal());
+        let goal = Goal::of(self, held, operands);
+        let mut search = Search::new(
+            self,
+            ListedState::new(atoms, task.start()),
+            goal,
+            needed_by(task, query.action),
+            changed_by(task, query.action),
+            operands,
+        );
+        search.answer(alloc, task, query, budget, &mut scratch.state)
+    }
+}
+
+impl Search<'_> {
+    ghost use Rattle.hv_bdd.specs.Working.Search.{search_for};
+
+    // The answer to the query that it is for.
+    fn answer(
+        &mut self,
+        alloc: Global,
+        task: &Task,
+        query: &Query,
+        budget: u64,
+        state: &mut State,
+    ) -> Result<Finding, AllocError>
+        requires query { self.old ≡ search_for self.old.setting.list task.now query.now }
+        requires task { self.old.setting.list.atoms ≡ atoms task.now }
+        requires state { length state.old ≡ atoms task.now }
+        ensures { IfOk result (λ found.
+            IsAnswer found (LivePass self.old.setting.list task.now query.now budget)
+            (atoms task.now) (is_clash task.now (in_node self.old.setting.list) query.now)
+            state.new) }
+    {
+        let _atoms = task.atoms();
+        let _nodes = self.count();
+        self.find(alloc, budget, state)
+    }
+}
+
+// The operands of a query as the places of its tuples: the positive ones, and then the negative
+// ones.
+fn operands_of(alloc: Global, query: &Query) -> Result<Vec<Asked>, AllocError>
+    ensures { IfOk result (λ asked. asked.items ≡ operands_of query.now) }
+{
+    let mut asked = Vec::new(alloc);
+    for operand in query.positive.as_slice() {
+        asked.push(asked_of(true, operand))?;
+    }
+    for operand in query.negative.as_slice() {
+        asked.push(asked_of(false, operand))?;
+    }
+    Ok(asked)
+}
+
+fn asked_of(positive: bool, operand: &Operand) -> Asked
+    ensures { result ≡ asked_of positive operand.now }
+{
+    Asked {
+        which: operand.which,
+        after: operand.after,
+        positive,
+    }
+}
+
+// The bits that an action needs.
+fn needed_by<'a>(task: &'a Task, action: Option<u32>) -> AtomBits<'a>
+    requires { IfSome action (λ a. a < length task.now.actions) }
+    ensures { result ≡ needed_by (atoms task.now) (action_of task.now action) }
+{
+    match action {
+        None => AtomBits::none(task.atoms()),
+        Some(number) => AtomBits::needed(task.atoms(), task.action(number)),
+    }
+}
+
+// The bits that an action changes.
+fn changed_by<'a>(task: &'a Task, action: Option<u32>) -> AtomBits<'a>
+    requires { IfSome action (λ a. a < length task.now.actions) }
+    ensures { result ≡ changed_by (atoms task.now) (action_of task.now action) }
+{
+    match action {
+        None => AtomBits::none(task.atoms()),
+        Some(number) => AtomBits::changed(task.atoms(), task.action(number)),
+    }
+}

@@ -1,0 +1,445 @@
+//! The search through live tuples: how a tuple moves.
+
+ghost use Rattle.std.specs.Prelude.{◌≡◌, ◌<◌, ◌≤◌, ◌-◌, true, cond, length, option_map, IfOk};
+ghost use Rattle.std.specs.Prelude.{IfSome, slice_index_or};
+ghost use Rattle.std.specs.List.{All};
+ghost use Rattle.hv_task.specs.Atoms.{IsNext};
+ghost use Rattle.hv_task.specs.State.{names_atom};
+ghost use Rattle.hv_sets.specs.declared.operand.Which.TheVariants as W;
+ghost use Rattle.hv_bdd.specs.Working.Graphs.{limit};
+ghost use Rattle.hv_bdd.specs.Live.{asks_goal, first_asked, graph_child, graph_top, is_marked};
+ghost use Rattle.hv_bdd.specs.Live.{bit_mark_of, moves, bit_or, root, roots};
+ghost use Rattle.hv_bdd.specs.Nodes.{node_count};
+ghost use Rattle.hv_bdd.specs.Order.{atom_at};
+ghost use Rattle.hv_bdd.specs.Tuples.{is_live, least, move_all, move_one, next};
+
+use crate::asked::Asked;
+use crate::atom_bits::{AtomBits, ListedState};
+use crate::diagrams::Diagrams;
+use crate::goal::Goal;
+use hv_sets::Which;
+use hv_task::{AtomList, Atoms, Hint};
+use smallvec::SmallVec;
+use std::alloc::{AllocError, Global};
+use std::marker::Model;
+
+/// A node for each operand.
+pub(crate) type Tuple = SmallVec<u32, 8>;
+
+/// From which tuple a tuple was reached, and by which bit.
+#[derive(Clone, Copy)]
+pub(crate) struct Link {
+    pub parent: usize,
+    pub bit: bool,
+}
+
+/// What tuples move through, and the operands that are asked.
+#[derive(Drop)]
+pub(crate) struct Search<'a> {
+    nodes: &'a Diagrams,
+    // The initial state.
+    start: ListedState<'a>,
+    // The atoms of the goal.
+    goal: Goal<'a>,
+    // The bit that the state needs at an atom, if it needs one.
+    needed: AtomBits<'a>,
+    // The bit of an atom after the action, if the action changes it.
+    changed: AtomBits<'a>,
+    asked: &'a [Asked],
+}
+
+impl<'a> Model for Search<'a> {
+    ghost use Rattle.std.specs.Prelude.{◌≡◌, IfSome, length};
+    ghost use Rattle.hv_bdd.specs.Working.Search.{HasPlaces, IsTupleSearch, TupleSearch};
+
+    ghost Value = { TupleSearch };
+
+    ghost view = { λ s. record {
+      setting = record {
+        list = s.nodes.now;
+        start = s.start;
+        goal = s.goal.held;
+        needed = s.needed;
+        changed = s.changed;
+      };
+      asked = s.asked.now;
+    } };
+
+    ghost invariant = { λ s. IsTupleSearch record {
+      setting = record {
+        list = s.nodes.now;
+        start = s.start;
+        goal = s.goal.held;
+        needed = s.needed;
+        changed = s.changed;
+      };
+      asked = s.asked.now;
+    } × IfSome s.goal.places (HasPlaces s.nodes.now s.goal.held)
+        × (length s.goal.held ≡ s.nodes.now.atoms) };
+}
+
+impl<'a> Search<'a> {
+    ghost use Rattle.hv_bdd.specs.Working.Search.{HasPlaces, IsAskable, IsTupleSearch};
+
+    /// The search for these operands.
+    pub(crate) fn new(
+        nodes: &'a Diagrams,
+        start: ListedState<'a>,
+        goal: Goal<'a>,
+        needed: AtomBits<'a>,
+        changed: AtomBits<'a>,
+        asked: &'a [Asked],
+    ) -> Search<'a>
+        requires tuples { IsTupleSearch record {
+          setting = record {
+            list = nodes.now;
+            start = start;
+            goal = goal.held;
+            needed = needed;
+            changed = changed;
+          };
+          asked = asked.now;
+        } }
+        requires places { IfSome goal.places (HasPlaces nodes.now goal.held) }
+        requires goal { length goal.held ≡ nodes.now.atoms }
+        ensures setting { result.setting
+            ≡ record {
+              list = nodes.now;
+              start = start.entry;
+              goal = goal.entry.held;
+              needed = needed.entry;
+              changed = changed.entry;
+            } }
+        ensures asked { result.asked ≡ asked.now }
+    {
+        Search {
+            nodes,
+            start,
+            goal,
+            needed,
+            changed,
+            asked,
+        }
+    }
+
+    /// How many atoms there are.
+    pub(crate) fn atoms(&self) -> u32
+        ensures atoms { result ≡ self.now.setting.list.atoms }
+        ensures search { IsTupleSearch self.now }
+    {
+        self.nodes.atoms()
+    }
+
+    /// How many nodes there are.
+    pub(crate) fn count(&self) -> usize
+        ensures count { result ≡ node_count self.now.setting.list }
+        ensures search { IsTupleSearch self.now }
+    {
+        self.nodes.count()
+    }
+
+    /// The atom at a place.
+    pub(crate) fn atom_at(&self, place: u32) -> u32
+        requires { place < self.now.setting.list.atoms }
+        ensures atom { result ≡ atom_at self.now.setting.list place }
+        ensures within { result < self.now.setting.list.atoms }
+    {
+        self.nodes.atom_at(place)
+    }
+
+    /// The bit that the state needs at an atom, if it needs one.
+    pub(crate) fn needs(&self, atom: u32) -> Option<bool>
+        requires { atom < self.now.setting.list.atoms }
+        ensures { result ≡ bit_mark_of self.now.setting.needed atom }
+    {
+        self.needed.read(atom)
+    }
+
+    /// Whether the goal's places may come to be sorted.
+    pub(crate) fn may_sort(&self) -> bool {
+        self.goal.left > 0
+    }
+
+    /// Counts what it costs to look for the place of the goal behind this one, and sorts its places
+    /// once that comes to as much as they are.
+    pub(crate) fn spend(&mut self, alloc: Global, place: u32) -> Result<(), AllocError>
+        ensures { self.new ≡ self.old }
+    {
+        if place >= self.atoms() || !self.goal.held.has(self.atom_at(place)) {
+            return Ok(());
+        }
+        let cost = self.nodes.cost_of_next(&self.goal.held, place);
+        if cost < self.goal.left {
+            self.goal.left -= cost;
+            return Ok(());
+        }
+        self.goal.left = 0;
+        let places = self.nodes.places_of(alloc, &self.goal.held)?;
+        self.goal.places = Some(places);
+        Ok(())
+    }
+
+    // The operand of a place of the tuples.
+    fn operand(&self, place: usize) -> &'a Asked
+        requires { place < length self.now.asked }
+        ensures at { result.now ≡ slice_index_or self.now.asked place result.now }
+        ensures askable { IsAskable self.now.setting result.now.which }
+    {
+        let asked = self.asked;
+        &asked[place]
+    }
+}
+
+impl Search<'_> {
+    ghost use Rattle.hv_bdd.specs.Working.Search.{IsAskable, IsTuple};
+
+    // The root of an operand.
+    pub(crate) fn root(&self, which: Which) -> u32
+        requires { IsAskable self.now.setting which }
+        ensures { result ≡ root self.now.setting which }
+    {
+        let _atoms = self.atoms();
+        match which {
+            Which::Empty => 0,
+            Which::Start => self.start_from(0),
+            Which::Goal => self.goal_from(0),
+            Which::Set(number) => number as u32,
+        }
+    }
+
+    // The place for which a node of an operand asks.
+    pub(crate) fn top(&self, which: Which, node: u32) -> u32
+        requires { node < limit self.now.setting which }
+        ensures { result ≡ graph_top self.now.setting which node }
+    {
+        match which {
+            Which::Set(_) => self.nodes.top(node),
+            _ if node < 2 => self.atoms(),
+            _ => node - 2,
+        }
+    }
+
+    // The node to which a bit leads.
+    pub(crate) fn child(&self, which: Which, node: u32, bit: bool) -> u32
+        requires askable { IsAskable self.now.setting which }
+        requires inner { 2 ≤ node }
+        requires node { node < limit self.now.setting which }
+        ensures { result ≡ graph_child self.now.setting which node bit }
+    {
+        match which {
+            Which::Empty => 0,
+            Which::Start => self.start_child(node, bit),
+            Which::Goal => self.goal_child(node, bit),
+            Which::Set(_) => self.nodes.child(node, bit),
+        }
+    }
+
+    // The node of the initial state's chain for a place, or node 1 past the last.
+    fn start_from(&self, place: u32) -> u32
+        requires askable { IsAskable self.now.setting W.Start }
+        requires place { place ≤ self.now.setting.list.atoms }
+        ensures { result ≡ first_asked (λ v. true) (self.now.setting.list.atoms - place) place }
+    {
+        if place < self.atoms() { place + 2 } else { 1 }
+    }
+
+    // The first node of the goal's chain from a place on, or node 1 where there is none.
+    fn goal_from(&self, place: u32) -> u32
+        requires askable { IsAskable self.now.setting W.Goal }
+        requires place { place ≤ self.now.setting.list.atoms }
+        ensures { result
+            ≡ first_asked (asks_goal self.now.setting) (self.now.setting.list.atoms - place) place }
+    {
+        match self.next_of_goal(place) {
+            Some(next) => next + 2,
+            None => 1,
+        }
+    }
+
+    // The least place from this one on whose atom is one of the goal.
+    fn next_of_goal(&self, from: u32) -> Option<u32>
+        requires { IsAskable self.now.setting W.Goal }
+        ensures next { IsNext (asks_goal self.now.setting) from result }
+        ensures within { IfSome result (λ v. v < self.now.setting.list.atoms) }
+    {
+        match &self.goal.places {
+            Some(places) => next_named(places, from),
+            None => self.nodes.next_place(&self.goal.held, from),
+        }
+    }
+
+    fn start_child(&self, node: u32, bit: bool) -> u32
+        requires askable { IsAskable self.now.setting W.Start }
+        requires inner { 2 ≤ node }
+        requires node { node < limit self.now.setting W.Start }
+        ensures { result ≡ graph_child self.now.setting W.Start node bit }
+    {
+        if bit == self.start.has(self.atom_at(node - 2)) {
+            self.start_from(node - 1)
+        } else {
+            0
+        }
+    }
+
+    fn goal_child(&self, node: u32, bit: bool) -> u32
+        requires askable { IsAskable self.now.setting W.Goal }
+        requires inner { 2 ≤ node }
+        requires node { node < limit self.now.setting W.Goal }
+        ensures { result ≡ graph_child self.now.setting W.Goal node bit }
+    {
+        if bit { self.goal_from(node - 1) } else { 0 }
+    }
+
+    // The bit that an operand sees where the state before the action has this bit at a place.
+    fn seen(&self, after: bool, place: u32, bit: bool) -> bool
+        requires { place < self.now.setting.list.atoms }
+        ensures { result
+            ≡ cond after
+            (bit_or (bit_mark_of self.now.setting.changed
+            (atom_at self.now.setting.list place)) bit) bit }
+    {
+        if after {
+            bit_or(self.changed.read(self.atom_at(place)), bit)
+        } else {
+            bit
+        }
+    }
+
+    // Whether the state may have this bit at a place.
+    fn allows(&self, place: u32, bit: bool) -> bool
+        requires { place < self.now.setting.list.atoms }
+        ensures { result
+            ≡ is_marked (bit_mark_of self.now.setting.needed
+            (atom_at self.now.setting.list place)) bit }
+    {
+        is_marked(self.needs(self.atom_at(place)), bit)
+    }
+
+    /// The least place for which a node of the tuple asks, or the place past all atoms.
+    pub(crate) fn least(&self, tuple: &[u32]) -> u32
+        requires { IsTuple self.now tuple.now }
+        ensures { result ≡ least (moves self.now.setting) self.now.asked tuple.now }
+    {
+        let mut least = self.atoms();
+        for (k, node) in tuple.iter().enumerate() {
+            least = least.min(self.top(self.operand(k).which, *node));
+        }
+        least
+    }
+
+    // Whether no place rules its operand out.
+    pub(crate) fn is_live(&self, tuple: &[u32]) -> bool
+        requires { IsTuple self.now tuple.now }
+        ensures { result ≡ is_live (moves self.now.setting) self.now.asked tuple.now }
+    {
+        for (k, node) in tuple.iter().enumerate() {
+            if *node == ruled_out(self.operand(k).positive) {
+                return false;
+            }
+        }
+        true
+    }
+
+    // The tuple to which a bit at a place leads.
+    fn move_all(
+        &self,
+        alloc: Global,
+        tuple: &[u32],
+        place: u32,
+        bit: bool,
+    ) -> Result<Tuple, AllocError>
+        requires tuple { IsTuple self.now tuple.now }
+        requires place { place < self.now.setting.list.atoms }
+        ensures { IfOk result (λ moved.
+            moved.items
+            ≡ move_all (moves self.now.setting) place bit self.now.asked tuple.now) }
+    {
+        let mut moved = SmallVec::new(alloc);
+        for (k, node) in tuple.iter().enumerate() {
+            moved.push(self.move_one(self.operand(k), *node, place, bit))?;
+        }
+        Ok(moved)
+    }
+
+    // The node to which a bit at a place leads.
+    fn move_one(&self, asked: &Asked, node: u32, place: u32, bit: bool) -> u32
+        requires askable { IsAskable self.now.setting asked.now.which }
+        requires node { node < limit self.now.setting asked.now.which }
+        requires place { place < self.now.setting.list.atoms }
+        ensures { result ≡ move_one (moves self.now.setting) place bit asked.now node }
+    {
+        if self.top(asked.which, node) == place {
+            self.child(asked.which, node, self.seen(asked.after, place, bit))
+        } else {
+            node
+        }
+    }
+
+    // The live tuple to which a bit at the least place leads, if there is one.
+    pub(crate) fn next(
+        &self,
+        alloc: Global,
+        tuple: &[u32],
+        place: u32,
+        bit: bool,
+    ) -> Result<Option<Tuple>, AllocError>
+        requires tuple { IsTuple self.now tuple.now }
+        requires least { place ≡ least (moves self.now.setting) self.now.asked tuple.now }
+        ensures { IfOk result (λ to.
+            option_map (λ t. t.items) to
+            ≡ next (moves self.now.setting) self.now.asked tuple.now bit) }
+    {
+        if place >= self.atoms() || !self.allows(place, bit) {
+            return Ok(None);
+        }
+        let moved = self.move_all(alloc, tuple, place, bit)?;
+        if !self.is_live(moved.as_slice()) {
+            return Ok(None);
+        }
+        Ok(Some(moved))
+    }
+
+    // The tuple of the roots.
+    pub(crate) fn roots(&self, alloc: Global) -> Result<Tuple, AllocError>
+        ensures { IfOk result (λ tuple. tuple.items ≡ roots self.now.setting self.now.asked) }
+    {
+        let mut tuple = SmallVec::new(alloc);
+        for asked in self.asked {
+            tuple.push(self.root(asked.which))?;
+        }
+        Ok(tuple)
+    }
+}
+
+// The least of these places from this one on.
+fn next_named(places: &AtomList, from: u32) -> Option<u32>
+    ensures { IsNext (names_atom places.now) from result }
+{
+    let mut hint = Hint::default();
+    places.next(from, &mut hint)
+}
+
+fn bit_or(mark: Option<bool>, bit: bool) -> bool
+    ensures { result ≡ bit_or mark bit }
+{
+    match mark {
+        None => bit,
+        Some(marked) => marked,
+    }
+}
+
+fn is_marked(mark: Option<bool>, bit: bool) -> bool
+    ensures { result ≡ is_marked mark bit }
+{
+    match mark {
+        None => true,
+        Some(marked) => marked == bit,
+    }
+}
+
+// The end that rules an operand out.
+fn ruled_out(positive: bool) -> u32
+    ensures { result ≡ cond positive 0 1 }
+{
+    if positive { 0 } else { 1 }
+}

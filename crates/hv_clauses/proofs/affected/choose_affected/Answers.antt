@@ -1,0 +1,41 @@
+use Rattle.std.proofs.Common.{◌∙◌, subst}
+use Rattle.hv_clauses.specs.Clausal.{AreClauses}
+use Rattle.hv_clauses.specs.Working.Occurrences.{IsIndexOf}
+use Rattle.hv_clauses.specs.Working.Posed.{formulas}
+use Rattle.hv_clauses.proofs.Affected.{met_from_touched}
+use Rattle.hv_clauses.proofs.affected.choose_affected.Goals as goal
+
+pub try_value-requires-clause-touched : goal.try_value-requires-clause-touched
+try_value-requires-clause-touched g c =
+    let p = c.args.problem.now in
+    record {
+      asked_twice = c.requires.asked_twice;
+      which = c.in-Set.is;
+      below = subst (λ n. AreClauses n (formulas p c.in-Set.number)) c.set-set.ensures.atoms
+          (subst (λ cs. AreClauses c.set-set.result.now.atoms cs)
+          (c.clauses-clauses.ensures.clauses ∙ c.set-set.ensures.clauses)
+          c.clauses-clauses.ensures.below);
+      index = subst (λ cs. IsIndexOf cs c.occurs.result.now) c.set-set.ensures.clauses
+          c.occurs.ensures;
+    }
+
+pub try_value-requires-2-clause-touched : goal.try_value-requires-2-clause-touched
+try_value-requires-2-clause-touched g c =
+    let p = c.args.problem.now in
+    record {
+      asked_twice = c.requires.asked_twice;
+      which = c.in-Set.is;
+      below = subst (λ n. AreClauses n (formulas p c.in-Set.number)) c.set-set.ensures.atoms
+          (subst (λ cs. AreClauses c.set-set.result.now.atoms cs)
+          (c.clauses-clauses.ensures.clauses ∙ c.set-set.ensures.clauses)
+          c.clauses-clauses.ensures.below);
+      index = subst (λ cs. IsIndexOf cs c.occurs.result.now) c.set-set.ensures.clauses
+          c.occurs.ensures;
+    }
+
+pub returns-clause-met : goal.returns-clause-met
+returns-clause-met g c =
+    let p = c.args.problem.now in
+    met_from_touched p c.args.operand c.in-Set.number c.requires.asked_twice c.in-Set.is
+    c.try_value.new.state c.try_value-2.new.state
+    c.if-try_value.ensures.met c.try_value-2.result c.try_value-2.ensures.met

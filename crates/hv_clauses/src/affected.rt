@@ -1,0 +1,167 @@
+//! The choices that an effect can make false, where the set of the one negative operand is a
+//! positive operand at the other time.
+
+ghost use Rattle.std.specs.Prelude.{◌≡◌, ◌<◌, Some, length, slice_index, true};
+ghost use Rattle.std.specs.List.{Contains};
+ghost use Rattle.hv_clauses.specs.Working.Found.{AreFollowedRoots, IsAskedTwice, IsMet, IsMetAmong};
+ghost use Rattle.hv_clauses.specs.Working.Found.{IsMetBelow};
+ghost use Rattle.hv_clauses.specs.Working.Occurrences.{AreStanding, entry_or_none, no_literal};
+ghost use Rattle.hv_clauses.specs.Working.Occurrences.{turning_sign};
+ghost use Rattle.hv_clauses.specs.Working.Posed.{choices, formulas, width};
+ghost use Rattle.hv_clauses.specs.Working.Problem.{FitsChoice};
+ghost use Rattle.hv_clauses.specs.Working.Affected.{IsAffected, IsTurnedBy};
+ghost use Rattle.hv_clauses.specs.Working.Trail.{literal_of, marks_of};
+ghost use Rattle.hv_clauses.specs.Units.{value_of};
+
+use crate::clause_kind::ClauseKind;
+use crate::effect::ActionEffect;
+use crate::occurrences::{Occurrences, Standing};
+use crate::problem::Problem;
+use crate::trail::Assignment;
+use crate::{find, literals, partners};
+use hv_sets::{Literal, Operand, Which};
+use hv_task::State;
+
+// The one negative operand, the number of its set, and where the literals of its clauses stand.
+#[derive(Drop)]
+pub(crate) struct Affected<'a> {
+    pub operand: Operand,
+    pub number: usize,
+    pub occurs: &'a Occurrences,
+}
+
+// Tries each choice of a clause of which the effect turns a literal.
+pub(crate) fn choose_affected<K: ClauseKind>(
+    problem: &Problem<'_, K>,
+    operand: Operand,
+    marks: &mut Assignment<'_>,
+    state: &mut State,
+) -> bool
+    requires asked_twice { IsAskedTwice problem.now operand }
+    requires rooted { AreFollowedRoots problem.now marks.old }
+    requires state { length state.old ≡ width problem.now }
+    ensures met { IsMetBelow result (choices problem.now)
+        (width problem.now) (FitsChoice problem.now) state.new }
+    ensures same { marks.new ≡ marks.old }
+    ensures state { length state.new ≡ length state.old }
+{
+    let Which::Set(number) = operand.which else {
+        return false;
+    };
+    let set = problem.set(number);
+    let _clauses = set.clauses();
+    let touched = Affected {
+        operand,
+        number,
+        occurs: set.occurs(),
+    };
+    if try_value(problem, &touched, false, marks, state) {
+        return true;
+    }
+    try_value(problem, &touched, true, marks, state)
+}
+
+// Tries each choice of a clause of which a literal is turned by an atom that the effect makes this
+// value.
+fn try_value<K: ClauseKind>(
+    problem: &Problem<'_, K>,
+    touched: &Affected<'_>,
+    value: bool,
+    marks: &mut Assignment<'_>,
+    state: &mut State,
+) -> bool
+    requires touched { IsAffected problem.now touched.now }
+    requires rooted { AreFollowedRoots problem.now marks.old }
+    requires state { length state.old ≡ width problem.now }
+    ensures met { IsMetAmong result (IsTurnedBy problem.now.effect value
+        (turning_sign touched.now.operand.after value) (formulas problem.now touched.now.number))
+        (choices problem.now) (width problem.now) (FitsChoice problem.now) state.new }
+    ensures same { marks.new ≡ marks.old }
+    ensures state { length state.new ≡ length state.old }
+{
+    let sign = turning_sign(touched.operand.after, value);
+    let turned = problem.effect().turned(value);
+    for atom in turned {
+        let own = Literal {
+            atom: *atom,
+            positive: sign,
+        };
+        let standing = touched.occurs.standing(own);
+        if try_listed(problem, touched, &standing, marks, state) {
+            return true;
+        }
+    }
+    false
+}
+
+// The sign of the literals that are turned against an operand where their atoms are made this
+// value: false, if the operand is asked about after the action, and else true.
+fn turning_sign(after: bool, value: bool) -> bool
+    ensures { result ≡ turning_sign after value }
+{
+    value != after
+}
+
+// Tries each choice of a clause in which a literal stands.
+fn try_listed<K: ClauseKind>(
+    problem: &Problem<'_, K>,
+    touched: &Affected<'_>,
+    standing: &Standing<'_>,
+    marks: &mut Assignment<'_>,
+    state: &mut State,
+) -> bool
+    requires standing { AreStanding (formulas problem.now touched.now.number) standing.now }
+    requires touched { IsAffected problem.now touched.now }
+    requires rooted { AreFollowedRoots problem.now marks.old }
+    requires state { length state.old ≡ width problem.now }
+    ensures met { IsMetAmong result (Contains standing.now.places.now)
+        (choices problem.now) (width problem.now) (FitsChoice problem.now) state.new }
+    ensures same { marks.new ≡ marks.old }
+    ensures state { length state.new ≡ length state.old }
+{
+    for index in 0..standing.places.len() {
+        if try_one(problem, touched, standing, index, marks, state) {
+            return true;
+        }
+    }
+    false
+}
+
+// Tries the choice of the clause at this place of the list. Where the literal beside is known to be
+// true, no state fits it: that shows without a look into the clause.
+fn try_one<K: ClauseKind>(
+    problem: &Problem<'_, K>,
+    touched: &Affected<'_>,
+    standing: &Standing<'_>,
+    index: usize,
+    marks: &mut Assignment<'_>,
+    state: &mut State,
+) -> bool
+    requires standing { AreStanding (formulas problem.now touched.now.number) standing.now }
+    requires index { index < length standing.now.places.now }
+    requires touched { IsAffected problem.now touched.now }
+    requires rooted { AreFollowedRoots problem.now marks.old }
+    requires state { length state.old ≡ width problem.now }
+    ensures met { IsMet result (width problem.now)
+        (FitsChoice problem.now (slice_index standing.now.places.now index)) state.new }
+    ensures same { marks.new ≡ marks.old }
+    ensures state { length state.new ≡ length state.old }
+{
+    let seen = problem.seen(touched.operand.after);
+    if is_true(standing.entries, index, &seen, marks) {
+        return false;
+    }
+    find::decide(problem, standing.places[index] as u64, marks, state)
+}
+
+// Whether the entry at a place denotes a literal that is known to be true.
+fn is_true(entries: &[u32], place: usize, effect: &ActionEffect<'_>, marks: &Assignment<'_>) -> bool
+    ensures { result ≡ true → (entry_or_none entries.now place ≡ no_literal → ⊥)
+        × (value_of effect.now (marks_of marks.now) (literal_of (entry_or_none entries.now place))
+        ≡ Some true) }
+{
+    match partners::literal_at(entries, place) {
+        None => false,
+        Some(literal) => literals::value(effect, marks, literal) == Some(true),
+    }
+}

@@ -1,0 +1,198 @@
+//! Which positive operands of a query have a literal, where there are many of them: so only these
+//! are gone through when the literal is found false.
+
+ghost use Rattle.std.specs.Prelude.{◌≡◌, ◌≤◌, ℕ, Bool, IfOk, IfSome, OnOk, length};
+ghost use Rattle.std.specs.List.{Contains};
+ghost use Rattle.hv_sets.specs.Query.{IsNamed};
+ghost use Rattle.hv_clauses.specs.Working.Owners.{AreOwners, AreSignedOwners, ListsUpto, Owns};
+ghost use Rattle.hv_clauses.specs.Working.Owners.{Gains, IsCodeOfHead, PutsOwner, signed_owners};
+ghost use Rattle.hv_clauses.specs.Working.Posed.{ProblemState as ProblemOf};
+
+use crate::clause_kind::ClauseKind;
+use crate::occurrences::SignedOccurrences;
+use crate::problem::Problem;
+use crate::rows::{self, RowHead};
+use hv_sets::{Literal, Operand, Which};
+use std::alloc::{AllocError, Global};
+
+// Fewer positive operands are gone through one by one.
+const MANY: usize = 16;
+
+// How many times dearer it is to list a literal of an operand than to look for one there.
+const WAIT: usize = 4;
+
+// How many choices are tried before one is taken to be followed up in all operands.
+const CHOICES: usize = 64;
+
+/// By rising atoms the places of the positive operands in which a literal of one sign stands, and
+/// where those of each atom begin.
+#[derive(Drop)]
+pub(crate) struct SignedOwners {
+    pub heads: Vec<RowHead>,
+    pub places: Vec<u32>,
+}
+
+/// The places of the positive operands in which each literal stands.
+#[derive(Drop)]
+pub(crate) struct ClauseOwners {
+    pub negative: SignedOwners,
+    pub positive: SignedOwners,
+}
+
+impl ClauseOwners {
+    /// Those of this query. More than 4,294,967,295 operands, or literals of one sign, are taken as
+    /// out of memory.
+    pub(crate) fn of<K: ClauseKind>(
+        alloc: Global,
+        problem: &Problem<'_, K>,
+    ) -> Result<ClauseOwners, AllocError>
+        ensures { IfOk result (AreOwners problem.now) }
+    {
+        let negative = SignedOwners::of(alloc, problem, false)?;
+        let positive = SignedOwners::of(alloc, problem, true)?;
+        Ok(ClauseOwners { negative, positive })
+    }
+
+    /// The places of the operands that have a literal, and perhaps others.
+    pub(crate) fn row(&self, literal: Literal) -> &[u32]
+        requires { (p : ProblemOf) × AreOwners p self.now }
+        ensures { (p : ProblemOf) → AreOwners p self.now → (place : ℕ) → Owns p literal place
+            → Contains result.now place }
+    {
+        self.signed(literal.positive).row(literal.atom)
+    }
+
+    fn signed(&self, sign: bool) -> &SignedOwners
+        ensures { result.now ≡ signed_owners self.now sign }
+    {
+        if sign { &self.positive } else { &self.negative }
+    }
+}
+
+impl SignedOwners {
+    // Those for the literals of this sign.
+    fn of<K: ClauseKind>(
+        alloc: Global,
+        problem: &Problem<'_, K>,
+        sign: bool,
+    ) -> Result<SignedOwners, AllocError>
+        ensures { IfOk result (AreSignedOwners problem.now sign) }
+    {
+        let mut codes = codes_of(alloc, problem, sign)?;
+        rows::sort(&mut codes);
+        let heads = rows::heads_of(alloc, &codes)?;
+        let places = rows::numbers_of(alloc, &codes)?;
+        Ok(SignedOwners { heads, places })
+    }
+
+    // The places of the operands that have a literal of this atom, and perhaps others.
+    fn row(&self, atom: u32) -> &[u32]
+        requires { (p : ProblemOf) × (sign : Bool) × AreSignedOwners p sign self.now }
+        ensures { (p : ProblemOf) (sign : Bool) → AreSignedOwners p sign self.now → (place : ℕ)
+            → Owns p (record { atom = atom; positive = sign }) place → Contains result.now place }
+    {
+        rows::numbers_at(&self.heads, &self.places, atom)
+    }
+}
+
+// The codes of the literals of this sign: the atom is the key, and the operand's place the number.
+fn codes_of<K: ClauseKind>(
+    alloc: Global,
+    problem: &Problem<'_, K>,
+    sign: bool,
+) -> Result<Vec<usize>, AllocError>
+    ensures few { IfOk result (λ _. length problem.now.query.positive ≤ 4294967295) }
+    ensures lists { IfOk result (λ codes. ListsUpto problem.now sign
+        (length problem.now.query.positive) codes.items) }
+{
+    let positive = problem.positive();
+    if positive.len() > u32::MAX as usize {
+        return Err(AllocError);
+    }
+    let mut codes = Vec::new(alloc);
+    for place in 0..positive.len() {
+        put_operand(&mut codes, problem, positive[place], sign, place as u32)?;
+    }
+    Ok(codes)
+}
+
+// Puts the codes of the literals of this sign of an operand last.
+fn put_operand<K: ClauseKind>(
+    codes: &mut Vec<usize>,
+    problem: &Problem<'_, K>,
+    operand: Operand,
+    sign: bool,
+    place: u32,
+) -> Result<(), AllocError>
+    requires { IsNamed (length problem.now.store) operand.which }
+    ensures { OnOk result
+        (PutsOwner problem.now operand sign place codes.old.items codes.new.items) }
+{
+    let Which::Set(number) = operand.which else {
+        return Ok(());
+    };
+    let signed = problem.set(number).occurs().signed(sign);
+    put_heads(codes, signed, place)?;
+    Ok(())
+}
+
+// Puts the codes of the literals last that stand somewhere, with this place.
+fn put_heads(
+    codes: &mut Vec<usize>,
+    signed: &SignedOccurrences,
+    place: u32,
+) -> Result<(), AllocError>
+    ensures { OnOk result
+        (Gains (IsCodeOfHead signed.now.heads.items place) codes.old.items codes.new.items) }
+{
+    for index in 0..signed.heads.len() {
+        codes.push(rows::code_of(signed.heads[index].key, place))?;
+    }
+    Ok(())
+}
+
+/// How many literals are in the positive operands, each once in each; the greatest number, where
+/// there are few operands, which are gone through one by one.
+pub(crate) fn size_of<K: ClauseKind>(problem: &Problem<'_, K>) -> usize {
+    let positive = problem.positive();
+    if positive.len() < MANY {
+        return usize::MAX;
+    }
+    let mut size: usize = 0;
+    for operand in positive {
+        if let Which::Set(number) = operand.which {
+            let occurs = problem.set(number).occurs();
+            size = size.saturating_add(occurs.negative.heads.len());
+            size = size.saturating_add(occurs.positive.heads.len());
+        }
+    }
+    size
+}
+
+/// After how many literals of the trail it is as dear to go through all positive operands once more
+/// as to list those that have each literal.
+pub(crate) fn patience<K: ClauseKind>(problem: &Problem<'_, K>, size: usize) -> usize {
+    let count = problem.positive().len();
+    (size / count.max(1)).saturating_mul(WAIT)
+}
+
+/// Whether so many choices are worth the listing, if each is followed up by a literal or so.
+pub(crate) fn pays<K: ClauseKind>(problem: &Problem<'_, K>, size: usize, cost: u64) -> bool {
+    let count = problem.positive().len();
+    size <= (cost as usize).saturating_mul(count) / CHOICES
+}
+
+/// The positive operands that have each literal, if that pays and there is memory for it.
+pub(crate) fn listed<K: ClauseKind>(
+    alloc: Option<Global>,
+    problem: &Problem<'_, K>,
+    pays: bool,
+) -> Option<ClauseOwners>
+    ensures { IfSome result (AreOwners problem.now) }
+{
+    let alloc = alloc?;
+    if !pays {
+        return None;
+    }
+    ClauseOwners::of(alloc, problem).ok()
+}

@@ -1,0 +1,171 @@
+//! From what is known to states: propagation to its end, and completion of what is left open.
+
+ghost use Rattle.std.specs.Prelude.{◌≡◌, ◌<◌, ◌≤◌, ℕ, Bool, List, None, Some, false, true, length};
+ghost use Rattle.std.specs.Prelude.{IfSome, is_some};
+ghost use Rattle.hv_task.specs.State.{has_atom};
+ghost use Rattle.hv_clauses.specs.Working.Chase.{IsFollowed};
+ghost use Rattle.hv_clauses.specs.Working.Clausal.{Completes};
+ghost use Rattle.hv_clauses.specs.declared.completion.Completion.TheVariants as Ways;
+ghost use Rattle.hv_clauses.specs.Working.Completion.{IsAssumed, IsCompleted, IsTried};
+ghost use Rattle.hv_clauses.specs.Marks.{known};
+ghost use Rattle.hv_clauses.specs.Working.Marks.{AllKnown};
+ghost use Rattle.hv_clauses.specs.Working.Trail.{Grows, marks_of};
+
+use crate::completion::Completion;
+use crate::constraint::Constraint;
+use crate::trail::Assignment;
+use hv_sets::Literal;
+use hv_task::State;
+
+// Follows up what the trail has from a place on, until nothing more follows. The answer is false
+// only if no state that agrees with what was known meets the condition.
+pub(crate) fn close<C: Constraint>(constraint: &C, marks: &mut Assignment<'_>, from: usize) -> bool
+    requires over { C.is_over constraint.now (length marks.old.roots) }
+    requires from { from ≤ length marks.old.trail }
+    requires left { C.left constraint.now marks.old from }
+    ensures followed { IsFollowed (C.admits constraint.now) marks.old marks.new result }
+    ensures left { result ≡ true → C.left constraint.now marks.new (length marks.new.trail) }
+    ensures settled { result ≡ true → C.settled constraint.now (marks_of marks.new) }
+{
+    constraint.laws();
+    let mut place = from;
+    while place < marks.len() {
+        if !constraint.visit(marks, place) {
+            return false;
+        }
+        place += 1;
+    }
+    true
+}
+
+// The same of the literals before a place of the trail, from its beginning. The answer is the place
+// that was come to, or None if no state that agrees with what was known meets the condition.
+pub(crate) fn close_upto<C: Constraint>(
+    constraint: &C,
+    marks: &mut Assignment<'_>,
+    upto: usize,
+) -> Option<usize>
+    requires over { C.is_over constraint.now (length marks.old.roots) }
+    requires left { C.left constraint.now marks.old 0 }
+    ensures followed { IsFollowed (C.admits constraint.now) marks.old marks.new (is_some result) }
+    ensures left { IfSome result (λ place. (place ≤ length marks.new.trail)
+        × C.left constraint.now marks.new place) }
+{
+    let mut place = 0;
+    while place < upto && place < marks.len() {
+        if !constraint.visit(marks, place) {
+            return None;
+        }
+        place += 1;
+    }
+    Some(place)
+}
+
+// Tries a value of an open atom: puts it on the trail with all that follows, or leaves all as it
+// was if no state that agrees with what is known has it.
+pub(crate) fn assume<C: Constraint>(
+    constraint: &C,
+    marks: &mut Assignment<'_>,
+    literal: Literal,
+) -> bool
+    requires over { C.is_over constraint.now (length marks.old.roots) }
+    requires atom { literal.atom < length marks.old.roots }
+    requires open { known (marks_of marks.old) literal.atom ≡ None }
+    requires left { C.left constraint.now marks.old (length marks.old.trail) }
+    ensures assumed { IsAssumed (C.admits constraint.now) (C.settled constraint.now) literal.atom
+        literal.positive (marks_of marks.old) (marks_of marks.new) result }
+    ensures grown { Grows marks.old marks.new }
+    ensures left { C.left constraint.now marks.new (length marks.new.trail) }
+{
+    constraint.laws();
+    let point = marks.len();
+    marks.write(literal);
+    if close(constraint, marks, point) {
+        return true;
+    }
+    marks.undo(point);
+    false
+}
+
+// Finds a value for an atom. The answer is false only if no state meets the condition.
+pub(crate) fn settle<C: Constraint>(constraint: &C, marks: &mut Assignment<'_>, atom: u32) -> bool
+    requires over { C.is_over constraint.now (length marks.old.roots) }
+    requires atom { atom < length marks.old.roots }
+    requires left { C.left constraint.now marks.old (length marks.old.trail) }
+    requires completes { Completes Ways.Try (C.admits constraint.now) (C.settled constraint.now)
+        (length marks.old.roots) }
+    ensures tried { IsTried (C.admits constraint.now) (C.settled constraint.now)
+        (λ marks. known marks atom ≡ None → ⊥) (marks_of marks.old) (marks_of marks.new) result }
+    ensures grown { Grows marks.old marks.new }
+    ensures left { C.left constraint.now marks.new (length marks.new.trail) }
+{
+    constraint.laws();
+    if marks.read(atom).is_some() {
+        return true;
+    }
+    let out = Literal {
+        atom,
+        positive: false,
+    };
+    if assume(constraint, marks, out) {
+        return true;
+    }
+    let inside = Literal {
+        atom,
+        positive: true,
+    };
+    assume(constraint, marks, inside)
+}
+
+// Finds a value for each atom. The answer is false only if no state meets the condition.
+pub(crate) fn settle_all<C: Constraint>(constraint: &C, marks: &mut Assignment<'_>) -> bool
+    requires over { C.is_over constraint.now (length marks.old.roots) }
+    requires left { C.left constraint.now marks.old (length marks.old.trail) }
+    requires completes { Completes Ways.Try (C.admits constraint.now) (C.settled constraint.now)
+        (length marks.old.roots) }
+    ensures tried { IsTried (C.admits constraint.now) (C.settled constraint.now)
+        (AllKnown (length marks.old.roots)) (marks_of marks.old) (marks_of marks.new) result }
+    ensures grown { Grows marks.old marks.new }
+{
+    constraint.laws();
+    for atom in 0..marks.atoms() as u32 {
+        if !settle(constraint, marks, atom) {
+            return false;
+        }
+    }
+    true
+}
+
+// Completes what is known to a state that meets the condition. The answer is false only if no state
+// meets it.
+pub(crate) fn complete<C: Constraint>(
+    how: Completion,
+    constraint: &C,
+    marks: &mut Assignment<'_>,
+    state: &mut State,
+) -> bool
+    requires over { C.is_over constraint.now (length marks.old.roots) }
+    requires state { length state.old ≡ length marks.old.roots }
+    requires left { C.left constraint.now marks.old (length marks.old.trail) }
+    requires completes { Completes how (C.admits constraint.now) (C.settled constraint.now)
+        (length marks.old.roots) }
+    ensures completed { IsCompleted (C.admits constraint.now) (marks_of marks.old) state.new
+        result }
+    ensures grown { Grows marks.old marks.new }
+    ensures state { length state.new ≡ length state.old }
+{
+    constraint.laws();
+    match how {
+        Completion::Fill(value) => {
+            marks.fill(value, state);
+            true
+        }
+        Completion::Try => {
+            if !settle_all(constraint, marks) {
+                return false;
+            }
+            marks.fill(false, state);
+            true
+        }
+    }
+}

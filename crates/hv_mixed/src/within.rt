@@ -1,0 +1,42 @@
+//! Whether a set is within another, by the cubes outside the other.
+
+ghost use Rattle.std.specs.Prelude.{◌≡◌, ◌<◌, ◌≤◌, length, IfOk};
+ghost use Rattle.hv_sets.specs.Cost.{IsAnswer};
+ghost use Rattle.hv_sets.specs.Room.{KeepsLengths};
+ghost use Rattle.hv_mixed.specs.Inclusion.{difference};
+
+use hv_paths::{InsideAsked, OutsideWalked, meet_along};
+use hv_sets::{Finding, Scratch};
+use std::alloc::{AllocError, Global};
+
+/// Whether the left set is within the right one: Over exactly where the walk over the states
+/// outside the right set has more steps than the budget; else Clash exactly where a state is in the
+/// left set and outside the right one, and such a state then is in the scratch; else Empty.
+///
+/// A set takes part by the traits of `hv_paths`: a type with those of `hv_sets` has them by one
+/// line each, with the plain walks and questions of that crate.
+pub fn within<'a, L: InsideAsked<'a>, R: OutsideWalked<'a>>(
+    alloc: Global,
+    left: &'a L,
+    right: &'a R,
+    budget: u64,
+    scratch: &mut Scratch,
+) -> Result<Finding, AllocError>
+    requires atoms { L.atoms left.now ≡ R.atoms right.now }
+    requires budget { budget ≤ 16777216 }
+    ensures answer { IfOk result
+        (λ found. IsAnswer found (budget < length (R.outside right.now)) (L.atoms left.now)
+        (difference (L.has left.now) (R.has right.now)) scratch.new.state) }
+    ensures lengths { KeepsLengths scratch.old scratch.new }
+{
+    if right.outside_count(alloc, budget)? > budget {
+        return Ok(Finding::Over);
+    }
+    let mut walk = right.walk_outside(alloc, left.places_inside())?;
+    let mut asked = left.ask_inside(alloc)?;
+    if meet_along(alloc, &mut walk, &mut asked, scratch)? {
+        Ok(Finding::Clash)
+    } else {
+        Ok(Finding::Empty)
+    }
+}

@@ -1,0 +1,239 @@
+//! Short rows of tokens: numbers, a constant, a word, premises.
+
+ghost use Rattle.std.specs.Prelude.{◌≡◌, ◌<◌, ◌≤◌, ◌^◌, ℕ, List, [], ◌∷◌, MatchOption, decimal};
+ghost use Rattle.std.specs.Prelude.{length, map};
+ghost use Rattle.hv_bytes.specs.Fields.{cut_fields};
+ghost use Rattle.hv_lines.specs.Spelling.{FitsShortDecimal};
+ghost use Rattle.hv_lines.specs.declared.line.Constant.{Constant};
+ghost use Rattle.hv_lines.specs.declared.line.Word.{Word};
+ghost use Rattle.hv_proof_text.specs.Working.Gathering.{fields_behind};
+ghost use Rattle.hv_proof_text.specs.Working.Heads.{listed_by};
+ghost use Rattle.hv_proof_text.specs.Working.Tokens.{AreTokens, constant_letter, letter};
+ghost use Rattle.hv_proof_text.specs.Working.Tokens.{letter_field, number};
+ghost use Rattle.hv_proof_text.specs.declared.token.Letter.{Letter};
+ghost use Rattle.hv_proof_text.specs.declared.token.Token.{Token};
+ghost use Rattle.hv_proof_text.specs.declared.token.Token.TheVariants as T;
+
+use crate::fields::{first_letter, first_number};
+use crate::token::{Letter, Token};
+use hv_lines::{Constant, Premises, Word};
+
+/// The least number that isn't a short decimal.
+pub(crate) const NOT_SHORT: u64 = 1_000_000_000;
+
+/// What the first three fields of a line denote, and what follows them.
+#[derive(Drop)]
+pub(crate) struct LineHead<'a> {
+    pub(crate) letter: Letter,
+    pub(crate) id: usize,
+    pub(crate) kind: Letter,
+    pub(crate) rest: Option<&'a [u8]>,
+}
+
+/// The head of a line.
+pub(crate) fn head_of(line: &[u8]) -> Option<LineHead<'_>>
+    ensures { MatchOption result
+        ((first : Letter) (id : ℕ) (kind : Letter) (tokens : List Token)
+        → AreTokens (letter first ∷ number id ∷ letter kind ∷ tokens) (cut_fields line.now) → ⊥)
+        (λ head. (head.id < 10 ^ 18) × (cut_fields line.now ≡ letter_field head.letter
+        ∷ decimal head.id ∷ letter_field head.kind ∷ fields_behind head.rest (λ f. f.now))) }
+{
+    let Some((letter, behind)) = first_letter(Some(line)) else {
+        return None;
+    };
+    let Some((id, behind)) = first_number(behind) else {
+        return None;
+    };
+    let Some((kind, rest)) = first_letter(behind) else {
+        return None;
+    };
+    Some(LineHead {
+        letter,
+        id: id as usize,
+        kind,
+        rest,
+    })
+}
+
+/// The lists that a line may have.
+#[derive(Clone, Copy)]
+pub(crate) enum ListKind {
+    /// Actions.
+    Actions,
+    /// Clauses of a Horn formula.
+    Horn,
+    /// Clauses of a dual Horn formula.
+    Dual,
+    /// Clauses of a 2CNF formula.
+    Two,
+    /// States.
+    States,
+}
+
+/// The list behind a head of these letters, if there is one.
+pub(crate) fn listed_by(letter: Letter, kind: Letter) -> Option<ListKind>
+    ensures { result ≡ listed_by letter kind }
+{
+    match letter {
+        Letter::A => match kind {
+            Letter::B => Some(ListKind::Actions),
+            _ => None,
+        },
+        Letter::E => match kind {
+            Letter::H => Some(ListKind::Horn),
+            Letter::D => Some(ListKind::Dual),
+            Letter::T => Some(ListKind::Two),
+            Letter::X => Some(ListKind::States),
+            _ => None,
+        },
+        _ => None,
+    }
+}
+
+/// One number, and nothing more.
+pub(crate) fn one_number(tokens: &[Token]) -> Option<usize>
+    ensures { MatchOption result
+        ((n : ℕ) → tokens.now ≡ number n ∷ [] → ⊥)
+        (λ n. tokens.now ≡ number n ∷ []) }
+{
+    match tokens {
+        [Token::Number(number)] => Some(*number as usize),
+        _ => None,
+    }
+}
+
+/// One short decimal, and nothing more.
+pub(crate) fn one_short_number(tokens: &[Token]) -> Option<u32>
+    ensures { MatchOption result
+        ((n : ℕ) → tokens.now ≡ number n ∷ [] → FitsShortDecimal n → ⊥)
+        (λ n. (tokens.now ≡ number n ∷ []) × FitsShortDecimal n) }
+{
+    match one_number(tokens) {
+        Some(number) if (number as u64) < NOT_SHORT => Some(number as u32),
+        _ => None,
+    }
+}
+
+/// Two numbers, and nothing more.
+pub(crate) fn two_numbers(tokens: &[Token]) -> Option<(usize, usize)>
+    ensures { MatchOption result
+        ((m n : ℕ) → tokens.now ≡ number m ∷ number n ∷ [] → ⊥)
+        (λ p. tokens.now ≡ number p.0 ∷ number p.1 ∷ []) }
+{
+    match tokens {
+        [Token::Number(first), Token::Number(second)] => {
+            Some((*first as usize, *second as usize))
+        }
+        _ => None,
+    }
+}
+
+/// A count, and what follows it.
+pub(crate) fn counted(tokens: &[Token]) -> Option<(u64, &[Token])>
+    ensures { MatchOption result
+        ((n : ℕ) (rest : List Token) → tokens.now ≡ number n ∷ rest → ⊥)
+        (λ p. tokens.now ≡ number p.0 ∷ p.1.now) }
+{
+    match tokens {
+        [Token::Number(count), rest @ ..] => Some((*count, rest)),
+        _ => None,
+    }
+}
+
+/// Two numbers, and what follows them.
+#[derive(Drop)]
+pub(crate) struct TwoFirst<'a> {
+    pub(crate) left: usize,
+    pub(crate) right: usize,
+    pub(crate) rest: &'a [Token],
+}
+
+/// The first two numbers.
+pub(crate) fn two_first(tokens: &[Token]) -> Option<TwoFirst<'_>>
+    ensures { MatchOption result
+        ((m n : ℕ) (rest : List Token) → tokens.now ≡ number m ∷ number n ∷ rest → ⊥)
+        (λ first. tokens.now ≡ number first.left ∷ number first.right ∷ first.rest.now) }
+{
+    match tokens {
+        [Token::Number(left), Token::Number(right), rest @ ..] => Some(TwoFirst {
+            left: *left as usize,
+            right: *right as usize,
+            rest,
+        }),
+        _ => None,
+    }
+}
+
+/// The letter of a constant, and nothing more.
+pub(crate) fn constant_of(tokens: &[Token]) -> Option<Constant>
+    ensures { MatchOption result
+        ((constant : Constant) → tokens.now ≡ letter (constant_letter constant) ∷ [] → ⊥)
+        (λ constant. tokens.now ≡ letter (constant_letter constant) ∷ []) }
+{
+    match tokens {
+        [Token::Letter(Letter::E)] => Some(Constant::Empty),
+        [Token::Letter(Letter::I)] => Some(Constant::Start),
+        [Token::Letter(Letter::G)] => Some(Constant::Goal),
+        _ => None,
+    }
+}
+
+/// A word, and what follows it.
+pub(crate) fn word_first(tokens: &[Token]) -> Option<(Word, &[Token])>
+    ensures { MatchOption result
+        ((word : Word) (rest : List Token) → tokens.now ≡ T.Word word ∷ rest → ⊥)
+        (λ p. tokens.now ≡ T.Word p.0 ∷ p.1.now) }
+{
+    match tokens {
+        [Token::Word(word), rest @ ..] => Some((*word, rest)),
+        _ => None,
+    }
+}
+
+/// So many numbers, of at most three.
+pub(crate) fn premises_in(count: usize, tokens: &[Token]) -> Option<Premises>
+    requires { count ≤ 3 }
+    ensures { MatchOption result
+        ((premises : List ℕ) → length premises ≡ count → tokens.now ≡ map number premises → ⊥)
+        (λ premises. (length premises ≡ count) × (tokens.now ≡ map number premises)) }
+{
+    match count {
+        0 => no_premises(tokens),
+        1 => match one_number(tokens) {
+            Some(first) => Some(Premises::one(first)),
+            None => None,
+        },
+        2 => match two_numbers(tokens) {
+            Some(pair) => Some(Premises::two(pair.0, pair.1)),
+            None => None,
+        },
+        _ => three_premises(tokens),
+    }
+}
+
+/// Nothing.
+fn no_premises(tokens: &[Token]) -> Option<Premises>
+    ensures { MatchOption result (tokens.now ≡ [] → ⊥) (λ premises. (premises ≡ [])
+        × (tokens.now ≡ [])) }
+{
+    match tokens {
+        [] => Some(Premises::none()),
+        _ => None,
+    }
+}
+
+/// Three numbers, and nothing more.
+fn three_premises(tokens: &[Token]) -> Option<Premises>
+    ensures { MatchOption result
+        ((l m n : ℕ) → tokens.now ≡ number l ∷ number m ∷ number n ∷ [] → ⊥)
+        (λ premises. (length premises ≡ 3) × (tokens.now ≡ map number premises)) }
+{
+    match tokens {
+        [
+            Token::Number(first),
+            Token::Number(second),
+            Token::Number(third),
+        ] => Some(Premises::three(*first as usize, *second as usize, *third as usize)),
+        _ => None,
+    }
+}
