@@ -4,7 +4,7 @@ pub mod Completing
 pub mod Covered
 pub mod Deciding
 pub mod Effects
-pub mod Refuted
+pub mod RefutedChoices
 pub mod Kinded
 pub mod Marked
 pub mod Meeting
@@ -19,13 +19,13 @@ pub mod Stored
 pub mod Trailed
 pub mod Chasing
 pub mod Forced
-pub mod Affected
+pub mod AffectedChoices
 pub mod Keyed
 pub mod Heads
 pub mod Standings
 pub mod Gathered
 pub mod Implying
-pub mod Partners
+pub mod PartnerEntries
 pub mod Untouched
 pub mod Starting
 pub mod Blocks

@@ -23,7 +23,7 @@ use Rattle.hv_clauses.specs.Working.Units.{AreSettled}
 use Rattle.hv_clauses.proofs.Chasing.{followed_none, kept_on}
 use Rattle.hv_clauses.proofs.Marked.{has_atom-over_none, has_atom-over_some, known_past}
 use Rattle.hv_clauses.proofs.Marked.{known_within, length-over}
-use Rattle.hv_clauses.proofs.Affected.{turned_by, turned_or}
+use Rattle.hv_clauses.proofs.AffectedChoices.{turned_by, turned_or}
 use Rattle.hv_clauses.proofs.Trailed.{known-replicate, known-set_other, known-set_same}
 use Rattle.hv_clauses.proofs.Trailed.{length-marked}
 

@@ -7,7 +7,7 @@ use Rattle.hv_clauses.specs.Working.Posed.{choices, formulas}
 use Rattle.hv_clauses.specs.Working.Trail.{literal_of, marks_of}
 use Rattle.hv_clauses.specs.Units.{value_of}
 use Rattle.hv_clauses.proofs.Standings.{inside_at}
-use Rattle.hv_clauses.proofs.Affected.{choices_are, known_none}
+use Rattle.hv_clauses.proofs.AffectedChoices.{choices_are, known_none}
 use Rattle.hv_clauses.proofs.Trailed.{length-marks}
 use Rattle.hv_clauses.proofs.affected.try_one.Goals as goal
 

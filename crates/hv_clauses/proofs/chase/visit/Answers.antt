@@ -6,7 +6,7 @@ use Rattle.hv_sets.specs.declared.literal.Literal.{Literal}
 use Rattle.hv_clauses.specs.Rows.{IsRow}
 use Rattle.hv_clauses.specs.Working.Signed.{StandsAs}
 use Rattle.hv_clauses.specs.Clausal.{clause_at}
-use Rattle.hv_clauses.proofs.Partners.{kept_sooner, kept_true}
+use Rattle.hv_clauses.proofs.PartnerEntries.{kept_sooner, kept_true}
 use Rattle.hv_clauses.proofs.Chasing.{grown_by, kept_grown, kept_next, longer, read_on}
 use Rattle.hv_clauses.proofs.Rounds.{never}
 use Rattle.hv_clauses.proofs.chase.visit.Goals as goal

@@ -9,7 +9,7 @@ use Rattle.hv_clauses.specs.Clausal.{clause_at}
 use Rattle.hv_clauses.specs.Marks.{over}
 use Rattle.hv_clauses.specs.Working.Trail.{marks_of}
 use Rattle.hv_clauses.specs.Units.{IsSettled}
-use Rattle.hv_clauses.proofs.Partners.{one_followed, pair_followed, pair_settled}
+use Rattle.hv_clauses.proofs.PartnerEntries.{one_followed, pair_followed, pair_settled}
 use Rattle.hv_clauses.proofs.Standings.{inside_at, pair_at}
 use Rattle.hv_clauses.proofs.chase.visit_one.Goals as goal
 

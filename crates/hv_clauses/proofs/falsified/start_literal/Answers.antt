@@ -6,7 +6,7 @@ use Rattle.hv_clauses.specs.Marks.{known}
 use Rattle.hv_clauses.specs.Working.Signed.{StandsAs}
 use Rattle.hv_clauses.specs.Working.Trail.{marked, marks_of}
 use Rattle.hv_clauses.specs.Units.{value_of}
-use Rattle.hv_clauses.proofs.Partners.{kept_sooner}
+use Rattle.hv_clauses.proofs.PartnerEntries.{kept_sooner}
 use Rattle.hv_clauses.proofs.Chasing.{longer}
 use Rattle.hv_clauses.proofs.Untouched.{followed_forced, value_made}
 use Rattle.hv_clauses.proofs.falsified.start_literal.Goals as goal

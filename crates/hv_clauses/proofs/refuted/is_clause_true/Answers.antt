@@ -5,7 +5,7 @@ use Rattle.hv_clauses.specs.Units.{value_of}
 use Rattle.hv_clauses.specs.Working.Posed.{formulas}
 use Rattle.hv_clauses.specs.Working.Trail.{marks_of}
 use Rattle.hv_clauses.proofs.Deciding.{set_within}
-use Rattle.hv_clauses.proofs.Refuted.{refuted_framed, refuted_known}
+use Rattle.hv_clauses.proofs.RefutedChoices.{refuted_framed, refuted_known}
 use Rattle.hv_clauses.proofs.refuted.is_clause_true.Goals as goal
 
 pub set-requires : goal.set-requires

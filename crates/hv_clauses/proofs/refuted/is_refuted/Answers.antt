@@ -1,7 +1,7 @@
 use Rattle.std.proofs.Common.{◌<◌, ◌%◌, subst, sym}
 use Rattle.hv_clauses.specs.Working.Posed.{formulas}
 use Rattle.hv_clauses.proofs.Deciding.{digit_below, some_here}
-use Rattle.hv_clauses.proofs.Refuted.{refuted_by}
+use Rattle.hv_clauses.proofs.RefutedChoices.{refuted_by}
 use Rattle.hv_clauses.proofs.OperandRounds.{digit_is, rest_is}
 use Rattle.hv_clauses.proofs.refuted.is_refuted.Goals as goal
 

@@ -2,7 +2,7 @@ use Rattle.std.proofs.Common.{sym, subst}
 use Rattle.hv_task.specs.Atoms.{is_after}
 use Rattle.hv_explicit.specs.Working.Codes.{IsCode}
 use Rattle.hv_explicit.proofs.Totals.{is_after_code}
-use Rattle.hv_explicit.proofs.sought.OutcomeSought.code.Goals as goal
+use Rattle.hv_explicit.proofs.sought.ActionResultSought.code.Goals as goal
 
 pub returns-then-key-self : goal.returns-then-key-self
 returns-then-key-self c =

@@ -1,6 +1,6 @@
 use Rattle.std.proofs.Common.{[]}
 use Rattle.hv_clauses.proofs.Chasing.{kept_grown, settled_end}
-use Rattle.hv_clauses.proofs.constraint.AloneConstraint.laws.Goals as goal
+use Rattle.hv_clauses.proofs.constraint.BareClausesConstraint.laws.Goals as goal
 
 pub returns-clause-ends : goal.returns-clause-ends
 returns-clause-ends c = λ k from h kept. settled_end [] c.args.self.now.clauses.now k from h kept

@@ -26,7 +26,7 @@ use Rattle.hv_clauses.specs.Working.Affected.{IsTurnedBy}
 use Rattle.hv_clauses.specs.Working.Posed.{ProblemState, choices, formulas, sizes, width}
 use Rattle.hv_clauses.specs.Working.Problem.{FitsChoice}
 use Rattle.hv_clauses.specs.Units.{value_of}
-use Rattle.hv_clauses.proofs.Refuted.{framed_true, known_true}
+use Rattle.hv_clauses.proofs.RefutedChoices.{framed_true, known_true}
 use Rattle.hv_clauses.proofs.Marked.{known_past, through_some, value_some}
 
 -- the effect turns no literal of a clause, or it turns one
