@@ -114,7 +114,7 @@ first_counted atoms k few = ap as_counted (header_taken k few)
 
 first_listed : (atoms : ℕ) (order : List ℕ) → atoms < 10 ^ 18
     → IsOrder (list_over atoms (Some order) [])
-    → first_in atoms (order_line order) ≡ Ok (L.ListedNodes order)
+    → first_in atoms (order_line order) ≡ Ok (L.Listed order)
 first_listed atoms order small is =
     ap (λ t. cond t (as_listed (order_of_fields atoms (cut_fields (order_line order))))
     (as_counted (count_in (order_line order)))) (begins_line order)
@@ -337,7 +337,7 @@ counted_is false o (Ok j) k e = cc
 counted_is false o (Err b) k e = absurd cc
 
 listed_is : (t : Bool) (o : Option (List ℕ)) (c : Result ℕ NodeRefusal) (order : List ℕ)
-    → cond t (as_listed o) (as_counted c) ≡ Ok (L.ListedNodes order) → o ≡ Some order
+    → cond t (as_listed o) (as_counted c) ≡ Ok (L.Listed order) → o ≡ Some order
 listed_is true None c order e = absurd cc
 listed_is true (Some other) c order e = cc
 listed_is false o (Ok j) order e = absurd cc
@@ -350,7 +350,7 @@ module _ (atoms : ℕ) (l : List ℕ) where
       (counted_is (begins_with (codes "order") l) (order_of_fields atoms (cut_fields l))
       (count_in l) k e)
 
-  order_said : (order : List ℕ) → first_in atoms l ≡ Ok (L.ListedNodes order)
+  order_said : (order : List ℕ) → first_in atoms l ≡ Ok (L.Listed order)
       → (l ≡ order_line order) × IsOrder (list_over atoms (Some order) [])
   order_said order e =
       order_is atoms l order
@@ -360,7 +360,7 @@ module _ (atoms : ℕ) (l : List ℕ) where
   -- so it says an order, or a number that a file may have
   begun : (first : FirstLine) → first_in atoms l ≡ Ok first → IsBegun atoms first
   begun (L.Counted k) e = (count_said k e).1
-  begun (L.ListedNodes order) e = (order_said order e).1
+  begun (L.Listed order) e = (order_said order e).1
 
   pub begun_by : (n : ℕ) (said : Result FirstLine NodeRefusal)
       (result : Result FirstLine (ParseFault NodeRefusal)) → said ≡ first_in atoms l
@@ -416,7 +416,7 @@ listed_text atoms l order ps list n rest h (Ok k) is t e =
 order_text : (atoms : ℕ) (l : List ℕ) (order : List ℕ) (ps : List PieceBytes) (list : NodeList)
     (n : ℕ) (rest : List PieceBytes)
     → (l ≡ order_line order) × IsOrder (list_over atoms (Some order) [])
-    → after (behind_first atoms (L.ListedNodes order) 1 ps) at_end ≡ parsed list n rest
+    → after (behind_first atoms (L.Listed order) 1 ps) at_end ≡ parsed list n rest
     → AreNodeTextOf atoms (Some l ∷ ps) list
 order_text atoms l order [] list n rest is e = absurd cc
 order_text atoms l order (None ∷ ps) list n rest is e = absurd cc
@@ -431,7 +431,7 @@ file_is : (atoms : ℕ) (l : List ℕ) (ps : List PieceBytes) (list : NodeList) 
 file_is atoms l ps list n rest (Err b) t e = absurd cc
 file_is atoms l ps list n rest (Ok (L.Counted k)) t e =
     counted_text atoms l ps list n k rest (count_said atoms l k t) e
-file_is atoms l ps list n rest (Ok (L.ListedNodes order)) t e =
+file_is atoms l ps list n rest (Ok (L.Listed order)) t e =
     order_text atoms l order ps list n rest (order_said atoms l order t) e
 
 pub read_is_text : (atoms : ℕ) (pieces : List PieceBytes) (list : NodeList) (n : ℕ) (rest : List

@@ -62,7 +62,7 @@ count_in = numbered_in (codes "nodes ") 16777216 (R.Place K.Header) (R.Limit W.N
 -- a first line that begins as that of an order
 abbrev pub as_listed : Option (List ℕ) → Result FirstLine NodeRefusal
 as_listed None = Err (R.Place K.Permutation)
-as_listed (Some order) = Ok (L.ListedNodes order)
+as_listed (Some order) = Ok (L.Listed order)
 
 -- a first line that doesn't
 abbrev pub as_counted : Result ℕ NodeRefusal → Result FirstLine NodeRefusal
@@ -89,7 +89,7 @@ behind_order list = header >>= so_many list
 
 -- what is behind the first line
 abbrev pub behind_first : ℕ → FirstLine → Parser NodeRefusal NodeList
-behind_first atoms (L.ListedNodes order) = behind_order (no_nodes_by atoms order)
+behind_first atoms (L.Listed order) = behind_order (no_nodes_by atoms order)
 behind_first atoms (L.Counted count) = so_many (no_nodes atoms) count
 
 -- a node file over so many atoms

@@ -97,7 +97,7 @@ impl<'a> AtomBits<'a> {
     ghost use Rattle.std.specs.Prelude.{None, Some};
 
     /// No bit.
-    #[tactic(auto, using(crate::proofs::ListedNodes::no_listed))]
+    #[tactic(auto, using(crate::proofs::Listed::no_listed))]
     pub fn none(atoms: u32) -> AtomBits<'a>
         ensures { result ≡ no_marks atoms }
     {
@@ -110,7 +110,7 @@ impl<'a> AtomBits<'a> {
     }
 
     /// The signs of these literals.
-    #[tactic(auto, using(crate::proofs::ListedNodes::no_listed))]
+    #[tactic(auto, using(crate::proofs::Listed::no_listed))]
     pub fn signs(atoms: u32, cube: &'a Cube) -> AtomBits<'a>
         ensures { result ≡ mark_literals cube.now (no_marks atoms) }
     {

@@ -16,7 +16,7 @@ pub(crate) const MOST_NODES: u64 = 16_777_216;
 #[derive(Drop)]
 pub enum FirstLine {
     /// The order of the atoms.
-    ListedNodes(Order),
+    Listed(Order),
     /// How many nodes follow; the atoms rise.
     Counted(u64),
 }
@@ -44,7 +44,7 @@ pub(crate) fn first_in(
 {
     if begins_with(line, b"order") {
         return match order_of(alloc, line, atoms)? {
-            Some(order) => Ok(Ok(FirstLine::ListedNodes(order))),
+            Some(order) => Ok(Ok(FirstLine::Listed(order))),
             None => Ok(Err(NodeRefusal::Place(NodeKind::Permutation))),
         };
     }

@@ -109,7 +109,7 @@ fn behind_first<R: Source>(
     ensures atoms { IfOk result (λ list. list.atoms ≡ atoms) }
 {
     match first {
-        FirstLine::ListedNodes(order) => {
+        FirstLine::Listed(order) => {
             behind_order(alloc, reader, Diagrams::by_order(alloc, atoms, order))
         }
         FirstLine::Counted(count) => nodes(alloc, reader, Diagrams::none(alloc, atoms), count),

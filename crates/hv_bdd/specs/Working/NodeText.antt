@@ -24,7 +24,7 @@ node_start (Some order) = 3
 
 -- what is known of a first line: an order is one, and a file has no more nodes than it may
 abbrev pub IsBegun : ℕ → FirstLine → Type 0
-IsBegun atoms (L.ListedNodes order) = IsOrder (list_over atoms (Some order) [])
+IsBegun atoms (L.Listed order) = IsOrder (list_over atoms (Some order) [])
 IsBegun atoms (L.Counted count) = count ≤ 16777216
 
 -- the line is the one of a file with so many nodes
