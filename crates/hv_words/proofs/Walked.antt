@@ -81,17 +81,6 @@ module _ (shape : Shape) where
   unfolding walk_passes
   passes_more walk word rest here more = rw (here, more) refl
 
-  pub passes_after : (held : Held) (waiting : Waiting) (position : ℕ) (word : Text)
-      (rest : List Text) → is_argument word ≡ true
-      → AtPasses held waiting position word
-      → walk_passes shape [] (after shape.rules held waiting position word) rest ≡ true
-      → walk_passes shape [] (at shape.rules held waiting position) (word ∷ rest) ≡ true
-  passes_after held waiting position word rest h here more =
-      passes_more (at shape.rules held waiting position) word rest
-      (turn held waiting position word h here)
-      (subst (λ w. walk_passes shape [] w rest ≡ true)
-      (sym (walked_after shape.rules held waiting position word h)) more)
-
   -- the walk passes over the words, from one place to another
   abbrev pub Goes : Walk → List Text → Walk → Type 0
   Goes start words end =
