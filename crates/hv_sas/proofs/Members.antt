@@ -65,15 +65,6 @@ same_truth true c f g = sym (f refl)
 same_truth false true f g = g refl
 same_truth false false f g = refl
 
-pub any_from : {X : Type 0} (test : X → Bool) (xs : List X) → list_any test xs ≡ true
-    → (x : X) × Has x xs × (test x ≡ true)
-any_from test [] e = absurd cc
-any_from test (x ∷ xs) e =
-    elim (either (test x) (list_any test xs) e) [
-      | inl h ↦ (x, inl refl, h)
-      | inr h ↦ let m = any_from test xs h in (m.0, inr m.1, m.2)
-    ]
-
 pub any_has : {X : Type 0} (test : X → Bool) (xs : List X) (x : X) → Has x xs → test x ≡ true
     → list_any test xs ≡ true
 any_has test [] x h t = absurd h

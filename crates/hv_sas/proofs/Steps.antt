@@ -34,10 +34,6 @@ not_true : (b : Bool) → (b ≡ true → ⊥) → not b ≡ true
 not_true true h = absurd (h refl)
 not_true false h = refl
 
-true_not : (b : Bool) → not b ≡ true → b ≡ true → ⊥
-true_not true e h = cc
-true_not false e h = cc
-
 -- The facts that an effect makes false.
 
 gone_has : (vs : List SasVariable) (e : Effect) (f : Fact) (s : List ℕ) (before : Option ℕ)
