@@ -193,9 +193,6 @@ module _ (touched : ℕ → Bool) (one other : List ℕ) (rises : IsStrictlyIncr
 
 -- what the three tests say together
 module _ (list held add del : List ℕ) where
-  after_at : ℕ → Bool
-  after_at p = names_atom add p || (not (names_atom del p) && names_atom held p)
-
   pub result_is : All (λ p. Contains list p) add → All (λ a. Contains list a → Contains add a) del
       → ((p : ℕ) → (names_atom add p || names_atom del p) ≡ false → names_atom held p ≡ names_atom
       list p)

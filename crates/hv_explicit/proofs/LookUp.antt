@@ -1,10 +1,10 @@
 -- Why a walk over the entries of one code finds a listed state.
-use Rattle.std.proofs.Common.{◌≡◌, ℕ, ◌+◌, ◌-◌, ◌<◌, ◌≤◌, ◌^◌, ◌↔◌, ◌∙◌, Bool, true, List, [], ◌∷◌}
+use Rattle.std.proofs.Common.{◌≡◌, ℕ, ◌+◌, ◌-◌, ◌<◌, ◌↔◌, ◌∙◌, Bool, true, List, [], ◌∷◌}
 use Rattle.std.proofs.Common.{◌++◌, length, get_or, Some, refl, sym, ap, subst, arith, inl, inr}
 use Rattle.std.proofs.lemmas.Bool.{cases_lt}
 use Rattle.std.proofs.lemmas.Bool.Decides.{same_from_decides, Decides-by_or}
 use Rattle.std.proofs.lemmas.List.{get_or_default, get_or_push, get_or_append_left, length_push}
-use Rattle.std.proofs.lemmas.List.Elements.{All-contains, All-weaker}
+use Rattle.std.proofs.lemmas.List.Elements.{All-contains}
 use Rattle.std.proofs.lemmas.Option.{get_or_from_slice_get, slice_get_within}
 use Rattle.std.specs.List.{All, slice_get}
 use Rattle.std.specs.List.Sorted.{IsStrictlyIncreasing}
@@ -18,45 +18,13 @@ use Rattle.hv_explicit.specs.Codes.{IsBelow, IsSetOf}
 use Rattle.hv_explicit.specs.Working.Codes.{HasListed, IsCode, IsListCode, IsSame}
 use Rattle.hv_explicit.specs.ListedStates.{AreRising, AreStates}
 use Rattle.hv_explicit.specs.Working.Listing.{AreFirsts, IsEnteredState, IsIndex, first_at}
-use Rattle.hv_explicit.specs.Working.Places.{IsEnd, code_at}
+use Rattle.hv_explicit.specs.Working.Places.{code_at}
 use Rattle.hv_explicit.proofs.Coded.{from_same, into_same}
 use Rattle.hv_explicit.proofs.Totals.{is_list_code, one_code}
 
 pub here : (states : List (List ℕ)) (k : ℕ) (held : List ℕ) → slice_get states k ≡ Some held
     → get_or states k [] ≡ held
 here states k held at = get_or_from_slice_get states k held [] at
-
--- a state of the list is below the bound, and its atoms leave space for one more in 32 bits
-pub room_at : (n : ℕ) (states : List (List ℕ)) (k : ℕ) (held : List ℕ) → n < 2 ^ 32
-    → AreStates n states → slice_get states k ≡ Some held
-    → AreBelow (2 ^ 32 - 1) held
-room_at n states k held fits below at =
-    let mine = All-contains (AreBelow n) states held below
-    (k, slice_get_within states k held at, get_or_from_slice_get states k held held at) in
-    All-weaker (λ a. a < n) (λ a. a < 2 ^ 32 - 1) (λ a less. omega arith) held mine
-
-pub state_below : (n : ℕ) (states : List (List ℕ)) (k : ℕ) (held : List ℕ) → AreStates n states
-    → slice_get states k ≡ Some held → IsBelow n (names_atom held)
-state_below n states k held below at p past = unnamed held p (λ c.
-    let mine = All-contains (AreBelow n) states held below
-    (k, slice_get_within states k held at, get_or_from_slice_get states k held held at) in
-    let less = All-contains (λ a. a < n) held p mine c in omega arith)
-
--- one entry of the code is passed
-pub none_before : (P : ℕ → Type 0) (codes : List ℕ) (n code end earlier : ℕ) → 0 < end
-    → ((e : ℕ) → e < n → end ≤ e → code_at codes e ≡ code → P e → ⊥)
-    → code_at codes (end - 1) ≡ code → (P (end - 1) → ⊥)
-    → IsEnd (code_at codes) (code_at codes (end - 1)) (end - 1) earlier
-    → (e : ℕ) → e < n → earlier ≤ e → code_at codes e ≡ code → P e → ⊥
-none_before P codes n code end earlier some none at other is e within upto coded holds =
-    elim (cases_lt e (end - 1)) [
-      | inl less ↦ let below = is.after e less (coded ∙ sym at) in omega arith
-      | inr past ↦
-          elim (cases_lt e end) [
-            | inl less ↦ let last : e ≡ end - 1 = omega arith in other (subst P last holds)
-            | inr old ↦ none e within old coded holds
-          ]
-    ]
 
 -- a state of the set is entered under the code of the set
 pub coded_at : (key : ℕ) (states : List (List ℕ)) (firsts codes : List ℕ) (set : ℕ → Bool)
@@ -75,17 +43,6 @@ same_lists xs ys rises_x rises_y same =
     same_rising xs ys rises_x rises_y
     (λ a c. from_same (names_atom xs) ys a same ((names_atom-Decides xs a).1 c))
     (λ a c. (names_atom-Decides xs a).0 (into_same (names_atom xs) ys a same c))
-
--- nothing is entered
-pub none_first : (states : List (List ℕ)) → AreFirsts states [] 0
-none_first states = record {
-  within = λ e less. absurd (omega arith);
-  each = λ k less. absurd
-      (omega arith);
-}
-
-pub none_index : (key : ℕ) (states : List (List ℕ)) → IsIndex key [] [] states
-none_index key states = record { many = refl; code = λ e less. absurd (omega arith) }
 
 module _ (states : List (List ℕ)) (firsts : List ℕ) (place : ℕ) (held : List ℕ)
     (at : slice_get states place ≡ Some held) where

@@ -24,7 +24,7 @@ use Rattle.hv_explicit.specs.declared.coding.Coding.{Coding}
 use Rattle.hv_explicit.specs.declared.coding.Coding.TheVariants as K
 use Rattle.hv_explicit.specs.declared.state_owners.ListedAt.{ListedAt}
 use Rattle.hv_explicit.specs.declared.state_owners.StateOwners.{StateOwners}
-use Rattle.std.proofs.lemmas.Bool.{both_ways, cases_lt}
+use Rattle.std.proofs.lemmas.Bool.{cases_lt}
 use Rattle.hv_task.specs.State.{names_atom}
 use Rattle.hv_explicit.proofs.Coded.{same_from, sip_same}
 use Rattle.hv_explicit.proofs.Totals.{one_code}
@@ -131,14 +131,6 @@ pub on_err : {X E : Type 0} (r : Result X E) (P : Type 0) → P → OnErr r P
 on_err (Ok x) P p = tt
 on_err (Err e) P p = p
 
--- where nothing is known
-pub index_unknown : (owners : StateOwners) (sets : List ListedStates) → owners.known ≡ false
-    → length owners.codes ≤ length owners.entries.items → IsOwnerIndex owners sets
-index_unknown owners sets not size = record {
-  entered = λ known. absurd (both_ways owners.known not known);
-  size = size;
-}
-
 -- the same sets, with more entries
 pub index_kept : (old new : StateOwners) (sets : List ListedStates) → IsOwnerIndex old sets
     → new.known ≡ old.known → KeepsEntries old new → length new.codes ≤ length new.entries.items
@@ -197,15 +189,6 @@ pub record AreSome (owners : StateOwners) (sets : List ListedStates) (count : �
   pub each : (number : ℕ) → number < count → (set : ListedStates)
       → slice_get sets number ≡ Some set
       → All (λ held. IsEntered owners number set.states held) set.states
-
--- none, to begin with
-pub some_first : (owners : StateOwners) (sets : List ListedStates) → owners.known ≡ true
-    → owners.entries.items ≡ [] → owners.codes ≡ [] → AreSome owners sets 0
-some_first owners sets known entries codes = record {
-  known = known;
-  size = let none = ap (λ (c : List ℕ). length c) codes in omega (arith, none);
-  each = λ number less. absurd (omega arith);
-}
 
 -- one more
 pub some_next : (old new : StateOwners) (sets : List ListedStates) (count : ℕ) (last : ListedStates)
