@@ -1,11 +1,11 @@
 -- A checker and the pieces that it was fed: one more piece, and the end.
 use Rattle.std.proofs.Common.{◌≡◌, ◌+◌, ◌∙◌, ℕ, List, [], ◌∷◌, ◌++◌, Some, None, append_assoc, inl}
-use Rattle.std.proofs.Common.{append-nil, false, inr, refl, reverse, sym, ap, subst}
+use Rattle.std.proofs.Common.{false, inr, refl, reverse, sym, ap, subst}
 use Rattle.std.proofs.lemmas.List.{length_push, reverse-append}
 use Rattle.hv_lines.specs.Good.{IsGood}
-use Rattle.hv_lines.specs.Judged.{Accepts, Concludes, IsPassedOver, IsReason, LineText}
+use Rattle.hv_lines.specs.Judged.{Accepts, IsPassedOver, IsReason, LineText}
 use Rattle.hv_lines.specs.Setting.{Setting}
-use Rattle.hv_lines.specs.Versions.{is_mark, judged_as, judged_from, judged_so_far, judged_whole}
+use Rattle.hv_lines.specs.Versions.{is_mark, judged_as, judged_from, judged_so_far}
 use Rattle.hv_lines.specs.Versions.{last_mark, missing_end, part_after, part_of}
 use Rattle.hv_lines.specs.declared.line.Line.{Line}
 use Rattle.hv_lines.specs.declared.part.Part.{Part}
@@ -13,7 +13,7 @@ use Rattle.hv_lines.specs.declared.part.Part.TheVariants as P
 use Rattle.hv_lines.specs.declared.reason.Reason.{Reason}
 use Rattle.hv_lines.specs.declared.reason.Reason.TheVariants as R
 use Rattle.hv_lines.proofs.Versions.{judged_append, judged_length, last_stays, marked_empty}
-use Rattle.hv_lines.proofs.Versions.{none_last, none_missing, part_append, passed_over}
+use Rattle.hv_lines.proofs.Versions.{none_last, part_append, passed_over}
 use Rattle.hv_lines.proofs.Versions.{skipped_as_is}
 use Rattle.hv_checker.specs.PieceVerdicts.{IsFeedAnswer, IsSpelledBy}
 use Rattle.hv_checker.specs.Checkers.{CheckerState, SaysAtEnd, SaysEnd, HasJudged, HasJudgedAt}
@@ -164,37 +164,6 @@ feeds_on setting part old new piece F.Stopped plain takes = absurd takes
 
 -- the end
 
--- a checker that goes on refuses nothing, but where the end of a closed proof is missing
-none_at : (fed : ℕ) (part : Part) (stop : Stop) → stop ≡ S.Going → (part ≡ P.BeforeEnd → ⊥)
-    → refusal_at fed part stop ≡ None
-none_at fed P.AtStart S.Going going ended = refl
-none_at fed P.Open S.Going going ended = refl
-none_at fed P.BeforeEnd S.Going going ended = absurd (ended refl)
-none_at fed P.PastEnd S.Going going ended = refl
-none_at fed part (S.Refused reason) going ended = absurd (cc)
-none_at fed part S.Memory going ended = absurd (cc)
-
-no_memory : (stop : Stop) → stop ≡ S.Going → stop ≡ S.Memory → ⊥
-no_memory stop going memory = absurd (cc)
-
--- whose lines conclude, says yes, and otherwise that nothing is concluded
-pub says_yes : (checker : CheckerState) → checker.stop ≡ S.Going
-    → (checker.part ≡ P.BeforeEnd → ⊥) → Concludes checker.lines → SaysAtEnd checker E.Unsolvable
-says_yes checker going ended concludes = (
-  none_at checker.fed checker.part checker.stop going ended,
-  no_memory checker.stop going,
-  concludes,
-)
-
-pub says_open : (checker : CheckerState) → checker.stop ≡ S.Going
-    → (checker.part ≡ P.BeforeEnd → ⊥) → (Concludes checker.lines → ⊥)
-    → SaysAtEnd checker E.NoConclusion
-says_open checker going ended silent = (
-  none_at checker.fed checker.part checker.stop going ended,
-  no_memory checker.stop going,
-  silent,
-)
-
 missing_at : (fed : ℕ) (part : Part) (stop : Stop) → stop ≡ S.Going → part ≡ P.BeforeEnd
     → refusal_at fed part stop ≡ Some (record { place = fed + 1; reason = R.Grammar })
 missing_at fed part stop going before =
@@ -207,40 +176,9 @@ says_missing checker going before =
 
 -- the same of the pieces that were fed
 
--- where the end isn't missing, nothing is judged behind the pieces
-whole_ended : (pieces : List LineText) (part : Part) → part ≡ part_of pieces
-    → (part ≡ P.BeforeEnd → ⊥) → judged_whole pieces ≡ judged_so_far pieces
-whole_ended pieces part is ended =
-    ap (λ p. judged_so_far pieces ++ missing_end p) (sym is)
-    ∙ (ap (λ ps. judged_so_far pieces ++ ps) (none_missing part ended)
-    ∙ append-nil (judged_so_far pieces))
-
 module _ (checker : CheckerState) (pieces : List LineText) (stands : HasJudged checker pieces) where
   going_stands : checker.stop ≡ S.Going → HasJudgedAt checker S.Going pieces
   going_stands going = subst (λ s. HasJudgedAt checker s pieces) going stands
-
-  whole_accepted : (going : checker.stop ≡ S.Going) → (checker.part ≡ P.BeforeEnd → ⊥)
-      → Accepts checker.setting (reverse (judged_whole pieces)) checker.lines
-  whole_accepted going ended =
-      let so_far = going_stands going in
-      subst (λ ps. Accepts checker.setting (reverse ps) checker.lines)
-      (sym (whole_ended pieces checker.part so_far.1 ended)) so_far.2
-
-  pub end_yes : checker.stop ≡ S.Going → (checker.part ≡ P.BeforeEnd → ⊥)
-      → Concludes checker.lines → SaysEnd checker pieces E.Unsolvable
-  end_yes going ended concludes = record {
-    lines = checker.lines;
-    accepted = whole_accepted going ended;
-    concludes = concludes;
-  }
-
-  pub end_open : checker.stop ≡ S.Going → (checker.part ≡ P.BeforeEnd → ⊥)
-      → (Concludes checker.lines → ⊥) → SaysEnd checker pieces E.NoConclusion
-  end_open going ended silent = record {
-    lines = checker.lines;
-    accepted = whole_accepted going ended;
-    silent = silent;
-  }
 
   pub end_missing : checker.stop ≡ S.Going → checker.part ≡ P.BeforeEnd
       → SaysEnd checker pieces (E.Refused (checker.fed + 1))

@@ -9,7 +9,7 @@ use Rattle.hv_lines.specs.Numbering.{MayFollow}
 use Rattle.hv_lines.specs.Setting.{Setting}
 use Rattle.hv_lines.specs.declared.line.Line.{Line}
 use Rattle.hv_lines.proofs.Reasons.{good_next}
-use Rattle.hv_checker.specs.Working.Judge.{JudgeState, IsJudge}
+use Rattle.hv_checker.specs.Working.Judge.{IsJudge}
 
 module _ (setting : Setting) (old new : List Line) (store next : Store) (shared : Shared)
     (is : IsJudge (record { setting = setting; lines = old }) store shared) where
@@ -31,16 +31,6 @@ module _ (setting : Setting) (old new : List Line) (store next : Store) (shared 
         stored = stored;
         kept = stays (good_next setting old line good) is.kept;
       }
-
--- and where something else is kept that is right too
-pub bench_kept : (judging : JudgeState) (store : Store) (shared next : Shared)
-    → IsJudge judging store shared → IsShared judging.lines next → IsJudge judging store next
-bench_kept judging store shared next is kept = record {
-  setting = is.setting;
-  good = is.good;
-  stored = is.stored;
-  kept = kept;
-}
 
 -- what is known where nothing is said
 pub none_told : {X : Type 0} (o : Option X) (P : Type 0) (Q : X → Type 0) → MatchOption o P Q

@@ -1,5 +1,5 @@
 -- How a proof is judged, by its version.
-use Rattle.std.proofs.Common.{◌≡◌, ◌≢◌, ◌↔◌, ◌⊎◌, ◌+◌, ◌==◌, ◌∙◌, ℕ, Bool, List, [], ◌∷◌, ◌++◌}
+use Rattle.std.proofs.Common.{◌≡◌, ◌≢◌, ◌↔◌, ◌+◌, ◌==◌, ◌∙◌, ℕ, Bool, List, [], ◌∷◌, ◌++◌}
 use Rattle.std.proofs.Common.{None, Some, append-nil, append_assoc, arith, cond, false, inl, inr}
 use Rattle.std.proofs.Common.{length, refl, reverse, sym, ap, subst, true}
 use Rattle.std.proofs.lemmas.List.{reverse-append}
@@ -8,7 +8,7 @@ use Rattle.std.proofs.lemmas.Bool.Decides.{Decides-eqb}
 use Rattle.std.proofs.lemmas.Slice.Eq.{bytes_eq-Decides}
 use Rattle.std.specs.List.{All}
 use Rattle.std.specs.Str.{bytes_eq}
-use Rattle.hv_lines.specs.Spelling.{IsSkipped, Spells}
+use Rattle.hv_lines.specs.Spelling.{IsSkipped}
 use Rattle.hv_lines.specs.Judged.{Accepts, IsPassedOver, IsReason, IsRefused, Judged, JudgedInOrder}
 use Rattle.hv_lines.specs.Judged.{IsShownBy, Judgement, LineText, Passes}
 use Rattle.hv_lines.specs.Judged as J
@@ -17,7 +17,6 @@ use Rattle.hv_lines.specs.Setting.{Setting}
 use Rattle.hv_lines.specs.Versions.{first_mark, is_mark, judged_as, judged_from, judged_whole}
 use Rattle.hv_lines.specs.Versions.{last_mark, line_behind, missing_end, part_from, part_of}
 use Rattle.hv_lines.specs.declared.line.Line.{Line}
-use Rattle.hv_lines.specs.declared.part.Part.{Part}
 use Rattle.hv_lines.specs.declared.part.Part.TheVariants as P
 use Rattle.hv_lines.specs.declared.reason.Clash.{Clash}
 use Rattle.hv_lines.specs.declared.reason.Reason.{Reason}
