@@ -21,12 +21,6 @@ pub traverses_last : (task : Strips) (list : List ℕ) (last : List Bool)
     → Traverses task list last
 traverses_last task list last h = (list, [], append-nil list, h)
 
--- a traversed state is a state of the task
-pub IsState-Traverses : (task : Strips) (list : List ℕ) (state : List Bool)
-    → Traverses task list state → IsState task state
-IsState-Traverses task list state t = IsState-run_of task t.0 (start_state task) state
-    (IsState-start_state task) t.3
-
 -- what holds of a state that a list traverses, and goes on holding over each step between traversed
 -- states, holds further on:
 -- it can't be that it doesn't
@@ -54,21 +48,6 @@ along task list K each (number ∷ rest) front after state last parts run rest_r
     holds
     (λ next_holds. along task list K each rest (front ++ number ∷ []) after (successor step.0 state)
     last next_parts next_run step.3 next_holds out)
-
--- an invariant of all steps holds of every state that a list traverses
-pub all_along : (task : Strips) (S : List Bool → Type 0)
-    → ((state : List Bool) (number : ℕ) (a : Action) → IsState task state
-    → slice_get task.actions number ≡ Some a
-    → applicable a state ≡ true → S state → S (successor a state))
-    → (list : List ℕ) (state last : List Bool) → IsState task state → S state
-    → run_of task list state ≡ Some last → S last
-all_along task S each [] state last is_state holds run =
-    let same : state ≡ last = cc in subst S same holds
-all_along task S each (number ∷ list) state last is_state holds run =
-    let step = first_step task number list state last run in
-    all_along task S each list (successor step.0 state) last
-    (IsState-successor task step.0 state is_state)
-    (each state number step.0 is_state step.1 step.2 holds) step.3
 
 module _ (task : Strips) (S X : List Bool → Type 0) where
   -- over a plan, a step from S leads to S again, since it leads into S or to a state that is dead
@@ -156,7 +135,3 @@ none_to_goal task dead list solves =
     dead solves.0 (IsState-run_of task list (start_state task) solves.0 (IsState-start_state task)
     solves.1) solves.2 list solves
     (traverses_last task list solves.0 solves.1)
-
--- in a task without a plan every state is dead
-pub all_dead : (task : Strips) → IsUnsolvable task → (state : List Bool) → Dead task state
-all_dead task none state list solves traverses = none list solves

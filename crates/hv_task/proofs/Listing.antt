@@ -1,8 +1,7 @@
 -- The atoms that a state holds, as a list that rises.
-use Rattle.std.proofs.Common.{◌≡◌, ℕ, ◌+◌, ◌<◌, ◌↔◌, ◌∙◌, Bool, true, List, [], ◌∷◌, ◌++◌, Some}
-use Rattle.std.proofs.Common.{None, length, get_or, sym, ap, arith, inl, inr, subst}
+use Rattle.std.proofs.Common.{◌≡◌, ℕ, ◌+◌, ◌<◌, ◌↔◌, Bool, true, List, [], ◌∷◌, ◌++◌, Some}
+use Rattle.std.proofs.Common.{None, length, get_or, arith, inl, inr, subst}
 use Rattle.std.proofs.lemmas.Bool.{both_ways, cases_lt}
-use Rattle.std.proofs.lemmas.Bool.Decides.{same_from_decides}
 use Rattle.std.proofs.lemmas.List.{get_or_push, get_or_append_left, length_push}
 use Rattle.std.proofs.lemmas.List.Elements.{Contains-get_or, Contains-append_left, Contains-push}
 use Rattle.std.proofs.lemmas.List.Elements.{Contains-push_cases}
@@ -10,10 +9,8 @@ use Rattle.std.specs.List.{Contains}
 use Rattle.std.specs.List.Sorted.{IsStrictlyIncreasing}
 use Rattle.hv_task.specs.AtomList.{IsListOf}
 use Rattle.hv_task.specs.Atoms.{IsNext, Lists}
-use Rattle.hv_task.specs.State.{AreBelow, has_atom, names_atom, state_of}
-use Rattle.hv_task.proofs.Places.{has_atom_past, has_atom-state_of, length-state_of, same_state}
-use Rattle.hv_task.proofs.Places.{names_atom-Decides}
-use Rattle.hv_task.proofs.Rising.{same_rising}
+use Rattle.hv_task.specs.State.{has_atom}
+use Rattle.hv_task.proofs.Places.{has_atom_past}
 
 -- a greater atom at the end keeps a list rising
 pub rises-push : (xs : List ℕ) (i : ℕ) → IsStrictlyIncreasing xs
@@ -92,37 +89,3 @@ lists_state state from xs lists next = record {
       let all = lists_all (has_atom state) from xs lists next a in
       (λ c. let held = all.0 c in (within_state state a held, held), λ f. all.1 f.1);
 }
-
--- a list that rises and has just the atoms of a state is the state
-pub state_of-listed : (state : List Bool) (held : List ℕ) → IsListOf state held
-    → state_of (length state) held ≡ state
-state_of-listed state held listed =
-    let size : length (state_of (length state) held)
-    ≡ length state = length-state_of (length state) held in
-    same_state (state_of (length state) held) state size
-    (λ p within.
-    let below : p < length state = omega arith in
-    has_atom-state_of (length state) held p below ∙ named p below)
-  where
-    named : (p : ℕ) → p < length state → names_atom held p ≡ has_atom state p
-    named p below =
-        same_from_decides (names_atom held p) (has_atom state p) (names_atom-Decides held p)
-        (λ holds. (listed.has p).1 (below, holds), λ c. ((listed.has p).0 c).1)
-
--- the states of two lists that rise, of atoms below a number, are one only where the lists are
-pub same_listed : (n : ℕ) (xs ys : List ℕ) → IsStrictlyIncreasing xs → IsStrictlyIncreasing ys
-    → AreBelow n xs → AreBelow n ys
-    → state_of n xs ≡ state_of n ys → xs ≡ ys
-same_listed n xs ys rises_x rises_y below_x below_y same =
-    same_rising xs ys rises_x rises_y (names_in xs ys below_x same)
-    (names_in ys xs below_y (sym same))
-  where
-    names_in : (us vs : List ℕ) → AreBelow n us → state_of n us ≡ state_of n vs → (a : ℕ)
-        → Contains us a → Contains vs a
-    names_in us vs below e a c =
-        let within : a < n = subst (λ b. b < n) c.2 (below c.0 a c.1) in
-        let named : names_atom us a ≡ true = (names_atom-Decides us a).1 c in
-        let other : names_atom us a ≡ names_atom vs a =
-        sym (has_atom-state_of n us a within)
-        ∙ (ap (λ s. has_atom s a) e ∙ has_atom-state_of n vs a within) in
-        (names_atom-Decides vs a).0 (sym other ∙ named)

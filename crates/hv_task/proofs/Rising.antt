@@ -1,7 +1,7 @@
 -- Lists that rise: an atom put in, and two lists with the same atoms.
 use Rattle.std.proofs.Common.{◌≡◌, ℕ, suc, ◌+◌, ◌-◌, ◌<◌, ◌≤◌, ◌∙◌, ◌⊎◌, ◌↔◌, List, [], ◌∷◌, ◌++◌}
 use Rattle.std.proofs.Common.{length, get_or, take, drop, refl, sym, ap, arith, inl, inr, Result}
-use Rattle.std.proofs.Common.{Ok, Err, subst, add-one}
+use Rattle.std.proofs.Common.{Err, subst, add-one}
 use Rattle.std.proofs.lemmas.Bool.{cases_lt, cases_order}
 use Rattle.std.proofs.lemmas.List.{get_or_default, take-append-drop}
 use Rattle.std.proofs.lemmas.List.Edits.{length-insert, get_or-insert_below, get_or-insert_at}
@@ -130,24 +130,6 @@ Inserts-insert xs x i rises place =
       has = has-insert xs i x
           place.0;
     }
-
--- an atom that is there
-pub Inserts-there : (xs : List ℕ) (x : ℕ) → IsStrictlyIncreasing xs → Contains xs x
-    → Inserts xs x xs
-Inserts-there xs x rises there = record {
-  rises = rises;
-  has = λ a. (
-    λ c. inl c,
-    λ e. elim e [
-      | inl c ↦ c
-      | inr same ↦ subst
-          (λ y. Contains xs y) (sym same) there
-    ],
-  );
-}
-
-pub Contains-place : (xs : List ℕ) (x i : ℕ) → IsPlaceOf xs x (Ok i) → Contains xs x
-Contains-place xs x i place = from_place xs x i place.0 place.1
 
 -- an atom that belongs somewhere isn't there
 pub absent_from_place : (xs : List ℕ) (x i : ℕ) → IsPlaceOf xs x (Err i) → Contains xs x → ⊥

@@ -141,30 +141,6 @@ set_below atoms listed k d l =
     let c = listed_from_set atoms listed (get_or set k d)
     (k, l, get_or_default set k (get_or set k d) d l) in c.0
 
-pub set_inserted : (atoms n : ℕ) (listed : List ℕ) → n < atoms
-    → Inserts (set_of atoms listed) n (set_of atoms (listed ++ n ∷ []))
-set_inserted atoms n listed l = record {
-  rises = set_rises atoms _;
-  has = λ a. (
-    (λ c. let w = listed_from_set atoms (listed ++ n ∷ []) a c in
-        elim (Contains-push_cases listed n a w.1)
-        [ inl k ↦ inl (set_has atoms listed a w.0 k) | inr e ↦ inr (sym e) ]),
-    (λ c. elim c [
-      | inl k ↦ let w = listed_from_set atoms listed a k in
-          set_has atoms _ a w.0 (Contains-append_left listed (n ∷ []) a w.1)
-      | inr e ↦ subst (λ b. Contains (set_of atoms (listed ++ n ∷ [])) b) (sym e)
-          (set_has atoms _ n l (Contains-push listed n))
-    ]),
-  );
-}
-
--- what is put into a set determines the new set
-pub inserted_once : (old : List ℕ) (n : ℕ) (a b : List ℕ) → Inserts old n a → Inserts old n b
-    → a ≡ b
-inserted_once old n a b i j =
-    same_rising a b i.rises j.rises (λ x c. (j.has x).1 ((i.has x).0 c))
-    (λ x c. (i.has x).1 ((j.has x).0 c))
-
 has_below_sum : (a : ℕ) (xs : List ℕ) → Has a xs → a ≤ sum xs
 has_below_sum a [] h = absurd h
 has_below_sum a (x ∷ xs) (inl e) = let more = sum_by-cons (λ n. n) x xs in omega arith

@@ -1,8 +1,6 @@
 //! The result of an action, read without being built.
 
-ghost use Rattle.std.specs.Prelude.{◌≡◌, ◌||◌, ℕ, Bool};
 ghost use Rattle.std.specs.List.Sorted.{IsStrictlyIncreasing};
-ghost use Rattle.hv_task.specs.State.{names_atom};
 ghost use Rattle.hv_task.specs.Atoms.{IsNext, is_kept, is_after};
 ghost use Rattle.hv_task.specs.Working.Atoms.{IsNextOfBoth};
 

@@ -3,9 +3,9 @@
 ghost use Rattle.std.specs.Prelude.{◌≡◌, ◌<◌, ◌&&◌, ◌||◌, ℕ, Bool, List, length, not};
 ghost use Rattle.hv_task.specs.declared.action.Action.{Action};
 ghost use Rattle.hv_task.specs.State.{has_atom, names_atom, state_of, successor};
-ghost use Rattle.hv_task.specs.Strips.{start_state, is_goal};
+ghost use Rattle.hv_task.specs.Strips.{start_state};
 ghost use Rattle.hv_task.specs.Plan.{Dead, IsUnsolvable};
-ghost use Rattle.hv_task.specs.Deadness.{AreDead, Passing, Progression, Regression};
+ghost use Rattle.hv_task.specs.Deadness.{Progression, Regression};
 ghost use Rattle.hv_task.specs.Deadness.{ProgressionFromStart, RegressionToStart, HasDeadGoals};
 
 use crate::task::Task;
