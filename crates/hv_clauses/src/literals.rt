@@ -51,6 +51,7 @@ pub(crate) fn has_true(
 }
 
 // Marks a literal as true. The answer is false if it is known to be false.
+#[inline(always)]
 pub(crate) fn force(literal: Literal, effect: &ActionEffect<'_>, marks: &mut Assignment<'_>) -> bool
     requires { literal.atom < length marks.old.roots }
     ensures forced { IsConcluded (λ state. in_literal literal (over effect.now state) ≡ true)

@@ -54,6 +54,7 @@ impl Occurrences {
     }
 
     /// Where a literal stands.
+    #[inline(always)]
     pub(crate) fn standing(&self, literal: Literal) -> Standing<'_>
         requires { (clauses : List (List Literal)) × IsIndexOf clauses self.now }
         ensures literal { result.literal ≡ literal }
@@ -91,6 +92,7 @@ impl SignedOccurrences {
     }
 
     // Where a literal of this sign stands.
+    #[inline(always)]
     fn standing(&self, literal: Literal) -> Standing<'_>
         requires { (clauses : List (List Literal))
             × AreOccurrences literal.positive clauses self.now }
