@@ -11,17 +11,18 @@ ghost use Rattle.hv_clauses.specs.Working.Walked.{denial_for, denied_along};
 use crate::clause_kind::ClauseKind;
 use crate::formula::Formula;
 use crate::ranking;
+use crate::ranking::LiteralOrder;
 use hv_paths::{WalkStop, Walker};
 use hv_sets::Literal;
 use std::alloc::{AllocError, Global};
 
 /// The walk over the clauses of a formula. The cube of each has the opposites of its literals, in
-/// the order of the walk, and the clauses come in the order of their first two.
+/// the order of the walk, and the clauses come by those literals that come first, and then in the
+/// order of their first two others.
 #[derive(Drop)]
 pub struct ClauseWalk<'a, K: ClauseKind> {
     set: &'a Formula<K>,
-    // The places of the atoms in the order of the walk, where that isn't the rising one.
-    places: Option<&'a [u32]>,
+    literal_order: LiteralOrder<'a>,
     // The codes of the places of the clauses, and how many clauses were taken.
     order: Vec<usize>,
     taken: usize,
@@ -45,10 +46,12 @@ impl<'a, K: ClauseKind> ClauseWalk<'a, K> {
         ensures all { IfOk result (λ walk. (s : List Bool) → IsStateOf set.now.atoms s
             → in_cubes (⟦<ClauseWalk<'a, K> as Walker>⟧.left walk) s ≡ not (in_formula set.now s)) }
     {
-        let order = ranking::of_clauses(alloc, set.clauses(), places)?;
+        let clauses = set.clauses();
+        let literal_order = LiteralOrder::new(alloc, clauses.len(), set.occurs(), places)?;
+        let order = ranking::of_clauses(alloc, clauses, &literal_order)?;
         Ok(ClauseWalk {
             set,
-            places,
+            literal_order,
             order,
             taken: 0,
             literals: Vec::new(alloc),
@@ -74,7 +77,7 @@ impl<'a, K: ClauseKind> Walker for ClauseWalk<'a, K> {
         }
         let code = self.order[self.taken];
         let clause = clauses.get(ranking::place_of(code));
-        ranking::of_literals(&mut self.codes, clause, self.places)?;
+        ranking::of_literals(&mut self.codes, clause, &self.literal_order)?;
         let codes = self.codes.as_slice();
         let kept = common(self.literals.as_slice(), clause, codes);
         self.literals.truncate(kept);

@@ -24,8 +24,9 @@ impl<'a, K: ClauseKind + 'a> OutsideWalked<'a> for Formula<K> {
 impl<'a, K: ClauseKind + 'a> InsideAsked<'a> for Formula<K> {
     type Ask = ListedAsk<'a, K, FormulaAsk<'a, K>>;
 
+    // Places of no atom: each order serves.
     fn places_inside(&'a self) -> Option<&'a [u32]> {
-        None
+        Some(&[])
     }
 
     fn ask_inside(
@@ -40,8 +41,9 @@ impl<'a, K: ClauseKind + 'a> InsideAsked<'a> for Formula<K> {
 impl<'a, K: ClauseKind + 'a> OutsideAsked<'a> for Formula<K> {
     type Ask = ListedAsk<'a, K, RestAsk<'a, K, OutsideAsk<'a, Formula<K>>>>;
 
+    // Places of no atom: each order serves.
     fn places_outside(&'a self) -> Option<&'a [u32]> {
-        None
+        Some(&[])
     }
 
     fn ask_outside(

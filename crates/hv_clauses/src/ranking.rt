@@ -1,9 +1,10 @@
 //! The order in which a walk takes clauses, and their literals: codes of the places, which rise as
 //! the walk goes.
 
-ghost use Rattle.std.specs.Prelude.{◌≡◌, ◌<◌, length, IfOk, OnOk};
+ghost use Rattle.std.specs.Prelude.{◌≡◌, ◌<◌, ◌≤◌, length, IfOk, OnOk};
 ghost use Rattle.hv_clauses.specs.Walked.{OrdersUpto, place_in};
 
+use crate::occurrences::{Occurrences, SignedOccurrences};
 use crate::rows;
 use hv_sets::{Clauses, Literal};
 use std::alloc::{AllocError, Global};
@@ -12,15 +13,98 @@ use std::alloc::{AllocError, Global};
 // clauses, and fewer literals, since each takes two bytes at least; so no place comes near 2^28.
 const PLACES: usize = 1 << 28;
 
-const RANKS: usize = 1 << 34;
+const RANKS: usize = 1 << 36;
 
-// The keys of two literals make a rank; the last key is that of no literal.
+// A rank is that of a group and of the keys of two literals; the last key is that of no literal.
 const KEYS: usize = 1 << 17;
 
 const LAST: usize = KEYS - 1;
 
-// Where a literal is in the order of the walk: by the place of its atom, where places are told.
-fn key_of(literal: Literal, places: Option<&[u32]>) -> usize {
+const PAIRS: usize = KEYS * KEYS;
+
+// Of so many clauses, or more, those literals come first that are in more than half, and so many at
+// most. The clauses with the same of these are a group.
+const MANY_CLAUSES: usize = 16;
+
+const MOST_SHARED: usize = 16;
+
+const MOST_GROUPS: usize = 1 << MOST_SHARED;
+
+/// The order of the literals in a walk: those that come first, and then the others by the places of
+/// their atoms.
+#[derive(Drop)]
+pub(crate) struct LiteralOrder<'a> {
+    shared: Vec<Literal>,
+    places: Option<&'a [u32]>,
+}
+
+impl<'a> LiteralOrder<'a> {
+    /// The order in a walk over so many clauses, whose literals stand there. Where no places are
+    /// told, it is that of the atoms. Where places are told, but of no atom, each order serves;
+    /// then literals that most of the clauses have come first, so that the cubes of the walk have
+    /// them in common.
+    pub(crate) fn new(
+        alloc: Global,
+        count: usize,
+        occurs: &Occurrences,
+        places: Option<&'a [u32]>,
+    ) -> Result<LiteralOrder<'a>, AllocError> {
+        let mut shared = Vec::new(alloc);
+        if count >= MANY_CLAUSES && is_of_none(places) {
+            put_shared(&mut shared, count, &occurs.negative, false)?;
+            put_shared(&mut shared, count, &occurs.positive, true)?;
+        }
+        Ok(LiteralOrder { shared, places })
+    }
+}
+
+// Whether places are told, but of no atom.
+fn is_of_none(places: Option<&[u32]>) -> bool {
+    match places {
+        None => false,
+        Some(places) => places.is_empty(),
+    }
+}
+
+// Puts the literals of this sign last that are in more than half of so many clauses.
+fn put_shared(
+    shared: &mut Vec<Literal>,
+    count: usize,
+    signed: &SignedOccurrences,
+    positive: bool,
+) -> Result<(), AllocError> {
+    let heads = signed.heads.as_slice();
+    for place in 0..heads.len() {
+        let end = match heads.get(place + 1) {
+            None => signed.places.len(),
+            Some(next) => next.start as usize,
+        };
+        let head = heads[place];
+        let standing = end.saturating_sub(head.start as usize);
+        if standing > count / 2 && shared.len() < MOST_SHARED {
+            shared.push(Literal {
+                atom: head.key,
+                positive,
+            })?;
+        }
+    }
+    Ok(())
+}
+
+// Where a literal is in the order of the walk: behind those that come first, if it isn't one of
+// them, by the place of its atom.
+fn key_of(literal: Literal, order: &LiteralOrder<'_>) -> usize {
+    let shared = order.shared.as_slice();
+    match shared.iter().position(|one| *one == literal) {
+        Some(place) => place,
+        None => shared.len().min(LAST) + late_key(literal, order.places),
+    }
+}
+
+// Where a literal is among those that don't come first.
+fn late_key(literal: Literal, places: Option<&[u32]>) -> usize
+    ensures { result < 8589934592 }
+{
     let place = match places {
         None => literal.atom,
         Some(places) => place_of_atom(places, literal.atom),
@@ -51,12 +135,12 @@ pub(crate) fn place_of(code: usize) -> usize
     code % PLACES
 }
 
-// The places of the clauses, in the order of their first two literals. More than 268,435,456
-// clauses are taken as out of memory.
+// The places of the clauses, by the literals that come first and are in them, and then by their
+// first two others. More than 268,435,456 clauses are taken as out of memory.
 pub(crate) fn of_clauses(
     alloc: Global,
     clauses: &Clauses,
-    places: Option<&[u32]>,
+    order: &LiteralOrder<'_>,
 ) -> Result<Vec<usize>, AllocError>
     ensures { IfOk result (λ codes. OrdersUpto (length clauses.now) codes.items) }
 {
@@ -65,7 +149,7 @@ pub(crate) fn of_clauses(
     }
     let mut codes = Vec::with_capacity(alloc, clauses.len())?;
     for place in 0..clauses.len() {
-        codes.push(code_of(rank_of(clauses.get(place), places), place))?;
+        codes.push(code_of(rank_of(clauses.get(place), order), place))?;
     }
     rows::sort(&mut codes);
     Ok(codes)
@@ -76,7 +160,7 @@ pub(crate) fn of_clauses(
 pub(crate) fn of_literals(
     codes: &mut Vec<usize>,
     clause: &[Literal],
-    places: Option<&[u32]>,
+    order: &LiteralOrder<'_>,
 ) -> Result<(), AllocError>
     ensures { OnOk result (OrdersUpto (length clause.now) codes.new.items) }
 {
@@ -85,20 +169,28 @@ pub(crate) fn of_literals(
     }
     codes.clear();
     for place in 0..clause.len() {
-        codes.push(code_of(key_of(clause[place], places), place))?;
+        codes.push(code_of(key_of(clause[place], order), place))?;
     }
     rows::sort(codes);
     Ok(())
 }
 
-// The rank of a clause: by the two least keys of its literals.
-fn rank_of(clause: &[Literal], places: Option<&[u32]>) -> usize
+// The rank of a clause: by which of the literals that come first are in it, and then by the two
+// least keys of the others.
+fn rank_of(clause: &[Literal], order: &LiteralOrder<'_>) -> usize {
+    let group = group_of(clause, order.shared.as_slice());
+    let rank = rank_of_others(clause, order);
+    (group.number * RANKS + rank * (RANKS / PAIRS)) / group.count
+}
+
+// The rank of a clause by the two least keys of the literals that don't come first.
+fn rank_of_others(clause: &[Literal], order: &LiteralOrder<'_>) -> usize
     ensures { result < 17179869184 }
 {
     let mut first = LAST;
     let mut second = LAST;
     for literal in clause {
-        let key = key_of(*literal, places).min(LAST);
+        let key = key_of_other(*literal, order);
         if key < first {
             second = first;
             first = key;
@@ -106,5 +198,48 @@ fn rank_of(clause: &[Literal], places: Option<&[u32]>) -> usize
             second = key;
         }
     }
-    (first * KEYS + second) % RANKS
+    first * KEYS + second
+}
+
+// The key of a literal that doesn't come first; that of any other is that of no literal.
+fn key_of_other(literal: Literal, order: &LiteralOrder<'_>) -> usize
+    ensures { result ≤ 131071 }
+{
+    if has(order.shared.as_slice(), literal) {
+        LAST
+    } else {
+        late_key(literal, order.places).min(LAST)
+    }
+}
+
+// A group of clauses, and how many groups there are.
+#[derive(Clone, Copy)]
+struct ClauseGroup {
+    number: usize,
+    count: usize,
+}
+
+// The group of a clause: those are in one that have the same of these literals. Those with the
+// first of them come before those without, and so on within both.
+fn group_of(clause: &[Literal], shared: &[Literal]) -> ClauseGroup
+    ensures { (result.number < result.count) × (result.count ≤ 65536) }
+{
+    let mut group = ClauseGroup {
+        number: 0,
+        count: 1,
+    };
+    for literal in shared {
+        if group.count > MOST_GROUPS / 2 {
+            return group;
+        }
+        group = ClauseGroup {
+            number: group.number * 2 + !has(clause, *literal) as usize,
+            count: group.count * 2,
+        };
+    }
+    group
+}
+
+fn has(literals: &[Literal], literal: Literal) -> bool {
+    literals.iter().any(|one| *one == literal)
 }
