@@ -37,3 +37,4 @@ pub mod Mated
 pub mod Ordering
 pub mod Truths
 pub mod Owned
+pub mod Around

@@ -30,3 +30,4 @@ pub mod Walked
 pub mod Rest
 pub mod Mates
 pub mod Owners
+pub mod UnitRounds

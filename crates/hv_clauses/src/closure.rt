@@ -17,8 +17,9 @@ use crate::constraint::BareClauses;
 use crate::effect::ActionEffect;
 use crate::occurrences::Occurrences;
 use crate::trail::Assignment;
-use crate::{chase, propagation};
-use hv_sets::{Clauses, Literal};
+use crate::unit_rounds::RoundsEnd;
+use crate::{chase, propagation, unit_rounds};
+use hv_sets::{Clauses, Cube, Literal};
 use std::alloc::{AllocError, Global};
 
 /// Where the literals of clauses stand, and what follows from the clauses alone: that they are true
@@ -69,8 +70,36 @@ fn watches_of(clauses: &Clauses) -> usize {
     count.saturating_mul(2)
 }
 
-// Lists what follows from the clauses. The answer is false only if they are true in no state.
+// Lists what follows from the clauses. The answer is false only if they are true in no state. Of
+// clauses that are few beside the atoms it is found out without rows.
 fn force(
+    alloc: Global,
+    atoms: usize,
+    clauses: &Clauses,
+    occurs: &Occurrences,
+    watches: usize,
+    forced: &mut Vec<Literal>,
+) -> Result<bool, AllocError>
+    requires few { atoms ≤ 2 ^ 31 }
+    requires clauses { AreClauses atoms clauses.now }
+    requires index { IsIndexOf clauses.now occurs.now }
+    requires none { forced.old.items ≡ [] }
+    ensures forced { IfOk result (λ r. r ≡ true → AreForced atoms clauses.now forced.new.items) }
+    ensures never { IfOk result (λ r. r ≡ false → AreNever atoms clauses.now) }
+{
+    let mut cube = Cube::new(alloc);
+    match unit_rounds::run(clauses, atoms, &mut cube)? {
+        RoundsEnd::Settled => {
+            forced.extend_from_slice(cube.as_slice())?;
+            Ok(true)
+        }
+        RoundsEnd::Broken => Ok(false),
+        RoundsEnd::Open => force_in_rows(alloc, atoms, clauses, occurs, watches, forced),
+    }
+}
+
+// The same in rows as long as there are atoms.
+fn force_in_rows(
     alloc: Global,
     atoms: usize,
     clauses: &Clauses,

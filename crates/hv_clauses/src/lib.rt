@@ -42,6 +42,7 @@ mod rows;
 mod signed;
 mod start;
 mod trail;
+mod unit_rounds;
 mod watched;
 
 pub use clause_kind::ClauseKind;

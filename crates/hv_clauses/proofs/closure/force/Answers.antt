@@ -1,14 +1,23 @@
-use Rattle.std.proofs.Common.{◌∙◌, [], length, sym, ap, refl}
-use Rattle.hv_clauses.specs.Working.Trail.{Knowledge}
-use Rattle.hv_clauses.proofs.Forced.{forced_from}
-use Rattle.hv_clauses.proofs.Trailed.{length-marked}
+use Rattle.std.proofs.Common.{◌≡◌, ◌∙◌, ◌++◌, [], sym, ap, subst}
+use Rattle.hv_clauses.specs.declared.unit_rounds.RoundsEnd.{RoundsEnd}
+use Rattle.hv_clauses.specs.Working.Closure.{AreForced}
+use Rattle.hv_clauses.specs.Working.Trail.{marked}
+use Rattle.hv_clauses.specs.Working.UnitRounds.{IsAround, RoundsTell}
+use Rattle.hv_clauses.specs.Working.Units.{AreSettled}
+use Rattle.hv_clauses.proofs.Around.{forced_around}
 use Rattle.hv_clauses.proofs.closure.force.Goals as goal
 
-pub returns-clause-forced : goal.returns-clause-forced
-returns-clause-forced c = λ _.
-    let wide = ap (λ (k : Knowledge). length k.roots) c.over-marks.ensures
-    ∙ length-marked c.args.atoms [] in
-    forced_from c.args.atoms c.args.clauses.now c.conclude.new.marks c.list.new.forced.items
-    (c.if-not-conclude.ensures.size ∙ wide) c.in_ok-list.ensures.rises c.in_ok-list.ensures.same
-    (c.if-not-conclude.ensures.settled refl)
-    (λ state size holds. c.if-not-conclude.ensures.follows refl state (size ∙ sym wide) holds)
+pub returns-in-Settled-clause-forced : goal.returns-in-Settled-clause-forced
+returns-in-Settled-clause-forced c = λ _.
+    let atoms = c.args.atoms in
+    let clauses = c.args.clauses.now in
+    let cube = c.as_slice.result.now in
+    let same : cube ≡ c.run.new.cube = c.as_slice.ensures.items in
+    let told = subst (λ (e : RoundsEnd). RoundsTell atoms clauses c.run.new.cube e)
+    c.in-Settled.is c.in_ok-run.ensures.tells in
+    subst (AreForced atoms clauses)
+    (sym (c.in_ok-extend_from_slice-in-Settled.ensures.items
+    ∙ ap (λ xs. xs ++ cube) c.requires.none))
+    (forced_around atoms clauses cube c.as_slice.ensures.rises
+    (subst (IsAround atoms clauses) (sym same) c.in_ok-run.ensures.around)
+    (subst (λ ls. AreSettled [] clauses (marked atoms ls)) (sym same) told))
