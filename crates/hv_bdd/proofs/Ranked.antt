@@ -1,11 +1,12 @@
 -- The line of an order, spelled and read.
 use Rattle.std.proofs.Common.{◌≡◌, ℕ, ◌<◌, ◌≤◌, ◌^◌, ◌∙◌, ◌++◌, Bool, true, false, List, []}
-use Rattle.std.proofs.Common.{◌∷◌, Option, None, Some, cond, eqb, length, map, nat_lt, refl, sym, ap, subst, arith}
-use Rattle.std.specs.Prelude.{codes, decimal, is_some, option_and_then, option_map}
+use Rattle.std.proofs.Common.{◌∷◌, Option, None, Some, cond, eqb, length, map, nat_lt, refl, sym, ap}
+use Rattle.std.proofs.Common.{subst, arith}
+use Rattle.std.specs.Prelude.{codes, decimal, is_some, option_and_then, option_map, MatchOption}
 use Rattle.std.proofs.lemmas.List.{length-append}
 use Rattle.std.specs.List.{All, join_with_byte}
 use Rattle.std.specs.Str.{bytes_eq}
-use Rattle.std.proofs.lemmas.Bool.{lt-ltb, ltb-true}
+use Rattle.std.proofs.lemmas.Bool.{cond-false, cond-true, le-ltb, lt-ltb, ltb-true}
 use Rattle.std.proofs.lemmas.Slice.Eq.{bytes_eq-Decides}
 use Rattle.std.proofs.lemmas.List.Elements.{All-nil, All-cons, All-head, All-tail, All-weaker}
 use Rattle.std.proofs.lemmas.List.Splits.{join_with_byte-slice_split, slice_split_at}
@@ -17,7 +18,9 @@ use Rattle.hv_grammar.proofs.Numerals.{behind_append, decimal_of_is, is_decimal_
 use Rattle.hv_bdd.specs.Order.{IsOrder}
 use Rattle.hv_bdd.specs.OrderLine.{begins_with, if_order, is_order, named_atom, named_atoms}
 use Rattle.hv_bdd.specs.OrderLine.{order_line, order_of_fields}
+use Rattle.hv_bdd.specs.Working.Inverse.{fields_left}
 use Rattle.hv_bdd.specs.Working.NodeText.{list_over}
+use Rattle.hv_bdd.proofs.Parted.{BeginsWithNone, no_decimal, spelled}
 use Rattle.hv_bdd.proofs.Permuted.{below_from, is_from, order_from, size_of}
 
 -- The atoms that fields name.
@@ -82,6 +85,48 @@ names atoms (n ∷ ns) few below =
     (atom_spelled atoms n few (All-head (λ a. a < atoms) n ns below))
     ∙ ap (option_map (λ ms. n ∷ ms))
     (names atoms ns few (All-tail (λ a. a < atoms) n ns below))
+
+-- The atom that the first field names.
+
+abbrev if_below : ℕ → ℕ → Option ℕ
+if_below atoms n = cond (nat_lt n atoms) (Some n) None
+
+abbrev put_first : Option (List ℕ) → ℕ → Option (List ℕ)
+put_first rest n = option_map (λ ns. n ∷ ns) rest
+
+pub none_named : (atoms : ℕ) (fields : List (List ℕ)) → 0 < length fields → BeginsWithNone fields
+    → named_atoms atoms fields ≡ None
+none_named atoms [] some none = absurd (omega arith)
+none_named atoms (field ∷ fields) some none =
+    ap (λ o. option_and_then (put_first (named_atoms atoms fields))
+    (option_and_then (if_below atoms) o))
+    (no_decimal field fields none)
+
+module _ (atoms n : ℕ) (later : List (List ℕ)) (short : n < 10 ^ 18) where
+  pub too_great : atoms ≤ n → named_atoms atoms (decimal n ∷ later) ≡ None
+  too_great great =
+      ap (λ o. option_and_then (put_first (named_atoms atoms later))
+      (option_and_then (if_below atoms) o))
+      (spelled n short)
+      ∙ ap (option_and_then (put_first (named_atoms atoms later)))
+      (cond-false (nat_lt n atoms) (Some n) None (le-ltb n atoms great))
+
+  pub first_is : n < atoms → named_atoms atoms (decimal n ∷ later)
+      ≡ option_map (λ ns. n ∷ ns) (named_atoms atoms later)
+  first_is less =
+      ap (λ o. option_and_then (put_first (named_atoms atoms later))
+      (option_and_then (if_below atoms) o))
+      (spelled n short)
+      ∙ ap (option_and_then (put_first (named_atoms atoms later)))
+      (cond-true (nat_lt n atoms) (Some n) None (lt-ltb n atoms less))
+
+-- the fields behind the first one
+pub left_is : {A : Type 0} (line : List ℕ) (n : ℕ) (behind : Option A) (now : A → List ℕ)
+    → MatchOption behind (cut_fields line ≡ decimal n ∷ [])
+    (λ rest. cut_fields line ≡ decimal n ∷ cut_fields (now rest))
+    → cut_fields line ≡ decimal n ∷ fields_left behind now
+left_is line n None now is = is
+left_is line n (Some rest) now is = is
 
 -- more atoms than there are are no order
 too_many : (atoms : ℕ) (ns : List ℕ) → atoms < length ns → if_order atoms ns ≡ None

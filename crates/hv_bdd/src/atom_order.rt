@@ -1,19 +1,19 @@
 //! Orders of the atoms of a task.
 
-ghost use Rattle.std.specs.Prelude.{◌≡◌, ◌<◌, ◌≤◌, ℕ, Some, true, false, IfOk, IfSome, length};
+ghost use Rattle.std.specs.Prelude.{◌≡◌, ◌<◌, ◌≤◌, ◌∷◌, ℕ, None, Some, true, false, IfNone, IfOk};
+ghost use Rattle.std.specs.Prelude.{IfSome, length};
 ghost use Rattle.std.specs.Prelude.{option_and_then, option_map, slice_index_or};
 ghost use Rattle.std.specs.List.{All};
 ghost use Rattle.hv_bytes.specs.Fields.{cut_fields};
 ghost use Rattle.hv_task.specs.Atoms.{IsNext};
 ghost use Rattle.hv_task.specs.State.{has_atom};
 ghost use Rattle.hv_bdd.specs.Order.{position};
-ghost use Rattle.hv_bdd.specs.OrderLine.{if_order, is_order, named_atom, named_atoms};
+ghost use Rattle.hv_bdd.specs.OrderLine.{if_order, is_order, named_atoms};
 ghost use Rattle.hv_bdd.specs.OrderLine.{order_of_fields};
 ghost use Rattle.hv_bdd.specs.Working.Inverse.{AreInverse, fields_left};
 
 use crate::atom_bits::ListedState;
-use hv_bytes::split_field;
-use hv_grammar::decimal;
+use hv_bytes::{decimal_front, split_field};
 use std::alloc::{AllocError, Global};
 use std::marker::Model;
 
@@ -119,16 +119,20 @@ fn note_places(order: &[u32], places: &mut Vec<u32>) -> bool
     true
 }
 
-// The atom that a field names, of a task with so many.
-fn named_atom(field: &[u8], atoms: u32) -> Option<u32>
-    ensures atom { result ≡ named_atom atoms field.now }
-    ensures below { IfSome result (λ n. n < atoms) }
+// The atom that the first field of a line names, of a task with so many, and what follows.
+fn atom_front(line: &[u8], atoms: u32) -> Option<(u32, Option<&[u8]>)>
+    ensures none { IfNone result (named_atoms atoms (cut_fields line.now) ≡ None) }
+    ensures some { IfSome result (λ p. named_atoms atoms (cut_fields line.now)
+        ≡ option_map (λ ns. p.0 ∷ ns) (named_atoms atoms (fields_left p.1 (λ f. f.now)))) }
+    ensures below { IfSome result (λ p. p.0 < atoms) }
+    ensures fewer { IfSome result (λ p.
+        length (fields_left p.1 (λ f. f.now)) < length (cut_fields line.now)) }
 {
-    let number = decimal(field)?;
+    let (number, behind) = decimal_front(line)?;
     if number >= u64::from(atoms) {
         return None;
     }
-    Some(number as u32)
+    Some((number as u32, behind))
 }
 
 // The atoms that the fields name, where each names one. More of them than there are atoms are no
@@ -154,8 +158,7 @@ fn named_atoms(
         if named.len() >= atoms as usize {
             return Ok(None);
         }
-        let (field, behind) = split_field(line);
-        let Some(atom) = named_atom(field, atoms) else {
+        let Some((atom, behind)) = atom_front(line, atoms) else {
             return Ok(None);
         };
         named.push(atom)?;
