@@ -8,7 +8,7 @@ ghost use Rattle.hv_bdd.specs.Building.{fault_of, is_later, plain_fault};
 ghost use Rattle.hv_bdd.specs.Working.Building.{as_node, with_node};
 ghost use Rattle.hv_bdd.specs.Working.Inverse.{AreInverse};
 ghost use Rattle.hv_bdd.specs.Working.NodeText.{node_start};
-ghost use Rattle.hv_bdd.specs.Working.Search.{HasPlaces};
+ghost use Rattle.hv_bdd.specs.Working.Search.{ArePlaced};
 ghost use Rattle.hv_bdd.specs.Nodes.{IsNode, in_node, no_nodes, no_nodes_by, node_count};
 ghost use Rattle.hv_bdd.specs.Order.{IsOrder, atom_at, place};
 ghost use Rattle.hv_bdd.specs.Reduced.{AreOneSet, IsReduced, child, node_at, top};
@@ -20,7 +20,7 @@ use crate::goal::near;
 use crate::node::Node;
 use crate::numbers::Triple;
 use crate::set::DiagramSet;
-use hv_task::{AtomList, AtomSet, State};
+use hv_task::State;
 use std::alloc::{AllocError, Global};
 use std::marker::Model;
 
@@ -215,25 +215,16 @@ impl Diagrams {
         self.order.is_some()
     }
 
-    // The places of the atoms that are held, in a list that rises.
-    pub(crate) fn places_of(
-        &self,
-        alloc: Global,
-        held: &ListedState<'_>,
-    ) -> Result<AtomList, AllocError>
+    // The flag of each atom, at its place.
+    pub(crate) fn placed(&self, alloc: Global, held: &ListedState<'_>) -> Result<State, AllocError>
         requires { length held.now ≡ self.now.atoms }
-        ensures { IfOk result (HasPlaces self.now held.now) }
+        ensures { IfOk result (ArePlaced self.now held.now) }
     {
-        let _atoms = self.atoms();
-        let mut places = AtomSet::new(alloc);
-        let mut from = 0;
-        'sorting: loop {
-            let Some(atom) = held.next(from) else {
-                return places.take(alloc);
-            };
-            places.insert(self.place(atom))?;
-            from = atom + 1;
+        let mut placed = State::empty(alloc, self.atoms())?;
+        for atom in held.listed() {
+            placed.set(self.place(*atom), true);
         }
+        Ok(placed)
     }
 
     // The least place from this one on whose atom is held.
@@ -278,7 +269,7 @@ impl Diagrams {
         requires place { place < self.now.atoms }
     {
         let _atoms = self.atoms();
-        let most = near(held).saturating_mul(2);
+        let most = near(held).saturating_mul(2).max(1);
         match self.next_place(held, place + 1) {
             Some(next) => most.min(next - place),
             None => most,

@@ -6,15 +6,15 @@ use crate::asked::Asked;
 use crate::atom_bits::ListedState;
 use crate::diagrams::Diagrams;
 use hv_sets::Which;
-use hv_task::AtomList;
+use hv_task::State;
 
-/// The atoms of a goal; and their places in the order, where these were sorted.
+/// The atoms of a goal; and the flag of each atom at its place, where the flags were placed.
 #[derive(Drop)]
 pub(crate) struct Goal<'a> {
     pub held: ListedState<'a>,
-    pub places: Option<AtomList>,
-    /// How much may still be spent on looking for the next place before the places are sorted, or
-    /// nothing where they aren't to be sorted. Only how long a query takes hangs on it.
+    pub placed: Option<State>,
+    /// How much may still be spent on looking for the next place before the flags are placed, or
+    /// nothing where they aren't to be placed. Only how long a query takes hangs on it.
     pub left: u32,
 }
 
@@ -22,16 +22,16 @@ impl<'a> Goal<'a> {
     /// The goal of these atoms.
     pub(crate) fn of(nodes: &Diagrams, held: ListedState<'a>, asked: &[Asked]) -> Goal<'a>
         ensures held { result.held ≡ held.entry }
-        ensures places { result.places ≡ None }
+        ensures placed { result.placed ≡ None }
     {
         let left = if nodes.lists_order() && is_asked(asked) {
-            size(&held) + 16
+            cost_of_placing(nodes, &held)
         } else {
             0
         };
         Goal {
             held,
-            places: None,
+            placed: None,
             left,
         }
     }
@@ -40,7 +40,17 @@ impl<'a> Goal<'a> {
 /// How many places of the order are looked at before all atoms of the goal are: to look for one of
 /// them at a place takes some eight times as long as to look up the place of one.
 pub(crate) fn near(held: &ListedState<'_>) -> u32 {
-    size(held) / 8 + 16
+    size(held) / 8
+}
+
+// What it costs to place the flags, in places that are looked at: nothing where they aren't to be
+// placed, since it costs less to go through all atoms of the goal for each of them.
+fn cost_of_placing(nodes: &Diagrams, held: &ListedState<'_>) -> u32 {
+    let size = size(held);
+    if size.saturating_mul(size) < nodes.atoms() / 128 {
+        return 0;
+    }
+    size / 8 + nodes.atoms() / 4096 + 4
 }
 
 // How many atoms it has, as far as a task can have them.

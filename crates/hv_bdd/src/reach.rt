@@ -115,13 +115,13 @@ impl Search<'_> {
         Ok(Some(root))
     }
 
-    // Counts what the moves of one more tuple cost, where the goal's places may come to be sorted.
+    // Counts what the moves of one more tuple cost, where the goal's flags may come to be placed.
     fn prepare(&mut self, alloc: Global, done: usize, reached: &Reached) -> Result<(), AllocError>
         requires explored { Explored self.old done reached.now }
         requires done { done < length reached.now.tuples.keys }
         ensures { self.new ≡ self.old }
     {
-        if !self.may_sort() {
+        if !self.may_place() {
             return Ok(());
         }
         let place = self.least(reached.tuples.as_slice()[done].as_slice());

@@ -145,7 +145,7 @@ fn find(
         ListedState::new(atoms, &none),
         Goal {
             held: ListedState::new(atoms, &none),
-            places: None,
+            placed: None,
             left: 0,
         },
         AtomBits::signs(atoms, cube),

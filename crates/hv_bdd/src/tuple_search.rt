@@ -4,7 +4,7 @@ ghost use Rattle.std.specs.Prelude.{◌≡◌, ◌<◌, ◌≤◌, ◌-◌, true
 ghost use Rattle.std.specs.Prelude.{IfSome, slice_index_or};
 ghost use Rattle.std.specs.List.{All};
 ghost use Rattle.hv_task.specs.Atoms.{IsNext};
-ghost use Rattle.hv_task.specs.State.{names_atom};
+ghost use Rattle.hv_task.specs.State.{has_atom};
 ghost use Rattle.hv_sets.specs.declared.operand.Which.TheVariants as W;
 ghost use Rattle.hv_bdd.specs.Working.Graphs.{limit};
 ghost use Rattle.hv_bdd.specs.Live.{asks_goal, first_asked, graph_child, graph_top, is_marked};
@@ -18,7 +18,7 @@ use crate::atom_bits::{AtomBits, ListedState};
 use crate::diagrams::Diagrams;
 use crate::goal::Goal;
 use hv_sets::Which;
-use hv_task::{AtomList, Atoms, Hint};
+use hv_task::{Atoms, Hint, State};
 use smallvec::SmallVec;
 use std::alloc::{AllocError, Global};
 use std::marker::Model;
@@ -50,7 +50,7 @@ pub(crate) struct Search<'a> {
 
 impl<'a> Model for Search<'a> {
     ghost use Rattle.std.specs.Prelude.{◌≡◌, IfSome, length};
-    ghost use Rattle.hv_bdd.specs.Working.Search.{HasPlaces, IsTupleSearch, TupleSearch};
+    ghost use Rattle.hv_bdd.specs.Working.Search.{ArePlaced, IsTupleSearch, TupleSearch};
 
     ghost Value = { TupleSearch };
 
@@ -74,12 +74,12 @@ impl<'a> Model for Search<'a> {
         changed = s.changed;
       };
       asked = s.asked.now;
-    } × IfSome s.goal.places (HasPlaces s.nodes.now s.goal.held)
+    } × IfSome s.goal.placed (ArePlaced s.nodes.now s.goal.held)
         × (length s.goal.held ≡ s.nodes.now.atoms) };
 }
 
 impl<'a> Search<'a> {
-    ghost use Rattle.hv_bdd.specs.Working.Search.{HasPlaces, IsAskable, IsTupleSearch};
+    ghost use Rattle.hv_bdd.specs.Working.Search.{ArePlaced, IsAskable, IsTupleSearch};
 
     /// The search for these operands.
     pub(crate) fn new(
@@ -100,7 +100,7 @@ impl<'a> Search<'a> {
           };
           asked = asked.now;
         } }
-        requires places { IfSome goal.places (HasPlaces nodes.now goal.held) }
+        requires placed { IfSome goal.placed (ArePlaced nodes.now goal.held) }
         requires goal { length goal.held ≡ nodes.now.atoms }
         ensures setting { result.setting
             ≡ record {
@@ -155,28 +155,33 @@ impl<'a> Search<'a> {
         self.needed.read(atom)
     }
 
-    /// Whether the goal's places may come to be sorted.
-    pub(crate) fn may_sort(&self) -> bool {
+    /// Whether the flags of the goal may come to be placed.
+    pub(crate) fn may_place(&self) -> bool {
         self.goal.left > 0
     }
 
-    /// Counts what it costs to look for the place of the goal behind this one, and sorts its places
-    /// once that comes to as much as they are.
+    /// Counts what a tuple costs that asks for this place, and places the flags of the goal once that
+    /// comes to as much as placing them.
     pub(crate) fn spend(&mut self, alloc: Global, place: u32) -> Result<(), AllocError>
         ensures { self.new ≡ self.old }
     {
-        if place >= self.atoms() || !self.goal.held.has(self.atom_at(place)) {
-            return Ok(());
-        }
-        let cost = self.nodes.cost_of_next(&self.goal.held, place);
+        let cost = self.cost_at(place);
         if cost < self.goal.left {
             self.goal.left -= cost;
             return Ok(());
         }
         self.goal.left = 0;
-        let places = self.nodes.places_of(alloc, &self.goal.held)?;
-        self.goal.places = Some(places);
+        let placed = self.nodes.placed(alloc, &self.goal.held)?;
+        self.goal.placed = Some(placed);
         Ok(())
+    }
+
+    // What it costs to look for the next place of the goal, where its atom is at this place.
+    fn cost_at(&self, place: u32) -> u32 {
+        if place >= self.atoms() || !self.goal.held.has(self.atom_at(place)) {
+            return 1;
+        }
+        self.nodes.cost_of_next(&self.goal.held, place)
     }
 
     // The operand of a place of the tuples.
@@ -262,8 +267,8 @@ impl Search<'_> {
         ensures next { IsNext (asks_goal self.now.setting) from result }
         ensures within { IfSome result (λ v. v < self.now.setting.list.atoms) }
     {
-        match &self.goal.places {
-            Some(places) => next_named(places, from),
+        match &self.goal.placed {
+            Some(placed) => next_held(placed, from),
             None => self.nodes.next_place(&self.goal.held, from),
         }
     }
@@ -411,12 +416,12 @@ impl Search<'_> {
     }
 }
 
-// The least of these places from this one on.
-fn next_named(places: &AtomList, from: u32) -> Option<u32>
-    ensures { IsNext (names_atom places.now) from result }
+// The least place from this one on whose flag is set.
+fn next_held(placed: &State, from: u32) -> Option<u32>
+    ensures { IsNext (has_atom placed.now) from result }
 {
     let mut hint = Hint::default();
-    places.next(from, &mut hint)
+    placed.next(from, &mut hint)
 }
 
 fn bit_or(mark: Option<bool>, bit: bool) -> bool

@@ -1,11 +1,11 @@
 -- The search through live tuples.
-use Rattle.std.specs.Prelude.{◌≡◌, ◌<◌, ◌≤◌, ◌++◌, ◌⊎◌, ℕ, Bool, false, true, List, [], ◌∷◌, Option}
+use Rattle.std.specs.Prelude.{◌≡◌, ◌<◌, ◌≤◌, ◌++◌, ◌⊎◌, ℕ, Bool, false, List, [], ◌∷◌, Option}
 use Rattle.std.specs.Prelude.{None}
 use Rattle.std.specs.Prelude.{Some, length, map, slice_index_or, ⊤}
 use Rattle.std.specs.List.{All, Contains}
 use Rattle.indexmap.specs.IndexSet.{IndexSet}
 use Rattle.smallvec.specs.SmallVec.{SmallVec}
-use Rattle.hv_task.specs.State.{has_atom, names_atom}
+use Rattle.hv_task.specs.State.{has_atom}
 use Rattle.hv_task.specs.Strips.{Strips}
 use Rattle.hv_sets.specs.declared.literal.Literal.{Literal}
 use Rattle.hv_sets.specs.declared.operand.Which.{Which}
@@ -35,10 +35,10 @@ IsAskable s W.Start = (length s.start ≡ s.list.atoms) × (s.list.atoms ≤ 655
 IsAskable s W.Goal = (length s.goal ≡ s.list.atoms) × (s.list.atoms ≤ 65535)
 IsAskable s (W.Set number) = number < node_count s.list
 
--- the list has the places of the atoms that a state holds
-pub record HasPlaces (list : NodeList) (state : List Bool) (places : List ℕ) : Type 0 where
-  pub within : (v : ℕ) → names_atom places v ≡ true → v < list.atoms
-  pub has : (v : ℕ) → names_atom places v ≡ has_atom state (atom_at list v)
+-- the flag at each place is that of its atom in the state
+pub record ArePlaced (list : NodeList) (state placed : List Bool) : Type 0 where
+  pub size : length placed ≡ list.atoms
+  pub has : (v : ℕ) → has_atom placed v ≡ has_atom state (atom_at list v)
 
 -- the search can be made
 pub record IsTupleSearch (s : TupleSearch) : Type 0 where
