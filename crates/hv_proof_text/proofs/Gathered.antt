@@ -1,43 +1,36 @@
 -- Lists that are gathered field by field: how reading begins, goes on, stops and ends.
-use Rattle.std.proofs.Common.{◌≡◌, ◌<◌, ◌^◌, ℕ, ◌∙◌, List, [], ◌∷◌, ◌++◌, map, Option, Some, None}
-use Rattle.std.proofs.Common.{MatchOption, decimal, refl, sym, ap, subst, append_assoc}
+use Rattle.std.proofs.Common.{◌≡◌, ◌<◌, ◌^◌, ℕ, ◌∙◌, List, [], ◌∷◌, ◌++◌, map, length, Option}
+use Rattle.std.proofs.Common.{Some, None, MatchOption, decimal, refl, sym, ap, subst, append_assoc}
+use Rattle.std.proofs.Common.{arith, eqb}
 use Rattle.std.proofs.lemmas.List.{append-nil, map-append}
 use Rattle.std.proofs.lemmas.List.Elements.{All-nil, All-cons, All-push, All-head, All-tail}
+use Rattle.std.proofs.lemmas.List.Splits.{length-slice_split}
 use Rattle.std.specs.List.{All}
-use Rattle.hv_proof_text.specs.Working.Gathering.{BeginsWithCount, Gathers, ReadsField, StandFor}
-use Rattle.hv_proof_text.specs.Working.Gathering.{StopsAtField, fields_behind}
+use Rattle.hv_proof_text.specs.Working.Gathering.{BeginsWithCount, Gathers, ReadsToken, StandFor}
+use Rattle.hv_proof_text.specs.Working.Gathering.{StopsAtToken}
 use Rattle.hv_bytes.specs.Fields.{cut_fields}
 use Rattle.hv_proof_text.specs.Working.Tokens.{AreTokens, IsToken, field_of, number}
 use Rattle.hv_proof_text.specs.declared.token.Token.{Token}
 use Rattle.hv_proof_text.proofs.Decoding.{same_tokens}
-
--- a field that was split off is the first of the fields
-pub split_is : {A : Type 0} (o : Option A) (now : A → List ℕ) (all : List (List ℕ)) (first : List ℕ)
-    → MatchOption o (all ≡ first ∷ []) (λ rest. all ≡ first ∷ cut_fields (now rest))
-    → all ≡ first ∷ fields_behind o now
-split_is None now all first e = e
-split_is (Some rest) now all first e = e
 
 pub gathers_none : {A : Type 0} (whole : List Token → A) (fields : List (List ℕ))
     → Gathers whole fields whole fields
 gathers_none whole fields = ([], All-nil IsToken, refl, λ tokens. refl)
 
 pub gathers_more : {A : Type 0} (whole left more : List Token → A)
-    (fields rest later : List (List ℕ)) (field : List ℕ)
-    → Gathers whole fields left rest → rest ≡ field ∷ later → ReadsField left field more
-    → Gathers whole fields more later
-gathers_more whole left more fields rest later field so_far first reads =
-    let done = so_far.0 in
-    let token = reads.0 in (
+    (fields rest later : List (List ℕ)) (token : Token)
+    → Gathers whole fields left rest → IsToken token → rest ≡ field_of token ∷ later
+    → ReadsToken left token more → Gathers whole fields more later
+gathers_more whole left more fields rest later token so_far short first reads =
+    let done = so_far.0 in (
       done ++ token ∷ [],
-      All-push IsToken done token so_far.1 reads.1,
+      All-push IsToken done token so_far.1 short,
       ap (λ fs. fs ++ later) (map-append field_of done (token ∷ []))
           ∙ append_assoc (map field_of done) (field_of token ∷ []) later
-          ∙ ap (λ f. map field_of done ++ f ∷ later) reads.2
           ∙ ap (λ fs. map field_of done ++ fs) (sym first)
           ∙ so_far.2,
       λ tokens. ap whole (append_assoc done (token ∷ []) tokens) ∙ so_far.3 (token ∷ tokens)
-          ∙ reads.3 tokens,
+          ∙ reads tokens,
     )
 
 one_injective : {A : Type 0} {x y : A} → x ∷ [] ≡ y ∷ [] → x ≡ y
@@ -85,17 +78,19 @@ module _ {A : Type 0} (whole left : List Token → Option A) (fields rest : List
     (P : A → List Token → Type 0)
     (so_far : Gathers whole fields left rest)
     (only : (tokens : List Token) (x : A) → P x tokens → whole tokens ≡ Some x) where
-  -- where a field can't be read, the fields denote nothing
-  pub gathers_stop : (field : List ℕ) (later : List (List ℕ)) → rest ≡ field ∷ later
-      → StopsAtField left field
+  -- where a token can't be read, the fields denote nothing
+  pub gathers_stop : (token : Token) (later : List (List ℕ)) → IsToken token
+      → rest ≡ field_of token ∷ later → StopsAtToken left token
       → (x : A) → StandFor (P x) fields → ⊥
-  gathers_stop field later first stops x stand =
+  gathers_stop token later short first stops x stand =
       let done = so_far.0 in
       let split =
-      split_tokens done stand.0 field later so_far.1 stand.1.each
+      split_tokens done stand.0 (field_of token) later so_far.1 stand.1.each
       (stand.1.same ∙ sym so_far.2 ∙ ap (λ fs. map field_of done ++ fs) first) in
       let none =
-      ap whole split.2 ∙ so_far.3 (split.0 ∷ split.1) ∙ stops split.0 split.3 split.4 split.1 in
+      ap whole split.2 ∙ so_far.3 (split.0 ∷ split.1)
+      ∙ ap (λ t. left (t ∷ split.1)) (same_token split.0 token split.3 short split.4)
+      ∙ stops split.1 in
       none_and_some none (only stand.0 x stand.2)
 
   -- at the end, what is left is what the fields denote
@@ -119,14 +114,6 @@ module _ {A : Type 0} (whole left : List Token → Option A) (fields rest : List
       let tokens = same_tokens stand.0 done stand.1.each so_far.1 (stand.1.same ∙ sym same) in
       none_and_some (ap whole tokens ∙ ap whole (sym (append-nil done)) ∙ so_far.3 [] ∙ is)
       (only stand.0 x stand.2)
-
--- where the token of a field stops reading, the field does
-pub stops_at : {A : Type 0} (before : List Token → Option A) (field : List ℕ) (own : Token)
-    → IsToken own → field_of own ≡ field
-    → ((tokens : List Token) → before (own ∷ tokens) ≡ None) → StopsAtField before field
-stops_at before field own short is none = λ token long same tokens.
-    subst (λ t. before (t ∷ tokens) ≡ None) (same_token own token short long (is ∙ sym same))
-    (none tokens)
 
 -- the tokens behind the first one denote the fields behind the first one
 pub tokens_behind : (token : Token) (tokens : List Token) (fields later : List (List ℕ))
@@ -208,14 +195,26 @@ gathers_tokens items fields rest so_far none =
     ∙ ap (λ fs. map field_of done ++ fs) (sym none) ∙ so_far.2 in
     subst (λ ts. AreTokens ts fields) same (record { each = so_far.1; same = spelled })
 
--- where a field denotes no token, the fields denote no tokens
+-- a line has a first field
+has_first : (line : List ℕ)
+    → (first : List ℕ) × (later : List (List ℕ)) × (cut_fields line ≡ first ∷ later)
+has_first line = first_of (cut_fields line) (omega (arith, length-slice_split (λ b. eqb b 32) line))
+  where
+    first_of : (fields : List (List ℕ)) → 0 < length fields
+        → (first : List ℕ) × (later : List (List ℕ)) × (fields ≡ first ∷ later)
+    first_of [] some = absurd (omega arith)
+    first_of (first ∷ later) some = (first, later, refl)
+
+-- where what is left begins with no token, the fields denote no tokens
 pub gathers_no_token : {A : Type 0} (whole left : List Token → A) (fields rest : List (List ℕ))
-    → Gathers whole fields left rest
-    → (field : List ℕ) (later : List (List ℕ)) → rest ≡ field ∷ later
-    → ((token : Token) → IsToken token → field_of token ≡ field → ⊥)
+    → Gathers whole fields left rest → (line : List ℕ) → rest ≡ cut_fields line
+    → ((token : Token) (later : List (List ℕ)) → IsToken token
+    → cut_fields line ≡ field_of token ∷ later → ⊥)
     → (tokens : List Token) → AreTokens tokens fields → ⊥
-gathers_no_token whole left fields rest so_far field later first never tokens are =
+gathers_no_token whole left fields rest so_far line behind never tokens are =
+    let first = has_first line in
     let split =
-    split_tokens so_far.0 tokens field later so_far.1 are.each
-    (are.same ∙ sym so_far.2 ∙ ap (λ fs. map field_of so_far.0 ++ fs) first) in
-    never split.0 split.3 split.4
+    split_tokens so_far.0 tokens first.0 first.1 so_far.1 are.each
+    (are.same ∙ sym so_far.2
+    ∙ ap (λ fs. map field_of so_far.0 ++ fs) (behind ∙ first.2)) in
+    never split.0 first.1 split.3 (first.2 ∙ ap (λ f. f ∷ first.1) (sym split.4))

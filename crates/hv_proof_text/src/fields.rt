@@ -1,14 +1,16 @@
 //! The fields of a line, one after the other, and the tokens that they denote.
 
 ghost use Rattle.std.specs.Prelude.{◌≡◌, ◌<◌, ◌≤◌, ◌^◌, ℕ, ◌∷◌, true, false, decimal, length, List};
-ghost use Rattle.std.specs.Prelude.{MatchOption, Ok};
+ghost use Rattle.std.specs.Prelude.{MatchOption, Ok, codes};
+ghost use Rattle.hv_bytes.specs.Fields.{cut_fields};
 ghost use Rattle.hv_proof_text.specs.Working.Gathering.{fields_behind};
-ghost use Rattle.hv_proof_text.specs.Working.Tokens.{AreTokens, letter, letter_field, number};
+ghost use Rattle.hv_proof_text.specs.Working.Tokens.{AreTokens, IsToken, field_of, letter};
+ghost use Rattle.hv_proof_text.specs.Working.Tokens.{letter_field, number};
 ghost use Rattle.hv_proof_text.specs.declared.token.Letter.{Letter};
 ghost use Rattle.hv_proof_text.specs.declared.token.Token.{Token};
 
-use crate::token::{Letter, Token, letter_of, number_of, token_of};
-use hv_bytes::split_field;
+use crate::token::{Letter, Token, letter_of, name_of};
+use hv_bytes::{decimal_front, split_field};
 use std::alloc::AllocError;
 
 /// The letter of the first field, and what follows that.
@@ -31,8 +33,60 @@ pub(crate) fn first_number(fields: Option<&[u8]>) -> Option<(u64, Option<&[u8]>)
         (λ p. (p.0 < 10 ^ 18) × (fields_behind fields.entry (λ f. f.now)
         ≡ decimal p.0 ∷ fields_behind p.1 (λ f. f.now))) }
 {
-    let (field, behind) = split_field(fields?);
-    Some((number_of(field)?, behind))
+    let (number, behind) = decimal_front(fields?)?;
+    Some((number, behind))
+}
+
+/// The token of the first field, and what follows that. Each number is read in one pass; a letter
+/// or a word is split off first.
+pub(crate) fn token_front(line: &[u8]) -> Option<(Token, Option<&[u8]>)>
+    ensures { MatchOption result
+        ((token : Token) (later : List (List ℕ)) → IsToken token
+        → cut_fields line.now ≡ field_of token ∷ later → ⊥)
+        (λ p. IsToken p.0
+        × (cut_fields line.now ≡ field_of p.0 ∷ fields_behind p.1 (λ f. f.now))) }
+{
+    if let Some((number, behind)) = minus_front(line) {
+        return Some((Token::Minus(number), behind));
+    }
+    if let Some(behind) = end_front(line) {
+        return Some((Token::End, behind));
+    }
+    if let Some((number, behind)) = decimal_front(line) {
+        return Some((Token::Number(number), behind));
+    }
+    let (field, behind) = split_field(line);
+    Some((name_of(field)?, behind))
+}
+
+/// The number behind the dash of the first field, and what follows that field.
+fn minus_front(line: &[u8]) -> Option<(u64, Option<&[u8]>)>
+    ensures { MatchOption result
+        ((n : ℕ) (later : List (List ℕ)) → n < 10 ^ 18
+        → cut_fields line.now ≡ (45 ∷ decimal n) ∷ later → ⊥)
+        (λ p. (p.0 < 10 ^ 18)
+        × (cut_fields line.now ≡ (45 ∷ decimal p.0) ∷ fields_behind p.1 (λ f. f.now))) }
+{
+    match line {
+        [b'-', digits @ ..] => {
+            let (number, behind) = decimal_front(digits)?;
+            Some((number, behind))
+        }
+        _ => None,
+    }
+}
+
+/// What follows the first field, where that is `;`.
+fn end_front(line: &[u8]) -> Option<Option<&[u8]>>
+    ensures { MatchOption result
+        ((later : List (List ℕ)) → cut_fields line.now ≡ codes ";" ∷ later → ⊥)
+        (λ behind. cut_fields line.now ≡ codes ";" ∷ fields_behind behind (λ f. f.now)) }
+{
+    match line {
+        [b';'] => Some(None),
+        [b';', b' ', rest @ ..] => Some(Some(rest)),
+        _ => None,
+    }
 }
 
 /// Puts the tokens of the fields in place of what was there, and says whether each field is one.
@@ -48,8 +102,7 @@ pub(crate) fn tokens_in(tokens: &mut Vec<Token>, fields: Option<&[u8]>) -> Resul
         let Some(line) = rest else {
             return Ok(true);
         };
-        let (field, behind) = split_field(line);
-        let Some(token) = token_of(field) else {
+        let Some((token, behind)) = token_front(line) else {
             return Ok(false);
         };
         tokens.push(token)?;

@@ -5,16 +5,16 @@ ghost use Rattle.std.specs.Prelude.{◌≡◌, ◌<◌, ◌^◌, ℕ, List, [], 
 ghost use Rattle.std.specs.Prelude.{true, false, None, Ok, Some};
 ghost use Rattle.std.specs.List.{All};
 ghost use Rattle.hv_sets.specs.declared.literal.Literal.{Literal};
-ghost use Rattle.hv_proof_text.specs.Working.Gathering.{ReadsField, StandFor, StopsAtField};
+ghost use Rattle.hv_proof_text.specs.Working.Gathering.{ReadsToken, StandFor, StopsAtToken};
 ghost use Rattle.hv_proof_text.specs.Working.Gathering.{clauses_from, fields_behind, numbers_from};
 ghost use Rattle.hv_proof_text.specs.Working.Gathering.{states_from, whole_clauses, whole_states};
 ghost use Rattle.hv_proof_text.specs.Working.Pieces as Pieces;
 ghost use Rattle.hv_proof_text.specs.Working.Tokens.{AreRisingNumbers, AreClauseTokens};
 ghost use Rattle.hv_proof_text.specs.Working.Tokens.{AreStateTokens};
 
-use crate::token::{Token, token_of};
+use crate::fields::token_front;
+use crate::token::Token;
 use crate::token_rows::NOT_SHORT;
-use hv_bytes::split_field;
 use hv_lines::ActionList;
 use hv_sets::{Clauses, ClausesBuilder, Literal, StateList, StateListBuilder};
 use std::alloc::{AllocError, Global};
@@ -88,24 +88,23 @@ pub(crate) fn rising_numbers(
         let Some(line) = rest else {
             return Ok(Some(numbers));
         };
-        let (field, behind) = split_field(line);
-        if !take_number(&mut numbers, &mut least, field)? {
+        let Some((token, behind)) = token_front(line) else {
+            return Ok(None);
+        };
+        if !take_number(&mut numbers, &mut least, token)? {
             return Ok(None);
         }
         rest = behind;
     }
 }
 
-/// Puts the number of a field last. The answer is false where none can be there.
-fn take_number(numbers: &mut ActionList, least: &mut u32, field: &[u8]) -> Result<bool, AllocError>
-    ensures taken { result ≡ Ok true → ReadsField (numbers_from numbers.old least.old) field.now
+/// Puts the number of a token last. The answer is false where none can be there.
+fn take_number(numbers: &mut ActionList, least: &mut u32, token: Token) -> Result<bool, AllocError>
+    ensures taken { result ≡ Ok true → ReadsToken (numbers_from numbers.old least.old) token
         (numbers_from numbers.new least.new) }
     ensures stopped { result ≡ Ok false
-        → StopsAtField (numbers_from numbers.old least.old) field.now }
+        → StopsAtToken (numbers_from numbers.old least.old) token }
 {
-    let Some(token) = token_of(field) else {
-        return Ok(false);
-    };
     match state_piece(token, *least) {
         StatePiece::Atom(number) => {
             numbers.push(number)?;
@@ -136,26 +135,25 @@ pub(crate) fn clauses_in(
         let Some(line) = rest else {
             return Ok(closed_clauses(clauses));
         };
-        let (field, behind) = split_field(line);
-        if !take_in_clauses(&mut clauses, field)? {
+        let Some((token, behind)) = token_front(line) else {
+            return Ok(None);
+        };
+        if !take_in_clauses(&mut clauses, token)? {
             return Ok(None);
         }
         rest = behind;
     }
 }
 
-/// Takes a field of clauses: a literal goes last in the clause that is begun, and an end ends it.
+/// Takes a token of clauses: a literal goes last in the clause that is begun, and an end ends it.
 /// The answer is false where neither can be there.
-fn take_in_clauses(clauses: &mut ClausesBuilder, field: &[u8]) -> Result<bool, AllocError>
+fn take_in_clauses(clauses: &mut ClausesBuilder, token: Token) -> Result<bool, AllocError>
     ensures taken { result ≡ Ok true
-        → ReadsField (clauses_from clauses.old.whole clauses.old.begun) field.now
+        → ReadsToken (clauses_from clauses.old.whole clauses.old.begun) token
         (clauses_from clauses.new.whole clauses.new.begun) }
     ensures stopped { result ≡ Ok false
-        → StopsAtField (clauses_from clauses.old.whole clauses.old.begun) field.now }
+        → StopsAtToken (clauses_from clauses.old.whole clauses.old.begun) token }
 {
-    let Some(token) = token_of(field) else {
-        return Ok(false);
-    };
     match clause_piece(token) {
         ClausePiece::Literal(literal) => {
             clauses.put(literal)?;
@@ -202,32 +200,31 @@ pub(crate) fn states_in(
         let Some(line) = rest else {
             return Ok(closed_states(states));
         };
-        let (field, behind) = split_field(line);
-        if !take_in_states(&mut states, &mut least, field)? {
+        let Some((token, behind)) = token_front(line) else {
+            return Ok(None);
+        };
+        if !take_in_states(&mut states, &mut least, token)? {
             return Ok(None);
         }
         rest = behind;
     }
 }
 
-/// Takes a field of states: an atom goes last in the state that is begun, and an end ends it. The
+/// Takes a token of states: an atom goes last in the state that is begun, and an end ends it. The
 /// answer is false where neither can be there.
 fn take_in_states(
     states: &mut StateListBuilder,
     least: &mut u32,
-    field: &[u8],
+    token: Token,
 ) -> Result<bool, AllocError>
     requires { All (λ a. a < least.old) states.old.begun }
     ensures taken { result ≡ Ok true
-        → ReadsField (states_from states.old.whole states.old.begun least.old) field.now
+        → ReadsToken (states_from states.old.whole states.old.begun least.old) token
         (states_from states.new.whole states.new.begun least.new) }
     ensures below { result ≡ Ok true → All (λ a. a < least.new) states.new.begun }
     ensures stopped { result ≡ Ok false
-        → StopsAtField (states_from states.old.whole states.old.begun least.old) field.now }
+        → StopsAtToken (states_from states.old.whole states.old.begun least.old) token }
 {
-    let Some(token) = token_of(field) else {
-        return Ok(false);
-    };
     match state_piece(token, *least) {
         StatePiece::Atom(atom) => {
             states.put(atom)?;

@@ -1,12 +1,10 @@
 //! Tokens: what a field of a line denotes.
 
-ghost use Rattle.std.specs.Prelude.{◌≡◌, ◌<◌, ◌^◌, ◌↔◌, ℕ, ◌∷◌, IsTrue, MatchOption, codes};
-ghost use Rattle.std.specs.Prelude.{decimal};
-ghost use Rattle.hv_proof_text.specs.Working.Tokens.{letter_field, field_of, IsToken};
+ghost use Rattle.std.specs.Prelude.{◌≡◌, MatchOption};
+ghost use Rattle.hv_proof_text.specs.Working.Tokens.{letter_field, field_of, IsName};
 ghost use Rattle.hv_proof_text.specs.declared.token.Letter.{Letter};
 ghost use Rattle.hv_proof_text.specs.declared.token.Token.{Token};
 
-use hv_bytes::read_decimal;
 use hv_lines::Word;
 
 /// A field of one letter.
@@ -43,21 +41,12 @@ pub(crate) enum Token {
     End,
 }
 
-/// The one token that the field denotes, where there is one.
-pub(crate) fn token_of(field: &[u8]) -> Option<Token>
+/// The letter or the word that the field is, where it is one.
+pub(crate) fn name_of(field: &[u8]) -> Option<Token>
     ensures { MatchOption result
-        ((token : Token) → IsToken token → field_of token ≡ field.now → ⊥)
-        (λ token. IsToken token × (field_of token ≡ field.now)) }
+        ((token : Token) → IsName token → field_of token ≡ field.now → ⊥)
+        (λ token. IsName token × (field_of token ≡ field.now)) }
 {
-    if let Some(number) = number_of(field) {
-        return Some(Token::Number(number));
-    }
-    if let Some(number) = minus_of(field) {
-        return Some(Token::Minus(number));
-    }
-    if is_end(field) {
-        return Some(Token::End);
-    }
     if let Some(letter) = letter_of(field) {
         return Some(Token::Letter(letter));
     }
@@ -92,32 +81,4 @@ pub(crate) fn letter_of(field: &[u8]) -> Option<Letter>
         [b'x'] => Some(Letter::X),
         _ => None,
     }
-}
-
-/// A decimal of at most 18 digits.
-pub(crate) fn number_of(field: &[u8]) -> Option<u64>
-    ensures { MatchOption result
-        ((n : ℕ) → n < 10 ^ 18 → decimal n ≡ field.now → ⊥)
-        (λ n. (n < 10 ^ 18) × (decimal n ≡ field.now)) }
-{
-    read_decimal(field)
-}
-
-/// A dash and such a decimal.
-fn minus_of(field: &[u8]) -> Option<u64>
-    ensures { MatchOption result
-        ((n : ℕ) → n < 10 ^ 18 → 45 ∷ decimal n ≡ field.now → ⊥)
-        (λ n. (n < 10 ^ 18) × (45 ∷ decimal n ≡ field.now)) }
-{
-    match field {
-        [b'-', rest @ ..] => number_of(rest),
-        _ => None,
-    }
-}
-
-/// Whether the field is `;`.
-fn is_end(field: &[u8]) -> bool
-    ensures { IsTrue result ↔ (codes ";" ≡ field.now) }
-{
-    matches!(field, [b';'])
 }

@@ -25,17 +25,13 @@ abbrev pub BeginsWithCount : (List Token → Type 0) → ℕ → List Token → 
 BeginsWithCount holds count tokens =
     (items : List Token) × (tokens ≡ number count ∷ items) × holds items
 
--- what reading gives before a field is what it gives after the field, with the field's token first
-abbrev pub ReadsField : {A : Type 0} → (List Token → A) → List ℕ → (List Token → A) → Type 0
-ReadsField before field after =
-    (token : Token) × IsToken token × (field_of token ≡ field)
-    × ((tokens : List Token) → before (token ∷ tokens) ≡ after tokens)
+-- what reading gives before a token is what it gives after it, with the token first
+abbrev pub ReadsToken : {A : Type 0} → (List Token → A) → Token → (List Token → A) → Type 0
+ReadsToken before token after = (tokens : List Token) → before (token ∷ tokens) ≡ after tokens
 
--- reading gives nothing where this field comes
-abbrev pub StopsAtField : {A : Type 0} → (List Token → Option A) → List ℕ → Type 0
-StopsAtField before field =
-    (token : Token) → IsToken token → field_of token ≡ field
-    → (tokens : List Token) → before (token ∷ tokens) ≡ None
+-- reading gives nothing where this token comes
+abbrev pub StopsAtToken : {A : Type 0} → (List Token → Option A) → Token → Type 0
+StopsAtToken before token = (tokens : List Token) → before (token ∷ tokens) ≡ None
 
 -- some of the fields were read, and the rest is left, of which reading goes on to give the whole
 abbrev pub Gathers : {A : Type 0} → (List Token → A) → List (List ℕ) → (List Token → A)

@@ -1,13 +1,8 @@
 use Rattle.std.proofs.Common.{ap, sym}
 use Rattle.hv_proof_text.specs.Working.Gathering.{states_from, states_next}
-use Rattle.hv_proof_text.proofs.Gathered.{stops_at}
 use Rattle.hv_proof_text.proofs.lists.take_in_states.Goals as goal
 
 pub returns-in-Other-clause-stopped : goal.returns-in-Other-clause-stopped
-returns-in-Other-clause-stopped c = λ _.
-    stops_at (states_from c.args.states.now.whole c.args.states.now.begun c.args.least.now)
-    c.args.field.now
-    c.in-Some.token c.in-Some.ensures.0
-    c.in-Some.ensures.1
-    (λ tokens. ap (λ p. states_next p c.args.states.now.whole c.args.states.now.begun
-    (λ a s l. states_from a s l tokens)) (sym c.in-Other.ensures))
+returns-in-Other-clause-stopped c = λ _ tokens.
+    ap (λ p. states_next p c.args.states.now.whole c.args.states.now.begun
+    (λ a s l. states_from a s l tokens)) (sym c.in-Other.ensures)
