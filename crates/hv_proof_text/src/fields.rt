@@ -4,8 +4,8 @@ ghost use Rattle.std.specs.Prelude.{◌≡◌, ◌<◌, ◌≤◌, ◌^◌, ℕ,
 ghost use Rattle.std.specs.Prelude.{MatchOption, Ok, codes};
 ghost use Rattle.hv_bytes.specs.Fields.{cut_fields};
 ghost use Rattle.hv_proof_text.specs.Working.Gathering.{fields_behind};
-ghost use Rattle.hv_proof_text.specs.Working.Tokens.{AreTokens, IsToken, field_of, letter};
-ghost use Rattle.hv_proof_text.specs.Working.Tokens.{letter_field, number};
+ghost use Rattle.hv_proof_text.specs.Working.Tokens.{AreTokens, IsName, IsToken, field_of};
+ghost use Rattle.hv_proof_text.specs.Working.Tokens.{letter, letter_field, number};
 ghost use Rattle.hv_proof_text.specs.declared.token.Letter.{Letter};
 ghost use Rattle.hv_proof_text.specs.declared.token.Token.{Token};
 
@@ -39,6 +39,7 @@ pub(crate) fn first_number(fields: Option<&[u8]>) -> Option<(u64, Option<&[u8]>)
 
 /// The token of the first field, and what follows that. Each number is read in one pass; a letter
 /// or a word is split off first.
+#[inline(always)]
 pub(crate) fn token_front(line: &[u8]) -> Option<(Token, Option<&[u8]>)>
     ensures { MatchOption result
         ((token : Token) (later : List (List ℕ)) → IsToken token
@@ -55,6 +56,22 @@ pub(crate) fn token_front(line: &[u8]) -> Option<(Token, Option<&[u8]>)>
     if let Some((number, behind)) = decimal_front(line) {
         return Some((Token::Number(number), behind));
     }
+    let Some((name, behind)) = name_front(line) else {
+        return None;
+    };
+    Some((name, behind))
+}
+
+/// The letter or the word that the first field is, and what follows that. It stays out of the
+/// loops that read numbers.
+#[inline(never)]
+fn name_front(line: &[u8]) -> Option<(Token, Option<&[u8]>)>
+    ensures { MatchOption result
+        ((token : Token) (later : List (List ℕ)) → IsName token
+        → cut_fields line.now ≡ field_of token ∷ later → ⊥)
+        (λ p. IsName p.0
+        × (cut_fields line.now ≡ field_of p.0 ∷ fields_behind p.1 (λ f. f.now))) }
+{
     let (field, behind) = split_field(line);
     Some((name_of(field)?, behind))
 }

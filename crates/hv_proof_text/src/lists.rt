@@ -71,6 +71,7 @@ fn clause_piece(token: Token) -> ClausePiece
 }
 
 /// Short decimals that rise.
+#[inline(never)]
 pub(crate) fn rising_numbers(
     alloc: Global,
     fields: Option<&[u8]>,
@@ -116,6 +117,7 @@ fn take_number(numbers: &mut ActionList, least: &mut u32, token: Token) -> Resul
 }
 
 /// Clauses, each with its end; room is taken for so many.
+#[inline(never)]
 pub(crate) fn clauses_in(
     alloc: Global,
     fields: Option<&[u8]>,
@@ -180,6 +182,7 @@ fn closed_clauses(clauses: ClausesBuilder) -> Option<Clauses>
 }
 
 /// States, each with its end; room is taken for so many.
+#[inline(never)]
 pub(crate) fn states_in(
     alloc: Global,
     fields: Option<&[u8]>,
