@@ -4,7 +4,7 @@ ghost use Rattle.std.specs.Prelude.{◌≡◌, ◌<◌, ◌≤◌, ◌^◌, ℕ,
 ghost use Rattle.std.specs.Prelude.{MatchOption, Ok, codes};
 ghost use Rattle.hv_bytes.specs.Fields.{cut_fields};
 ghost use Rattle.hv_proof_text.specs.Working.Gathering.{fields_behind};
-ghost use Rattle.hv_proof_text.specs.Working.Tokens.{AreTokens, IsName, IsToken, field_of};
+ghost use Rattle.hv_proof_text.specs.Working.Tokens.{AreTokens, IsNameToken, IsToken, field_of};
 ghost use Rattle.hv_proof_text.specs.Working.Tokens.{letter, letter_field, number};
 ghost use Rattle.hv_proof_text.specs.declared.token.Letter.{Letter};
 ghost use Rattle.hv_proof_text.specs.declared.token.Token.{Token};
@@ -67,9 +67,9 @@ pub(crate) fn token_front(line: &[u8]) -> Option<(Token, Option<&[u8]>)>
 #[inline(never)]
 fn name_front(line: &[u8]) -> Option<(Token, Option<&[u8]>)>
     ensures { MatchOption result
-        ((token : Token) (later : List (List ℕ)) → IsName token
+        ((token : Token) (later : List (List ℕ)) → IsNameToken token
         → cut_fields line.now ≡ field_of token ∷ later → ⊥)
-        (λ p. IsName p.0
+        (λ p. IsNameToken p.0
         × (cut_fields line.now ≡ field_of p.0 ∷ fields_behind p.1 (λ f. f.now))) }
 {
     let (field, behind) = split_field(line);

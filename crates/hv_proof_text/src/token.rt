@@ -1,7 +1,7 @@
 //! Tokens: what a field of a line denotes.
 
 ghost use Rattle.std.specs.Prelude.{◌≡◌, MatchOption};
-ghost use Rattle.hv_proof_text.specs.Working.Tokens.{letter_field, field_of, IsName};
+ghost use Rattle.hv_proof_text.specs.Working.Tokens.{letter_field, field_of, IsNameToken};
 ghost use Rattle.hv_proof_text.specs.declared.token.Letter.{Letter};
 ghost use Rattle.hv_proof_text.specs.declared.token.Token.{Token};
 
@@ -44,8 +44,8 @@ pub(crate) enum Token {
 /// The letter or the word that the field is, where it is one.
 pub(crate) fn name_of(field: &[u8]) -> Option<Token>
     ensures { MatchOption result
-        ((token : Token) → IsName token → field_of token ≡ field.now → ⊥)
-        (λ token. IsName token × (field_of token ≡ field.now)) }
+        ((token : Token) → IsNameToken token → field_of token ≡ field.now → ⊥)
+        (λ token. IsNameToken token × (field_of token ≡ field.now)) }
 {
     if let Some(letter) = letter_of(field) {
         return Some(Token::Letter(letter));

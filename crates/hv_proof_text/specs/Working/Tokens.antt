@@ -55,10 +55,10 @@ IsToken (T.Minus n) = n < 10 ^ 18
 IsToken T.End = Unit {0}
 
 -- the token is a letter or a word
-abbrev pub IsName : Token → Type 0
-IsName (T.Letter letter) = Unit {0}
-IsName (T.Word word) = Unit {0}
-IsName _ = ⊥
+abbrev pub IsNameToken : Token → Type 0
+IsNameToken (T.Letter letter) = Unit {0}
+IsNameToken (T.Word word) = Unit {0}
+IsNameToken _ = ⊥
 
 -- each of the fields denotes one of the tokens, in order
 pub record AreTokens (tokens : List Token) (fields : List (List ℕ)) : Type 0 where

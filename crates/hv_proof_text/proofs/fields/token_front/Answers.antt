@@ -1,6 +1,6 @@
 use Rattle.std.proofs.Common.{◌≡◌, ◌<◌, ◌^◌, ℕ, List, ◌∷◌, codes, decimal}
 use Rattle.hv_bytes.specs.Fields.{cut_fields}
-use Rattle.hv_proof_text.specs.Working.Tokens.{IsName, IsToken, field_of}
+use Rattle.hv_proof_text.specs.Working.Tokens.{IsNameToken, IsToken, field_of}
 use Rattle.hv_proof_text.specs.declared.token.Token.{Token}
 use Rattle.hv_proof_text.specs.declared.token.Token.TheVariants as T
 use Rattle.hv_proof_text.proofs.fields.token_front.Goals as goal
@@ -10,7 +10,7 @@ no_token : (fields : List (List ℕ))
     → ((n : ℕ) (later : List (List ℕ)) → n < 10 ^ 18 → fields ≡ (45 ∷ decimal n) ∷ later → ⊥)
     → ((later : List (List ℕ)) → fields ≡ codes ";" ∷ later → ⊥)
     → ((n : ℕ) (later : List (List ℕ)) → n < 10 ^ 18 → fields ≡ decimal n ∷ later → ⊥)
-    → ((token : Token) (later : List (List ℕ)) → IsName token → fields ≡ field_of token ∷ later
+    → ((token : Token) (later : List (List ℕ)) → IsNameToken token → fields ≡ field_of token ∷ later
     → ⊥)
     → (token : Token) (later : List (List ℕ)) → IsToken token → fields ≡ field_of token ∷ later → ⊥
 no_token fields minus end number name (T.Letter letter) later is e =
