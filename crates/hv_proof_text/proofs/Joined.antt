@@ -80,25 +80,20 @@ one_line_more lines i line before middle after within at so_far spelled ended =
     (get_or lines i line ∷ []))
     ∙ ap proof_text (sym (take_more lines i line within))
 
--- one more line, which was written apart, behind a text
-pub line_appended : (lines : List Line) (i : ℕ) (line : Line)
-    (old before after empty spelled ended : List ℕ) → i < length lines
-    → slice_get lines i ≡ Some line
-    → before ≡ old ++ proof_text (take i lines) → empty ≡ [] → spelled ≡ empty ++ spelling_of line
-    → ended ≡ spelled ++ 10 ∷ [] → after ≡ before ++ ended
-    → after ≡ old ++ proof_text (take (i + 1) lines)
-line_appended lines i line old before after empty spelled ended within at so_far none spells ends
-    appended =
+-- one more line behind a text
+pub line_appended : (lines : List Line) (i : ℕ) (line : Line) (old before middle after : List ℕ)
+    → i < length lines → slice_get lines i ≡ Some line
+    → before ≡ old ++ proof_text (take i lines) → middle ≡ before ++ spelling_of line
+    → after ≡ middle ++ 10 ∷ [] → after ≡ old ++ proof_text (take (i + 1) lines)
+line_appended lines i line old before middle after within at so_far spells ends =
     let front = proof_text (take i lines) in
     let bytes = spelling_of line in
-    let written : ended ≡ bytes ++ 10 ∷ [] = ends
-    ∙ ap (λ t. t ++ 10 ∷ []) (spells ∙ ap (λ t. t ++ bytes) none) in
-    appended
-    ∙ ap (λ t. t ++ ended) so_far
-    ∙ append_assoc old front ended
+    ends
+    ∙ ap (λ t. t ++ 10 ∷ [])
+    (spells ∙ ap (λ t. t ++ bytes) so_far ∙ append_assoc old front bytes)
+    ∙ append_assoc old (front ++ bytes) (10 ∷ [])
     ∙ ap (λ t. old ++ t)
-    (ap (λ t. front ++ t) written ∙ sym (append_assoc front bytes (10 ∷ []))
-    ∙ one_line_more lines i line front (front ++ bytes) ((front ++ bytes) ++ 10 ∷ []) within at refl
+    (one_line_more lines i line front (front ++ bytes) ((front ++ bytes) ++ 10 ∷ []) within at refl
     refl refl)
 
 -- the fields of one more item

@@ -1,5 +1,6 @@
 pub mod Counted
 pub mod Decoding
+pub mod Fronts
 pub mod Gathered
 pub mod Joined
 pub mod LineFields

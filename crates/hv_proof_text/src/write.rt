@@ -6,7 +6,7 @@ ghost use Rattle.std.specs.List.{flat_map};
 ghost use Rattle.hv_lines.specs.Spelling.{acts_fields, clause_fields, constant_field, expr_fields};
 ghost use Rattle.hv_lines.specs.Spelling.{literal_field, proof_text, spelling_of, state_fields};
 ghost use Rattle.hv_lines.specs.Spelling.{statement_fields, word_field};
-ghost use Rattle.hv_proof_text.specs.Working.Writing.{GrowsText, with_fields};
+ghost use Rattle.hv_proof_text.specs.Working.Writing.{KeepsFronts, with_fields};
 
 use hv_bytes::Text;
 use hv_lines::{Acts, Constant, Expr, Line, Statement, Table, Word};
@@ -22,14 +22,14 @@ pub fn write_line(alloc: Global, line: &Line) -> Result<Text, AllocError>
     Ok(text)
 }
 
-/// Appends the lines of the table, in the order in which they were pushed, each with an LF. Beside
-/// the text it takes the memory of one line.
-pub fn write_proof(alloc: Global, table: &Table, out: &mut Text) -> Result<(), AllocError>
+/// Appends the lines of the table, in the order in which they were pushed, each with an LF. It
+/// takes no memory beside that of the text.
+pub fn write_proof(_alloc: Global, table: &Table, out: &mut Text) -> Result<(), AllocError>
     ensures ok { OnOk result (out.new ≡ out.old ++ proof_text (reverse table.now.lines)) }
     ensures err { OnErr result (out.new ≡ out.old) }
 {
     let before = out.len();
-    match push_lines(alloc, table, out) {
+    match push_lines(table, out) {
         Ok(()) => Ok(()),
         Err(error) => {
             out.truncate(before);
@@ -38,33 +38,31 @@ pub fn write_proof(alloc: Global, table: &Table, out: &mut Text) -> Result<(), A
     }
 }
 
-/// Appends the lines; where memory runs out, some of them.
-fn push_lines(alloc: Global, table: &Table, out: &mut Text) -> Result<(), AllocError>
+/// Appends the lines; where memory runs out, some of them and a part of the next one.
+fn push_lines(table: &Table, out: &mut Text) -> Result<(), AllocError>
     ensures ok { OnOk result (out.new ≡ out.old ++ proof_text (reverse table.now.lines)) }
-    ensures err { OnErr result (GrowsText out.old out.new) }
+    ensures keeps { KeepsFronts out.old out.new }
 {
-    let mut line = Text::new(alloc);
     for place in 0..table.len() {
-        line.truncate(0);
-        push_line(&mut line, table.line(place))?;
-        line.push_bytes(b"\n")?;
-        out.push_bytes(line.as_bytes())?;
+        push_line(out, table.line(place))?;
+        push(out, b"\n")?;
     }
     Ok(())
 }
 
 /// Appends the spelling of the line.
 fn push_line(text: &mut Text, line: &Line) -> Result<(), AllocError>
-    ensures { OnOk result (text.new ≡ text.old ++ spelling_of line.now) }
+    ensures ok { OnOk result (text.new ≡ text.old ++ spelling_of line.now) }
+    ensures keeps { KeepsFronts text.old text.new }
 {
     match line {
         Line::Acts { id, acts } => {
-            text.push_bytes(b"a")?;
+            push(text, b"a")?;
             push_number(text, *id as u64)?;
             push_acts(text, acts)
         }
         Line::Expr { id, expr } => {
-            text.push_bytes(b"e")?;
+            push(text, b"e")?;
             push_number(text, *id as u64)?;
             push_expr(text, expr)
         }
@@ -74,7 +72,7 @@ fn push_line(text: &mut Text, line: &Line) -> Result<(), AllocError>
             word,
             premises,
         } => {
-            text.push_bytes(b"k")?;
+            push(text, b"k")?;
             push_number(text, *id as u64)?;
             push_statement(text, statement)?;
             push_word(text, *word)?;
@@ -85,7 +83,8 @@ fn push_line(text: &mut Text, line: &Line) -> Result<(), AllocError>
 
 /// Appends the fields of the action set.
 fn push_acts(text: &mut Text, acts: &Acts) -> Result<(), AllocError>
-    ensures { OnOk result (text.new ≡ with_fields text.old (acts_fields acts.now)) }
+    ensures ok { OnOk result (text.new ≡ with_fields text.old (acts_fields acts.now)) }
+    ensures keeps { KeepsFronts text.old text.new }
 {
     match acts {
         Acts::All => push_field(text, b"a"),
@@ -100,7 +99,8 @@ fn push_acts(text: &mut Text, acts: &Acts) -> Result<(), AllocError>
 
 /// Appends the fields of the set.
 fn push_expr(text: &mut Text, expr: &Expr) -> Result<(), AllocError>
-    ensures { OnOk result (text.new ≡ with_fields text.old (expr_fields expr.now)) }
+    ensures ok { OnOk result (text.new ≡ with_fields text.old (expr_fields expr.now)) }
+    ensures keeps { KeepsFronts text.old text.new }
 {
     match expr {
         Expr::Constant(constant) => {
@@ -138,7 +138,8 @@ fn push_expr(text: &mut Text, expr: &Expr) -> Result<(), AllocError>
 
 /// Appends the fields of the statement.
 fn push_statement(text: &mut Text, statement: &Statement) -> Result<(), AllocError>
-    ensures { OnOk result (text.new ≡ with_fields text.old (statement_fields statement.now)) }
+    ensures ok { OnOk result (text.new ≡ with_fields text.old (statement_fields statement.now)) }
+    ensures keeps { KeepsFronts text.old text.new }
 {
     match statement {
         Statement::Sub(left, right) => push_pair(text, b"s", *left, *right),
@@ -150,7 +151,8 @@ fn push_statement(text: &mut Text, statement: &Statement) -> Result<(), AllocErr
 
 /// Appends the field of the word.
 fn push_word(text: &mut Text, word: Word) -> Result<(), AllocError>
-    ensures { OnOk result (text.new ≡ text.old ++ 32 ∷ word_field word) }
+    ensures ok { OnOk result (text.new ≡ text.old ++ 32 ∷ word_field word) }
+    ensures keeps { KeepsFronts text.old text.new }
 {
     let row = word.row();
     push_field(text, row.spelling.as_slice())
@@ -158,7 +160,8 @@ fn push_word(text: &mut Text, word: Word) -> Result<(), AllocError>
 
 /// Appends the clauses, each with its end.
 fn push_clauses(text: &mut Text, clauses: &Clauses) -> Result<(), AllocError>
-    ensures { OnOk result (text.new ≡ with_fields text.old (flat_map clause_fields clauses.now)) }
+    ensures ok { OnOk result (text.new ≡ with_fields text.old (flat_map clause_fields clauses.now)) }
+    ensures keeps { KeepsFronts text.old text.new }
 {
     for place in 0..clauses.len() {
         push_clause(text, clauses.get(place))?;
@@ -168,7 +171,8 @@ fn push_clauses(text: &mut Text, clauses: &Clauses) -> Result<(), AllocError>
 
 /// Appends a clause with its end.
 fn push_clause(text: &mut Text, clause: &[Literal]) -> Result<(), AllocError>
-    ensures { OnOk result (text.new ≡ with_fields text.old (clause_fields clause.now)) }
+    ensures ok { OnOk result (text.new ≡ with_fields text.old (clause_fields clause.now)) }
+    ensures keeps { KeepsFronts text.old text.new }
 {
     for literal in clause {
         push_literal(text, literal)?;
@@ -178,20 +182,22 @@ fn push_clause(text: &mut Text, clause: &[Literal]) -> Result<(), AllocError>
 
 /// Appends the number of the literal.
 fn push_literal(text: &mut Text, literal: &Literal) -> Result<(), AllocError>
-    ensures { OnOk result (text.new ≡ text.old ++ 32 ∷ literal_field literal.now) }
+    ensures ok { OnOk result (text.new ≡ text.old ++ 32 ∷ literal_field literal.now) }
+    ensures keeps { KeepsFronts text.old text.new }
 {
     let number = u64::from(literal.atom) + 1;
     if literal.positive {
         push_number(text, number)
     } else {
-        text.push_bytes(b" -")?;
-        text.push_number(number)
+        push(text, b" -")?;
+        push_decimal(text, number)
     }
 }
 
 /// Appends the states, each with its end.
 fn push_states(text: &mut Text, states: &StateList) -> Result<(), AllocError>
-    ensures { OnOk result (text.new ≡ with_fields text.old (flat_map state_fields states.now)) }
+    ensures ok { OnOk result (text.new ≡ with_fields text.old (flat_map state_fields states.now)) }
+    ensures keeps { KeepsFronts text.old text.new }
 {
     for place in 0..states.len() {
         push_state(text, states.get(place))?;
@@ -201,7 +207,8 @@ fn push_states(text: &mut Text, states: &StateList) -> Result<(), AllocError>
 
 /// Appends a state with its end.
 fn push_state(text: &mut Text, state: &[u32]) -> Result<(), AllocError>
-    ensures { OnOk result (text.new ≡ with_fields text.old (state_fields state.now)) }
+    ensures ok { OnOk result (text.new ≡ with_fields text.old (state_fields state.now)) }
+    ensures keeps { KeepsFronts text.old text.new }
 {
     push_numbers(text, state)?;
     push_field(text, b";")
@@ -209,7 +216,8 @@ fn push_state(text: &mut Text, state: &[u32]) -> Result<(), AllocError>
 
 /// Appends a field for each number.
 fn push_numbers(text: &mut Text, numbers: &[u32]) -> Result<(), AllocError>
-    ensures { OnOk result (text.new ≡ with_fields text.old (map decimal numbers.now)) }
+    ensures ok { OnOk result (text.new ≡ with_fields text.old (map decimal numbers.now)) }
+    ensures keeps { KeepsFronts text.old text.new }
 {
     for number in numbers {
         push_number(text, u64::from(*number))?;
@@ -219,7 +227,8 @@ fn push_numbers(text: &mut Text, numbers: &[u32]) -> Result<(), AllocError>
 
 /// Appends a field for each identifier.
 fn push_ids(text: &mut Text, ids: &[usize]) -> Result<(), AllocError>
-    ensures { OnOk result (text.new ≡ with_fields text.old (map decimal ids.now)) }
+    ensures ok { OnOk result (text.new ≡ with_fields text.old (map decimal ids.now)) }
+    ensures keeps { KeepsFronts text.old text.new }
 {
     for id in ids {
         push_number(text, *id as u64)?;
@@ -229,7 +238,8 @@ fn push_ids(text: &mut Text, ids: &[usize]) -> Result<(), AllocError>
 
 /// Appends a letter and an identifier.
 fn push_one(text: &mut Text, letter: &[u8], id: usize) -> Result<(), AllocError>
-    ensures { OnOk result (text.new ≡ with_fields text.old (letter.now ∷ decimal id ∷ [])) }
+    ensures ok { OnOk result (text.new ≡ with_fields text.old (letter.now ∷ decimal id ∷ [])) }
+    ensures keeps { KeepsFronts text.old text.new }
 {
     push_field(text, letter)?;
     push_number(text, id as u64)
@@ -237,8 +247,9 @@ fn push_one(text: &mut Text, letter: &[u8], id: usize) -> Result<(), AllocError>
 
 /// Appends a letter and two identifiers.
 fn push_pair(text: &mut Text, letter: &[u8], left: usize, right: usize) -> Result<(), AllocError>
-    ensures { OnOk result (text.new ≡ with_fields text.old (letter.now ∷ decimal left
+    ensures ok { OnOk result (text.new ≡ with_fields text.old (letter.now ∷ decimal left
         ∷ decimal right ∷ [])) }
+    ensures keeps { KeepsFronts text.old text.new }
 {
     push_field(text, letter)?;
     push_number(text, left as u64)?;
@@ -247,18 +258,36 @@ fn push_pair(text: &mut Text, letter: &[u8], left: usize, right: usize) -> Resul
 
 /// Appends a space and the field.
 fn push_field(text: &mut Text, field: &[u8]) -> Result<(), AllocError>
-    ensures { OnOk result (text.new ≡ text.old ++ 32 ∷ field.now) }
+    ensures ok { OnOk result (text.new ≡ text.old ++ 32 ∷ field.now) }
+    ensures keeps { KeepsFronts text.old text.new }
 {
-    text.push_bytes(b" ")?;
-    text.push_bytes(field)
+    push(text, b" ")?;
+    push(text, field)
 }
 
 /// Appends a space and the decimal.
 fn push_number(text: &mut Text, number: u64) -> Result<(), AllocError>
-    ensures { OnOk result (text.new ≡ text.old ++ 32 ∷ decimal number) }
+    ensures ok { OnOk result (text.new ≡ text.old ++ 32 ∷ decimal number) }
+    ensures keeps { KeepsFronts text.old text.new }
 {
-    text.push_bytes(b" ")?;
+    push(text, b" ")?;
+    push_decimal(text, number)
+}
+
+/// Appends the decimal.
+fn push_decimal(text: &mut Text, number: u64) -> Result<(), AllocError>
+    ensures ok { OnOk result (text.new ≡ text.old ++ decimal number) }
+    ensures keeps { KeepsFronts text.old text.new }
+{
     text.push_number(number)
+}
+
+/// Appends the bytes.
+fn push(text: &mut Text, bytes: &[u8]) -> Result<(), AllocError>
+    ensures ok { OnOk result (text.new ≡ text.old ++ bytes.now) }
+    ensures keeps { KeepsFronts text.old text.new }
+{
+    text.push_bytes(bytes)
 }
 
 /// The field of the constant.

@@ -3,7 +3,10 @@ use Rattle.hv_proof_text.proofs.Joined.{items_more}
 use Rattle.hv_proof_text.proofs.write.push_states.Goals as goal
 
 pub loop-place-preserved : goal.loop-place-preserved
-loop-place-preserved c =
-    items_more state_fields c.args.states.now c.loop-place.place c.get.result.now c.args.text.now
-    c.loop-place.text
-    c.push_state.new.text c.get.ensures.state c.loop-place.invariant c.in_ok-push_state.ensures
+loop-place-preserved c = record {
+  same = items_more state_fields c.args.states.now c.loop-place.place c.get.result.now c.args.text.now
+      c.loop-place.text c.push_state.new.text c.get.ensures.state c.loop-place.invariant.same
+      c.in_ok-push_state.ensures.ok;
+  keeps = λ front begins. c.in_ok-push_state.ensures.keeps front
+      (c.loop-place.invariant.keeps front begins);
+}
