@@ -14,6 +14,7 @@ use hv_bytes::{decimal_front, split_field};
 use std::alloc::AllocError;
 
 /// The letter of the first field, and what follows that.
+#[inline(always)]
 pub(crate) fn first_letter(fields: Option<&[u8]>) -> Option<(Letter, Option<&[u8]>)>
     ensures { MatchOption result
         ((first : Letter) (tokens : List Token) → AreTokens (letter first ∷ tokens)
@@ -21,8 +22,11 @@ pub(crate) fn first_letter(fields: Option<&[u8]>) -> Option<(Letter, Option<&[u8
         (λ p. fields_behind fields.entry (λ f. f.now)
         ≡ letter_field p.0 ∷ fields_behind p.1 (λ f. f.now)) }
 {
-    let (field, behind) = split_field(fields?);
-    Some((letter_of(field)?, behind))
+    match fields? {
+        [byte] => Some((letter_of(*byte)?, None)),
+        [byte, b' ', rest @ ..] => Some((letter_of(*byte)?, Some(rest))),
+        _ => None,
+    }
 }
 
 /// The number of the first field, and what follows that.

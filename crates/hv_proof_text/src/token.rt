@@ -1,6 +1,6 @@
 //! Tokens: what a field of a line denotes.
 
-ghost use Rattle.std.specs.Prelude.{◌≡◌, MatchOption};
+ghost use Rattle.std.specs.Prelude.{◌≡◌, [], ◌∷◌, MatchOption};
 ghost use Rattle.hv_proof_text.specs.Working.Tokens.{letter_field, field_of, IsNameToken};
 ghost use Rattle.hv_proof_text.specs.declared.token.Letter.{Letter};
 ghost use Rattle.hv_proof_text.specs.declared.token.Token.{Token};
@@ -47,7 +47,7 @@ pub(crate) fn name_of(field: &[u8]) -> Option<Token>
         ((token : Token) → IsNameToken token → field_of token ≡ field.now → ⊥)
         (λ token. IsNameToken token × (field_of token ≡ field.now)) }
 {
-    if let Some(letter) = letter_of(field) {
+    if let Some(letter) = letter_in(field) {
         return Some(Token::Letter(letter));
     }
     if let Some(word) = Word::spelled(field) {
@@ -56,29 +56,41 @@ pub(crate) fn name_of(field: &[u8]) -> Option<Token>
     None
 }
 
-/// A letter.
-pub(crate) fn letter_of(field: &[u8]) -> Option<Letter>
+/// The letter that the field is.
+fn letter_in(field: &[u8]) -> Option<Letter>
     ensures { MatchOption result
         ((letter : Letter) → letter_field letter ≡ field.now → ⊥)
         (λ letter. letter_field letter ≡ field.now) }
 {
     match field {
-        [b'a'] => Some(Letter::A),
-        [b'b'] => Some(Letter::B),
-        [b'c'] => Some(Letter::C),
-        [b'd'] => Some(Letter::D),
-        [b'e'] => Some(Letter::E),
-        [b'g'] => Some(Letter::G),
-        [b'h'] => Some(Letter::H),
-        [b'i'] => Some(Letter::I),
-        [b'k'] => Some(Letter::K),
-        [b'n'] => Some(Letter::N),
-        [b'p'] => Some(Letter::P),
-        [b'r'] => Some(Letter::R),
-        [b's'] => Some(Letter::S),
-        [b't'] => Some(Letter::T),
-        [b'u'] => Some(Letter::U),
-        [b'x'] => Some(Letter::X),
+        [byte] => letter_of(*byte),
+        _ => None,
+    }
+}
+
+/// The letter of this byte.
+pub(crate) fn letter_of(byte: u8) -> Option<Letter>
+    ensures { MatchOption result
+        ((letter : Letter) → letter_field letter ≡ byte ∷ [] → ⊥)
+        (λ letter. letter_field letter ≡ byte ∷ []) }
+{
+    match byte {
+        b'a' => Some(Letter::A),
+        b'b' => Some(Letter::B),
+        b'c' => Some(Letter::C),
+        b'd' => Some(Letter::D),
+        b'e' => Some(Letter::E),
+        b'g' => Some(Letter::G),
+        b'h' => Some(Letter::H),
+        b'i' => Some(Letter::I),
+        b'k' => Some(Letter::K),
+        b'n' => Some(Letter::N),
+        b'p' => Some(Letter::P),
+        b'r' => Some(Letter::R),
+        b's' => Some(Letter::S),
+        b't' => Some(Letter::T),
+        b'u' => Some(Letter::U),
+        b'x' => Some(Letter::X),
         _ => None,
     }
 }
