@@ -27,3 +27,7 @@ pub mod Basics
 pub mod Untrue
 pub mod Drafting
 pub mod Extended
+pub mod SignedSides
+pub mod Clausal
+pub mod DeadLines
+pub mod Outcomes

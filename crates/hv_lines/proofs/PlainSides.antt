@@ -90,7 +90,7 @@ only_leaf parts lines _ leaf (of_right set left right l y at has of) x is single
     let out : parts x ≡ Some (left, right) = subst (λ e. parts e ≡ Some (left, right)) same has in
     absurd (cc (out, single))
 
-part_leaf : (parts : Expr → Option (ℕ × ℕ)) (lines : List Line) (set leaf : ℕ)
+pub part_leaf : (parts : Expr → Option (ℕ × ℕ)) (lines : List Line) (set leaf : ℕ)
     → IsLeaf parts lines set leaf → (x : Expr) (a b : ℕ)
     → expr_at lines set ≡ Some x → parts x ≡ Some (a, b)
     → IsLeaf parts lines a leaf ⊎ IsLeaf parts lines b leaf

@@ -2,3 +2,4 @@
 pub mod Setting
 pub mod TableState
 pub mod Good
+pub mod Pruning

@@ -1,83 +1,19 @@
 -- What the proofs cost, and how long their lines are.
 use Rattle.std.proofs.Common.{◌≡◌, ℕ, ◌+◌, ◌*◌, ◌<◌, ◌≤◌, false, cond, List, [], ◌∷◌, length}
-use Rattle.std.proofs.Common.{decimal, refl, subst, sym, inl, inr, arith}
+use Rattle.std.proofs.Common.{decimal, subst, sym, arith}
 use Rattle.std.proofs.lemmas.Fmt.{length-decimal-le_wide}
 use Rattle.std.proofs.lemmas.List.Elements.{All-head, All-tail}
 use Rattle.std.specs.List.{All, flat_map}
 use Rattle.hv_task.specs.Strips.{Strips, IsTask, atoms}
 use Rattle.hv_sets.specs.declared.literal.Literal.{Literal}
-use Rattle.hv_lines.specs.Drafts.{IsGoodTable, draft_setting, onto, prelude}
-use Rattle.hv_lines.specs.Good.{AreGood}
-use Rattle.hv_lines.specs.Spelling.{clause_fields, fields_of, literal_field, spelling_of}
-use Rattle.hv_lines.specs.declared.line.Expr.TheVariants as E
+use Rattle.hv_lines.specs.Spelling.{clause_fields, literal_field}
 use Rattle.hv_lines.specs.declared.line.Line.{Line}
-use Rattle.hv_lines.specs.declared.line.Line.TheVariants as L
-use Rattle.hv_lines.proofs.Brief.{all_brief}
-use Rattle.hv_lines.proofs.Budgets.{all_other}
-use Rattle.hv_lines.proofs.Drafting.{good_of, good_prelude}
-use Rattle.hv_lines.proofs.Extended.{prelude_has}
-use Rattle.hv_lines.proofs.Lengths.{decimal_short, weight, weight-append}
+use Rattle.hv_lines.proofs.Lengths.{weight, weight-append}
 use Rattle.hv_reach.specs.Written.{IsDenial, IsModest, IsPairsProof, IsRelaxedProof, PairsExclude}
-use Rattle.hv_reach.specs.Written.{RelaxedExcludes, horn_proof, pairs_formula, relaxed_formula}
-use Rattle.hv_reach.specs.Written.{with_budget}
-use Rattle.hv_reach.specs.Working.Written.{Separates}
-use Rattle.hv_reach.proofs.Block.{first, good_horn_proof, line5, line6}
+use Rattle.hv_reach.specs.Written.{RelaxedExcludes, pairs_formula, relaxed_formula}
+use Rattle.hv_reach.proofs.Block.{lines_brief, within_budget}
 use Rattle.hv_reach.proofs.Denials.{pairs_denials, pairs_few, pairs_separates, relaxed_denials}
 use Rattle.hv_reach.proofs.Denials.{relaxed_few, relaxed_separates}
-
-module _ (task : Strips) (is_task : IsTask task) (clauses : List (List Literal))
-    (separates : Separates task clauses) where
-  good : IsGoodTable task (horn_proof clauses)
-  good = good_horn_proof task is_task clauses separates
-
-  -- the sixteen lines are good with each budget that the clauses don't pass
-  within_budget : (budget : ℕ) → length clauses ≤ budget → 0 < budget
-      → AreGood (with_budget task budget) (horn_proof clauses)
-  within_budget budget enough some =
-      all_other (draft_setting task) budget (horn_proof clauses)
-      (good_of task (horn_proof clauses) good) (
-        inl (λ basic. basic),
-        (
-          inl (λ basic. basic),
-          (
-            inr (first task is_task clauses separates budget enough),
-            (
-              inl (λ basic. basic),
-              (
-                inl (λ basic. basic),
-                (
-                  inr (line6 task is_task (onto prelude []) (good_prelude task) 3 1 clauses refl
-                      refl (omega arith) (omega arith) prelude_has
-                      separates.dead budget some),
-                  (
-                    inr (line5 task is_task (onto prelude []) (good_prelude task) 3 1 clauses refl
-                        refl (omega arith) (omega arith) prelude_has
-                        separates.dead budget enough),
-                    (inl (λ basic. basic), tt),
-                  ),
-                ),
-              ),
-            ),
-          ),
-        ),
-      )
-
-  -- how long the lines are
-  lines_brief : weight (flat_map clause_fields clauses) ≤ 7399900
-      → All (λ line. length (spelling_of line) ≤ 7400000) (horn_proof clauses)
-  lines_brief small =
-      all_brief task 7400000 (omega arith) (horn_proof clauses) good
-      (inl tt, (inl tt, (inl tt, (inr formula, (inl tt, (inl tt, (inl tt, (refl, tt))))))))
-    where
-      formula : weight (fields_of (L.Expr 3 (E.Horn clauses))) ≤ 7400000
-      formula =
-          omega (
-            arith,
-            decimal_short 3 (omega arith),
-            decimal_short (length clauses)
-                (omega (arith, separates.dead.few)),
-            small,
-          )
 
 -- a literal that denies an atom, where its number has at most so many digits
 denied_short : (digits : ℕ) (literal : Literal) → literal.positive ≡ false

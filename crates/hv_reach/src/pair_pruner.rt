@@ -7,10 +7,11 @@ ghost use Rattle.hv_task.specs.Strips.{IsState, atoms};
 ghost use Rattle.hv_lines.specs.Drafts.{IsGoodTable};
 ghost use Rattle.hv_lines.specs.Pruning.{Extends, IsPrunerAnswer, IsDeadBy, IsFirstNoted};
 ghost use Rattle.hv_lines.specs.Pruning.{NoneNoted};
+ghost use Rattle.hv_lines.specs.Working.Pruning.{IsOutcome};
 ghost use Rattle.hv_reach.specs.Index.{IsTaskIndex};
 ghost use Rattle.hv_reach.specs.Pruners.{AreDescribed, AreHornNotes, FitPairs, HoldsPairsOf};
-ghost use Rattle.hv_reach.specs.Pruners.{IsPairsBlock, PairsCover};
-ghost use Rattle.hv_reach.specs.Working.Pruners.{AreDiagonals, IsOutcome};
+ghost use Rattle.hv_reach.specs.Pruners.{IsDenied, IsPairsBlock, PairsCover};
+ghost use Rattle.hv_reach.specs.Working.Pruners.{AreDiagonals};
 
 use crate::index::index;
 use crate::notes::{Noted, write_block};
@@ -160,8 +161,9 @@ fn pairs_answer(
     requires index { IsTaskIndex task.now index.now.items }
     requires state { IsState task.now state.now }
     ensures outcome { IfOk result (λ found. IsOutcome task.now (PairsCover task.now)
-        (IsPairsBlock task.now state.now draft.old.lines) state.now found
-        kept.old.noted.notes.items draft.old kept.new.noted.notes.items draft.new) }
+        (IsDenied (atoms task.now)) (IsPairsBlock task.now state.now draft.old.lines)
+        state.now found kept.old.noted.notes.items draft.old
+        kept.new.noted.notes.items draft.new) }
     ensures described { IfOk result (λ _. AreDescribed HoldsPairsOf task.now
         draft.new.lines kept.new.noted.notes.items kept.new.reached.items) }
     ensures diagonals { AreDiagonals kept.new.noted.rows.rows kept.new.reached.items }

@@ -3,14 +3,14 @@
 ghost use Rattle.std.specs.Prelude.{◌≡◌, [], ◌↔◌, IsTrue, IfOk, IfSome, IfNone, MatchOption, OnErr};
 ghost use Rattle.std.specs.Prelude.{None, is_some};
 ghost use Rattle.hv_task.specs.AtomList.{IsListOf};
-ghost use Rattle.hv_task.specs.Strips.{IsState};
+ghost use Rattle.hv_task.specs.Strips.{IsState, atoms};
 ghost use Rattle.hv_lines.specs.Drafts.{IsGoodTable};
 ghost use Rattle.hv_lines.specs.Pruning.{Extends, IsPrunerAnswer, IsDeadBy, IsFirstNoted};
 ghost use Rattle.hv_lines.specs.Pruning.{NoneNoted};
+ghost use Rattle.hv_lines.specs.Working.Pruning.{IsOutcome};
 ghost use Rattle.hv_reach.specs.Index.{AreSearchRowsOf};
 ghost use Rattle.hv_reach.specs.Pruners.{AreDescribed, AreHornNotes, FitRelaxed, HoldsAtomsOf};
-ghost use Rattle.hv_reach.specs.Pruners.{IsRelaxedBlock};
-ghost use Rattle.hv_reach.specs.Working.Pruners.{IsOutcome};
+ghost use Rattle.hv_reach.specs.Pruners.{IsDenied, IsRelaxedBlock};
 ghost use Rattle.hv_reach.specs.Written.{RelaxedExcludesFrom};
 
 use crate::atom_search::AtomSearch;
@@ -148,8 +148,8 @@ fn relaxed_answer(
     requires search { AreSearchRowsOf task.now search.old }
     requires state { IsState task.now state.now }
     ensures outcome { IfOk result (λ found. IsOutcome task.now (RelaxedExcludesFrom task.now)
-        (IsRelaxedBlock task.now state.now draft.old.lines) state.now found
-        noted.old.notes.items draft.old noted.new.notes.items draft.new) }
+        (IsDenied (atoms task.now)) (IsRelaxedBlock task.now state.now draft.old.lines)
+        state.now found noted.old.notes.items draft.old noted.new.notes.items draft.new) }
     ensures described { IfOk result (λ _. AreDescribed HoldsAtomsOf task.now
         draft.new.lines noted.new.notes.items noted.new.rows.rows) }
     ensures err_draft { OnErr result (draft.new ≡ draft.old) }

@@ -2,10 +2,7 @@ pub mod Listed
 pub mod Enclosing
 pub mod Trapped
 pub mod Covered
-pub mod Sides
-pub mod TwoBasics
 pub mod Formulas
 pub mod Block
 pub mod Proofs
-pub mod Modest
 pub mod Writing

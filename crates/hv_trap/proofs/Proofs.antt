@@ -1,7 +1,7 @@
 -- The lines of a proof are determined by the task; they conclude, and are good where the initial
--- state satisfies a conjunction of the
--- greatest trap.
+-- state satisfies a conjunction of the greatest trap.
 use Rattle.std.proofs.Common.{◌≡◌, ◌≤◌, ◌∙◌, Bool, true, false, List, length, sym, ap, subst}
+use Rattle.std.proofs.Common.{arith}
 use Rattle.std.proofs.lemmas.Bool.{both_ways}
 use Rattle.hv_task.specs.Strips.{Strips, atoms, start_state}
 use Rattle.hv_lines.specs.Drafts.{IsGoodTable}
@@ -11,10 +11,10 @@ use Rattle.hv_sets.specs.Truth.{in_clauses}
 use Rattle.hv_sets.specs.declared.literal.Literal.{Literal}
 use Rattle.hv_clauses.specs.Clausal.{AreClauses}
 use Rattle.hv_trap.specs.Trap.{AreTrapClauses, IsSatisfied}
-use Rattle.hv_trap.specs.Written.{IsTrapProof, trap_proof}
-use Rattle.hv_trap.proofs.Block.{good_trap_proof, trap_concludes}
+use Rattle.hv_trap.specs.Written.{IsModestTrap, IsTrapProof, trap_proof}
+use Rattle.hv_trap.proofs.Block.{good_trap_proof, lines_brief, trap_concludes, within_budget}
 use Rattle.hv_trap.proofs.Enclosing.{enclose_below}
-use Rattle.hv_trap.proofs.Formulas.{trap_formula}
+use Rattle.hv_trap.proofs.Formulas.{IsTrapFormula, trap_formula}
 use Rattle.hv_trap.proofs.Trapped.{trap_encloses, trap_once, trap_satisfied}
 
 pub trap_proof_once : (task : Strips) (x y : List Line) → IsTrapProof task x → IsTrapProof task y
@@ -36,6 +36,18 @@ trap_proof_good task lines few satisfied (c, trap, is) =
 
 pub trap_proof_ends : (task : Strips) (lines : List Line) → IsTrapProof task lines → Concludes lines
 trap_proof_ends task lines (c, trap, is) = subst Concludes (sym is) (trap_concludes task c)
+
+-- what it costs, and how long its lines are
+pub trap_modest : (task : Strips) (lines : List Line) → atoms task ≤ 64
+    → IsSatisfied task (start_state task) → IsTrapProof task lines
+    → IsModestTrap task 6112 lines
+trap_modest task lines few satisfied (c, trap, is) =
+    let formula : IsTrapFormula task c = trap_formula task c few trap in
+    let breaks = (trap_satisfied task c trap (start_state task)).1 satisfied in
+    subst (IsModestTrap task 6112) (sym is) record {
+      cost = within_budget task c formula breaks 6112 formula.few (omega arith);
+      bytes = lines_brief task c formula breaks;
+    }
 
 -- what the test of the initial state tells
 module _ (task : Strips) (clauses : List (List Literal)) (trap : AreTrapClauses task clauses)

@@ -2,5 +2,4 @@
 pub mod Trap
 pub mod Asking
 pub mod Room
-pub mod Pruner
 pub mod Fitting

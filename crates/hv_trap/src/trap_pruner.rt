@@ -4,8 +4,8 @@ ghost use Rattle.std.specs.Prelude.{◌≡◌, [], ◌↔◌, IsTrue, IfOk, IfSo
 ghost use Rattle.hv_task.specs.Strips.{IsState};
 ghost use Rattle.hv_lines.specs.Drafts.{IsGoodTable};
 ghost use Rattle.hv_lines.specs.Pruning.{Extends, IsPrunerAnswer, IsDeadBy};
-ghost use Rattle.hv_trap.specs.Pruner.{AreTrapNotes, IsTrapBlock, TrapCovers};
-ghost use Rattle.hv_trap.specs.Working.Pruner.{IsTrapOutcome};
+ghost use Rattle.hv_lines.specs.Working.Pruning.{IsOutcome};
+ghost use Rattle.hv_trap.specs.Pruner.{AreTrapNotes, IsTrapBlock, IsTrapSet, TrapCovers};
 
 use crate::notes::{covering_clauses, line_for, write_block};
 use hv_lines::{Draft, Note, Pruner};
@@ -110,7 +110,8 @@ fn trap_answer(
     requires good { IsGoodTable task.now draft.old.lines }
     requires fits { AreTrapNotes task.now draft.old.lines notes.old.items }
     requires state { IsState task.now state.now }
-    ensures outcome { IfOk result (λ found. IsTrapOutcome task.now state.now found
+    ensures outcome { IfOk result (λ found. IsOutcome task.now (TrapCovers task.now)
+        (IsTrapSet task.now) (IsTrapBlock task.now draft.old.lines) state.now found
         notes.old.items draft.old notes.new.items draft.new) }
     ensures err_draft { OnErr result (draft.new ≡ draft.old) }
     ensures err_notes { OnErr result (notes.new.items ≡ notes.old.items) }

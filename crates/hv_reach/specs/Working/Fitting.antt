@@ -1,29 +1,28 @@
 -- What fits a draft fits each extension of it: the law of the trait Pruner for notes of formulas.
-use Rattle.std.specs.Prelude.{◌↔◌, Bool, List, Option, Some, None, IfSome, slice_get}
+use Rattle.std.specs.Prelude.{◌↔◌, ℕ, Bool, List, Option, Some, None, IfSome, slice_get}
 use Rattle.std.proofs.Common.{subst, sym}
-use Rattle.hv_task.specs.Strips.{Strips}
+use Rattle.hv_task.specs.Strips.{Strips, atoms}
 use Rattle.hv_lines.specs.Meaning.{SetOfStates}
 use Rattle.hv_lines.specs.Pruning.{Extends}
 use Rattle.hv_lines.specs.declared.line.Expr.TheVariants as E
 use Rattle.hv_lines.specs.declared.line.Line.{Line}
 use Rattle.hv_lines.specs.declared.note.Note.{Note}
-use Rattle.hv_lines.proofs.Extended.{expr_extended, literal_below, noted_extended, states_extended}
+use Rattle.hv_lines.proofs.Extended.{expr_extended, literal_below, states_extended}
+use Rattle.hv_lines.proofs.Outcomes.{notes_kept}
 use Rattle.hv_reach.specs.Pruners.{AreHornNotes, AreDescribed, FitPairs, FitRelaxed, HoldsAtomsOf}
-use Rattle.hv_reach.specs.Pruners.{HoldsPairsOf, PairNotes, PairsCover, RelaxedNotes, Describes}
+use Rattle.hv_reach.specs.Pruners.{HoldsPairsOf, IsDenied, PairNotes, PairsCover, RelaxedNotes}
+use Rattle.hv_reach.specs.Pruners.{Describes}
 use Rattle.hv_reach.specs.Written.{RelaxedExcludesFrom}
+
+pub denied_kept : (task : Strips) (old new : List Line) → Extends task old new → (set : ℕ)
+    → IsDenied (atoms task) old set → IsDenied (atoms task) new set
+denied_kept task old new extends set (clauses, at, denials) =
+    (clauses, expr_extended task old new extends set (E.Horn clauses) at, denials)
 
 pub notes_fit : (task : Strips) (covered : SetOfStates) (old new : List Line) (notes : List Note)
     → AreHornNotes task covered old notes → Extends task old new
     → AreHornNotes task covered new notes
-notes_fit task covered old new notes fits extends k note at =
-    let fit = fits k note at in (
-      noted_extended task old new extends covered note fit.0,
-      (
-        fit.1.0,
-        expr_extended task old new extends note.set (E.Horn fit.1.0) fit.1.1,
-        fit.1.2,
-      ),
-    )
+notes_fit task covered = notes_kept task covered (IsDenied (atoms task)) (denied_kept task)
 
 -- what is said of an item, in other words
 pub if_some : {X : Type 0} (found : Option X) (P Q : X → Type 0) → ((x : X) → P x → Q x)

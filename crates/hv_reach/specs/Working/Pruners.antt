@@ -1,18 +1,13 @@
 -- Working definitions beside those of `Pruners`: for private contracts and proofs.
-use Rattle.std.specs.Prelude.{◌≡◌, ◌<◌, ◌↔◌, [], IsTrue, ℕ, Bool, true, List, Option, is_some}
-use Rattle.std.specs.Prelude.{IfSome, IfNone, Some, None, length, slice_index_or}
+use Rattle.std.specs.Prelude.{◌≡◌, ◌<◌, [], ℕ, Bool, true, List, Option, Some, None, length}
+use Rattle.std.specs.Prelude.{slice_index_or}
 use Rattle.std.specs.Global.{Vec}
 use Rattle.hv_task.specs.Strips.{Strips, IsState}
 use Rattle.hv_sets.specs.Truth.{in_clauses}
 use Rattle.hv_sets.specs.declared.literal.Literal.{Literal}
-use Rattle.hv_lines.specs.Drafts.{DraftState}
 use Rattle.hv_lines.specs.Meaning.{SetOfStates}
-use Rattle.hv_lines.specs.Pruning.{Extends, IsPrunerAnswer, IsDeadBy}
-use Rattle.hv_lines.specs.declared.line.Line.{Line}
-use Rattle.hv_lines.specs.declared.note.Note.{Note}
 use Rattle.hv_reach.specs.Working.NoteRows.{IsDiagonal}
 use Rattle.hv_reach.specs.Working.Written.{IsDeadEnd}
-use Rattle.hv_reach.specs.Pruners.{AreHornNotes}
 
 -- the rows of an index, if there is one
 abbrev pub items_in : Option (Vec (Vec ℕ)) → Option (List (Vec ℕ))
@@ -33,15 +28,3 @@ pub record ShowsWhyDead (task : Strips) (covered : SetOfStates) (state : List Bo
   pub holds : in_clauses clauses state ≡ true
   pub within : (other : List Bool) → IsState task other → in_clauses clauses other ≡ true
       → covered other
-
--- what is after an answer: whether there is one, what it shows, how the draft grew, and that
--- the notes fit it
-pub record IsOutcome (task : Strips) (covered : SetOfStates) (IsBlock : List Line → Note → Type 0)
-    (state : List Bool) (found : Option ℕ) (notes : List Note) (draft : DraftState)
-    (new_notes : List Note) (new_draft : DraftState) : Type 0 where
-  pub answer : IsPrunerAnswer task covered IsBlock state found notes draft new_notes new_draft
-  pub some : IsTrue (is_some found) ↔ covered state
-  pub dead : IfSome found (λ line. IsDeadBy task new_draft.lines state line)
-  pub extends : Extends task draft.lines new_draft.lines
-  pub none : IfNone found (new_draft ≡ draft)
-  pub fits : AreHornNotes task covered new_draft.lines new_notes

@@ -1,44 +1,36 @@
-use Rattle.std.proofs.Common.{◌≡◌, [], ◌∙◌, ap, subst, sym}
+use Rattle.std.proofs.Common.{[], subst, sym}
 use Rattle.hv_lines.specs.Drafts.{IsGoodTable, conclusion, onto, prelude}
 use Rattle.hv_lines.specs.Judged.{Concludes}
+use Rattle.hv_lines.proofs.Outcomes.{put_good, put_is}
 use Rattle.hv_reach.specs.Written.{dead_block}
 use Rattle.hv_reach.proofs.Block.{good_horn_proof, good_start_block, horn_concludes}
 use Rattle.hv_reach.proofs.horn_proof.horn_proof.Goals as goal
 
 pub push_all-requires-clause-good : goal.push_all-requires-clause-good
 push_all-requires-clause-good c =
-    let begun : c.reserve.new.self.lines ≡ onto prelude [] = cc
-    (c.in_ok-reserve.ensures.lines, c.in_ok-draft.ensures.lines) in
-    subst (λ lines. IsGoodTable c.args.task.now (onto lines c.reserve.new.self.lines))
-    (sym c.in_ok-block.ensures)
-    (subst (λ lines. IsGoodTable c.args.task.now (onto (dead_block 3 1 c.args.clauses) lines))
-    (sym begun)
-    (good_start_block c.args.task.now c.atoms-atoms.ensures.task c.args.clauses c.requires))
+    put_good c.args.task.now (dead_block 3 1 c.args.clauses) (onto prelude [])
+    c.in_ok-block.block.items c.reserve.new.self.lines c.in_ok-block.ensures
+    (cc (c.in_ok-reserve.ensures.lines, c.in_ok-draft.ensures.lines))
+    (good_start_block c.args.task.now c.atoms-atoms.ensures.task c.args.clauses c.requires)
 
 pub push_all-requires-2-clause-good : goal.push_all-requires-2-clause-good
 push_all-requires-2-clause-good c =
-    let begun : c.reserve.new.self.lines ≡ onto prelude [] = cc
-    (c.in_ok-reserve.ensures.lines, c.in_ok-draft.ensures.lines) in
-    let block : c.push_all.new.self.lines ≡ onto (dead_block 3 1 c.args.clauses) (onto prelude []) =
-    c.push_all.ensures.lines
-    ∙ (ap (λ lines. onto lines c.reserve.new.self.lines) c.in_ok-block.ensures
-    ∙ ap (onto (dead_block 3 1 c.args.clauses)) begun) in
-    subst (λ lines. IsGoodTable c.args.task.now (onto lines c.push_all.new.self.lines))
-    (sym c.in_ok-end.ensures)
-    (subst (λ lines. IsGoodTable c.args.task.now (onto (conclusion 5 3 4) lines)) (sym block)
-    (good_horn_proof c.args.task.now c.atoms-atoms.ensures.task c.args.clauses c.requires))
+    put_good c.args.task.now (conclusion 5 3 4)
+    (onto (dead_block 3 1 c.args.clauses) (onto prelude [])) c.in_ok-end.end.items
+    c.push_all.new.self.lines c.in_ok-end.ensures
+    (put_is (dead_block 3 1 c.args.clauses) (onto prelude []) c.in_ok-block.block.items
+    c.reserve.new.self.lines c.push_all.new.self.lines c.in_ok-block.ensures
+    (cc (c.in_ok-reserve.ensures.lines, c.in_ok-draft.ensures.lines)) c.push_all.ensures.lines)
+    (good_horn_proof c.args.task.now c.atoms-atoms.ensures.task c.args.clauses c.requires)
 
 pub returns-clause-lines : goal.returns-clause-lines
 returns-clause-lines c =
-    let begun : c.reserve.new.self.lines ≡ onto prelude [] = cc
-    (c.in_ok-reserve.ensures.lines, c.in_ok-draft.ensures.lines) in
-    let block : c.push_all.new.self.lines ≡ onto (dead_block 3 1 c.args.clauses) (onto prelude []) =
-    c.push_all.ensures.lines
-    ∙ (ap (λ lines. onto lines c.reserve.new.self.lines) c.in_ok-block.ensures
-    ∙ ap (onto (dead_block 3 1 c.args.clauses)) begun) in
+    put_is (conclusion 5 3 4) (onto (dead_block 3 1 c.args.clauses) (onto prelude []))
+    c.in_ok-end.end.items c.push_all.new.self.lines c.push_all-2.new.self.lines c.in_ok-end.ensures
+    (put_is (dead_block 3 1 c.args.clauses) (onto prelude []) c.in_ok-block.block.items
+    c.reserve.new.self.lines c.push_all.new.self.lines c.in_ok-block.ensures
+    (cc (c.in_ok-reserve.ensures.lines, c.in_ok-draft.ensures.lines)) c.push_all.ensures.lines)
     c.push_all-2.ensures.lines
-    ∙ (ap (λ lines. onto lines c.push_all.new.self.lines) c.in_ok-end.ensures
-    ∙ ap (onto (conclusion 5 3 4)) block)
 
 pub returns-clause-good : goal.returns-clause-good
 returns-clause-good c =

@@ -4,17 +4,19 @@ use Rattle.std.specs.Option.{IfSome}
 use Rattle.hv_task.specs.Strips.{atoms}
 use Rattle.hv_lines.specs.Drafts.{IsGoodTable}
 use Rattle.hv_lines.specs.Numbering.{expr_count, known_count}
-use Rattle.hv_reach.specs.Pruners.{HoldsPairsOf, IsPairsBlock, PairsCover}
-use Rattle.hv_reach.specs.Working.Pruners.{AreDiagonals, IsOutcome}
+use Rattle.hv_lines.specs.Working.Pruning.{IsOutcome}
+use Rattle.hv_lines.proofs.Outcomes.{none_told, outcome_told}
+use Rattle.hv_reach.specs.Pruners.{HoldsPairsOf, IsDenied, IsPairsBlock, PairsCover}
+use Rattle.hv_reach.specs.Working.Pruners.{AreDiagonals}
 use Rattle.hv_reach.specs.Reached.{ReachedPair, has_pair}
 use Rattle.hv_reach.proofs.Described.{diagonals_over, diagonals_pushed}
 use Rattle.hv_reach.proofs.Found.{pairs_found_formula, pairs_found_holds, pairs_found_reason}
-use Rattle.hv_reach.proofs.Writing.{none_told, outcome_told, outcome_written, written_described}
+use Rattle.hv_reach.proofs.Writing.{outcome_written, written_described}
 use Rattle.hv_reach.proofs.pair_pruner.pairs_answer.Goals as goal
 
 pub returns-then-is_some-clause-outcome : goal.returns-then-is_some-clause-outcome
 returns-then-is_some-clause-outcome c =
-    outcome_told c.args.task.now (PairsCover c.args.task.now)
+    outcome_told c.args.task.now (PairsCover c.args.task.now) (IsDenied (atoms c.args.task.now))
     (IsPairsBlock c.args.task.now c.args.state.now c.args.draft.now.lines)
     c.args.state.now c.args.kept.now.noted.notes.items c.args.draft.now c.requires.state
     c.requires.good c.requires.fits
@@ -53,8 +55,8 @@ returns-in-Some-clause-outcome c =
     (sym c.is_some.ensures ∙ c.if-is_some.false)
     c.in_ok-noted.ensures in
     let wrote = c.in_ok-line-in-Some.ensures in
-    subst (λ n. IsOutcome task (PairsCover task) (IsPairsBlock task state lines) state (Some n)
-    notes c.args.draft.now
+    subst (λ n. IsOutcome task (PairsCover task) (IsDenied (atoms task))
+    (IsPairsBlock task state lines) state (Some n) notes c.args.draft.now
     c.write_block.new.noted.notes.items c.write_block.new.draft) (sym wrote.line)
     (outcome_written task lines clauses (expr_count lines) (known_count lines)
     (subst (IsGoodTable task) wrote.lines wrote.good)

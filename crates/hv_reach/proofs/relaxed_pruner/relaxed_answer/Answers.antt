@@ -5,18 +5,20 @@ use Rattle.hv_task.specs.State.{has_atom}
 use Rattle.hv_task.specs.Strips.{atoms}
 use Rattle.hv_lines.specs.Drafts.{IsGoodTable}
 use Rattle.hv_lines.specs.Numbering.{expr_count, known_count}
-use Rattle.hv_reach.specs.Pruners.{HoldsAtomsOf, IsRelaxedBlock}
-use Rattle.hv_reach.specs.Working.Pruners.{IsOutcome}
+use Rattle.hv_lines.specs.Working.Pruning.{IsOutcome}
+use Rattle.hv_lines.proofs.Outcomes.{none_told, outcome_told}
+use Rattle.hv_reach.specs.Pruners.{HoldsAtomsOf, IsDenied, IsRelaxedBlock}
 use Rattle.hv_reach.specs.Reached.{ReachedAtom}
 use Rattle.hv_reach.specs.Written.{RelaxedExcludesFrom}
 use Rattle.hv_reach.proofs.Described.{described_over}
 use Rattle.hv_reach.proofs.Found.{relaxed_found_formula, relaxed_found_holds, relaxed_found_reason}
-use Rattle.hv_reach.proofs.Writing.{none_told, outcome_told, outcome_written, written_described}
+use Rattle.hv_reach.proofs.Writing.{outcome_written, written_described}
 use Rattle.hv_reach.proofs.relaxed_pruner.relaxed_answer.Goals as goal
 
 pub returns-then-is_some-clause-outcome : goal.returns-then-is_some-clause-outcome
 returns-then-is_some-clause-outcome c =
     outcome_told c.args.task.now (RelaxedExcludesFrom c.args.task.now)
+    (IsDenied (atoms c.args.task.now))
     (IsRelaxedBlock c.args.task.now c.args.state.now c.args.draft.now.lines)
     c.args.state.now c.args.noted.now.notes.items c.args.draft.now c.requires.state c.requires.good
     c.requires.fits
@@ -55,7 +57,8 @@ returns-in-Some-clause-outcome c =
     (sym c.is_some.ensures ∙ c.if-is_some.false)
     c.in_ok-told.ensures in
     let wrote = c.in_ok-line-in-Some.ensures in
-    subst (λ n. IsOutcome task (RelaxedExcludesFrom task) (IsRelaxedBlock task state lines) state
+    subst (λ n. IsOutcome task (RelaxedExcludesFrom task) (IsDenied (atoms task))
+    (IsRelaxedBlock task state lines) state
     (Some n) notes c.args.draft.now
     c.write_block.new.noted.notes.items c.write_block.new.draft) (sym wrote.line)
     (outcome_written task lines clauses (expr_count lines) (known_count lines)

@@ -1,5 +1,4 @@
-use Rattle.hv_trap.proofs.Modest.{trap_modest}
-use Rattle.hv_trap.proofs.Proofs.{trap_proof_ends, trap_proof_good, trap_proof_once}
+use Rattle.hv_trap.proofs.Proofs.{trap_modest, trap_proof_ends, trap_proof_good, trap_proof_once}
 use Rattle.hv_trap.proofs.Proofs.{trap_proof_size}
 use Rattle.hv_trap.proofs.laws.laws_of_trap_proofs.Goals as goal
 

@@ -6,10 +6,10 @@ use Rattle.hv_lines.specs.Numbering.{expr_count, known_count}
 use Rattle.hv_lines.specs.Pruning.{states_in}
 use Rattle.hv_lines.specs.declared.line.Line.{Line}
 use Rattle.hv_lines.specs.declared.note.Note.{Note}
-use Rattle.hv_trap.specs.Pruner.{IsTrapSet}
-use Rattle.hv_trap.specs.Working.Pruner.{IsTrapOutcome}
+use Rattle.hv_lines.specs.Working.Pruning.{IsOutcome}
+use Rattle.hv_trap.specs.Pruner.{IsTrapBlock, IsTrapSet, TrapCovers}
 use Rattle.hv_trap.specs.Trap.{AreTrapClauses}
-use Rattle.hv_trap.proofs.Writing.{none_noted, outcome_told, outcome_written}
+use Rattle.hv_trap.proofs.Writing.{none_noted, outcome_first, outcome_written}
 use Rattle.hv_trap.proofs.trap_pruner.trap_answer.Goals as goal
 
 pub line_for-requires-clause-set : goal.line_for-requires-clause-set
@@ -22,7 +22,7 @@ line_for-requires-clause-set c =
 
 pub returns-in-Some-clause-outcome : goal.returns-in-Some-clause-outcome
 returns-in-Some-clause-outcome c =
-    outcome_told c.args.task.now c.args.state.now c.args.notes.now.items c.args.draft.now
+    outcome_first c.args.task.now c.args.state.now c.args.notes.now.items c.args.draft.now
     c.requires.state c.requires.good c.requires.fits
     c.in-Some.note
     (ap (λ (xs : List Note). slice_get xs 0) (sym c.as_slice.ensures.value)
@@ -47,11 +47,12 @@ returns-in_ok-line-in-Some-2-clause-outcome c =
     let covered = c.in_ok-clauses.ensures.some.0
     (ap (λ (f : Option (List (List Literal))). is_some f) c.in-Some-2.is) in
     let wrote = c.in_ok-line-in-Some-2.ensures in
-    subst (λ n. IsTrapOutcome task c.args.state.now (Some n) notes c.args.draft.now
+    subst (λ n. IsOutcome task (TrapCovers task) (IsTrapSet task) (IsTrapBlock task lines)
+    c.args.state.now (Some n) notes c.args.draft.now
     c.write_block.new.notes.items c.write_block.new.draft)
     (sym wrote.line)
     (outcome_written task lines clauses (expr_count lines) (known_count lines)
     (subst (IsGoodTable task) wrote.lines wrote.good) covered.0
-    trap c.args.state.now c.requires.state covered notes c.requires.fits none c.args.draft.now
-    c.write_block.new.draft
-    c.write_block.new.notes.items refl refl refl wrote.lines wrote.notes)
+    trap c.args.state.now c.requires.state covered notes c.requires.fits none
+    (clauses, trap, refl, refl, refl) c.args.draft.now c.write_block.new.draft
+    c.write_block.new.notes.items refl wrote.lines wrote.notes)

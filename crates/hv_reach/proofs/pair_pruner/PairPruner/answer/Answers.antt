@@ -1,9 +1,12 @@
 use Rattle.std.proofs.Common.{arith, subst, sym}
 use Rattle.std.specs.Option.{IfSome}
+use Rattle.hv_task.specs.Strips.{atoms}
+use Rattle.hv_lines.proofs.Outcomes.{fits_after, outcome_beyond}
 use Rattle.hv_reach.specs.Index.{IsTaskIndex}
 use Rattle.hv_reach.specs.Working.Pruners.{items_in}
-use Rattle.hv_reach.specs.Pruners.{FitPairs, HoldsPairsOf, IsPairsBlock, PairsCover}
-use Rattle.hv_reach.proofs.Writing.{described_after, fits_after, outcome_beyond}
+use Rattle.hv_reach.specs.Pruners.{FitPairs, HoldsPairsOf, IsDenied, IsPairsBlock}
+use Rattle.hv_reach.specs.Pruners.{PairsCover}
+use Rattle.hv_reach.proofs.Writing.{described_after}
 use Rattle.hv_reach.proofs.pair_pruner.PairPruner.answer.Goals as goal
 
 pub pairs_answer-requires-clause-fits : goal.pairs_answer-requires-clause-fits
@@ -39,7 +42,7 @@ returns-in_err-found-in-None-clause-fits c =
     let n = c.pairs_answer-in-None.new in
     let fits = subst (FitPairs c.args.task.now c.args.draft.now.lines) (sym c.self.view_is)
     c.requires.fits in (
-      fits_after c.args.task.now (PairsCover c.args.task.now)
+      fits_after c.args.task.now (PairsCover c.args.task.now) (IsDenied (atoms c.args.task.now))
           (IsPairsBlock c.args.task.now c.args.state.now c.args.draft.now.lines) c.args.state.now
           c.self.inside.kept.noted.notes.items c.args.draft.now n.kept.noted.notes.items n.draft
           c.pairs_answer-in-None.result
@@ -58,7 +61,7 @@ returns-in-Some-clause-fits c =
     let n = c.pairs_answer.new in
     let fits = subst (FitPairs c.args.task.now c.args.draft.now.lines) (sym c.self.view_is)
     c.requires.fits in (
-      fits_after c.args.task.now (PairsCover c.args.task.now)
+      fits_after c.args.task.now (PairsCover c.args.task.now) (IsDenied (atoms c.args.task.now))
           (IsPairsBlock c.args.task.now c.args.state.now c.args.draft.now.lines) c.args.state.now
           c.self.inside.kept.noted.notes.items c.args.draft.now n.kept.noted.notes.items n.draft
           c.pairs_answer.result e.outcome e.err_draft e.err_notes fits.0,
@@ -77,7 +80,7 @@ returns-then-atoms-gt-MOST_ATOMS-clause-answer c =
     let task = c.args.task.now in
     let over = c.if-atoms-gt-MOST_ATOMS.true in
     let count = c.atoms.ensures.atoms in
-    (outcome_beyond task (PairsCover task)
+    (outcome_beyond task (PairsCover task) (IsDenied (atoms task))
     (IsPairsBlock task c.args.state.now c.args.draft.now.lines) c.args.state.now
     c.args.self.now.notes c.args.draft.now c.requires.state c.requires.good
     (c.requires.fits.0) (λ cover. let few = cover.0 in omega (arith, over, count, few))).answer

@@ -1,9 +1,11 @@
 use Rattle.std.proofs.Common.{subst, sym}
 use Rattle.std.specs.Option.{IfSome}
+use Rattle.hv_task.specs.Strips.{atoms}
+use Rattle.hv_lines.proofs.Outcomes.{fits_after}
 use Rattle.hv_reach.specs.Index.{AreSearchRowsOf}
-use Rattle.hv_reach.specs.Pruners.{FitRelaxed, HoldsAtomsOf, IsRelaxedBlock}
+use Rattle.hv_reach.specs.Pruners.{FitRelaxed, HoldsAtomsOf, IsDenied, IsRelaxedBlock}
 use Rattle.hv_reach.specs.Written.{RelaxedExcludesFrom}
-use Rattle.hv_reach.proofs.Writing.{described_after, fits_after}
+use Rattle.hv_reach.proofs.Writing.{described_after}
 use Rattle.hv_reach.proofs.relaxed_pruner.RelaxedPruner.answer.Goals as goal
 
 pub relaxed_answer-requires-clause-fits : goal.relaxed_answer-requires-clause-fits
@@ -45,6 +47,7 @@ returns-in_err-found-in-None-clause-fits c =
     let fits = subst (FitRelaxed c.args.task.now c.args.draft.now.lines) (sym c.self.view_is)
     c.requires.fits in (
       fits_after c.args.task.now (RelaxedExcludesFrom c.args.task.now)
+          (IsDenied (atoms c.args.task.now))
           (IsRelaxedBlock c.args.task.now c.args.state.now c.args.draft.now.lines) c.args.state.now
           c.self.inside.noted.notes.items c.args.draft.now n.noted.notes.items n.draft
           c.relaxed_answer-in-None.result
@@ -63,6 +66,7 @@ returns-in-Some-clause-fits c =
     let fits = subst (FitRelaxed c.args.task.now c.args.draft.now.lines) (sym c.self.view_is)
     c.requires.fits in (
       fits_after c.args.task.now (RelaxedExcludesFrom c.args.task.now)
+          (IsDenied (atoms c.args.task.now))
           (IsRelaxedBlock c.args.task.now c.args.state.now c.args.draft.now.lines) c.args.state.now
           c.self.inside.noted.notes.items c.args.draft.now n.noted.notes.items n.draft
           c.relaxed_answer.result e.outcome e.err_draft e.err_notes fits.0,
