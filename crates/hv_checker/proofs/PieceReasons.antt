@@ -1,7 +1,7 @@
 -- How a piece comes by its reason: by what it spells.
-use Rattle.std.proofs.Common.{ℕ, List, Some, None, inl, inr, refl, subst, sym}
+use Rattle.std.proofs.Common.{ℕ, List, Some, None, inl, inr, refl, subst}
 use Rattle.hv_lines.specs.Spelling.{Spells, IsSkipped}
-use Rattle.hv_lines.specs.Good.{IsGood, IsRefutedBy, LinePasses}
+use Rattle.hv_lines.specs.Good.{IsRefutedBy, LinePasses}
 use Rattle.hv_lines.specs.Working.Good.{IsReasonOf}
 use Rattle.hv_lines.specs.Judged.{IsReason, IsShownBy, Passes}
 use Rattle.hv_lines.specs.Order.{Gives, Test}
@@ -11,9 +11,6 @@ use Rattle.hv_lines.specs.declared.line.Line.{Line}
 use Rattle.hv_lines.specs.declared.reason.Reason.{Reason}
 use Rattle.hv_lines.specs.declared.reason.Reason.TheVariants as R
 use Rattle.hv_lines.proofs.Reasons.{below_next, below_none}
-use Rattle.hv_checker.specs.Working.PieceVerdicts.{IsPieceVerdict, IsJudgedLine}
-use Rattle.hv_checker.specs.declared.piece_judge.PieceVerdict.{PieceVerdict}
-use Rattle.hv_checker.specs.declared.piece_judge.PieceVerdict.TheVariants as H
 use Rattle.hv_proof_text.proofs.LineFields.{one_line, skipped_apart}
 
 module _ (setting : Setting) (lines : List Line) where
@@ -55,7 +52,7 @@ module _ (setting : Setting) (lines : List Line) where
       gives_in test reason gives = gives
 
       -- so its reason is that of the line
-      line_reason : (reason : Reason) → IsReasonOf setting lines line reason
+      pub line_reason : (reason : Reason) → IsReasonOf setting lines line reason
           → IsReason setting lines (Some bytes) reason
       line_reason reason why = (
         why.0,
@@ -63,13 +60,3 @@ module _ (setting : Setting) (lines : List Line) where
         λ passed. why.2 (passes_out why.0 passed),
         λ lower less. passes_in lower (why.3 lower less),
       )
-
-      -- what is heard of the line is heard of the piece
-      pub line_heard : (heard : PieceVerdict) → IsJudgedLine setting lines line heard
-          → IsPieceVerdict setting lines (Some bytes) heard
-      line_heard H.Skipped judged = absurd judged
-      line_heard (H.Good good) judged = (
-        subst (λ l. Spells l bytes) (sym judged.0) spells,
-        subst (λ l. IsGood setting lines l) (sym judged.0) judged.1,
-      )
-      line_heard (H.Refused reason) why = line_reason reason why

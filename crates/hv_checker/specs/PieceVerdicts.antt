@@ -1,4 +1,4 @@
--- What is heard of one piece, after the lines accepted before it.
+-- What is answered to one piece, after the lines accepted before it.
 use Rattle.std.specs.Prelude.{◌≡◌, List, ◌∷◌, Some, None, true, false}
 use Rattle.hv_lines.specs.Spelling.{Spells}
 use Rattle.hv_lines.specs.Good.{IsGood}

@@ -7,11 +7,11 @@ ghost use Rattle.hv_lines.specs.Good.{AreGood, IsGood};
 ghost use Rattle.hv_lines.specs.Working.Good.{IsFormed, IsReasonOf};
 ghost use Rattle.hv_lines.specs.Setting.{setting_of};
 ghost use Rattle.hv_lines.specs.Working.Setting.{IsSetting};
-ghost use Rattle.hv_checker.specs.Working.PieceVerdicts.{IsBasicFault, IsLineFault, IsPieceVerdict};
-ghost use Rattle.hv_checker.specs.Working.PieceVerdicts.{IsJudgedLine};
+ghost use Rattle.hv_checker.specs.Working.PieceVerdicts.{IsBasicFault, IsLineFault};
 ghost use Rattle.hv_checker.specs.Working.PieceVerdicts.{IsPlainFeedAnswer, fault_by};
 ghost use Rattle.hv_checker.specs.Stopping.{stop_after};
 ghost use Rattle.hv_checker.specs.Texts.{text_of};
+ghost use Rattle.hv_checker.specs.declared.piece.Fed.TheVariants as F;
 ghost use Rattle.hv_checker.specs.declared.stop.Stop.TheVariants as S;
 
 use crate::conditions::{family_fits, is_known, is_numbered};
@@ -25,17 +25,6 @@ use hv_rules::{is_rule, rule_fits};
 use hv_task::Task;
 use std::alloc::{AllocError, Global};
 use std::marker::Model;
-
-/// What is heard of a piece.
-#[derive(Drop)]
-pub(crate) enum PieceVerdict {
-    /// An empty line or a comment.
-    Skipped,
-    /// A line that is good after those accepted before it.
-    Good(Line),
-    /// The piece isn't good, for this reason.
-    Refused(Reason),
-}
 
 /// The answer to a piece, and whether to go on after it.
 #[derive(Drop)]
@@ -120,27 +109,35 @@ impl Judge<'_> {
         ensures stop { IfOk result (λ o. o.stop ≡ stop_after S.Going o.fed) }
         ensures lines { OnErr result (self.new.lines ≡ self.old.lines) }
     {
-        let alloc = self.alloc;
-        match self.verdict_on(reader, piece)? {
-            PieceVerdict::Skipped => Ok(FeedOutcome {
-                fed: Fed::Skipped,
-                stop: Stop::Going,
-            }),
-            PieceVerdict::Refused(reason) => {
-                let kept = reason.copy(alloc)?;
-                Ok(FeedOutcome {
-                    fed: Fed::Refused(reason),
-                    stop: Stop::Refused(kept),
-                })
-            }
-            PieceVerdict::Good(line) => {
-                self.keep(line)?;
-                Ok(FeedOutcome {
-                    fed: Fed::Good,
-                    stop: Stop::Going,
-                })
-            }
+        match piece {
+            Piece::Long => refused(self.alloc, Reason::Long),
+            Piece::Line(bytes) => self.accept_line(reader, bytes),
         }
+    }
+
+    // The line is tested where it was read, and then moved once, into the table.
+    fn accept_line(
+        &mut self,
+        reader: &mut LineReader,
+        bytes: &[u8],
+    ) -> Result<FeedOutcome, AllocError>
+        ensures setting { self.new.setting ≡ self.old.setting }
+        ensures accepted { IfOk result (λ o. IsPlainFeedAnswer self.old.setting
+            self.old.lines self.new.lines (Some bytes.now) o.fed) }
+        ensures stop { IfOk result (λ o. o.stop ≡ stop_after S.Going o.fed) }
+        ensures lines { OnErr result (self.new.lines ≡ self.old.lines) }
+    {
+        let line = match reader.read(self.alloc, bytes) {
+            Ok(Some(line)) => line,
+            Ok(None) => return Ok(going(Fed::Skipped)),
+            Err(LineError::Grammar) => return refused(self.alloc, Reason::Grammar),
+            Err(LineError::Memory) => return Err(AllocError),
+        };
+        if let Some(reason) = self.fault(&line)? {
+            return refused(self.alloc, reason);
+        }
+        self.keep(line)?;
+        Ok(going(Fed::Good))
     }
 
     // Puts a good line into the table, and its formula into the store. Running out of memory leaves
@@ -156,52 +153,6 @@ impl Judge<'_> {
         self.store.add_line(self.task, &line)?;
         self.table.push(line)?;
         Ok(())
-    }
-
-    fn verdict_on(
-        &mut self,
-        reader: &mut LineReader,
-        piece: Piece<'_>,
-    ) -> Result<PieceVerdict, AllocError>
-        ensures same { self.new ≡ self.old }
-        ensures heard { IfOk result (λ heard.
-            IsPieceVerdict self.old.setting self.old.lines (text_of piece.entry) heard) }
-    {
-        match piece {
-            Piece::Long => Ok(PieceVerdict::Refused(Reason::Long)),
-            Piece::Line(bytes) => self.hear_line(reader, bytes),
-        }
-    }
-
-    fn hear_line(
-        &mut self,
-        reader: &mut LineReader,
-        bytes: &[u8],
-    ) -> Result<PieceVerdict, AllocError>
-        ensures same { self.new ≡ self.old }
-        ensures heard { IfOk result (λ heard.
-            IsPieceVerdict self.old.setting self.old.lines (Some bytes.now) heard) }
-    {
-        let line = match reader.read(self.alloc, bytes) {
-            Ok(Some(line)) => line,
-            Ok(None) => return Ok(PieceVerdict::Skipped),
-            Err(LineError::Grammar) => return Ok(PieceVerdict::Refused(Reason::Grammar)),
-            Err(LineError::Memory) => return Err(AllocError),
-        };
-        let heard = self.hear_spelled(line)?;
-        Ok(heard)
-    }
-
-    fn hear_spelled(&mut self, line: Line) -> Result<PieceVerdict, AllocError>
-        requires { IsSpelled line }
-        ensures same { self.new ≡ self.old }
-        ensures heard { IfOk result (λ heard.
-            IsJudgedLine self.old.setting self.old.lines line heard) }
-    {
-        match self.fault(&line)? {
-            None => Ok(PieceVerdict::Good(line)),
-            Some(reason) => Ok(PieceVerdict::Refused(reason)),
-        }
     }
 
     // The first test that the line fails.
@@ -272,6 +223,27 @@ impl Judge<'_> {
         };
         Ok(reason_by(verdict))
     }
+}
+
+// The answer to a piece that isn't refused.
+fn going(fed: Fed) -> FeedOutcome
+    ensures { (result.fed ≡ fed) × (result.stop ≡ S.Going) }
+{
+    FeedOutcome {
+        fed,
+        stop: Stop::Going,
+    }
+}
+
+// The answer to a piece that is refused for this reason, which the checker keeps.
+fn refused(alloc: Global, reason: Reason) -> Result<FeedOutcome, AllocError>
+    ensures { IfOk result (λ o. (o.fed ≡ F.Refused reason) × (o.stop ≡ S.Refused reason)) }
+{
+    let kept = reason.copy(alloc)?;
+    Ok(FeedOutcome {
+        fed: Fed::Refused(reason),
+        stop: Stop::Refused(kept),
+    })
 }
 
 // The first test that the line fails, of those that look at its form and its numbers.

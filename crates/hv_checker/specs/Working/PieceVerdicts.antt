@@ -13,18 +13,9 @@ use Rattle.hv_lines.specs.declared.reason.Reason.{Reason}
 use Rattle.hv_lines.specs.declared.reason.Reason.TheVariants as R
 use Rattle.hv_lines.specs.declared.verdict.Verdict.{Verdict}
 use Rattle.hv_lines.specs.declared.verdict.Verdict.TheVariants as V
-use Rattle.hv_checker.specs.declared.piece_judge.PieceVerdict.{PieceVerdict}
-use Rattle.hv_checker.specs.declared.piece_judge.PieceVerdict.TheVariants as H
 use Rattle.hv_checker.specs.PieceVerdicts.{IsSpelledBy}
 use Rattle.hv_checker.specs.declared.piece.Fed.{Fed}
 use Rattle.hv_checker.specs.declared.piece.Fed.TheVariants as F
-
--- what is heard of a piece: that it is skipped, a good line, or the reason why it isn't good
-abbrev pub IsPieceVerdict : Setting → List Line → LineText → PieceVerdict → Type 0
-IsPieceVerdict setting lines piece H.Skipped = IsPassedOver piece
-IsPieceVerdict setting lines piece (H.Good line) = IsSpelledBy piece line × IsGood setting lines
-    line
-IsPieceVerdict setting lines piece (H.Refused reason) = IsReason setting lines piece reason
 
 -- what the answer to a piece that is judged as it is says of the accepted lines before and after
 abbrev pub IsPlainFeedAnswer : Setting → List Line → List Line → LineText → Fed → Type 0
@@ -60,9 +51,3 @@ fault_by V.True = None
 fault_by (V.False clash) = Some (R.False clash)
 fault_by V.Over = Some R.Budget
 fault_by V.NotOffered = Some R.NotOffered
-
--- what is heard of a line that has a spelling
-abbrev pub IsJudgedLine : Setting → List Line → Line → PieceVerdict → Type 0
-IsJudgedLine setting lines line H.Skipped = ⊥
-IsJudgedLine setting lines line (H.Good good) = (good ≡ line) × IsGood setting lines line
-IsJudgedLine setting lines line (H.Refused reason) = IsReasonOf setting lines line reason

@@ -1,10 +1,13 @@
-use Rattle.std.proofs.Common.{subst, sym}
-use Rattle.hv_lines.specs.Good.{IsGood}
-use Rattle.hv_checker.specs.Working.Judge.{JudgeState}
+use Rattle.std.proofs.Common.{None, refl}
+use Rattle.hv_lines.specs.declared.reason.Reason.TheVariants as R
+use Rattle.hv_checker.proofs.Judges.{refused_answer}
+use Rattle.hv_checker.proofs.PieceReasons.{long_reason}
 use Rattle.hv_checker.proofs.piece_judge.Judge.accept.Goals as goal
 
-pub keep-requires : goal.keep-requires
-keep-requires c =
-    subst (λ (b : JudgeState). IsGood b.setting b.lines c.in-Good.line)
-    (sym c.in_ok-verdict_on.ensures.same)
-    (rw c.in-Good.is at c.in_ok-verdict_on.ensures.heard).1
+pub returns-in-Long-clause-accepted : goal.returns-in-Long-clause-accepted
+returns-in-Long-clause-accepted c = rw c.in-Long.is
+    (refused_answer c.args.self.now.setting c.args.self.now.lines c.args.self.now.lines None R.Long
+    c.refused.result c.refused.ensures (long_reason c.args.self.now.setting c.args.self.now.lines) refl)
+
+pub returns-in-Line-clause-accepted : goal.returns-in-Line-clause-accepted
+returns-in-Line-clause-accepted c = rw c.in-Line.is c.accept_line.ensures.accepted

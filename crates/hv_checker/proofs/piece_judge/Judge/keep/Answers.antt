@@ -5,7 +5,7 @@ use Rattle.hv_lines.specs.Order as O
 use Rattle.hv_lines.specs.Setting.{setting_of}
 use Rattle.hv_lines.proofs.Reasons.{good_next}
 use Rattle.hv_checker.specs.Working.Judge.{JudgeState}
-use Rattle.hv_checker.proofs.Judges.{bench_more, bench_same}
+use Rattle.hv_checker.proofs.Judges.{judge_more, judge_same}
 use Rattle.hv_checker.proofs.GoodLines.{line_stored}
 use Rattle.hv_checker.proofs.piece_judge.Judge.keep.Goals as goal
 
@@ -26,13 +26,13 @@ push-requires c =
 
 pub invariant_of-self : goal.invariant_of-self
 invariant_of-self c =
-    bench_same (setting_of c.self.inside.task.now c.self.inside.diagrams.now c.self.inside.budget)
+    judge_same (setting_of c.self.inside.task.now c.self.inside.diagrams.now c.self.inside.budget)
     c.self.inside.table.lines c.reserve.new.self.lines c.self.inside.store c.self.inside.store
     c.self.inside.shared c.self.invariant c.reserve.ensures.lines refl
 
 pub invariant_of-self-in_err-add_line : goal.invariant_of-self-in_err-add_line
 invariant_of-self-in_err-add_line c =
-    bench_same (setting_of c.self.inside.task.now c.self.inside.diagrams.now c.self.inside.budget)
+    judge_same (setting_of c.self.inside.task.now c.self.inside.diagrams.now c.self.inside.budget)
     c.self.inside.table.lines c.reserve.new.self.lines c.self.inside.store c.add_line.new.self
     c.self.inside.shared c.self.invariant c.in_ok-reserve.ensures.lines
     c.in_err-add_line.ensures.err
@@ -48,7 +48,7 @@ invariant_of-self-2 c =
     let good : IsGood setting c.self.inside.table.lines c.args.line =
     subst (λ (b : JudgeState). IsGood b.setting b.lines c.args.line) (sym c.self.view_is)
     c.requires in
-    bench_more setting c.self.inside.table.lines c.push.new.self.lines c.self.inside.store
+    judge_more setting c.self.inside.table.lines c.push.new.self.lines c.self.inside.store
     c.add_line.new.self c.self.inside.shared c.self.invariant c.args.line
     (c.in_ok-push.ensures.ok ∙ ap (λ ls. c.args.line ∷ ls) c.in_ok-reserve.ensures.lines) good
     (c.in_ok-add_line.ensures.stands c.self.inside.table.lines c.self.invariant.stored
