@@ -18,9 +18,6 @@ pub is_going : (ended : Bool) → (ended ≡ true → ⊥) → ended ≡ false
 is_going true never = absurd (never refl)
 is_going false never = refl
 
-line_is_no_end : ◌≡◌ {A = Result Next LineFault} (Ok N.Line) (Ok N.End) → ⊥
-line_is_no_end e = absurd cc
-
 pub line_next : (old new : Position)
     → TakesLine (coming_of old.lines old.left) (coming_of new.lines new.left) new.lines.line
     → MovesBytes (coming_of old.lines old.left) (coming_of new.lines new.left) old.lines.earlier

@@ -45,13 +45,3 @@ module _ {X : Type 0} (old new : Position) (f : List PieceBytes → X) where
   pub at_long : (bad : X) → HasLong old new → f (None ∷ []) ≡ bad
       → IfSome (option_map f (coming old)) (λ o. o ≡ bad)
   at_long bad has same = here (None ∷ []) bad (coming old) has.long same
-
-  end_in : (g : List PieceBytes → X) (cs ds : Option (List PieceBytes)) → IfSome cs (λ ps. ps ≡ [])
-      → ds ≡ Some [] → f [] ≡ g [] → IfSome (option_map f cs) (λ o. option_map g ds ≡ Some o)
-  end_in g None ds h d same = tt
-  end_in g (Some ps) ds h d same =
-      ap (option_map g) d ∙ ap (λ o. Some o) (sym same ∙ ap f (sym h))
-
-  pub over_end : (g : List PieceBytes → X) → HasEnded old new → f [] ≡ g []
-      → IfSome (option_map f (coming old)) (λ o. option_map g (coming new) ≡ Some o)
-  over_end g has same = end_in g (coming old) (coming new) has.none has.after same

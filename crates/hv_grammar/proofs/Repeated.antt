@@ -7,19 +7,13 @@ use Rattle.hv_grammar.specs.Parsers.{Outcome, Parser, after, done_or, followed, 
 use Rattle.hv_grammar.specs.Parsers.{many_till, onward, one_more, optional, parsed, pure, repeat}
 use Rattle.hv_grammar.specs.Parsers.{long, refused, tested, till, ◌>>=◌}
 use Rattle.hv_grammar.specs.Positions.{Position}
-use Rattle.hv_grammar.proofs.Going.{Goes, exchange}
+use Rattle.hv_grammar.proofs.Going.{Goes}
 
 -- one more turn is left
 pub turn : {A B : Type 0} (whole : Parser B A) (part : A → Parser B A) (a : A) (k j : ℕ)
     (old mid : Position) → Goes whole old (iterate k part a) mid → k ≡ suc j
     → Goes whole old (part a >>= λ b. iterate j part b) mid
 turn whole part a k j old mid g e = subst (λ n. Goes whole old (iterate n part a) mid) e g
-
--- no turn is left
-pub turned_out : {A B : Type 0} (whole : Parser B A) (part : A → Parser B A) (a : A) (k : ℕ)
-    (old mid : Position) → Goes whole old (iterate k part a) mid → k ≡ zero
-    → Goes whole old (pure a) mid
-turned_out whole part a k old mid g e = subst (λ n. Goes whole old (iterate n part a) mid) e g
 
 -- Lines up to a closing one: each is one line ahead, which says what follows.
 
@@ -38,12 +32,6 @@ module _ {A B : Type 0} (lacking : B) (test : A → List ℕ → Result (Option 
   till_same a n (None ∷ ps) = refl
   till_same a n (Some l ∷ ps) = till_said a n ps (test a l)
 
-  pub till_ahead : {whole : Parser B A} {a : A} {old mid : Position}
-      → Goes whole old (many_till lacking test a) mid
-      → Goes whole old (line lacking (test a) >>= till lacking test a) mid
-  till_ahead {a = a} g =
-      exchange (line lacking (test a) >>= till lacking test a) g (till_same a)
-
 -- All lines up to the end of the input: each may be there, or the value is done.
 
 module _ {A B : Type 0} (test : A → List ℕ → Result A B) where
@@ -58,11 +46,6 @@ module _ {A B : Type 0} (test : A → List ℕ → Result A B) where
   onward_same a n [] = refl
   onward_same a n (None ∷ ps) = refl
   onward_same a n (Some l ∷ ps) = onward_said a n ps (test a l)
-
-  pub onward_ahead : {whole : Parser B A} {a : A} {old mid : Position}
-      → Goes whole old (many test a) mid
-      → Goes whole old (optional (test a) >>= onward test a) mid
-  onward_ahead {a = a} g = exchange (optional (test a) >>= onward test a) g (onward_same a)
 
 -- A list of so many values has so many.
 

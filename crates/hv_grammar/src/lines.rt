@@ -2,7 +2,7 @@
 
 ghost use Rattle.std.specs.Prelude.{◌≡◌, ◌+◌, ◌≤◌, IfOk};
 ghost use Rattle.hv_grammar.specs.Forms.{at_most, decimal_of, is_word, number_behind, number_in};
-ghost use Rattle.hv_grammar.specs.Forms.{number_line, numbered_in, numbered_line};
+ghost use Rattle.hv_grammar.specs.Forms.{number_line, numbered_line};
 ghost use Rattle.hv_grammar.specs.Forms.{short_decimal_of, word_line};
 ghost use Rattle.hv_grammar.specs.Parsers.{end_of_input};
 ghost use Rattle.hv_grammar.specs.Positions.{CanRead};

@@ -5,7 +5,6 @@ ghost use Rattle.hv_bytes.specs.Devices.{Rose};
 ghost use Rattle.hv_bytes.specs.Files.{Opens};
 ghost use Rattle.hv_bytes.specs.States.{no_lines};
 ghost use Rattle.hv_grammar.specs.declared.fault.ParseFault.TheVariants as ParseFault;
-ghost use Rattle.hv_grammar.specs.Positions.{Advances, CanRead, Position};
 ghost use Rattle.hv_grammar.specs.Reads.{IsOfNoLine};
 
 use crate::fault::ParseFault;
