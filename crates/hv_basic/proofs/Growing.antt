@@ -1,11 +1,11 @@
 -- A line more, and the stores denote the lines again.
-use Rattle.std.proofs.Common.{◌≡◌, ℕ, ◌<◌, ◌∙◌, ◌++◌, List, [], ◌∷◌, Some, eqb, length, map, refl}
-use Rattle.std.proofs.Common.{sym}
-use Rattle.std.proofs.Common.{ap, subst, inl, inr, arith}
+use Rattle.std.proofs.Common.{◌≡◌, ℕ, ◌<◌, ◌∙◌, ◌++◌, List, [], ◌∷◌, Option, None, Some, eqb}
+use Rattle.std.proofs.Common.{length, map, refl, sym, ap, subst, inl, inr, arith}
 use Rattle.std.proofs.lemmas.Bool.{cases_lt, cond-true, cond-false, eq-eqb, ne_eqb}
 use Rattle.std.proofs.lemmas.List.{get_or_append_left, get_or_push, length-append, length-map}
 use Rattle.std.proofs.lemmas.List.{map-append}
 use Rattle.std.proofs.lemmas.Option.{slice_get-get_or}
+use Rattle.std.specs.Global.{Vec}
 use Rattle.std.specs.List.{slice_get}
 use Rattle.hv_task.specs.Strips.{Strips, atoms}
 use Rattle.hv_lines.specs.Numbering.{IsNumbered, expr_count}
@@ -17,11 +17,11 @@ use Rattle.hv_lines.specs.declared.formula_family.FormulaFamily.TheVariants as F
 use Rattle.hv_lines.specs.declared.line.Expr.{Expr}
 use Rattle.hv_lines.specs.declared.line.Line.{Line}
 use Rattle.hv_lines.specs.declared.line.Line.TheVariants as L
-use Rattle.hv_basic.specs.Stores.{IsStoreOf, StoreState, formula, listing, stored_counts}
-use Rattle.hv_basic.specs.Stores.{with_expr, with_line}
+use Rattle.hv_basic.specs.Stores.{AreRowsFor, IsStoreOf, StoreState, formula, listing}
+use Rattle.hv_basic.specs.Stores.{stored_counts, with_expr, with_line, with_rows}
 
 -- of a list with one more item, the items before it and that item
-got_before : {X : Type 0} (xs : List X) (x : X) (i : ℕ) → i < length xs
+pub got_before : {X : Type 0} (xs : List X) (x : X) (i : ℕ) → i < length xs
     → slice_get (xs ++ x ∷ []) i ≡ slice_get xs i
 got_before xs x i within =
     let longer = length-append xs (x ∷ []) in
@@ -29,7 +29,7 @@ got_before xs x i within =
     slice_get-get_or (xs ++ x ∷ []) i x less
     ∙ (ap Some (get_or_append_left xs (x ∷ []) x i within) ∙ sym (slice_get-get_or xs i x within))
 
-got_last : {X : Type 0} (xs : List X) (x : X) (i : ℕ) → i ≡ length xs
+pub got_last : {X : Type 0} (xs : List X) (x : X) (i : ℕ) → i ≡ length xs
     → slice_get (xs ++ x ∷ []) i ≡ Some x
 got_last xs x i size =
     let longer = length-append xs (x ∷ []) in
@@ -96,6 +96,7 @@ module _ (task : Strips) (older : List Line) (store : StoreState) (is : IsStoreO
           (named_by (stored_counts store) expr ∷ []) in
           omega (arith, longer, is.each);
       names = name_at own expr numbered;
+      rows = is.rows;
     }
 
     -- with what the next line says the stores denote all lines
@@ -108,8 +109,8 @@ module _ (task : Strips) (older : List Line) (store : StoreState) (is : IsStoreO
           twos = is.twos;
           listed = is.listed;
           each = is.each;
-          names =
-              is.names;
+          names = is.names;
+          rows = is.rows;
         }
     line_more (L.Expr id expr) numbered = expr_more id expr numbered
     line_more (L.Known id statement word premises) numbered =
@@ -119,21 +120,22 @@ module _ (task : Strips) (older : List Line) (store : StoreState) (is : IsStoreO
           twos = is.twos;
           listed = is.listed;
           each = is.each;
-          names =
-              is.names;
+          names = is.names;
+          rows = is.rows;
         }
 
 -- stores without formulas denote no lines
 pub none_yet : (task : Strips) (store : StoreState) → store.horns ≡ [] → store.duals ≡ []
-    → store.twos ≡ [] → store.listed ≡ [] → store.names ≡ []
+    → store.twos ≡ [] → store.listed ≡ [] → store.names ≡ [] → store.rows ≡ None
     → IsStoreOf task [] store
-none_yet task store horns duals twos listed names = record {
+none_yet task store horns duals twos listed names rows = record {
   horns = horns;
   duals = duals;
   twos = twos;
   listed = listed;
   each = ap length names;
   names = λ id below. absurd (omega (arith, below));
+  rows = λ made is. let f : None ≡ Some made = sym rows ∙ is in absurd cc;
 }
 
 -- the stores after a line, by what they are then
@@ -144,3 +146,20 @@ pub stands_with : (task : Strips) (older : List Line) (old new : StoreState) (li
 stands_with task older old new line is numbered same =
     subst (λ s. IsStoreOf task (line ∷ older) s) (sym same)
     (line_more task older old is line numbered)
+
+-- stores with other rows
+pub stands_beside : (task : Strips) (lines : List Line) (old new : StoreState)
+    (rows : Option (Vec (Vec ℕ)))
+    → IsStoreOf task lines old → new ≡ with_rows old rows → AreRowsFor task rows
+    → IsStoreOf task lines new
+stands_beside task lines old new rows is same made =
+    subst (IsStoreOf task lines) (sym same)
+    record {
+      horns = is.horns;
+      duals = is.duals;
+      twos = is.twos;
+      listed = is.listed;
+      each = is.each;
+      names = is.names;
+      rows = made;
+    }

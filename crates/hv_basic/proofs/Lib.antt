@@ -7,9 +7,12 @@ pub mod Ordering
 pub mod Siding
 pub mod Walking
 pub mod Listed
+pub mod Rowed
 pub mod Storing
 pub mod Querying
 pub mod Growing
+pub mod Applicable
+pub mod Enough
 pub mod Mixing
 pub mod Turning
 pub mod Sharing

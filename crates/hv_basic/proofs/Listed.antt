@@ -23,7 +23,7 @@ module _ (lines : List Line) (acts : ℕ) where
       (cond-false (acts_of lines acts n) (Some n ∷ []) [] is)
       ∙ append-nil (actions_below lines acts n)
 
-  one_more : (n : ℕ) → acts_of lines acts n ≡ true
+  pub one_more : (n : ℕ) → acts_of lines acts n ≡ true
       → actions_below lines acts (suc n) ≡ actions_below lines acts n ++ Some n ∷ []
   one_more n is =
       ap (λ xs. actions_below lines acts n ++ xs)

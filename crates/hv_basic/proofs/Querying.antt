@@ -25,7 +25,8 @@ use Rattle.hv_lines.specs.declared.verdict.Verdict.TheVariants as V
 use Rattle.hv_lines.proofs.Laws.{refers_below}
 use Rattle.hv_lines.proofs.Ready.{asked_below, question_ready}
 use Rattle.hv_basic.specs.Working.Asked.{AreOperands, with_action}
-use Rattle.hv_basic.specs.Working.Deciding.{AreAllReady, IsDecidedOver, IsQueryFor}
+use Rattle.hv_basic.specs.Working.Deciding.{AreAllReady, AreEnough, IsDecidedOver}
+use Rattle.hv_basic.specs.Working.Deciding.{IsQueryFor}
 use Rattle.hv_basic.proofs.Membership.{step_refers}
 
 -- one operand more
@@ -71,9 +72,10 @@ module _ (lines : List Line) (table : IsTable lines) (word : Word) (left right :
     }
 
     pub are_ready : (task : Strips) (actions : List (Option ℕ))
-        → actions ≡ asked_actions task lines q.acts
+        → ((action : Option ℕ) → Contains actions action
+        → Contains (asked_actions task lines q.acts) action)
         → AreAllReady (count_of lines q.family nodes) (length task.actions) query actions
-    are_ready task actions all = record {
+    are_ready task actions among = record {
       ready = λ place action at. subst (IsReady (count_of lines q.family nodes))
           (sym (query_is action))
           (question_ready lines table word left right q is nodes known task action
@@ -84,28 +86,28 @@ module _ (lines : List Line) (table : IsTable lines) (word : Word) (left right :
         there : (place : ℕ) (action : Option ℕ) → slice_get actions place ≡ Some action
             → Contains (asked_actions task lines q.acts) action
         there place action at =
-            subst (λ xs. Contains xs action) all (
+            among action (
               place,
               slice_get_within actions place action at,
-              get_or_from_slice_get actions place
-                  action action at,
+              get_or_from_slice_get actions place action action at,
             )
-
-    pub queries_are : (task : Strips) (actions : List (Option ℕ))
-        → actions ≡ asked_actions task lines q.acts
-        → map (with_action query) actions ≡ queries_of task lines q
-    queries_are task actions all = (λ i. map (λ a. query_is a i) actions)
-        ∙ ap (map (query_of lines q)) all
 
     -- the query asks what the question asks
     pub asks_question : (task : Strips) (actions : List (Option ℕ))
-        → actions ≡ asked_actions task lines q.acts
+        → ((action : Option ℕ) → Contains actions action
+        → Contains (asked_actions task lines q.acts) action)
         → IsQueryFor task nodes lines q query actions
-    asks_question task actions all = record {
-      is = query_is;
-      ready = are_ready task actions all;
-      all = queries_are task actions all;
-    }
+    asks_question task actions among =
+        record { is = query_is; ready = are_ready task actions among }
+
+-- all actions of the question are enough
+pub all_enough : (setting : Setting) (lines : List Line) (q : QuestionState) (query : Query)
+    (actions : List (Option ℕ))
+    → ((action : Option ℕ) → with_action query action ≡ query_of lines q action)
+    → actions ≡ asked_actions setting.task lines q.acts → AreEnough setting lines q query actions
+all_enough setting lines q query actions is all verdict =
+    subst (λ queries. IsDecidedOver setting lines q.family queries verdict)
+    ((λ i. map (λ a. is a i) actions) ∙ ap (map (query_of lines q)) all)
 
 -- the question, were it of this family, is offered
 abbrev pub IsOfferedIn : List Line → QuestionState → FormulaFamily → Type 0
@@ -120,25 +122,24 @@ unoffered_listed lines q query same is none offered = none
     (subst HasAnchor (sym same) (subst (IsOfferedIn lines q) is offered))
 
 -- a verdict by the queries is one of the question
-pub verdict_by : (setting : Setting) (lines : List Line) (q : QuestionState) (queries : List Query)
-    (verdict : Verdict) → IsOffered lines q
-    → queries ≡ queries_of setting.task lines q
-    → IsDecidedOver setting lines q.family queries verdict
+verdict_by : (setting : Setting) (lines : List Line) (q : QuestionState) (verdict : Verdict)
+    → IsOffered lines q
+    → IsDecidedOver setting lines q.family (queries_of setting.task lines q) verdict
     → IsVerdictOfSets setting lines q verdict
-verdict_by setting lines q queries V.True offered is decided =
-    (offered, subst (λ qs. IsDecidedOver setting lines q.family qs V.True) is decided)
-verdict_by setting lines q queries V.Over offered is decided =
-    (offered, subst (λ qs. IsDecidedOver setting lines q.family qs V.Over) is decided)
-verdict_by setting lines q queries (V.False found) offered is decided =
-    (offered, subst (λ qs. IsDecidedOver setting lines q.family qs (V.False found)) is decided)
-verdict_by setting lines q queries V.NotOffered offered is decided = absurd decided
+verdict_by setting lines q V.True offered decided = (offered, decided)
+verdict_by setting lines q V.Over offered decided = (offered, decided)
+verdict_by setting lines q (V.False found) offered decided = (offered, decided)
+verdict_by setting lines q V.NotOffered offered decided = absurd decided
 
--- the same, by the family
+-- the same by queries that are enough, by the family
 pub verdict_in : (setting : Setting) (lines : List Line) (q : QuestionState) (family :
     FormulaFamily)
-    (queries : List Query) (verdict : Verdict)
-    → q.family ≡ family → IsOfferedIn lines q family → queries ≡ queries_of setting.task lines q
-    → IsDecidedOver setting lines family queries verdict → IsVerdictOfSets setting lines q verdict
-verdict_in setting lines q family queries verdict is offered all decided =
-    verdict_by setting lines q queries verdict (subst (IsOfferedIn lines q) (sym is) offered) all
-    (subst (λ f. IsDecidedOver setting lines f queries verdict) (sym is) decided)
+    (query : Query) (actions : List (Option ℕ)) (verdict : Verdict)
+    → q.family ≡ family → IsOfferedIn lines q family → AreEnough setting lines q query actions
+    → IsDecidedOver setting lines family (map (with_action query) actions) verdict
+    → IsVerdictOfSets setting lines q verdict
+verdict_in setting lines q family query actions verdict is offered enough decided =
+    verdict_by setting lines q verdict (subst (IsOfferedIn lines q) (sym is) offered)
+    (enough verdict
+    (subst (λ f. IsDecidedOver setting lines f (map (with_action query) actions) verdict) (sym is)
+    decided))

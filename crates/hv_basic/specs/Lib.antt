@@ -1,4 +1,5 @@
 pub mod Faults
+pub mod ActionRows
 pub mod Stores
 pub mod Cases
 pub mod Deciding

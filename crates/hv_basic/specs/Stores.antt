@@ -1,5 +1,7 @@
 -- The stores of a proof's formulas, and how they denote the lines.
-use Rattle.std.specs.Prelude.{◌≡◌, ◌<◌, ◌++◌, ℕ, List, [], ◌∷◌, Some, length, map, slice_get}
+use Rattle.std.specs.Prelude.{◌≡◌, ◌<◌, ◌++◌, ℕ, List, [], ◌∷◌, Option, Some, length, map}
+use Rattle.std.specs.Prelude.{slice_get}
+use Rattle.std.specs.Global.{Vec}
 use Rattle.std.specs.List.{All}
 use Rattle.hv_task.specs.Strips.{Strips, atoms}
 use Rattle.hv_sets.specs.Kinds.{IsDualHornClause, IsHornClause, IsTwoClause}
@@ -17,15 +19,17 @@ use Rattle.hv_lines.specs.declared.line.Expr.{Expr}
 use Rattle.hv_lines.specs.declared.line.Expr.TheVariants as E
 use Rattle.hv_lines.specs.declared.line.Line.{Line}
 use Rattle.hv_lines.specs.declared.line.Line.TheVariants as L
+use Rattle.hv_basic.specs.ActionRows.{AreActionRows}
 
--- the stores of the four families that have one, and what each `e` line's set is named by in the
--- store of its family
+-- the stores of the four families that have one, what each `e` line's set is named by in the store
+-- of its family, and the actions in rows by atoms of their preconditions, once they are made
 pub record StoreState : Type 0 where
   pub horns : List FormulaState
   pub duals : List FormulaState
   pub twos : List FormulaState
   pub listed : List ListedStates
   pub names : List Which
+  pub rows : Option (Vec (Vec ℕ))
 
 -- the formula of these clauses, over so many atoms
 abbrev pub formula : ℕ → List (List Literal) → FormulaState
@@ -51,6 +55,7 @@ with_expr count store expr = record {
   twos = store.twos ++ map (formula count) (two_in expr);
   listed = store.listed ++ map (listing count) (listed_in expr);
   names = store.names ++ named_by (stored_counts store) expr ∷ [];
+  rows = store.rows;
 }
 
 -- the stores with the formula of one more line, if it is an `e` line
@@ -58,6 +63,22 @@ abbrev pub with_line : ℕ → StoreState → Line → StoreState
 with_line count store (L.Acts id acts) = store
 with_line count store (L.Expr id expr) = with_expr count store expr
 with_line count store (L.Known id statement word premises) = store
+
+-- the stores with other rows
+abbrev pub with_rows : StoreState → Option (Vec (Vec ℕ)) → StoreState
+with_rows store rows = record {
+  horns = store.horns;
+  duals = store.duals;
+  twos = store.twos;
+  listed = store.listed;
+  names = store.names;
+  rows = rows;
+}
+
+-- the rows, if they are made, have the actions of this task
+abbrev pub AreRowsFor : Strips → Option (Vec (Vec ℕ)) → Type 0
+AreRowsFor task rows =
+    (made : Vec (Vec ℕ)) → rows ≡ Some made → AreActionRows task made.items
 
 -- the stores have the formulas of these lines, for this task
 pub record IsStoreOf (task : Strips) (lines : List Line) (store : StoreState) : Type 0 where
@@ -67,6 +88,7 @@ pub record IsStoreOf (task : Strips) (lines : List Line) (store : StoreState) : 
   pub listed : store.listed ≡ map (listing (atoms task)) (listed_of lines)
   pub each : length store.names ≡ expr_count lines
   pub names : (id : ℕ) → id < expr_count lines → slice_get store.names id ≡ Some (which_at lines id)
+  pub rows : AreRowsFor task store.rows
 
 -- the formula can be stored: it speaks of atoms below this number, and its clauses are of its kind
 abbrev pub CanBeStored : ℕ → Expr → Type 0

@@ -7,5 +7,6 @@ pub mod Leaves
 pub mod Stores
 pub mod Asked
 pub mod Deciding
+pub mod Candidates
 pub mod Formulas
 pub mod Sharing

@@ -16,10 +16,12 @@
 //! - Else `shapes::question_beside` makes the question: `sides` reads the leaves of the right side
 //!   too, `families` looks for the one family, and `order` puts both parts in order.
 //! - Either way `verdicts::decide_sets` decides the question. It makes the query of it by the names
-//!   that the `store` keeps, and `actions` lists the actions of the progression: those of a list
-//!   that rises as they are there, else by the flags of `acts`. For each of them `walk` asks the
-//!   query of the store of the family, and the first query that exceeds the budget or has a
-//!   counterexample decides.
+//!   that the `store` keeps. `candidates` says for which actions it is asked: where these are all,
+//!   and few states are asked about before the action, for those that can be applicable there, by
+//!   the `action_rows` that the `store` keeps. Else `actions` lists the actions of the progression:
+//!   those of a list that rises as they are there, else by the flags of `acts`. For each of them
+//!   `query_walk` asks the query of the store of the family, and the first query that exceeds the
+//!   budget or has a counterexample decides.
 //!
 //! Statements with `b1` and `b3` go the same way, without a step or with a regression. Those with
 //! `b4`, of two families, are decided in `mixed`, over the formulas that `formula` finds, and those
@@ -27,10 +29,12 @@
 //! are of their family, and `laws` what a verdict says of its statement.
 #![tactic(auto)]
 
+mod action_rows;
 mod actions;
 mod acts;
 mod any_formula;
 pub mod basic;
+mod candidates;
 pub mod case;
 mod families;
 pub mod kinds;

@@ -1,7 +1,7 @@
 //! The formulas of a proof, each in the store of its family.
 
-ghost use Rattle.std.specs.Prelude.{◌≡◌, ◌<◌, ℕ, List, [], ◌∷◌, Some, OnOk, OnErr};
-ghost use Rattle.std.specs.Prelude.{length, slice_get};
+ghost use Rattle.std.specs.Prelude.{◌≡◌, ◌<◌, ℕ, List, [], ◌∷◌, None, Some, IfOk, IfSome, OnOk};
+ghost use Rattle.std.specs.Prelude.{OnErr, length, slice_get};
 ghost use Rattle.hv_task.specs.Strips.{Strips, atoms};
 ghost use Rattle.hv_lines.specs.Numbering.{IsNumbered, expr_count};
 ghost use Rattle.hv_lines.specs.Queries.{named_by};
@@ -9,10 +9,12 @@ ghost use Rattle.hv_lines.specs.declared.formula_family.FormulaFamily.{FormulaFa
 ghost use Rattle.hv_lines.specs.declared.line.Expr.TheVariants as E;
 ghost use Rattle.hv_lines.specs.declared.line.Line.{Line};
 ghost use Rattle.hv_lines.specs.declared.line.Line.TheVariants as L;
-ghost use Rattle.hv_basic.specs.Stores.{CanBeStored, IsStoreOf, LineCanBeStored};
-ghost use Rattle.hv_basic.specs.Stores.{with_expr, with_line};
+ghost use Rattle.hv_basic.specs.ActionRows.{AreActionRows};
+ghost use Rattle.hv_basic.specs.Stores.{AreRowsFor, CanBeStored, IsStoreOf, LineCanBeStored};
+ghost use Rattle.hv_basic.specs.Stores.{with_expr, with_line, with_rows};
 ghost use Rattle.hv_basic.specs.Working.Stores.{IsUnstored};
 
+use crate::action_rows::action_rows;
 use hv_explicit::{Explicit, Explicits};
 use hv_horn::{DualHorn, DualHorns, Horn, Horns};
 use hv_lines::{Constant, Expr, Line};
@@ -21,6 +23,9 @@ use hv_task::Task;
 use hv_twocnf::{TwoCnf, TwoCnfs};
 use std::alloc::{AllocError, Global};
 use std::marker::Model;
+
+/// With the explicit set that comes after so many, the actions are put in rows.
+const MANY: usize = 8;
 
 /// The formulas of a proof, in the store of their family.
 #[derive(Drop)]
@@ -32,6 +37,8 @@ pub struct Store {
     listed: Explicits,
     // What the set of each `e` line is named by in the store of its family.
     names: Vec<Which>,
+    // The actions in rows by atoms of their preconditions, once there are many explicit sets.
+    rows: Option<Vec<Vec<u32>>>,
 }
 
 impl Model for Store {
@@ -45,6 +52,7 @@ impl Model for Store {
       twos = s.twos;
       listed = s.listed;
       names = s.names.items;
+      rows = s.rows;
     } };
 }
 
@@ -56,6 +64,7 @@ impl Store {
         ensures twos { result.twos ≡ [] }
         ensures listed { result.listed ≡ [] }
         ensures names { result.names ≡ [] }
+        ensures rows { result.rows ≡ None }
         ensures none { (task : Strips) → IsStoreOf task [] result }
     {
         Store {
@@ -65,22 +74,26 @@ impl Store {
             twos: TwoCnfs::new(alloc),
             listed: Explicits::new(alloc),
             names: Vec::new(alloc),
+            rows: None,
         }
     }
 
     /// Adds what the next line says: the formula of an `e` line goes to the store of its family,
     /// and nothing else is added. Stores that have the formulas of the lines before have those of
-    /// all lines then.
+    /// all lines then. Once there are many explicit sets, the actions are put in rows.
     pub fn add_line(&mut self, task: &Task, line: &Line) -> Result<(), AllocError>
         requires { LineCanBeStored (atoms task.now) line.now }
-        ensures ok { OnOk result (self.new ≡ with_line (atoms task.now) self.old line.now) }
+        ensures ok { OnOk result (self.new
+            ≡ with_rows (with_line (atoms task.now) self.old line.now) self.new.rows) }
         ensures err { OnErr result (self.new ≡ self.old) }
         ensures stands { OnOk result ((lines : List Line) → IsStoreOf task.now lines self.old
             → IsNumbered lines line.now → IsStoreOf task.now (line.now ∷ lines) self.new) }
     {
         match line {
             Line::Expr { expr, .. } => {
+                let rows = self.rows_beside(task, expr)?;
                 self.add(task, expr)?;
+                self.keep_rows(rows);
                 Ok(())
             }
             Line::Acts { .. } => Ok(()),
@@ -138,6 +151,40 @@ impl Store {
         self.names[id]
     }
 
+    /// The actions in rows by atoms of their preconditions, if they were made.
+    pub(crate) fn rows(&self) -> Option<&[Vec<u32>]>
+        ensures { (task : Strips) → AreRowsFor task self.now.rows
+            → IfSome result (λ rows. AreActionRows task rows.now) }
+    {
+        match &self.rows {
+            Some(rows) => Some(rows.as_slice()),
+            None => None,
+        }
+    }
+
+    // The actions in rows, where this is the set from which on they are worth it.
+    fn rows_beside(&self, task: &Task, expr: &Expr) -> Result<Option<Vec<Vec<u32>>>, AllocError>
+        ensures { IfOk result (AreRowsFor task.now) }
+    {
+        if self.listed.len() != MANY || !is_listed(expr) {
+            return Ok(None);
+        }
+        let rows = action_rows(self.alloc, task)?;
+        Ok(Some(rows))
+    }
+
+    // Keeps the rows, if there are some.
+    fn keep_rows(&mut self, rows: Option<Vec<Vec<u32>>>)
+        ensures kept { self.new ≡ with_rows self.old self.new.rows }
+        ensures rows { (task : Strips) → AreRowsFor task self.old.rows → AreRowsFor task rows
+            → AreRowsFor task self.new.rows }
+    {
+        match rows {
+            Some(made) => self.rows = Some(made),
+            None => {}
+        }
+    }
+
     // What `add` does, without what it says of the lines before.
     fn put(&mut self, task: &Task, expr: &Expr) -> Result<(), AllocError>
         requires { CanBeStored (atoms task.now) expr.now }
@@ -182,6 +229,10 @@ impl Store {
             }
         }
     }
+}
+
+fn is_listed(expr: &Expr) -> bool {
+    matches!(expr, Expr::States(_))
 }
 
 /// What the set is named by that isn't put into a store.

@@ -17,13 +17,13 @@ ghost use Rattle.hv_basic.specs.Working.Asked.{AreOperands, with_action};
 ghost use Rattle.hv_basic.specs.Stores.{IsStoreOf, formula};
 ghost use Rattle.hv_basic.specs.Deciding.{IsBasicOver, IsQuestionOver};
 ghost use Rattle.hv_basic.specs.Cases.{lines_in, setting_in};
-ghost use Rattle.hv_basic.specs.Working.Deciding.{AreAllReady, IsDecidedIn, IsDecidedOver};
-ghost use Rattle.hv_basic.specs.Working.Deciding.{IsQueryFor};
+ghost use Rattle.hv_basic.specs.Working.Deciding.{AreAllReady, AreEnough, IsDecidedIn};
+ghost use Rattle.hv_basic.specs.Working.Deciding.{IsDecidedOver, IsQueryFor};
 ghost use Rattle.hv_basic.specs.Working.Views.{question_of};
 
-use crate::actions::asked_actions;
 use crate::acts::flags_of;
 use crate::basic::{Basic, BasicKind, Question};
+use crate::candidates::actions_to_ask;
 use crate::case::Case;
 use crate::mixed::decide_two;
 use crate::query_walk::walk;
@@ -153,12 +153,12 @@ pub(crate) fn decide_sets(
 {
     let _count = case.table.expr_count();
     query.positive = operands_of(alloc, case, &question.positive)?;
-    let actions = asked_actions(alloc, case.task, case.table, question.acts)?;
+    let actions = actions_to_ask(alloc, case, question, query)?;
     let verdict = decide_queries(alloc, case, question, query, &actions, scratch)?;
     Ok(verdict)
 }
 
-/// The verdict on a question, by the query that asks it for each of these actions.
+/// The verdict on a question, by the query that asks it, for these actions, which are enough.
 fn decide_queries(
     alloc: Global,
     case: &Case<'_>,
@@ -169,6 +169,8 @@ fn decide_queries(
 ) -> Result<Verdict, AllocError>
     requires query { IsQueryFor case.now.task.now (node_count case.now.diagrams.now)
         (lines_in case.now) (question_of question.now) query.old actions.now }
+    requires enough { AreEnough (setting_in case.now) (lines_in case.now)
+        (question_of question.now) query.old actions.now }
     ensures answer { IfOk result (IsVerdictOfSets (setting_in case.now) (lines_in case.now)
         (question_of question.now)) }
     ensures lengths { KeepsLengths scratch.old scratch.new }

@@ -38,8 +38,8 @@ IsDecidedIn setting lists queries verdict =
     (is_clash setting.task (λ number state. in_clauses (slice_index_or lists number []) state))
     (atoms setting.task) queries verdict
 
--- the query, with each of these actions in turn, asks what the question asks; so many nodes there
--- are
+-- the query, with an action, asks what the question asks, and it can be asked for each of these
+-- actions; so many nodes there are
 pub record IsQueryFor (task : Strips) (nodes : ℕ) (lines : List Line) (question : QuestionState)
     (query : Query)
     (actions : List (Option ℕ)) : Type 0
@@ -47,4 +47,10 @@ pub record IsQueryFor (task : Strips) (nodes : ℕ) (lines : List Line) (questio
     pub is : (action : Option ℕ) → with_action query action ≡ query_of lines question action
     pub ready : AreAllReady (count_of lines question.family nodes)
         (length task.actions) query actions
-    pub all : map (with_action query) actions ≡ queries_of task lines question
+
+-- the verdict of the queries for these actions is that of all queries of the question
+abbrev pub AreEnough : Setting → List Line → QuestionState → Query → List (Option ℕ) → Type 0
+AreEnough setting lines question query actions =
+    (verdict : Verdict)
+    → IsDecidedOver setting lines question.family (map (with_action query) actions) verdict
+    → IsDecidedOver setting lines question.family (queries_of setting.task lines question) verdict

@@ -1,4 +1,4 @@
-use Rattle.std.proofs.Common.{◌∙◌, None, ap, length, map, subst}
+use Rattle.std.proofs.Common.{◌∙◌, None, ap, length, subst}
 use Rattle.std.proofs.lemmas.Bool.{iff_false}
 use Rattle.hv_task.specs.Strips.{atoms}
 use Rattle.hv_sets.specs.Query.{HasAnchor}
@@ -7,7 +7,6 @@ use Rattle.hv_lines.specs.Queries.{count_of, duals_of, horns_of, twos_of}
 use Rattle.hv_lines.specs.declared.formula_family.FormulaFamily.{FormulaFamily}
 use Rattle.hv_lines.specs.declared.formula_family.FormulaFamily.TheVariants as F
 use Rattle.hv_basic.specs.Cases.{lines_in, setting_in}
-use Rattle.hv_basic.specs.Working.Asked.{with_action}
 use Rattle.hv_basic.specs.Working.Deciding.{AreAllReady}
 use Rattle.hv_basic.specs.Working.Views.{question_of}
 use Rattle.hv_basic.proofs.Querying.{unoffered_listed, verdict_in}
@@ -30,8 +29,8 @@ pub returns-in_ok-verdict-in-Horn-clause-answer : goal.returns-in_ok-verdict-in-
 returns-in_ok-verdict-in-Horn-clause-answer c =
     verdict_in (setting_in c.args.case.now) (lines_in c.args.case.now)
     (question_of c.args.question.now) F.Horn
-    (map (with_action c.args.query.now) c.args.actions.now) c.in_ok-verdict-in-Horn.verdict
-    c.in-Horn.is tt c.requires.query.all
+    c.args.query.now c.args.actions.now c.in_ok-verdict-in-Horn.verdict
+    c.in-Horn.is tt c.requires.enough
     (c.in_ok-verdict-in-Horn.ensures.answer (horns_of (lines_in c.args.case.now))
     (c.horns-sets.ensures ∙ c.args.case.now.stored.horns))
 
@@ -51,8 +50,8 @@ pub returns-in_ok-verdict-in-Dual-clause-answer : goal.returns-in_ok-verdict-in-
 returns-in_ok-verdict-in-Dual-clause-answer c =
     verdict_in (setting_in c.args.case.now) (lines_in c.args.case.now)
     (question_of c.args.question.now) F.Dual
-    (map (with_action c.args.query.now) c.args.actions.now) c.in_ok-verdict-in-Dual.verdict
-    c.in-Dual.is tt c.requires.query.all
+    c.args.query.now c.args.actions.now c.in_ok-verdict-in-Dual.verdict
+    c.in-Dual.is tt c.requires.enough
     (c.in_ok-verdict-in-Dual.ensures.answer (duals_of (lines_in c.args.case.now))
     (c.duals-sets.ensures ∙ c.args.case.now.stored.duals))
 
@@ -72,8 +71,8 @@ pub returns-in_ok-verdict-in-Two-clause-answer : goal.returns-in_ok-verdict-in-T
 returns-in_ok-verdict-in-Two-clause-answer c =
     verdict_in (setting_in c.args.case.now) (lines_in c.args.case.now)
     (question_of c.args.question.now) F.Two
-    (map (with_action c.args.query.now) c.args.actions.now) c.in_ok-verdict-in-Two.verdict
-    c.in-Two.is tt c.requires.query.all
+    c.args.query.now c.args.actions.now c.in_ok-verdict-in-Two.verdict
+    c.in-Two.is tt c.requires.enough
     (c.in_ok-verdict-in-Two.ensures.answer (twos_of (lines_in c.args.case.now))
     (c.twos-sets.ensures ∙ c.args.case.now.stored.twos))
 
@@ -89,10 +88,10 @@ pub returns-in_ok-verdict-in-States-clause-answer :
 returns-in_ok-verdict-in-States-clause-answer c =
     verdict_in (setting_in c.args.case.now) (lines_in c.args.case.now)
     (question_of c.args.question.now) F.States
-    (map (with_action c.args.query.now) c.args.actions.now) c.in_ok-verdict-in-States.verdict
+    c.args.query.now c.args.actions.now c.in_ok-verdict-in-States.verdict
     c.in-States.is
     (subst HasAnchor (c.requires.query.is None)
-    (c.has_anchor.ensures.0 c.if-not-has_anchor.false)) c.requires.query.all
+    (c.has_anchor.ensures.0 c.if-not-has_anchor.false)) c.requires.enough
     c.in_ok-verdict-in-States.ensures.answer
 
 pub returns-then-not-has_anchor-clause-answer : goal.returns-then-not-has_anchor-clause-answer
@@ -113,6 +112,6 @@ pub returns-in_ok-verdict-in-Node-clause-answer : goal.returns-in_ok-verdict-in-
 returns-in_ok-verdict-in-Node-clause-answer c =
     verdict_in (setting_in c.args.case.now) (lines_in c.args.case.now)
     (question_of c.args.question.now) F.Node
-    (map (with_action c.args.query.now) c.args.actions.now) c.in_ok-verdict-in-Node.verdict
+    c.args.query.now c.args.actions.now c.in_ok-verdict-in-Node.verdict
     c.in-Node.is
-    tt c.requires.query.all c.in_ok-verdict-in-Node.ensures.answer
+    tt c.requires.enough c.in_ok-verdict-in-Node.ensures.answer

@@ -1,0 +1,10 @@
+use Rattle.std.proofs.Common.{◌≡◌, ◌+◌, length}
+use Rattle.hv_task.specs.Strips.{atoms}
+use Rattle.hv_basic.proofs.Rowed.{AreRowed}
+use Rattle.hv_basic.proofs.action_rows.action_rows.Given as goal
+
+abbrev pub invariant-loop-number : goal.invariant-loop-number
+invariant-loop-number l = record {
+  size : length l.rows.items ≡ atoms l.task + 1;
+  each : AreRowed (atoms l.task) l.rows.items l.task.actions l.number;
+}

@@ -1,0 +1,52 @@
+-- Which actions can be applicable in one of few states.
+use Rattle.std.specs.Prelude.{◌≡◌, ◌<◌, ℕ, Bool, true, false, List, Option, Some, length}
+use Rattle.std.specs.Prelude.{slice_get}
+use Rattle.std.specs.Global.{Vec}
+use Rattle.std.specs.List.{All, Contains}
+use Rattle.std.specs.List.Sorted.{IsStrictlyIncreasing}
+use Rattle.hv_task.specs.declared.action.Action.{Action}
+use Rattle.hv_task.specs.State.{AreBelow, applicable}
+use Rattle.hv_task.specs.Strips.{Strips, atoms}
+use Rattle.hv_sets.specs.Query.{in_which}
+use Rattle.hv_sets.specs.declared.operand.Operand.{Operand}
+use Rattle.hv_sets.specs.declared.operand.Which.{Which}
+use Rattle.hv_lines.specs.Meaning.{acts_of}
+use Rattle.hv_lines.specs.declared.line.Line.{Line}
+
+-- the number is in the row of this place, if there is one
+abbrev pub IsIn : List (Vec ℕ) → ℕ → ℕ → Type 0
+IsIn rows place number =
+    (row : Vec ℕ) → slice_get rows place ≡ Some row → Contains row.items number
+
+-- the action set has every action
+abbrev pub HasEveryAction : List Line → Option ℕ → Type 0
+HasEveryAction lines set =
+    (acts : ℕ) × (set ≡ Some acts) × ((number : ℕ) → acts_of lines acts number ≡ true)
+
+-- the set is asked about before the action, and the state has to be in it
+abbrev pub IsAskedBefore : List Operand → Which → Type 0
+IsAskedBefore positive which =
+    (operand : Operand) × Contains positive operand × (operand.after ≡ false)
+    × (operand.which ≡ which)
+
+-- the list rises and is of actions of the task, of which it has the first, and each one whose whole
+-- precondition is in one of the states
+pub record AreFound (task : Strips) (states : List (List ℕ)) (listed : List ℕ) : Type 0 where
+  pub rises : IsStrictlyIncreasing listed
+  pub below : AreBelow (length task.actions) listed
+  pub first : 0 < length task.actions → Contains listed 0
+  pub each : (number : ℕ) (action : Action) (held : List ℕ)
+      → slice_get task.actions number ≡ Some action → Contains states held
+      → All (λ atom. Contains held atom) action.pre → Contains listed number
+
+-- the same, with each one that is applicable in a state of the set
+pub record AreCandidates (task : Strips) (sets : ℕ → List Bool → Bool) (which : Which)
+    (listed : List ℕ) : Type 0
+  where
+    pub rises : IsStrictlyIncreasing listed
+    pub below : AreBelow (length task.actions) listed
+    pub first : 0 < length task.actions → Contains listed 0
+    pub each : (number : ℕ) (action : Action) (state : List Bool)
+        → slice_get task.actions number ≡ Some action → length state ≡ atoms task
+        → in_which task sets which state ≡ true → applicable action state ≡ true
+        → Contains listed number
