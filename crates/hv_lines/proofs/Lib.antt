@@ -23,7 +23,6 @@ pub mod Nexts
 pub mod Carried
 pub mod PlainSides
 pub mod GoodQuestions
-pub mod Basics
 pub mod Untrue
 pub mod Drafting
 pub mod Extended
