@@ -13,8 +13,8 @@ use std::alloc::{AllocError, Global};
 /// outside the right set has more steps than the budget; else Clash exactly where a state is in the
 /// left set and outside the right one, and such a state then is in the scratch; else Empty.
 ///
-/// A set takes part by the traits of `hv_paths`: it says itself how it is walked over, and is asked
-/// about by questions of its own or by the plain ones of that crate.
+/// A set takes part by the traits of `hv_paths`: a type with those of `hv_sets` has them by one
+/// line each, with the plain walks and questions of that crate.
 pub fn within<'a, L: InsideAsked<'a>, R: OutsideWalked<'a>>(
     alloc: Global,
     left: &'a L,

@@ -12,8 +12,8 @@ use std::alloc::{AllocError, Global};
 /// The same as `within`, by the walk over the left set: Over exactly where that has more steps than
 /// the budget.
 ///
-/// A set takes part by the traits of `hv_paths`: it says itself how it is walked over, and is asked
-/// about by questions of its own or by the plain ones of that crate.
+/// A set takes part by the traits of `hv_paths`: a type with those of `hv_sets` has them by one
+/// line each, with the plain walks and questions of that crate.
 pub fn within_states<'a, L: InsideWalked<'a>, R: OutsideAsked<'a>>(
     alloc: Global,
     left: &'a L,

@@ -1,6 +1,6 @@
--- Cubes that are filled literal by literal.
-use Rattle.std.proofs.Common.{◌≡◌, ℕ, zero, suc, ◌<◌, ◌+◌, ◌∙◌, ◌&&◌, Bool, true, false, not}
-use Rattle.std.proofs.Common.{List, [], ◌∷◌, length, get_or, take, cond}
+-- Cubes that are filled literal by literal, and steps without a cube.
+use Rattle.std.proofs.Common.{◌≡◌, ℕ, zero, suc, ◌<◌, ◌+◌, ◌∙◌, ◌⊎◌, ◌&&◌, Bool, true, false, not}
+use Rattle.std.proofs.Common.{◌||◌, Option, None, Some, List, [], ◌∷◌, length, get_or, take, cond}
 use Rattle.std.proofs.Common.{refl, sym, ap, arith, inl, inr, subst}
 use Rattle.std.proofs.lemmas.List.Elements.{All-contains, All-contains_itself, Contains-get_or}
 use Rattle.std.proofs.lemmas.List.Folds.{list_all_more}
@@ -13,6 +13,8 @@ use Rattle.hv_task.specs.State.{has_atom}
 use Rattle.hv_sets.specs.declared.literal.Literal.{Literal}
 use Rattle.hv_sets.specs.Cubes.{Adds, SpeakBelow, opposite}
 use Rattle.hv_sets.specs.Truth.{in_cube, in_literal}
+use Rattle.hv_sets.specs.Walks.{in_cubes, in_steps}
+use Rattle.hv_paths.specs.Along.{cubes_of}
 use Rattle.hv_paths.proofs.Fronts.{cube_front}
 
 cube_has : (cube : List Literal) (s : List Bool) (l : Literal) → in_cube cube s ≡ true
@@ -94,3 +96,10 @@ cube_none cube literals i d s less there same =
     clash l.positive (has_atom s l.atom)
     (cube_has cube s (opposite l) (same ∙ cube_front i literals s h) there)
     (cube_has literals s l h (Contains-get_or literals i d less)))
+
+-- steps without a cube have no state
+pub cubes_are : (steps : List (Option (List Literal))) (s : List Bool)
+    → in_cubes (cubes_of steps) s ≡ in_steps steps s
+cubes_are [] s = refl
+cubes_are (None ∷ steps) s = cubes_are steps s
+cubes_are (Some cube ∷ steps) s = ap (λ b. in_cube cube s || b) (cubes_are steps s)

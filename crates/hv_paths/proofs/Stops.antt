@@ -2,6 +2,7 @@
 use Rattle.std.proofs.Common.{◌≡◌, ◌∙◌, ℕ, Bool, true, false, List, refl, sym, ap, subst}
 use Rattle.hv_task.proofs.Places.{beq-Decides}
 use Rattle.hv_sets.specs.declared.literal.Literal.{Literal}
+use Rattle.hv_sets.specs.Truth.{in_cube, is_same}
 use Rattle.hv_sets.specs.Walks.{IsStateOf, Meets}
 use Rattle.hv_paths.specs.Along.{IsCubeOfOne}
 

@@ -1,5 +1,5 @@
 -- Cubes that are taken one after the other.
-use Rattle.std.proofs.Common.{◌≡◌, ◌∙◌, List, ◌∷◌, length, ap, arith}
+use Rattle.std.proofs.Common.{◌≡◌, ◌+◌, ◌∙◌, List, ◌∷◌, length, ap, arith}
 use Rattle.hv_sets.specs.declared.literal.Literal.{Literal}
 use Rattle.hv_sets.specs.Walks.{in_cubes}
 use Rattle.hv_paths.specs.Along.{LeavesRest}

@@ -44,6 +44,12 @@ MeetsSome false atoms wanted cubes found =
     (state : List Bool) → IsStateOf atoms state → in_cubes cubes state ≡ true
     → wanted state ≡ false
 
+-- the cubes of the steps that have one
+abbrev pub cubes_of : List (Option (List Literal)) → List (List Literal)
+cubes_of [] = []
+cubes_of (None ∷ steps) = cubes_of steps
+cubes_of (Some cube ∷ steps) = cube ∷ cubes_of steps
+
 -- of the states of a task with so many atoms the cube has this one alone
 abbrev pub IsCubeOfOne : ℕ → List Literal → List Bool → Type 0
 IsCubeOfOne atoms cube one =

@@ -7,6 +7,7 @@ mod filling;
 pub mod meeting;
 pub mod plain_inside;
 pub mod plain_outside;
+pub mod plain_walker;
 pub mod sets;
 pub mod walker;
 
@@ -14,5 +15,6 @@ pub use asker::Asker;
 pub use meeting::meet_along;
 pub use plain_inside::InsideAsk;
 pub use plain_outside::OutsideAsk;
+pub use plain_walker::{InsideWalk, OutsideWalk};
 pub use sets::{InsideAsked, InsideWalked, OutsideAsked, OutsideWalked};
 pub use walker::{WalkStop, Walker};

@@ -1,6 +1,6 @@
 //! A walk and a question, step by step.
 
-ghost use Rattle.std.specs.Prelude.{◌≡◌, ◌≤◌, Bool, true, false, [], List, length, take, IfOk};
+ghost use Rattle.std.specs.Prelude.{◌≡◌, ◌≤◌, ℕ, Bool, true, false, [], List, length, take, IfOk};
 ghost use Rattle.std.specs.Prelude.{OnOk};
 ghost use Rattle.hv_task.specs.State.{AreBelow, state_of};
 ghost use Rattle.hv_sets.specs.Cubes.{SpeakBelow};
