@@ -2,6 +2,7 @@ pub mod Passed
 pub mod Taken
 pub mod Fields
 pub mod Followed
+pub mod LeadingOn
 pub mod Rows
 pub mod Kept
 pub mod Exits

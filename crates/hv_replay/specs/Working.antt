@@ -4,6 +4,7 @@ pub mod LogText
 pub mod Reading
 pub mod Expanded
 pub mod Following
+pub mod Leading
 pub mod Waiting
 pub mod PrunedLines
 pub mod ClosingLines

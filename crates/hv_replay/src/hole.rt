@@ -6,9 +6,9 @@ ghost use Rattle.hv_replay.specs.Closed.{IsFirstWithout, IsGoalFree};
 ghost use Rattle.hv_replay.specs.Working.Following.{Follows};
 ghost use Rattle.hv_replay.specs.declared.hole.ReplayFault.TheVariants as H;
 
+use crate::leading::set_of;
 use crate::log::Log;
-use crate::open::first_open;
-use crate::waiting::waiting;
+use crate::open::first_exit;
 use hv_task::{Task, names_all};
 use std::alloc::{AllocError, Global};
 use thiserror::Error;
@@ -48,14 +48,14 @@ pub(crate) fn follow(alloc: Global, task: &Task, log: &Log) -> Result<(), Replay
     requires { log.now.atoms ≡ atoms task.now }
     ensures { Follows result task.now log.now }
 {
-    if !log.listed().lists(task.start()) {
+    let mut sets = set_of(alloc, task, log)?;
+    if !sets.get(0).lists(task.start()) {
         return Err(ReplayFault::NoInitial);
     }
     if let Some(place) = first_goal(task, log) {
         return Err(ReplayFault::GoalExpanded(line_of(log, place)));
     }
-    let rows = waiting(alloc, task)?;
-    match first_open(alloc, task, log, &rows)? {
+    match first_exit(alloc, task, log, &mut sets)? {
         Some(found) => Err(ReplayFault::Open(line_of(log, found.0), found.1)),
         None => Ok(()),
     }

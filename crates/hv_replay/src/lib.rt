@@ -4,13 +4,16 @@
 mod boxes;
 mod closing;
 mod entries;
+mod expanded;
 pub mod fault;
 pub mod hole;
 pub mod laws;
+mod leading;
 pub mod log;
 mod log_counts;
 mod log_line;
 pub mod log_proof;
+mod log_query;
 mod open;
 mod origin;
 mod pruned;

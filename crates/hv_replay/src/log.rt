@@ -1,16 +1,16 @@
 //! Logs of a search.
 
-ghost use Rattle.std.specs.Prelude.{◌≡◌, ◌<◌, length, IfOk};
+ghost use Rattle.std.specs.Prelude.{◌≡◌, ◌<◌, length, map, IfOk};
 ghost use Rattle.std.specs.List.Sorted.{IsStrictlyIncreasing};
 ghost use Rattle.hv_task.specs.Strips.{atoms};
-ghost use Rattle.hv_replay.specs.Working.Following.{ListsLog};
+ghost use Rattle.hv_explicit.specs.ListedStates.{AreStates};
 ghost use Rattle.hv_replay.specs.Logs.{IsAtomSet, IsLog, LogEntry, StandsInLog};
 ghost use Rattle.hv_replay.specs.Working.Reading.{IsReadingLog, log_of};
 
 use crate::entries::Entries;
-use hv_explicit::Explicit;
+use hv_sets::StateList;
 use hv_task::Task;
-use std::alloc::{AllocError, Global};
+use std::alloc::AllocError;
 use std::marker::Model;
 
 /// The log of a search: the states that it expanded and those that it pruned, in order. The entry
@@ -18,8 +18,10 @@ use std::marker::Model;
 /// and the lines of its text have at most 8,388,608 bytes.
 #[derive(Drop)]
 pub struct Log {
-    // The states, in which one is found without a walk.
-    states: Explicit,
+    // How many atoms the task has.
+    atoms: u32,
+    // The states, in a list of which a copy takes no memory.
+    states: StateList,
     // For each state whether it is an expanded one.
     expanded: Vec<bool>,
 }
@@ -32,12 +34,12 @@ impl Model for Log {
     ghost Value = { SearchLog };
 
     ghost view = { λ l. record {
-      atoms = l.states.atoms;
-      entries = entries_of l.expanded.items l.states.states;
+      atoms = l.atoms;
+      entries = entries_of l.expanded.items l.states;
     } };
 
-    ghost invariant = { λ l. IsLog l.states.atoms (entries_of l.expanded.items l.states.states)
-        × (length l.expanded.items ≡ length l.states.states) };
+    ghost invariant = { λ l. IsLog l.atoms (entries_of l.expanded.items l.states)
+        × (length l.expanded.items ≡ length l.states) };
 }
 
 impl Log {
@@ -47,10 +49,14 @@ impl Log {
         requires atoms { entries.atoms ≡ atoms task.now }
         ensures { IfOk result (λ log. log ≡ log_of entries) }
     {
+        let atoms = task.atoms();
         let (states, expanded) = entries.lists();
-        let alloc = *expanded.allocator();
-        let states = Explicit::from_list(alloc, task, states)?;
-        Ok(Log { states, expanded })
+        let states = states.share()?;
+        Ok(Log {
+            atoms,
+            states,
+            expanded,
+        })
     }
 
     /// How many entries there are: one for each line but the last.
@@ -61,8 +67,9 @@ impl Log {
     }
 
     /// The states of all entries.
-    pub(crate) fn listed(&self) -> &Explicit
-        ensures listed { ListsLog self.now result.now }
+    pub(crate) fn states(&self) -> &StateList
+        ensures states { result.now ≡ map (λ (entry : LogEntry). entry.state) self.now.entries }
+        ensures below { AreStates self.now.atoms result.now }
         ensures log { IsLog self.now.atoms self.now.entries }
     {
         &self.states
@@ -93,6 +100,6 @@ impl Log {
             → result.now ≡ entry.state }
         ensures legal { IsAtomSet self.now.atoms result.now }
     {
-        self.states.states().get(place)
+        self.states.get(place)
     }
 }

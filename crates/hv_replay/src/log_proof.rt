@@ -11,8 +11,7 @@ ghost use Rattle.hv_lines.specs.Pruning.{Extends};
 ghost use Rattle.hv_lines.specs.declared.line.Line.{Line};
 ghost use Rattle.hv_replay.specs.Boxes.{CoverAlike};
 ghost use Rattle.hv_replay.specs.Closed.{IsClosed, IsFirstHole, IsSearchFollowed, IsJustified};
-ghost use Rattle.hv_replay.specs.Expanded.{expanded_in, expanded_states};
-ghost use Rattle.hv_replay.specs.Logs.{IsAtomSet, IsLog, LogEntry, StandsInLog};
+ghost use Rattle.hv_replay.specs.Logs.{IsAtomSet, LogEntry, StandsInLog};
 ghost use Rattle.hv_replay.specs.Working.PrunedLines.{IsPrunedUnion};
 ghost use Rattle.hv_replay.specs.Progress.{IsProof};
 ghost use Rattle.hv_replay.specs.Working.Progress.{IsProgress, IsUncovered};
@@ -21,11 +20,11 @@ ghost use Rattle.hv_replay.specs.declared.hole.ReplayFault.TheVariants as H;
 
 use crate::boxes::{ask, begin_all};
 use crate::closing::push_closing;
+use crate::expanded::expanded_states;
 use crate::hole::{ReplayFault, follow, line_of};
 use crate::log::Log;
 use crate::pruned::push_pruned;
 use hv_lines::{Draft, Note, Pruner};
-use hv_sets::StateList;
 use hv_task::{State, Task};
 use std::alloc::{AllocError, Global};
 
@@ -266,30 +265,4 @@ fn put_state(
             Ok(true)
         }
     }
-}
-
-// The expanded states of a log, in its order.
-fn expanded_states(alloc: Global, log: &Log) -> Result<StateList, AllocError>
-    ensures states { IfOk result (λ states. states ≡ expanded_states log.now) }
-    ensures log { IsLog log.now.atoms log.now.entries }
-{
-    let mut states = StateList::new(alloc);
-    let _log = log.listed();
-    let count = log.len();
-    for place in 0..count {
-        put_expanded(log, place, &mut states)?;
-    }
-    Ok(states)
-}
-
-// Puts the state of an entry last, where it is an expanded one.
-fn put_expanded(log: &Log, place: usize, states: &mut StateList) -> Result<(), AllocError>
-    requires { place < length log.now.entries }
-    ensures { (entry : LogEntry) → StandsInLog log.now place entry → OnOk result
-        (states.new ≡ states.old ++ expanded_in (entry ∷ [])) }
-{
-    if !log.expanded(place) {
-        return Ok(());
-    }
-    states.push_atoms(log.held(place))
 }

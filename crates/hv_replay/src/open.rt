@@ -6,33 +6,72 @@ ghost use Rattle.hv_task.specs.State.{AreBelow, has_atom, state_of};
 ghost use Rattle.hv_task.specs.Strips.{IsState, atoms};
 ghost use Rattle.hv_replay.specs.Closed.{IsFirstWithout, LeadsOn};
 ghost use Rattle.hv_replay.specs.Logs.{IsAtomSet};
-ghost use Rattle.hv_replay.specs.Working.Following.{HasExpanded, IsOpen, LeadAllOn, StaysFrom};
-ghost use Rattle.hv_replay.specs.Working.Following.{StaysListed};
+ghost use Rattle.hv_replay.specs.Working.Following.{HasExpanded, IsOpen, LeadAllOn, ListsLog};
+ghost use Rattle.hv_replay.specs.Working.Following.{StaysFrom, StaysListed};
+ghost use Rattle.hv_replay.specs.Working.Leading.{HasLog};
 ghost use Rattle.hv_replay.specs.Working.Waiting.{AreWaiting, IsWaitingIn};
 
+use crate::leading::leading;
 use crate::log::Log;
 use crate::origin::Origin;
-use hv_explicit::Explicit;
+use crate::waiting::waiting;
+use hv_explicit::{Explicit, Explicits};
 use hv_task::{State, Task};
 use std::alloc::{AllocError, Global};
 
+// By what it is found which actions lead out: the states of a log as a set, and the rows in which
+// actions wait.
+#[derive(Clone, Copy)]
+struct ExitIndex<'a> {
+    listed: &'a Explicit,
+    rows: &'a Vec<Vec<u32>>,
+}
+
 /// The first place of an expanded state from which an action leads to a state that isn't listed,
-/// and the least such action there. A state that is listed again isn't asked again, unless another
-/// one that falls into the same slot was asked between.
-pub(crate) fn first_open(
+/// and the least such action there. The first set is that of the states of the log, and further
+/// ones are added.
+pub(crate) fn first_exit(
     alloc: Global,
     task: &Task,
     log: &Log,
-    rows: &Vec<Vec<u32>>,
+    sets: &mut Explicits,
 ) -> Result<Option<(usize, u32)>, AllocError>
     requires atoms { log.now.atoms ≡ atoms task.now }
-    requires rows { AreWaiting (atoms task.now) task.now.actions rows.now.items }
+    requires sets { HasLog log.now sets.old }
+    ensures { IfOk result (IsOpen task.now log.now) }
+{
+    let from = leading(alloc, task, log, sets)?;
+    if from == log.len() {
+        return Ok(None);
+    }
+    let rows = waiting(alloc, task)?;
+    let index = ExitIndex {
+        listed: sets.get(0),
+        rows: &rows,
+    };
+    first_open(alloc, task, log, &index, from)
+}
+
+// The same, where every action leads on from the entries before this place. A state that is listed
+// again isn't asked again, unless another one that falls into the same slot was asked between.
+fn first_open(
+    alloc: Global,
+    task: &Task,
+    log: &Log,
+    index: &ExitIndex<'_>,
+    from: usize,
+) -> Result<Option<(usize, u32)>, AllocError>
+    requires atoms { log.now.atoms ≡ atoms task.now }
+    requires listed { ListsLog log.now index.now.listed.now }
+    requires rows { AreWaiting (atoms task.now) task.now.actions index.now.rows.now.items }
+    requires from { from ≤ length log.now.entries }
+    requires before { (place action : ℕ) → place < from → LeadsOn task.now log.now place action }
     ensures { IfOk result (IsOpen task.now log.now) }
 {
     let mut asked = vec![in alloc; log.len(); log.len()]?;
     let mut state = State::empty(alloc, task.atoms())?;
-    for place in 0..log.len() {
-        if let Some(action) = open_action(task, log, rows, &mut asked, &mut state, place) {
+    for place in from..log.len() {
+        if let Some(action) = open_action(task, log, index, &mut asked, &mut state, place) {
             return Ok(Some((place, action)));
         }
     }
@@ -46,13 +85,14 @@ pub(crate) fn first_open(
 fn open_action(
     task: &Task,
     log: &Log,
-    rows: &Vec<Vec<u32>>,
+    index: &ExitIndex<'_>,
     asked: &mut Vec<usize>,
     state: &mut State,
     place: usize,
 ) -> Option<u32>
     requires atoms { log.now.atoms ≡ atoms task.now }
-    requires rows { AreWaiting (atoms task.now) task.now.actions rows.now.items }
+    requires listed { ListsLog log.now index.now.listed.now }
+    requires rows { AreWaiting (atoms task.now) task.now.actions index.now.rows.now.items }
     requires asked { length asked.old.items ≡ length log.now.entries }
     requires lead { LeadAllOn task.now log.now asked.old.items }
     requires state { IsState task.now state.old }
@@ -72,7 +112,7 @@ fn open_action(
     if has_expanded(log, asked[slot], held) {
         return None;
     }
-    match least_exit(task, log.listed(), rows, state, held) {
+    match least_exit(task, index.listed, index.rows, state, held) {
         Some(action) => Some(action),
         None => {
             asked[slot] = place;

@@ -9,24 +9,24 @@ use Rattle.hv_replay.proofs.hole.follow.Goals as goal
 pub lists-requires : goal.lists-requires
 lists-requires c = λ p past.
     below_list (atoms c.args.task.now) c.start.result.now c.start.ensures.below p
-    (subst (λ n. n ≤ p) (c.listed.ensures.listed.over ∙ c.requires) past)
+    (subst (λ n. n ≤ p) ((c.in_ok-sets.ensures.first c.get.result.now c.get.ensures).over ∙ c.requires) past)
 
 pub returns-then-not-lists : goal.returns-then-not-lists
 returns-then-not-lists c =
     let none : c.lists.result ≡ false = search rules in
-    let start = start_found c.args.task.now c.start.result.now c.listed.result.now
+    let start = start_found c.args.task.now c.start.result.now c.get.result.now
     c.start.ensures.below c.start.ensures.start
-    (c.listed.ensures.listed.over ∙ c.requires) c.lists.result c.lists.ensures in
-    not_listed c.args.task.now c.args.log.now c.listed.result.now (start_state c.args.task.now)
-    c.listed.ensures.listed (sym start ∙ none)
+    ((c.in_ok-sets.ensures.first c.get.result.now c.get.ensures).over ∙ c.requires) c.lists.result c.lists.ensures in
+    not_listed c.args.task.now c.args.log.now c.get.result.now (start_state c.args.task.now)
+    (c.in_ok-sets.ensures.first c.get.result.now c.get.ensures) (sym start ∙ none)
 
 pub returns-in-Some : goal.returns-in-Some
 returns-in-Some c =
     let some : c.lists.result ≡ true = search rules in
-    let start = start_found c.args.task.now c.start.result.now c.listed.result.now
+    let start = start_found c.args.task.now c.start.result.now c.get.result.now
     c.start.ensures.below c.start.ensures.start
-    (c.listed.ensures.listed.over ∙ c.requires) c.lists.result c.lists.ensures in
-    let listed = to_listed c.args.log.now c.listed.result.now c.listed.ensures.listed
+    ((c.in_ok-sets.ensures.first c.get.result.now c.get.ensures).over ∙ c.requires) c.lists.result c.lists.ensures in
+    let listed = to_listed c.args.log.now c.get.result.now (c.in_ok-sets.ensures.first c.get.result.now c.get.ensures)
     (start_state c.args.task.now) (sym start ∙ some) in
     (listed, c.in-Some.place, c.line_of.ensures, c.in-Some.ensures.1)
 
@@ -35,10 +35,10 @@ returns-in-Some-2 c =
     let task = c.args.task.now in
     let log = c.args.log.now in
     let some : c.lists.result ≡ true = search rules in
-    let start = start_found task c.start.result.now c.listed.result.now
+    let start = start_found task c.start.result.now c.get.result.now
     c.start.ensures.below c.start.ensures.start
-    (c.listed.ensures.listed.over ∙ c.requires) c.lists.result c.lists.ensures in
-    let listed = to_listed log c.listed.result.now c.listed.ensures.listed
+    ((c.in_ok-sets.ensures.first c.get.result.now c.get.ensures).over ∙ c.requires) c.lists.result c.lists.ensures in
+    let listed = to_listed log c.get.result.now (c.in_ok-sets.ensures.first c.get.result.now c.get.ensures)
     (start_state task) (sym start ∙ some) in
     let first = subst (IsOpen task log) c.in-Some-2.is c.in_ok-found.ensures in (
       listed,
@@ -54,11 +54,11 @@ returns c =
     let task = c.args.task.now in
     let log = c.args.log.now in
     let some : c.lists.result ≡ true = search rules in
-    let start = start_found task c.start.result.now c.listed.result.now
+    let start = start_found task c.start.result.now c.get.result.now
     c.start.ensures.below c.start.ensures.start
-    (c.listed.ensures.listed.over ∙ c.requires) c.lists.result c.lists.ensures in
+    ((c.in_ok-sets.ensures.first c.get.result.now c.get.ensures).over ∙ c.requires) c.lists.result c.lists.ensures in
     record {
-      initial = to_listed log c.listed.result.now c.listed.ensures.listed
+      initial = to_listed log c.get.result.now (c.in_ok-sets.ensures.first c.get.result.now c.get.ensures)
           (start_state task) (sym start ∙ some);
       goalless = free_all task log c.in_default.ensures;
       leads = leads_all task log

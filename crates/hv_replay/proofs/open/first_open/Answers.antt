@@ -12,7 +12,7 @@ loop-place-init c =
     let log = c.args.log.now in
     let P : ℕ → Type 0 = λ place. (action : ℕ) → LeadsOn task log place action in
     record {
-      before = λ before action less. absurd (omega arith);
+      before = c.requires.before;
       asked = let l = c.in_ok-asked.asked.ok.0 in let e = c.in_ok-asked.ensures.len in
           let f = c.len-2.ensures in omega arith;
       lead = subst (LeadAllOn task log)

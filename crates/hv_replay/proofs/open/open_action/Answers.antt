@@ -39,9 +39,9 @@ returns-in-Some-clause-open c =
     let same : state_of (atoms task) held ≡ state_in log w.0 =
     ap (λ n. state_of n held) (sym c.requires.atoms)
     ∙ ap (state_of log.atoms) (c.held-held.ensures.stands w.0 w.1) in
-    first_from task log c.args.place w.0 w.1 c.listed.result.now c.listed.ensures.listed
+    first_from task log c.args.place w.0 w.1 c.args.index.now.listed.now c.requires.listed
     (sym (c.expanded.ensures w.0 w.1) ∙ yes) c.in-Some.action
-    (subst (λ s. IsFirstWithout (StaysListed task c.listed.result.now s) c.in-Some.action) same
+    (subst (λ s. IsFirstWithout (StaysListed task c.args.index.now.listed.now s) c.in-Some.action) same
     c.in-Some.ensures.first)
 
 pub returns-in-None-clause-open : goal.returns-in-None-clause-open
@@ -54,10 +54,10 @@ returns-in-None-clause-open c =
     let same : state_of (atoms task) held ≡ state_in log w.0 =
     ap (λ n. state_of n held) (sym c.requires.atoms)
     ∙ ap (state_of log.atoms) (c.held-held.ensures.stands w.0 w.1) in
-    all_from task log c.args.place w.0 w.1 c.listed.result.now c.listed.ensures.listed
+    all_from task log c.args.place w.0 w.1 c.args.index.now.listed.now c.requires.listed
     (sym (c.expanded.ensures w.0 w.1) ∙ yes)
     (subst (λ s. (number : ℕ) → number < length task.actions
-    → StaysListed task c.listed.result.now s number) same
+    → StaysListed task c.args.index.now.listed.now s number) same
     c.in-None.ensures.first)
 
 pub returns-in-None-clause-lead : goal.returns-in-None-clause-lead
@@ -70,10 +70,10 @@ returns-in-None-clause-lead c =
     let same : state_of (atoms task) held ≡ state_in log w.0 =
     ap (λ n. state_of n held) (sym c.requires.atoms)
     ∙ ap (state_of log.atoms) (c.held-held.ensures.stands w.0 w.1) in
-    let all = all_from task log c.args.place w.0 w.1 c.listed.result.now c.listed.ensures.listed
+    let all = all_from task log c.args.place w.0 w.1 c.args.index.now.listed.now c.requires.listed
     (sym (c.expanded.ensures w.0 w.1) ∙ yes)
     (subst (λ s. (number : ℕ) → number < length task.actions
-    → StaysListed task c.listed.result.now s number) same
+    → StaysListed task c.args.index.now.listed.now s number) same
     c.in-None.ensures.first) in
     All-set (λ place. (action : ℕ) → LeadsOn task log place action) c.args.asked.now.items
     c.slot_of-slot.result c.args.place all c.requires.lead

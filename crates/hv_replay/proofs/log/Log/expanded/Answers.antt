@@ -7,7 +7,7 @@ use Rattle.hv_replay.proofs.log.Log.expanded.Goals as goal
 pub index-requires : goal.index-requires
 index-requires c =
     let s = c.self.inside in
-    let size = entries_length s.expanded.items s.states.states c.self.invariant.1 in
+    let size = entries_length s.expanded.items s.states c.self.invariant.1 in
     let view = ap (λ (l : SearchLog). length l.entries) c.self.view_is in
     let many = s.expanded.ok.0 in
     let within = c.requires in
@@ -20,4 +20,4 @@ returns c = λ entry at.
     (sym c.self.view_is) at in
     c.index.ensures
     ∙ get_or_from_slice_get s.expanded.items c.args.place entry.expanded c.index.result.now
-    (entries_at s.expanded.items s.states.states c.args.place entry here).0
+    (entries_at s.expanded.items s.states c.args.place entry here).0

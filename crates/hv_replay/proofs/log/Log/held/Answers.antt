@@ -8,10 +8,9 @@ use Rattle.hv_replay.proofs.log.Log.held.Goals as goal
 pub get-requires : goal.get-requires
 get-requires c =
     let s = c.self.inside in
-    let size = entries_length s.expanded.items s.states.states c.self.invariant.1 in
+    let size = entries_length s.expanded.items s.states c.self.invariant.1 in
     let view = ap (λ (l : SearchLog). length l.entries) c.self.view_is in
     let same = c.self.invariant.1 in
-    let many = ap length c.states.ensures.states in
     let within = c.requires in
     omega arith
 
@@ -20,21 +19,19 @@ returns-clause-stands c = λ entry at.
     let s = c.self.inside in
     let here = subst (λ (l : SearchLog). slice_get l.entries c.args.place ≡ Some entry)
     (sym c.self.view_is) at in
-    let there = subst (λ xs. slice_get xs c.args.place ≡ Some c.get.result.now)
-    c.states.ensures.states c.get.ensures.state in
+    let there = c.get.ensures.state in
     let same : ◌≡◌ {A = Option (List ℕ)} (Some c.get.result.now) (Some entry.state) =
-    sym there ∙ (entries_at s.expanded.items s.states.states c.args.place entry here).1 in
+    sym there ∙ (entries_at s.expanded.items s.states c.args.place entry here).1 in
     cc
 
 pub returns-clause-legal : goal.returns-clause-legal
 returns-clause-legal c =
     let s = c.self.inside in
     let held = c.get.result.now in
-    let there = subst (λ xs. slice_get xs c.args.place ≡ Some held) c.states.ensures.states
-    c.get.ensures.state in
-    let sets = atom_sets s.states.atoms s.expanded.items s.states.states c.self.invariant.1
+    let there = c.get.ensures.state in
+    let sets = atom_sets s.atoms s.expanded.items s.states c.self.invariant.1
     c.self.invariant.0 in
     subst (λ n. IsAtomSet n held) (ap (λ (l : SearchLog). l.atoms) c.self.view_is)
-    (subst (IsAtomSet s.states.atoms) (get_or_from_slice_get s.states.states c.args.place held []
+    (subst (IsAtomSet s.atoms) (get_or_from_slice_get s.states c.args.place held []
     there)
-    (sets c.args.place [] (slice_get_within s.states.states c.args.place held there)))
+    (sets c.args.place [] (slice_get_within s.states c.args.place held there)))

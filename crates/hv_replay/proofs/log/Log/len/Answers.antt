@@ -8,5 +8,5 @@ returns c =
     let s = c.self.inside in
     c.len.ensures
     ∙ (s.expanded.ok.0
-    ∙ (sym (entries_length s.expanded.items s.states.states c.self.invariant.1)
+    ∙ (sym (entries_length s.expanded.items s.states c.self.invariant.1)
     ∙ ap (λ (l : SearchLog). length l.entries) c.self.view_is))

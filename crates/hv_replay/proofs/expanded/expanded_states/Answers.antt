@@ -1,10 +1,10 @@
-use Rattle.std.proofs.Common.{◌<◌, ◌≤◌, ◌∙◌, ◌++◌, ◌∷◌, [], ap, arith, length, sym}
+use Rattle.std.proofs.Common.{◌≡◌, ◌<◌, ◌≤◌, ◌∙◌, ◌++◌, ◌∷◌, [], ap, arith, length, sym, true}
 use Rattle.std.proofs.lemmas.List.{take_all}
 use Rattle.hv_replay.specs.Expanded.{expanded_in}
 use Rattle.hv_replay.proofs.Kept.{entry_there, expanded_push}
 use Rattle.hv_replay.proofs.Replaying.{entries_next}
 use Rattle.std.proofs.Common.{take}
-use Rattle.hv_replay.proofs.log_proof.expanded_states.Goals as goal
+use Rattle.hv_replay.proofs.expanded.expanded_states.Goals as goal
 
 pub loop-place-preserved : goal.loop-place-preserved
 loop-place-preserved c =
