@@ -7,14 +7,14 @@
 //! - `shared_verdicts::verdict_of` takes it, with the `case` that it is judged in (task, lines,
 //!   nodes, stores, budget) and what is kept of the right sides before it (`shared`).
 //! - `lefts::left_of` reads the left side, once for both ways of asking: `leaves` takes it apart and
-//!   reads of each leaf's line which literal that is and of what family, `literals` gathers what the
-//!   literals ask about, and the set of the progression is read like it.
+//!   reads of each leaf's line which literal that is and of what family, `signed_sets` gathers what
+//!   the literals ask about, and the set of the progression is read like it.
 //! - `rights` keeps the right side, if that is a union of formulas and constants: where it is the
 //!   one before and a further set, only the leaves of that set are looked up.
 //! - Where what is kept serves, and all that the left side asks about is positive, the question
-//!   is already: `families` says whose family it is, and `order` puts the left part in order.
+//!   is there already: `families` says whose family it is, and `rising` puts the left part in order.
 //! - Else `shapes::question_beside` makes the question: `sides` reads the leaves of the right side
-//!   too, `families` looks for the one family, and `order` puts both parts in order.
+//!   too, `families` looks for the one family, and `rising` puts both parts in order.
 //! - Either way `verdicts::decide_sets` decides the question. It makes the query of it by the names
 //!   that the `store` keeps. `candidates` says for which actions it is asked: where these are all,
 //!   and few states are asked about before the action, for those that can be applicable there, by
@@ -24,8 +24,8 @@
 //!   budget or has a counterexample decides.
 //!
 //! Statements with `b1` and `b3` go the same way, without a step or with a regression. Those with
-//! `b4`, of two families, are decided in `mixed`, over the formulas that `formula` finds, and those
-//! with `b5`, of action sets, in `verdicts`, by the flags of `acts`. `kinds` says whether clauses
+//! `b4`, of two families, are decided in `mixed`, over the formulas that `any_formula` finds, and
+//! those with `b5`, of action sets, in `verdicts`, by the flags of `acts`. `kinds` says whether clauses
 //! are of their family, and `laws` what a verdict says of its statement.
 #![tactic(auto)]
 

@@ -1,4 +1,4 @@
-use Rattle.std.proofs.Common.{◌<◌, get_or, inl, inr, length, subst, sym}
+use Rattle.std.proofs.Common.{◌<◌, inl, inr, length, subst, sym}
 use Rattle.std.proofs.lemmas.List.Elements.{All-contains, Contains-get_or}
 use Rattle.std.specs.List.{Contains}
 use Rattle.hv_basic.proofs.action_rows.place_for.Goals as goal
