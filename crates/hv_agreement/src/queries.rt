@@ -773,9 +773,9 @@ fn add_listing(
     states: &[u32],
 ) -> Result<(), AllocError>
     requires task { atoms task.now ≡ 3 }
-    requires over { listing.AreOver sets.old 3 }
+    requires over { listing.AreListsOver sets.old 3 }
     ensures len { OnOk result (length sets.new ≡ length sets.old + 1) }
-    ensures over { OnOk result (listing.AreOver sets.new 3) }
+    ensures over { OnOk result (listing.AreListsOver sets.new 3) }
 {
     let set = explicit_of(alloc, task, states)?;
     sets.add(set)?;
@@ -792,7 +792,7 @@ fn add_listings(
     requires task { atoms task.now ≡ 3 }
     requires none { sets.old ≡ [] }
     ensures len { OnOk result (length sets.new ≡ 2) }
-    ensures over { OnOk result (listing.AreOver sets.new 3) }
+    ensures over { OnOk result (listing.AreListsOver sets.new 3) }
 {
     add_listing(alloc, task, sets, first)?;
     add_listing(alloc, task, sets, second)
@@ -806,7 +806,7 @@ fn listings_of(
 ) -> Result<Explicits, AllocError>
     requires { atoms task.now ≡ 3 }
     ensures len { IfOk result (λ sets. length sets ≡ 2) }
-    ensures over { IfOk result (λ sets. listing.AreOver sets 3) }
+    ensures over { IfOk result (λ sets. listing.AreListsOver sets 3) }
 {
     let mut sets = Explicits::new(alloc);
     add_listings(alloc, task, &mut sets, first, second)?;
