@@ -22,7 +22,7 @@ use Rattle.hv_explicit.specs.ListedStates.{ListedStates}
 use Rattle.hv_lines.proofs.Elements.{all_from, cons_cases, got_mapped, in_mapped}
 use Rattle.hv_basic.specs.ActionRows.{AreActionRows}
 use Rattle.hv_basic.specs.Stores.{listing}
-use Rattle.hv_basic.specs.Working.Candidates.{AreCandidates, AreFound, IsIn}
+use Rattle.hv_basic.specs.Working.Candidates.{AreCandidates, AreFound, IsInRow}
 use Rattle.hv_basic.proofs.Rowed.{tested_row}
 
 -- an atom of the state of a list is in the list
@@ -52,8 +52,8 @@ pub found_in : (task : Strips) (rows : List (Vec ℕ)) (states : List (List ℕ)
     → AreActionRows task rows → IsStrictlyIncreasing listed
     → ((k : ℕ) → Contains listed k → k < length task.actions)
     → (0 < length task.actions → Contains listed 0)
-    → ((k : ℕ) → IsIn rows (atoms task) k → k < length task.actions → Contains listed k)
-    → ((held : List ℕ) (p k : ℕ) → Contains states held → Contains held p → IsIn rows p k
+    → ((k : ℕ) → IsInRow rows (atoms task) k → k < length task.actions → Contains listed k)
+    → ((held : List ℕ) (p k : ℕ) → Contains states held → Contains held p → IsInRow rows p k
     → k < length task.actions → Contains listed k)
     → AreFound task states listed
 found_in task rows states listed are rises below first past has = record {
@@ -64,7 +64,7 @@ found_in task rows states listed are rises below first past has = record {
       let less = slice_get_within task.actions number action at in
       let w = tested_row (atoms task) rows action.pre number (are.1 number action at) in
       elim (cons_cases (atoms task) action.pre w.0 w.1) [
-        | inl last ↦ past number (subst (λ p. IsIn rows p number) (sym last) w.2) less
+        | inl last ↦ past number (subst (λ p. IsInRow rows p number) (sym last) w.2) less
         | inr inside ↦
             has held w.0 number among
             (All-contains (λ p. Contains held p) action.pre w.0 within inside) w.2 less
@@ -89,7 +89,7 @@ candidates_in task sets which states listed only found = record {
 
 -- a number of a row, by the row that was found at a place
 pub row_at : (rows : List (Vec ℕ)) (p : ℕ) (row : Vec ℕ) (listed : List ℕ) → p < length rows
-    → row ≡ get_or rows p row → listed ≡ row.items → (k : ℕ) → IsIn rows p k → Contains listed k
+    → row ≡ get_or rows p row → listed ≡ row.items → (k : ℕ) → IsInRow rows p k → Contains listed k
 row_at rows p row listed within is same k here =
     subst (λ xs. Contains xs k) (sym same)
     (here row (slice_get-get_or rows p row within ∙ ap Some (sym is)))
@@ -111,27 +111,27 @@ put_more row actions i old new kept here before j less below =
 -- one row more is put in
 pub put_row_more : (rows : List (Vec ℕ)) (atoms : List ℕ) (actions i : ℕ) (old new : List ℕ)
     → ((k : ℕ) → Contains old k → Contains new k)
-    → ((k : ℕ) → IsIn rows (get_or atoms i 0) k → k < actions → Contains new k)
-    → ((j : ℕ) → j < i → (k : ℕ) → IsIn rows (get_or atoms j 0) k → k < actions
+    → ((k : ℕ) → IsInRow rows (get_or atoms i 0) k → k < actions → Contains new k)
+    → ((j : ℕ) → j < i → (k : ℕ) → IsInRow rows (get_or atoms j 0) k → k < actions
     → Contains old k)
-    → (j : ℕ) → j < i + 1 → (k : ℕ) → IsIn rows (get_or atoms j 0) k → k < actions
+    → (j : ℕ) → j < i + 1 → (k : ℕ) → IsInRow rows (get_or atoms j 0) k → k < actions
     → Contains new k
 put_row_more rows atoms actions i old new kept here before j less k inside below =
     elim (cases_lt j i) [
       | inl earlier ↦ kept k (before j earlier k inside below)
       | inr upto ↦
           let same : j ≡ i = omega (arith, less, upto) in
-          here k (subst (λ n. IsIn rows (get_or atoms n 0) k) same inside) below
+          here k (subst (λ n. IsInRow rows (get_or atoms n 0) k) same inside) below
     ]
 
 -- the rows of one state more are put in
 pub put_state_more : (rows : List (Vec ℕ)) (states : List (List ℕ)) (actions i : ℕ)
     (old new held : List ℕ) → slice_get states i ≡ Some held
     → ((k : ℕ) → Contains old k → Contains new k)
-    → ((p k : ℕ) → Contains held p → IsIn rows p k → k < actions → Contains new k)
-    → ((j : ℕ) → j < i → (p k : ℕ) → Contains (get_or states j []) p → IsIn rows p k
+    → ((p k : ℕ) → Contains held p → IsInRow rows p k → k < actions → Contains new k)
+    → ((j : ℕ) → j < i → (p k : ℕ) → Contains (get_or states j []) p → IsInRow rows p k
     → k < actions → Contains old k)
-    → (j : ℕ) → j < i + 1 → (p k : ℕ) → Contains (get_or states j []) p → IsIn rows p k
+    → (j : ℕ) → j < i + 1 → (p k : ℕ) → Contains (get_or states j []) p → IsInRow rows p k
     → k < actions → Contains new k
 put_state_more rows states actions i old new held at kept here before j less p k has inside below =
     elim (cases_lt j i) [

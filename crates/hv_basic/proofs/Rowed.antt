@@ -12,20 +12,20 @@ use Rattle.hv_task.specs.declared.action.Action.{Action}
 use Rattle.hv_task.proofs.Places.{names_atom-Decides}
 use Rattle.hv_lines.proofs.Elements.{slice_get_some}
 use Rattle.hv_basic.specs.ActionRows.{in_found_row, in_row}
-use Rattle.hv_basic.specs.Working.Candidates.{IsIn}
+use Rattle.hv_basic.specs.Working.Candidates.{IsInRow}
 
 -- the actions before this one are in the row of an atom of their precondition, or in the last
 abbrev pub AreRowed : ℕ → List (Vec ℕ) → List Action → ℕ → Type 0
 AreRowed past rows actions bound =
     (k : ℕ) (a : Action) → k < bound → slice_get actions k ≡ Some a
     → (place : ℕ) × (place < past + 1) × (Contains a.pre place ⊎ (place ≡ past))
-    × IsIn rows place k
+    × IsInRow rows place k
 
 pub rowed_more : (past : ℕ) (old new : List (Vec ℕ)) (actions : List Action) (n : ℕ) (b : Action)
     (place : ℕ) → slice_get actions n ≡ Some b
-    → ((p k : ℕ) → IsIn old p k → IsIn new p k) → place < past + 1
+    → ((p k : ℕ) → IsInRow old p k → IsInRow new p k) → place < past + 1
     → Contains b.pre place ⊎ (place ≡ past)
-    → IsIn new place n → AreRowed past old actions n → AreRowed past new actions (n + 1)
+    → IsInRow new place n → AreRowed past old actions n → AreRowed past new actions (n + 1)
 rowed_more past old new actions n b place at keeps within key here before k a below is =
     elim (cases_lt k n) [
       | inl less ↦ let w = before k a less is in (w.0, w.1, w.2, keeps w.0 k w.3)
@@ -35,25 +35,25 @@ rowed_more past old new actions n b place at keeps within key here before k a be
             place,
             within,
             subst (λ (x : Action). Contains x.pre place ⊎ (place ≡ past)) one key,
-            subst (λ m. IsIn new place m) same here,
+            subst (λ m. IsInRow new place m) same here,
           )
     ]
 
 -- the test whether a number is in a row
-in_row_true : (rows : List (Vec ℕ)) (place k : ℕ) → place < length rows → IsIn rows place k
+in_row_true : (rows : List (Vec ℕ)) (place k : ℕ) → place < length rows → IsInRow rows place k
     → in_row rows k place ≡ true
 in_row_true rows place k within here =
     let row = slice_get_some rows place within in
     ap (λ found. in_found_row found k) row.1
     ∙ (names_atom-Decides row.0.items k).1 (here row.0 row.1)
 
-is_in : (rows : List (Vec ℕ)) (place k : ℕ) → in_row rows k place ≡ true → IsIn rows place k
+is_in : (rows : List (Vec ℕ)) (place k : ℕ) → in_row rows k place ≡ true → IsInRow rows place k
 is_in rows place k e row at =
     (names_atom-Decides row.items k).0 (ap (λ found. in_found_row found k) (sym at) ∙ e)
 
 -- all actions pass the test
 pub rowed_test : (past : ℕ) (rows : List (Vec ℕ)) (a : Action) (k : ℕ) → length rows ≡ past + 1
-    → (place : ℕ) → place < past + 1 → Contains a.pre place ⊎ (place ≡ past) → IsIn rows place k
+    → (place : ℕ) → place < past + 1 → Contains a.pre place ⊎ (place ≡ past) → IsInRow rows place k
     → list_any (in_row rows k) (past ∷ a.pre) ≡ true
 rowed_test past rows a k size place within key here =
     let yes = in_row_true rows place k (omega (arith, size, within)) here in
@@ -70,7 +70,7 @@ rowed_test past rows a k size place within key here =
 -- and what passes is in a row
 pub tested_row : (past : ℕ) (rows : List (Vec ℕ)) (places : List ℕ) (k : ℕ)
     → list_any (in_row rows k) (past ∷ places) ≡ true
-    → (place : ℕ) × Contains (past ∷ places) place × IsIn rows place k
+    → (place : ℕ) × Contains (past ∷ places) place × IsInRow rows place k
 tested_row past rows places k e =
     let found = Any-from_list_any (in_row rows k) (past ∷ places) e in
     (found.1, (found.0, found.2, found.3), is_in rows found.1 k found.4)

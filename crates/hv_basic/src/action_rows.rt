@@ -4,7 +4,7 @@ ghost use Rattle.std.specs.Prelude.{◌≡◌, ◌<◌, ◌+◌, ◌⊎◌, ℕ,
 ghost use Rattle.std.specs.List.{Contains};
 ghost use Rattle.hv_task.specs.State.{AreBelow};
 ghost use Rattle.hv_basic.specs.ActionRows.{AreActionRows};
-ghost use Rattle.hv_basic.specs.Working.Candidates.{IsIn};
+ghost use Rattle.hv_basic.specs.Working.Candidates.{IsInRow};
 
 use hv_task::Task;
 use std::alloc::{AllocError, Global};
@@ -66,8 +66,9 @@ fn shorter(rows: &[Vec<u32>], place: u32, other: u32) -> u32
 fn enter(rows: &mut Vec<Vec<u32>>, place: u32, number: u32) -> Result<(), AllocError>
     requires { place < length rows.old.items }
     ensures size { length rows.new.items ≡ length rows.old.items }
-    ensures keeps { OnOk result ((p k : ℕ) → IsIn rows.old.items p k → IsIn rows.new.items p k) }
-    ensures has { OnOk result (IsIn rows.new.items place number) }
+    ensures keeps { OnOk result ((p k : ℕ) → IsInRow rows.old.items p k
+        → IsInRow rows.new.items p k) }
+    ensures has { OnOk result (IsInRow rows.new.items place number) }
 {
     rows[place as usize].push(number)?;
     Ok(())

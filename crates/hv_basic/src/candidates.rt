@@ -14,7 +14,7 @@ ghost use Rattle.hv_basic.specs.ActionRows.{AreActionRows};
 ghost use Rattle.hv_basic.specs.Cases.{lines_in, setting_in};
 ghost use Rattle.hv_basic.specs.Working.Asked.{with_action};
 ghost use Rattle.hv_basic.specs.Working.Candidates.{AreCandidates, AreFound, HasEveryAction};
-ghost use Rattle.hv_basic.specs.Working.Candidates.{IsAskedBefore, IsIn};
+ghost use Rattle.hv_basic.specs.Working.Candidates.{IsAskedBefore, IsInRow};
 ghost use Rattle.hv_basic.specs.Working.Deciding.{AreEnough};
 ghost use Rattle.hv_basic.specs.Working.Views.{question_of};
 
@@ -250,7 +250,7 @@ fn put_rows(
 ) -> Result<(), AllocError>
     requires { AreBelow (length rows.now) atoms.now }
     ensures kept { OnOk result ((k : ℕ) → Contains found.old k → Contains found.new k) }
-    ensures has { OnOk result ((p k : ℕ) → Contains atoms.now p → IsIn rows.now p k → k < actions
+    ensures has { OnOk result ((p k : ℕ) → Contains atoms.now p → IsInRow rows.now p k → k < actions
         → Contains found.new k) }
     ensures below { OnOk result ((k : ℕ) → Contains found.new k
         → Contains found.old k ⊎ (k < actions)) }

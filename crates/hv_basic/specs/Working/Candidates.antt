@@ -14,8 +14,8 @@ use Rattle.hv_lines.specs.Meaning.{acts_of}
 use Rattle.hv_lines.specs.declared.line.Line.{Line}
 
 -- the number is in the row of this place, if there is one
-abbrev pub IsIn : List (Vec ℕ) → ℕ → ℕ → Type 0
-IsIn rows place number =
+abbrev pub IsInRow : List (Vec ℕ) → ℕ → ℕ → Type 0
+IsInRow rows place number =
     (row : Vec ℕ) → slice_get rows place ≡ Some row → Contains row.items number
 
 -- the action set has every action

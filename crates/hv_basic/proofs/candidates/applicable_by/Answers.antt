@@ -6,7 +6,7 @@ use Rattle.std.specs.List.Sorted.{IsStrictlyIncreasing}
 use Rattle.hv_task.specs.State.{AreBelow}
 use Rattle.hv_task.specs.Strips.{atoms}
 use Rattle.hv_lines.proofs.Elements.{nothing_in}
-use Rattle.hv_basic.specs.Working.Candidates.{AreFound, IsIn}
+use Rattle.hv_basic.specs.Working.Candidates.{AreFound, IsInRow}
 use Rattle.hv_basic.proofs.Applicable.{found_in, put_state_more, row_at}
 use Rattle.hv_basic.proofs.Rowed.{below_more}
 use Rattle.hv_basic.proofs.candidates.applicable_by.Goals as goal
@@ -23,7 +23,7 @@ loop-place-init c =
           (row_at c.args.rows.now last c.index-rows-atoms.result c.deref.result.now
           (omega (arith, size, c.atoms.ensures.atoms)) c.index-rows-atoms.is
           c.deref.ensures.value k
-          (subst (λ p. IsIn c.args.rows.now p k) (sym c.atoms.ensures.atoms) inside))
+          (subst (λ p. IsInRow c.args.rows.now p k) (sym c.atoms.ensures.atoms) inside))
           (omega (arith, less, c.actions-3.ensures.actions));
       has = λ i less. absurd (omega (arith, less));
       below = λ k h. elim (row.below k h) [

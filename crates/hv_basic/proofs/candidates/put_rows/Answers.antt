@@ -1,6 +1,6 @@
 use Rattle.std.proofs.Common.{◌≡◌, ◌∙◌, arith, get_or, inr, inl, subst, sym}
 use Rattle.std.proofs.lemmas.List.{get_or_default}
-use Rattle.hv_basic.specs.Working.Candidates.{IsIn}
+use Rattle.hv_basic.specs.Working.Candidates.{IsInRow}
 use Rattle.hv_basic.proofs.Applicable.{put_row_more, row_at}
 use Rattle.hv_basic.proofs.candidates.put_rows.Goals as goal
 
@@ -27,4 +27,4 @@ returns-clause-has c = λ p k h inside below.
     get_or_default c.args.atoms.now h.0 0 p h.1 ∙ h.2 in
     let less = h.1 in
     c.loop-atom.invariant.has h.0 (omega (arith, less, c.loop-atom-test.false)) k
-    (subst (λ n. IsIn c.args.rows.now n k) (sym at) inside) below
+    (subst (λ n. IsInRow c.args.rows.now n k) (sym at) inside) below
