@@ -5,6 +5,7 @@ import math
 import os
 import re
 import signal
+import statistics
 import subprocess
 import sys
 import tempfile
@@ -31,15 +32,15 @@ def build():
 
 
 def run(words, wanted=None, times=3):
-    """The least user time of some runs in seconds, and the greatest memory in MB."""
-    least, most = math.inf, 0
+    """The median user time of some runs in seconds, and the greatest memory in MB."""
+    users, most = [], 0
     for _ in range(times):
         (user, _, memory), _, got = run_once(PROGRAM, words)
         if wanted is not None and got != wanted.encode():
             sys.exit("not %r: %r" % (wanted, got[:200]))
-        least = min(least, user)
+        users.append(user)
         most = max(most, memory)
-    return least, most
+    return statistics.median_low(users), most
 
 
 def run_once(program, words, limit=0):
@@ -53,6 +54,15 @@ def run_once(program, words, limit=0):
     return Result(float(user), float(seconds), int(memory) / 1024), int(status), got
 
 
+def median(runs):
+    """The run with the median time, and the greatest memory of all; one that was ended has none."""
+    memory = max(run.memory for run in runs)
+    if runs[-1].seconds is None:
+        return Result(None, None, memory)
+    timed = sorted((run for run in runs if run.seconds is not None), key=lambda run: run.seconds)
+    return timed[(len(timed) - 1) // 2]._replace(memory=memory)
+
+
 class Bench:
     """What a script was asked for, the runs of its programs, and what they answered wrongly."""
 
@@ -63,7 +73,7 @@ class Bench:
         words.add_argument("--against", help="a second program, which is run in turn with it")
         words.add_argument("--folder", help="where the files are written, and stay")
         words.add_argument("--only", default="", help="only what has this in its name")
-        words.add_argument("--times", type=int, default=3, help="runs, of which the best counts")
+        words.add_argument("--times", type=int, default=3, help="runs, of which the median counts")
         words.add_argument("--limit", type=int, default=120, help="the seconds that a run may take")
         words.add_argument("--write", action="store_true", help="renews the table of README.md")
         self.asked, self.faults = words.parse_args(), []
@@ -82,25 +92,23 @@ class Bench:
         return Folder(os.path.join(self.asked.folder, re.sub("[^a-z0-9]+", "-", name.lower())))
 
     def run(self, title, words, wanted):
-        """The best of some runs of each program, by turns; wanted is the exit status and the
+        """The median of some runs of each program, by turns; wanted is the exit status and the
         text. A long run isn't repeated."""
-        best = [Result(math.inf, math.inf, 0)] * len(self.programs)
+        runs = [[] for _ in self.programs]
         for turn in range(self.asked.times):
-            for number, program in enumerate(self.programs):
-                one = best[number]
-                if turn == 0 or one.seconds is not None and one.seconds < 2:
-                    best[number] = self.better(one, title, [program] + words, wanted)
-        return best
+            for program, done in zip(self.programs, runs):
+                if turn == 0 or done[-1].seconds is not None and done[-1].seconds < 2:
+                    done.append(self.one_run(title, [program] + words, wanted))
+        return [median(done) for done in runs]
 
-    def better(self, before, title, command, wanted):
-        """What is known after one more run."""
+    def one_run(self, title, command, wanted):
+        """One run, whose answer is held against the one that is wanted."""
         one, status, got = run_once(command[0], command[1:], self.asked.limit)
-        memory = max(one.memory, before.memory)
         if status in ENDED:
-            return Result(None, None, memory)
+            return Result(None, None, one.memory)
         if (status, got) != wanted:
             self.faults.append("%s: %s ended with %d: %r" % (title, command[0], status, got[:80]))
-        return min(one, before, key=lambda result: result.seconds)._replace(memory=memory)
+        return one
 
     def jobs(self, name, rows):
         """Prints a table of jobs, and ends. A row has a title, what its size counts, and a function
