@@ -27,7 +27,8 @@ pub trait OutsideWalked<'a>: Outside {
     type Walk: Walker + Drop;
 
     /// The walk over the complement before its first step. Where the places of the atoms in an
-    /// order are told, a walk that may choose takes its cubes and their literals in this order.
+    /// order are given, a walk that may choose takes its cubes and their literals in this order;
+    /// where they are places of no atom, in whichever order it likes.
     fn walk_outside(
         &'a self,
         alloc: Global,
@@ -44,8 +45,9 @@ pub trait InsideAsked<'a>: StateSet {
     /// The question.
     type Ask: Asker + Drop;
 
-    /// The places of the atoms in the order in which literals are best assumed, where that isn't
-    /// the rising one. Only how long an answer takes hangs on it.
+    /// The places of the atoms in the order in which literals are best assumed: none where that is
+    /// the rising one, and places of no atom where every order serves. Only how long an answer
+    /// takes hangs on it.
     fn places_inside(&'a self) -> Option<&'a [u32]>;
 
     /// The question about the states of the set, with nothing assumed.
@@ -62,8 +64,9 @@ pub trait OutsideAsked<'a>: Covering {
     /// The question.
     type Ask: Asker + Drop;
 
-    /// The places of the atoms in the order in which literals are best assumed, where that isn't
-    /// the rising one. Only how long an answer takes hangs on it.
+    /// The places of the atoms in the order in which literals are best assumed: none where that is
+    /// the rising one, and places of no atom where every order serves. Only how long an answer
+    /// takes hangs on it.
     fn places_outside(&'a self) -> Option<&'a [u32]>;
 
     /// The question about the states outside the set, with nothing assumed.
