@@ -1,4 +1,8 @@
 //! The files of the system as a shelf.
+//!
+//! A missing file, a folder in a file's place, and each other error of the system while reading is
+//! the read fault, with nothing written, but for a call that was interrupted: it is tried again,
+//! and an interrupted read counts as a fault.
 
 ghost use Rattle.std.specs.Io.{ReadsAtMost};
 ghost use Rattle.hv_bytes.specs.Devices.{HasCause};

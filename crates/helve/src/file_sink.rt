@@ -1,4 +1,7 @@
 //! Standard output as a sink.
+//!
+//! It isn't flushed at the end: neither the program nor the kit keeps bytes back. A write that
+//! takes nothing counts as a fault of the sink.
 
 use crate::faults::Faults;
 use hv_bytes::{Failed, Sink};

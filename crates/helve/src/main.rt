@@ -1,4 +1,7 @@
 //! The program: real files, words, exit status.
+//!
+//! Out of memory before the call of `run`, also while the words are read, is status 6; only words
+//! that aren't text end with status 2 and nothing printed.
 #![tactic(auto)]
 
 mod faults;

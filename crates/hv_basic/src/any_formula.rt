@@ -1,4 +1,5 @@
-//! Formulas of the five families, as one type.
+//! Formulas of the five families, as one type. The side that is asked about is matched where the
+//! walk's side is known, so that each family is asked in its own way.
 
 ghost use Rattle.std.specs.Prelude.{◌≡◌, ◌<◌, ℕ, Some, length, slice_get};
 ghost use Rattle.hv_sets.specs.declared.operand.Which.TheVariants as S;

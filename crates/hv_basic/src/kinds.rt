@@ -1,4 +1,8 @@
-//! Whether the clauses of a formula are of its family.
+//! Whether the clauses of a formula are of their family.
+//!
+//! That is tested before the store is asked, so a store never meets a clause of another kind.
+//! `Formula::of_kind` has it as its condition and doesn't test it again; `new` of the kinds tests,
+//! and names the first clause of another one.
 
 ghost use Rattle.std.specs.Prelude.{◌↔◌, IsTrue};
 ghost use Rattle.std.specs.List.{All};

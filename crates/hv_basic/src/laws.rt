@@ -1,4 +1,9 @@
-//! What a verdict says of the statement.
+//! What a verdict says of the statement: that a true verdict means a true statement, and a false
+//! one an untrue statement.
+//!
+//! This is a law over the definitions, and not a clause of `decide`: `decide` answers by the
+//! definition of the verdict, and whoever reads that definition reads the law beside it. A
+//! statement whose sets aren't there has no verdict worth the name, so the law asks that they are.
 
 ghost use Rattle.std.specs.Prelude.{List};
 ghost use Rattle.hv_lines.specs.Meaning.{IsTrueStatement};

@@ -1,4 +1,8 @@
-//! The leaves of a set, by a list of work in which each set occurs once.
+//! The leaves of a set, by a list of work in which each set occurs once, from the newest to the
+//! oldest: so a deep or shared expression costs its lines and not its paths.
+//!
+//! Each leaf is given with its literal and family, so the lines of leaves are looked up once for
+//! that, and gathering or keeping what they ask needs no table.
 
 ghost use Rattle.std.specs.Prelude.{◌≡◌, ◌<◌, ◌↔◌, ℕ, false, IfNone, IfOk, IfSome, OnOk};
 ghost use Rattle.std.specs.BTreeSet.{contains};

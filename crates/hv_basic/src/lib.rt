@@ -27,6 +27,31 @@
 //! `b4`, of two families, are decided in `mixed`, over the formulas that `any_formula` finds, and
 //! those with `b5`, of action sets, in `verdicts`, by the flags of `acts`. `kinds` says whether clauses
 //! are of their family, and `laws` what a verdict says of its statement.
+//!
+//! What a right side asks is kept for the next statement, one right side at a time: where the next
+//! one is the union of it and a further set whose identifiers come later, only that set is looked
+//! at. So n unions, each of which has the one before as a part and is asked about in a line of its
+//! own, cost their number of lines. Every other union on the right is looked at anew and kept in
+//! place of the one before, and a left side is looked at anew for each statement, and once. Where a
+//! negation is among the leaves on the right, or gives the left side something that is asked about
+//! with the sign of the right one, the statement is decided as if nothing were kept. What is kept
+//! is the negative half of a question and of its query; the invariant says that it is right for the
+//! lines so far, and a further line changes nothing of it.
+//!
+//! An action set is looked at from its newest part to its oldest, each part once, so a union that
+//! shares its parts costs its number of lines and not of paths. A list of actions that rises is
+//! asked about as it is, so a statement over a few actions doesn't cost their whole number.
+//!
+//! Where few states are asked about before the action, a statement over all actions is asked about
+//! those actions alone that can be applicable in one of the states, and about the first one, which
+//! has the cost, since all have the same. For this the actions are in rows, each in that of an atom
+//! of its precondition, the shortest at the time. The store makes the rows with the ninth explicit
+//! set; a statement over clauses that has the initial state before the action makes them where the
+//! store has none, since each query would put that state down anew. All actions are asked about
+//! where a list has more than 64 states, or the rows of its atoms have more than a quarter as many
+//! actions as the task; over diagrams, whose cost hangs on the action; and where the action set is
+//! a list or a union. The atoms of a state are compared as rising lists, which differ exactly where
+//! the states do.
 #![tactic(auto)]
 
 mod action_rows;

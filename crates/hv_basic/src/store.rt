@@ -1,4 +1,7 @@
 //! The formulas of a proof, each in the store of its family.
+//!
+//! A store takes lines and not the expressions of `e` lines alone, so that its contract can speak
+//! of the lines of a table.
 
 ghost use Rattle.std.specs.Prelude.{◌≡◌, ◌<◌, ℕ, List, [], ◌∷◌, None, Some, IfOk, IfSome, OnOk};
 ghost use Rattle.std.specs.Prelude.{OnErr, length, slice_get};

@@ -1,4 +1,5 @@
-//! Atoms and bits that are read off lists, so that no table by atom is made for a query.
+//! Atoms and bits that are read off lists, those that an action needs or changes and those of a
+//! cube, so that no table by atom is made for a query.
 
 ghost use Rattle.std.specs.Prelude.{◌≡◌, ◌<◌, ◌↔◌, ℕ, IfSome, IsTrue, length};
 ghost use Rattle.std.specs.List.{Contains};

@@ -1,4 +1,5 @@
-//! Node lists that grow by one node after the other.
+//! Node lists that grow by one node after the other, with the first fault of each. Memory is taken
+//! for what was read, and not for what the first line says.
 
 ghost use Rattle.std.specs.Prelude.{◌≡◌, ◌<◌, None, IfOk, OnOk, IfSome, length};
 ghost use Rattle.hv_bdd.specs.Building.{fault_of};

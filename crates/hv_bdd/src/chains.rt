@@ -1,4 +1,6 @@
-//! Nodes of a list, found by their numbers.
+//! Nodes of a list, found by their numbers: by chains of the places whose nodes fall into one slot,
+//! so a file takes time linear in its nodes, and no node is kept twice. Nodes that were made to
+//! fall into one slot are chained again by another factor.
 
 ghost use Rattle.std.specs.Prelude.{◌≡◌, ◌<◌, ◌≤◌, ◌-◌, ◌+◌, ◌^◌, ◌++◌, ◌∷◌, ℕ, [], false, length};
 ghost use Rattle.std.specs.Prelude.{slice_index, IsTrue, OnOk};

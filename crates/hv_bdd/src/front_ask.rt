@@ -1,4 +1,11 @@
 //! The question to a node along a path: after each literal the nodes are kept that are still met.
+//!
+//! They are moved down as far as the next literal goes. The lists of a literal that was taken back
+//! are filled again by the next one at that place, and nodes that were moved down to a place aren't
+//! moved there once more. A node that is moved gives way to children, which are less, so a node's
+//! witness is never the node itself; no order of the atoms occurs in the proof. Where the literals
+//! of a walk don't go by the order of the diagram, a prefix is refuted later, and the question that
+//! is wrapped answers. A question that is wrapped so only gets a refutation more.
 
 ghost use Rattle.std.specs.Prelude.{◌≡◌, ◌<◌, ◌≤◌, [], Bool, List, IfOk, true, not, ◌&&◌, length};
 ghost use Rattle.hv_bdd.specs.Nodes.{IsNode, in_node};

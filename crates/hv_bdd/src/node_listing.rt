@@ -1,4 +1,10 @@
-//! Nodes that come one after another, and are tested in blocks.
+//! Nodes that come one after another, and are tested in blocks of 64, so that the look-ups of one
+//! don't wait for those of another. Whatever ends the reading, the nodes that wait are tested
+//! first, so the first fault is the same.
+//!
+//! The tests of a line are in the order of the kinds of fault, so a contract can say "the first
+//! fault" by one function of the list and the numbers. What comes of the lines that follow nodes
+//! that are read and not yet tested is a part of the format like any other (`behind_tried`).
 
 ghost use Rattle.std.specs.Prelude.{◌≡◌, ◌<◌, ◌≤◌, ◌+◌, [], OnOk, length, map};
 ghost use Rattle.hv_bdd.specs.Working.Building.{as_node};

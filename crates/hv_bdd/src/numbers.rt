@@ -1,4 +1,5 @@
-//! The numbers in the lines of a node file.
+//! The numbers in the lines of a node file. They are tested as they are, up to 18 digits, and only
+//! those of a listed node become 32 bits.
 
 ghost use Rattle.std.specs.Prelude.{◌≡◌};
 ghost use Rattle.hv_bytes.specs.Fields.{cut_fields};

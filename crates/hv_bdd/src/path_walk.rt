@@ -1,4 +1,5 @@
-//! Walks over the paths of a node that say what stays from path to path.
+//! Walks over the paths of a node that say what stays from path to path: the literals of the path
+//! are kept too, and a step costs the nodes that it leaves and those that it reaches.
 
 ghost use Rattle.std.specs.Prelude.{◌≡◌, ◌<◌, Bool, List, true, IfOk};
 ghost use Rattle.hv_sets.specs.Walks.{in_cubes};

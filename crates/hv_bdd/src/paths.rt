@@ -1,4 +1,5 @@
-//! Nodes walked over and asked about along paths.
+//! Nodes walked over and asked about along paths. A diagram gives the walk the places of its atoms,
+//! where the file lists an order, and a walk over clauses goes by them.
 
 use crate::front_ask::FrontAsk;
 use crate::path_walk::PathWalk;

@@ -1,4 +1,7 @@
-//! Sets that nodes denote.
+//! Sets that nodes denote. Such a set carries two proved fields, that its list is reduced and its
+//! node is listed, since the laws of the traits speak of every value of the type. Some lemmas about
+//! paths are in specs/ (`Laws`, `Cubed`, `Ordered`): those laws cite them, and a law may cite
+//! specs/ alone.
 
 ghost use Rattle.std.specs.Prelude.{◌≡◌, length, map, Some, IfOk};
 ghost use Rattle.std.proofs.Common.{ap};

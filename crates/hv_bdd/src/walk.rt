@@ -1,5 +1,14 @@
 //! Walks over the paths from a node to an end: a cursor has the nodes of the present path, and a
 //! step changes what follows the last of them where the walk can still turn.
+//!
+//! A walk keeps the nodes of the present path and nothing else: a step goes up to the last low
+//! child whose sibling has a path to the end, turns to that, and goes down by low children first.
+//! Each inner node has a path to both ends, since its children differ, so a walk never goes down in
+//! vain and takes no table of counts. It is a bounded number of steps, one for each node: each
+//! leads to a lower number, so this is always enough. A step of a cursor writes the cube anew,
+//! since the caller may hand in any cube: it costs the length of the path, and not the number of
+//! atoms. What is left of a walk is a function of its path, so each move of the path is one
+//! equation between lists of paths.
 
 ghost use Rattle.std.specs.Prelude.{◌≡◌, ◌<◌, ◌≤◌, ◌≢◌, ◌++◌, ◌∷◌, [], ◌-◌, ℕ, List, Ok, false};
 ghost use Rattle.std.specs.Prelude.{true, length, map, take, IsTrue, IfNone, IfOk, IfSome, OnOk};

@@ -1,4 +1,15 @@
 //! The held bytes and the present line, which is lent from its block where it lies whole in it.
+//!
+//! Such a line isn't copied: it costs two places. Before the block is read over, the present line
+//! is copied out of it; a line that crosses blocks is put together in a list of its own, and takes
+//! the place of the present one when it is whole. So a fault leaves the present line, its number
+//! and the count of bytes as they were. Two lines of the greatest length, one after the other, take
+//! a list each.
+//!
+//! At a fault the bytes that were held are held again: they are the prefix of the line that was
+//! being put together, and fit into the block that they came from. What the same call read behind
+//! them is gone; nothing is lost by that, since no further line may be asked for. So what a fault
+//! changes is said in one clause: no further line may be asked for, and all else is as before.
 
 ghost use Rattle.std.specs.Prelude.{◌≡◌, ◌≢◌, ◌+◌, ◌<◌, ◌≤◌, ◌^◌, [], ◌++◌, length, take, drop};
 ghost use Rattle.std.specs.Prelude.{true, false, Ok, Err, IfOk, IfSome, IfNone, OnOk, OnErr};

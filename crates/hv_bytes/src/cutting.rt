@@ -1,4 +1,17 @@
 //! Limits of lines and files, and the lines of an input, cut one by one.
+//!
+//! Each reader's answer is stated over the pieces of a file: its lines in order, up to the first
+//! that is long, which is a piece of its own kind and the last. So a line among the pieces is
+//! within the limits, and that need not be said besides.
+//!
+//! An input ends once: a read of 0 bytes is its end, and nothing is read after it. Where no bytes
+//! are known, as of a terminal or a pipe, such a read is all that says where the input ends, and
+//! bytes that come later aren't of it: so a last line without an LF isn't followed by a wait for
+//! more. Where a source says what is left, a read gives 0 bytes exactly where nothing is, and it is
+//! proved that nothing is left where an end is found. So as long as nothing else is done with the
+//! source, a line comes exactly where the held bytes and those left are some. Only a source that is
+//! opened anew in between has bytes left behind an end: they are another input, for which other
+//! `Lines` are made, and in contracts no bytes are to come of the one that ended.
 
 ghost use Rattle.std.specs.Prelude.{◌≡◌, ◌+◌, ◌≤◌, ◌^◌, ◌↔◌, length, true, false, Ok, IsTrue};
 ghost use Rattle.std.specs.Prelude.{IsOk, IfOk, OnOk, OnErr, IsErrOf};

@@ -1,4 +1,5 @@
-//! The decimal that a line begins with, read in one pass.
+//! The decimal that a line begins with, read in one pass: its digits end where its field does, so
+//! no space is looked for first. No reader uses it yet.
 
 ghost use Rattle.std.specs.Prelude.{◌≡◌, ℕ, ◌<◌, ◌^◌, List, [], ◌∷◌, length, take, decimal};
 ghost use Rattle.std.specs.Prelude.{IfNone, IfSome, MatchOption};

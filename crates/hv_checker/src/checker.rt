@@ -1,4 +1,8 @@
 //! The checker: what it has accepted, and what it was fed.
+//!
+//! For a line it reserves in the table, adds to the store, and pushes, so running out of memory
+//! leaves the table and the store with the same lines. `feed` gives the reason of a refused piece,
+//! and `Checker::reason` lends it.
 
 ghost use Rattle.std.specs.Prelude.{◌≡◌, ◌≢◌, ◌<◌, ◌≤◌, ◌+◌, ◌^◌, ◌↔◌, ℕ, List, [], ◌∷◌, ◌++◌};
 ghost use Rattle.std.specs.Prelude.{IfOk, OnOk, OnErr, IsTrue, option_copied, option_map};

@@ -1,4 +1,9 @@
 //! Laws of judging, as contracts of functions that do nothing.
+//!
+//! A judgement is determined but for the state of a counterexample: any counterexample of the query
+//! that decides may be given. Soundness doesn't depend on the node file: with a yes no list of
+//! actions is a plan, whatever the nodes are; that every accepted line is true is said of the nodes
+//! that the file lists.
 
 ghost use Rattle.std.specs.Prelude.{◌≡◌, ◌↔◌, ◌++◌, ◌∷◌, [], List, Some};
 ghost use Rattle.std.specs.List.{All};

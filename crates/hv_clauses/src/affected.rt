@@ -1,5 +1,14 @@
 //! The choices that an effect can make false, where the set of the one negative operand is a
 //! positive operand at the other time.
+//!
+//! That is so for each statement that says that no action leads out of a set or into it. Only those
+//! clauses are tried of which the effect turns a literal against the operand: makes it false, if
+//! the operand is asked about after the action, or true, if before. They are found by the lists of
+//! where literals are, and one lemma says that no state fits any other choice. A clause of two
+//! whose other literal is known to be true is skipped where it is listed, without a look into it:
+//! no state that is as is known has it false. The negative operand is looked for beside the empty
+//! set: the union with it, which such proofs write on the right, changes neither the
+//! counterexamples nor the cost of a query.
 
 ghost use Rattle.std.specs.Prelude.{◌≡◌, ◌<◌, Some, length, slice_index, true};
 ghost use Rattle.std.specs.List.{Contains};

@@ -1,4 +1,9 @@
-//! The places of clauses, of which those that are told of are in front.
+//! The places of clauses, of which those that were named are first.
+//!
+//! The clauses that are true in a cube are before a list of all, so a literal costs the clauses in
+//! which it is, and to take literals back costs one write. Clauses that are true in each state are
+//! there from the beginning; a clause whose atoms neither rise nor fall is sorted for that. The
+//! list is made with the first literal, so a walk over states doesn't pay for it.
 
 ghost use Rattle.std.specs.Prelude.{◌≡◌, ◌<◌, ◌≤◌, ℕ, [], Bool, List, IfOk, true, length};
 ghost use Rattle.std.specs.Prelude.{slice_index_or, OnOk};

@@ -1,4 +1,20 @@
 //! Unit propagation that is driven by the trail, over clauses that are seen through an effect.
+//!
+//! A literal that was found true makes its opposite false, so only the clauses with that opposite
+//! are looked at again: one whose other literals are all false forces its last, and one whose
+//! literals are all false says that there is no state. Where an effect makes the opposite true,
+//! none of its clauses is looked at. The invariant: a clause that has the opposite of no literal
+//! that the trail has from the present place on is settled, that is, it is satisfied or has two
+//! unassigned literals. When the place has reached the end of the trail, all clauses are settled.
+//!
+//! Of many positive operands only those are gone through that have the literal that became false
+//! (`literal_owners`). From 16 operands on it is counted how many literals they have, each once in
+//! each. Once all operands were gone through for four times as many literals of the trail as an
+//! operand has on average, or where there are so many choices that this is to be expected, the
+//! places of the operands that have each literal are listed for this query, by rising atoms; so a
+//! query costs no more than some multiple of what its operands have. The lists may have places too
+//! many, and are read as such. `find` takes memory for them, some 30 bytes a literal at most; where
+//! there is none, and in `find_in`, all operands are gone through.
 
 ghost use Rattle.std.specs.Prelude.{◌≡◌, ◌<◌, ◌+◌, ℕ, Some, false, true, length, slice_index};
 ghost use Rattle.std.specs.List.{Contains};

@@ -1,4 +1,8 @@
-//! Kinds of clauses: which they are, and how knowledge is completed to a state.
+//! Kinds of clauses: which they are, how knowledge is completed to a state, and why that is right.
+//!
+//! A formula is generic over its kind, and a further kind changes no line of this crate. A kind
+//! that is another with the signs exchanged has that one's laws over the sign, as dual Horn beside
+//! Horn.
 
 ghost use Rattle.std.specs.Prelude.{◌≡◌, ◌↔◌, ℕ, List, IsTrue};
 ghost use Rattle.std.specs.declared.alloc.AllocError.{AllocError};

@@ -1,4 +1,9 @@
-//! What follows from clauses alone, worked out once.
+//! What follows from clauses alone, worked out once: that no state is in them, or the literals that
+//! they force.
+//!
+//! These are kept as literals by rising atoms, and not as a mark an atom, so that many small
+//! formulas over many atoms take memory by their size. What `unit_rounds` don't come to the end of
+//! is found out along a trail.
 
 ghost use Rattle.std.specs.Prelude.{◌≡◌, ◌<◌, ◌≤◌, ◌+◌, ◌^◌, ℕ, IfOk, None, true, false, length};
 ghost use Rattle.std.specs.Prelude.{[], List, Bool};

@@ -1,4 +1,6 @@
-//! The two ways in which knowledge is completed to a state.
+//! The two ways in which knowledge is completed to a state: a value for each open atom, or trials.
+//! The law of completion is about one clause, since a law of a trait may not range over conditions
+//! on states.
 
 /// How settled marks are completed to a state.
 #[derive(Clone, Copy, Debug, PartialEq, Eq)]

@@ -1,4 +1,9 @@
 //! A first look at the clauses of which an effect makes a literal false.
+//!
+//! Of the operand from which a query starts, any other clause says nothing more: the effect makes a
+//! literal of it true, or touches none of its atoms, and then it is settled as it was. These
+//! clauses are found by the lists of where literals are, and of a clause of two the other literal
+//! is made true where it is listed. Before the action there are none.
 
 ghost use Rattle.std.specs.Prelude.{◌≡◌, ◌<◌, ℕ, Bool, Some, false, true, not, length};
 ghost use Rattle.std.specs.List.{Contains};

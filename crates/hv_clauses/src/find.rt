@@ -1,4 +1,15 @@
 //! The search for a counterexample to a query.
+//!
+//! A query with one negative operand, whose set is its one positive operand at the other time,
+//! costs what its action and its trail touch, and neither the number of atoms nor that of clauses,
+//! but for the one state that is written where there is a counterexample. Each further positive set
+//! has each of its clauses looked at once for each query; the initial state as a positive operand
+//! makes each atom known.
+//!
+//! `find` makes the scratch ready for the atoms of the task and for the places that are remembered
+//! of the clauses of the positive operands, which a formula of short clauses has none of. The
+//! condition of `find_in` asks for all the capacity that a query may need by its numbers of
+//! operands and clauses, so that a body with counters can come under the same contract.
 
 ghost use Rattle.std.specs.Prelude.{◌≡◌, ◌<◌, ◌≤◌, [], Bool, List, IfSome, false, true, length};
 ghost use Rattle.std.specs.Prelude.{MatchOption};

@@ -1,4 +1,6 @@
 //! Formulas of one kind of clauses.
+//!
+//! A clause is kept as it is given, with repeated literals and tautologies, which count in a cost.
 
 ghost use Rattle.std.specs.Prelude.{◌≡◌, ◌<◌, ◌≤◌, ◌+◌, ◌^◌, ⊤, length, min, drop, IfOk, IfErr};
 ghost use Rattle.std.specs.Prelude.{MatchOption};

@@ -1,5 +1,10 @@
 //! The question whether some state of a formula is in a cube that is made literal by literal. What
 //! follows from what is assumed is on a trail, and is forgotten when it is taken back.
+//!
+//! The trail is in rows of its own, while a search takes those of the scratch and no memory: what
+//! is in rows that are lent isn't known once the loan is over, and the question must know it from
+//! call to call. Beside each literal it keeps how long the trail was before, so that taking back is
+//! one write.
 
 ghost use Rattle.std.specs.Prelude.{◌≡◌, ◌<◌, [], Bool, List, IfOk, false, true, length, not};
 ghost use Rattle.hv_sets.specs.Truth.{in_clauses};

@@ -1,4 +1,8 @@
 //! Stores of formulas.
+//!
+//! The trait of a store says which queries it answers: those that are ready, and, for a store that
+//! wants one, that have an anchor. Besides that, only what exceeding the budget means is left to
+//! each family, since the cost of a diagram is of another form.
 
 ghost use Rattle.std.specs.Prelude.{◌≡◌, ◌<◌, ◌+◌, ◌++◌, ◌∷◌, [], ℕ, length, slice_get, Some, IfOk};
 ghost use Rattle.std.specs.Prelude.{IfSome, OnErr};

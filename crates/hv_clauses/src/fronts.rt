@@ -1,6 +1,19 @@
-//! Choices of one clause of each negative operand, gone through from the last operand to the
-//! first: where no state fits the clauses chosen of the last operands, all choices with these are
-//! left out.
+//! Choices of one clause of each negative operand, gone through from the last operand to the first:
+//! where no state fits the clauses chosen of the last operands, all choices with these are left
+//! out.
+//!
+//! The choices are the numbers below the query's cost: the digits of a number, each to the base of
+//! its operand's count of clauses, name the clauses, and the digit of the first operand changes
+//! fastest. A chosen clause's literals are made false beside what is known, and all that follows is
+//! put on the trail, before a clause of the next operand is chosen. Where a clause is refuted so,
+//! no state fits any number with these digits, and the whole block of them is skipped; what is
+//! known is as before, and the next clause of the same operand is tried. When each clause of an
+//! operand is refuted, the search goes on behind the block, from what was known without a choice.
+//! No digit and no place on the trail is stored, so this takes no memory: the operands may be as
+//! many as 65,003, and a stack of them would cost memory or depth. The invariant is that no number
+//! below the present one fits any state, and that what is known is what the digits of the present
+//! one say from an operand on. So a query costs at most a step for each refuted block, and one for
+//! each operand each time that the search goes on behind one.
 
 ghost use Rattle.std.specs.Prelude.{◌≡◌, ◌<◌, ◌≤◌, ◌+◌, ◌*◌, ◌/◌, ◌%◌, ◌^◌, ℕ, Bool, List, Some};
 ghost use Rattle.std.specs.Prelude.{MatchOption, false, true, length, slice_get};

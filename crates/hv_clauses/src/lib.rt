@@ -1,4 +1,33 @@
 //! Sets of states that are given by clauses, and exact answers about them by unit propagation.
+//!
+//! One crate decides all kinds of clauses: Horn, dual Horn and 2CNF formulas differ only in how an
+//! assignment to which propagation has come to its end is completed to a state. So propagation, the
+//! effect of actions, choices, costs, walks and stores are proved once.
+//!
+//! The way of a query, whether some state has all clauses of some sets true and is a counterexample
+//! to others:
+//!
+//! - `formulas` takes the query and `problem` reads its operands, through the `effect` of the
+//!   action where they are asked about after it. `find` searches.
+//! - `start` and `roots` put what is known at first on the `trail`: the `closure` of one positive
+//!   operand, the action's `precondition`, the initial state and the goal. `falsified` finds the
+//!   clauses of that operand to which the action gives a false literal.
+//! - `chase` propagates: `occurrences` says which clauses have a literal that became false,
+//!   `partners` what follows in clauses of two literals, and `watched` looks into longer ones.
+//!   `literal_owners` says, in a query with many positive operands, which of them have the literal.
+//! - `choices`, `refuted`, `affected` and `fronts` go through the choices of one clause of each
+//!   negative operand.
+//! - `propagation` completes the assignment to a state where none of this refutes it, as the kind
+//!   says (`clause_kind`, `completion`).
+//!
+//! The way of an inclusion: `clause_walk` goes through the states outside a formula, in the order
+//! of `ranking`; `formula_ask` answers about a formula and `rest_ask` about what is outside it,
+//! literal by literal. For listed states `listed_ask` asks `mates`, which is made at the second
+//! state, since for one state it costs more than to try all clauses: clauses of one or two literals
+//! of one sign, of the sign that has more of them, are rows of bits by atom, if these take at most
+//! eight words for each such clause; without rows, and where each clause is short, those with a
+//! negative literal are found by the atoms that are held; the rest is tried one by one. The sign is
+//! a parameter, with one proof.
 #![tactic(auto)]
 
 mod affected;

@@ -1,4 +1,10 @@
-//! Where the literals of clauses stand.
+//! Where the literals of clauses are.
+//!
+//! Occurrences are kept by sign: a literal on the trail can only make its opposite false, so the
+//! clauses that have the literal itself need no second look, and in a formula of negative pairs no
+//! literal that becomes false is followed at all. For each sign the places of the clauses are in
+//! one list by rising atoms, made once, eight bytes a literal, with where those of each atom begin
+//! (`rows`).
 
 ghost use Rattle.std.specs.Prelude.{◌≡◌, ◌≤◌, ◌^◌, List, IfOk, length, min, slice_range};
 ghost use Rattle.std.specs.List.{All};

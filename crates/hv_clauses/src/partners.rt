@@ -1,4 +1,11 @@
 //! The literals that are beside others in clauses of two, so that these need not be looked into.
+//!
+//! The other literal of a clause of two is beside each of its literals, in a list of its own that
+//! goes with the places of the clauses, as far as the last of these. So to follow a literal reads
+//! that list alone, four bytes a clause and in order, and neither the clause nor its place. A
+//! choice that the effect touches is refuted by that list alone too, where the other literal is
+//! known to be true. One number denotes no literal; it is also that of the last atom that there can
+//! be, so a clause of two with that literal is looked into like a longer one.
 
 ghost use Rattle.std.specs.Prelude.{◌≡◌, ◌<◌, ◌≤◌, ◌⊎◌, ◌^◌, ◌∷◌, ℕ, [], Some, length, slice_index};
 ghost use Rattle.std.specs.Prelude.{IfOk, IfSome, MatchOption, OnOk};

@@ -1,4 +1,12 @@
 //! From what is known to states: propagation to its end, and completion of what is left open.
+//!
+//! A Horn formula is met by leaving out each atom of which nothing is known, and a dual Horn
+//! formula by putting each such atom in. For clauses of two literals each unassigned atom is tried
+//! with one value and then the other, each time with all that follows; a trial that is refuted is
+//! taken back by shortening the trail, and where both are refuted there is no state, since a value
+//! that isn't refuted never has to be taken back. This needs memory for a few marks an atom, where
+//! a table of which literal follows from which has a place for each pair of literals. A state is
+//! written only at the end, once there is one.
 
 ghost use Rattle.std.specs.Prelude.{◌≡◌, ◌<◌, ◌≤◌, ℕ, Bool, List, None, Some, false, true, length};
 ghost use Rattle.std.specs.Prelude.{IfSome, is_some};

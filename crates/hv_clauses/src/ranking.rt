@@ -1,5 +1,15 @@
 //! The order in which a walk takes clauses, and their literals: codes of the places, which rise as
 //! the walk goes.
+//!
+//! A formula is walked over by its clauses in the order of their first two literals, and the
+//! literals of each in one order too, so that clauses that were shuffled have the prefixes of
+//! sorted ones. Both orders are by one function of a literal, which is its atom, or that one's
+//! place in the order of a diagram, and its sign. Where each order serves, since a formula is asked
+//! (it says so by places of no atom), literals that are in more than half of the clauses come
+//! first, 16 at most, and the clauses go by which of these they have: so what follows from what
+//! clauses have in common is found out once, and not for each clause anew. A clause of more than
+//! 2^28 literals is answered as out of memory when it is walked over, since a code has 28 bits for
+//! a place; that many clauses exceed every budget before.
 
 ghost use Rattle.std.specs.Prelude.{◌≡◌, ◌<◌, ◌≤◌, length, IfOk, OnOk};
 ghost use Rattle.hv_clauses.specs.Walked.{OrdersUpto, place_in};

@@ -1,4 +1,6 @@
-//! Choices of clauses of which it can be told at once that no state fits them.
+//! Choices of clauses of which it can be said at once that no state fits them: the clause is known
+//! to be true, or its set is a positive operand at the other time and the effect turns no literal
+//! of it.
 
 ghost use Rattle.std.specs.Prelude.{◌≡◌, ◌<◌, ◌≤◌, [], ℕ, Some, true, false, not, length};
 ghost use Rattle.std.specs.Prelude.{slice_get, List, Bool, IfSome};

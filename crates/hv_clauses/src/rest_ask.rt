@@ -1,5 +1,10 @@
 //! The question about the states outside a formula along a path: the clauses that are true in the
 //! whole cube are kept apart.
+//!
+//! It is asked anew for each cube in which some clause may be false. It is wrapped around any
+//! question, as that about the prefixes of a walk in a decision diagram is, and only adds a
+//! refutation; so one direction alone is proved of it: no state that is looked for is in a prefix
+//! that is refuted. What is found, and that it is exact, stays with the question that is wrapped.
 
 ghost use Rattle.std.specs.Prelude.{◌≡◌, ◌<◌, ◌≤◌, ◌&&◌, ◌||◌, [], Bool, List, IfOk, OnOk, true};
 ghost use Rattle.std.specs.Prelude.{false, length, nat_lt, not};

@@ -1,6 +1,16 @@
 //! Rows of numbers, one for each key: all numbers in one list, by rising keys, and where those of
 //! each key begin. On the way there a key and a number have a code: the key times 2^32 plus the
 //! number.
+//!
+//! The codes are sorted and then stripped to the numbers where they are, so making rows takes no
+//! second list.
+//!
+//! Numbers and ends have 32 bits, so a formula of more than 2^32 clauses, literals or implications
+//! is refused as out of memory. Nothing that the program reads or writes comes near: a formula is
+//! one line, of at most 16,777,216 bytes, in which a clause, a literal and an atom of a state take
+//! two bytes at least, their space among them, and two implications four; so each of these numbers
+//! is below 8,388,608. The largest formula that is written has 524,800 clauses of two literals, and
+//! a log has at most 8,388,608 bytes.
 
 ghost use Rattle.std.specs.Prelude.{◌≡◌, ◌+◌, ◌↔◌, ℕ, List, length, map, true, IfOk, OnOk};
 ghost use Rattle.std.specs.List.{Contains};

@@ -1,4 +1,11 @@
 //! Where the search for a counterexample starts: at what follows from one positive operand alone.
+//!
+//! It is the positive operand that is a formula with the most clauses, at whichever time it is
+//! asked about. What it forces lies under the trail as it is, without a copy. Where it is asked
+//! about after the action, its literals are true in the state after, and so in the state before,
+//! but for those whose atoms the action touches: these are read as if nothing were known, which
+//! costs each read two more searches of the effect's lists. Where the action makes a literal false
+//! that the operand forces, no state is left, and no clause is looked at.
 
 ghost use Rattle.std.specs.Prelude.{◌≡◌, ◌<◌, [], Bool, List, MatchOption, IfSome, None, length};
 ghost use Rattle.std.specs.List.{All, Contains};

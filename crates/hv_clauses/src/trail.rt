@@ -1,4 +1,8 @@
 //! What is known of the atoms of a task, and in which order it was found out.
+//!
+//! The literals that are known to be true are a trail, in rows that the `Scratch` lends. An atom's
+//! place in the trail and the entry of the trail at that place confirm each other, so the rows need
+//! no clearing, whatever is in them, and to forget the latest literals is to shorten the trail.
 
 ghost use Rattle.std.specs.Prelude.{◌≡◌, ◌<◌, ◌≤◌, ◌++◌, ◌^◌, [], ◌∷◌, None, Some, length, take};
 ghost use Rattle.std.specs.Prelude.{IfOk, slice_get};

@@ -1,5 +1,10 @@
 //! Unit propagation over clauses that are few beside the atoms: in rounds, and without rows that
 //! are as long as there are atoms.
+//!
+//! Each clause is looked at, round by round, beside a cube of what was found out, as long as no
+//! more literals are read than there are atoms. So a formula of one clause over many atoms costs
+//! what its clause has, and any other at most about twice what rows as long as there are atoms
+//! cost.
 
 ghost use Rattle.std.specs.Prelude.{◌≡◌, ◌<◌, [], length, slice_index_or, IfOk, OnOk};
 ghost use Rattle.std.specs.List.Sorted.{IsStrictlyIncreasing};

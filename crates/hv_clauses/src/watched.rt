@@ -1,4 +1,16 @@
 //! Looks into a clause, each from the places on at which an earlier one ended.
+//!
+//! A look into a clause of more than two literals begins at two places that are remembered for it,
+//! those of a true literal or of two unassigned ones. It reads the literal at the first and then
+//! goes round from the second, so a look costs two reads while both are unassigned; what it skips
+//! is false, and stays so until it is taken back, so a clause of n literals costs some 2 * n reads
+//! in one chase, however often it is looked into. The places are in a row that the `Scratch` lends,
+//! and whatever is in it is right: a place past the end is skipped, any other only says where a
+//! look begins, and no answer depends on it. So the row is neither cleared nor taken back, the
+//! operands of a query share it (where two of them have a long clause at the same place, the one
+//! may send the looks into the other back to its beginning), and a row that is too short costs
+//! nothing but time. There is no counter of unassigned literals, which would have to be cleared for
+//! each query and taken back for each choice.
 
 ghost use Rattle.std.specs.Prelude.{◌<◌, ◌≤◌, [], ◌∷◌, length, slice_index_or};
 ghost use Rattle.hv_sets.specs.declared.literal.Literal.{Literal as LiteralOf};

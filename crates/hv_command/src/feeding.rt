@@ -1,4 +1,11 @@
 //! A proof is judged line by line, as it is read.
+//!
+//! Each line is read into a `Line`, tested, and put into the table, up to the first that is
+//! refused. What is in memory is the accepted lines, one block, the present line, and the line that
+//! is being put together where it crosses blocks. The formula of an `e` line is put into the store
+//! of its family when the line is accepted; its clauses or listed states occur once, and line and
+//! store both own them. Reading and cutting are linear in the bytes, and a rule costs a few
+//! look-ups.
 
 ghost use Rattle.std.specs.Prelude.{◌≡◌, ◌≢◌, ◌≤◌, [], IfSome, IsErrOf, IsTrue, OnOk};
 ghost use Rattle.hv_bytes.specs.Devices.{Rose};

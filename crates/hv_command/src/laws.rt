@@ -1,4 +1,8 @@
 //! What is true of the answers of jobs, whatever program gives them.
+//!
+//! That a job has one answer says nothing of the lines of a replay: what a pruner writes is its own
+//! choice, so the law determines the status, and the text wherever it isn't such a proof. The laws
+//! take pruners, since a contract can't speak of every set of states.
 
 ghost use Rattle.std.specs.Prelude.{◌≡◌, ℕ, List, Option};
 ghost use Rattle.std.specs.List.{Any};

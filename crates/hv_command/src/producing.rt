@@ -1,4 +1,9 @@
 //! The job `produce`: a proof that a task has no plan.
+//!
+//! A draft is asked for, and its lines are written: the formula is made from the least set, or of
+//! the greatest trap, and the lines are put into the draft under one condition, that each is good
+//! after those before it. The proof of that condition is about the set alone, so no proof is
+//! checked while it is written.
 
 ghost use Rattle.std.specs.Prelude.{◌≡◌, ◌≤◌, IfOk, IfSome, IsErrOf, IsTrue, reverse};
 ghost use Rattle.hv_bytes.specs.Devices.{Rose};

@@ -1,4 +1,5 @@
-//! The jobs `check`, `explain` and `upgrade`: a task, then a proof of it.
+//! The jobs `check`, `explain` and `upgrade`: a task, then a proof of it. They differ only in what
+//! is answered to a proof that is accepted.
 
 ghost use Rattle.std.specs.Prelude.{◌≡◌, ◌≢◌, ◌≤◌, List, [], None, Some, IfOk, IfSome};
 ghost use Rattle.std.specs.Prelude.{IsErrOf, IsSome, IsTrue, MatchResult, option_map, reverse};

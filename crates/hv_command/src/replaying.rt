@@ -1,4 +1,7 @@
 //! The job `replay`: the log of a search becomes a proof that a task has no plan.
+//!
+//! The log is followed before anything is written; then the lines come. `main` makes the three
+//! pruners and hands them to `run`, which knows nothing of them but the trait.
 
 ghost use Rattle.std.specs.Prelude.{◌≡◌, ◌≤◌, IfOk, IfSome, IsErrOf, IsTrue};
 ghost use Rattle.std.specs.Prelude.{MatchResult};

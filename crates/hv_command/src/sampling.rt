@@ -1,5 +1,11 @@
 //! The job `sample`: a task made from a number of rooms, whose two proofs are made, written, and
-//! checked from the bytes that were written.
+//! checked from the bytes that were written, as `check` judges a file, from a source in memory.
+//!
+//! The numbers that it prints are counted in the drafts, and the word `unsolvable` is the checker's
+//! answer, though its clause would be met by printing a function of the number of rooms: so the
+//! command shows on any machine that the producers and the checker work. The text is given in
+//! closed form, and that it counts the clauses of the formula is a lemma of the function that
+//! prints it: the pairs which are reached are each room with itself.
 
 ghost use Rattle.std.specs.Prelude.{◌≡◌, ◌+◌, ◌++◌, ◌∷◌, [], List, IfOk, IsErrOf, OnOk, codes};
 ghost use Rattle.std.specs.Prelude.{decimal, length};

@@ -1,4 +1,8 @@
 //! Which lines are needed.
+//!
+//! A premise is before the line that it is one of. So one pass over the `k` lines from the last to
+//! the first is enough: the first conclusion is marked, and a marked line marks its premises. The
+//! text is written in one pass over all lines (`explained`).
 
 ghost use Rattle.std.specs.Prelude.{◌≡◌, ◌<◌, ◌+◌, IfOk, IfSome, MatchOption, length};
 ghost use Rattle.std.specs.List.{All};

@@ -1,4 +1,11 @@
-//! Codes of sets of atoms, by which listed states are found.
+//! Codes of sets of atoms, by which listed states are found: the sum, in 64 bits, of a mixed number
+//! for each atom under a key. So the code of an action's result follows from the code of the state
+//! and the effect alone, and no result is built.
+//!
+//! Prepared files stay harmless. States with equal sums can be computed, so a set is entered in
+//! haste by a fixed key: where two different states have one code, the set is entered once more by
+//! a key that all its listed states give together, so that no state can be chosen for it. Building
+//! costs twice at most.
 
 ghost use Rattle.std.specs.Prelude.{◌≡◌, ◌<◌, ◌+◌, ◌%◌, ◌^◌, ℕ, Bool, true, false};
 ghost use Rattle.std.specs.List.Sorted.{IsStrictlyIncreasing};

@@ -1,4 +1,9 @@
 //! How the states of all sets are coded.
+//!
+//! The states of all sets of a store are entered one set after another, and a key from what came
+//! before could be met by what comes later: they are coded by sums until two of them have one code,
+//! or a set has its second key, and then all are entered anew by SipHashes; equal ones of these are
+//! only chained.
 
 ghost use Rattle.std.specs.Prelude.{ℕ, Bool};
 ghost use Rattle.hv_explicit.specs.Codes.{IsBelow};

@@ -1,4 +1,10 @@
 //! Sets of listed states.
+//!
+//! A listed state is kept once: a set has the list of its states, and an index (`places`) of codes
+//! (`codes`). A hit is confirmed on the atoms, and a result is compared with a listed state through
+//! the effect. Only the first of equal states is entered, in the set and in the store, and the
+//! search goes through these alone, so repeats cost one look-up each. The cost of a query stays the
+//! length of the list.
 
 ghost use Rattle.std.specs.Prelude.{◌≡◌, ◌<◌, ◌-◌, ◌^◌, ℕ, Bool, List, [], length, map, min, drop};
 ghost use Rattle.std.specs.Prelude.{slice_index_or, IsTrue, IfOk, IfSome, OnOk};

@@ -1,4 +1,8 @@
 //! Explicit sets: sets of states that are listed one by one.
+//!
+//! A state takes a bit for each atom of its task while it is worked on. A listed state takes four
+//! bytes for each of its atoms and four for its end; where no earlier one is the same, some 20 to
+//! 30 to be found by its code, and once more some 25 where its set is in a store of more than four.
 #![tactic(auto)]
 
 mod atom_columns;

@@ -1,4 +1,11 @@
-//! Places in a list of codes, found by the code.
+//! Places in a list of codes, found by the code: chains lead from a slot to the places whose codes
+//! fall into it. Nothing is known here of states: the contract speaks of a list of numbers.
+//!
+//! To fall into one slot, states need codes whose product with the slot's factor agrees; where a
+//! place comes behind 64 others with other codes, all places are linked again by the next factor,
+//! at most 16 times between two doublings of the slots, so linking stays linear. Places have 32
+//! bits: more than 4,294,967,295 states in one set are answered as out of memory; a line has fewer
+//! than 8,388,608.
 
 ghost use Rattle.std.specs.Prelude.{◌≡◌, ◌<◌, ◌≤◌, ◌-◌, ◌+◌, ◌^◌, ◌++◌, ◌∷◌, ℕ, [], length};
 ghost use Rattle.std.specs.Prelude.{slice_index, IfOk, OnOk, OnErr};

@@ -1,4 +1,12 @@
 //! The search through the states of the anchor.
+//!
+//! It goes through each different state of the anchor, or, where the query has an action with a
+//! precondition and the anchor has `holders`, only through those that hold the precondition: where
+//! each of its atoms has a column, the flags that are set in all, 64 states a word; else the row of
+//! the rarest atom, less what isn't in the columns of the others or in rows that aren't much
+//! longer. Each of these costs the search for the precondition's atoms in its list, and then a
+//! look-up for each operand: the code of a result costs the effect, and a hit is compared atom by
+//! atom. The counterexample alone is written as a state.
 
 ghost use Rattle.std.specs.Prelude.{◌≡◌, ◌<◌, ◌↔◌, ◌∷◌, ℕ, Bool, List, [], length, slice_index_or};
 ghost use Rattle.std.specs.Prelude.{slice_get, None, Some, false, true, IsTrue, IfOk, IfSome};

@@ -1,4 +1,6 @@
-//! Sets of atoms that are looked for among listed states.
+//! Sets of atoms that are looked for among listed states. Each gives its own codes and compares
+//! itself with a list, so that a list, a result and any other such set do it in the way that is
+//! quickest for each.
 
 ghost use Rattle.std.specs.Prelude.{◌≡◌, ◌-◌, ◌^◌, ◌↔◌, ℕ, Bool, IsTrue};
 ghost use Rattle.std.specs.List.Sorted.{IsStrictlyIncreasing};

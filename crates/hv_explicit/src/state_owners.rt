@@ -1,4 +1,12 @@
 //! Which sets list a state.
+//!
+//! A query with many negative operands asks the sets that list the state: the entries under its
+//! code, each tested by its own set; after as many entries as there are operands it goes through
+//! the operands instead. Entries are complete and need not be sound, so an `add` that ran out of
+//! memory leaves nothing to undo. While a store has at most four sets, none of their states is
+//! entered: going through the sets is no dearer. The number of sets is bounded by nothing but
+//! memory; where all sets together have more states than 32 bits count, such a search goes through
+//! the operands.
 
 ghost use Rattle.std.specs.Prelude.{◌≡◌, ◌<◌, ◌≤◌, ◌^◌, ◌++◌, ◌∷◌, ◌↔◌, ℕ, Bool, List, [], length};
 ghost use Rattle.std.specs.Prelude.{slice_index_or, true, IsTrue, IfOk, IfSome, OnOk, OnErr};

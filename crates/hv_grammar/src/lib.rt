@@ -18,6 +18,12 @@
 //!    invariant is `Goes`, with a law for each repetition.
 //! 10. A file is opened by `open` and read through a `Reader`; the answer is what comes of all its
 //!     pieces (`IsReadAs`).
+//!
+//! The place of a reader in its file is one value, that of a `Source`; `Reader` borrows the source
+//! and the cutter of lines, since nothing is known, once a value that owns memory is let go, of
+//! what it had borrowed. Of a task text, a node file and a log it is said beside the grammar which
+//! lines are the text of a value, with a law both ways, and of a plan file in plain words what
+//! comes of each.
 #![tactic(auto)]
 
 pub mod fault;

@@ -1,4 +1,19 @@
 //! Drafts of proofs: tables of good lines, with space for more.
+//!
+//! A draft keeps its own number of spare lines, beside the capacity of its table, since a vector
+//! may have taken more memory than was asked for: so "one less" can be said of each line that is
+//! put. A line is put under one condition, that it is good and short; whole blocks are made as
+//! lists first and put under one condition too, so all memory is taken before the first line. A
+//! draft always begins with the five lines of every draft, which is part of what a `Draft` is: so a
+//! block, which refers to them, is good after any good draft.
+//!
+//! Basic lines of drafts are good by their leaves, their cost and their truth: what a statement
+//! asks is read off the formulas and constants that its literals are of, each with its sign, and a
+//! true statement has no counterexample. So no writer of proofs speaks of counterexamples. The
+//! lines which show that a set is dead are one block, whether the step goes forwards from a formula
+//! or backwards from the one that is negated: a writer shows of its formula that the states in
+//! which the clauses have one truth lead only to each other, and that none of them is a goal state;
+//! and its own lines before the block are good.
 
 ghost use Rattle.std.specs.Prelude.{◌≡◌, ◌<◌, ◌≤◌, ◌+◌, ◌^◌, ◌∷◌, [], length, IfOk, OnOk, OnErr};
 ghost use Rattle.hv_lines.specs.Drafts.{IsGoodNext, IsGoodTable, conclusion, id_of, most_lines};

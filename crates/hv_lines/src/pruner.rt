@@ -1,4 +1,11 @@
 //! Pruners: they show of states that these are dead, each by a line of a draft.
+//!
+//! What a pruner covers and when its notes fit are members of the trait, with laws, and its notes
+//! aren't: a caller asks a boxed pruner for lines and never looks at notes. What the notes of the
+//! three pruners are is in the contract of their own call `answer`, which reserves capacity for the
+//! whole block and builds its lines before the first is put, so running out of memory leaves draft
+//! and notes as they were. What is after an answer is shown once, for notes of any kind of set that
+//! stays of its kind when lines are put.
 
 ghost use Rattle.std.specs.Prelude.{◌≡◌, ◌↔◌, Bool, List, IsTrue, IfOk, IfSome, IfNone, OnErr};
 ghost use Rattle.std.specs.Prelude.{is_some};

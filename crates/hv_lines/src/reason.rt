@@ -1,4 +1,10 @@
 //! Why a line isn't good, and counterexamples.
+//!
+//! The tests of a line are in one list, each with a rank: a line is good where it meets each test,
+//! and its reason is that of the first test that it fails. So a line has one reason by the form of
+//! the definition, but for the state that it names: that a reason is a test's is a relation, not a
+//! function, since the last one names a counterexample. A copy of a reason may be out of memory, so
+//! it isn't copied for nothing.
 
 ghost use Rattle.std.specs.Prelude.{◌≡◌, IfOk};
 

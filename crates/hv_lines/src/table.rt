@@ -1,4 +1,7 @@
 //! The lines of a proof in order, found by their letters and identifiers.
+//!
+//! A table can take its memory first (`reserve`): a `push` where there is capacity succeeds. So a
+//! store beside the table can reserve, add and push, and the two never come apart.
 
 ghost use Rattle.std.specs.Prelude.{◌≡◌, ◌<◌, ◌≤◌, ◌+◌, ◌^◌, min, ◌↔◌, ◌++◌, [], ◌∷◌, length};
 ghost use Rattle.std.specs.Prelude.{reverse, slice_get, vec_len, Some, IsTrue, OnOk, OnErr};

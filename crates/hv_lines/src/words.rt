@@ -1,5 +1,9 @@
-//! The table of words: how each is spelled, after which statements it may be, how many premises
-//! it has, and whether it is a rule. Whoever reads, writes or tests a word looks it up here.
+//! The table of words: how each is spelled, after which statements it may be, how many premises it
+//! has, and whether it is a rule. Whoever reads, writes or tests a word looks it up here, and so do
+//! the definitions of the spelling and of a good line (`word_row`).
+//!
+//! That every word is found by its spelling is one line a word in the proofs; that no two words are
+//! spelled alike, and that a spelling is no other field, follows from it.
 
 ghost use Rattle.std.specs.Prelude.{◌≡◌, ◌≤◌, MatchOption, IfSome};
 ghost use Rattle.std.specs.List.{All};

@@ -1,4 +1,8 @@
-//! Questions about the states of a cube that is made literal by literal.
+//! Questions about the states of a cube that is made literal by literal, or about one listed state.
+//!
+//! What is assumed is no longer than a prefix that is refuted: the question says whether a state
+//! may be left, and assumes nothing where none is, so it keeps one flag and no depth of the
+//! refutation.
 
 ghost use Rattle.std.specs.Prelude.{◌≡◌, ◌<◌, ◌++◌, ◌∷◌, [], ℕ, Bool, true, false, List, length};
 ghost use Rattle.std.specs.Prelude.{take, IfOk, OnOk};

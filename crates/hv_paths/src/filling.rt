@@ -1,4 +1,5 @@
-//! Cubes of literals in any order.
+//! Cubes of literals in any order. That an entry of a list is another's is confirmed by the list
+//! itself, so no row is cleared from cube to cube.
 
 ghost use Rattle.std.specs.Prelude.{◌≡◌, ℕ, Bool, List, true, false, IfOk};
 ghost use Rattle.hv_sets.specs.Cubes.{SpeakBelow};

@@ -1,4 +1,8 @@
 //! A walk and a question, step by step.
+//!
+//! Of a cube only the literals that aren't those of the cube before are taken back and assumed.
+//! Once no state that is looked for can be left, the rest of a cube is not assumed, and a further
+//! cube with that prefix is skipped.
 
 ghost use Rattle.std.specs.Prelude.{◌≡◌, ◌≤◌, ℕ, Bool, true, false, [], List, length, take, IfOk};
 ghost use Rattle.std.specs.Prelude.{OnOk};

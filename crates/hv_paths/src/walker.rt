@@ -1,4 +1,16 @@
 //! Walks over cubes.
+//!
+//! The walk says how many literals of a cube are those of the cube before, in the order in which
+//! they are. The order of the literals is the walk's own, and not that of the atoms, so that what
+//! two paths have in common is a prefix of both. A question may say in which order of the atoms it
+//! answers best, and a walk that may choose goes by it; no promise rests on it, only how long an
+//! answer takes.
+//!
+//! A walk may occur at a state: a listed state is handed over as its atoms and as a `State`, and is
+//! never written as a cube of as many literals as there are atoms. What is left of a walk is
+//! reported by its states, and not by its cubes: a step takes a cube and leaves cubes that have,
+//! with it, the states that were left (`LeavesRest`). So a walk may write the literals of a cube in
+//! the order that serves the question, with no promise about that order.
 
 ghost use Rattle.std.specs.Prelude.{ℕ, List, IfOk, IfSome, ◌≡◌};
 ghost use Rattle.hv_sets.specs.declared.literal.Literal.{Literal};

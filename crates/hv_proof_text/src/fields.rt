@@ -1,4 +1,7 @@
 //! The fields of a line, one after the other, and the tokens that they denote.
+//!
+//! A number is read in one pass, over its digits up to the space behind them. Only a field that is
+//! a letter or a word is split off before it is looked at.
 
 ghost use Rattle.std.specs.Prelude.{◌≡◌, ◌<◌, ◌≤◌, ◌^◌, ℕ, ◌∷◌, true, false, decimal, length, List};
 ghost use Rattle.std.specs.Prelude.{MatchOption, Ok, codes};

@@ -1,5 +1,8 @@
-//! Lists in a line: actions, clauses and states, each with its end. Their fields are taken one by
-//! one, so that the tokens of a list never are in memory together.
+//! Lists in a line: actions, clauses and states, each with its end.
+//!
+//! Their fields are taken one by one, so that the tokens of a list never are in memory together: a
+//! clause, a state or a number is put where it belongs as soon as its field is read. Tokens are
+//! gathered for the other lines alone, of which a well-formed one has at most nine.
 
 ghost use Rattle.std.specs.Prelude.{◌≡◌, ◌<◌, ◌^◌, ℕ, List, [], ◌∷◌, ◌++◌, MatchOption, IfOk, OnOk};
 ghost use Rattle.std.specs.Prelude.{true, false, None, Ok, Some};

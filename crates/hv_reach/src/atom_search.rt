@@ -1,4 +1,8 @@
 //! The atoms that are reached from a state.
+//!
+//! Each action is under each atom of its precondition (`index`), and keeps the place of the first
+//! one that isn't held (`passed`): no counts. When one of its atoms is taken up, it goes on from
+//! that place. So each action goes over its precondition once, and the work is linear in the task.
 
 ghost use Rattle.std.specs.Prelude.{◌≡◌, ◌<◌, ◌≤◌, ◌↔◌, ◌⊎◌, ℕ, Bool, true, false, length, Some};
 ghost use Rattle.std.specs.Prelude.{IfOk, OnOk, slice_get, slice_index};

@@ -1,4 +1,6 @@
-//! Columns of a block of rows: for each atom, at which places of the block the row has it.
+//! Columns of a block of rows: for each atom, at which places of the block the row has it. A block
+//! has 512 rows, each column being a state of 512 "atoms", so that meeting columns and finding the
+//! first flag are the proved calls of states, and nothing is proved of words anew.
 
 ghost use Rattle.std.specs.Prelude.{◌≡◌, ◌<◌, ℕ, [], true, false, length, IfOk, slice_index_or};
 ghost use Rattle.hv_task.specs.State.{AreBelow, has_atom};

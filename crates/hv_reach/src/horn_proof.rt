@@ -1,4 +1,6 @@
-//! Proofs by a Horn formula whose states are dead.
+//! Proofs by a Horn formula whose states are dead. The formula is a function of a test for
+//! "reached", and the proof says that the test says what is reached; so the lines are determined,
+//! and the code may keep its sets in any form.
 
 ghost use Rattle.std.specs.Prelude.{◌≡◌, ◌<◌, ◌+◌, ◌^◌, IfOk};
 ghost use Rattle.hv_lines.specs.Drafts.{IsGoodTable};

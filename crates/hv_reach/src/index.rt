@@ -1,4 +1,6 @@
-//! Which actions ask for an atom.
+//! Which actions ask for an atom. A pruner makes the index of its task at the first question after
+//! it was begun, and keeps it: what fits says whose index it is. Once it was asked, a pruner fits
+//! drafts of that task alone, until it is begun.
 
 ghost use Rattle.std.specs.Prelude.{◌≡◌, ◌<◌, ◌+◌, ℕ, length, IfOk, OnOk};
 ghost use Rattle.std.specs.List.{All};

@@ -1,5 +1,13 @@
 //! What was reached for each note, kept by atom too, so that the first note is found that has all
 //! atoms of a state.
+//!
+//! Beside each note is what was reached when it was written: a row of atoms, or such a row for each
+//! atom where pairs were reached. A state is in the note's formula exactly where it holds nothing
+//! else. The notes are asked all at once, by atom: for each atom a column has a flag for each note,
+//! which says whether the note's row has the atom (`columns`). The notes that answer for a state
+//! are those in the columns of all its atoms, met 64 notes a word, and the first of them answers.
+//! Where pairs were reached, the columns are of the atoms that are in a pair with themselves, and a
+//! note that is in all of them is asked by its table.
 
 ghost use Rattle.std.specs.Prelude.{◌≡◌, ◌<◌, ◌≤◌, ◌+◌, ◌*◌, ◌∷◌, ◌++◌, [], ℕ, length, IfOk};
 ghost use Rattle.std.specs.Prelude.{MatchOption, OnOk, OnErr, slice_index_or, vec_capacity};

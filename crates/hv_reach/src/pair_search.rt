@@ -1,4 +1,11 @@
 //! The search for reached pairs: actions are visited until no row grows.
+//!
+//! A visit of an action does its whole work by rows: it meets the rows of its precondition, takes
+//! out what it adds and deletes, and puts what is left into the rows of what it adds. There is one
+//! flag per atom and no queue of pairs: an action is visited again only where a row of an atom of
+//! its precondition grew. The order of visits is left free by the proof, and was chosen by
+//! measuring: new atoms first, then the atoms that few actions ask for; the search ends when a
+//! sweep over all atoms moved nothing.
 
 ghost use Rattle.std.specs.Prelude.{◌≡◌, ◌≤◌, ◌<◌, ◌+◌, ℕ, true, false, length, MatchOption};
 ghost use Rattle.hv_task.specs.declared.action.Action.{Action};

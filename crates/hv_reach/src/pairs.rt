@@ -1,4 +1,8 @@
 //! The pairs of atoms that are reached from a state.
+//!
+//! A least set is "in every closed set", with sets as functions into `Bool`: "all reached are
+//! there" then is one application, to the table itself; "all that is there is reached" is one
+//! clause.
 
 ghost use Rattle.std.specs.Prelude.{◌≡◌, ◌≤◌, ◌⊎◌, ◌↔◌, ℕ, true, false, length, IfOk};
 ghost use Rattle.hv_task.specs.Strips.{IsState, atoms};

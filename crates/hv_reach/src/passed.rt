@@ -1,4 +1,6 @@
-//! How far the search for reached atoms has come in the precondition of each action.
+//! How far the search for reached atoms has come in the precondition of each action. A search puts
+//! back the places that it touched, so a block of a pruner costs the atoms of the task and the
+//! actions that ask for what is reached, and not the number of actions.
 
 ghost use Rattle.std.specs.Prelude.{◌≡◌, ◌<◌, ◌⊎◌, ℕ, length, slice_index, IfOk, OnOk};
 ghost use Rattle.std.specs.List.{Contains};

@@ -1,4 +1,9 @@
 //! How far a log leads on, asked action by action.
+//!
+//! In a closed log nothing else is asked. Where an action leads out, the log is halved, and its
+//! first half is asked alone, until some 64 entries are left from which one leads out: with their
+//! sets that takes at most twice as long again. What comes before them was asked of the store, so
+//! `open` is right wherever it begins.
 
 ghost use Rattle.std.specs.Prelude.{◌≡◌, ◌<◌, ◌≤◌, ℕ, true, length, IfOk, OnOk};
 ghost use Rattle.hv_task.specs.Strips.{atoms};

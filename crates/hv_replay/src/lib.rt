@@ -1,4 +1,14 @@
 //! Logs of a planner's search: they are read, and a closed one becomes a proof.
+//!
+//! The search of a log is followed before any line is written (`log_proof`), and the pruned states
+//! are justified line by line afterwards (`pruned`): so the first hole is the first in the stated
+//! order, whatever the pruners are. Which states are covered is a set in the definitions, and in
+//! contracts that of the pruners that were handed in: some of them covers the state. A contract
+//! can't speak of every set of states, so the law of first holes takes pruners too.
+//!
+//! A log is followed action by action (`leading`), by a store of explicit sets (`log_query`). Where
+//! an action leads out, `leading` halves the log, and `open` asks the few entries that are left,
+//! each by itself.
 #![tactic(auto)]
 
 mod boxes;

@@ -1,4 +1,9 @@
 //! Logs of a search.
+//!
+//! A log keeps that its lines have at most 8,388,608 bytes together. By that the line of its
+//! expanded states in the proof is never too long, and `replay` has no answer for a line that is.
+//! Its states are one list, which the set of its states shares, and the proof too where no state is
+//! pruned.
 
 ghost use Rattle.std.specs.Prelude.{◌≡◌, ◌<◌, length, map, IfOk};
 ghost use Rattle.std.specs.List.Sorted.{IsStrictlyIncreasing};

@@ -1,4 +1,9 @@
 //! Whether actions lead out of the states of a log, asked of its sets.
+//!
+//! The states become an explicit set, in which one is found by a code of its atoms, and a store of
+//! such sets is asked of each action whether it leads from an expanded state to one that isn't
+//! listed: the states that hold its precondition are met many at a time. Where some states are
+//! pruned, the expanded ones are a second set of the store.
 
 ghost use Rattle.std.specs.Prelude.{◌≡◌, ◌<◌, ◌∷◌, [], ℕ, true, length, IfOk, OnOk};
 ghost use Rattle.hv_task.specs.Strips.{atoms};

@@ -1,4 +1,9 @@
 //! The first action that leads out of a log.
+//!
+//! Each state is asked by itself, so the hole is the first in the stated order: this pass alone
+//! decides which one it is. A state that is listed again isn't asked again: the place of an entry
+//! that was followed is in a slot by its atoms, and is confirmed on these. A log that was made so
+//! that different states take turns in one slot costs as much as if each were new.
 
 ghost use Rattle.std.specs.Prelude.{◌≡◌, ◌<◌, ◌≤◌, ◌↔◌, ℕ, true, length, IfOk, IsTrue, MatchOption};
 ghost use Rattle.std.specs.List.{All, Contains};

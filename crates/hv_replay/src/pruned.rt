@@ -1,4 +1,7 @@
 //! The lines by which a pruned state is dead, beside those before it.
+//!
+//! They are put by one call, and the closing lines by another, each under conditions that speak of
+//! the draft alone: what a pruner answers is just what the first one asks.
 
 ghost use Rattle.std.specs.Prelude.{◌≡◌, ◌<◌, ◌≤◌, ◌+◌, ◌^◌, ◌∷◌, [], ℕ, Bool, List, Some, IfOk};
 ghost use Rattle.std.specs.Prelude.{OnErr};

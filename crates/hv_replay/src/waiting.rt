@@ -1,4 +1,9 @@
 //! Which actions are tried where an atom is held.
+//!
+//! Each action waits under one atom of its precondition, the one under which the fewest waited
+//! before it: a state is asked about the actions that wait under its atoms, and about those without
+//! a precondition, and not about all. A precondition is tested by the bits of the state, and a
+//! result is looked up without being built.
 
 ghost use Rattle.std.specs.Prelude.{◌≡◌, ◌<◌, ◌≤◌, ◌+◌, [], ℕ, length, IfOk, OnOk, MatchOption};
 ghost use Rattle.std.specs.List.{Contains};

@@ -1,4 +1,5 @@
-//! A row: what a rule is asked of.
+//! A row: what a rule is asked of. It is one value, the table of lines, the statement and the
+//! premises, with one condition: what it names is among the lines.
 
 use hv_lines::{Statement, Table};
 

@@ -1,4 +1,6 @@
-//! Lists.
+//! Lists: one generic type under six names, since what they hold has no limits of its own. (The
+//! lists of clauses, states and actions elsewhere are written out one by one: a macro can't write
+//! contracts.)
 
 ghost use Rattle.std.specs.Prelude.{◌≡◌, ◌<◌, ◌++◌, ◌∷◌, [], length, OnOk, OnErr, slice_get, Some};
 

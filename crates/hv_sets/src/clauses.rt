@@ -1,4 +1,16 @@
 //! Lists of clauses.
+//!
+//! Clauses are in one list of literals, so that a clause of two literals takes 20 bytes there; a
+//! formula takes some 24 more for where its literals are, and one of clauses of two 8 more for what
+//! `implied` hands out. So `Clauses::get` lends the literals of a clause as a slice, and not a
+//! `Clause`, which stays the type in which one clause is put together. A view with that name would
+//! cost a type with `len` and `get` over the slice, with their proofs, in every reader; callers
+//! lose nothing, since the slice gives the same literals by place, and contracts see the same list.
+//!
+//! A reader hands on a list that has been shared (`share`), and the store's copy of such a list is
+//! a further owner of it, so a formula's clauses occur once, and a store keeps only an index beside
+//! them. A list that is put to after it was shared becomes one of its own first, so no owner sees
+//! what another does.
 
 ghost use Rattle.std.specs.Prelude.{◌≡◌, ◌<◌, [], ◌∷◌, ◌++◌, ◌==◌, length, slice_get, IfOk, Some};
 ghost use Rattle.std.specs.Prelude.{OnOk, OnErr};

@@ -1,7 +1,8 @@
-//! Lists of lists in one list, with the end of each, as a number of 32 bits. What `run` reads or
-//! writes has no such list of more items: a literal or an atom takes two bytes at least, its space
-//! among them, so a line of 16,777,216 bytes has fewer than 8,388,608, and a log fewer than half as
-//! many; and the largest formula that is written has 524,800 clauses of two literals.
+//! Lists of lists in one list, with the end of each, as a number of 32 bits: more than
+//! 4,294,967,295 items in one list are answered as out of memory. What `run` reads or writes has no
+//! such list: a literal or an atom takes two bytes at least, its space among them, so a line of
+//! 16,777,216 bytes has fewer than 8,388,608, and a log fewer than half as many; and the largest
+//! formula that is written has 524,800 clauses of two literals.
 
 ghost use Rattle.std.specs.Prelude.{◌≡◌, ◌<◌, ◌≤◌, ◌+◌, [], ◌∷◌, ◌++◌, length, slice_get};
 ghost use Rattle.std.specs.Prelude.{slice_range, IfOk, IfSome, Some, OnOk, OnErr};

@@ -1,4 +1,7 @@
-//! Sets of atoms, read in rising order however they are kept.
+//! Sets of atoms, read in rising order however they are kept: the next atom from here on, of a
+//! state, a list, or the result of an action, which is never built.
+//!
+//! A hint says where the lists were read last; no answer depends on it.
 
 ghost use Rattle.std.specs.Prelude.{ℕ, Bool};
 ghost use Rattle.hv_task.specs.Atoms.{IsNext};

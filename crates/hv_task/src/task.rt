@@ -1,4 +1,8 @@
 //! Planning tasks: their atoms, initial state, goal and actions, and which lists are plans.
+//!
+//! The atoms of a task are the places of the list of names, so there is no second number that has
+//! to agree with it. `Task::after` asks less than it might: it gives the successor also where the
+//! action isn't applicable.
 
 ghost use Rattle.std.specs.Prelude.{◌≡◌, ◌<◌, ◌++◌, ◌∷◌, ◌↔◌, [], length, true, IsTrue, IfOk};
 ghost use Rattle.std.specs.Prelude.{OnErr, Some, is_some, slice_get};

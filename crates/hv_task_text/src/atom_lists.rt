@@ -1,4 +1,8 @@
 //! The lists of an action that is being read.
+//!
+//! They are used again for the next action: an action takes memory for what it keeps, and for
+//! nothing else. With lists of its own for each action the reader took three tenths more
+//! instructions.
 
 ghost use Rattle.std.specs.Prelude.{◌≡◌, ◌++◌, ◌∷◌, ℕ, List, [], IfOk, OnOk};
 ghost use Rattle.std.specs.List.{filter_map};

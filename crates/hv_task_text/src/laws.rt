@@ -1,5 +1,9 @@
 //! That a file has one answer, and what it is, and what a task that is read keeps, as contracts of
 //! functions that do nothing.
+//!
+//! Which lines are the text of a task is said beside the grammar (`IsTaskTextOf`), since the
+//! canonical text is written by it, and the law `text_by_lines` ties the two both ways. First
+//! faults are said by the grammar alone.
 
 ghost use Rattle.std.specs.Prelude.{◌≡◌, ℕ, List, [], length};
 ghost use Rattle.hv_bytes.specs.Pieces.{PieceBytes};

@@ -1,6 +1,11 @@
 //! Where an action may lead from a state in which a clause is false to one in which all are true,
-//! by what follows from which literals. Nothing is promised of what is seen here: it is tried on
-//! the clauses before anything is taken out, and what isn't seen is found by queries.
+//! by what follows from which literals.
+//!
+//! Of each literal two words of 64 bits have the literals that follow from it by the clauses that
+//! are left, so what is true after an action is a few words joined together. Nothing is promised of
+//! what is seen here: it is tried on the clauses before anything is taken out, and what isn't seen
+//! is found by queries, whose exactness is proved. A proof for these rows would state the theory of
+//! 2CNF formulas a second time, to save one round of queries.
 
 ghost use Rattle.std.specs.Prelude.{◌<◌};
 ghost use Rattle.hv_task.specs.State.{AreBelow};

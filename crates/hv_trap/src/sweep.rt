@@ -1,4 +1,11 @@
 //! Sweeps over the actions, in which most of what can't be in a trap is taken out.
+//!
+//! A clause that an action turns gives a state from which it may lead in (`implications`). That
+//! state is written down and tried on all clauses before any is taken out. A visit of an action
+//! that took something out is followed by another; later an action is visited again only where
+//! something else follows from a literal that its visit reads: whenever clauses were taken out, the
+//! rows before and after are compared, and the literals whose rows differ count for this sweep and
+//! the next. What would be missed is found by the queries, so nothing of this is proved.
 
 ghost use Rattle.std.specs.Prelude.{◌≡◌, ◌<◌, ◌≤◌, true, false, IfOk, OnOk, length};
 ghost use Rattle.hv_task.specs.Strips.{IsState, atoms};

@@ -1,4 +1,8 @@
 //! The pruner by the greatest trap.
+//!
+//! It computes the trap where no note is, and one note then answers for each state that it covers.
+//! With the order of the program's pruners a state that isn't covered ends the replay, so the trap
+//! is computed at most once in a replay.
 
 ghost use Rattle.std.specs.Prelude.{◌≡◌, [], ◌↔◌, IsTrue, IfOk, IfSome, IfNone, OnErr, is_some};
 ghost use Rattle.hv_task.specs.Strips.{IsState};

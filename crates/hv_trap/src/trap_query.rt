@@ -1,4 +1,8 @@
 //! Steps that lead out of the conjunctions that some clauses deny.
+//!
+//! A round makes a 2CNF formula of the clauses that are left and asks of each action whether it
+//! leads from a state outside the formula into it. The search for the trap ends with a round in
+//! which no action led in; mostly that is the first.
 
 ghost use Rattle.std.specs.Prelude.{◌≡◌, ◌<◌, ◌≤◌, ◌∷◌, ◌++◌, [], ℕ, true, false, IfOk, OnOk};
 ghost use Rattle.std.specs.Prelude.{length};
