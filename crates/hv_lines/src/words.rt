@@ -5,8 +5,7 @@
 //! That every word is found by its spelling is one line a word in the proofs; that no two words are
 //! spelled alike, and that a spelling is no other field, follows from it.
 
-ghost use Rattle.std.specs.Prelude.{◌≡◌, ◌≤◌, MatchOption, IfSome};
-ghost use Rattle.std.specs.List.{All};
+ghost use Rattle.std.specs.Prelude.{◌≡◌, ◌≤◌, [], ◌∷◌, MatchOption, IfSome};
 ghost use Rattle.hv_lines.specs.Spelling.{premises_of, word_field};
 ghost use Rattle.hv_lines.specs.Words.{basic_row, kind_of_statement, rule_row, word_row};
 
@@ -37,38 +36,6 @@ pub struct WordRow {
     /// Whether it is a derivation rule, and not a kind of basic statement.
     pub is_rule: bool,
 }
-
-/// All words.
-const ALL_WORDS: [Word; 28] = [
-    Word::B1,
-    Word::B2,
-    Word::B3,
-    Word::B4,
-    Word::B5,
-    Word::Ed,
-    Word::Ud,
-    Word::Sd,
-    Word::Pg,
-    Word::Pi,
-    Word::Rg,
-    Word::Ri,
-    Word::Ci,
-    Word::Cg,
-    Word::Ur,
-    Word::Ul,
-    Word::Ir,
-    Word::Il,
-    Word::Di,
-    Word::Su,
-    Word::Si,
-    Word::St,
-    Word::At,
-    Word::Au,
-    Word::Pt,
-    Word::Pu,
-    Word::Pr,
-    Word::Rp,
-];
 
 impl Word {
     /// The row of the word.
@@ -114,9 +81,9 @@ impl Word {
             ((word : Word) → word_field word ≡ bytes.now → ⊥)
             (λ word. word_field word ≡ bytes.now) }
     {
-        match first_spelled(&ALL_WORDS, bytes) {
-            Some(word) => Some(word),
-            None => None,
+        match bytes {
+            [first, second] => word_of(*first, *second),
+            _ => None,
         }
     }
 
@@ -148,19 +115,43 @@ impl Statement {
     }
 }
 
-/// The first of these words that the bytes spell.
-fn first_spelled(words: &[Word], bytes: &[u8]) -> Option<Word>
+/// The word of these two bytes.
+fn word_of(first: u8, second: u8) -> Option<Word>
     ensures { MatchOption result
-        (All (λ word. word_field word ≡ bytes.now → ⊥) words.now)
-        (λ word. word_field word ≡ bytes.now) }
+        ((word : Word) → word_field word ≡ first ∷ second ∷ [] → ⊥)
+        (λ word. word_field word ≡ first ∷ second ∷ []) }
 {
-    for word in words {
-        let spelling = word.row().spelling;
-        if bytes == spelling.as_slice() {
-            return Some(*word);
-        }
+    match (first, second) {
+        (b'b', b'1') => Some(Word::B1),
+        (b'b', b'2') => Some(Word::B2),
+        (b'b', b'3') => Some(Word::B3),
+        (b'b', b'4') => Some(Word::B4),
+        (b'b', b'5') => Some(Word::B5),
+        (b'e', b'd') => Some(Word::Ed),
+        (b'u', b'd') => Some(Word::Ud),
+        (b's', b'd') => Some(Word::Sd),
+        (b'p', b'g') => Some(Word::Pg),
+        (b'p', b'i') => Some(Word::Pi),
+        (b'r', b'g') => Some(Word::Rg),
+        (b'r', b'i') => Some(Word::Ri),
+        (b'c', b'i') => Some(Word::Ci),
+        (b'c', b'g') => Some(Word::Cg),
+        (b'u', b'r') => Some(Word::Ur),
+        (b'u', b'l') => Some(Word::Ul),
+        (b'i', b'r') => Some(Word::Ir),
+        (b'i', b'l') => Some(Word::Il),
+        (b'd', b'i') => Some(Word::Di),
+        (b's', b'u') => Some(Word::Su),
+        (b's', b'i') => Some(Word::Si),
+        (b's', b't') => Some(Word::St),
+        (b'a', b't') => Some(Word::At),
+        (b'a', b'u') => Some(Word::Au),
+        (b'p', b't') => Some(Word::Pt),
+        (b'p', b'u') => Some(Word::Pu),
+        (b'p', b'r') => Some(Word::Pr),
+        (b'r', b'p') => Some(Word::Rp),
+        _ => None,
     }
-    None
 }
 
 /// The row of a kind of basic statement: it has no premises.
