@@ -18,24 +18,29 @@ struct DigitFront {
 }
 
 /// The first digits of the bytes.
+#[inline(always)]
 fn digit_front(bytes: &[u8]) -> DigitFront
     ensures front { IsDigitFront bytes.now result.count }
     ensures number { result.number ≡ digits_value 10 (take result.count bytes.now) }
 {
+    let most = bytes.len().min(MAX_DIGITS);
     let mut number = 0;
-    let mut count = 0;
-    for digit in bytes {
-        if count == MAX_DIGITS || !digit.is_ascii_digit() {
+    for count in 0..most {
+        let digit = bytes[count];
+        if !digit.is_ascii_digit() {
             return DigitFront { number, count };
         }
-        number = number * 10 + u64::from(*digit - b'0');
-        count += 1;
+        number = number * 10 + u64::from(digit - b'0');
     }
-    DigitFront { number, count }
+    DigitFront {
+        number,
+        count: most,
+    }
 }
 
 /// The number in the first field of a line, where that is a decimal of at most 18 digits, and what
 /// comes after the space behind it: nothing where the field is the last one.
+#[inline(always)]
 pub fn decimal_front(line: &[u8]) -> Option<(u64, Option<&[u8]>)>
     ensures number { IfSome result (λ p. p.0 < 10 ^ 18) }
     ensures fields { IfSome result (λ p. MatchOption p.1
