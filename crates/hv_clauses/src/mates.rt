@@ -155,6 +155,9 @@ fn free_rows(alloc: Global, sign: bool, count: u32, atoms: u32) -> Result<Vec<St
         → IsFree sign atoms (slice_index_or rows.items p d)) }
 {
     let mut rows = Vec::with_capacity(alloc, count as usize)?;
+    if count == 0 {
+        return Ok(rows);
+    }
     let free = free_row(alloc, sign, atoms)?;
     for _ in 0..count {
         let mut row = State::empty(alloc, atoms)?;
