@@ -25,7 +25,7 @@ use Rattle.hv_lines.specs.Pruning.{IsNoted, states_in}
 use Rattle.hv_lines.specs.Queries.{IsOffered, PassesBudget, asked_actions, collected, has_of}
 use Rattle.hv_lines.specs.Queries.{horn_in, operand_of, query_of, two_in, which_at}
 use Rattle.hv_lines.specs.Setting.{Setting, setting_of}
-use Rattle.hv_lines.specs.Shapes.{Askings, IsLiteralOf, IsOfFamily, IsQuestion, IsWithinFamily}
+use Rattle.hv_lines.specs.Shapes.{Askings, IsLiteralOf, IsOfFamily, IsQuestion}
 use Rattle.hv_lines.specs.Shapes.{OfSets, QuestionState, and_parts, asked_step, asks_sides_after}
 use Rattle.hv_lines.specs.Shapes.{asks_step_after, family_of, or_parts}
 use Rattle.hv_lines.specs.Spelling.{FitsDecimal, premises_of}
@@ -50,8 +50,8 @@ use Rattle.hv_lines.proofs.Laws.{expr_below, set_in, set_out}
 use Rattle.hv_lines.proofs.Named.{found_number, which_is}
 use Rattle.hv_lines.proofs.PlainSides.{rises_none, rises_one, rises_two}
 use Rattle.hv_lines.proofs.Shaped.{literal_from}
-use Rattle.hv_lines.proofs.SignedSides.{AreAsked, AreSigned, Signed, both_signed}
-use Rattle.hv_lines.proofs.SignedSides.{one_signed, only, others_of, question_of, selves_of}
+use Rattle.hv_lines.proofs.SignedSides.{AreAsked, AreSigned, Signed, both_signed, literal_signed}
+use Rattle.hv_lines.proofs.SignedSides.{only, others_of, plain_signed, question_of, selves_of}
 use Rattle.hv_lines.proofs.SignedSides.{step_question, still_question}
 use Rattle.hv_lines.proofs.Untrue.{no_counterexample}
 
@@ -140,7 +140,7 @@ step_alone false left right = refl
 abbrev pub met : Bool → ℕ → Signed
 met forwards set sign = only true 2 sign ++ only forwards set sign
 
-second_in : {X : Type 0} (x y : X) → Contains (x ∷ y ∷ []) y
+pub second_in : {X : Type 0} (x y : X) → Contains (x ∷ y ∷ []) y
 second_in x y = tail_in x (y ∷ []) y (head_in y [])
 
 -- how many clauses each formula of a kind has, by its number
@@ -216,28 +216,13 @@ pub constant_signed : (family : FormulaFamily) (parts : Expr → Option (ℕ × 
     (set : ℕ) (constant : Constant) → expr_at lines set ≡ Some (E.Constant constant)
     → parts (E.Constant constant) ≡ None → AreSigned family parts lines set (only true set)
 constant_signed family parts lines set constant at none =
-    one_signed family parts lines set (E.Constant constant) at none true set
-    (refl, (E.Constant constant, at, inr tt)) (E.Constant constant, at, inl refl)
+    plain_signed family parts lines set (E.Constant constant) at none (inl refl) (inr tt)
 
 -- A formula of clauses, at its identifier.
 module _ (task : Strips) (expr : Expr) (family : FormulaFamily) (clauses : List (List Literal))
     (clausal : IsClausal task expr family clauses) (lines : List Line) (set : ℕ)
     (at : expr_at lines set ≡ Some expr) where
-  within : IsWithinFamily lines family set
-  within = (expr, at, inr clausal.of_family)
-
   -- its literals: itself, and its negation
-
-  pub literal_signed : (parts : Expr → Option (ℕ × ℕ)) → parts expr ≡ None
-      → parts (E.Not set) ≡ None → (sign : Bool) (leaf : ℕ) → IsLiteralOf lines leaf set sign
-      → AreSigned family parts lines leaf (only sign set)
-  literal_signed parts none none_too true leaf literal =
-      one_signed family parts lines leaf expr
-      (subst (λ l. expr_at lines l ≡ Some expr) (sym literal.0) at) none true set literal
-      within
-  literal_signed parts none none_too false leaf literal =
-      one_signed family parts lines leaf (E.Not set) literal.0 none_too false set literal
-      within
 
   module _ (table : IsTable lines) (state : List Bool) where
     pub literal_out : (sign : Bool) (leaf : ℕ) → IsLiteralOf lines leaf set sign
@@ -474,8 +459,6 @@ module _ (task : Strips) (expr : Expr) (family : FormulaFamily) (clauses : List 
               let union : Signed = λ sign. only true 0 sign ++ only true set sign in
               let selves = selves_of true early late (only true set) union in
               let others = others_of false early late (only true set) union in
-              let itself : IsLiteralOf lines set set true =
-              (refl, (expr, at, inl clausal.formula)) in
               good_true setting lines table (question_of family selves others (Some 0)) id step both
               (word_by forwards)
               (formed_sub setting lines id step both (word_by forwards) id_fits id_is step_fits
@@ -483,13 +466,15 @@ module _ (task : Strips) (expr : Expr) (family : FormulaFamily) (clauses : List 
               (expr_below lines both (E.Or set 0) table at_both) (step_alone forwards step both))
               (basic_step forwards) (no_rule_step forwards)
               (step_question family lines step both (only true set) union
-              (both_signed family or_parts lines both set 0 (E.Or set 0) at_both refl
+              (both_signed family or_parts lines both set 0 (E.Or set 0) at_both refl false
               (only true set) (only true 0)
-              (literal_signed or_parts clausal.no_or refl true set itself)
+              (plain_signed family or_parts lines set expr at clausal.no_or
+              (inr clausal.of_family) (inl clausal.formula))
               (constant_signed family or_parts lines 0 C.Empty begun.empty refl)) true false
               (word_by forwards) set 0 (step_by forwards set) at_step (no_parts forwards set)
               (step_asked forwards set)
-              (literal_signed and_parts clausal.no_and refl true set itself) (record {
+              (plain_signed family and_parts lines set expr at clausal.no_and
+              (inr clausal.of_family) (inl clausal.formula)) (record {
                 selves = rises_one early set;
                 others = rises_two late 0 set (omega (arith, two_before));
                 few = omega arith;
@@ -504,9 +489,10 @@ module _ (task : Strips) (expr : Expr) (family : FormulaFamily) (clauses : List 
               → FitsDecimal meet → IsGood setting lines (L.Known id (T.Sub meet 0) W.B1 [])
           good_misses id meet at_meet ends id_fits id_is meet_fits =
               good_still id meet 0 (met forwards set) (only true 0)
-              (both_signed family and_parts lines meet dead 2 (E.And dead 2) at_meet refl
+              (both_signed family and_parts lines meet dead 2 (E.And dead 2) at_meet refl false
               (only forwards set) (only true 2)
-              (literal_signed and_parts clausal.no_and refl forwards dead literal)
+              (literal_signed family and_parts lines set expr at clausal.no_and
+              (inr clausal.of_family) refl forwards dead literal)
               (constant_signed family and_parts lines 2 C.Goal begun.goal refl))
               (constant_signed family or_parts lines 0 C.Empty begun.empty refl)
               (goal_asked forwards) (goal_cheap forwards) id_fits id_is meet_fits (omega arith)
@@ -521,7 +507,8 @@ module _ (task : Strips) (expr : Expr) (family : FormulaFamily) (clauses : List 
           good_start id starts id_fits id_is dead_fits dead_below =
               good_still id 1 dead (only true 1) (only forwards set)
               (constant_signed family and_parts lines 1 C.Start begun.start refl)
-              (literal_signed or_parts clausal.no_or refl forwards dead literal)
+              (literal_signed family or_parts lines set expr at clausal.no_or
+              (inr clausal.of_family) refl forwards dead literal)
               (start_asked forwards) (start_cheap forwards) id_fits id_is (omega arith) dead_fits
               (expr_below lines 1 (E.Constant C.Start) table begun.start) dead_below
               (start_true starts)

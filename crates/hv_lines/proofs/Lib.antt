@@ -22,7 +22,6 @@ pub mod Budgets
 pub mod Nexts
 pub mod Carried
 pub mod PlainSides
-pub mod GoodQuestions
 pub mod Untrue
 pub mod Drafting
 pub mod Extended

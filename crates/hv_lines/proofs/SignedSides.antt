@@ -5,14 +5,16 @@ use Rattle.std.proofs.Common.{◌∷◌, Option, Some, None, length, refl, sym, 
 use Rattle.std.proofs.lemmas.List.Elements.{Contains-append_cases, Contains-append_left}
 use Rattle.std.proofs.lemmas.List.Elements.{Contains-append_right}
 use Rattle.std.specs.List.{Contains}
+use Rattle.hv_lines.specs.Literals.{IsPlainExpr}
 use Rattle.hv_lines.specs.Numbering.{expr_at}
 use Rattle.hv_lines.specs.Shapes.{Askings, AskingsRise, HasSides, IsAndLeaf, IsAsked, IsLeaf}
 use Rattle.hv_lines.specs.Shapes.{IsLeftLeaf, IsLiteralOf, IsOfFamily, IsQuestion}
 use Rattle.hv_lines.specs.Shapes.{IsStep, IsWithinFamily, QuestionState, alone, and_parts}
-use Rattle.hv_lines.specs.Shapes.{asked_step, asks_sides_after, asks_step_after, most_operands}
-use Rattle.hv_lines.specs.Shapes.{of_left, of_right, or_parts}
+use Rattle.hv_lines.specs.Shapes.{asked_step, asks_sides_after, asks_step_after, family_of}
+use Rattle.hv_lines.specs.Shapes.{most_operands, of_left, of_right, or_parts}
 use Rattle.hv_lines.specs.declared.formula_family.FormulaFamily.{FormulaFamily}
 use Rattle.hv_lines.specs.declared.line.Expr.{Expr}
+use Rattle.hv_lines.specs.declared.line.Expr.TheVariants as E
 use Rattle.hv_lines.specs.declared.line.Line.{Line}
 use Rattle.hv_lines.specs.declared.line.Word.{Word}
 use Rattle.hv_lines.specs.declared.line.Word.TheVariants as W
@@ -26,12 +28,16 @@ use Rattle.hv_lines.proofs.Shaped.{literal_from, literal_once, step_no_literal, 
 abbrev pub Signed : Type 0
 Signed = Bool → List ℕ
 
+-- these, all of one sign
+abbrev pub those : Bool → List ℕ → Signed
+those true xs true = xs
+those false xs false = xs
+those true xs false = []
+those false xs true = []
+
 -- one of them
 abbrev pub only : Bool → ℕ → Signed
-only true x true = x ∷ []
-only false x false = x ∷ []
-only true x false = []
-only false x true = []
+only sign x = those sign (x ∷ [])
 
 only_in : (sign : Bool) (x : ℕ) → Contains (only sign x sign) x
 only_in true x = head_in x []
@@ -47,6 +53,23 @@ only_is true true x y c = (refl, one_in x y c)
 only_is false false x y c = (refl, one_in x y c)
 only_is true false x y c = absurd (nothing_in y c)
 only_is false true x y c = absurd (nothing_in y c)
+
+-- two lists in the one order or the other
+
+abbrev pub joined : {X : Type 0} → Bool → List X → List X → List X
+joined true xs ys = xs ++ ys
+joined false xs ys = ys ++ xs
+
+in_joined : {X : Type 0} (left_first : Bool) (xs ys : List X) (a : X)
+    → Contains (joined left_first xs ys) a ↔ (Contains xs a ⊎ Contains ys a)
+in_joined true xs ys a = (
+  λ c. Contains-append_cases xs ys a c,
+  elim [ inl c ↦ Contains-append_left xs ys a c | inr c ↦ Contains-append_right xs ys a c ],
+)
+in_joined false xs ys a = (
+  λ c. elim (Contains-append_cases ys xs a c) [ inl there ↦ inr there | inr here ↦ inl here ],
+  elim [ inl c ↦ Contains-append_right ys xs a c | inr c ↦ Contains-append_left ys xs a c ],
+)
 
 -- the leaves of the set are literals of these, each of the family or a constant
 pub record AreSigned (family : FormulaFamily) (parts : Expr → Option (ℕ × ℕ)) (lines : List Line)
@@ -78,27 +101,42 @@ module _ (family : FormulaFamily) (parts : Expr → Option (ℕ × ℕ)) (lines 
         × IsWithinFamily lines family z) w.1 (set, alone set expr at none, literal, within));
   }
 
+  -- so is a formula or constant, and its negation
+  module _ (set : ℕ) (expr : Expr) (at : expr_at lines set ≡ Some expr) (none : parts expr ≡ None)
+      (of : (family_of expr ≡ None) ⊎ (family_of expr ≡ Some family)) where
+    pub plain_signed : IsPlainExpr expr → AreSigned family parts lines set (only true set)
+    plain_signed plain = one_signed set expr at none true set (refl, (expr, at, plain))
+        (expr, at, of)
+
+    pub literal_signed : parts (E.Not set) ≡ None → (sign : Bool) (leaf : ℕ)
+        → IsLiteralOf lines leaf set sign → AreSigned family parts lines leaf (only sign set)
+    literal_signed none_too true leaf literal =
+        one_signed leaf expr (subst (λ l. expr_at lines l ≡ Some expr) (sym literal.0) at) none
+        true set literal (expr, at, of)
+    literal_signed none_too false leaf literal =
+        one_signed leaf (E.Not set) literal.0 none_too false set literal (expr, at, of)
+
   -- a set of two parts has the leaves of both
   pub both_signed : (set a b : ℕ) (expr : Expr) → expr_at lines set ≡ Some expr
-      → parts expr ≡ Some (a, b) → (ls ms : Signed) → AreSigned family parts lines a ls
-      → AreSigned family parts lines b ms
-      → AreSigned family parts lines set (λ sign. ms sign ++ ls sign)
-  both_signed set a b expr at two ls ms of_a of_b = record {
+      → parts expr ≡ Some (a, b) → (left_first : Bool) (ls ms : Signed)
+      → AreSigned family parts lines a ls → AreSigned family parts lines b ms
+      → AreSigned family parts lines set (λ sign. joined left_first (ls sign) (ms sign))
+  both_signed set a b expr at two left_first ls ms of_a of_b = record {
     each = λ leaf of. elim (part_leaf parts lines set leaf of expr a b at two) [
       | inl here ↦
           let w = of_a.each leaf here in
-          (w.0, w.1, Contains-append_right (ms w.0) (ls w.0) w.1 w.2, w.3)
+          (w.0, w.1, (in_joined left_first (ls w.0) (ms w.0) w.1).1 (inl w.2), w.3)
       | inr there ↦
           let w = of_b.each leaf there in
-          (w.0, w.1, Contains-append_left (ms w.0) (ls w.0) w.1 w.2, w.3)
+          (w.0, w.1, (in_joined left_first (ls w.0) (ms w.0) w.1).1 (inr w.2), w.3)
     ];
-    all = λ sign x c. elim (Contains-append_cases (ms sign) (ls sign) x c) [
-      | inl there ↦
-          let w = of_b.all sign x there in
-          (w.0, of_right set a b w.0 expr at two w.1, w.2, w.3)
-      | inr here ↦
+    all = λ sign x c. elim ((in_joined left_first (ls sign) (ms sign) x).0 c) [
+      | inl here ↦
           let w = of_a.all sign x here in
           (w.0, of_left set a b w.0 expr at two w.1, w.2, w.3)
+      | inr there ↦
+          let w = of_b.all sign x there in
+          (w.0, of_right set a b w.0 expr at two w.1, w.2, w.3)
     ];
   }
 
@@ -112,21 +150,6 @@ module _ (family : FormulaFamily) (parts : Expr → Option (ℕ × ℕ)) (lines 
 
 -- What is asked: what the left side has with a sign, and the right side with the other. The one or
 -- the other is first, as the identifiers rise.
-
-abbrev pub joined : Bool → Askings → Askings → Askings
-joined true xs ys = xs ++ ys
-joined false xs ys = ys ++ xs
-
-in_joined : (left_first : Bool) (xs ys : Askings) (a : ℕ × Bool)
-    → Contains (joined left_first xs ys) a ↔ (Contains xs a ⊎ Contains ys a)
-in_joined true xs ys a = (
-  λ c. Contains-append_cases xs ys a c,
-  elim [ inl c ↦ Contains-append_left xs ys a c | inr c ↦ Contains-append_right xs ys a c ],
-)
-in_joined false xs ys a = (
-  λ c. elim (Contains-append_cases ys xs a c) [ inl there ↦ inr there | inr here ↦ inl here ],
-  elim [ inl c ↦ Contains-append_right ys xs a c | inr c ↦ Contains-append_left ys xs a c ],
-)
 
 abbrev pub selves_of : Bool → Bool → Bool → Signed → Signed → Askings
 selves_of left_first early late lefts rights =

@@ -12,7 +12,6 @@ pub mod OneHole
 pub mod Steps
 pub mod Explicit
 pub mod Unions
-pub mod Sided
 pub mod Mixed
 pub mod Spelled
 pub mod Small

@@ -107,28 +107,25 @@ module _ (setting : Setting) (lines : List Line) where
           ),
         )
 
-    -- within the formula itself
-    pub good_mixed : right ≡ set → IsGood setting lines (L.Known id (T.Sub left right) W.B4 [])
-    good_mixed same =
-        good_by true (same, (expr, at_set, inl other.0)) refl
+    -- within the formula itself, or within its negation
+    pub good_mixed : (sign : Bool) → IsLiteralOf lines right set sign
+        → IsGood setting lines (L.Known id (T.Sub left right) W.B4 [])
+    good_mixed true literal =
+        good_by true literal refl
         (λ state is_state clash.
         not_out (in_line_formula setting expr state)
         (and_parts (in_line_formula setting (E.States states) state)
         (not (in_line_formula setting expr state)) clash).1
         ((formula_in expr other.0 state).1
         (set_out setting.task setting.nodes lines set expr table at_set state
-        (subst (λ s. sets_of setting.task setting.nodes lines s state) same
+        (subst (λ s. sets_of setting.task setting.nodes lines s state) literal.0
         (within state is_state (in_left state
         (and_parts (in_line_formula setting (E.States states) state)
         (not (in_line_formula setting expr state)) clash).0))))))
-
-    -- within its negation
-    pub good_apart : expr_at lines right ≡ Some (E.Not set)
-        → IsGood setting lines (L.Known id (T.Sub left right) W.B4 [])
-    good_apart negated =
-        good_by false (negated, (expr, at_set, inl other.0)) refl
+    good_mixed false literal =
+        good_by false literal refl
         (λ state is_state clash.
-        set_out setting.task setting.nodes lines right (E.Not set) table negated state
+        set_out setting.task setting.nodes lines right (E.Not set) table literal.0 state
         (within state is_state
         (in_left state (and_parts (in_line_formula setting (E.States states) state)
         (not (not (in_line_formula setting expr state))) clash).0))

@@ -1,23 +1,20 @@
 -- The five lines of a pruned state are good.
-use Rattle.std.proofs.Common.{◌≡◌, ℕ, ◌+◌, ◌<◌, ◌≤◌, ◌^◌, ◌∙◌, Bool, List, [], ◌∷◌, Some, None}
-use Rattle.std.proofs.Common.{length, refl, sym, ap, subst, inl, inr, arith}
+use Rattle.std.proofs.Common.{◌≡◌, ℕ, ◌+◌, ◌<◌, ◌≤◌, ◌^◌, ◌∙◌, ◌⊎◌, ◌++◌, Bool, true, false, List}
+use Rattle.std.proofs.Common.{[], ◌∷◌, Some, None, length, refl, sym, ap, subst, inl, inr, arith}
+use Rattle.std.proofs.lemmas.List.{length_push}
 use Rattle.std.proofs.lemmas.List.Elements.{All-cons, All-nil}
 use Rattle.std.specs.List.{All, Contains}
 use Rattle.hv_task.specs.State.{state_of}
 use Rattle.hv_task.specs.Strips.{Strips, IsTask, atoms}
-use Rattle.hv_sets.specs.declared.operand.Which.TheVariants as S
-use Rattle.hv_lines.specs.Drafts.{IsGoodTable, draft_setting, onto}
+use Rattle.hv_lines.specs.Drafts.{IsGoodTable, default_budget, draft_setting, onto}
 use Rattle.hv_lines.specs.Good.{IsGood}
 use Rattle.hv_lines.specs.Working.Good.{IsFormed}
 use Rattle.hv_lines.specs.Literals.{IsPlainExpr}
 use Rattle.hv_lines.specs.Numbering.{IsTable, expr_at, expr_count, known_count}
-use Rattle.hv_lines.specs.Queries.{which_at}
-use Rattle.hv_lines.specs.Pruning.{states_in}
+use Rattle.hv_lines.specs.Pruning.{Extends, states_in}
 use Rattle.hv_lines.specs.Setting.{Setting}
-use Rattle.hv_lines.specs.Shapes.{IsOrLeaf, and_parts, or_parts, alone}
+use Rattle.hv_lines.specs.Shapes.{Askings, IsLiteralOf, IsOfFamily, and_parts, family_of, or_parts}
 use Rattle.hv_lines.specs.Spelling.{FitsDecimal, premises_of}
-use Rattle.hv_lines.specs.declared.line.Constant.{Constant}
-use Rattle.hv_lines.specs.declared.line.Constant.TheVariants as C
 use Rattle.hv_lines.specs.declared.line.Expr.{Expr}
 use Rattle.hv_lines.specs.declared.line.Expr.TheVariants as E
 use Rattle.hv_lines.specs.declared.line.Line.{Line}
@@ -27,45 +24,45 @@ use Rattle.hv_lines.specs.declared.line.Word.{Word}
 use Rattle.hv_lines.specs.declared.line.Word.TheVariants as W
 use Rattle.hv_lines.specs.declared.formula_family.FormulaFamily.{FormulaFamily}
 use Rattle.hv_lines.specs.declared.formula_family.FormulaFamily.TheVariants as F
+use Rattle.hv_lines.specs.declared.note.Note.{Note}
 use Rattle.hv_lines.proofs.Carried.{expr_onto, known_onto}
+use Rattle.hv_lines.proofs.Clausal.{second_in}
 use Rattle.hv_lines.proofs.Drafting.{below_two, formed_expr, formed_sub, good_expr, next_or}
 use Rattle.hv_lines.proofs.Drafting.{next_rule, table_of}
+use Rattle.hv_lines.proofs.Elements.{cons_cases, head_in, nothing_in, of_one, of_two}
+use Rattle.hv_lines.proofs.Extended.{extends_by}
 use Rattle.hv_lines.proofs.Laws.{expr_at_here, expr_below, known_below, set_in, set_out, speaks_at}
 use Rattle.hv_lines.proofs.Laws.{statement_at_here}
 use Rattle.hv_lines.proofs.Nexts.{next_claim}
-use Rattle.hv_lines.proofs.Shaped.{leaf_below}
+use Rattle.hv_lines.proofs.PlainSides.{rises_none, rises_one, rises_two}
+use Rattle.hv_lines.proofs.SignedSides.{AreAsked, literal_signed, only, others_of, plain_signed}
+use Rattle.hv_lines.proofs.SignedSides.{selves_of, still_question}
 use Rattle.hv_replay.specs.Logs.{IsAtomSet}
 use Rattle.hv_replay.specs.PrunedLines.{pruned_lines, pruned_word, word_of_formula, word_of_literal}
-use Rattle.hv_replay.specs.Working.PrunedLines.{IsListedExpr, IsListedSet, IsPrunedUnion}
-use Rattle.hv_lines.specs.declared.note.Note.{Note}
-use Rattle.hv_lines.proofs.Elements.{cons_cases, head_in, nothing_in, of_one}
-use Rattle.hv_lines.proofs.PlainSides.{one_leaf, only_leaf}
-use Rattle.hv_replay.proofs.Explicit.{empty_states, goal_states, listed_anchors, listed_states}
-use Rattle.hv_replay.proofs.Explicit.{start_states, states_at}
-use Rattle.hv_replay.proofs.Mixed.{IsOther, good_apart, good_mixed}
-use Rattle.hv_replay.proofs.Sided.{good_outside, good_within, rise_one}
+use Rattle.hv_replay.specs.Working.PrunedLines.{IsPrunedUnion, one_beside}
+use Rattle.hv_replay.proofs.Explicit.{constant_states, good_listed, listed_anchors, listed_states}
+use Rattle.hv_replay.proofs.Explicit.{states_at}
+use Rattle.hv_replay.proofs.Mixed.{IsOther, good_mixed}
 use Rattle.hv_replay.proofs.Spelled.{short_state, states_fit}
-use Rattle.hv_replay.proofs.Unions.{IsHeld, leaf_onto, states_onto, union_onto, union_push}
+use Rattle.hv_replay.proofs.Unions.{IsHeld, leaves_below, states_stay, stays_union}
 
--- how many states a constant lists
-constant_states : (lines : List Line) (set : ℕ) (constant : Constant)
-    → expr_at lines set ≡ Some (E.Constant constant)
-    → states_at lines set ≤ 1
-constant_states lines set C.Empty at = omega (arith, empty_states lines set at)
-constant_states lines set C.Start at = omega (arith, start_states lines set at)
-constant_states lines set C.Goal at = omega (arith, goal_states lines set at)
+-- the new lines are those of a good draft, and have the union of the pruned states with this one
+pub record ShowPruned (task : Strips) (old new : List Line) (pruned : ℕ) (held : List ℕ)
+    (union all : Note) : Type 0 where
+  pub good : IsGoodTable task new
+  pub union_is : IsPrunedUnion new (pruned + 1) all
+  pub inside : states_in task new all.set (state_of (atoms task) held)
+  pub keeps : (state : List Bool) → states_in task old union.set state
+      → states_in task new all.set state
 
 module _ (task : Strips) (is_task : IsTask task) (old : List Line) (good : IsGoodTable task old)
     (p k pruned : ℕ) (held : List ℕ)
     (holder union : Note) (p_is : p ≡ expr_count old) (k_is : k ≡ known_count old)
     (p_few : p + 1 < 10 ^ 18) (k_few : k + 2 < 10 ^ 18)
     (atom_set : IsAtomSet (atoms task) held) (is_held : IsHeld task old held holder)
-    (is_union : IsPrunedUnion task old pruned union) where
+    (is_union : IsPrunedUnion old pruned union) where
   abbrev setting : Setting
   setting = draft_setting task
-
-  abbrev y : ℕ
-  y = holder.set
 
   abbrev word : Word
   word = pruned_word old holder.set
@@ -155,8 +152,8 @@ module _ (task : Strips) (is_task : IsTask task) (old : List Line) (good : IsGoo
   in_y : (state : List Bool) → states_in task B1 p state → states_in task B1 holder.set state
   in_y state inside =
       subst (states_in task B1 holder.set) (in_p state inside)
-      ((states_onto task (L1 ∷ []) old holder.set (state_of (atoms task) held) table1
-      (omega (arith, y_below, p_is))).0 is_held.inside)
+      (states_stay task old B1 (extends_by task (L1 ∷ []) old good1) holder.set
+      (state_of (atoms task) held) (omega (arith, y_below, p_is)) is_held.inside)
 
   formed2 : (w : Word) → premises_of (T.Sub p holder.set) w ≡ Some 0
       → IsFormed setting B1 (L.Known k (T.Sub p holder.set) w [])
@@ -167,107 +164,93 @@ module _ (task : Strips) (is_task : IsTask task) (old : List Line) (good : IsGoo
   p_states : states_at B1 p ≤ 1
   p_states = omega (arith, listed_states B1 p (held ∷ []) at_p)
 
-  p_anchors : (x : ℕ) × Contains (p ∷ []) x × (which_at B1 x ≡ S.Goal → ⊥)
-  p_anchors = (p, head_in p [], listed_anchors B1 p (held ∷ []) at_p)
+  -- the literal is of the formula or constant x, which has an earlier line
+  module _ (sign : Bool) (x : ℕ) (literal : IsLiteralOf B1 holder.set x sign) (before : x < p) where
+    abbrev Selves : Askings
+    Selves = selves_of sign false false (only true p) (only sign x)
 
-  p_listed : IsListedSet B1 p
-  p_listed = (E.States (held ∷ []), at_p, tt)
+    abbrev Others : Askings
+    Others = others_of true false false (only true p) (only sign x)
 
-  -- the literal is a constant or an explicit set
-  by_listed : (x : Expr) → IsListedExpr x → expr_at B1 holder.set ≡ Some x → or_parts x ≡ None
-      → IsGood setting B1 (L.Known k (T.Sub p holder.set) W.B1 [])
-  by_listed x listed at none =
-      good_within setting B1 table1 k p holder.set (p ∷ []) (holder.set ∷ [])
-      (one_leaf or_parts B1 holder.set x at none)
-      (of_one (IsListedSet B1) p p_listed) (of_one (IsListedSet B1) holder.set (x, at, listed))
-      (rise_one p) (rise_one holder.set)
-      (omega arith) (p, inl (head_in p []), (E.States (held ∷ []), at_p, refl)) p_anchors
-      (of_one (λ s. states_at B1 s ≤ setting.budget) p (omega (arith, p_states)))
-      (one_leaf and_parts B1 p (E.States (held ∷ [])) at_p refl) (formed2 W.B1 refl)
-      (λ state is_state inside. (
-        holder.set,
-        head_in holder.set [],
-        in_y state
-            (inside p (head_in p [])),
-      ))
-
-  -- the literal is another formula
-  by_formula : (x : Expr) (family : FormulaFamily) → IsOther x family
-      → expr_at B1 holder.set ≡ Some x
-      → IsGood setting B1 (L.Known k (T.Sub p holder.set) W.B4 [])
-  by_formula x family other at =
-      good_mixed setting B1 table1 k p holder.set holder.set (held ∷ []) x family at_p at other
-      (omega arith) (formed2 W.B4 refl)
-      (λ state is_state inside. in_y state inside) refl
-
-  by_plain : (x : Expr) → IsPlainExpr x → expr_at B1 holder.set ≡ Some x
-      → IsGood setting B1 (L.Known k (T.Sub p holder.set) (word_of_literal old (Some x)) [])
-  by_plain (E.Constant constant) plain at = by_listed (E.Constant constant) tt at refl
-  by_plain (E.States states) plain at = by_listed (E.States states) tt at refl
-  by_plain (E.Horn clauses) plain at = by_formula (E.Horn clauses) F.Horn (tt, refl, λ e. cc (e)) at
-  by_plain (E.Dual clauses) plain at = by_formula (E.Dual clauses) F.Dual (tt, refl, λ e. cc (e)) at
-  by_plain (E.Two clauses) plain at = by_formula (E.Two clauses) F.Two (tt, refl, λ e. cc (e)) at
-  by_plain (E.Node node) plain at = by_formula (E.Node node) F.Node (tt, refl, λ e. cc (e)) at
-  by_plain (E.Not set) plain at = elim plain
-      [ inl formula ↦ absurd formula | inr constant ↦ absurd constant ]
-  by_plain (E.And a b) plain at = elim plain
-      [ inl formula ↦ absurd formula | inr constant ↦ absurd constant ]
-  by_plain (E.Or a b) plain at = elim plain
-      [ inl formula ↦ absurd formula | inr constant ↦ absurd constant ]
-  by_plain (E.After a b) plain at = elim plain
-      [ inl formula ↦ absurd formula | inr constant ↦ absurd constant ]
-  by_plain (E.Before a b) plain at = elim plain
-      [ inl formula ↦ absurd formula | inr constant ↦ absurd constant ]
-
-  module _ (inner : ℕ) (negated : expr_at B1 holder.set ≡ Some (E.Not inner))
-      (inner_below : inner < p) where
-    -- the literal is the negation of a constant or explicit set
-    out_listed : (x : Expr) → IsListedExpr x → expr_at B1 inner ≡ Some x
-        → states_at B1 inner ≤ setting.budget
+    -- it is a constant or an explicit set
+    by_listed : (expr : Expr) → expr_at B1 x ≡ Some expr → or_parts expr ≡ None
+        → (family_of expr ≡ None) ⊎ (family_of expr ≡ Some F.States)
+        → (sign ≡ false → states_at B1 x ≤ setting.budget)
         → IsGood setting B1 (L.Known k (T.Sub p holder.set) W.B1 [])
-    out_listed x listed at few =
-        good_outside setting B1 table1 k p holder.set inner p_listed (x, at, listed) negated
-        (λ leaf of. only_leaf and_parts B1 p leaf of (E.States (held ∷ [])) at_p refl)
-        (alone p (E.States (held ∷ [])) at_p refl)
-        inner_below (E.States (held ∷ []), at_p, refl) (listed_anchors B1 p (held ∷ []) at_p)
-        (omega (arith, p_states)) few (formed2 W.B1 refl)
-        (λ state is_state inside also. set_out task setting.nodes B1 holder.set (E.Not inner) table1
-        negated state (in_y state inside) also)
+    by_listed expr at none of few =
+        good_listed setting B1 table1 Selves Others None k p holder.set W.B1 (formed2 W.B1 refl) tt
+        (λ rule. rule) (still_question F.States B1 p holder.set (only true p) (only sign x)
+        (literal_signed F.States or_parts B1 x expr at none of refl sign holder.set literal) sign
+        true (plain_signed F.States and_parts B1 p (E.States (held ∷ [])) at_p refl (inr refl)
+        (inl tt)) (asked sign)) p (there sign) (listed_anchors B1 p (held ∷ []) at_p)
+        (each sign few) (λ state is_state inside. in_y state inside)
+      where
+        p_of : IsOfFamily B1 F.States p
+        p_of = (E.States (held ∷ []), at_p, refl)
 
-    -- the literal is the negation of another formula
-    out_formula : (x : Expr) (family : FormulaFamily) → IsOther x family → expr_at B1 inner ≡ Some x
-        → IsGood setting B1 (L.Known k (T.Sub p holder.set) W.B4 [])
-    out_formula x family other at =
-        good_apart setting B1 table1 k p holder.set inner (held ∷ []) x family at_p at other
+        asked : (way : Bool) → AreAsked F.States B1
+            (selves_of way false false (only true p) (only way x))
+            (others_of true false false (only true p) (only way x))
+        asked true = record {
+          selves = rises_one false p;
+          others = rises_one false x;
+          few = omega arith;
+          some = ((p, false), inl (head_in (p, false) []), p_of);
+        }
+        asked false = record {
+          selves = rises_two false x p before;
+          others = rises_none;
+          few = omega arith;
+          some = ((p, false), inl (second_in (x, false) (p, false)), p_of);
+        }
+
+        there : (way : Bool) → Contains (selves_of way false false (only true p) (only way x))
+            (p, false)
+        there true = head_in (p, false) []
+        there false = second_in (x, false) (p, false)
+
+        each : (way : Bool) → (way ≡ false → states_at B1 x ≤ setting.budget) → (a : ℕ × Bool)
+            → Contains (selves_of way false false (only true p) (only way x)) a
+            → states_at B1 a.0 ≤ setting.budget
+        each true most = of_one (λ a. states_at B1 a.0 ≤ setting.budget) (p, false)
+            (omega (arith, p_states))
+        each false most = of_two (λ a. states_at B1 a.0 ≤ setting.budget) (x, false) (p, false)
+            (most refl) (omega (arith, p_states))
+
+    -- it is another formula
+    by_formula : (expr : Expr) (family : FormulaFamily) → IsOther expr family
+        → expr_at B1 x ≡ Some expr → IsGood setting B1 (L.Known k (T.Sub p holder.set) W.B4 [])
+    by_formula expr family other at =
+        good_mixed setting B1 table1 k p holder.set x (held ∷ []) expr family at_p at other
         (omega arith) (formed2 W.B4 refl)
-        (λ state is_state inside. in_y state inside) negated
+        (λ state is_state inside. in_y state inside) sign literal
 
-    by_negated : (x : Expr) → IsPlainExpr x → expr_at B1 inner ≡ Some x
-        → ((states : List (List ℕ)) → x ≡ E.States states → length states ≤ 1000000)
-        → IsGood setting B1 (L.Known k (T.Sub p holder.set) (word_of_formula (Some x)) [])
-    by_negated (E.Constant constant) plain at few =
-        out_listed (E.Constant constant) tt at (omega (arith, constant_states B1 inner constant at))
-    by_negated (E.States states) plain at few =
-        out_listed (E.States states) tt at (omega
-        (arith, listed_states B1 inner states at, few states refl))
-    by_negated (E.Horn clauses) plain at few = out_formula (E.Horn clauses) F.Horn
+    by_plain : (expr : Expr) → IsPlainExpr expr → expr_at B1 x ≡ Some expr
+        → (sign ≡ false → (states : List (List ℕ)) → expr ≡ E.States states
+        → length states ≤ default_budget)
+        → IsGood setting B1 (L.Known k (T.Sub p holder.set) (word_of_formula (Some expr)) [])
+    by_plain (E.Constant constant) plain at few =
+        by_listed (E.Constant constant) at refl (inl refl)
+        (λ is. omega (arith, constant_states B1 x constant at))
+    by_plain (E.States states) plain at few =
+        by_listed (E.States states) at refl (inr refl)
+        (λ is. omega (arith, listed_states B1 x states at, few is states refl))
+    by_plain (E.Horn clauses) plain at few = by_formula (E.Horn clauses) F.Horn
         (tt, refl, λ e. cc (e)) at
-    by_negated (E.Dual clauses) plain at few = out_formula (E.Dual clauses) F.Dual
+    by_plain (E.Dual clauses) plain at few = by_formula (E.Dual clauses) F.Dual
         (tt, refl, λ e. cc (e)) at
-    by_negated (E.Two clauses) plain at few = out_formula (E.Two clauses) F.Two
+    by_plain (E.Two clauses) plain at few = by_formula (E.Two clauses) F.Two
         (tt, refl, λ e. cc (e)) at
-    by_negated (E.Node node) plain at few = out_formula (E.Node node) F.Node (tt, refl, λ e. cc (e))
-        at
-    by_negated (E.Not set) plain at few = elim plain
+    by_plain (E.Node node) plain at few = by_formula (E.Node node) F.Node (tt, refl, λ e. cc (e)) at
+    by_plain _ plain at few = elim plain
         [ inl formula ↦ absurd formula | inr constant ↦ absurd constant ]
-    by_negated (E.And a b) plain at few = elim plain
-        [ inl formula ↦ absurd formula | inr constant ↦ absurd constant ]
-    by_negated (E.Or a b) plain at few = elim plain
-        [ inl formula ↦ absurd formula | inr constant ↦ absurd constant ]
-    by_negated (E.After a b) plain at few = elim plain
-        [ inl formula ↦ absurd formula | inr constant ↦ absurd constant ]
-    by_negated (E.Before a b) plain at few = elim plain
-        [ inl formula ↦ absurd formula | inr constant ↦ absurd constant ]
+
+  -- the word of a literal that is no negation
+  plain_word : (expr : Expr) → IsPlainExpr expr
+      → word_of_literal old (Some expr) ≡ word_of_formula (Some expr)
+  plain_word (E.Not set) plain = elim plain
+      [ inl formula ↦ absurd formula | inr constant ↦ absurd constant ]
+  plain_word _ plain = refl
 
   abbrev IsGoodBy : Word → Type 0
   IsGoodBy w = IsGood setting B1 (L.Known k (T.Sub p holder.set) w [])
@@ -276,14 +259,16 @@ module _ (task : Strips) (is_task : IsTask task) (old : List Line) (good : IsGoo
   line2 =
       elim is_held.literal [
         | inl (x, at, plain) ↦
-            subst IsGoodBy (sym (ap (word_of_literal old) at))
-            (by_plain x plain (expr_onto (L1 ∷ []) old holder.set x table1 at))
+            let now = expr_onto (L1 ∷ []) old holder.set x table1 at in
+            subst IsGoodBy (sym (ap (word_of_literal old) at ∙ plain_word x plain))
+            (by_plain true holder.set (refl, (x, now, plain)) y_below x plain now
+            (λ is. absurd (cc (is))))
         | inr (inner, at, (x, at_inner, plain)) ↦
+            let now = expr_onto (L1 ∷ []) old inner x table1 at_inner in
             subst IsGoodBy (sym (ap (word_of_literal old) at ∙ ap word_of_formula at_inner))
-            (by_negated inner (expr_onto (L1 ∷ []) old holder.set (E.Not inner) table1 at)
-            (omega (arith, expr_below old inner x table at_inner, p_is)) x plain
-            (expr_onto (L1 ∷ []) old inner x table1 at_inner)
-            (λ states same. is_held.few inner states at (at_inner ∙ ap Some same)))
+            (by_plain false inner (expr_onto (L1 ∷ []) old holder.set (E.Not inner) table1 at,
+            (x, now, plain)) (omega (arith, expr_below old inner x table at_inner, p_is)) x plain
+            now (λ is states same. is_held.few inner states at (at_inner ∙ ap Some same)))
       ]
 
   good2 : IsGoodTable task B2
@@ -316,7 +301,7 @@ module _ (task : Strips) (is_task : IsTask task) (old : List Line) (good : IsGoo
   table4 = table_of task B4 good4
 
   -- the five lines are good
-  pub good_pruned : IsGoodTable task (onto (pruned_lines p k held word holder union) old)
+  good_pruned : IsGoodTable task (onto (pruned_lines p k held word holder union) old)
   good_pruned = (
     next_rule task B4 (k + 2) (T.Dead (p + 1)) W.Ud (union.line ∷ (k + 1) ∷ [])
         (λ basic. basic) (omega (arith, k_few)) (omega (arith, k_is))
@@ -341,34 +326,27 @@ module _ (task : Strips) (is_task : IsTask task) (old : List Line) (good : IsGoo
   at_p5 : expr_at B5 p ≡ Some (E.States (held ∷ []))
   at_p5 = expr_onto (L2 ∷ L3 ∷ L4 ∷ L5 ∷ []) B1 p (E.States (held ∷ [])) table5 at_p
 
-  leaf_before : (leaf : ℕ) → IsOrLeaf B5 union.set leaf → leaf < p
-  leaf_before leaf of =
-      let was = (leaf_onto (L1 ∷ L2 ∷ L3 ∷ L4 ∷ L5 ∷ []) old union.set leaf table5
-      (omega (arith, d_below, p_is))).1 of in
-      omega (arith, leaf_below old or_parts union.set leaf table was, p_is)
+  extends : Extends task old B5
+  extends = extends_by task (L1 ∷ L2 ∷ L3 ∷ L4 ∷ L5 ∷ []) old good_pruned
 
-  -- the new union is one of the pruned states
-  pub pruned_union : IsPrunedUnion task (onto (pruned_lines p k held word holder union) old)
-      (pruned + 1) (record { set = p + 1; line = k + 2 })
-  pruned_union =
-      union_push task B5 pruned union (p + 1) p (k + 2) (held ∷ []) table5
-      (union_onto task (L1 ∷ L2 ∷ L3 ∷ L4 ∷ L5 ∷ []) old pruned union table5 is_union) at_u at_p5
-      leaf_before
-      (statement_at_here (k + 2) (T.Dead (p + 1)) W.Ud (union.line ∷ (k + 1) ∷ []) B4)
-
-  -- it has the pruned state
-  pub pruned_inside : states_in task (onto (pruned_lines p k held word holder union) old) (p + 1)
-      (state_of (atoms task) held)
-  pruned_inside =
-      set_in task setting.nodes B5 (p + 1) (E.Or union.set p) table5 at_u
-      (state_of (atoms task) held)
-      (inr (set_in task setting.nodes B5 p (E.States (held ∷ [])) table5 at_p5
-      (state_of (atoms task) held) (0, omega arith, refl)))
-
-  -- and all that the union had before
-  pub pruned_keeps : (state : List Bool) → states_in task old union.set state
-      → states_in task (onto (pruned_lines p k held word holder union) old) (p + 1) state
-  pruned_keeps state inside =
-      set_in task setting.nodes B5 (p + 1) (E.Or union.set p) table5 at_u state
-      (inl ((states_onto task (L1 ∷ L2 ∷ L3 ∷ L4 ∷ L5 ∷ []) old union.set state table5
-      (omega (arith, d_below, p_is))).0 inside))
+  -- the union holds the pruned state, and all that it held before
+  pub shown_pruned : ShowPruned task old (onto (pruned_lines p k held word holder union) old) pruned
+      held union (record { set = p + 1; line = k + 2 })
+  shown_pruned = record {
+    good = good_pruned;
+    union_is = record {
+      says = statement_at_here (k + 2) (T.Dead (p + 1)) W.Ud (union.line ∷ (k + 1) ∷ []) B4;
+      leaves = is_union.leaves ++ p ∷ [];
+      are = one_beside (p + 1) union.set p is_union.leaves (held ∷ [])
+          (stays_union task old B5 extends union.set is_union.leaves is_union.are)
+          (leaves_below old union.set is_union.leaves is_union.are table p p_is) at_p5 (inl at_u);
+      few = omega (arith, is_union.few, length_push is_union.leaves p);
+    };
+    inside = set_in task setting.nodes B5 (p + 1) (E.Or union.set p) table5 at_u
+        (state_of (atoms task) held)
+        (inr (set_in task setting.nodes B5 p (E.States (held ∷ [])) table5 at_p5
+        (state_of (atoms task) held) (0, omega arith, refl)));
+    keeps = λ state inside.
+        set_in task setting.nodes B5 (p + 1) (E.Or union.set p) table5 at_u state
+        (inl (states_stay task old B5 extends union.set state (omega (arith, d_below, p_is)) inside));
+  }

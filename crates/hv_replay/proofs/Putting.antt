@@ -18,11 +18,11 @@ use Rattle.hv_replay.specs.ClosingLines.{closing_block}
 use Rattle.hv_replay.specs.Working.ClosingLines.{IsClosedSearch}
 use Rattle.hv_replay.specs.Logs.{IsAtomSet}
 use Rattle.hv_replay.specs.PrunedLines.{pruned_lines, pruned_word}
-use Rattle.hv_replay.specs.Working.PrunedLines.{IsPrunedUnion}
+use Rattle.hv_replay.specs.Working.PrunedLines.{IsPrunedUnion, most_pruned}
 use Rattle.hv_replay.specs.Replayed.{union_after}
 use Rattle.hv_lines.specs.declared.note.Note.{Note}
-use Rattle.hv_replay.proofs.ClosingBlock.{closing_concludes, good_closing, good_closing_block}
-use Rattle.hv_replay.proofs.PrunedBlock.{good_pruned, pruned_inside, pruned_keeps, pruned_union}
+use Rattle.hv_replay.proofs.ClosingBlock.{good_closing, good_closing_block}
+use Rattle.hv_replay.proofs.PrunedBlock.{ShowPruned, shown_pruned}
 use Rattle.hv_replay.proofs.Unions.{IsHeld, held_by}
 
 -- The draft has room, and `next` has the identifiers of its next set and statement.
@@ -61,47 +61,20 @@ module _ (task : Strips) (is_task : IsTask task) (old : List Line) (good : IsGoo
   pub holder_below : holder.set < expr_count old
   holder_below = speaks_at old by (T.Dead holder.set) (table_of task old good) says
 
-  module _ (pruned : ℕ) (union : Note) (is_union : IsPrunedUnion task old pruned union) where
-    pub put_pruned : IsGoodTable task (onto
-        (pruned_lines next.set next.line held (pruned_word old holder.set) holder union) old)
+  module _ (pruned : ℕ) (union : Note) (is_union : IsPrunedUnion old pruned union) where
+    pub put_pruned : ShowPruned task old (onto
+        (pruned_lines next.set next.line held (pruned_word old holder.set) holder union) old) pruned
+        held union (record { set = next.set + 1; line = next.line + 2 })
     put_pruned =
-        good_pruned task is_task old good next.set next.line pruned held holder union is_next.set
+        shown_pruned task is_task old good next.set next.line pruned held holder union is_next.set
         is_next.line (omega (arith, is_next.few_sets))
         (omega (arith, is_next.few_lines)) atom_set is_held is_union
-
-    pub put_union : IsPrunedUnion task (onto
-        (pruned_lines next.set next.line held (pruned_word old holder.set) holder union) old)
-        (pruned + 1)
-        (record { set = next.set + 1; line = next.line + 2 })
-    put_union =
-        pruned_union task is_task old good next.set next.line pruned held holder union is_next.set
-        is_next.line
-        (omega (arith, is_next.few_sets)) (omega (arith, is_next.few_lines)) atom_set is_held
-        is_union
-
-    pub put_keeps : (state : List Bool) → states_in task old union.set state
-        → states_in task (onto (pruned_lines next.set next.line held (pruned_word old holder.set)
-        holder union) old) (next.set + 1) state
-    put_keeps =
-        pruned_keeps task is_task old good next.set next.line pruned held holder union is_next.set
-        is_next.line
-        (omega (arith, is_next.few_sets)) (omega (arith, is_next.few_lines)) atom_set is_held
-        is_union
-
-    pub put_inside : states_in task (onto (pruned_lines next.set next.line held
-        (pruned_word old holder.set) holder union) old) (next.set + 1)
-        (state_of (atoms task) held)
-    put_inside =
-        pruned_inside task is_task old good next.set next.line pruned held holder union is_next.set
-        is_next.line
-        (omega (arith, is_next.few_sets)) (omega (arith, is_next.few_lines)) atom_set is_held
-        is_union
 
 module _ (task : Strips) (is_task : IsTask task) (old : List Line) (good : IsGoodTable task old)
     (begins : BeginsAsDraft old)
     (next : Note) (is_next : IsNextOf old next) (states : List (List ℕ)) (union : Note) (count : ℕ)
-    (count_few : count ≤ 65000)
-    (is_union : IsPrunedUnion task old count union)
+    (count_few : count ≤ most_pruned)
+    (is_union : IsPrunedUnion old count union)
     (short : IsShortLine (L.Expr (expr_count old) (E.States states)))
     (closed : IsClosedSearch task states (states_in task old union.set)) where
   is_short : IsShortLine (L.Expr next.set (E.States states))
@@ -120,15 +93,6 @@ module _ (task : Strips) (is_task : IsTask task) (old : List Line) (good : IsGoo
   put_closing =
       good_closing task is_task old good (prelude_begins task old begins good) next.set next.line
       count states union is_next.set
-      is_next.line (omega (arith, is_next.few_sets)) (omega (arith, is_next.few_lines)) is_union
-      count_few is_short closed
-
-  pub put_concludes : Concludes
-      (onto (conclusion (next.line + 5) (next.set + 2) (next.line + 4))
-      (onto (closing_block next.set next.line states union) old))
-  put_concludes =
-      closing_concludes task is_task old good (prelude_begins task old begins good) next.set
-      next.line count states union is_next.set
       is_next.line (omega (arith, is_next.few_sets)) (omega (arith, is_next.few_lines)) is_union
       count_few is_short closed
 

@@ -17,7 +17,7 @@ use Rattle.hv_task.specs.Strips.{Strips, atoms, is_goal, start_state}
 use Rattle.hv_sets.specs.Truth.{InStates}
 use Rattle.hv_lines.specs.Drafts.{IsGoodTable, onto, prelude}
 use Rattle.hv_lines.specs.Judged.{Concludes}
-use Rattle.hv_lines.specs.Numbering.{IsTable, expr_count, known_count}
+use Rattle.hv_lines.specs.Numbering.{expr_count, known_count}
 use Rattle.hv_lines.specs.Pruning.{BeginsAsDraft, Extends, IsDeadBy, states_in}
 use Rattle.hv_lines.specs.Rules.{Says}
 use Rattle.hv_lines.specs.declared.line.Line.{Line}
@@ -43,17 +43,7 @@ use Rattle.hv_replay.specs.declared.hole.ReplayFault.TheVariants as H
 use Rattle.hv_lines.specs.declared.note.Note.{Note}
 use Rattle.hv_lines.proofs.Elements.{nothing_in}
 use Rattle.hv_replay.proofs.Steps.{either, expanded_out, log_goalless, log_starts}
-use Rattle.hv_replay.proofs.Unions.{states_onto, union_begins, union_extended}
-
--- a set keeps its states in each extension of a draft
-states_extended : (task : Strips) (old new : List Line) (set : ℕ) (state : List Bool)
-    → Extends task old new → set < expr_count old
-    → states_in task old set state → states_in task new set state
-states_extended task old new set state extends below inside =
-    let table : IsTable (onto extends.0.0 old) = subst IsTable extends.0.1
-    (table_of task new extends.1) in
-    subst (λ lines. states_in task lines set state) (sym extends.0.1)
-    ((states_onto task extends.0.0 old set state table below).0 inside)
+use Rattle.hv_replay.proofs.Unions.{states_stay, union_begins, union_extended}
 
 -- at first no pruned state has lines
 pub progress_begins : (task : Strips) (lines : List Line) → lines ≡ onto prelude []
@@ -65,8 +55,7 @@ progress_begins task lines is good =
     record {
       good = good;
       pruned = subst (λ l. ArePruned [] l (record { set = 0; line = 0 })) (sym is) none;
-      dead = union_begins task lines (table_of task lines good)
-          (prelude_begins task lines begins good);
+      dead = union_begins lines (prelude_begins task lines begins good);
       inside = λ held c. absurd (nothing_in held c);
     }
 
@@ -78,8 +67,8 @@ module _ (task : Strips) (old now new : List Line) (held : List ℕ) (by : ℕ) 
     → new ≡ onto (pruned_lines (expr_count now) (known_count now) held (pruned_word now set)
     (record { set = set; line = by }) union) now)
     (number : more ≡ union_after now) (further : Extends task now new)
-    (unions : (pruned : ℕ) → IsPrunedUnion task now pruned union
-    → IsPrunedUnion task new (pruned + 1) more)
+    (unions : (pruned : ℕ) → IsPrunedUnion now pruned union
+    → IsPrunedUnion new (pruned + 1) more)
     (inside : states_in task new more.set (state_of (atoms task) held))
     (keeps : (state : List Bool) → states_in task now union.set state
     → states_in task new more.set state)
@@ -109,7 +98,7 @@ module _ (task : Strips) (old now new : List Line) (held : List ℕ) (by : ℕ) 
       elim (Contains-push_cases states held other c) [
         | inl there ↦
             keeps (state_of (atoms task) other)
-            (states_extended task old now union.set (state_of (atoms task) other) extends
+            (states_stay task old now extends union.set (state_of (atoms task) other)
             (speaks_at old union.line (T.Dead union.set) (table_of task old before.good)
             before.dead.says) (before.inside other there))
         | inr same ↦ subst (λ h. states_in task new more.set (state_of (atoms task) h)) same inside
@@ -119,8 +108,8 @@ module _ (task : Strips) (old now new : List Line) (held : List ℕ) (by : ℕ) 
   progress_more = record {
     good = further.1;
     pruned = are_pruned;
-    dead = subst (λ n. IsPrunedUnion task new n more) (sym (length-append states (held ∷ [])))
-        (unions (length states) (union_extended task old now (length states) union extends
+    dead = subst (λ n. IsPrunedUnion new n more) (sym (length-append states (held ∷ [])))
+        (unions (length states) (union_extended task old now extends (length states) union
         before.dead));
     inside = new_in;
   }

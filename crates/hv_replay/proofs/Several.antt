@@ -22,10 +22,6 @@ pub none_any : {X : Type 0} (xs : List X) (n : ℕ) (P : X → Type 0) → lengt
 none_any xs n P whole no_one (k, x, within, at, holds) =
     no_one k x (omega arith) (omega (arith, whole, within)) (subst P (sym at) holds)
 
-pub all_within : {X : Type 0} (xs : List X) (n : ℕ) (P : X → Type 0) → length xs ≤ n
-    → AllWithin P xs 0 n → All P xs
-all_within xs n P whole each = λ k d less. each k d (omega arith) (omega (arith, whole, less))
-
 -- the element at a place is replaced
 module _ {X : Type 0} (xs : List X) (i : ℕ) (d y : X) (P : X → Type 0) (within : i < length xs)
   where

@@ -28,7 +28,7 @@ pub(crate) fn push_closing(
 ) -> Result<(), AllocError>
     requires draft { IsGoodTable task.now draft.old.lines }
     requires union { (pruned : ℕ) × (pruned ≤ most_pruned)
-        × IsPrunedUnion task.now draft.old.lines pruned union }
+        × IsPrunedUnion draft.old.lines pruned union }
     requires closed { IsClosedSearch task.now states
         (states_in task.now draft.old.lines union.set) }
     requires short { IsShortLine (L.Expr (expr_count draft.old.lines) (E.States states)) }

@@ -202,7 +202,7 @@ fn put_one(
     requires state { IsState task.now writing.old.state }
     requires good { IsGoodTable task.now writing.old.draft.lines }
     requires union { (pruned : ℕ)
-        × IsPrunedUnion task.now writing.old.draft.lines pruned writing.old.union }
+        × IsPrunedUnion writing.old.draft.lines pruned writing.old.union }
     requires fits { (lines : List Line) → Extends task.now writing.old.draft.lines lines
         → All (λ b. fits b task.now lines) pruners.old }
     ensures state { IsState task.now writing.new.state }
@@ -240,7 +240,7 @@ fn put_state(
     requires state { IsState task.now writing.old.state }
     requires good { IsGoodTable task.now writing.old.draft.lines }
     requires union { (pruned : ℕ)
-        × IsPrunedUnion task.now writing.old.draft.lines pruned writing.old.union }
+        × IsPrunedUnion writing.old.draft.lines pruned writing.old.union }
     requires fits { (lines : List Line) → Extends task.now writing.old.draft.lines lines
         → All (λ b. fits b task.now lines) pruners.old }
     ensures state { IsState task.now writing.new.state }

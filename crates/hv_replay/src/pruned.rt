@@ -37,7 +37,7 @@ pub(crate) fn push_pruned(
     requires draft { IsGoodTable task.now draft.old.lines }
     requires held { IsAtomSet (atoms task.now) held.now }
     requires dead { IsDeadBy task.now draft.old.lines (state_of (atoms task.now) held.now) by }
-    requires union { (pruned : ℕ) × IsPrunedUnion task.now draft.old.lines pruned union }
+    requires union { (pruned : ℕ) × IsPrunedUnion draft.old.lines pruned union }
     ensures lines { IfOk result (λ _. (set : ℕ) → Says draft.old.lines by (T.Dead set)
         → draft.new.lines
         ≡ onto (pruned_lines (expr_count draft.old.lines) (known_count draft.old.lines) held.now
@@ -46,8 +46,8 @@ pub(crate) fn push_pruned(
     ensures number { IfOk result (λ all. all ≡ union_after draft.old.lines) }
     ensures extends { Extends task.now draft.old.lines draft.new.lines }
     ensures union { IfOk result (λ all. (pruned : ℕ)
-        → IsPrunedUnion task.now draft.old.lines pruned union
-        → IsPrunedUnion task.now draft.new.lines (pruned + 1) all) }
+        → IsPrunedUnion draft.old.lines pruned union
+        → IsPrunedUnion draft.new.lines (pruned + 1) all) }
     ensures inside { IfOk result (λ all.
         states_in task.now draft.new.lines all.set (state_of (atoms task.now) held.now)) }
     ensures keeps { IfOk result (λ all. (state : List Bool)

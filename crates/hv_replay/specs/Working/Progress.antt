@@ -20,7 +20,7 @@ pub record IsProgress (task : Strips) (states : List (List ℕ)) (lines : List L
     : Type 0 where
   pub good : IsGoodTable task lines
   pub pruned : ArePruned states lines union
-  pub dead : IsPrunedUnion task lines (length states) union
+  pub dead : IsPrunedUnion lines (length states) union
   pub inside : (held : List ℕ) → Contains states held
       → states_in task lines union.set (state_of (atoms task) held)
 

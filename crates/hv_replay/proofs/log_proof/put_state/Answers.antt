@@ -12,7 +12,7 @@ pub push_pruned-requires-clause-union : goal.push_pruned-requires-clause-union
 push_pruned-requires-clause-union g c = (
   c.requires.union.0,
   union_extended c.args.task.now c.args.writing.now.draft.lines c.ask.new.draft.lines
-      c.requires.union.0 c.args.writing.now.union c.ask.ensures.extends c.requires.union.1,
+      c.ask.ensures.extends c.requires.union.0 c.args.writing.now.union c.requires.union.1,
 )
 
 pub returns-in-None-clause-uncovered : goal.returns-in-None-clause-uncovered
