@@ -3,7 +3,6 @@ use Rattle.std.proofs.Common.{◌≡◌, ℕ, ◌<◌, ◌+◌, ◌≤◌, ◌�
 use Rattle.std.proofs.Common.{Some, None, get_or, length, refl, sym, subst, inl, inr, arith}
 use Rattle.std.proofs.lemmas.List.Elements.{Contains-get_or}
 use Rattle.std.specs.List.{All, Contains}
-use Rattle.hv_sets.specs.declared.operand.Operand.{Operand}
 use Rattle.hv_lines.specs.Literals.{IsPlainSet}
 use Rattle.hv_lines.specs.Setting.{Setting}
 use Rattle.hv_lines.specs.Verdicts.{IsVerdict}
@@ -149,7 +148,7 @@ module _ (lines : List Line) (word : Word) (left : ℕ) (lefts : List ℕ)
 
 module _ (lines : List Line) (word : Word) (left right : ℕ) (askings : List Asking) (after : Bool)
     (kept : Option FormulaFamily)
-    (asked : Askings) (operands : List Operand) (are : ArePlain lines after kept asked operands)
+    (asked : Askings) (are : ArePlain lines after kept asked)
     (leaves : (leaf : ℕ) → Contains asked (leaf, after) ↔ IsOrLeaf lines right leaf)
     (late : after ≡ asks_sides_after word)
     (asks : AreLeftAskings lines word left askings)

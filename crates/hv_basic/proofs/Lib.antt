@@ -17,3 +17,4 @@ pub mod Mixing
 pub mod Turning
 pub mod Sharing
 pub mod LeftSides
+pub mod Within

@@ -1,15 +1,17 @@
 -- What is kept of a right side stays right, and grows with the union.
-use Rattle.std.proofs.Common.{◌≡◌, ℕ, zero, suc, ◌<◌, ◌+◌, ◌-◌, ◌∙◌, ◌⊎◌, ◌↔◌, ◌++◌, Bool, true, false}
-use Rattle.std.proofs.Common.{List, [], ◌∷◌, Option, Some, None, length, map, get_or, drop, eqb}
+use Rattle.std.proofs.Common.{◌≡◌, ℕ, zero, suc, ◌<◌, ◌≤◌, ◌+◌, ◌-◌, ◌*◌, ◌∙◌, ◌⊎◌, ◌↔◌, ◌++◌, Bool}
+use Rattle.std.proofs.Common.{true, false, List, [], ◌∷◌, Option, Some, None, length, map, get_or}
+use Rattle.std.proofs.Common.{drop, eqb, ltb, mul_assoc, mul_comm}
 use Rattle.std.proofs.Common.{refl, sym, ap, ap₂, subst, inl, inr, arith}
-use Rattle.std.proofs.lemmas.Bool.{cases_lt, cond-false, ne_eqb}
-use Rattle.std.proofs.lemmas.List.{get_or-map, get_or_append_left, length-append, length-map}
-use Rattle.std.proofs.lemmas.List.{map-append}
-use Rattle.std.proofs.lemmas.List.Elements.{Contains-append_left, Contains-push}
-use Rattle.std.proofs.lemmas.List.Elements.{Contains-push_cases}
+use Rattle.std.proofs.lemmas.Bool.{cases_lt, cond-false, ltb-false, ltb-true, ne_eqb}
+use Rattle.std.proofs.lemmas.List.{get_or_default, get_or-map, length-map, map-append}
+use Rattle.std.proofs.lemmas.List.Edits.{get_or-insert_above, get_or-insert_at, get_or-insert_below}
+use Rattle.std.proofs.lemmas.List.Edits.{insert_end, length-insert}
+use Rattle.std.proofs.lemmas.List.Sorted.{Contains-permutation, IsPermutation-insert}
+use Rattle.std.proofs.lemmas.List.Sorted.{IsPermutation-sym}
 use Rattle.std.proofs.lemmas.Option.{get_or_from_slice_get, slice_get-get_or, slice_get_within}
-use Rattle.std.proofs.Math.Seq.{get_or-append_seam}
-use Rattle.std.specs.List.{Contains, slice_get}
+use Rattle.std.specs.List.{Contains, insert, slice_get}
+use Rattle.std.specs.List.Sorted.{IsNonDecreasingBy, IsPartitionPoint}
 use Rattle.std.specs.Option.{IfSome, MatchOption}
 use Rattle.hv_sets.specs.declared.operand.Operand.{Operand}
 use Rattle.hv_sets.specs.declared.operand.Which.{Which}
@@ -28,11 +30,12 @@ use Rattle.hv_lines.specs.declared.line.Line.TheVariants as L
 use Rattle.hv_lines.proofs.Laws.{expr_at_more, expr_below, exprs_grow, refers_below}
 use Rattle.hv_lines.proofs.Truth.{or_is}
 use Rattle.hv_lines.proofs.Elements.{cons_cases, head_in, tail_in}
-use Rattle.hv_basic.specs.Sharing.{ArePlain, IsKeptFor, IsNoFormula, IsShared, IsTheFamily}
+use Rattle.hv_basic.specs.Sharing.{ArePlain, AreWays, HasToChoose, IsKeptFor, IsNoFormula}
+use Rattle.hv_basic.specs.Sharing.{IsPlainSide, IsShared, IsTheFamily}
 use Rattle.hv_basic.specs.Working.Gathered.{IsThe}
 use Rattle.hv_basic.specs.Working.Leaves.{IsLeafRead, places}
-use Rattle.hv_basic.specs.Working.Sharing.{AreAddedTo, IsFamilyWith, IsMadeOf}
-use Rattle.hv_basic.specs.Working.Sharing.{IsPartBeside}
+use Rattle.hv_basic.specs.Working.Sharing.{AreAddedTo, AreWaysWith, IsAddedTo, IsFamilyWith}
+use Rattle.hv_basic.specs.Working.Sharing.{IsMadeOf, IsPartBeside, IsPlaceFor, IsSplitAt}
 use Rattle.hv_basic.specs.declared.signed_sets.Leaf.{Leaf}
 use Rattle.hv_basic.specs.declared.signed_sets.SignedSet.{SignedSet}
 use Rattle.hv_basic.specs.declared.shared.Kept.{Kept}
@@ -40,48 +43,100 @@ use Rattle.hv_basic.proofs.Leafing.{leaf_parts}
 
 -- lists
 
-left_at : {X : Type 0} (xs ys : List X) (i : ℕ) (x : X) → i < length xs
-    → slice_get (xs ++ ys) i ≡ Some x → get_or xs i x ≡ x
-left_at xs ys i x below at = sym (get_or_append_left xs ys x i below)
-    ∙ get_or_from_slice_get (xs ++ ys) i x x at
-
-contained_at : {X : Type 0} (xs ys : List X) (i : ℕ) (x : X) → i < length xs
-    → slice_get (xs ++ ys) i ≡ Some x → Contains xs x
-contained_at xs ys i x below at = (i, below, left_at xs ys i x below at)
-
 drop_at : (xs : List ℕ) (i d : ℕ) → i < length xs → drop i xs ≡ get_or xs i d ∷ drop (suc i) xs
 drop_at [] i d below = absurd (omega (arith, below))
 drop_at (x ∷ xs) zero d below = refl
 drop_at (x ∷ xs) (suc i) d below = drop_at xs i d (omega (arith, below))
 
--- what is asked about stays in order where the last comes after all others
-rises_push : (asked : Askings) (leaf : ℕ) (after : Bool) → AskingsRise asked
-    → ((a : ℕ × Bool) → Contains asked a → a.0 < leaf)
-    → AskingsRise (asked ++ (leaf, after) ∷ [])
-rises_push asked leaf after rises later i j first second less at_first at_second =
-    let size : length (asked ++ (leaf, after) ∷ [])
-    ≡ length asked + 1 = length-append asked ((leaf, after) ∷ []) in
-    let within : j < length (asked ++ (leaf, after) ∷ []) = slice_get_within
-    (asked ++ (leaf, after) ∷ []) j second at_second in
-    let before : i < length asked = omega (arith, size, within, less) in
-    let has : Contains asked first = contained_at asked ((leaf, after) ∷ []) i first before
-    at_first in
-    elim (cases_lt j (length asked)) [
-      | inl below ↦
-          rises i j first second less
-          (slice_get-get_or asked i first before
-          ∙ ap Some (left_at asked ((leaf, after) ∷ []) i first before at_first))
-          (slice_get-get_or asked j second below
-          ∙ ap Some (left_at asked ((leaf, after) ∷ []) j second below at_second))
-      | inr past ↦
-          let here : j ≡ length asked = omega (arith, size, within, past) in
-          let last : second ≡ (leaf, after) =
-          sym (get_or_from_slice_get (asked ++ (leaf, after) ∷ []) j second second at_second)
-          ∙ (ap (λ k. get_or (asked ++ (leaf, after) ∷ []) k second) here
-          ∙ get_or-append_seam asked (leaf, after) [] second) in
-          let id : second.0 ≡ leaf = ap (λ (p : ℕ × Bool). p.0) last in
-          inl (omega (arith, later first has, id))
+-- what is in a list with one item more
+insert_in : {X : Type 0} (xs : List X) (i : ℕ) (y x : X) → Contains xs x
+    → Contains (insert xs i y) x
+insert_in xs i y x c =
+    Contains-permutation (y ∷ xs) (insert xs i y) x (IsPermutation-insert xs i y) (tail_in y xs x c)
+
+inserted : {X : Type 0} (xs : List X) (i : ℕ) (y : X) → Contains (insert xs i y) y
+inserted xs i y =
+    Contains-permutation (y ∷ xs) (insert xs i y) y (IsPermutation-insert xs i y) (head_in y xs)
+
+insert_cases : {X : Type 0} (xs : List X) (i : ℕ) (y x : X) → Contains (insert xs i y) x
+    → Contains xs x ⊎ (y ≡ x)
+insert_cases xs i y x c =
+    elim (cons_cases y xs x (Contains-permutation (insert xs i y) (y ∷ xs) x
+    (IsPermutation-sym (y ∷ xs) (insert xs i y) (IsPermutation-insert xs i y)) c)) [
+      | inl same ↦ inr same
+      | inr there ↦ inl there
     ]
+
+-- where the items of a list with one item more stand
+place_cases : {X : Type 0} (xs : List X) (i : ℕ) (y x : X) (k : ℕ) → i ≤ length xs
+    → slice_get (insert xs i y) k ≡ Some x
+    → ((k < i) × (slice_get xs k ≡ Some x))
+    ⊎ (((k ≡ i) × (y ≡ x)) ⊎ ((i < k) × (slice_get xs (k - 1) ≡ Some x)))
+place_cases xs i y x k upto at =
+    let size = length-insert xs i y upto in
+    let within = slice_get_within (insert xs i y) k x at in
+    let e : get_or (insert xs i y) k x ≡ x = get_or_from_slice_get (insert xs i y) k x x at in
+    elim (cases_lt k i) [
+      | inl less ↦ inl (
+        less,
+        slice_get-get_or xs k x (omega (arith, less, upto))
+            ∙ ap Some (sym (get_or-insert_below xs i y x k less upto) ∙ e),
+      )
+      | inr from ↦ elim (cases_lt i k) [
+        | inl more ↦
+            let back : k - 1 + 1 ≡ k = omega (arith, more) in
+            inr (inr (
+              more,
+              slice_get-get_or xs (k - 1) x (omega (arith, more, within, size))
+                  ∙ ap Some (sym (get_or-insert_above xs i y x (k - 1) (omega (arith, more)) upto)
+                  ∙ (ap (λ j. get_or (insert xs i y) j x) back ∙ e)),
+            ))
+        | inr also ↦
+            let here : k ≡ i = omega (arith, from, also) in
+            inr (inl (
+              here,
+              sym (get_or-insert_at xs i y x upto)
+                  ∙ (ap (λ j. get_or (insert xs i y) j x) (sym here) ∙ e),
+            ))
+      ]
+    ]
+
+-- what is asked about stays in order where a set is put in at its place
+rises_insert : (asked : Askings) (place leaf : ℕ) (after : Bool) → AskingsRise asked
+    → IsPlaceFor asked leaf place → AskingsRise (insert asked place (leaf, after))
+rises_insert asked place leaf after rises is i j first second less at_first at_second =
+    elim (place_cases asked place (leaf, after) first i is.0 at_first) [
+      | inl before ↦ elim (place_cases asked place (leaf, after) second j is.0 at_second) [
+        | inl other ↦ rises i j first second less before.1 other.1
+        | inr (inl here) ↦
+            inl (subst (λ (p : ℕ × Bool). first.0 < p.0) here.1 (lesser i first before.0 before.1))
+        | inr (inr behind) ↦
+            let i_less = before.0 in let j_more = behind.0 in
+            rises i (j - 1) first second (omega (arith, i_less, j_more)) before.1 behind.1
+      ]
+      | inr (inl own) ↦ elim (place_cases asked place (leaf, after) second j is.0 at_second) [
+        | inl other ↦ let h = own.0 in let l = other.0 in absurd (omega (arith, less, h, l))
+        | inr (inl here) ↦ let h = own.0 in let l = here.0 in absurd (omega (arith, less, h, l))
+        | inr (inr behind) ↦
+            inl (subst (λ (p : ℕ × Bool). p.0 < second.0) own.1
+            (greater (j - 1) second (let l = behind.0 in omega (arith, l)) behind.1))
+      ]
+      | inr (inr past) ↦ elim (place_cases asked place (leaf, after) second j is.0 at_second) [
+        | inl other ↦ let h = past.0 in let l = other.0 in absurd (omega (arith, less, h, l))
+        | inr (inl here) ↦ let h = past.0 in let l = here.0 in absurd (omega (arith, less, h, l))
+        | inr (inr behind) ↦
+            let h = past.0 in
+            rises (i - 1) (j - 1) first second (omega (arith, less, h)) past.1 behind.1
+      ]
+    ]
+  where
+    lesser : (k : ℕ) (p : ℕ × Bool) → k < place → slice_get asked k ≡ Some p → p.0 < leaf
+    lesser k p below at = subst (λ (q : ℕ × Bool). q.0 < leaf)
+        (get_or_from_slice_get asked k p p at) (is.1 k p below)
+
+    greater : (k : ℕ) (p : ℕ × Bool) → place ≤ k → slice_get asked k ≡ Some p → leaf < p.0
+    greater k p from at = subst (λ (q : ℕ × Bool). leaf < q.0)
+        (get_or_from_slice_get asked k p p at) (is.2 k p from (slice_get_within asked k p at))
 
 -- a further line changes nothing of what earlier ones say
 
@@ -113,6 +168,22 @@ module _ (line : Line) (older : List Line) (next : MayFollow older line) where
     λ a c. within_more family a.0 table (within a c),
     (some, has, formula_more family some.0 table of),
   )
+
+  ways_more : (asked : Askings) (ways : ℕ) → IsTable older → AreWays older asked ways
+      → AreWays (line ∷ older) asked ways
+  ways_more [] ways table are = are
+  ways_more (a ∷ asked) ways table (count, rest, (expr, at, is), are, product) = (
+    count,
+    rest,
+    (expr, expr_at_more line older a.0 next (expr_below older a.0 expr table at) ∙ at, is),
+    ways_more asked rest table are,
+    product,
+  )
+
+  told_more : (asked : Askings) (ways : Option ℕ) → IsTable older → IfSome ways (AreWays older asked)
+      → IfSome ways (AreWays (line ∷ older) asked)
+  told_more asked None table are = tt
+  told_more asked (Some ways) table are = ways_more asked ways table are
 
   leaf_more : (set leaf : ℕ) → IsTable older → IsOrLeaf older set leaf
       → IsOrLeaf (line ∷ older) set leaf
@@ -164,17 +235,14 @@ operands_more line older (a ∷ asked) next below =
 
 -- what is asked about has a line
 pub asked_below : (lines : List Line) (after : Bool) (family : Option FormulaFamily)
-    (asked : Askings) (operands : List Operand)
-    → ArePlain lines after family asked operands → (a : ℕ × Bool) → Contains asked a
+    (asked : Askings) → ArePlain lines after family asked → (a : ℕ × Bool) → Contains asked a
     → a.0 < expr_count lines
-asked_below lines after family asked operands are a c =
+asked_below lines after family asked are a c =
     let plain = (are.plain a c).0 in expr_below lines a.0 plain.0 are.table plain.1
 
-kept_more : (line : Line) (older : List Line) (kept : Kept) (root : ℕ) → MayFollow older line
-    → IsKeptFor older kept root
-    → IsKeptFor (line ∷ older) kept root
-kept_more line older kept root next is = record {
-  below = omega (arith, is.below, exprs_grow line older);
+side_more : (line : Line) (older : List Line) (kept : Kept) → MayFollow older line
+    → IsPlainSide older kept → IsPlainSide (line ∷ older) kept
+side_more line older kept next is = record {
   plain = record {
     table = (next, is.plain.table);
     plain = λ a c. (
@@ -184,15 +252,24 @@ kept_more line older kept root next is = record {
     rises = is.plain.rises;
     one_family = family_more line older next kept.question.negative.items kept.family is.plain.table
         is.plain.one_family;
-    named =
-        is.plain.named
-        ∙ operands_more line older kept.question.negative.items next
-        (asked_below older kept.after kept.family kept.question.negative.items kept.query.negative
-        is.plain);
   };
+  ways = told_more line older next kept.question.negative.items kept.ways is.plain.table is.ways;
+  named = λ yes.
+      is.named yes
+      ∙ operands_more line older kept.question.negative.items next
+      (asked_below older kept.after kept.family kept.question.negative.items is.plain);
+}
+
+kept_more : (line : Line) (older : List Line) (kept : Kept) (root : ℕ) → MayFollow older line
+    → IsKeptFor older kept root
+    → IsKeptFor (line ∷ older) kept root
+kept_more line older kept root next is = record {
+  below = omega (arith, is.below, exprs_grow line older);
+  side = side_more line older kept next is.side;
   leaves = λ leaf. (
-    λ c. leaf_more line older next root leaf is.plain.table ((is.leaves leaf).0 c),
-    λ of. (is.leaves leaf).1 (leaf_before line older next root leaf is.plain.table is.below of),
+    λ c. leaf_more line older next root leaf is.side.plain.table ((is.leaves leaf).0 c),
+    λ of. (is.leaves leaf).1
+        (leaf_before line older next root leaf is.side.plain.table is.below of),
   );
 }
 
@@ -208,108 +285,182 @@ shared_more line older kept next is = more kept.root is
 
 -- one more leaf
 
-family_push : (lines : List Line) (asked : Askings) (leaf : ℕ) (after : Bool)
-    (family both : Option FormulaFamily) (expr : Expr)
-    → IsTheFamily lines asked family → expr_at lines leaf ≡ Some expr
-    → (next : Option FormulaFamily) → family_of expr ≡ next
-    → IsFamilyWith family next both → IsTheFamily lines (asked ++ (leaf, after) ∷ []) both
-family_push lines asked leaf after None both expr none at None is with =
-    subst (IsTheFamily lines (asked ++ (leaf, after) ∷ [])) (sym with)
-    (λ a c. elim (Contains-push_cases asked (leaf, after) a c) [
-      | inl was ↦ none a was
-      | inr same ↦ subst (λ (p : ℕ × Bool). IsNoFormula lines p.0) same (expr, at, is)
-    ])
-family_push lines asked leaf after None both expr none at (Some next) is with =
-    subst (IsTheFamily lines (asked ++ (leaf, after) ∷ [])) (sym with) (
-      λ a c. elim (Contains-push_cases asked (leaf, after) a c) [
-        | inl was ↦ let old = none a was in (old.0, old.1, inl old.2)
-        | inr same ↦ subst (λ (p : ℕ × Bool). IsWithinFamily lines next p.0) same (expr, at, inr is)
-      ],
-      ((leaf, after), Contains-push asked (leaf, after), (expr, at, is)),
-    )
-family_push lines asked leaf after (Some family) both expr (within, (some, has, of)) at None is with
-    =
-    subst (IsTheFamily lines (asked ++ (leaf, after) ∷ [])) (sym with) (
-      λ a c. elim (Contains-push_cases asked (leaf, after) a c) [
-        | inl was ↦ within a was
-        | inr same ↦ subst (λ (p : ℕ × Bool). IsWithinFamily lines family p.0) same
-            (expr, at, inl is)
-      ],
-      (some, Contains-append_left asked ((leaf, after) ∷ []) some has, of),
-    )
-family_push lines asked leaf after (Some family) both expr (within, (some, has, of)) at (Some next)
-    is (equal, with) =
-    subst (IsTheFamily lines (asked ++ (leaf, after) ∷ [])) (sym with) (
-      λ a c. elim (Contains-push_cases asked (leaf, after) a c) [
-        | inl was ↦ within a was
-        | inr same ↦ subst (λ (p : ℕ × Bool). IsWithinFamily lines family p.0) same
-            (expr, at, inr (is ∙ ap Some (sym equal)))
-      ],
-      (some, Contains-append_left asked ((leaf, after) ∷ []) some has, of),
-    )
+module _ (lines : List Line) (asked : Askings) (place leaf : ℕ) (after : Bool) where
+  abbrev with_leaf : Askings
+  with_leaf = insert asked place (leaf, after)
 
-pub plain_push : (lines : List Line) (after : Bool) (family both : Option FormulaFamily)
-    (asked : Askings) (operands : List Operand)
-    (leaf : ℕ) (expr : Expr) (operand : Operand) → ArePlain lines after family asked operands
-    → IsPlainSet lines leaf
-    → ((a : ℕ × Bool) → Contains asked a → a.0 < leaf) → expr_at lines leaf ≡ Some expr
-    → IsFamilyWith family (family_of expr) both
-    → operand ≡ operand_of lines (leaf, after)
-    → ArePlain lines after both (asked ++ (leaf, after) ∷ []) (operands ++ operand ∷ [])
-plain_push lines after family both asked operands leaf expr operand are plain later at with is =
+  family_put : (family both : Option FormulaFamily) (expr : Expr)
+      → IsTheFamily lines asked family → expr_at lines leaf ≡ Some expr
+      → (next : Option FormulaFamily) → family_of expr ≡ next
+      → IsFamilyWith family next both → IsTheFamily lines with_leaf both
+  family_put None both expr none at None is with =
+      subst (IsTheFamily lines with_leaf) (sym with)
+      (λ a c. elim (insert_cases asked place (leaf, after) a c) [
+        | inl was ↦ none a was
+        | inr same ↦ subst (λ (p : ℕ × Bool). IsNoFormula lines p.0) same (expr, at, is)
+      ])
+  family_put None both expr none at (Some next) is with =
+      subst (IsTheFamily lines with_leaf) (sym with) (
+        λ a c. elim (insert_cases asked place (leaf, after) a c) [
+          | inl was ↦ let old = none a was in (old.0, old.1, inl old.2)
+          | inr same ↦ subst (λ (p : ℕ × Bool). IsWithinFamily lines next p.0) same
+              (expr, at, inr is)
+        ],
+        ((leaf, after), inserted asked place (leaf, after), (expr, at, is)),
+      )
+  family_put (Some family) both expr (within, (some, has, of)) at None is with =
+      subst (IsTheFamily lines with_leaf) (sym with) (
+        λ a c. elim (insert_cases asked place (leaf, after) a c) [
+          | inl was ↦ within a was
+          | inr same ↦ subst (λ (p : ℕ × Bool). IsWithinFamily lines family p.0) same
+              (expr, at, inl is)
+        ],
+        (some, insert_in asked place (leaf, after) some has, of),
+      )
+  family_put (Some family) both expr (within, (some, has, of)) at (Some next) is (equal, with) =
+      subst (IsTheFamily lines with_leaf) (sym with) (
+        λ a c. elim (insert_cases asked place (leaf, after) a c) [
+          | inl was ↦ within a was
+          | inr same ↦ subst (λ (p : ℕ × Bool). IsWithinFamily lines family p.0) same
+              (expr, at, inr (is ∙ ap Some (sym equal)))
+        ],
+        (some, insert_in asked place (leaf, after) some has, of),
+      )
+
+  plain_put : (family both : Option FormulaFamily) (expr : Expr)
+      → ArePlain lines after family asked → IsPlainSet lines leaf
+      → IsPlaceFor asked leaf place → expr_at lines leaf ≡ Some expr
+      → IsFamilyWith family (family_of expr) both
+      → ArePlain lines after both with_leaf
+  plain_put family both expr are plain is at with = record {
+    table = are.table;
+    plain = λ a c. elim (insert_cases asked place (leaf, after) a c) [
+      | inl was ↦ are.plain a was
+      | inr same ↦ subst (λ (p : ℕ × Bool). IsPlainSet lines p.0 × (p.1 ≡ after)) same
+          (plain, refl)
+    ];
+    rises = rises_insert asked place leaf after are.rises is;
+    one_family = family_put family both expr are.one_family at (family_of expr) refl with;
+  }
+
+turned : (a b c : ℕ) → a * (b * c) ≡ b * (a * c)
+turned a b c = sym (mul_assoc a b c) ∙ (ap (λ x. x * c) (mul_comm a b) ∙ mul_assoc b a c)
+
+-- the ways with one more set, wherever it is put in
+ways_insert : (lines : List Line) (asked : Askings) (place leaf : ℕ) (after : Bool) (ways count : ℕ)
+    → AreWays lines asked ways → HasToChoose lines leaf count
+    → AreWays lines (insert asked place (leaf, after)) (count * ways)
+ways_insert lines [] zero leaf after ways count are has = (count, ways, has, are, refl)
+ways_insert lines [] (suc place) leaf after ways count are has = (count, ways, has, are, refl)
+ways_insert lines (a ∷ asked) zero leaf after ways count are has = (count, ways, has, are, refl)
+ways_insert lines (a ∷ asked) (suc place) leaf after ways count (own, rest, is, are, product) has = (
+  own,
+  count * rest,
+  is,
+  ways_insert lines asked place leaf after rest count are has,
+  ap (λ w. count * w) product ∙ turned count own rest,
+)
+
+told_put : (lines : List Line) (asked : Askings) (place leaf : ℕ) (after : Bool)
+    (before ways : Option ℕ) (expr : Expr) → IfSome before (AreWays lines asked)
+    → expr_at lines leaf ≡ Some expr → AreWaysWith before expr ways
+    → IfSome ways (AreWays lines (insert asked place (leaf, after)))
+told_put lines asked place leaf after before None expr are at with = tt
+told_put lines asked place leaf after before (Some ways) expr are at (old, count, was, has, is) =
+    subst (AreWays lines (insert asked place (leaf, after))) (sym is)
+    (ways_insert lines asked place leaf after old count
+    (subst (λ o. IfSome o (AreWays lines asked)) was are) (expr, at, has))
+
+-- what is kept with one more set
+pub side_put : (lines : List Line) (old new : Kept) (leaf place : ℕ)
+    (both : Option FormulaFamily) (expr : Expr) → IsPlainSide lines old → IsPlainSet lines leaf
+    → expr_at lines leaf ≡ Some expr → IsFamilyWith old.family (family_of expr) both
+    → IsPlaceFor old.question.negative.items leaf place
+    → new.question.negative.items ≡ insert old.question.negative.items place (leaf, old.after)
+    → new.after ≡ old.after
+    → (other : Expr) × (expr_at lines leaf ≡ Some other) × AreWaysWith old.ways other new.ways
+    → (new.named ≡ true → (old.named ≡ true) × (place ≡ length old.question.negative.items)
+    × (new.query.negative ≡ old.query.negative ++ operand_of lines (leaf, old.after) ∷ []))
+    → IsPlainSide lines (record new { family = both })
+side_put lines old new leaf place both expr side plain at with is put same (other, other_at, ways)
+    named =
+    let asked = old.question.negative.items in
     record {
-      table = are.table;
-      plain = λ a c. elim (Contains-push_cases asked (leaf, after) a c) [
-        | inl was ↦ are.plain a was
-        | inr same ↦ subst (λ (p : ℕ × Bool). IsPlainSet lines p.0 × (p.1 ≡ after)) same
-            (plain, refl)
-      ];
-      rises = rises_push asked leaf after are.rises later;
-      one_family = family_push lines asked leaf after family both expr are.one_family at
-          (family_of expr) refl with;
-      named =
-          ap₂ (λ (xs : List Operand) (x : Operand). xs ++ x ∷ []) are.named is
-          ∙ sym (map-append (λ a. operand_of lines a) asked ((leaf, after) ∷ []));
+      plain = subst (ArePlain lines new.after both) (sym put)
+          (subst (λ b. ArePlain lines b both (insert asked place (leaf, old.after))) (sym same)
+          (plain_put lines asked place leaf old.after old.family both expr side.plain plain is at
+          with));
+      ways = subst (λ xs. IfSome new.ways (AreWays lines xs)) (sym put)
+          (told_put lines asked place leaf old.after old.ways new.ways other side.ways other_at
+          ways);
+      named = λ yes.
+          let h = named yes in
+          let last : new.question.negative.items ≡ asked ++ (leaf, old.after) ∷ [] =
+          put ∙ (ap (λ k. insert asked k (leaf, old.after)) h.1
+          ∙ insert_end asked (leaf, old.after)) in
+          h.2
+          ∙ (ap (λ os. os ++ operand_of lines (leaf, old.after) ∷ []) (side.named h.0)
+          ∙ (sym (map-append (λ a. operand_of lines a) asked ((leaf, old.after) ∷ []))
+          ∙ ap (map (λ a. operand_of lines a)) (sym last)));
     }
+
+pub one_put : (after : Bool) (leaf place : ℕ) (old new : Askings)
+    → new ≡ insert old place (leaf, after) → IsAddedTo after leaf old new
+one_put after leaf place old new put other = (
+  λ c. elim (insert_cases old place (leaf, after) (other, after)
+      (subst (λ xs. Contains xs (other, after)) put c)) [
+        | inl was ↦ inl was
+        | inr same ↦ inr (ap (λ (p : ℕ × Bool). p.0) same)
+      ],
+  elim [
+    | inl was ↦ subst (λ xs. Contains xs (other, after)) (sym put)
+        (insert_in old place (leaf, after) (other, after) was)
+    | inr same ↦ subst (λ xs. Contains xs (other, after)) (sym put)
+        (subst (λ x. Contains (insert old place (leaf, after)) (x, after)) same
+        (inserted old place (leaf, after)))
+  ],
+)
+
+-- a set that is there already
+pub one_there : (lines : List Line) (after also : Bool) (family : Option FormulaFamily) (leaf : ℕ)
+    (asked : Askings) → ArePlain lines after family asked → Contains asked (leaf, also)
+    → IsAddedTo after leaf asked asked
+one_there lines after also family leaf asked are has other = (
+  λ c. inl c,
+  elim [
+    | inl was ↦ was
+    | inr same ↦ subst (λ x. Contains asked (x, after)) same
+        (subst (λ b. Contains asked (leaf, b)) (are.plain (leaf, also) has).1 has)
+  ],
+)
 
 -- leaves that are added from the last to the first
 
 added_more : (after : Bool) (leaves : List ℕ) (i next leaf : ℕ) (old mid new : Askings)
     → i < length leaves → next ≡ suc i
     → leaf ≡ get_or leaves i 0 → AreAddedTo after (drop next leaves) old mid
-    → new ≡ mid ++ (leaf, after) ∷ []
+    → IsAddedTo after leaf mid new
     → AreAddedTo after (drop i leaves) old new
-added_more after leaves i next leaf old mid new below follows is added pushed other =
+added_more after leaves i next leaf old mid new below follows is added put other =
     let all : drop i leaves ≡ leaf ∷ drop next leaves =
     drop_at leaves i 0 below ∙ ap₂ (λ x xs. x ∷ xs) (sym is)
     (ap (λ k. drop k leaves) (sym follows)) in (
-      λ c. elim (Contains-push_cases mid (leaf, after) (other, after)
-          (subst (λ xs. Contains xs (other, after)) pushed c)) [
-            | inl was ↦ elim ((added other).0 was) [
-              | inl first ↦ inl first
-              | inr rest ↦ inr (subst (λ xs. Contains xs other) (sym all)
-                  (tail_in leaf (drop next leaves) other rest))
-            ]
-            | inr same ↦
-                let id : leaf ≡ other = ap (λ (p : ℕ × Bool). p.0) same in
-                inr (subst (λ xs. Contains xs other) (sym all)
-                (subst (Contains (leaf ∷ drop next leaves)) id (head_in leaf (drop next leaves))))
-          ],
+      λ c. elim ((put other).0 c) [
+        | inl was ↦ elim ((added other).0 was) [
+          | inl first ↦ inl first
+          | inr rest ↦ inr (subst (λ xs. Contains xs other) (sym all)
+              (tail_in leaf (drop next leaves) other rest))
+        ]
+        | inr same ↦
+            inr (subst (λ xs. Contains xs other) (sym all)
+            (subst (Contains (leaf ∷ drop next leaves)) same (head_in leaf (drop next leaves))))
+      ],
       elim [
-        | inl first ↦
-            subst (λ xs. Contains xs (other, after)) (sym pushed)
-            (Contains-append_left mid ((leaf, after) ∷ []) (other, after)
-            ((added other).1 (inl first)))
+        | inl first ↦ (put other).1 (inl ((added other).1 (inl first)))
         | inr rest ↦ elim (cons_cases leaf (drop next leaves) other
             (subst (λ xs. Contains xs other) all rest)) [
-              | inl same ↦
-                  subst (λ xs. Contains xs (other, after)) (sym pushed)
-                  (subst (λ x. Contains (mid ++ (leaf, after) ∷ []) (x, after)) same
-                  (Contains-push mid (leaf, after)))
-              | inr more ↦
-                  subst (λ xs. Contains xs (other, after)) (sym pushed)
-                  (Contains-append_left mid ((leaf, after) ∷ []) (other, after)
-                  ((added other).1 (inr more)))
+              | inl same ↦ (put other).1 (inr same)
+              | inr more ↦ (put other).1 (inl ((added other).1 (inr more)))
             ]
       ],
     )
@@ -318,9 +469,9 @@ added_more after leaves i next leaf old mid new below follows is added pushed ot
 pub added_at : (after also : Bool) (leaves : List Leaf) (count : ℕ) (d : Leaf)
     (old mid new : Askings) → count < length leaves → also ≡ after
     → AreAddedTo after (drop (length (places leaves) - count) (places leaves)) old mid
-    → new ≡ mid ++ ((get_or leaves (length leaves - 1 - count) d).place, also) ∷ []
+    → IsAddedTo also (get_or leaves (length leaves - 1 - count) d).place mid new
     → AreAddedTo after (drop (length (places leaves) - (count + 1)) (places leaves)) old new
-added_at after also leaves count d old mid new more same added pushed =
+added_at after also leaves count d old mid new more same added put =
     let size = length-map leaves (λ (leaf : Leaf). leaf.place) in
     let last : length leaves - 1 - count ≡ length (places leaves) - (count + 1) =
     omega (arith, size) in
@@ -331,8 +482,7 @@ added_at after also leaves count d old mid new more same added pushed =
     (sym (get_or-map (λ (leaf : Leaf). leaf.place) leaves (length leaves - 1 - count) d 0 within)
     ∙ ap (λ k. get_or (places leaves) k 0) last)
     added
-    (subst (λ b. new ≡ mid ++ ((get_or leaves (length leaves - 1 - count) d).place, b) ∷ []) same
-    pushed)
+    (subst (λ b. IsAddedTo b (get_or leaves (length leaves - 1 - count) d).place mid new) same put)
 
 -- what is kept becomes the union's
 pub kept_for : (lines : List Line) (root part : ℕ) (after : Bool) (leaves : List ℕ)
@@ -385,27 +535,80 @@ made_of lines kept root part shared (below, (first, same, or)) leaf =
       )
     ]
 
--- what comes after the last comes after all
-pub after_last : (asked : Askings) (leaf : ℕ) → AskingsRise asked → 0 < length asked
-    → (get_or asked (length asked - 1) (0, false)).0 < leaf → (a : ℕ × Bool) → Contains asked a
-    → a.0 < leaf
-after_last asked leaf rises some last a (k, below, is) =
-    let last_at = slice_get-get_or asked (length asked - 1) (0, false) (omega (arith, some)) in
-    elim (cases_lt k (length asked - 1)) [
-      | inl before ↦ elim (rises k (length asked - 1) a (get_or asked (length asked - 1) (0, false))
-          before (slice_get-get_or asked k a below ∙ ap Some is) last_at) [
-            | inl less ↦ omega (arith, less, last)
-            | inr same ↦ omega (arith, same.0, last)
-          ]
-      | inr past ↦
-          let here : k ≡ length asked - 1 = omega (arith, past, below) in
-          let one : a ≡ get_or asked (length asked - 1) (0, false) =
-          sym is ∙ (ap (λ i. get_or asked i a) here
-          ∙ sym (get_or_from_slice_get asked (length asked - 1)
-          (get_or asked (length asked - 1) a) (0, false)
-          (slice_get-get_or asked (length asked - 1) a (omega (arith, some))))) in
-          subst (λ (p : ℕ × Bool). p.0 < leaf) (sym one) last
+-- where the test for lesser identifiers turns
+pub never_falls : (asked : Askings) → AskingsRise asked → IsNonDecreasingBy (λ a. a.0) asked
+never_falls asked rises i j d upto within =
+    let first = slice_get-get_or asked i d (omega (arith, upto, within)) in
+    let second = slice_get-get_or asked j d within in
+    elim (cases_lt i j) [
+      | inl less ↦ elim (rises i j (get_or asked i d) (get_or asked j d) less first second) [
+        | inl more ↦ omega (arith, more)
+        | inr same ↦ let id = same.0 in omega (arith, id)
+      ]
+      | inr back ↦
+          let same : i ≡ j = omega (arith, upto, back) in
+          let e : (get_or asked i d).0 ≡ (get_or asked j d).0 =
+          ap (λ k. (get_or asked k d).0) same in
+          omega (arith, e)
     ]
+
+pub split_at : (asked : Askings) (set place : ℕ) → place ≤ length asked
+    → IsPartitionPoint (λ (a : ℕ × Bool). ltb a.0 set ≡ true) (λ (a : ℕ × Bool). ltb a.0 set ≡ false)
+    asked place
+    → IsSplitAt asked set place
+split_at asked set place bound point = (
+  bound,
+  λ k d before. ltb-true _ _ (point.0 k d (omega arith) before),
+  λ k d from within. ltb-false _ _ (point.1 k d from within),
+)
+
+-- the place at which a set belongs, by how many have lesser identifiers
+pub place_behind : (asked : Askings) (set place : ℕ) → AskingsRise asked
+    → IsSplitAt asked set place → length asked ≤ place → IsPlaceFor asked set place
+place_behind asked set place rises split past = (
+  split.0,
+  split.1,
+  λ k d from within. absurd (omega (arith, from, within, past)),
+)
+
+-- a set that is at the place is there
+pub there_at : (asked : Askings) (set place : ℕ) → place < length asked
+    → (get_or asked place (0, false)).0 ≡ set → (after : Bool) × Contains asked (set, after)
+there_at asked set place within same =
+    let x : ℕ × Bool = get_or asked place (0, false) in (
+      x.1,
+      (
+        place,
+        within,
+        get_or_default asked place (set, x.1) (0, false) within ∙ (λ i. (same i, x.1)),
+      ),
+    )
+
+strictly : (a b : ℕ) → a ≤ b → (b ≡ a → ⊥) → a < b
+strictly a b upto other = elim (cases_lt a b)
+    [ inl less ↦ less | inr back ↦ absurd (other (omega (arith, upto, back))) ]
+
+pub place_before : (asked : Askings) (set place : ℕ) (e : ℕ × Bool) → AskingsRise asked
+    → IsSplitAt asked set place → place < length asked
+    → ((get_or asked place e).0 ≡ set → ⊥) → IsPlaceFor asked set place
+place_before asked set place e rises split within other = (
+  split.0,
+  split.1,
+  λ k d from below.
+      let x : ℕ × Bool = get_or asked place e in
+      let here : set < x.0 = strictly set x.0 (split.2 place e (omega arith) within) other in
+      elim (cases_lt place k) [
+        | inl less ↦ elim (rises place k x (get_or asked k d) less
+            (slice_get-get_or asked place e within) (slice_get-get_or asked k d below)) [
+              | inl more ↦ omega (arith, here, more)
+              | inr same ↦ let id = same.0 in omega (arith, here, id)
+            ]
+        | inr upto ↦
+            let one : place ≡ k = omega (arith, from, upto) in
+            subst (λ j. set < (get_or asked j d).0) one
+            (subst (λ (p : ℕ × Bool). set < p.0) (get_or_default asked place e d within) here)
+      ],
+)
 
 -- what was read of a leaf that is a formula or constant itself
 pub plain_read : (lines : List Line) (leaf : Leaf) (literal : SignedSet)
@@ -426,38 +629,17 @@ plain_read lines leaf literal found plain read =
           × (expr_at lines x.set ≡ Some expr) × (leaf.family ≡ family_of expr))) found read.family),
     )
 
-pub plain_pushed : (lines : List Line) (names : List Which) (after : Bool)
-    (family both : Option FormulaFamily) (asked more : Askings)
-    (operands further : List Operand) (leaf : ℕ) (which : Which) (expr : Expr)
-    → slice_get names leaf ≡ Some (which_at lines leaf) → slice_get names leaf ≡ Some which
-    → ArePlain lines after family asked operands → IsPlainSet lines leaf
-    → ((a : ℕ × Bool) → Contains asked a → a.0 < leaf)
-    → expr_at lines leaf ≡ Some expr → IsFamilyWith family (family_of expr) both
-    → more ≡ asked ++ (leaf, after) ∷ []
-    → further ≡ operands ++ record { which = which; id = leaf; after = after } ∷ []
-    → ArePlain lines after both more further
-plain_pushed lines names after family both asked more operands further leaf which expr named found
-    plain is later at with pushed put =
-    let same : which ≡ which_at lines leaf = cc (named, found) in
-    subst (λ (xs : Askings). ArePlain lines after both xs further) (sym pushed)
-    (subst (λ (xs : List Operand). ArePlain lines after both (asked ++ (leaf, after) ∷ []) xs)
-    (sym put)
-    (plain_push lines after family both asked operands leaf expr
-    (record { which = which; id = leaf; after = after }) plain is later at with
-    (λ i. record { which = same i; id = leaf; after = after })))
-
--- what is kept stays right where its query has another positive half
-module _ (lines : List Line) (kept : Kept) (query : Query)
-    (same : query.negative ≡ kept.query.negative) where
-  kept_by : (root : Option ℕ) → IfSome root (IsKeptFor lines kept)
-      → IfSome root (IsKeptFor lines (record kept { query = query }))
-  kept_by None right = right
-  kept_by (Some root) right = record {
-    below = right.below;
-    plain = subst (ArePlain lines kept.after kept.family kept.question.negative.items) (sym same)
-        right.plain;
-    leaves = right.leaves;
-  }
-
-  pub shared_asked : IsShared lines kept → IsShared lines (record kept { query = query })
-  shared_asked right = kept_by kept.root right
+-- what is kept stays right where its query has other operands
+pub shared_asked : (lines : List Line) (kept : Kept) (query : Query) (named : Bool)
+    → (named ≡ true → query.negative ≡ map (λ a. operand_of lines a) kept.question.negative.items)
+    → IsShared lines kept → IsShared lines (record kept { query = query; named = named })
+shared_asked lines kept query named same shared = asked kept.root shared
+  where
+    asked : (root : Option ℕ) → IfSome root (IsKeptFor lines kept)
+        → IfSome root (IsKeptFor lines (record kept { query = query; named = named }))
+    asked None right = right
+    asked (Some root) right = record {
+      below = right.below;
+      side = record { plain = right.side.plain; ways = right.side.ways; named = same };
+      leaves = right.leaves;
+    }

@@ -1,14 +1,16 @@
 -- What is kept of the right side of a statement for those after it.
-use Rattle.std.specs.Prelude.{◌≡◌, ◌<◌, ◌↔◌, ℕ, Bool, List, Option, None, Some, IfSome, map}
+use Rattle.std.specs.Prelude.{◌≡◌, ◌<◌, ◌↔◌, ◌*◌, ℕ, Bool, true, List, [], ◌∷◌, Option, None, Some}
+use Rattle.std.specs.Prelude.{IfSome, length, map}
 use Rattle.std.specs.List.{Contains}
-use Rattle.hv_sets.specs.declared.operand.Operand.{Operand}
 use Rattle.hv_lines.specs.Literals.{IsPlainSet}
 use Rattle.hv_lines.specs.Numbering.{IsTable, expr_at, expr_count}
 use Rattle.hv_lines.specs.Queries.{operand_of}
 use Rattle.hv_lines.specs.Shapes.{Askings, AskingsRise, IsOfFamily, IsOrLeaf, IsWithinFamily}
 use Rattle.hv_lines.specs.Shapes.{family_of}
 use Rattle.hv_lines.specs.declared.formula_family.FormulaFamily.{FormulaFamily}
+use Rattle.hv_lines.specs.declared.line.Constant.TheVariants as C
 use Rattle.hv_lines.specs.declared.line.Expr.{Expr}
+use Rattle.hv_lines.specs.declared.line.Expr.TheVariants as E
 use Rattle.hv_lines.specs.declared.line.Line.{Line}
 use Rattle.hv_basic.specs.declared.shared.Kept.{Kept}
 
@@ -24,22 +26,55 @@ IsTheFamily lines asked (Some family) =
     × ((a : ℕ × Bool) × Contains asked a × IsOfFamily lines family a.0)
 
 -- formulas and constants, all asked about after the action or all before it, in order, with their
--- family and the operands that ask about them
+-- family
 pub record ArePlain (lines : List Line) (after : Bool) (family : Option FormulaFamily)
-    (asked : Askings)
-    (operands : List Operand) : Type 0
+    (asked : Askings) : Type 0
   where
     pub table : IsTable lines
     pub plain : (a : ℕ × Bool) → Contains asked a → IsPlainSet lines a.0 × (a.1 ≡ after)
     pub rises : AskingsRise asked
     pub one_family : IsTheFamily lines asked family
-    pub named : operands ≡ map (λ a. operand_of lines a) asked
+
+-- how many clauses there are to choose from: those of a formula in clauses, and of the empty set one
+abbrev pub clauses_to_choose : Expr → Option ℕ
+clauses_to_choose (E.Constant C.Empty) = Some 1
+clauses_to_choose (E.Constant C.Start) = None
+clauses_to_choose (E.Constant C.Goal) = None
+clauses_to_choose (E.Horn clauses) = Some (length clauses)
+clauses_to_choose (E.Dual clauses) = Some (length clauses)
+clauses_to_choose (E.Two clauses) = Some (length clauses)
+clauses_to_choose (E.States states) = None
+clauses_to_choose (E.Node node) = None
+clauses_to_choose (E.Not set) = None
+clauses_to_choose (E.And left right) = None
+clauses_to_choose (E.Or left right) = None
+clauses_to_choose (E.After set acts) = None
+clauses_to_choose (E.Before set acts) = None
+
+-- the set has so many clauses to choose from
+abbrev pub HasToChoose : List Line → ℕ → ℕ → Type 0
+HasToChoose lines set count =
+    (expr : Expr) × (expr_at lines set ≡ Some expr) × (clauses_to_choose expr ≡ Some count)
+
+-- there are so many ways to choose one clause of each set that is asked about
+abbrev pub AreWays : List Line → Askings → ℕ → Type 0
+AreWays lines [] ways = ways ≡ 1
+AreWays lines (a ∷ asked) ways =
+    (count : ℕ) × (rest : ℕ) × HasToChoose lines a.0 count × AreWays lines asked rest
+    × (ways ≡ count * rest)
+
+-- what is kept are formulas and constants, with the number of ways, where it is told, and the
+-- operands that ask about them, where they are named
+pub record IsPlainSide (lines : List Line) (kept : Kept) : Type 0 where
+  pub plain : ArePlain lines kept.after kept.family kept.question.negative.items
+  pub ways : IfSome kept.ways (AreWays lines kept.question.negative.items)
+  pub named : kept.named ≡ true → kept.query.negative
+      ≡ map (λ a. operand_of lines a) kept.question.negative.items
 
 -- what is kept is the union's
 pub record IsKeptFor (lines : List Line) (kept : Kept) (root : ℕ) : Type 0 where
   pub below : root < expr_count lines
-  pub plain : ArePlain lines kept.after kept.family kept.question.negative.items
-      kept.query.negative
+  pub side : IsPlainSide lines kept
   pub leaves : (leaf : ℕ)
       → Contains kept.question.negative.items (leaf, kept.after) ↔ IsOrLeaf lines root leaf
 

@@ -174,7 +174,8 @@ fn candidates(
     }
 }
 
-fn is_listed(family: FormulaFamily) -> bool
+/// Whether the family is that of listed states.
+pub(crate) fn is_listed(family: FormulaFamily) -> bool
     ensures { IsTrue result ↔ (family ≡ F.States) }
 {
     family == FormulaFamily::States

@@ -29,14 +29,22 @@
 //! are of their family, and `laws` what a verdict says of its statement.
 //!
 //! What a right side asks is kept for the next statement, one right side at a time: where the next
-//! one is the union of it and a further set whose identifiers come later, only that set is looked
-//! at. So n unions, each of which has the one before as a part and is asked about in a line of its
-//! own, cost their number of lines. Every other union on the right is looked at anew and kept in
-//! place of the one before, and a left side is looked at anew for each statement, and once. Where a
-//! negation is among the leaves on the right, or gives the left side something that is asked about
-//! with the sign of the right one, the statement is decided as if nothing were kept. What is kept
-//! is the negative half of a question and of its query; the invariant says that it is right for the
-//! lines so far, and a further line changes nothing of it.
+//! one is the union of it and a further set, only that set is looked at, and its leaves are put
+//! where they belong by their identifiers. So n unions, each of which has the one before as a part
+//! and is asked about in a line of its own, cost their number of lines, in whatever order their
+//! parts were written. Every other union on the right is looked at anew and kept in place of the
+//! one before, and a left side is looked at anew for each statement, and once. Where a negation is
+//! among the leaves on the right, or gives the left side something that is asked about with the
+//! sign of the right one, the statement is decided as if nothing were kept. What is kept is the
+//! negative half of a question and of its query; the invariant says that it is right for the lines
+//! so far, and a further line changes nothing of it. The operands of a right side whose sets didn't
+//! come in order are made once a query is asked.
+//!
+//! Where the left side asks for a set that the right one has, no query is asked, since no state is
+//! in a set and outside of it. For that the cost has to be known to be within the budget: over
+//! formulas in clauses that is the number of ways to choose one clause of each, which is kept with
+//! the right side (nothing is known of it where the initial state or the goal is among the sets);
+//! over listed states the length of the one list that the left side asks about.
 //!
 //! An action set is looked at from its newest part to its oldest, each part once, so a union that
 //! shares its parts costs its number of lines and not of paths. A list of actions that rises is

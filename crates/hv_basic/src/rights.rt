@@ -1,23 +1,26 @@
 //! Keeping what a right side asks: where it is the union of the one before and a further set, only
 //! that set is looked at.
 
-ghost use Rattle.std.specs.Prelude.{◌≡◌, ◌<◌, ◌++◌, ◌∷◌, ℕ, Bool, true, [], None, Some, IfOk};
-ghost use Rattle.std.specs.Prelude.{IfSome};
-ghost use Rattle.std.specs.List.{All, Contains};
-ghost use Rattle.hv_lines.specs.Numbering.{expr_count};
+ghost use Rattle.std.specs.Prelude.{◌≡◌, ◌<◌, ◌≤◌, ◌++◌, ◌∷◌, Bool, true, [], None, Some, IfOk};
+ghost use Rattle.std.specs.Prelude.{IfSome, MatchOption, OnOk, length};
+ghost use Rattle.std.specs.List.{All, Contains, insert};
+ghost use Rattle.hv_lines.specs.Numbering.{expr_at, expr_count};
+ghost use Rattle.hv_lines.specs.Queries.{operand_of};
 ghost use Rattle.hv_lines.specs.Shapes.{AskingsRise};
+ghost use Rattle.hv_lines.specs.declared.line.Expr.{Expr};
 ghost use Rattle.hv_basic.specs.Cases.{lines_in};
-ghost use Rattle.hv_basic.specs.Sharing.{IsShared};
+ghost use Rattle.hv_basic.specs.Sharing.{IsPlainSide, IsShared, clauses_to_choose};
 ghost use Rattle.hv_basic.specs.Working.Leaves.{IsLeafRead, places};
-ghost use Rattle.hv_basic.specs.Working.Sharing.{AreAddedTo, AreKeptPlain, IsMadeOf};
-ghost use Rattle.hv_basic.specs.Working.Sharing.{IsPartBeside};
+ghost use Rattle.hv_basic.specs.Working.Sharing.{AreAddedTo, AreWaysWith, IsAddedTo};
+ghost use Rattle.hv_basic.specs.Working.Sharing.{IsSplitAt, IsMadeOf, IsPartBeside};
+ghost use Rattle.hv_basic.specs.Working.Sharing.{IsPlaceFor};
 
 use crate::case::Case;
 use crate::families::family_with;
 use crate::leaves::{Half, leaves};
 use crate::shared::Kept;
 use crate::signed_sets::Leaf;
-use hv_lines::{Expr, Table};
+use hv_lines::{Constant, Expr, Table};
 use hv_sets::{Operand, Operands};
 use std::alloc::{AllocError, Global};
 
@@ -108,14 +111,17 @@ fn clear(alloc: Global, kept: &mut Kept, after: bool)
     ensures root { kept.new.root ≡ None }
     ensures after { kept.new.after ≡ after }
     ensures family { kept.new.family ≡ None }
+    ensures ways { kept.new.ways ≡ Some 1 }
     ensures asked { kept.new.question.negative.items ≡ [] }
     ensures operands { kept.new.query.negative ≡ [] }
 {
     kept.root = None;
     kept.after = after;
     kept.family = None;
+    kept.ways = Some(1);
     kept.question.negative = Vec::new(alloc);
     kept.query.negative = Operands::new(alloc);
+    kept.named = true;
 }
 
 /// The other part of the union, where one part is what is kept.
@@ -147,7 +153,7 @@ fn grow(
 ) -> Result<bool, AllocError>
     requires root { root < expr_count (lines_in case.now) }
     requires part { part < expr_count (lines_in case.now) }
-    requires plain { AreKeptPlain (lines_in case.now) kept.old }
+    requires side { IsPlainSide (lines_in case.now) kept.old }
     requires made { IsMadeOf (lines_in case.now) kept.old root part }
     ensures kept { IsShared (lines_in case.now) kept.new }
     ensures root { IfOk result (λ yes. yes ≡ true → kept.new.root ≡ Some root) }
@@ -165,8 +171,8 @@ fn grow(
 /// Adds the leaves, of which the oldest is the last: whether each could be added.
 fn add_all(case: &Case<'_>, kept: &mut Kept, leaves: &[Leaf]) -> Result<bool, AllocError>
     requires read { All (IsLeafRead (lines_in case.now)) leaves.now }
-    requires plain { AreKeptPlain (lines_in case.now) kept.old }
-    ensures plain { IfOk result (λ yes. yes ≡ true → AreKeptPlain (lines_in case.now) kept.new) }
+    requires side { IsPlainSide (lines_in case.now) kept.old }
+    ensures side { IfOk result (λ yes. yes ≡ true → IsPlainSide (lines_in case.now) kept.new) }
     ensures added { IfOk result (λ yes. yes ≡ true → AreAddedTo kept.old.after
         (places leaves.now) kept.old.question.negative.items kept.new.question.negative.items) }
     ensures root { kept.new.root ≡ kept.old.root }
@@ -181,18 +187,16 @@ fn add_all(case: &Case<'_>, kept: &mut Kept, leaves: &[Leaf]) -> Result<bool, Al
     Ok(true)
 }
 
-/// Adds the leaf, if it is a formula or constant, its identifier comes after those before, and no
-/// other family comes in by it.
+/// Adds the leaf, if it is a formula or constant, and no other family comes in by it.
 fn add_one(case: &Case<'_>, kept: &mut Kept, leaf: Leaf) -> Result<bool, AllocError>
     requires read { IsLeafRead (lines_in case.now) leaf }
-    requires plain { AreKeptPlain (lines_in case.now) kept.old }
-    ensures plain { IfOk result (λ yes. yes ≡ true → AreKeptPlain (lines_in case.now) kept.new) }
-    ensures added { IfOk result (λ yes. yes ≡ true → kept.new.question.negative.items
-        ≡ kept.old.question.negative.items ++ (leaf.place, kept.old.after) ∷ []) }
+    requires side { IsPlainSide (lines_in case.now) kept.old }
+    ensures side { IfOk result (λ yes. yes ≡ true → IsPlainSide (lines_in case.now) kept.new) }
+    ensures added { IfOk result (λ yes. yes ≡ true → IsAddedTo kept.old.after leaf.place
+        kept.old.question.negative.items kept.new.question.negative.items) }
     ensures root { kept.new.root ≡ kept.old.root }
     ensures after { kept.new.after ≡ kept.old.after }
 {
-    let store = case.store;
     let Some(literal) = leaf.literal else {
         return Ok(false);
     };
@@ -202,23 +206,115 @@ fn add_one(case: &Case<'_>, kept: &mut Kept, leaf: Leaf) -> Result<bool, AllocEr
     let Some(both) = family_with(kept.family, leaf.family) else {
         return Ok(false);
     };
-    if !is_later(&kept.question.negative, leaf.place) {
-        return Ok(false);
-    }
-    kept.query.negative.push(Operand {
-        which: store.name(leaf.place),
-        id: leaf.place,
-        after: kept.after,
-    })?;
-    kept.question.negative.push((leaf.place, kept.after))?;
+    let Some(place) = place_for(&kept.question.negative, leaf.place) else {
+        return Ok(true);
+    };
+    put_in(case, kept, leaf.place, place)?;
     kept.family = both;
     Ok(true)
 }
 
-/// Whether the identifier comes after those of what is asked about.
-fn is_later(asked: &[(usize, bool)], leaf: usize) -> bool
-    requires { AskingsRise asked.now }
-    ensures { result ≡ true → (a : ℕ × Bool) → Contains asked.now a → a.0 < leaf }
+/// Puts the set in at this place. Where it isn't the last the operands aren't named any more.
+fn put_in(case: &Case<'_>, kept: &mut Kept, set: usize, place: usize) -> Result<(), AllocError>
+    requires set { set < expr_count (lines_in case.now) }
+    requires place { place ≤ length kept.old.question.negative.items }
+    ensures asked { OnOk result (kept.new.question.negative.items
+        ≡ insert kept.old.question.negative.items place (set, kept.old.after)) }
+    ensures ways { OnOk result ((expr : Expr) × (expr_at (lines_in case.now) set ≡ Some expr)
+        × AreWaysWith kept.old.ways expr kept.new.ways) }
+    ensures named { OnOk result (kept.new.named ≡ true → (kept.old.named ≡ true)
+        × (place ≡ length kept.old.question.negative.items) × (kept.new.query.negative
+        ≡ kept.old.query.negative ++ operand_of (lines_in case.now) (set, kept.old.after) ∷ [])) }
+    ensures root { kept.new.root ≡ kept.old.root }
+    ensures after { kept.new.after ≡ kept.old.after }
+    ensures family { kept.new.family ≡ kept.old.family }
 {
-    asked.is_empty() || asked[asked.len() - 1].0 < leaf
+    let _count = case.table.expr_count();
+    let is_last = is_behind(kept, place);
+    name_last(case, &mut kept.query.negative, (set, kept.after), is_last)?;
+    kept.named = is_last;
+    kept.ways = ways_with(kept.ways, case.table.expr(set));
+    kept.question.negative.insert(place, (set, kept.after))?;
+    Ok(())
+}
+
+/// Whether the place is behind all sets, and all have operands.
+fn is_behind(kept: &Kept, place: usize) -> bool
+    ensures named { result ≡ true → kept.now.named ≡ true }
+    ensures place { result ≡ true → place ≡ length kept.now.question.negative.items }
+{
+    kept.named && place == kept.question.negative.len()
+}
+
+/// Puts the operand that asks this last, if it is the last.
+fn name_last(
+    case: &Case<'_>,
+    operands: &mut Operands,
+    asked: (usize, bool),
+    is_last: bool,
+) -> Result<(), AllocError>
+    requires { asked.0 < expr_count (lines_in case.now) }
+    ensures { OnOk result (is_last ≡ true
+        → operands.new ≡ operands.old ++ operand_of (lines_in case.now) asked ∷ []) }
+{
+    if !is_last {
+        return Ok(());
+    }
+    let store = case.store;
+    operands.push(Operand {
+        which: store.name(asked.0),
+        id: asked.0,
+        after: asked.1,
+    })?;
+    Ok(())
+}
+
+/// In how many ways clauses can be chosen with those of one more set; none where that isn't told.
+fn ways_with(ways: Option<u64>, expr: &Expr) -> Option<u64>
+    ensures { AreWaysWith ways expr.now result }
+{
+    let old = ways?;
+    let count = clauses_to_choose(expr)?;
+    count.checked_mul(old)
+}
+
+/// How many clauses there are to choose from: those of a formula in clauses, and of the empty set
+/// one.
+fn clauses_to_choose(expr: &Expr) -> Option<u64>
+    ensures { result ≡ clauses_to_choose expr.now }
+{
+    match expr {
+        Expr::Constant(Constant::Empty) => Some(1),
+        Expr::Horn(clauses) => Some(clauses.len() as u64),
+        Expr::Dual(clauses) => Some(clauses.len() as u64),
+        Expr::Two(clauses) => Some(clauses.len() as u64),
+        Expr::Constant(Constant::Start) | Expr::Constant(Constant::Goal) => None,
+        Expr::States(_) | Expr::Node(_) | Expr::Not(_) => None,
+        Expr::And(..) | Expr::Or(..) | Expr::After(..) | Expr::Before(..) => None,
+    }
+}
+
+/// The place at which the set belongs among what is asked about; none where it is there.
+fn place_for(asked: &[(usize, bool)], set: usize) -> Option<usize>
+    requires { AskingsRise asked.now }
+    ensures { MatchOption result ((after : Bool) × Contains asked.now (set, after))
+        (IsPlaceFor asked.now set) }
+{
+    let place = lesser_before(asked, set);
+    if place >= asked.len() {
+        return Some(place);
+    }
+    let found = asked[place];
+    if found.0 == set {
+        return None;
+    }
+    Some(place)
+}
+
+/// How many of what is asked about have lesser identifiers.
+pub(crate) fn lesser_before(asked: &[(usize, bool)], set: usize) -> usize
+    requires { AskingsRise asked.now }
+    ensures { IsSplitAt asked.now set result }
+{
+    asked.partition_point(|a| a.0 < set)
 }

@@ -23,8 +23,12 @@ pub(crate) struct Kept {
     pub after: bool,
     /// The family of its formulas; none where all are constants.
     pub family: Option<FormulaFamily>,
+    /// How many ways there are to choose one clause of each of its sets; none where that isn't told.
+    pub ways: Option<u64>,
     pub question: Question,
     pub query: Query,
+    /// Whether the query has the operands of the question.
+    pub named: bool,
 }
 
 impl Model for Shared {
@@ -50,6 +54,7 @@ impl Shared {
                 root: None,
                 after: false,
                 family: None,
+                ways: None,
                 question: Question {
                     family: FormulaFamily::Horn,
                     positive: Vec::new(alloc),
@@ -61,6 +66,7 @@ impl Shared {
                     negative: Operands::new(alloc),
                     action: None,
                 },
+                named: false,
             },
             scratch: Scratch::new(alloc)?,
         })

@@ -1,33 +1,36 @@
 //! Verdicts of statements whose right sides grow.
 
-ghost use Rattle.std.specs.Prelude.{◌≡◌, ◌<◌, List, true, IfOk, IfErr};
+ghost use Rattle.std.specs.Prelude.{◌≡◌, ◌<◌, ◌≤◌, ℕ, Bool, true, false, List, [], ◌∷◌, IfOk};
+ghost use Rattle.std.specs.Prelude.{IfErr, IfSome, OnOk, length};
 ghost use Rattle.hv_lines.specs.Numbering.{SpeaksBelow, acts_count, expr_count};
-ghost use Rattle.hv_lines.specs.Shapes.{HasShape, IsQuestion, asks_sides_after};
+ghost use Rattle.hv_lines.specs.Shapes.{AskingsRise, HasShape, IsQuestion, asks_sides_after};
 ghost use Rattle.hv_lines.specs.Shapes.{QuestionState as AskedQuestion};
 ghost use Rattle.hv_lines.specs.Verdicts.{IsVerdict, IsVerdictOfSets};
-ghost use Rattle.std.specs.List.{Contains};
-ghost use Rattle.hv_lines.specs.declared.line.Line.{Line};
+ghost use Rattle.std.specs.List.{All, Contains};
 ghost use Rattle.hv_basic.specs.Deciding.{IsQuestionOver};
 ghost use Rattle.hv_basic.specs.Faults.{IsShapeFault};
 ghost use Rattle.hv_basic.specs.Cases.{lines_in, setting_in};
-ghost use Rattle.hv_basic.specs.Sharing.{IsKeptFor, IsShared};
+ghost use Rattle.hv_basic.specs.Sharing.{AreWays, IsKeptFor, IsShared};
 ghost use Rattle.hv_basic.specs.Working.Asked.{AreOperands};
 ghost use Rattle.hv_basic.specs.Working.Gathered.{IsLeftRead};
-ghost use Rattle.hv_basic.specs.Working.Sharing.{IsAskedBy, IsVerdictOfSub};
+ghost use Rattle.hv_basic.specs.Working.Sharing.{AreNamed, IsAskedBy, IsInClauses, IsVerdictOfSub};
+ghost use Rattle.hv_basic.specs.Working.Sharing.{IsListWithinIts, IsWithinIts};
+ghost use Rattle.hv_lines.specs.declared.line.Expr.TheVariants as E;
 ghost use Rattle.hv_basic.specs.declared.signed_sets.Asking.{Asking};
 ghost use Rattle.hv_basic.specs.Working.Views.{question_of};
 
+use crate::candidates::is_listed;
 use crate::case::Case;
 use crate::families::one_family;
 use crate::lefts::{asks_sides_after, left_of};
-use crate::rights::keep_right;
+use crate::rights::{keep_right, lesser_before};
 use crate::rising::in_order;
 use crate::shapes::{MOST_OPERANDS, ShapeFault, question_beside, shape};
 use crate::shared::{Kept, Shared};
 use crate::sides::{Inclusion, Sides};
 use crate::signed_sets::Asking;
-use crate::verdicts::{decide_on, decide_sets, decide_whole};
-use hv_lines::{Statement, Table, Verdict, Word};
+use crate::verdicts::{decide_on, decide_sets, decide_whole, operands_of};
+use hv_lines::{Expr, FormulaFamily, Statement, Table, Verdict, Word};
 use hv_sets::Scratch;
 use std::alloc::{AllocError, Global};
 
@@ -208,7 +211,8 @@ fn are_positive(askings: &[Asking]) -> bool
     true
 }
 
-/// The verdict on the question that is beside what is kept.
+/// The verdict on the question that is beside what is kept. Where the left side asks for a set that
+/// the right one has, no query is asked.
 fn decide_kept(
     alloc: Global,
     case: &Case<'_>,
@@ -216,12 +220,149 @@ fn decide_kept(
     scratch: &mut Scratch,
 ) -> Result<Verdict, AllocError>
     requires question { IsQuestionOver (lines_in case.now) (question_of kept.old.question) }
-    requires negative { AreOperands (lines_in case.now) kept.old.question.negative.items
-        kept.old.query.negative }
+    requires named { AreNamed (lines_in case.now) kept.old }
+    requires ways { IfSome kept.old.ways (AreWays (lines_in case.now)
+        kept.old.question.negative.items) }
     ensures answer { IfOk result (IsVerdictOfSets (setting_in case.now) (lines_in case.now)
         (question_of kept.old.question)) }
-    ensures kept { (lines : List Line) → IsShared lines kept.old → IsShared lines kept.new }
+    ensures kept { IsShared (lines_in case.now) kept.old
+        → IsShared (lines_in case.now) kept.new }
 {
+    let _count = case.table.expr_count();
+    if is_within_its(kept, case.budget) {
+        return Ok(Verdict::True);
+    }
+    if is_list_within_its(case, kept) {
+        return Ok(Verdict::True);
+    }
+    name_all(alloc, case, kept)?;
     let verdict = decide_sets(alloc, case, &kept.question, &mut kept.query, scratch)?;
     Ok(verdict)
+}
+
+/// Gives the right side its operands, where they aren't named.
+fn name_all(alloc: Global, case: &Case<'_>, kept: &mut Kept) -> Result<(), AllocError>
+    requires below { All (λ a. a.0 < expr_count (lines_in case.now))
+        kept.old.question.negative.items }
+    requires named { AreNamed (lines_in case.now) kept.old }
+    ensures question { kept.new.question ≡ kept.old.question }
+    ensures named { OnOk result (AreOperands (lines_in case.now)
+        kept.old.question.negative.items kept.new.query.negative) }
+    ensures kept { IsShared (lines_in case.now) kept.old
+        → IsShared (lines_in case.now) kept.new }
+{
+    if kept.named {
+        return Ok(());
+    }
+    let negative = operands_of(alloc, case, &kept.question.negative)?;
+    kept.query.negative = negative;
+    kept.named = true;
+    Ok(())
+}
+
+/// Whether the left side asks for a set that the right one has, and the cost is known to be within
+/// the budget.
+fn is_within_its(kept: &Kept, budget: u64) -> bool
+    requires { AskingsRise kept.now.question.negative.items }
+    ensures { result ≡ true → IsWithinIts kept.now budget }
+{
+    if !is_in_clauses(kept.question.family) {
+        return false;
+    }
+    let Some(ways) = kept.ways else {
+        return false;
+    };
+    if ways > budget {
+        return false;
+    }
+    have_common(&kept.question.positive, &kept.question.negative)
+}
+
+/// Whether the ways to choose clauses are the cost over formulas of the family.
+fn is_in_clauses(family: FormulaFamily) -> bool
+    ensures { result ≡ true → IsInClauses family }
+{
+    match family {
+        FormulaFamily::Horn | FormulaFamily::Dual | FormulaFamily::Two => true,
+        FormulaFamily::States | FormulaFamily::Node => false,
+    }
+}
+
+/// Whether the left side asks for one list of states, before the action, that the right one has, and
+/// the list isn't longer than the budget allows.
+fn is_list_within_its(case: &Case<'_>, kept: &Kept) -> bool
+    requires rises { AskingsRise kept.now.question.negative.items }
+    requires below { All (λ a. a.0 < expr_count (lines_in case.now))
+        kept.now.question.negative.items }
+    ensures { result ≡ true
+        → IsListWithinIts (lines_in case.now) kept.now case.now.budget }
+{
+    if !is_listed(kept.question.family) {
+        return false;
+    }
+    let Some(own) = only_before(&kept.question.positive) else {
+        return false;
+    };
+    if !is_among(&kept.question.negative, (own, false)) {
+        return false;
+    }
+    lists_upto(case.table.expr(own), case.budget)
+}
+
+/// The set, if it alone is asked about, and before the action.
+fn only_before(asked: &[(usize, bool)]) -> Option<usize>
+    ensures { IfSome result (λ own. asked.now ≡ (own, false) ∷ []) }
+{
+    if asked.len() != 1 {
+        return None;
+    }
+    let one = asked[0];
+    if one.1 {
+        return None;
+    }
+    Some(one.0)
+}
+
+/// Whether the set lists states, and at most so many.
+fn lists_upto(expr: &Expr, most: u64) -> bool
+    ensures { result ≡ true → (states : List (List ℕ))
+        × (expr.now ≡ E.States states) × (length states ≤ most) }
+{
+    match expr {
+        Expr::States(states) => states.len() as u64 <= most,
+        Expr::Constant(_) | Expr::Horn(_) | Expr::Dual(_) | Expr::Two(_) | Expr::Node(_) => false,
+        Expr::Not(_) | Expr::And(..) | Expr::Or(..) | Expr::After(..) | Expr::Before(..) => false,
+    }
+}
+
+/// Whether something is asked about in both lists, of which the second rises.
+fn have_common(first: &[(usize, bool)], second: &[(usize, bool)]) -> bool
+    requires { AskingsRise second.now }
+    ensures { result ≡ true → (a : ℕ × Bool) × Contains first.now a × Contains second.now a }
+{
+    for one in first {
+        if is_among(second, *one) {
+            return true;
+        }
+    }
+    false
+}
+
+/// Whether this is among what is asked about.
+fn is_among(asked: &[(usize, bool)], one: (usize, bool)) -> bool
+    requires { AskingsRise asked.now }
+    ensures { result ≡ true → Contains asked.now one }
+{
+    let place = lesser_before(asked, one.0);
+    if place >= asked.len() {
+        return false;
+    }
+    let found = asked[place];
+    is_same(found, one)
+}
+
+fn is_same(first: (usize, bool), second: (usize, bool)) -> bool
+    ensures { result ≡ true → first ≡ second }
+{
+    first.0 == second.0 && first.1 == second.1
 }

@@ -1,27 +1,25 @@
 -- Working definitions beside those of `Sharing`: for private contracts and proofs.
-use Rattle.std.specs.Prelude.{◌≡◌, ◌<◌, ◌⊎◌, ◌↔◌, ℕ, Bool, List, Option, None, Some}
+use Rattle.std.specs.Prelude.{◌≡◌, ◌<◌, ◌≤◌, ◌⊎◌, ◌↔◌, ◌*◌, ℕ, Bool, true, false, List, []}
+use Rattle.std.specs.Prelude.{◌∷◌, Option, None, Some, IfSome, length, slice_index_or}
 use Rattle.std.specs.List.{Contains}
 use Rattle.hv_lines.specs.Numbering.{expr_at, expr_count}
 use Rattle.hv_lines.specs.Shapes.{Askings, IsOrLeaf, IsQuestion}
 use Rattle.hv_lines.specs.Shapes.{IsWithinFamily, QuestionState}
 use Rattle.hv_lines.specs.declared.formula_family.FormulaFamily.{FormulaFamily}
+use Rattle.hv_lines.specs.declared.formula_family.FormulaFamily.TheVariants as F
+use Rattle.hv_lines.specs.declared.line.Expr.{Expr}
 use Rattle.hv_lines.specs.declared.line.Expr.TheVariants as E
 use Rattle.hv_lines.specs.declared.line.Line.{Line}
 use Rattle.hv_lines.specs.declared.line.Word.{Word}
 use Rattle.hv_lines.specs.Setting.{Setting}
 use Rattle.hv_lines.specs.Verdicts.{IsVerdictOfSets}
 use Rattle.hv_lines.specs.declared.verdict.Verdict.{Verdict}
-use Rattle.hv_basic.specs.Sharing.{ArePlain}
+use Rattle.hv_basic.specs.Sharing.{AreWays, clauses_to_choose}
 use Rattle.hv_basic.specs.Working.Asked.{AreOperands}
 use Rattle.hv_basic.specs.Working.Gathered.{IsFamilyIn}
 use Rattle.hv_basic.specs.Working.Views.{question_of}
 use Rattle.hv_basic.specs.declared.signed_sets.Asking.{Asking}
 use Rattle.hv_basic.specs.declared.shared.Kept.{Kept}
-
--- what is kept are formulas and constants, with their family and the operands that ask about them
-abbrev pub AreKeptPlain : List Line → Kept → Type 0
-AreKeptPlain lines kept =
-    ArePlain lines kept.after kept.family kept.question.negative.items kept.query.negative
 
 -- what the family of one more set makes of the family of those before it
 abbrev pub IsFamilyWith : Option FormulaFamily → Option FormulaFamily → Option FormulaFamily
@@ -34,6 +32,28 @@ IsFamilyWith (Some family) (Some next) both = (family ≡ next) × (both ≡ Som
 abbrev pub AreOtherFamilies : Option FormulaFamily → Option FormulaFamily → Type 0
 AreOtherFamilies (Some first) (Some second) = first ≡ second → ⊥
 AreOtherFamilies _ _ = ⊥
+
+-- how many of what is asked about, which rises, have lesser identifiers
+abbrev pub IsSplitAt : Askings → ℕ → ℕ → Type 0
+IsSplitAt asked set place =
+    (place ≤ length asked) × ((k : ℕ) (d : ℕ × Bool) → k < place → (slice_index_or asked k d).0 < set)
+    × ((k : ℕ) (d : ℕ × Bool) → place ≤ k → k < length asked → set ≤ (slice_index_or asked k d).0)
+
+-- the place at which the set belongs among what is asked about, where it isn't there
+abbrev pub IsPlaceFor : Askings → ℕ → ℕ → Type 0
+IsPlaceFor asked set place =
+    (place ≤ length asked) × ((k : ℕ) (d : ℕ × Bool) → k < place → (slice_index_or asked k d).0 < set)
+    × ((k : ℕ) (d : ℕ × Bool) → place ≤ k → k < length asked → set < (slice_index_or asked k d).0)
+
+-- the set was added to what is asked about
+abbrev pub IsAddedTo : Bool → ℕ → Askings → Askings → Type 0
+IsAddedTo after set old new =
+    (other : ℕ) → Contains new (other, after) ↔ (Contains old (other, after) ⊎ (set ≡ other))
+
+-- the ways that there are with one more set, where they are told
+abbrev pub AreWaysWith : Option ℕ → Expr → Option ℕ → Type 0
+AreWaysWith before expr ways = IfSome ways (λ new. (old : ℕ) × (count : ℕ) × (before ≡ Some old)
+    × (clauses_to_choose expr ≡ Some count) × (new ≡ count * old))
 
 -- the leaves were added to what is asked about
 abbrev pub AreAddedTo : Bool → List ℕ → Askings → Askings → Type 0
@@ -58,11 +78,36 @@ IsFamilyBeside lines askings (Some kept) family =
     (family ≡ kept)
     × ((asking : Asking) → Contains askings asking → IsWithinFamily lines family asking.set)
 
+-- the operands ask about the right side, where they are named
+abbrev pub AreNamed : List Line → Kept → Type 0
+AreNamed lines kept =
+    kept.named ≡ true → AreOperands lines kept.question.negative.items kept.query.negative
+
 -- beside what is kept stands the question of the statement that the left set is within the right
 -- one
 pub record IsAskedBy (lines : List Line) (word : Word) (left right : ℕ) (kept : Kept) : Type 0 where
   pub is : IsQuestion lines word left right (question_of kept.question)
-  pub negative : AreOperands lines kept.question.negative.items kept.query.negative
+  pub named : AreNamed lines kept
+  pub ways : IfSome kept.ways (AreWays lines kept.question.negative.items)
+
+-- over formulas of the family the ways to choose clauses are the cost
+abbrev pub IsInClauses : FormulaFamily → Type 0
+IsInClauses F.Horn = Unit {0}
+IsInClauses F.Dual = Unit {0}
+IsInClauses F.Two = Unit {0}
+IsInClauses F.States = ⊥
+IsInClauses F.Node = ⊥
+
+-- the left side asks for a set that the right side has, at the same time, and the cost is within
+-- the budget
+pub record IsWithinIts (kept : Kept) (budget : ℕ) : Type 0 where
+  pub family : IsInClauses kept.question.family
+  pub ways : ℕ
+  pub told : kept.ways ≡ Some ways
+  pub few : ways ≤ budget
+  pub own : ℕ × Bool
+  pub asked_for : Contains kept.question.positive.items own
+  pub has : Contains kept.question.negative.items own
 
 -- the verdict is that of the statement that the left set is within the right one, which has the
 -- shape of the word
@@ -70,3 +115,14 @@ abbrev pub IsVerdictOfSub : Setting → List Line → Word → ℕ → ℕ → V
 IsVerdictOfSub setting lines word left right verdict =
     (question : QuestionState) × IsQuestion lines word left right question
     × IsVerdictOfSets setting lines question verdict
+
+-- the left side asks for one list of states, before the action, that the right side has, and the
+-- list isn't longer than the budget allows
+pub record IsListWithinIts (lines : List Line) (kept : Kept) (budget : ℕ) : Type 0 where
+  pub family : kept.question.family ≡ F.States
+  pub own : ℕ
+  pub only : kept.question.positive.items ≡ (own, false) ∷ []
+  pub has : Contains kept.question.negative.items (own, false)
+  pub states : List (List ℕ)
+  pub at : expr_at lines own ≡ Some (E.States states)
+  pub few : length states ≤ budget

@@ -7,7 +7,7 @@ use Rattle.hv_basic.proofs.rights.add_all.Goals as goal
 
 pub loop-count-preserved : goal.loop-count-preserved
 loop-count-preserved c = record {
-  plain = c.in_ok-add_one.ensures.plain c.if-not-branch.false;
+  side = c.in_ok-add_one.ensures.side c.if-not-branch.false;
   added =
       added_at c.args.kept.now.after c.loop-count.kept.after c.args.leaves.now c.loop-count.count _
       c.args.kept.now.question.negative.items c.loop-count.kept.question.negative.items

@@ -1,12 +1,13 @@
 use Rattle.std.proofs.Common.{◌≡◌, ◌-◌, drop, length}
 use Rattle.hv_basic.specs.Cases.{lines_in}
 use Rattle.hv_basic.specs.Working.Leaves.{places}
-use Rattle.hv_basic.specs.Working.Sharing.{AreAddedTo, AreKeptPlain}
+use Rattle.hv_basic.specs.Sharing.{IsPlainSide}
+use Rattle.hv_basic.specs.Working.Sharing.{AreAddedTo}
 use Rattle.hv_basic.proofs.rights.add_all.Given as goal
 
 abbrev pub invariant-loop-count : goal.invariant-loop-count
 invariant-loop-count l = record {
-  plain : AreKeptPlain (lines_in l.case) l.kept;
+  side : IsPlainSide (lines_in l.case) l.kept;
   added : AreAddedTo l.fn.kept.after (drop (length (places l.leaves) - l.count) (places l.leaves))
       l.fn.kept.question.negative.items l.kept.question.negative.items;
   root : l.kept.root ≡ l.fn.kept.root;

@@ -1,28 +1,45 @@
-use Rattle.std.proofs.Common.{◌<◌, ℕ, Bool, arith, refl, subst}
+use Rattle.std.proofs.Common.{Bool, subst}
 use Rattle.std.proofs.lemmas.Bool.{not-false}
 use Rattle.std.specs.List.{Contains}
 use Rattle.hv_lines.specs.Shapes.{Askings}
 use Rattle.hv_basic.specs.Cases.{lines_in}
-use Rattle.hv_basic.specs.Working.Sharing.{IsFamilyWith}
-use Rattle.hv_basic.proofs.Sharing.{plain_pushed, plain_read}
+use Rattle.hv_basic.specs.Working.Sharing.{IsFamilyWith, IsPlaceFor}
+use Rattle.hv_basic.proofs.Sharing.{one_put, one_there, plain_read, side_put}
 use Rattle.hv_basic.proofs.rights.add_one.Goals as goal
 
-pub name-requires : goal.name-requires
-name-requires c =
-    let read = plain_read (lines_in c.args.case.now) c.args.leaf c.in-Some.literal c.in-Some.is
-    (not-false c.in-Some.literal.is_plain c.if-not-literal.false) c.requires.read in
-    omega (arith, read.0, c.args.case.now.stored.each)
+pub put_in-requires-clause-set : goal.put_in-requires-clause-set
+put_in-requires-clause-set c =
+    (plain_read (lines_in c.args.case.now) c.args.leaf c.in-Some.literal c.in-Some.is
+    (not-false c.in-Some.literal.is_plain c.if-not-literal.false) c.requires.read).0
 
-pub returns-clause-plain : goal.returns-clause-plain
-returns-clause-plain c = λ _.
+pub put_in-requires-clause-place : goal.put_in-requires-clause-place
+put_in-requires-clause-place c =
+    (subst (λ (xs : Askings). IsPlaceFor xs c.args.leaf.place c.in-Some-place_for.place)
+    c.deref.ensures.value c.in-Some-place_for.ensures).0
+
+pub returns-clause-side : goal.returns-clause-side
+returns-clause-side c = λ _.
     let lines = lines_in c.args.case.now in
-    let read = plain_read lines c.args.leaf c.in-Some.literal c.in-Some.is (not-false c.in-Some.literal.is_plain c.if-not-literal.false)
-    c.requires.read in
-    plain_pushed lines c.args.case.now.store.now.names c.args.kept.now.after
-    c.args.kept.now.family c.in-Some-family_with.both c.args.kept.now.question.negative.items _
-    c.args.kept.now.query.negative _ c.args.leaf.place c.name.result read.2.0
-    (c.args.case.now.stored.names c.args.leaf.place read.0) c.name.ensures c.requires.plain read.1
-    (subst (λ (xs : Askings). (a : ℕ × Bool) → Contains xs a → a.0 < c.args.leaf.place)
-    c.deref.ensures.value (c.if-not-is_later.ensures refl)) read.2.1
+    let read = plain_read lines c.args.leaf c.in-Some.literal c.in-Some.is
+    (not-false c.in-Some.literal.is_plain c.if-not-literal.false) c.requires.read in
+    side_put lines c.args.kept.now c.put_in.new.kept c.args.leaf.place c.in-Some-place_for.place
+    c.in-Some-family_with.both read.2.0 c.requires.side read.1 read.2.1
     (subst (λ f. IsFamilyWith c.args.kept.now.family f c.in-Some-family_with.both) read.2.2
-    c.in-Some-family_with.ensures) c.in_ok-push-2.ensures.items c.in_ok-push.ensures.ok
+    c.in-Some-family_with.ensures)
+    (subst (λ (xs : Askings). IsPlaceFor xs c.args.leaf.place c.in-Some-place_for.place)
+    c.deref.ensures.value c.in-Some-place_for.ensures)
+    c.in_ok-put_in.ensures.asked c.in_ok-put_in.ensures.after c.in_ok-put_in.ensures.ways
+    c.in_ok-put_in.ensures.named
+
+pub returns-clause-added : goal.returns-clause-added
+returns-clause-added c = λ _.
+    one_put c.args.kept.now.after c.args.leaf.place c.in-Some-place_for.place
+    c.args.kept.now.question.negative.items c.put_in.new.kept.question.negative.items
+    c.in_ok-put_in.ensures.asked
+
+pub returns-in_default-place_for-clause-added : goal.returns-in_default-place_for-clause-added
+returns-in_default-place_for-clause-added c = λ _.
+    let there = subst (λ (xs : Askings). (after : Bool) × Contains xs (c.args.leaf.place, after))
+    c.deref.ensures.value c.in_default-place_for.ensures in
+    one_there (lines_in c.args.case.now) c.args.kept.now.after there.0 c.args.kept.now.family
+    c.args.leaf.place c.args.kept.now.question.negative.items c.requires.side.plain there.1

@@ -10,7 +10,8 @@ use Rattle.hv_basic.proofs.rights.grow.Goals as goal
 pub returns-clause-kept : goal.returns-clause-kept
 returns-clause-kept c = record {
   below = c.requires.root;
-  plain = c.in_ok-add_all.ensures.plain c.if-not-branch.false;
+  side = let side = c.in_ok-add_all.ensures.side c.if-not-branch.false in
+      record { plain = side.plain; ways = side.ways; named = side.named };
   leaves =
       subst (λ b. (leaf : ℕ)
       → Contains c.add_all.new.kept.question.negative.items (leaf, b)

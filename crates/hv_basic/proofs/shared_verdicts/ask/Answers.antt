@@ -11,7 +11,7 @@ returns-clause-asked c = λ _. record {
   is =
       question_by c.args.table.now.lines c.args.claim.word c.args.claim.left c.args.claim.right
       c.args.sides.now.askings.items c.args.kept.now.after c.args.kept.now.family
-      c.args.kept.now.question.negative.items c.args.kept.now.query.negative c.requires.right.plain
+      c.args.kept.now.question.negative.items c.requires.right.side.plain
       c.requires.right.leaves c.requires.after
       c.requires.left.askings
       (subst (λ xs. (a : Asking) → Contains xs a → a.positive ≡ true) c.deref.ensures.value
@@ -23,5 +23,6 @@ returns-clause-asked c = λ _. record {
       (subst (λ xs. AreChosen xs true c.in_ok-positive.positive.items) c.deref-3.ensures.value
       c.in_ok-positive.ensures.chosen)
       (search rules);
-  negative = c.requires.right.plain.named;
+  named = c.requires.right.side.named;
+  ways = c.requires.right.side.ways;
 }
