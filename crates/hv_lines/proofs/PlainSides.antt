@@ -1,22 +1,16 @@
 -- What is asked about a list of formulas and constants, and which leaves a set has.
-use Rattle.std.proofs.Common.{◌≡◌, ℕ, zero, suc, ◌<◌, ◌∙◌, ◌⊎◌, ◌↔◌, Bool, true, false, List, []}
+use Rattle.std.proofs.Common.{◌≡◌, ℕ, zero, suc, ◌<◌, ◌∙◌, ◌⊎◌, Bool, List, []}
 use Rattle.std.proofs.Common.{◌∷◌, Option, Some, None, length, refl, sym, ap, subst, inl, inr}
 use Rattle.std.proofs.Common.{arith}
 use Rattle.std.proofs.lemmas.Option.{same_Some}
 use Rattle.std.specs.List.{Contains}
-use Rattle.hv_lines.specs.Literals.{IsPlainSet}
 use Rattle.hv_lines.specs.Numbering.{expr_at}
-use Rattle.hv_lines.specs.Shapes.{AskedBefore, Askings, AskingsRise, HasSides, IsAndLeaf, IsAsked}
-use Rattle.hv_lines.specs.Shapes.{IsLeaf, IsLeftLeaf, IsLiteralOf, IsStep, alone, and_parts}
-use Rattle.hv_lines.specs.Shapes.{asks_sides_after, of_left, of_right, or_parts}
+use Rattle.hv_lines.specs.Shapes.{AskedBefore, Askings, AskingsRise}
+use Rattle.hv_lines.specs.Shapes.{IsLeaf, alone}
+use Rattle.hv_lines.specs.Shapes.{of_left, of_right}
 use Rattle.hv_lines.specs.declared.line.Expr.{Expr}
-use Rattle.hv_lines.specs.declared.line.Expr.TheVariants as E
 use Rattle.hv_lines.specs.declared.line.Line.{Line}
-use Rattle.hv_lines.specs.declared.line.Word.{Word}
-use Rattle.hv_lines.specs.declared.line.Word.TheVariants as W
 use Rattle.hv_lines.proofs.Elements.{cons_cases, head_in, nothing_in, tail_in}
-use Rattle.hv_lines.proofs.Questions.{alone_no_step}
-use Rattle.hv_lines.proofs.Shaped.{literal_from, literal_once, step_no_literal, step_once}
 
 -- each of these numbers, asked about after the action or before it
 abbrev pub asked_all : Bool → List ℕ → Askings

@@ -1,11 +1,11 @@
 -- How the pieces of a proof are judged, piece by piece; and that no line spells one of the marks.
-use Rattle.std.proofs.Common.{◌≡◌, ◌==◌, ◌∙◌, ◌+◌, ℕ, Bool, List, [], ◌∷◌, ◌++◌, Option, Some}
+use Rattle.std.proofs.Common.{◌≡◌, ◌==◌, ◌∙◌, ℕ, Bool, List, [], ◌∷◌, ◌++◌, Some}
 use Rattle.std.proofs.Common.{None, append-nil, ap, arith, cond, false, inl, inr, length, refl}
-use Rattle.std.proofs.Common.{subst, suc, sym, true}
+use Rattle.std.proofs.Common.{subst, sym, true}
 use Rattle.hv_bytes.specs.Pieces.{PieceBytes}
 use Rattle.hv_lines.specs.Judged.{IsPassedOver}
 use Rattle.hv_lines.specs.Spelling.{IsSkipped, Spells, spelling_of}
-use Rattle.hv_lines.specs.Versions.{first_mark, is_mark, judged_as, judged_from, judged_so_far}
+use Rattle.hv_lines.specs.Versions.{is_mark, judged_as, judged_from}
 use Rattle.hv_lines.specs.Versions.{judged_whole, last_mark, line_behind, missing_end, part_after}
 use Rattle.hv_lines.specs.Versions.{part_from}
 use Rattle.hv_lines.specs.declared.line.Line.{Line}
