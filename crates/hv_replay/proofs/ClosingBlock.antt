@@ -4,7 +4,7 @@ use Rattle.std.proofs.Common.{◌∷◌, Some, None, refl, sym, subst, inl, inr,
 use Rattle.std.proofs.lemmas.List.{length_push}
 use Rattle.std.proofs.lemmas.List.Elements.{Contains-push}
 use Rattle.hv_task.specs.State.{successor}
-use Rattle.hv_task.specs.Strips.{Strips, IsTask, atoms, start_state}
+use Rattle.hv_task.specs.Strips.{Strips, IsTask, atoms}
 use Rattle.hv_sets.specs.Truth.{InStates}
 use Rattle.hv_lines.specs.Drafts.{IsGoodTable, IsShortLine, conclusion, draft_setting, onto}
 use Rattle.hv_lines.specs.Good.{IsGood}

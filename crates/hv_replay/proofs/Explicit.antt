@@ -93,12 +93,12 @@ pub good_listed : (setting : Setting) (lines : List Line) → IsTable lines
     → IsGood setting lines (L.Known id (T.Sub left right) word [])
 good_listed setting lines table positive negative acts id left right word formed basic no_rule is x
     there can few =
-      good_true setting lines table (question_of F.States positive negative acts) id left right word
-      formed basic no_rule is (
-        operand_of lines (x, false),
-        in_map (λ a. operand_of lines a) positive (x, false) there,
-        (refl, can),
-      ) within
+    good_true setting lines table (question_of F.States positive negative acts) id left right word
+    formed basic no_rule is (
+      operand_of lines (x, false),
+      in_map (λ a. operand_of lines a) positive (x, false) there,
+      (refl, can),
+    ) within
   where
     -- the anchor is one of these sets
     within : (number : Option ℕ) → PassesBudget setting lines F.States

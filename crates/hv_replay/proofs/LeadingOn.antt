@@ -1,9 +1,9 @@
 -- The sets of a log, and what a query of them tells.
-use Rattle.std.proofs.Common.{◌≡◌, ◌<◌, ◌≤◌, ◌+◌, ◌∙◌, ◌++◌, ℕ, zero, suc, Bool, true, false, List}
+use Rattle.std.proofs.Common.{◌≡◌, ◌<◌, ◌≤◌, ◌+◌, ◌∙◌, ◌++◌, ℕ, suc, Bool, true, false, List}
 use Rattle.std.proofs.Common.{[], ◌∷◌, Option, Some, get_or, length, map, refl, sym, ap, subst}
 use Rattle.std.proofs.Common.{arith, inl, inr}
 use Rattle.std.specs.Prelude.{◌&&◌, not, slice_get}
-use Rattle.std.specs.List.{All, Contains, filter, list_all}
+use Rattle.std.specs.List.{Contains, filter, list_all}
 use Rattle.std.proofs.lemmas.Bool.{cases_lt}
 use Rattle.std.proofs.lemmas.List.Elements.{All-append, All-cons, All-filter, All-map, All-nil}
 use Rattle.std.proofs.lemmas.List.Elements.{Contains-append_left, Contains-append_right}
@@ -17,8 +17,8 @@ use Rattle.hv_sets.specs.declared.operand.Operand.{Operand}
 use Rattle.hv_sets.specs.declared.query.Query.{Query}
 use Rattle.hv_sets.specs.Query.{action_of, in_operand, is_clash, may_apply}
 use Rattle.hv_sets.specs.Truth.{in_states, is_same}
-use Rattle.hv_explicit.specs.ListedStates.{AreListsOver, AreStates, ListedStates, in_listing, in_set}
-use Rattle.hv_replay.specs.Closed.{IsLogged, LeadsOn, state_in}
+use Rattle.hv_explicit.specs.ListedStates.{AreStates, ListedStates, in_listing, in_set}
+use Rattle.hv_replay.specs.Closed.{IsLogged, state_in}
 use Rattle.hv_replay.specs.Expanded.{expanded_in}
 use Rattle.hv_replay.specs.Logs.{IsLog, IsLogEntry, LogEntry, SearchLog, StandsInLog}
 use Rattle.hv_replay.specs.Working.Following.{ListsLog}

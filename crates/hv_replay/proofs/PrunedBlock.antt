@@ -266,8 +266,10 @@ module _ (task : Strips) (is_task : IsTask task) (old : List Line) (good : IsGoo
         | inr (inner, at, (x, at_inner, plain)) ↦
             let now = expr_onto (L1 ∷ []) old inner x table1 at_inner in
             subst IsGoodBy (sym (ap (word_of_literal old) at ∙ ap word_of_formula at_inner))
-            (by_plain false inner (expr_onto (L1 ∷ []) old holder.set (E.Not inner) table1 at,
-            (x, now, plain)) (omega (arith, expr_below old inner x table at_inner, p_is)) x plain
+            (by_plain false inner (
+              expr_onto (L1 ∷ []) old holder.set (E.Not inner) table1 at,
+              (x, now, plain),
+            ) (omega (arith, expr_below old inner x table at_inner, p_is)) x plain
             now (λ is states same. is_held.few inner states at (at_inner ∙ ap Some same)))
       ]
 

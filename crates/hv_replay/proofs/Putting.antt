@@ -1,10 +1,9 @@
 -- The lines that are put into a draft: those of a pruned state, and those with which a replay ends.
-use Rattle.std.proofs.Common.{◌≡◌, ℕ, ◌+◌, ◌<◌, ◌≤◌, ◌^◌, ◌-◌, ◌∙◌, Bool, List, Some, length, sym}
+use Rattle.std.proofs.Common.{◌≡◌, ℕ, ◌+◌, ◌<◌, ◌≤◌, ◌^◌, ◌-◌, ◌∙◌, List, Some, length, sym}
 use Rattle.std.proofs.Common.{ap, subst, arith}
 use Rattle.hv_task.specs.State.{state_of}
 use Rattle.hv_task.specs.Strips.{Strips, IsTask, atoms}
 use Rattle.hv_lines.specs.Drafts.{IsGoodTable, IsShortLine, conclusion, most_lines, onto}
-use Rattle.hv_lines.specs.Judged.{Concludes}
 use Rattle.hv_lines.specs.Numbering.{expr_count, known_count, statement_at}
 use Rattle.hv_lines.specs.Pruning.{BeginsAsDraft, IsDeadBy, states_in}
 use Rattle.hv_lines.specs.declared.line.Expr.TheVariants as E

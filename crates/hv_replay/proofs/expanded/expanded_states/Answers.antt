@@ -1,4 +1,4 @@
-use Rattle.std.proofs.Common.{◌≡◌, ◌<◌, ◌≤◌, ◌∙◌, ◌++◌, ◌∷◌, [], ap, arith, length, sym, true}
+use Rattle.std.proofs.Common.{◌<◌, ◌≤◌, ◌∙◌, ◌++◌, ◌∷◌, [], ap, arith, length, sym}
 use Rattle.std.proofs.lemmas.List.{take_all}
 use Rattle.hv_replay.specs.Expanded.{expanded_in}
 use Rattle.hv_replay.proofs.Kept.{entry_there, expanded_push}

@@ -1,4 +1,4 @@
-use Rattle.std.proofs.Common.{◌≡◌, ◌∙◌, ap, subst, sym}
+use Rattle.std.proofs.Common.{◌∙◌, ap, subst, sym}
 use Rattle.hv_task.specs.Strips.{atoms}
 use Rattle.hv_explicit.specs.ListedStates.{ListedStates}
 use Rattle.hv_replay.specs.Working.Leading.{HasLog}

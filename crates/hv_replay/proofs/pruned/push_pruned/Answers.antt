@@ -1,6 +1,4 @@
 use Rattle.std.proofs.Common.{◌≡◌, ◌+◌, ◌<◌, ◌∙◌, ℕ, Some, subst, sym}
-use Rattle.hv_task.specs.State.{state_of}
-use Rattle.hv_task.specs.Strips.{atoms}
 use Rattle.hv_lines.specs.Drafts.{onto}
 use Rattle.hv_lines.specs.Numbering.{expr_count, statement_at}
 use Rattle.hv_lines.specs.declared.line.Statement.TheVariants as T
@@ -42,8 +40,12 @@ push_all-requires-clause-good c =
     put_good c.args.task.now (pruned_lines c.next_in-next.result.set c.next_in-next.result.line
     c.args.held.now (pruned_word old c.dead_by-holder.result.set) c.dead_by-holder.result
     c.args.union) old c.in_ok-lines.lines.items c.reserve.new.self.lines
-    (cc (c.in_ok-lines.ensures, c.pruned_word-word.ensures, c.table-3.ensures.lines,
-    c.in_ok-reserve.ensures.lines)) c.in_ok-reserve.ensures.lines
+    (cc (
+      c.in_ok-lines.ensures,
+      c.pruned_word-word.ensures,
+      c.table-3.ensures.lines,
+      c.in_ok-reserve.ensures.lines,
+    )) c.in_ok-reserve.ensures.lines
     (put_pruned c.args.task.now c.atoms-atoms.ensures.task old c.requires.draft c.args.held.now
     c.requires.held c.args.by c.requires.dead
     c.next_in-next.result
@@ -67,8 +69,12 @@ same c =
     (pruned_word c.args.draft.now.lines c.dead_by-holder.result.set) c.dead_by-holder.result
     c.args.union) c.args.draft.now.lines c.in_ok-lines.lines.items c.reserve.new.self.lines
     c.push_all.new.self.lines
-    (cc (c.in_ok-lines.ensures, c.pruned_word-word.ensures, c.table-3.ensures.lines,
-    c.in_ok-reserve.ensures.lines)) c.in_ok-reserve.ensures.lines c.push_all.ensures.lines
+    (cc (
+      c.in_ok-lines.ensures,
+      c.pruned_word-word.ensures,
+      c.table-3.ensures.lines,
+      c.in_ok-reserve.ensures.lines,
+    )) c.in_ok-reserve.ensures.lines c.push_all.ensures.lines
 
 -- what they show
 shown : (c : goal.After-struct_known-2-1) (pruned : ℕ)
