@@ -143,15 +143,6 @@ module _ (task : Strips) (old new : List Line) (extends : Extends task old new) 
     few = few_extended set (literal_below set dead.literal) dead.few;
   }
 
-  pub dead_by_extended : (state : List Bool) (line : ℕ) → IsDeadBy task old state line
-      → IsDeadBy task new state line
-  dead_by_extended state line by = record {
-    set = by.set;
-    dead = dead_literal_extended by.set line by.dead;
-    holds = subst (λ (S : SetOfStates). S state)
-        (sym (states_extended by.set (literal_below by.set by.dead.literal))) by.holds;
-  }
-
   pub noted_extended : (covered : SetOfStates) (note : Note) → IsNoted task covered old note
       → IsNoted task covered new note
   noted_extended covered note noted = record {

@@ -103,19 +103,7 @@ later_known line lines n next same id l below is =
       premises_at_more line lines id next earlier ∙ is.6,
     )
 
--- a table without lines, and one more line of each letter
-
-pub indexed_none : IsIndexed [] [] [] [] []
-indexed_none = record {
-  table = tt;
-  acts_length = refl;
-  exprs_length = refl;
-  knowns_length = refl;
-  acts_found = λ id below. absurd (omega arith);
-  exprs_found = λ id below. absurd (omega arith);
-  knowns_found = λ id below. absurd (omega arith);
-}
-
+-- one more line of each letter
 module _ (pushed lines : List Line) (acts exprs knowns : List ℕ)
     (i : IsIndexed pushed lines acts exprs knowns) where
   pub indexed_acts : (id : ℕ) (x : Acts) → MayFollow lines (L.Acts id x)

@@ -23,22 +23,11 @@ use Rattle.hv_lines.specs.Numbering.{ExprRefersBelow, SpeaksBelow, MayFollow, Is
 use Rattle.hv_lines.specs.Meaning.{SetOfStates, ActionSet, has_action, IsAfter, IsBefore, holds}
 use Rattle.hv_lines.specs.Meaning.{pick_acts, pick_set, acts_of, sets_of}
 
--- the counts grow
-
-pub acts_grow : (line : Line) (older : List Line) → acts_count older ≤ acts_count (line ∷ older)
-acts_grow (L.Acts id x) older = omega arith
-acts_grow (L.Expr id x) older = omega arith
-acts_grow (L.Known id st w ps) older = omega arith
-
+-- the count of sets grows
 pub exprs_grow : (line : Line) (older : List Line) → expr_count older ≤ expr_count (line ∷ older)
 exprs_grow (L.Acts id x) older = omega arith
 exprs_grow (L.Expr id x) older = omega arith
 exprs_grow (L.Known id st w ps) older = omega arith
-
-pub knowns_grow : (line : Line) (older : List Line) → known_count older ≤ known_count (line ∷ older)
-knowns_grow (L.Acts id x) older = omega arith
-knowns_grow (L.Expr id x) older = omega arith
-knowns_grow (L.Known id st w ps) older = omega arith
 
 -- an identifier below the count isn't that of the next line
 below_ne : {e id n : ℕ} → id ≡ n → e < n → eqb e id ≡ false
@@ -155,22 +144,7 @@ known_below (L.Known id said w ps ∷ older) k st table h =
       | inr there ↦ omega (arith, known_below older k st table.1 there.1)
     ]
 
--- each identifier below the count has its line
-
-pub acts_within : (lines : List Line) (a : ℕ) → IsTable lines → a < acts_count lines
-    → (x : Acts) × (acts_at lines a ≡ Some x)
-acts_within [] a table below = absurd (omega arith)
-acts_within (L.Acts id y ∷ older) a table below =
-    elim (cases_eq a id) [
-      | inl same ↦ (y, cond-true (eqb a id) (Some y) (acts_at older a) (eq-eqb a id same))
-      | inr other ↦
-          let earlier : a < acts_count older = omega (arith, table.0.numbered) in
-          let found = acts_within older a table.1 earlier in
-          (found.0, acts_at_more (L.Acts id y) older a table.0 earlier ∙ found.1)
-    ]
-acts_within (L.Expr id y ∷ older) a table below = acts_within older a table.1 below
-acts_within (L.Known id st w ps ∷ older) a table below = acts_within older a table.1 below
-
+-- each identifier of a set below the count has its line
 pub expr_within : (lines : List Line) (e : ℕ) → IsTable lines → e < expr_count lines
     → (x : Expr) × (expr_at lines e ≡ Some x)
 expr_within [] e table below = absurd (omega arith)
@@ -184,24 +158,6 @@ expr_within (L.Expr id y ∷ older) e table below =
           (found.0, expr_at_more (L.Expr id y) older e table.0 earlier ∙ found.1)
     ]
 expr_within (L.Known id st w ps ∷ older) e table below = expr_within older e table.1 below
-
-pub known_within : (lines : List Line) (k : ℕ) → IsTable lines → k < known_count lines
-    → (st : Statement) × (statement_at lines k ≡ Some st)
-known_within [] k table below = absurd (omega arith)
-known_within (L.Acts id y ∷ older) k table below = known_within older k table.1 below
-known_within (L.Expr id y ∷ older) k table below = known_within older k table.1 below
-known_within (L.Known id said w ps ∷ older) k table below =
-    elim (cases_eq k id) [
-      | inl same ↦ (
-        said,
-        cond-true (eqb k id) (Some said) (statement_at older k)
-            (eq-eqb k id same),
-      )
-      | inr other ↦
-          let earlier : k < known_count older = omega (arith, table.0.numbered) in
-          let found = known_within older k table.1 earlier in
-          (found.0, statement_at_more (L.Known id said w ps) older k table.0 earlier ∙ found.1)
-    ]
 
 -- references stay within counts that grow
 

@@ -61,14 +61,6 @@ pub open_whole : (piece : PieceBytes) (rest : List PieceBytes) → is_mark P.AtS
     → judged_whole (piece ∷ rest) ≡ piece ∷ rest
 open_whole piece rest plain = open_by (is_mark P.AtStart piece) piece rest plain
 
--- the pieces of which something is missing
-
-pub none_missing : (part : Part) → (part ≡ P.BeforeEnd → ⊥) → missing_end part ≡ []
-none_missing P.AtStart ended = refl
-none_missing P.Open ended = refl
-none_missing P.BeforeEnd ended = absurd (ended refl)
-none_missing P.PastEnd ended = refl
-
 -- no line spells one of the marks
 
 pub none_first : (line : Line) → is_mark P.AtStart (Some (spelling_of line)) ≡ false

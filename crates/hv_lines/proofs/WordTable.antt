@@ -65,11 +65,6 @@ word_read W.Pu = refl
 word_read W.Pr = refl
 word_read W.Rp = refl
 
--- no two words are spelled alike
-pub one_spelling : (v w : Word) → word_field v ≡ word_field w → v ≡ w
-one_spelling v w same =
-    let e : Some v ≡ Some w = sym (word_read v) ∙ ap word_of_field same ∙ word_read w in cc (e)
-
 -- what is found in a list is there
 found_there : (words : List Word) (field : List ℕ) (word : Word) → found_in words field ≡ Some word
     → Contains words word

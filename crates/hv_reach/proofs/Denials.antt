@@ -28,15 +28,6 @@ use Rattle.hv_lines.proofs.Lists.{All-below, All-flat_map, All-range, all_pass, 
 use Rattle.hv_lines.proofs.Lists.{length-pieces, pieces_pass}
 use Rattle.hv_task.proofs.Listing.{within_state}
 
--- a list that doesn't have the atom doesn't name it
-pub not_named : (list : List ℕ) (p : ℕ) (b : Bool) → b ≡ false → IsTrue b ↔ Contains list p
-    → names_atom list p ≡ false
-not_named list p b fails tells =
-    elim (cases_Bool (names_atom list p)) [
-      | inl is ↦ absurd (both_ways b fails (tells.1 ((names_atom-Decides list p).0 is)))
-      | inr is ↦ is
-    ]
-
 -- the clauses
 
 one_denial : (n p : ℕ) → p < n → IsDenial n (denied p ∷ [])

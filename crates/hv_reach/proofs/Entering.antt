@@ -14,19 +14,6 @@ use Rattle.hv_reach.specs.Working.NoteRows.{AreColumns, AreColumnsOf, AreRowsIn,
 use Rattle.hv_reach.specs.Working.NoteRows.{ColumnsHave, IsFirstPlace, RowHas}
 use Rattle.hv_reach.specs.Reached.{has_pair}
 
--- a row written so far
-pub entered_more : (row : List Bool) (old new : List (List Bool)) (place atom : ℕ) (held : Bool)
-    → held ≡ has_atom row atom
-    → has_pair new atom place ≡ held → ((p j : ℕ) → (p ≡ atom → ⊥)
-    → has_pair new p j ≡ has_pair old p j)
-    → ((p : ℕ) → p < atom → has_pair old p place ≡ has_atom row p)
-    → (p : ℕ) → p < atom + 1 → has_pair new p place ≡ has_atom row p
-entered_more row old new place atom held is here others before p less =
-    elim (cases_eq p atom) [
-      | inl e ↦ subst (λ x. has_pair new x place ≡ has_atom row x) (sym e) (here ∙ is)
-      | inr e ↦ others p place e ∙ before p (omega (arith, less, e))
-    ]
-
 -- the first place that a mask has
 pub first_of_mask : (columns : List (List Bool)) (list : List ℕ) (mask : List Bool) (from : ℕ)
     (found : Option ℕ) → length mask ≡ 512
