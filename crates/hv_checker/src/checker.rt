@@ -135,12 +135,9 @@ impl<'a> Checker<'a> {
         }
         match self
             .judging
-            .accept(&mut self.reader, judged_as(part, piece))
+            .accept(&mut self.reader, &mut self.stop, judged_as(part, piece))
         {
-            Ok(outcome) => {
-                self.stop = outcome.stop;
-                Ok(outcome.fed)
-            }
+            Ok(fed) => Ok(fed),
             Err(error) => {
                 self.stop = Stop::Memory;
                 Err(error)

@@ -9,6 +9,7 @@ ghost use Rattle.hv_lines.specs.Setting.{setting_of};
 ghost use Rattle.hv_lines.specs.Working.Setting.{IsSetting};
 ghost use Rattle.hv_checker.specs.Working.PieceVerdicts.{IsBasicFault, IsLineFault};
 ghost use Rattle.hv_checker.specs.Working.PieceVerdicts.{IsPlainFeedAnswer, fault_by};
+ghost use Rattle.hv_checker.specs.Working.Judge.{SaysNoSet};
 ghost use Rattle.hv_checker.specs.Stopping.{stop_after};
 ghost use Rattle.hv_checker.specs.Texts.{text_of};
 ghost use Rattle.hv_checker.specs.declared.piece.Fed.TheVariants as F;
@@ -25,13 +26,6 @@ use hv_rules::{is_rule, rule_fits};
 use hv_task::Task;
 use std::alloc::{AllocError, Global};
 use std::marker::Model;
-
-/// The answer to a piece, and whether to go on after it.
-#[derive(Drop)]
-pub(crate) struct FeedOutcome {
-    pub fed: Fed,
-    pub stop: Stop,
-}
 
 /// What pieces are judged with: a task, the nodes of a node file and a budget, the lines that were
 /// accepted, and what is kept of them.
@@ -97,21 +91,23 @@ impl Judge<'_> {
         &self.table
     }
 
-    /// Judges the piece. A good line is accepted.
+    /// Judges the piece. A good line is accepted; at a refusal `stop` is written.
+    #[inline(always)]
     pub(crate) fn accept(
         &mut self,
         reader: &mut LineReader,
+        stop: &mut Stop,
         piece: Piece<'_>,
-    ) -> Result<FeedOutcome, AllocError>
+    ) -> Result<Fed, AllocError>
         ensures setting { self.new.setting ≡ self.old.setting }
-        ensures accepted { IfOk result (λ o. IsPlainFeedAnswer self.old.setting
-            self.old.lines self.new.lines (text_of piece.entry) o.fed) }
-        ensures stop { IfOk result (λ o. o.stop ≡ stop_after S.Going o.fed) }
+        ensures accepted { IfOk result (λ fed. IsPlainFeedAnswer self.old.setting
+            self.old.lines self.new.lines (text_of piece.entry) fed) }
+        ensures stop { IfOk result (λ fed. stop.new ≡ stop_after stop.old fed) }
         ensures lines { OnErr result (self.new.lines ≡ self.old.lines) }
     {
         match piece {
-            Piece::Long => refused(self.alloc, Reason::Long),
-            Piece::Line(bytes) => self.accept_line(reader, bytes),
+            Piece::Long => refused(self.alloc, stop, Reason::Long),
+            Piece::Line(bytes) => self.accept_line(reader, stop, bytes),
         }
     }
 
@@ -119,30 +115,58 @@ impl Judge<'_> {
     fn accept_line(
         &mut self,
         reader: &mut LineReader,
+        stop: &mut Stop,
         bytes: &[u8],
-    ) -> Result<FeedOutcome, AllocError>
+    ) -> Result<Fed, AllocError>
         ensures setting { self.new.setting ≡ self.old.setting }
-        ensures accepted { IfOk result (λ o. IsPlainFeedAnswer self.old.setting
-            self.old.lines self.new.lines (Some bytes.now) o.fed) }
-        ensures stop { IfOk result (λ o. o.stop ≡ stop_after S.Going o.fed) }
+        ensures accepted { IfOk result (λ fed. IsPlainFeedAnswer self.old.setting
+            self.old.lines self.new.lines (Some bytes.now) fed) }
+        ensures stop { IfOk result (λ fed. stop.new ≡ stop_after stop.old fed) }
         ensures lines { OnErr result (self.new.lines ≡ self.old.lines) }
     {
         let line = match reader.read(self.alloc, bytes) {
             Ok(Some(line)) => line,
-            Ok(None) => return Ok(going(Fed::Skipped)),
-            Err(LineError::Grammar) => return refused(self.alloc, Reason::Grammar),
+            Ok(None) => return Ok(Fed::Skipped),
+            Err(LineError::Grammar) => return refused(self.alloc, stop, Reason::Grammar),
             Err(LineError::Memory) => return Err(AllocError),
         };
         if let Some(reason) = self.fault(&line)? {
-            return refused(self.alloc, reason);
+            return refused(self.alloc, stop, reason);
         }
         self.keep(line)?;
-        Ok(going(Fed::Good))
+        Ok(Fed::Good)
     }
 
-    // Puts a good line into the table, and its formula into the store. Running out of memory leaves
-    // the table as it was. What is kept for the statements stays right.
+    // Puts a good line into the table, and the set of an `e` line into the store. Running out of
+    // memory leaves the table as it was. What is kept for the statements stays right.
     fn keep(&mut self, line: Line) -> Result<(), AllocError>
+        requires { IsGood self.old.setting self.old.lines line }
+        ensures setting { self.new.setting ≡ self.old.setting }
+        ensures ok { OnOk result (self.new.lines ≡ line ∷ self.old.lines) }
+        ensures err { OnErr result (self.new.lines ≡ self.old.lines) }
+    {
+        match &line {
+            Line::Expr { .. } => self.keep_set(line),
+            Line::Acts { .. } => self.keep_alone(line),
+            Line::Known { .. } => self.keep_alone(line),
+        }
+    }
+
+    // The same of a line that says no set.
+    fn keep_alone(&mut self, line: Line) -> Result<(), AllocError>
+        requires good { IsGood self.old.setting self.old.lines line }
+        requires no_set { SaysNoSet line }
+        ensures setting { self.new.setting ≡ self.old.setting }
+        ensures ok { OnOk result (self.new.lines ≡ line ∷ self.old.lines) }
+        ensures err { OnErr result (self.new.lines ≡ self.old.lines) }
+    {
+        self.shared.stays();
+        self.table.push(line)?;
+        Ok(())
+    }
+
+    // The same of a line that says a set. Room comes first, so that nothing fails behind the store.
+    fn keep_set(&mut self, line: Line) -> Result<(), AllocError>
         requires { IsGood self.old.setting self.old.lines line }
         ensures setting { self.new.setting ≡ self.old.setting }
         ensures ok { OnOk result (self.new.lines ≡ line ∷ self.old.lines) }
@@ -225,25 +249,14 @@ impl Judge<'_> {
     }
 }
 
-// The answer to a piece that isn't refused.
-fn going(fed: Fed) -> FeedOutcome
-    ensures { (result.fed ≡ fed) × (result.stop ≡ S.Going) }
-{
-    FeedOutcome {
-        fed,
-        stop: Stop::Going,
-    }
-}
-
-// The answer to a piece that is refused for this reason, which the checker keeps.
-fn refused(alloc: Global, reason: Reason) -> Result<FeedOutcome, AllocError>
-    ensures { IfOk result (λ o. (o.fed ≡ F.Refused reason) × (o.stop ≡ S.Refused reason)) }
+// The answer to a piece that is refused for this reason, which is kept.
+#[cold]
+fn refused(alloc: Global, stop: &mut Stop, reason: Reason) -> Result<Fed, AllocError>
+    ensures { IfOk result (λ fed. (fed ≡ F.Refused reason) × (stop.new ≡ S.Refused reason)) }
 {
     let kept = reason.copy(alloc)?;
-    Ok(FeedOutcome {
-        fed: Fed::Refused(reason),
-        stop: Stop::Refused(kept),
-    })
+    *stop = Stop::Refused(kept);
+    Ok(Fed::Refused(reason))
 }
 
 // The first test that the line fails, of those that look at its form and its numbers.

@@ -4,6 +4,7 @@ use Rattle.hv_lines.specs.Good.{AreGood}
 use Rattle.hv_lines.specs.Setting.{Setting}
 use Rattle.hv_lines.specs.Working.Setting.{IsSetting}
 use Rattle.hv_lines.specs.declared.line.Line.{Line}
+use Rattle.hv_lines.specs.declared.line.Line.TheVariants as L
 use Rattle.hv_basic.specs.Sharing.{IsShared}
 use Rattle.hv_basic.specs.Stores.{IsStoreOf}
 use Rattle.hv_basic.specs.declared.shared.Shared.{Shared}
@@ -20,3 +21,9 @@ pub record IsJudge (judging : JudgeState) (store : Store) (shared : Shared) : Ty
   pub good : AreGood judging.setting judging.lines
   pub stored : IsStoreOf judging.setting.task judging.lines store
   pub kept : IsShared judging.lines shared
+
+-- the line is no `e` line
+abbrev pub SaysNoSet : Line → Type 0
+SaysNoSet (L.Acts id acts) = Unit {0}
+SaysNoSet (L.Expr id expr) = ⊥
+SaysNoSet (L.Known id statement word premises) = Unit {0}

@@ -7,7 +7,7 @@ use Rattle.hv_lines.proofs.Reasons.{good_next}
 use Rattle.hv_checker.specs.Working.Judge.{JudgeState}
 use Rattle.hv_checker.proofs.Judges.{judge_more, judge_same}
 use Rattle.hv_checker.proofs.GoodLines.{line_stored}
-use Rattle.hv_checker.proofs.piece_judge.Judge.keep.Goals as goal
+use Rattle.hv_checker.proofs.piece_judge.Judge.keep_set.Goals as goal
 
 pub add_line-requires : goal.add_line-requires
 add_line-requires c =
