@@ -6,6 +6,7 @@ pub mod OneFamily
 pub mod Ordering
 pub mod Siding
 pub mod Walking
+pub mod Inquired
 pub mod Listed
 pub mod Rowed
 pub mod Storing

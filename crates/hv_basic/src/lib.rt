@@ -20,8 +20,8 @@
 //!   and few states are asked about before the action, for those that can be applicable there, by
 //!   the `action_rows` that the `store` keeps. Else `actions` lists the actions of the progression:
 //!   those of a list that rises as they are there, else by the flags of `acts`. For each of them
-//!   `query_walk` asks the query of the store of the family, and the first query that exceeds the
-//!   budget or has a counterexample decides.
+//!   `query_walk` asks the query of the store of the family, and `node_walk` asks it of the
+//!   diagrams; the first query that exceeds the budget or has a counterexample decides.
 //!
 //! Statements with `b1` and `b3` go the same way, without a step or with a regression. Those with
 //! `b4`, of two families, are decided in `mixed`, over the formulas that `any_formula` finds, and
@@ -75,6 +75,7 @@ pub mod laws;
 mod leaves;
 mod lefts;
 mod mixed;
+mod node_walk;
 mod query_walk;
 mod rights;
 mod rising;

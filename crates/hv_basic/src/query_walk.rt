@@ -1,5 +1,5 @@
 //! The queries of a statement, one after the other: the query is built once, and only its action
-//! changes. One function serves all families.
+//! changes. One function serves all families but diagrams, which keep something between queries.
 
 ghost use Rattle.std.specs.Prelude.{◌≡◌, IfOk, length, map};
 ghost use Rattle.hv_task.specs.Strips.{atoms};

@@ -26,6 +26,7 @@ use crate::basic::{Basic, BasicKind, Question};
 use crate::candidates::actions_to_ask;
 use crate::case::Case;
 use crate::mixed::decide_two;
+use crate::node_walk::walk_nodes;
 use crate::query_walk::walk;
 use crate::store::Store;
 use hv_bdd::Diagrams;
@@ -200,7 +201,7 @@ fn decide_queries(
             Ok(verdict)
         }
         FormulaFamily::Node => {
-            let verdict = decide_nodes(alloc, case, query, actions, scratch)?;
+            let verdict = walk_nodes(alloc, case, query, actions, scratch)?;
             Ok(verdict)
         }
     }
@@ -246,26 +247,6 @@ fn decide_listed(
     ensures kept { query.new.negative ≡ query.old.negative }
 {
     let sets = case.store.listed();
-    let verdict = walk(alloc, case, sets, query, actions, scratch)?;
-    Ok(verdict)
-}
-
-/// The verdict of the queries for these actions, over diagrams.
-fn decide_nodes(
-    alloc: Global,
-    case: &Case<'_>,
-    query: &mut Query,
-    actions: &[Option<u32>],
-    scratch: &mut Scratch,
-) -> Result<Verdict, AllocError>
-    requires ready { AreAllReady (node_count case.now.diagrams.now)
-        (length case.now.task.now.actions) query.old actions.now }
-    ensures answer { IfOk result (IsDecidedOver (setting_in case.now) (lines_in case.now) F.Node
-        (map (with_action query.old) actions.now)) }
-    ensures lengths { KeepsLengths scratch.old scratch.new }
-    ensures kept { query.new.negative ≡ query.old.negative }
-{
-    let sets = case.diagrams;
     let verdict = walk(alloc, case, sets, query, actions, scratch)?;
     Ok(verdict)
 }

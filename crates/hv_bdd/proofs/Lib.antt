@@ -24,6 +24,7 @@ pub mod Permuted
 pub mod Noted
 pub mod Ranked
 pub mod Placed
+pub mod Enclosed
 pub mod Joined
 pub mod OneAnswer
 pub mod Advanced

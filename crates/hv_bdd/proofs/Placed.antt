@@ -25,7 +25,7 @@ past_by (Some o) atoms v size upto =
     let e = get_or_past o v (length o) (omega arith) in
     omega arith
 
-atom_past : (list : NodeList) → IsOrder list → (v : ℕ) → list.atoms ≤ v
+pub atom_past : (list : NodeList) → IsOrder list → (v : ℕ) → list.atoms ≤ v
     → list.atoms ≤ atom_at list v
 unfolding atom_at
 atom_past list is v upto = past_by list.order list.atoms v is.size upto

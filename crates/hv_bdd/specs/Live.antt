@@ -128,6 +128,11 @@ moves s = record {
 abbrev pub roots : TupleSetting → List Asked → List ℕ
 roots s os = map (λ o. root s o.which) os
 
+-- what queries are asked about: the nodes of a file, and a task
+pub record NodeTask : Type 0 where
+  pub list : NodeList
+  pub task : Strips
+
 -- an operand of a query in a tuple
 abbrev pub asked_of : Bool → Operand → Asked
 asked_of positive o = record { which = o.which; after = o.after; positive = positive }

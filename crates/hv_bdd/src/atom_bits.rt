@@ -4,7 +4,7 @@
 ghost use Rattle.std.specs.Prelude.{◌≡◌, ◌<◌, ◌↔◌, ℕ, IfSome, IsTrue, length};
 ghost use Rattle.std.specs.List.{Contains};
 ghost use Rattle.std.specs.List.Sorted.{IsStrictlyIncreasing};
-ghost use Rattle.hv_task.specs.Working.AtomList.{IsPlaceOf};
+ghost use Rattle.hv_task.specs.Working.AtomList.{IsFirstFrom, IsPlaceOf};
 ghost use Rattle.hv_task.specs.Atoms.{IsNext};
 ghost use Rattle.hv_task.specs.State.{AreBelow, has_atom, names_atom, state_of};
 ghost use Rattle.hv_sets.specs.Cubes.{atoms_of};
@@ -189,6 +189,17 @@ fn is_among(atoms: &[u32], atom: u32) -> bool
     ensures { IsTrue result ↔ Contains atoms.now atom }
 {
     place_of(atoms, atom).is_ok()
+}
+
+/// The place in a rising list where what is at least this number begins.
+pub(crate) fn first_from(list: &[u32], from: u32) -> usize
+    requires { IsStrictlyIncreasing list.now }
+    ensures { IsFirstFrom list.now from result }
+{
+    match place_of(list, from) {
+        Ok(place) => place,
+        Err(place) => place,
+    }
 }
 
 fn place_of(atoms: &[u32], atom: u32) -> Result<usize, usize>

@@ -8,7 +8,7 @@ ghost use Rattle.hv_bdd.specs.Building.{fault_of, is_later, plain_fault};
 ghost use Rattle.hv_bdd.specs.Working.Building.{as_node, with_node};
 ghost use Rattle.hv_bdd.specs.Working.Inverse.{AreInverse};
 ghost use Rattle.hv_bdd.specs.Working.NodeText.{node_start};
-ghost use Rattle.hv_bdd.specs.Working.Search.{ArePlaced};
+ghost use Rattle.hv_bdd.specs.Working.Search.{ArePlaced, ListsPlaces};
 ghost use Rattle.hv_bdd.specs.Nodes.{IsNode, in_node, no_nodes, no_nodes_by, node_count};
 ghost use Rattle.hv_bdd.specs.Order.{IsOrder, atom_at, place};
 ghost use Rattle.hv_bdd.specs.Reduced.{AreOneSet, IsReduced, child, node_at, top};
@@ -227,6 +227,22 @@ impl Diagrams {
         Ok(placed)
     }
 
+    // The places of the atoms that are held, rising.
+    pub(crate) fn places_of(
+        &self,
+        alloc: Global,
+        held: &ListedState<'_>,
+    ) -> Result<Vec<u32>, AllocError>
+        requires { length held.now ≡ self.now.atoms }
+        ensures { IfOk result (λ places. ListsPlaces self.now held.now places.items) }
+    {
+        let _atoms = self.atoms();
+        let flags = self.placed(alloc, held)?;
+        let mut places = Vec::new(alloc);
+        flags.list_atoms(&mut places)?;
+        Ok(places)
+    }
+
     // The least place from this one on whose atom is held.
     pub(crate) fn next_place(&self, held: &ListedState<'_>, from: u32) -> Option<u32>
         requires { length held.now ≡ self.now.atoms }
@@ -262,16 +278,14 @@ impl Diagrams {
         if least < atoms { Some(least) } else { None }
     }
 
-    // What it costs to look for the place behind this one whose atom is held, in places that are
-    // looked at.
-    pub(crate) fn cost_of_next(&self, held: &ListedState<'_>, place: u32) -> u32
-        requires held { length held.now ≡ self.now.atoms }
-        requires place { place < self.now.atoms }
+    // What it costs to look for the least place from this one on whose atom is held, in places that
+    // are looked at.
+    pub(crate) fn cost_of_next(&self, held: &ListedState<'_>, from: u32) -> u32
+        requires { length held.now ≡ self.now.atoms }
     {
-        let _atoms = self.atoms();
         let most = near(held).saturating_mul(2).max(1);
-        match self.next_place(held, place + 1) {
-            Some(next) => most.min(next - place),
+        match self.next_place(held, from) {
+            Some(next) => (next - from).saturating_add(1).min(most),
             None => most,
         }
     }

@@ -1,4 +1,4 @@
-//! The goal as an operand of a query.
+//! The goal as an operand of queries.
 
 ghost use Rattle.std.specs.Prelude.{◌≡◌, ◌≤◌, None};
 
@@ -6,33 +6,46 @@ use crate::asked::Asked;
 use crate::atom_bits::ListedState;
 use crate::diagrams::Diagrams;
 use hv_sets::Which;
-use hv_task::State;
 
-/// The atoms of a goal; and the flag of each atom at its place, where the flags were placed.
+/// The atoms of a goal, and their places in the order, where these were listed.
 #[derive(Drop)]
 pub(crate) struct Goal<'a> {
     pub held: ListedState<'a>,
-    pub placed: Option<State>,
-    /// How much may still be spent on looking for the next place before the flags are placed, or
-    /// nothing where they aren't to be placed. Only how long a query takes hangs on it.
+    pub places: GoalPlaces,
+    /// Whether it is counted what it costs to look for the next place. Only how long a query takes
+    /// hangs on it.
+    pub counts: bool,
+}
+
+/// The places of a goal's atoms, rising, once they are listed.
+#[derive(Drop)]
+pub(crate) struct GoalPlaces {
+    pub listed: Option<Vec<u32>>,
+    /// How much may still be spent on looking for the next place before they are listed, or nothing
+    /// where they aren't to be. Only how long queries take hangs on it.
     pub left: u32,
 }
 
-impl<'a> Goal<'a> {
-    /// The goal of these atoms.
-    pub(crate) fn of(nodes: &Diagrams, held: ListedState<'a>, asked: &[Asked]) -> Goal<'a>
-        ensures held { result.held ≡ held.entry }
-        ensures placed { result.placed ≡ None }
+impl GoalPlaces {
+    /// Not listed yet, for the goal of these atoms.
+    pub(crate) fn none_yet(nodes: &Diagrams, held: &ListedState<'_>) -> GoalPlaces
+        ensures { result.listed ≡ None }
     {
-        let left = if nodes.lists_order() && is_asked(asked) {
-            cost_of_placing(nodes, &held)
+        let left = if nodes.lists_order() {
+            cost_of_listing(nodes, held)
         } else {
             0
         };
-        Goal {
-            held,
-            placed: None,
-            left,
+        GoalPlaces { listed: None, left }
+    }
+
+    /// Never listed.
+    pub(crate) fn never() -> GoalPlaces
+        ensures { result.listed ≡ None }
+    {
+        GoalPlaces {
+            listed: None,
+            left: 0,
         }
     }
 }
@@ -43,14 +56,19 @@ pub(crate) fn near(held: &ListedState<'_>) -> u32 {
     size(held) / 8
 }
 
-// What it costs to place the flags, in places that are looked at: nothing where they aren't to be
-// placed, since it costs less to go through all atoms of the goal for each of them.
-fn cost_of_placing(nodes: &Diagrams, held: &ListedState<'_>) -> u32 {
-    let size = size(held);
-    if size.saturating_mul(size) < nodes.atoms() / 128 {
-        return 0;
+/// Whether the goal is among the operands. Only how long a query takes hangs on it.
+pub(crate) fn is_asked(asked: &[Asked]) -> bool {
+    for operand in asked {
+        if let Which::Goal = operand.which {
+            return true;
+        }
     }
-    size / 8 + nodes.atoms() / 4096 + 4
+    false
+}
+
+// What it costs to list the places, in places that are looked at.
+fn cost_of_listing(nodes: &Diagrams, held: &ListedState<'_>) -> u32 {
+    size(held) / 4 + nodes.atoms() / 2048 + 8
 }
 
 // How many atoms it has, as far as a task can have them.
@@ -58,14 +76,4 @@ fn size(held: &ListedState<'_>) -> u32
     ensures { result ≤ 65535 }
 {
     held.listed().len().min(65535) as u32
-}
-
-// Whether the goal is among the operands. Only how long a query takes hangs on it.
-fn is_asked(asked: &[Asked]) -> bool {
-    for operand in asked {
-        if let Which::Goal = operand.which {
-            return true;
-        }
-    }
-    false
 }

@@ -7,10 +7,11 @@
 //!
 //! Where an order is listed and the goal is among the operands, the next place of the goal is
 //! looked for at the places that follow, and then by the places of all its atoms; the search counts
-//! what this costs before each move, and sets the flag of each atom at its place once it comes to
-//! as much as that: from then on the next place is the next flag. So a query that asks for few of
-//! them, or for such as follow each other closely, sets no flags, and no query costs more than a
-//! few times the setting besides. A goal of few atoms is gone through each time.
+//! what this costs before each move, and lists the places of all the atoms, rising, once it comes
+//! to as much as that: from then on the next place is found in this list, as an atom is in the goal
+//! where atoms rise. A `NodeInquiry`, which asks many queries about one task, keeps the list for
+//! all of them. So queries that ask for few of the atoms, or for such as follow each other closely,
+//! list nothing, and no inquiry costs more than a few times the listing besides.
 //!
 //! A tuple's places are the positive operands of a query and then the negative ones: the order of
 //! the places doesn't change the number of tuples, and so the lists of the query serve as they are.
@@ -32,6 +33,7 @@ mod goal;
 pub mod laws;
 mod level;
 pub mod node;
+pub mod node_inquiry;
 mod node_listing;
 mod node_queries;
 mod numbers;
@@ -49,5 +51,6 @@ pub use fault::{NodeKind, NodeLimit, NodeRefusal, NodesFault};
 pub use front_ask::FrontAsk;
 pub use laws::{one_answer, text_by_lines};
 pub use node::Node;
+pub use node_inquiry::NodeInquiry;
 pub use read::read_nodes;
 pub use set::DiagramSet;

@@ -8,9 +8,9 @@ ghost use Rattle.hv_bdd.specs.Nodes.{in_node, node_count};
 ghost use Rattle.hv_bdd.specs.Live.{LivePass, asked_of, changed_by, needed_by, operands_of};
 
 use crate::asked::Asked;
-use crate::atom_bits::{AtomBits, ListedState};
+use crate::atom_bits::AtomBits;
 use crate::diagrams::Diagrams;
-use crate::goal::Goal;
+use crate::node_inquiry::NodeInquiry;
 use crate::tuple_search::Search;
 use hv_sets::{Family, Finding, Operand, Query, Scratch};
 use hv_task::{State, Task};
@@ -35,22 +35,8 @@ impl Family for Diagrams {
         budget: u64,
         scratch: &mut Scratch,
     ) -> Result<Finding, AllocError> {
-        let _atoms = self.atoms();
-        let atoms = task.atoms();
-        scratch.reserve(atoms, 0, 0)?;
-        let asked = operands_of(alloc, query)?;
-        let operands = asked.as_slice();
-        let held = ListedState::new(atoms, task.goal());
-        let goal = Goal::of(self, held, operands);
-        let mut search = Search::new(
-            self,
-            ListedState::new(atoms, task.start()),
-            goal,
-            needed_by(task, query.action),
-            changed_by(task, query.action),
-            operands,
-        );
-        search.answer(alloc, task, query, budget, &mut scratch.state)
+        let mut inquiry = NodeInquiry::new(self, task);
+        inquiry.find(alloc, query, budget, scratch)
     }
 }
 
@@ -58,7 +44,7 @@ impl Search<'_> {
     ghost use Rattle.hv_bdd.specs.Working.Search.{search_for};
 
     // The answer to the query that it is for.
-    fn answer(
+    pub(crate) fn answer(
         &mut self,
         alloc: Global,
         task: &Task,
@@ -69,10 +55,11 @@ impl Search<'_> {
         requires query { self.old ≡ search_for self.old.setting.list task.now query.now }
         requires task { self.old.setting.list.atoms ≡ atoms task.now }
         requires state { length state.old ≡ atoms task.now }
-        ensures { IfOk result (λ found.
+        ensures answer { IfOk result (λ found.
             IsAnswer found (LivePass self.old.setting.list task.now query.now budget)
             (atoms task.now) (is_clash task.now (in_node self.old.setting.list) query.now)
             state.new) }
+        ensures same { self.new ≡ self.old }
     {
         let _atoms = task.atoms();
         let _nodes = self.count();
@@ -82,7 +69,7 @@ impl Search<'_> {
 
 // The operands of a query as the places of its tuples: the positive ones, and then the negative
 // ones.
-fn operands_of(alloc: Global, query: &Query) -> Result<Vec<Asked>, AllocError>
+pub(crate) fn operands_of(alloc: Global, query: &Query) -> Result<Vec<Asked>, AllocError>
     ensures { IfOk result (λ asked. asked.items ≡ operands_of query.now) }
 {
     let mut asked = Vec::new(alloc);
@@ -106,7 +93,7 @@ fn asked_of(positive: bool, operand: &Operand) -> Asked
 }
 
 // The bits that an action needs.
-fn needed_by<'a>(task: &'a Task, action: Option<u32>) -> AtomBits<'a>
+pub(crate) fn needed_by<'a>(task: &'a Task, action: Option<u32>) -> AtomBits<'a>
     requires { IfSome action (λ a. a < length task.now.actions) }
     ensures { result ≡ needed_by (atoms task.now) (action_of task.now action) }
 {
@@ -117,7 +104,7 @@ fn needed_by<'a>(task: &'a Task, action: Option<u32>) -> AtomBits<'a>
 }
 
 // The bits that an action changes.
-fn changed_by<'a>(task: &'a Task, action: Option<u32>) -> AtomBits<'a>
+pub(crate) fn changed_by<'a>(task: &'a Task, action: Option<u32>) -> AtomBits<'a>
     requires { IfSome action (λ a. a < length task.now.actions) }
     ensures { result ≡ changed_by (atoms task.now) (action_of task.now action) }
 {

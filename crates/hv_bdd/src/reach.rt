@@ -53,8 +53,9 @@ impl Search<'_> {
         state: &mut State,
     ) -> Result<Finding, AllocError>
         requires { length state.old ≡ self.old.setting.list.atoms }
-        ensures { IfOk result (λ found.
+        ensures answer { IfOk result (λ found.
             IsLiveAnswer found self.old.setting self.old.asked budget state.new) }
+        ensures same { self.new ≡ self.old }
     {
         let reached = self.reach(alloc, budget)?;
         Ok(self.conclude(budget, &reached, state))
@@ -115,17 +116,17 @@ impl Search<'_> {
         Ok(Some(root))
     }
 
-    // Counts what the moves of one more tuple cost, where the goal's flags may come to be placed.
+    // Counts what the moves of one more tuple cost, where the goal's places may come to be listed.
     fn prepare(&mut self, alloc: Global, done: usize, reached: &Reached) -> Result<(), AllocError>
         requires explored { Explored self.old done reached.now }
         requires done { done < length reached.now.tuples.keys }
         ensures { self.new ≡ self.old }
     {
-        if !self.may_place() {
+        if !self.may_list() {
             return Ok(());
         }
         let place = self.least(reached.tuples.as_slice()[done].as_slice());
-        self.spend(alloc, place)
+        self.count_moves(alloc, place)
     }
 
     // Puts in what the bits lead to from one more tuple.

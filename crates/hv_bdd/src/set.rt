@@ -16,7 +16,7 @@ use crate::asked::Asked;
 use crate::atom_bits::{AtomBits, ListedState};
 use crate::counts::path_count;
 use crate::diagrams::Diagrams;
-use crate::goal::Goal;
+use crate::goal::{Goal, GoalPlaces};
 use crate::tuple_search::Search;
 use crate::walk::next;
 use hv_sets::{Covering, Cube, Cursor, Finding, Inside, Outside, Scratch, StateSet, Step, Which};
@@ -148,8 +148,8 @@ fn find(
         ListedState::new(atoms, &none),
         Goal {
             held: ListedState::new(atoms, &none),
-            placed: None,
-            left: 0,
+            places: GoalPlaces::never(),
+            counts: false,
         },
         AtomBits::signs(atoms, cube),
         AtomBits::none(atoms),

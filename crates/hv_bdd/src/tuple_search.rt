@@ -3,8 +3,9 @@
 ghost use Rattle.std.specs.Prelude.{◌≡◌, ◌<◌, ◌≤◌, ◌-◌, true, cond, length, option_map, IfOk};
 ghost use Rattle.std.specs.Prelude.{IfSome, slice_index_or};
 ghost use Rattle.std.specs.List.{All};
+ghost use Rattle.std.specs.List.Sorted.{IsStrictlyIncreasing};
 ghost use Rattle.hv_task.specs.Atoms.{IsNext};
-ghost use Rattle.hv_task.specs.State.{has_atom};
+ghost use Rattle.hv_task.specs.State.{names_atom};
 ghost use Rattle.hv_sets.specs.declared.operand.Which.TheVariants as W;
 ghost use Rattle.hv_bdd.specs.Working.Graphs.{limit};
 ghost use Rattle.hv_bdd.specs.Live.{asks_goal, first_asked, graph_child, graph_top, is_marked};
@@ -14,11 +15,10 @@ ghost use Rattle.hv_bdd.specs.Order.{atom_at};
 ghost use Rattle.hv_bdd.specs.Tuples.{is_live, least, move_all, move_one, next};
 
 use crate::asked::Asked;
-use crate::atom_bits::{AtomBits, ListedState};
+use crate::atom_bits::{AtomBits, ListedState, first_from};
 use crate::diagrams::Diagrams;
-use crate::goal::Goal;
+use crate::goal::{Goal, GoalPlaces};
 use hv_sets::Which;
-use hv_task::{Atoms, Hint, State};
 use smallvec::SmallVec;
 use std::alloc::{AllocError, Global};
 use std::marker::Model;
@@ -50,7 +50,7 @@ pub(crate) struct Search<'a> {
 
 impl<'a> Model for Search<'a> {
     ghost use Rattle.std.specs.Prelude.{◌≡◌, IfSome, length};
-    ghost use Rattle.hv_bdd.specs.Working.Search.{ArePlaced, IsTupleSearch, TupleSearch};
+    ghost use Rattle.hv_bdd.specs.Working.Search.{IsTupleSearch, ListsPlaces, TupleSearch};
 
     ghost Value = { TupleSearch };
 
@@ -74,12 +74,13 @@ impl<'a> Model for Search<'a> {
         changed = s.changed;
       };
       asked = s.asked.now;
-    } × IfSome s.goal.placed (ArePlaced s.nodes.now s.goal.held)
+    } × IfSome s.goal.places.listed (λ places.
+        ListsPlaces s.nodes.now s.goal.held places.items)
         × (length s.goal.held ≡ s.nodes.now.atoms) };
 }
 
 impl<'a> Search<'a> {
-    ghost use Rattle.hv_bdd.specs.Working.Search.{ArePlaced, IsAskable, IsTupleSearch};
+    ghost use Rattle.hv_bdd.specs.Working.Search.{IsAskable, IsTupleSearch, ListsPlaces};
 
     /// The search for these operands.
     pub(crate) fn new(
@@ -100,7 +101,8 @@ impl<'a> Search<'a> {
           };
           asked = asked.now;
         } }
-        requires placed { IfSome goal.placed (ArePlaced nodes.now goal.held) }
+        requires places { IfSome goal.places.listed (λ places.
+            ListsPlaces nodes.now goal.held places.items) }
         requires goal { length goal.held ≡ nodes.now.atoms }
         ensures setting { result.setting
             ≡ record {
@@ -155,24 +157,50 @@ impl<'a> Search<'a> {
         self.needed.read(atom)
     }
 
-    /// Whether the flags of the goal may come to be placed.
-    pub(crate) fn may_place(&self) -> bool {
-        self.goal.left > 0
+    /// The places of the goal's atoms, as far as they are listed.
+    pub(crate) fn places(self) -> GoalPlaces
+        ensures { IfSome result.listed (λ places.
+            ListsPlaces self.entry.setting.list self.entry.setting.goal places.items) }
+    {
+        self.goal.places
     }
 
-    /// Counts what a tuple costs that asks for this place, and places the flags of the goal once that
-    /// comes to as much as placing them.
-    pub(crate) fn spend(&mut self, alloc: Global, place: u32) -> Result<(), AllocError>
+    /// Whether the places of the goal may come to be listed.
+    pub(crate) fn may_list(&self) -> bool {
+        self.goal.counts && self.goal.places.left > 0
+    }
+
+    /// Counts what it costs to look for the first place of the goal, if that is done once more.
+    pub(crate) fn count_root(&mut self, alloc: Global, again: bool) -> Result<(), AllocError>
+        ensures { self.new ≡ self.old }
+    {
+        if !again || !self.may_list() {
+            return Ok(());
+        }
+        let cost = self.nodes.cost_of_next(&self.goal.held, 0);
+        self.spend(alloc, cost)
+    }
+
+    /// Counts what the moves cost of a tuple that asks for this place.
+    pub(crate) fn count_moves(&mut self, alloc: Global, place: u32) -> Result<(), AllocError>
         ensures { self.new ≡ self.old }
     {
         let cost = self.cost_at(place);
-        if cost < self.goal.left {
-            self.goal.left -= cost;
+        self.spend(alloc, cost)
+    }
+
+    // Counts such a cost, and lists the places of the goal once that comes to as much as listing
+    // them.
+    fn spend(&mut self, alloc: Global, cost: u32) -> Result<(), AllocError>
+        ensures { self.new ≡ self.old }
+    {
+        if cost < self.goal.places.left {
+            self.goal.places.left -= cost;
             return Ok(());
         }
-        self.goal.left = 0;
-        let placed = self.nodes.placed(alloc, &self.goal.held)?;
-        self.goal.placed = Some(placed);
+        self.goal.places.left = 0;
+        let listed = self.nodes.places_of(alloc, &self.goal.held)?;
+        self.goal.places.listed = Some(listed);
         Ok(())
     }
 
@@ -181,7 +209,7 @@ impl<'a> Search<'a> {
         if place >= self.atoms() || !self.goal.held.has(self.atom_at(place)) {
             return 1;
         }
-        self.nodes.cost_of_next(&self.goal.held, place)
+        self.nodes.cost_of_next(&self.goal.held, place + 1)
     }
 
     // The operand of a place of the tuples.
@@ -267,8 +295,8 @@ impl Search<'_> {
         ensures next { IsNext (asks_goal self.now.setting) from result }
         ensures within { IfSome result (λ v. v < self.now.setting.list.atoms) }
     {
-        match &self.goal.placed {
-            Some(placed) => next_held(placed, from),
+        match &self.goal.places.listed {
+            Some(places) => next_listed(places.as_slice(), from),
             None => self.nodes.next_place(&self.goal.held, from),
         }
     }
@@ -416,12 +444,16 @@ impl Search<'_> {
     }
 }
 
-// The least place from this one on whose flag is set.
-fn next_held(placed: &State, from: u32) -> Option<u32>
-    ensures { IsNext (has_atom placed.now) from result }
+// The least of these places from this one on.
+fn next_listed(places: &[u32], from: u32) -> Option<u32>
+    requires { IsStrictlyIncreasing places.now }
+    ensures { IsNext (names_atom places.now) from result }
 {
-    let mut hint = Hint::default();
-    placed.next(from, &mut hint)
+    let at = first_from(places, from);
+    if at < places.len() {
+        return Some(places[at]);
+    }
+    None
 }
 
 fn bit_or(mark: Option<bool>, bit: bool) -> bool

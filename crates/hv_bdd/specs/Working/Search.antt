@@ -3,9 +3,10 @@ use Rattle.std.specs.Prelude.{◌≡◌, ◌<◌, ◌≤◌, ◌++◌, ◌⊎◌
 use Rattle.std.specs.Prelude.{None}
 use Rattle.std.specs.Prelude.{Some, length, map, slice_index_or, ⊤}
 use Rattle.std.specs.List.{All, Contains}
+use Rattle.std.specs.List.Sorted.{IsStrictlyIncreasing}
 use Rattle.indexmap.specs.IndexSet.{IndexSet}
 use Rattle.smallvec.specs.SmallVec.{SmallVec}
-use Rattle.hv_task.specs.State.{has_atom}
+use Rattle.hv_task.specs.State.{has_atom, names_atom}
 use Rattle.hv_task.specs.Strips.{Strips}
 use Rattle.hv_sets.specs.declared.literal.Literal.{Literal}
 use Rattle.hv_sets.specs.declared.operand.Which.{Which}
@@ -39,6 +40,11 @@ IsAskable s (W.Set number) = number < node_count s.list
 pub record ArePlaced (list : NodeList) (state placed : List Bool) : Type 0 where
   pub size : length placed ≡ list.atoms
   pub has : (v : ℕ) → has_atom placed v ≡ has_atom state (atom_at list v)
+
+-- the list has the places of the atoms of the state, and rises
+pub record ListsPlaces (list : NodeList) (state : List Bool) (places : List ℕ) : Type 0 where
+  pub rises : IsStrictlyIncreasing places
+  pub names : (v : ℕ) → names_atom places v ≡ has_atom state (atom_at list v)
 
 -- the search can be made
 pub record IsTupleSearch (s : TupleSearch) : Type 0 where

@@ -100,8 +100,8 @@ returns-then-not-has_anchor-clause-answer c =
     (c.requires.query.is None) c.in-States.is
     (iff_false c.has_anchor.ensures c.if-not-has_anchor.true)
 
-pub decide_nodes-requires : goal.decide_nodes-requires
-decide_nodes-requires c = record {
+pub walk_nodes-requires : goal.walk_nodes-requires
+walk_nodes-requires c = record {
   ready = subst (λ (f : FormulaFamily). AreAllReady
       (count_of (lines_in c.args.case.now) f (node_count c.args.case.now.diagrams.now))
       (length c.args.case.now.task.now.actions) c.args.query.now c.args.actions.now) c.in-Node.is

@@ -14,7 +14,7 @@ returns-in-Clash c =
     found_in c.args.self.now c.count-count.ensures.search c.args.node c.args.inside c.args.cube.now
     c.requires.within rises c.requires.cube c.count-count.result c.find.new.state
     (subst (λ (f : Finding). IsLiveAnswer f c.args.self.now.setting c.args.self.now.asked
-    c.count-count.result c.find.new.state) c.in-Clash.is c.in_ok-find.ensures)
+    c.count-count.result c.find.new.state) c.in-Clash.is c.in_ok-find.ensures.answer)
 
 pub returns-in-Empty : goal.returns-in-Empty
 returns-in-Empty c =
@@ -23,7 +23,7 @@ returns-in-Empty c =
     none_in c.args.self.now c.count-count.ensures.search c.args.node c.args.inside c.args.cube.now
     c.requires.within rises c.requires.cube c.count-count.result c.find.new.state
     (subst (λ (f : Finding). IsLiveAnswer f c.args.self.now.setting c.args.self.now.asked
-    c.count-count.result c.find.new.state) c.in-Empty.is c.in_ok-find.ensures)
+    c.count-count.result c.find.new.state) c.in-Empty.is c.in_ok-find.ensures.answer)
 
 pub returns-in-Over : goal.returns-in-Over
 returns-in-Over c =
@@ -33,4 +33,4 @@ returns-in-Over c =
     absurd (few_tuples c.args.self.now c.count-count.ensures.search c.args.node c.args.inside
     c.args.cube.now c.requires.within rises c.requires.cube c.count-count.result (omega arith)
     (subst (λ (f : Finding). IsLiveAnswer f c.args.self.now.setting c.args.self.now.asked
-    c.count-count.result c.find.new.state) c.in-Over.is c.in_ok-find.ensures))
+    c.count-count.result c.find.new.state) c.in-Over.is c.in_ok-find.ensures.answer))
