@@ -10,7 +10,7 @@ use Rattle.std.specs.List.Sorted.{IsNonDecreasingBy, IsStrictlyIncreasing}
 use Rattle.std.specs.Prelude.{slice_range}
 use Rattle.hv_task.proofs.Rising.{rises_apart}
 use Rattle.hv_clauses.specs.Rows.{IsRow}
-use Rattle.hv_clauses.specs.Working.Rows.{AreCoded, AreHeads, IsEndBefore, IsFirstHead}
+use Rattle.hv_clauses.specs.Working.Rows.{AreCoded, AreHeads, HasHeads, IsEndBefore, IsFirstHead}
 use Rattle.hv_clauses.specs.Working.Rows.{IsPartOf, code, key_of, place_of_code}
 use Rattle.hv_clauses.specs.declared.rows.RowHead.{RowHead}
 
@@ -187,6 +187,40 @@ less_before heads key place e rises less lesser k d below =
     let order = rises k place d (omega arith) less in
     let same = ap (λ (h : RowHead). h.key) (get_or_default heads place d e less) in
     omega arith
+
+-- Where no head is of a key from the first one on that isn't of a lesser one, none is.
+pub no_head_past : (heads : List RowHead) (key first : ℕ) → IsFirstHead key heads first
+    → length heads ≤ first → (j : ℕ) (d : RowHead) → j < length heads
+    → (get_or heads j d).key ≡ key → ⊥
+no_head_past heads key first is past j d less same =
+    let lower = is.before j d (omega arith) in omega arith
+
+pub no_head : (heads : List RowHead) (key first : ℕ) (e : RowHead) → IsFirstHead key heads first
+    → IsNonDecreasingBy (λ h. h.key) heads → first < length heads
+    → ((get_or heads first e).key ≡ key → ⊥) → (j : ℕ) (d : RowHead) → j < length heads
+    → (get_or heads j d).key ≡ key → ⊥
+no_head heads key first e is rises less other j d within same = elim (cases_lt j first) [
+  | inl early ↦ let lower = is.before j d early in omega arith
+  | inr late ↦
+      let order = rises first j d late within in
+      let low = is.after first d (omega arith) less in
+      let one = ap (λ (h : RowHead). h.key) (get_or_default heads first d e less) in
+      other (omega arith)
+]
+
+-- The numbers of a key end where or after they begin, and within the list.
+module _ (heads : List RowHead) (len key from upto : ℕ)
+    (starts : (codes : List ℕ) → AreHeads codes heads → length codes ≡ len
+    → IsEndBefore key codes from)
+    (ends : (codes : List ℕ) → AreHeads codes heads → length codes ≡ len
+    → IsEndBefore (key + 1) codes upto) where
+  pub headed_upto : HasHeads heads len → from ≤ upto
+  headed_upto (codes, are, size) =
+      starts_upto codes key from upto (starts codes are size) (ends codes are size)
+
+  pub headed_ends : HasHeads heads len → upto ≤ len
+  headed_ends (codes, are, size) =
+      let within = (ends codes are size).within in omega (arith, within, size)
 
 -- Heads among which so many are of lesser keys.
 module _ (codes : List ℕ) (heads : List RowHead) (are : AreHeads codes heads) (key place : ℕ)

@@ -1,222 +1,39 @@
 -- What is tried of a formula for a listed state decides whether the state is in the formula.
-use Rattle.std.proofs.Common.{◌≡◌, ◌∙◌, ◌+◌, ◌<◌, ◌≤◌, ◌++◌, ◌||◌, ◌⊎◌, ℕ, Bool, true, false, not}
-use Rattle.std.proofs.Common.{List, [], ◌∷◌, length, get_or, set, refl, sym, ap, ap₂, arith, subst}
-use Rattle.std.proofs.Common.{inl, inr}
+use Rattle.std.proofs.Common.{◌≡◌, ◌∙◌, ◌+◌, ◌-◌, ◌<◌, ◌≤◌, ◌++◌, ◌⊎◌, ◌↔◌, ℕ, Bool}
+use Rattle.std.proofs.Common.{true, false, not}
+use Rattle.std.proofs.Common.{List, [], ◌∷◌, Option, None, Some, IfSome, length, get_or, map, set}
+use Rattle.std.proofs.Common.{refl, sym, ap, arith, subst, inl, inr}
 use Rattle.std.proofs.lemmas.Bool.{cases_eq, cases_lt}
 use Rattle.std.proofs.lemmas.List.{get_or-set_other, get_or-set_same, get_or_default}
-use Rattle.std.proofs.lemmas.List.{get_or_append_left, get_or_push, length-set, length_push}
+use Rattle.std.proofs.lemmas.List.{get_or-map, get_or_append_left, get_or_push, length-map}
+use Rattle.std.proofs.lemmas.List.{length_push}
+use Rattle.std.proofs.lemmas.List.Edits.{get_or-between, length-between}
 use Rattle.std.proofs.lemmas.List.Elements.{All-contains, Contains-append_left, Contains-get_or}
-use Rattle.std.proofs.lemmas.List.Elements.{Contains-push}
+use Rattle.std.proofs.lemmas.List.Elements.{Contains-push, Contains-push_cases}
 use Rattle.std.specs.List.{Contains}
+use Rattle.std.specs.List.Sorted.{IsNonDecreasingBy, IsStrictlyIncreasing}
+use Rattle.std.specs.Prelude.{slice_range}
 use Rattle.hv_task.specs.State.{AreBelow, has_atom, state_of}
 use Rattle.hv_task.proofs.Places.{has_atom-state_of, names_atom-Decides}
 use Rattle.hv_sets.specs.declared.literal.Literal.{Literal}
+use Rattle.hv_sets.specs.Cubes.{SpeakBelow}
 use Rattle.hv_sets.specs.Truth.{in_clause, in_clauses, in_literal}
+use Rattle.hv_clauses.specs.declared.clusters.Cluster.{Cluster}
+use Rattle.hv_clauses.specs.declared.clusters.ClusterList.{ClusterList}
+use Rattle.hv_clauses.specs.declared.clusters.Clusters.{Clusters}
 use Rattle.hv_clauses.specs.declared.mates.Mates.{Mates}
+use Rattle.hv_clauses.specs.declared.put_clauses.PutClauses.{PutClauses}
+use Rattle.hv_clauses.specs.declared.rows.RowHead.{RowHead}
+use Rattle.hv_clauses.specs.declared.rows.RowRange.{RowRange}
+use Rattle.hv_clauses.specs.declared.screens.Screen.{Screen}
 use Rattle.hv_clauses.specs.Clausal.{AreClauses, clause_at}
-use Rattle.hv_clauses.specs.Mates.{AreMates, IsInRows, IsPairOf, NamesNegatively}
-use Rattle.hv_clauses.specs.Working.Mates.{AgreesWith, IsFree, AreTried, StandsAmong}
-use Rattle.hv_clauses.specs.Rows.{IsRow}
-use Rattle.hv_clauses.specs.Working.Signed.{StandsAs}
+use Rattle.hv_clauses.specs.Mates.{AreClusters, AreMates, IsCluster, IsPutUnder, IsPutUnderOwn}
+use Rattle.hv_clauses.specs.Mates.{IsScreened, cluster_places}
+use Rattle.hv_clauses.specs.Working.Mates.{AreClustersUpto, ArePut, AreTried, IsDue, IsPutBy}
+use Rattle.hv_clauses.specs.Working.Mates.{PutsCluster}
+use Rattle.hv_clauses.specs.Working.Rows.{AreCoded, AreHeads, IsPartOf, code, key_of, place_of_code}
+use Rattle.hv_clauses.proofs.Keyed.{code_is, key_of-code, number_of-code, row_from}
 use Rattle.hv_clauses.proofs.Truths.{clause_has, clauses_by, one_false}
-
-not_same : (b : Bool) → b ≡ not b → ⊥
-not_same true e = let f : true ≡ false = e in absurd cc
-not_same false e = let f : false ≡ true = e in absurd cc
-
--- no clause was entered
-pub mates_first : (atoms : ℕ) (clauses : List (List Literal)) (mates : Mates)
-    → mates.others.items ≡ []
-    → ((p : ℕ) (d : List Bool) → p < length mates.rows.items
-    → IsFree mates.sign atoms (get_or mates.rows.items p d))
-    → AreMates atoms clauses 0 mates
-mates_first atoms clauses mates none free = record {
-  sizes = λ p d less. (free p d less).0;
-  says = λ p q less below out.
-      absurd (not_same mates.sign (sym out ∙ (free p [] less).1 q below));
-  whole = λ c less. absurd (omega (arith, less));
-  inside = λ k less. absurd (omega (arith, less, ap length none));
-}
-
-module _ (atoms : ℕ) (clauses : List (List Literal)) (old : Mates) (place : ℕ)
-    (less : place < length clauses) (is : AreMates atoms clauses place old) where
-  -- the next clause is tried by the atoms that a state holds
-  pub mates_held : old.by_held ≡ true → NamesNegatively (clause_at clauses place)
-      → AreMates atoms clauses (place + 1) old
-  mates_held by_held names = record {
-    sizes = is.sizes;
-    says = is.says;
-    whole = λ c early. elim (cases_lt c place) [
-      | inl before ↦ is.whole c before
-      | inr late ↦
-          let e : place ≡ c = omega (arith, early, late) in
-          inr (inl (by_held, subst (λ x. NamesNegatively (clause_at clauses x)) e names))
-    ];
-    inside = is.inside;
-  }
-
-  -- the next clause is one of the others
-  pub mates_other : (new : Mates) → new.sign ≡ old.sign → new.by_held ≡ old.by_held
-      → new.rows ≡ old.rows → new.others.items ≡ old.others.items ++ place ∷ []
-      → AreMates atoms clauses (place + 1) new
-  mates_other new same_sign same_held same_rows put = record {
-    sizes = subst (λ rows. (p : ℕ) (d : List Bool) → p < length rows.items
-        → length (get_or rows.items p d) ≡ atoms) (sym same_rows) is.sizes;
-    says = subst (λ sign. (p q : ℕ) → p < length new.rows.items → q < atoms
-        → has_atom (get_or new.rows.items p []) q ≡ sign
-        → (c : ℕ) × (c < length clauses) × IsPairOf sign (clause_at clauses c) p q)
-        (sym same_sign)
-        (subst (λ rows. (p q : ℕ) → p < length rows.items → q < atoms
-        → has_atom (get_or rows.items p []) q ≡ old.sign
-        → (c : ℕ) × (c < length clauses) × IsPairOf old.sign (clause_at clauses c) p q)
-        (sym same_rows) is.says);
-    whole = λ c early. elim (cases_lt c place) [
-      | inl before ↦ elim (is.whole c before) [
-        | inl has ↦ inl (subst (λ xs. Contains xs c) (sym put)
-            (Contains-append_left old.others.items (place ∷ []) c has))
-        | inr else ↦ inr (elim else [
-          | inl names ↦ inl (same_held ∙ names.0, names.1)
-          | inr rows ↦ inr
-              (subst (λ sign. IsInRows sign atoms new.rows.items (clause_at clauses c))
-              (sym same_sign)
-              (subst (λ r. IsInRows old.sign atoms r.items (clause_at clauses c))
-              (sym same_rows) rows))
-        ])
-      ]
-      | inr late ↦
-          let e : place ≡ c = omega (arith, early, late) in
-          inl (subst (λ xs. Contains xs c) (sym put)
-          (subst (λ x. Contains (old.others.items ++ place ∷ []) x) e
-          (Contains-push old.others.items place)))
-    ];
-    inside = subst (λ xs. (k : ℕ) → k < length xs → get_or xs k 0 < length clauses) (sym put)
-        others_inside;
-  }
-    where
-      others_inside : (k : ℕ) → k < length (old.others.items ++ place ∷ [])
-          → get_or (old.others.items ++ place ∷ []) k 0 < length clauses
-      others_inside k early =
-          let long = length_push old.others.items place in
-          elim (cases_lt k (length old.others.items)) [
-            | inl before ↦ subst (λ x. x < length clauses)
-                (sym (get_or_append_left old.others.items (place ∷ []) 0 k before))
-                (is.inside k before)
-            | inr late ↦ subst (λ x. x < length clauses)
-                (sym (get_or_push old.others.items place 0 k (omega (arith, early, late, long))))
-                less
-          ]
-
-  -- the next clause is put into the rows
-  module _ (p q : ℕ) (in_rows : p < length old.rows.items) (in_p : p < atoms) (in_q : q < atoms)
-      (pair : IsPairOf old.sign (clause_at clauses place) p q) where
-    abbrev first_row : List Bool
-    first_row = get_or old.rows.items p []
-
-    abbrev new_rows : List (List Bool)
-    new_rows = set old.rows.items p (set first_row q old.sign)
-
-    size : length new_rows ≡ length old.rows.items
-    size = length-set old.rows.items p (set first_row q old.sign)
-
-    here : (i : ℕ) (d : List Bool) → i ≡ p → get_or new_rows i d ≡ set first_row q old.sign
-    here i d same = ap (λ j. get_or new_rows j d) same
-        ∙ get_or-set_same old.rows.items p (set first_row q old.sign) d in_rows
-
-    there : (i : ℕ) (d : List Bool) → (i ≡ p → ⊥) → get_or new_rows i d ≡ get_or old.rows.items i d
-    there i d other = get_or-set_other old.rows.items p i (set first_row q old.sign) d other
-
-    said : (i j : ℕ) → i < length new_rows → j < atoms
-        → has_atom (get_or new_rows i []) j ≡ old.sign
-        → (c : ℕ) × (c < length clauses) × IsPairOf old.sign (clause_at clauses c) i j
-    said i j early in_j out = elim (cases_eq i p) [
-      | inl same ↦ elim (cases_eq j q) [
-        | inl is_q ↦ (
-          place,
-          less,
-          subst (λ x. IsPairOf old.sign (clause_at clauses place) x j) (sym same)
-              (subst (λ y. IsPairOf old.sign (clause_at clauses place) p y) (sym is_q) pair),
-        )
-        | inr not_q ↦
-            let w = is.says p j in_rows in_j
-            (sym (get_or-set_other first_row q j old.sign false not_q)
-            ∙ (ap (λ r. has_atom r j) (sym (here i [] same)) ∙ out)) in (
-              w.0,
-              w.1,
-              subst (λ x. IsPairOf old.sign (clause_at clauses (w.0)) x j) (sym same)
-                  (w.2),
-            )
-      ]
-      | inr other ↦ is.says i j (omega (arith, early, size)) in_j
-          (ap (λ r. has_atom r j) (sym (there i [] other)) ∙ out)
-    ]
-
-    out_now : has_atom (get_or new_rows p []) q ≡ old.sign
-    out_now = ap (λ r. has_atom r q) (here p [] refl)
-        ∙ get_or-set_same first_row q old.sign false (omega (arith, in_q, is.sizes p [] in_rows))
-
-    stays : (i j : ℕ) → has_atom (get_or old.rows.items i []) j ≡ old.sign
-        → has_atom (get_or new_rows i []) j ≡ old.sign
-    stays i j was = elim (cases_eq i p) [
-      | inl same ↦ elim (cases_eq j q) [
-        | inl is_q ↦ ap₂ (λ x y. has_atom (get_or new_rows x []) y) same is_q ∙ out_now
-        | inr not_q ↦ ap (λ r. has_atom r j) (here i [] same)
-            ∙ (get_or-set_other first_row q j old.sign false not_q
-            ∙ (ap (λ x. has_atom (get_or old.rows.items x []) j) (sym same) ∙ was))
-      ]
-      | inr other ↦ ap (λ r. has_atom r j) (there i [] other) ∙ was
-    ]
-
-    row_sizes : (i : ℕ) (d : List Bool) → i < length new_rows → length (get_or new_rows i d) ≡ atoms
-    row_sizes i d early = elim (cases_eq i p) [
-      | inl same ↦ ap length (here i d same) ∙ (length-set first_row q old.sign
-          ∙ is.sizes p [] in_rows)
-      | inr other ↦ ap length (there i d other) ∙ is.sizes i d (omega (arith, early, size))
-    ]
-
-    kept : (c : ℕ) → c < place + 1 → Contains old.others.items c
-        ⊎ (((old.by_held ≡ true) × NamesNegatively (clause_at clauses c))
-        ⊎ IsInRows old.sign atoms new_rows (clause_at clauses c))
-    kept c early = elim (cases_lt c place) [
-      | inl before ↦ elim (is.whole c before) [
-        | inl has ↦ inl has
-        | inr else ↦ inr (elim else [
-          | inl names ↦ inl names
-          | inr (i, j, less_i, in_i, in_j, says, out) ↦
-              inr (i, j, omega (arith, less_i, size), in_i, in_j, says, stays i j out)
-        ])
-      ]
-      | inr late ↦
-          let e : place ≡ c = omega (arith, early, late) in
-          inr (inr (subst (λ x. IsInRows old.sign atoms new_rows (clause_at clauses x)) e
-          (p, q, omega (arith, in_rows, size), in_p, in_q, pair, out_now)))
-    ]
-
-    pub mates_pair : (new : Mates) → new.sign ≡ old.sign → new.by_held ≡ old.by_held
-        → new.others ≡ old.others → new.rows.items ≡ new_rows
-        → AreMates atoms clauses (place + 1) new
-    mates_pair new same_sign same_held same_others put = record {
-      sizes = subst (λ rows. (i : ℕ) (d : List Bool) → i < length rows
-          → length (get_or rows i d) ≡ atoms) (sym put) row_sizes;
-      says = subst (λ sign. (i j : ℕ) → i < length new.rows.items → j < atoms
-          → has_atom (get_or new.rows.items i []) j ≡ sign
-          → (c : ℕ) × (c < length clauses) × IsPairOf sign (clause_at clauses c) i j)
-          (sym same_sign)
-          (subst (λ rows. (i j : ℕ) → i < length rows → j < atoms
-          → has_atom (get_or rows i []) j ≡ old.sign
-          → (c : ℕ) × (c < length clauses) × IsPairOf old.sign (clause_at clauses c) i j)
-          (sym put) said);
-      whole = λ c early. elim (kept c early) [
-        | inl has ↦ inl (subst (λ o. Contains o.items c) (sym same_others) has)
-        | inr else ↦ inr (elim else [
-          | inl names ↦ inl (same_held ∙ names.0, names.1)
-          | inr rows ↦ inr (subst (λ sign. IsInRows sign atoms new.rows.items (clause_at clauses c))
-              (sym same_sign)
-              (subst (λ r. IsInRows old.sign atoms r (clause_at clauses c)) (sym put) rows))
-        ])
-      ];
-      inside = subst (λ o. (k : ℕ) → k < length o.items → get_or o.items k 0 < length clauses)
-          (sym same_others) is.inside;
-    }
 
 -- a literal is true where its atom has its sign
 true_as : (sign : Bool) (p : ℕ) (s : List Bool) → has_atom s p ≡ sign
@@ -224,163 +41,586 @@ true_as : (sign : Bool) (p : ℕ) (s : List Bool) → has_atom s p ≡ sign
 true_as true p s e = e
 true_as false p s e = ap not e
 
-false_as : (sign : Bool) (p : ℕ) (s : List Bool) → has_atom s p ≡ not sign
-    → in_literal (record { atom = p; positive = sign }) s ≡ false
-false_as true p s e = e
-false_as false p s e = ap not e
-
 sign_or : (sign b : Bool) → (b ≡ sign) ⊎ (b ≡ not sign)
 sign_or true true = inl refl
 sign_or true false = inr refl
 sign_or false true = inr refl
 sign_or false false = inl refl
 
-or_left : (a b : Bool) → a ≡ true → (a || b) ≡ true
-or_left true b e = refl
-or_left false b e = let f : false ≡ true = e in absurd cc
+pub not_both : (sign b : Bool) → b ≡ sign → b ≡ not sign → ⊥
+not_both true true e f = let g : true ≡ false = f in absurd cc
+not_both true false e f = let g : false ≡ true = e in absurd cc
+not_both false true e f = let g : true ≡ false = e in absurd cc
+not_both false false e f = let g : false ≡ true = f in absurd cc
 
-or_right : (a b : Bool) → b ≡ true → (a || b) ≡ true
-or_right true b e = refl
-or_right false b e = e
+-- a part of a list has items of the list alone
+pub part_contains : (xs : List ℕ) (from upto x : ℕ) → upto ≤ length xs
+    → Contains (slice_range xs from upto) x → Contains xs x
+part_contains xs from upto x ends (k, less, is) =
+    let size = length-between xs from upto ends in
+    let in_part : k < upto - from = omega (arith, less, size) in (
+      from + k,
+      omega arith,
+      sym (get_or-between xs from upto k x (omega arith)) ∙ is,
+    )
+
+pub part_inside : (xs : List ℕ) (from upto n : ℕ) → upto ≤ length xs
+    → ((k : ℕ) → k < length xs → get_or xs k 0 < n)
+    → (k : ℕ) → k < length (slice_range xs from upto) → get_or (slice_range xs from upto) k 0 < n
+part_inside xs from upto n ends all k less =
+    let size = length-between xs from upto ends in
+    let in_part : k < upto - from = omega (arith, less, size) in
+    subst (λ x. x < n) (sym (get_or-between xs from upto k 0 (omega arith)))
+    (all (from + k) (omega arith))
+
+-- one item more is inside, too
+pub push_inside : (xs : List ℕ) (y n : ℕ) → y < n → ((k : ℕ) → k < length xs → get_or xs k 0 < n)
+    → (k : ℕ) → k < length (xs ++ y ∷ []) → get_or (xs ++ y ∷ []) k 0 < n
+push_inside xs y n less all k early =
+    let long = length_push xs y in
+    elim (cases_lt k (length xs)) [
+      | inl before ↦ subst (λ x. x < n) (sym (get_or_append_left xs (y ∷ []) 0 k before))
+          (all k before)
+      | inr late ↦ subst (λ x. x < n)
+          (sym (get_or_push xs y 0 k (omega (arith, early, late, long)))) less
+    ]
+
+module _ (screen : Screen) (state : List Bool) where
+  -- where all literals of a screen are true, so is each clause that has one
+  pub screened_true : ((q : ℕ) → q < length state → has_atom screen.flags q ≡ screen.sign
+      → has_atom state q ≡ screen.sign)
+      → (clause : List Literal) → SpeakBelow (length state) clause → IsScreened screen clause
+      → in_clause clause state ≡ true
+  screened_true agree clause speak (q, has, flag) =
+      let in_q : q < length state = All-contains (λ (l : Literal). l.atom < length state) clause
+      (record { atom = q; positive = screen.sign }) speak has in
+      clause_has state clause (record { atom = q; positive = screen.sign }) has
+      (true_as screen.sign q state (agree q in_q flag))
+
+module _ (old new : Screen) (atom : ℕ) (sign : new.sign ≡ old.sign)
+    (flags : new.flags ≡ set old.flags atom old.sign) (less : atom < length old.flags) where
+  flag_here : has_atom new.flags atom ≡ old.sign
+  flag_here = ap (λ fs. has_atom fs atom) flags
+      ∙ get_or-set_same old.flags atom old.sign false less
+
+  flag_stays : (q : ℕ) → has_atom old.flags q ≡ old.sign → has_atom new.flags q ≡ old.sign
+  flag_stays q flag = elim (cases_eq q atom) [
+    | inl same ↦ ap (λ x. has_atom new.flags x) same ∙ flag_here
+    | inr other ↦ ap (λ fs. has_atom fs q) flags
+        ∙ (get_or-set_other old.flags atom q old.sign false other ∙ flag)
+  ]
+
+  -- a screen with one literal more has what it had, and that literal
+  pub screen_keeps : (clause : List Literal) → IsScreened old clause → IsScreened new clause
+  screen_keeps clause (q, has, flag) = (
+    q,
+    subst (λ b. Contains clause (record { atom = q; positive = b })) (sym sign) has,
+    flag_stays q flag ∙ sym sign,
+  )
+
+  pub screen_here : (clause : List Literal)
+      → Contains clause (record { atom = atom; positive = old.sign }) → IsScreened new clause
+  screen_here clause has = (
+    atom,
+    subst (λ b. Contains clause (record { atom = atom; positive = b })) (sym sign) has,
+    flag_here ∙ sym sign,
+  )
+
+-- one clause more has a literal of a screen
+pub screens_more : (clauses : List (List Literal)) (places : List ℕ) (at : ℕ) (old new : Screen)
+    → ((clause : List Literal) → IsScreened old clause → IsScreened new clause)
+    → ((k : ℕ) → k < at → IsScreened old (clause_at clauses (get_or places k 0)))
+    → IsScreened new (clause_at clauses (get_or places at 0))
+    → (k : ℕ) → k < at + 1 → IsScreened new (clause_at clauses (get_or places k 0))
+screens_more clauses places at old new keeps before here k less = elim (cases_lt k at) [
+  | inl early ↦ keeps (clause_at clauses (get_or places k 0)) (before k early)
+  | inr late ↦
+      let e : at ≡ k = omega (arith, less, late) in
+      subst (λ i. IsScreened new (clause_at clauses (get_or places i 0))) e here
+]
+
+pub screens_all : (clauses : List (List Literal)) (places : List ℕ) (at : ℕ) (screen : Screen)
+    → length places ≤ at
+    → ((k : ℕ) → k < at → IsScreened screen (clause_at clauses (get_or places k 0)))
+    → (c : ℕ) → Contains places c → IsScreened screen (clause_at clauses c)
+screens_all clauses places at screen past all c (k, less, is) =
+    subst (λ n. IsScreened screen (clause_at clauses n)) (get_or_default places k 0 c less ∙ is)
+    (all k (omega (arith, less, past)))
+
+-- nothing was put
+pub put_first : (clauses : List (List Literal)) (put : PutClauses) → put.negative.items ≡ []
+    → put.positive.items ≡ [] → put.others.items ≡ [] → ArePut clauses 0 put
+put_first clauses put negative positive others = record {
+  negative = λ x has. absurd (omega (arith, has.1, ap length negative));
+  positive = λ x has. absurd (omega (arith, has.1, ap length positive));
+  others = λ k less. absurd (omega (arith, less, ap length others));
+  whole = λ c less. absurd (omega (arith, less));
+}
+
+module _ (clauses : List (List Literal)) (place : ℕ) (less : place < length clauses)
+    (few : length clauses ≤ 4294967295) (old : PutClauses) (is : ArePut clauses place old) where
+  place_is : (p : ℕ) → place_of_code (code p place) ≡ place
+  place_is p = number_of-code p place (omega (arith, less, few))
+
+  codes_inside : (codes : List ℕ) (p : ℕ)
+      → ((x : ℕ) → Contains codes x → place_of_code x < length clauses)
+      → (x : ℕ) → Contains (codes ++ code p place ∷ []) x → place_of_code x < length clauses
+  codes_inside codes p all x has = elim (Contains-push_cases codes (code p place) x has) [
+    | inl was ↦ all x was
+    | inr same ↦ subst (λ y. place_of_code y < length clauses) same
+        (subst (λ n. n < length clauses) (sym (place_is p)) less)
+  ]
+
+  stays_by : (sign : Bool) (codes : List ℕ) (x c : ℕ) → IsPutBy sign clauses codes c
+      → IsPutBy sign clauses (codes ++ x ∷ []) c
+  stays_by sign codes x c (p, has, coded) =
+      (p, has, Contains-append_left codes (x ∷ []) (code p c) coded)
+
+  -- the next clause is among the others
+  pub put_other : (new : PutClauses) → new.negative ≡ old.negative → new.positive ≡ old.positive
+      → new.others.items ≡ old.others.items ++ place ∷ [] → ArePut clauses (place + 1) new
+  put_other new negative positive others = record {
+    negative = subst (λ v. (x : ℕ) → Contains v.items x → place_of_code x < length clauses)
+        (sym negative) is.negative;
+    positive = subst (λ v. (x : ℕ) → Contains v.items x → place_of_code x < length clauses)
+        (sym positive) is.positive;
+    others = subst (λ xs. (k : ℕ) → k < length xs → get_or xs k 0 < length clauses) (sym others)
+        (push_inside old.others.items place (length clauses) less is.others);
+    whole = λ c early. elim (cases_lt c place) [
+      | inl before ↦ elim (is.whole c before) [
+        | inl has ↦ inl (subst (λ xs. Contains xs c) (sym others)
+            (Contains-append_left old.others.items (place ∷ []) c has))
+        | inr else ↦ inr (elim else [
+          | inl by ↦ inl (subst (λ v. IsPutBy false clauses v.items c) (sym negative) by)
+          | inr by ↦ inr (subst (λ v. IsPutBy true clauses v.items c) (sym positive) by)
+        ])
+      ]
+      | inr late ↦
+          let e : place ≡ c = omega (arith, early, late) in
+          inl (subst (λ xs. Contains xs c) (sym others)
+          (subst (λ x. Contains (old.others.items ++ place ∷ []) x) e
+          (Contains-push old.others.items place)))
+    ];
+  }
+
+  module _ (own : Literal) (has : Contains (clause_at clauses place) own) where
+    put_here : (sign : Bool) (codes : List ℕ) → own.positive ≡ sign
+        → IsPutBy sign clauses (codes ++ code own.atom place ∷ []) place
+    put_here sign codes same = (
+      own.atom,
+      subst (λ b. Contains (clause_at clauses place) (record { atom = own.atom; positive = b }))
+          same has,
+      Contains-push codes (code own.atom place),
+    )
+
+    here : (sign : Bool) (codes : List ℕ) → own.positive ≡ sign → (c : ℕ) → place ≡ c
+        → IsPutBy sign clauses (codes ++ code own.atom place ∷ []) c
+    here sign codes same c e =
+        subst (λ x. IsPutBy sign clauses (codes ++ code own.atom place ∷ []) x) e
+        (put_here sign codes same)
+
+    -- the next clause is put under a negative literal
+    pub put_negative : own.positive ≡ false → (new : PutClauses)
+        → new.negative.items ≡ old.negative.items ++ code own.atom place ∷ []
+        → new.positive ≡ old.positive → new.others ≡ old.others → ArePut clauses (place + 1) new
+    put_negative sign new negative positive others = record {
+      negative = subst (λ xs. (x : ℕ) → Contains xs x → place_of_code x < length clauses)
+          (sym negative) (codes_inside old.negative.items own.atom is.negative);
+      positive = subst (λ v. (x : ℕ) → Contains v.items x → place_of_code x < length clauses)
+          (sym positive) is.positive;
+      others = subst (λ v. (k : ℕ) → k < length v.items → get_or v.items k 0 < length clauses)
+          (sym others) is.others;
+      whole = λ c early. elim (cases_lt c place) [
+        | inl before ↦ elim (is.whole c before) [
+          | inl has ↦ inl (subst (λ v. Contains v.items c) (sym others) has)
+          | inr else ↦ inr (elim else [
+            | inl by ↦ inl (subst (λ xs. IsPutBy false clauses xs c) (sym negative)
+                (stays_by false old.negative.items (code own.atom place) c by))
+            | inr by ↦ inr (subst (λ v. IsPutBy true clauses v.items c) (sym positive) by)
+          ])
+        ]
+        | inr late ↦ inr (inl (subst (λ xs. IsPutBy false clauses xs c) (sym negative)
+            (here false old.negative.items sign c (omega (arith, early, late)))))
+      ];
+    }
+
+    -- or under a positive one
+    pub put_positive : own.positive ≡ true → (new : PutClauses)
+        → new.positive.items ≡ old.positive.items ++ code own.atom place ∷ []
+        → new.negative ≡ old.negative → new.others ≡ old.others → ArePut clauses (place + 1) new
+    put_positive sign new positive negative others = record {
+      positive = subst (λ xs. (x : ℕ) → Contains xs x → place_of_code x < length clauses)
+          (sym positive) (codes_inside old.positive.items own.atom is.positive);
+      negative = subst (λ v. (x : ℕ) → Contains v.items x → place_of_code x < length clauses)
+          (sym negative) is.negative;
+      others = subst (λ v. (k : ℕ) → k < length v.items → get_or v.items k 0 < length clauses)
+          (sym others) is.others;
+      whole = λ c early. elim (cases_lt c place) [
+        | inl before ↦ elim (is.whole c before) [
+          | inl has ↦ inl (subst (λ v. Contains v.items c) (sym others) has)
+          | inr else ↦ inr (elim else [
+            | inl by ↦ inl (subst (λ v. IsPutBy false clauses v.items c) (sym negative) by)
+            | inr by ↦ inr (subst (λ xs. IsPutBy true clauses xs c) (sym positive)
+                (stays_by true old.positive.items (code own.atom place) c by))
+          ])
+        ]
+        | inr late ↦ inr (inr (subst (λ xs. IsPutBy true clauses xs c) (sym positive)
+            (here true old.positive.items sign c (omega (arith, early, late)))))
+      ];
+    }
+
+module _ (clauses : List (List Literal)) (heads : List RowHead) (places : List ℕ) (at : ℕ)
+    (old new : ClusterList) (is : AreClustersUpto clauses heads places at old)
+    (longer : length old.screens.items ≤ length new.screens.items)
+    (same : (k : ℕ) (d : Screen) → k < length old.screens.items
+    → get_or new.screens.items k d ≡ get_or old.screens.items k d) where
+  screen_stays : (cluster : Cluster) (o : Option ℕ)
+      → IfSome o (λ k. (k < length old.screens.items)
+      × ((d : Screen) (c : ℕ) → Contains (cluster_places places cluster) c
+      → IsScreened (get_or old.screens.items k d) (clause_at clauses c)))
+      → IfSome o (λ k. (k < length new.screens.items)
+      × ((d : Screen) (c : ℕ) → Contains (cluster_places places cluster) c
+      → IsScreened (get_or new.screens.items k d) (clause_at clauses c)))
+  screen_stays cluster None was = tt
+  screen_stays cluster (Some k) (less, all) = (
+    omega (arith, less, longer),
+    λ d c has. subst (λ s. IsScreened s (clause_at clauses c)) (sym (same k d less)) (all d c has),
+  )
+
+  -- screens that are put behind change nothing
+  kept_cluster : (cluster : Cluster) → IsCluster clauses places old.screens.items cluster
+      → IsCluster clauses places new.screens.items cluster
+  kept_cluster cluster was = record {
+    starts = was.starts;
+    ends = was.ends;
+    screened = screen_stays cluster cluster.screen was.screened;
+  }
+
+  -- one cluster more
+  pub clusters_more : (cluster : Cluster)
+      → new.clusters.items ≡ old.clusters.items ++ cluster ∷ []
+      → IsCluster clauses places new.screens.items cluster
+      → ((codes : List ℕ) → AreHeads codes heads → length codes ≡ length places → (d : RowHead)
+      → IsPartOf (get_or heads at d).key codes places (cluster_places places cluster))
+      → AreClustersUpto clauses heads places (at + 1) new
+  clusters_more cluster put here part = record {
+    size = ap length put ∙ (length_push old.clusters.items cluster ∙ ap (λ n. n + 1) is.size);
+    each = λ j e early. elim (cases_lt j at) [
+      | inl before ↦ subst (λ x. IsCluster clauses places new.screens.items x)
+          (sym (was j e before))
+          (kept_cluster (get_or old.clusters.items j e) (is.each j e before))
+      | inr late ↦ subst (λ x. IsCluster clauses places new.screens.items x)
+          (sym (now j e (omega (arith, early, late)))) here
+    ];
+    parts = λ codes are size j d e early. elim (cases_lt j at) [
+      | inl before ↦
+          subst (λ x. IsPartOf (get_or heads j d).key codes places (cluster_places places x))
+          (sym (was j e before)) (is.parts codes are size j d e before)
+      | inr late ↦
+          let one : j ≡ at = omega (arith, early, late) in
+          subst (λ x. IsPartOf (get_or heads j d).key codes places (cluster_places places x))
+          (sym (now j e one))
+          (subst (λ i. IsPartOf (get_or heads i d).key codes places (cluster_places places cluster))
+          (sym one) (part codes are size d))
+    ];
+  }
+    where
+      was : (j : ℕ) (e : Cluster) → j < at
+          → get_or new.clusters.items j e ≡ get_or old.clusters.items j e
+      was j e before = ap (λ xs. get_or xs j e) put
+          ∙ get_or_append_left old.clusters.items (cluster ∷ []) e j
+          (let size = is.size in omega arith)
+
+      now : (j : ℕ) (e : Cluster) → j ≡ at → get_or new.clusters.items j e ≡ cluster
+      now j e one = ap (λ xs. get_or xs j e) put
+          ∙ get_or_push old.clusters.items cluster e j (is.size ∙ sym one)
+
+-- a cluster was put of what is put under the next head
+pub puts_cluster : (clauses : List (List Literal)) (heads : List RowHead) (places : List ℕ)
+    (at : ℕ) (old new : ClusterList) → AreClustersUpto clauses heads places at old
+    → (range : RowRange) (screen : Option Screen) → PutsCluster old range screen new
+    → range.from ≤ range.upto → range.upto ≤ length places
+    → IfSome screen (λ s. (c : ℕ) → Contains (slice_range places range.from range.upto) c
+    → IsScreened s (clause_at clauses c))
+    → ((codes : List ℕ) → AreHeads codes heads → length codes ≡ length places → (d : RowHead)
+    → IsPartOf (get_or heads at d).key codes places (slice_range places range.from range.upto))
+    → AreClustersUpto clauses heads places (at + 1) new
+puts_cluster clauses heads places at old new is range None (put, same) starts ends screened part =
+    clusters_more clauses heads places at old new is
+    (let e = ap length same in omega arith) (λ k d less. ap (λ xs. get_or xs k d) same)
+    (record { range = range; screen = None }) put
+    (record { starts = starts; ends = ends; screened = tt }) part
+puts_cluster clauses heads places at old new is range (Some screen) (put, more) starts ends screened
+    part =
+    let long : length new.screens.items ≡ length old.screens.items + 1 = ap length more
+    ∙ length_push old.screens.items screen in
+    clusters_more clauses heads places at old new is (omega arith)
+    (λ k d less. ap (λ xs. get_or xs k d) more
+    ∙ get_or_append_left old.screens.items (screen ∷ []) d k less)
+    (record { range = range; screen = Some (length old.screens.items) }) put
+    (record {
+      starts = starts;
+      ends = ends;
+      screened = (
+        omega (arith, long),
+        λ d c has. subst (λ s. IsScreened s (clause_at clauses c))
+            (sym (ap (λ xs. get_or xs (length old.screens.items) d) more
+            ∙ get_or_push old.screens.items screen d (length old.screens.items) refl))
+            (screened c has),
+      );
+    }) part
+
+-- the clauses of sorted codes are among the clauses
+pub places_inside : (codes sorted places : List ℕ) (n : ℕ) → places ≡ map place_of_code sorted
+    → ((c : ℕ) → Contains sorted c ↔ Contains codes c)
+    → ((x : ℕ) → Contains codes x → place_of_code x < n)
+    → (k : ℕ) → k < length places → get_or places k 0 < n
+places_inside codes sorted places n numbers has inside k less =
+    let size : length places ≡ length sorted = ap length numbers
+    ∙ length-map sorted place_of_code in
+    let in_sorted : k < length sorted = omega (arith, less, size) in
+    subst (λ x. x < n)
+    (sym (ap (λ xs. get_or xs k 0) numbers ∙ get_or-map place_of_code sorted k 0 0 in_sorted))
+    (inside (get_or sorted k 0)
+    ((has (get_or sorted k 0)).0 (Contains-get_or sorted k 0 in_sorted)))
+
+-- the clusters of all heads
+pub clusters_are : (clauses : List (List Literal)) (them : Clusters)
+    → IsNonDecreasingBy (λ h. h.key) them.heads.items
+    → ((k : ℕ) → k < length them.places.items → get_or them.places.items k 0 < length clauses)
+    → AreClustersUpto clauses them.heads.items them.places.items (length them.heads.items) them.list
+    → AreClusters clauses them
+clusters_are clauses them rises inside are = record {
+  rises = rises;
+  size = are.size;
+  inside = inside;
+  each = are.each;
+}
+
+-- what codes are of is put under their keys
+module _ (codes places : List ℕ) (rises : IsStrictlyIncreasing codes)
+    (numbers : places ≡ map place_of_code codes) where
+  abbrev Coded : ℕ → ℕ → Type 0
+  Coded key number = Contains codes (code key number) × (number < 4294967296)
+
+  coded : AreCoded Coded codes places
+  coded = record {
+    rises = rises;
+    has = λ c. (
+      λ has. (
+        key_of c,
+        place_of_code c,
+        code_is c,
+        omega arith,
+        (subst (Contains codes) (code_is c) has, omega arith),
+      ),
+      λ found. subst (Contains codes) (sym found.2) found.4.0,
+    );
+    small = λ key number pair. pair.1;
+    numbers_are = numbers;
+  }
+
+  pub owned_by : (clauses : List (List Literal)) (them : Clusters) → places ≡ them.places.items
+      → AreHeads codes them.heads.items → length codes ≡ length places
+      → AreClustersUpto clauses them.heads.items places (length them.heads.items) them.list
+      → (p c : ℕ) → c < 4294967296 → Contains codes (code p c) → IsPutUnder them p c
+  owned_by clauses them same heads size are p c few has = record {
+    some =
+        let found = heads.all has.0 has.1 in (
+          found.0,
+          found.1,
+          λ d. found.2 d
+              ∙ (ap key_of (get_or_default codes has.0 0 (code p c) has.1 ∙ has.2)
+              ∙ key_of-code p c few),
+        );
+    all = λ j d e less is.
+        let cluster = get_or them.list.clusters.items j e in
+        subst (λ xs. Contains (cluster_places xs cluster) c) same
+        (((row_from Coded codes places p (cluster_places places cluster) coded
+        (subst (λ key. IsPartOf key codes places (cluster_places places cluster)) is
+        (are.parts codes heads size j d e less))).has c).1 (has, few));
+  }
 
 module _ (state : List Bool) (held : List ℕ) (is_of : state ≡ state_of (length state) held)
     (below : AreBelow (length state) held) where
-  pub holds_it : (p : ℕ) → Contains held p → has_atom state p ≡ true
-  holds_it p has =
-      ap (λ s. has_atom s p) is_of
-      ∙ (has_atom-state_of (length state) held p (All-contains
-      (λ n. n < length state) held p below has)
-      ∙ (names_atom-Decides held p).1 has)
-
   pub is_held : (p : ℕ) → p < length state → has_atom state p ≡ true → Contains held p
   is_held p less has =
       (names_atom-Decides held p).0
       (sym (has_atom-state_of (length state) held p less)
       ∙ (ap (λ s. has_atom s p) (sym is_of) ∙ has))
 
-  -- a row of an atom of the list disagrees
-  pub held_disagree : (rows : List (List Bool)) (at : ℕ) → at < length held
-      → get_or held at 0 < length rows → (row : List Bool) → row ≡ get_or rows (get_or held at 0) []
-      → (q : ℕ) × (q < length state) × (has_atom row q ≡ false) × (has_atom state q ≡ true)
-      → AgreesWith false false rows state
-  held_disagree rows at less in_rows row same (q, in_q, out, has) =
-      let p = get_or held at 0 in
-      let among = Contains-get_or held at 0 less in (
-        p,
-        q,
-        in_rows,
-        All-contains (λ n. n < length state) held p below among,
-        in_q,
-        holds_it p among,
-        ap (λ r. has_atom r q) (sym same) ∙ out,
-        has,
-      )
-
-  -- the rows of all atoms of the list agree
-  pub held_agree : (rows : List (List Bool)) (at : ℕ) → length held ≤ at
-      → ((k q : ℕ) → k < at → get_or held k 0 < length rows → q < length state
-      → has_atom (get_or rows (get_or held k 0) []) q ≡ false → has_atom state q ≡ false)
-      → AgreesWith true false rows state
-  held_agree rows at past all p q in_rows in_p in_q has out =
-      let w = is_held p in_p has in
-      let same : get_or held (w.0) 0 ≡ p = get_or_default held (w.0) 0 p (w.1) ∙ w.2 in
-      all (w.0) q (omega (arith, w.1, past)) (omega (arith, same, in_rows)) in_q
-      (ap (λ n. has_atom (get_or rows n []) q) same ∙ out)
-
-module _ (clauses : List (List Literal)) (state : List Bool) where
-  pub tried_row : (atom : ℕ) (places : List ℕ) (r : Bool)
-      → IsRow (StandsAs false clauses) atom places → AreTried r clauses (Contains places) state
-      → AreTried r clauses (StandsAs false clauses atom) state
-  tried_row atom places true of tried = λ c stands. tried c ((of.has c).1 stands)
-  tried_row atom places false of tried = tried
-
-  pub under_tried : (held : List ℕ) (at : ℕ)
-      → ((k c : ℕ) → k < at → StandsAs false clauses (get_or held k 0) c
+module _ (clauses : List (List Literal)) (them : Clusters) (state : List Bool) where
+  -- the clauses of one cluster more
+  pub due_more : (sign : Bool) (at key : ℕ)
+      → ((d : RowHead) → (get_or them.heads.items at d).key ≡ key)
+      → ((j c : ℕ) (d : RowHead) (e : Cluster) → j < at
+      → has_atom state (get_or them.heads.items j d).key ≡ not sign
+      → Contains (cluster_places them.places.items (get_or them.list.clusters.items j e)) c
       → in_clause (clause_at clauses c) state ≡ true)
-      → AreTried true clauses (StandsAs false clauses (get_or held at 0)) state
-      → (k c : ℕ) → k < at + 1 → StandsAs false clauses (get_or held k 0) c
+      → ((has_atom state key ≡ not sign) → (e : Cluster)
+      → AreTried true clauses (Contains (cluster_places them.places.items
+      (get_or them.list.clusters.items at e))) state)
+      → (j c : ℕ) (d : RowHead) (e : Cluster) → j < at + 1
+      → has_atom state (get_or them.heads.items j d).key ≡ not sign
+      → Contains (cluster_places them.places.items (get_or them.list.clusters.items j e)) c
       → in_clause (clause_at clauses c) state ≡ true
-  under_tried held at before here k c less stands = elim (cases_lt k at) [
-    | inl early ↦ before k c early stands
+  due_more sign at key is before here j c d e less out has = elim (cases_lt j at) [
+    | inl early ↦ before j c d e early out has
     | inr late ↦
-        let e : k ≡ at = omega (arith, less, late) in
-        here c (subst (λ n. StandsAs false clauses (get_or held n 0) c) e stands)
+        let one : j ≡ at = omega (arith, less, late) in
+        here (ap (λ n. has_atom state n) (sym (is d))
+        ∙ (ap (λ i. has_atom state (get_or them.heads.items i d).key) (sym one) ∙ out)) e c
+        (subst (λ i. Contains (cluster_places them.places.items
+        (get_or them.list.clusters.items i e)) c) one has)
   ]
 
-  pub among_tried : (held : List ℕ) (at : ℕ) → length held ≤ at
-      → ((k c : ℕ) → k < at → StandsAs false clauses (get_or held k 0) c
-      → in_clause (clause_at clauses c) state ≡ true)
-      → AreTried true clauses (StandsAmong held clauses) state
-  among_tried held at past all c (p, has, stands) =
-      all (has.0) c (omega (arith, has.1, past))
-      (subst (λ n. StandsAs false clauses n c)
-      (sym (get_or_default held (has.0) 0 p (has.1) ∙ has.2)) stands)
+  none : Cluster
+  none = record { range = record { from = 0; upto = 0 }; screen = None }
 
-module _ (clauses : List (List Literal)) (mates : Mates) (held : List ℕ) (state : List Bool)
-    (is : AreMates (length state) clauses (length clauses) mates) where
+  head : RowHead
+  head = record { key = 0; start = 0 }
+
+  pub due_tried : (sign : Bool) (at : ℕ) → length them.heads.items ≤ at
+      → ((j c : ℕ) (d : RowHead) (e : Cluster) → j < at
+      → has_atom state (get_or them.heads.items j d).key ≡ not sign
+      → Contains (cluster_places them.places.items (get_or them.list.clusters.items j e)) c
+      → in_clause (clause_at clauses c) state ≡ true)
+      → AreTried true clauses (IsDue sign them state) state
+  due_tried sign at past all c (p, less, out, owned) =
+      let j = owned.some.0 in
+      let key = owned.some.2 in
+      all j c head none (omega (arith, owned.some.1, past))
+      (ap (λ n. has_atom state n) (key head) ∙ out)
+      (owned.all j head none owned.some.1 (key head))
+
+  -- the clauses that are put under the atoms of a state
+  pub under_tried : (held : List ℕ) → state ≡ state_of (length state) held
+      → AreBelow (length state) held
+      → ((k c : ℕ) → k < length held → IsPutUnder them (get_or held k 0) c
+      → in_clause (clause_at clauses c) state ≡ true)
+      → AreTried true clauses (IsDue false them state) state
+  under_tried held is_of below all c (p, less, out, owned) =
+      let among = is_held state held is_of below p less out in
+      all among.0 c among.1
+      (subst (λ n. IsPutUnder them n c)
+      (sym (get_or_default held among.0 0 p among.1 ∙ among.2)) owned)
+
+  pub under_more : (held : List ℕ) (at : ℕ)
+      → ((k c : ℕ) → k < at → IsPutUnder them (get_or held k 0) c
+      → in_clause (clause_at clauses c) state ≡ true)
+      → AreTried true clauses (IsPutUnder them (get_or held at 0)) state
+      → (k c : ℕ) → k < at + 1 → IsPutUnder them (get_or held k 0) c
+      → in_clause (clause_at clauses c) state ≡ true
+  under_more held at before here k c less owned = elim (cases_lt k at) [
+    | inl early ↦ before k c early owned
+    | inr late ↦
+        let e : k ≡ at = omega (arith, less, late) in
+        here c (subst (λ n. IsPutUnder them (get_or held n 0) c) e owned)
+  ]
+
+  -- where no head is of an atom, nothing is put under it
+  pub none_under : (atom : ℕ)
+      → ((j : ℕ) (d : RowHead) → j < length them.heads.items
+      → (get_or them.heads.items j d).key ≡ atom → ⊥)
+      → AreTried true clauses (IsPutUnder them atom) state
+  none_under atom never c owned =
+      absurd (never owned.some.0 head owned.some.1 (owned.some.2 head))
+
+  -- what is put under an atom is in its cluster
+  pub cluster_under : (r : Bool) (atom j : ℕ) → j < length them.heads.items
+      → ((d : RowHead) → (get_or them.heads.items j d).key ≡ atom)
+      → ((e : Cluster) → AreTried r clauses (Contains (cluster_places them.places.items
+      (get_or them.list.clusters.items j e))) state)
+      → AreTried r clauses (IsPutUnder them atom) state
+  cluster_under true atom j less is tried = λ c owned.
+      tried none c (owned.all j head none less (is head))
+  cluster_under false atom j less is tried = tried none
+
+module _ (clauses : List (List Literal)) (mates : Mates) (state : List Bool)
+    (is : AreMates clauses mates) (speak : AreClauses (length state) clauses) where
   -- a clause that is false was found
   pub tried_false : (Tried : ℕ → Type 0) → AreTried false clauses Tried state
       → false ≡ in_clauses clauses state
   tried_false Tried (c, less, out) = sym (one_false state clauses c less out)
 
-  pub rows_false : AgreesWith false mates.sign mates.rows.items state
-      → false ≡ in_clauses clauses state
-  rows_false (p, q, in_rows, in_p, in_q, not_p, has_q, not_q) =
-      let w = is.says p q in_rows in_q has_q in
-      sym (one_false state clauses (w.0) (w.1)
-      (w.2 state
-      ∙ ap₂ (λ a b. a || b) (false_as mates.sign p state not_p)
-      (false_as mates.sign q state not_q)))
+  -- a clause is true by its literal, or was tried
+  by_owner : (sign : Bool) (them : Clusters) → AreTried true clauses (IsDue sign them state) state
+      → (c : ℕ) → c < length clauses → IsPutUnderOwn sign clauses them c
+      → in_clause (clause_at clauses c) state ≡ true
+  by_owner sign them tried c less (p, has, owned) =
+      let in_p : p < length state = All-contains (λ (l : Literal). l.atom < length state)
+      (clause_at clauses c) (record { atom = p; positive = sign }) (speak c [] less) has in
+      elim (sign_or sign (has_atom state p)) [
+        | inl is_true ↦ clause_has state (clause_at clauses c)
+            (record { atom = p; positive = sign }) has (true_as sign p state is_true)
+        | inr is_false ↦ tried c (p, in_p, is_false, owned)
+      ]
 
-  module _ (is_of : state ≡ state_of (length state) held) (below : AreBelow (length state) held)
-      (others : AreTried true clauses (Contains mates.others.items) state)
-      (rows : AgreesWith true mates.sign mates.rows.items state) where
-    in_rows_true : (clause : List Literal)
-        → IsInRows mates.sign (length state) mates.rows.items clause → in_clause clause state ≡ true
-    in_rows_true clause (p, q, less, in_p, in_q, says, has_q) =
-        says state ∙ elim (sign_or mates.sign (has_atom state p)) [
-          | inl has_p ↦ or_left (in_literal (record { atom = p; positive = mates.sign }) state)
-              (in_literal (record { atom = q; positive = mates.sign }) state)
-              (true_as mates.sign p state has_p)
-          | inr no_p ↦ or_right (in_literal (record { atom = p; positive = mates.sign }) state)
-              (in_literal (record { atom = q; positive = mates.sign }) state)
-              (true_as mates.sign q state (rows p q less in_p in_q no_p has_q))
+  pub all_decided : (r : Bool) → AreTried true clauses (Contains mates.others.items) state
+      → AreTried true clauses (IsDue false mates.negative state) state
+      → AreTried r clauses (IsDue true mates.positive state) state
+      → r ≡ in_clauses clauses state
+  all_decided true others negative positive = sym (clauses_by state clauses (λ c less.
+      elim (is.whole c less) [
+        | inl has ↦ others c has
+        | inr else ↦ elim else [
+          | inl owned ↦ by_owner false mates.negative negative c less owned
+          | inr owned ↦ by_owner true mates.positive positive c less owned
         ]
+      ]))
+  all_decided false others negative positive =
+      tried_false (IsDue true mates.positive state) positive
 
-    -- what is tried by the held atoms is true
-    by_held_true : AreTried true clauses (StandsAmong held clauses) state → (c : ℕ)
-        → c < length clauses → AreClauses (length state) clauses
-        → NamesNegatively (clause_at clauses c) → in_clause (clause_at clauses c) state ≡ true
-    by_held_true tried c less speak (p, has) = by (has_atom state p) refl
-      where
-        own : Literal
-        own = record { atom = p; positive = false }
+-- clauses that were put are tried
+pub mates_are : (clauses : List (List Literal)) (put : PutClauses) (mates : Mates)
+    → ArePut clauses (length clauses) put → length clauses ≤ 4294967295
+    → AreClusters clauses mates.negative → AreClusters clauses mates.positive
+    → mates.others ≡ put.others
+    → ((p c : ℕ) → c < 4294967296 → Contains put.negative.items (code p c)
+    → IsPutUnder mates.negative p c)
+    → ((p c : ℕ) → c < 4294967296 → Contains put.positive.items (code p c)
+    → IsPutUnder mates.positive p c)
+    → AreMates clauses mates
+mates_are clauses put mates is few negative positive same under over = record {
+  negative = negative;
+  positive = positive;
+  others = subst (λ v. (k : ℕ) → k < length v.items → get_or v.items k 0 < length clauses)
+      (sym same) is.others;
+  whole = λ c less. elim (is.whole c less) [
+    | inl has ↦ inl (subst (λ v. Contains v.items c) (sym same) has)
+    | inr else ↦ inr (elim else [
+      | inl by ↦ inl (by.0, by.1, under by.0 c (omega (arith, less, few)) by.2)
+      | inr by ↦ inr (by.0, by.1, over by.0 c (omega (arith, less, few)) by.2)
+    ])
+  ];
+}
 
-        in_p : p < length state
-        in_p = All-contains (λ (l : Literal). l.atom < length state) (clause_at clauses c) own
-            (speak c [] less) has
-
-        by : (b : Bool) → has_atom state p ≡ b → in_clause (clause_at clauses c) state ≡ true
-        by true e = tried c (
-          p,
-          is_held state held is_of below p in_p e,
-          record { among = less; has = has },
-        )
-        by false e = clause_has state (clause_at clauses c) own has (ap not e)
-
-    pub all_true : ((mates.by_held ≡ true) → AreTried true clauses (StandsAmong held clauses) state)
-        → AreClauses (length state) clauses → true ≡ in_clauses clauses state
-    all_true tried speak = sym (clauses_by state clauses (λ c less.
-        elim (is.whole c less) [
-          | inl has ↦ others c has
-          | inr else ↦ elim else [
-            | inl names ↦ by_held_true (tried (names.0)) c less speak (names.1)
-            | inr in_rows ↦ in_rows_true (clause_at clauses c) in_rows
-          ]
-        ]))
-
-    pub all_decided : (r : Bool) → mates.by_held ≡ true
-        → AreTried r clauses (StandsAmong held clauses) state
-        → AreClauses (length state) clauses → r ≡ in_clauses clauses state
-    all_decided true by_held tried speak = all_true (λ _. tried) speak
-    all_decided false by_held tried speak = tried_false (StandsAmong held clauses) tried
+-- where the screen of a cluster is true, so are the clauses there
+pub cluster_screened : (clauses : List (List Literal)) (them : Clusters) (state : List Bool)
+    → AreClusters clauses them → AreClauses (length state) clauses → (at : ℕ)
+    → at < length them.heads.items → (cluster : Cluster)
+    → cluster ≡ get_or them.list.clusters.items at cluster → (k : ℕ) → cluster.screen ≡ Some k
+    → (screen : Screen) → screen ≡ get_or them.list.screens.items k screen
+    → ((clause : List Literal) → SpeakBelow (length state) clause → IsScreened screen clause
+    → in_clause clause state ≡ true)
+    → (e : Cluster)
+    → AreTried true clauses (Contains (cluster_places them.places.items
+    (get_or them.list.clusters.items at e))) state
+cluster_screened clauses them state are speak at less cluster is k has screen same all e c in_it =
+    let size = are.size in
+    let one : cluster ≡ get_or them.list.clusters.items at e =
+    is ∙ get_or_default them.list.clusters.items at cluster e (omega (arith, size, less)) in
+    let own = subst (λ x. IsCluster clauses them.places.items them.list.screens.items x) (sym one)
+    (are.each at e less) in
+    let within : Contains (cluster_places them.places.items cluster) c =
+    subst (λ x. Contains (cluster_places them.places.items x) c) (sym one) in_it in
+    let found = part_contains them.places.items cluster.range.from cluster.range.upto c own.ends
+    within in
+    let in_clauses_of : c < length clauses =
+    subst (λ n. n < length clauses)
+    (get_or_default them.places.items found.0 0 c found.1 ∙ found.2) (are.inside found.0 found.1) in
+    let named = subst (λ o. IfSome o (λ j. (j < length them.list.screens.items)
+    × ((d : Screen) (x : ℕ) → Contains (cluster_places them.places.items cluster) x
+    → IsScreened (get_or them.list.screens.items j d) (clause_at clauses x)))) has own.screened in
+    all (clause_at clauses c) (speak c [] in_clauses_of)
+    (subst (λ s. IsScreened s (clause_at clauses c)) (sym same) (named.1 screen c within))

@@ -1,41 +1,67 @@
 -- What is tried of a formula for a listed state.
-use Rattle.std.specs.Prelude.{◌≡◌, ◌<◌, ◌||◌, ◌⊎◌, ℕ, Bool, true, false, List, [], length}
-use Rattle.std.specs.Prelude.{slice_index_or}
+use Rattle.std.specs.Prelude.{◌≡◌, ◌<◌, ◌≤◌, ◌⊎◌, ℕ, Bool, true, false, List, length, IfSome}
+use Rattle.std.specs.Prelude.{slice_index_or, slice_range}
 use Rattle.std.specs.List.{Contains}
+use Rattle.std.specs.List.Sorted.{IsNonDecreasingBy}
 use Rattle.hv_task.specs.State.{has_atom}
 use Rattle.hv_sets.specs.declared.literal.Literal.{Literal}
-use Rattle.hv_sets.specs.Truth.{in_clause, in_literal}
+use Rattle.hv_clauses.specs.declared.clusters.Cluster.{Cluster}
+use Rattle.hv_clauses.specs.declared.clusters.Clusters.{Clusters}
 use Rattle.hv_clauses.specs.declared.mates.Mates.{Mates}
+use Rattle.hv_clauses.specs.declared.rows.RowHead.{RowHead}
+use Rattle.hv_clauses.specs.declared.screens.Screen.{Screen}
 use Rattle.hv_clauses.specs.Clausal.{clause_at}
 
--- the clause says just that one of the two atoms has this sign
-abbrev pub IsPairOf : Bool → List Literal → ℕ → ℕ → Type 0
-IsPairOf sign clause p q =
-    (s : List Bool) → in_clause clause s
-    ≡ (in_literal (record { atom = p; positive = sign }) s
-    || in_literal (record { atom = q; positive = sign }) s)
+-- the clause has a literal of the screen
+abbrev pub IsScreened : Screen → List Literal → Type 0
+IsScreened screen clause =
+    (q : ℕ) × Contains clause (record { atom = q; positive = screen.sign })
+    × (has_atom screen.flags q ≡ screen.sign)
 
--- the clause has a negative literal
-abbrev pub NamesNegatively : List Literal → Type 0
-NamesNegatively clause = (p : ℕ) × Contains clause (record { atom = p; positive = false })
+-- the places of the clauses of a cluster
+abbrev pub cluster_places : List ℕ → Cluster → List ℕ
+cluster_places places cluster = slice_range places cluster.range.from cluster.range.upto
 
--- the clause says just that one of two atoms has this sign, and the row of the first says so too
-abbrev pub IsInRows : Bool → ℕ → List (List Bool) → List Literal → Type 0
-IsInRows sign atoms rows clause =
-    (p : ℕ) × (q : ℕ) × (p < length rows) × (p < atoms) × (q < atoms) × IsPairOf sign clause p q
-    × (has_atom (slice_index_or rows p []) q ≡ sign)
+-- the cluster is a part of these places, and its screen, if it has one, has a literal of each of
+-- the clauses there
+pub record IsCluster (clauses : List (List Literal)) (places : List ℕ) (screens : List Screen)
+    (cluster : Cluster) : Type 0 where
+  pub starts : cluster.range.from ≤ cluster.range.upto
+  pub ends : cluster.range.upto ≤ length places
+  pub screened : IfSome cluster.screen (λ k. (k < length screens)
+      × ((d : Screen) (c : ℕ) → Contains (cluster_places places cluster) c
+      → IsScreened (slice_index_or screens k d) (clause_at clauses c)))
 
--- Each of the first so many clauses is among the others, or tried by the atoms that a state holds,
--- or in the rows; and what the rows say is said by a clause.
-pub record AreMates (atoms : ℕ) (clauses : List (List Literal)) (upto : ℕ)
-    (mates : Mates) : Type 0 where
-  pub sizes : (p : ℕ) (d : List Bool) → p < length mates.rows.items
-      → length (slice_index_or mates.rows.items p d) ≡ atoms
-  pub says : (p q : ℕ) → p < length mates.rows.items → q < atoms
-      → has_atom (slice_index_or mates.rows.items p []) q ≡ mates.sign
-      → (c : ℕ) × (c < length clauses) × IsPairOf mates.sign (clause_at clauses c) p q
-  pub whole : (c : ℕ) → c < upto → Contains mates.others.items c
-      ⊎ (((mates.by_held ≡ true) × NamesNegatively (clause_at clauses c))
-      ⊎ IsInRows mates.sign atoms mates.rows.items (clause_at clauses c))
-  pub inside : (k : ℕ) → k < length mates.others.items
+-- for each head, by rising atoms, there is a cluster of some of these clauses
+pub record AreClusters (clauses : List (List Literal)) (them : Clusters) : Type 0 where
+  pub rises : IsNonDecreasingBy (λ h. h.key) them.heads.items
+  pub size : length them.list.clusters.items ≡ length them.heads.items
+  pub inside : (k : ℕ) → k < length them.places.items
+      → slice_index_or them.places.items k 0 < length clauses
+  pub each : (j : ℕ) (e : Cluster) → j < length them.heads.items
+      → IsCluster clauses them.places.items them.list.screens.items
+      (slice_index_or them.list.clusters.items j e)
+
+-- the clause of this number is put under the atom: there is a cluster of the atom, and the clause
+-- is in it
+pub record IsPutUnder (them : Clusters) (atom c : ℕ) : Type 0 where
+  pub some : (j : ℕ) × (j < length them.heads.items)
+      × ((d : RowHead) → (slice_index_or them.heads.items j d).key ≡ atom)
+  pub all : (j : ℕ) (d : RowHead) (e : Cluster) → j < length them.heads.items
+      → (slice_index_or them.heads.items j d).key ≡ atom
+      → Contains (cluster_places them.places.items (slice_index_or them.list.clusters.items j e)) c
+
+-- the clause of this number is put under a literal of this sign that it has
+abbrev pub IsPutUnderOwn : Bool → List (List Literal) → Clusters → ℕ → Type 0
+IsPutUnderOwn sign clauses them c =
+    (p : ℕ) × Contains (clause_at clauses c) (record { atom = p; positive = sign })
+    × IsPutUnder them p c
+
+-- each clause is put under one of its literals, or among the others
+pub record AreMates (clauses : List (List Literal)) (mates : Mates) : Type 0 where
+  pub negative : AreClusters clauses mates.negative
+  pub positive : AreClusters clauses mates.positive
+  pub others : (k : ℕ) → k < length mates.others.items
       → slice_index_or mates.others.items k 0 < length clauses
+  pub whole : (c : ℕ) → c < length clauses → Contains mates.others.items c
+      ⊎ (IsPutUnderOwn false clauses mates.negative c ⊎ IsPutUnderOwn true clauses mates.positive c)

@@ -22,12 +22,9 @@
 //!
 //! The way of an inclusion: `clause_walk` goes through the states outside a formula, in the order
 //! of `ranking`; `formula_ask` answers about a formula and `rest_ask` about what is outside it,
-//! literal by literal. For listed states `listed_ask` asks `mates`, which is made at the second
-//! state, since for one state it costs more than to try all clauses: clauses of one or two literals
-//! of one sign, of the sign that has more of them, are rows of bits by atom, if these take at most
-//! eight words for each such clause; without rows, and where each clause is short, those with a
-//! negative literal are found by the atoms that are held; the rest is tried one by one. The sign is
-//! a parameter, with one proof.
+//! literal by literal. For listed states `listed_ask` asks `mates`: there `put_clauses` puts each
+//! clause under one of its literals, `clusters` tries those under literals that are false in the
+//! state, and `screens` passes over many of them at once.
 #![tactic(auto)]
 
 mod affected;
@@ -38,6 +35,7 @@ mod choices;
 pub mod clause_kind;
 pub mod clause_walk;
 mod closure;
+mod clusters;
 pub mod completion;
 mod constraint;
 mod cover;
@@ -63,11 +61,13 @@ mod paths;
 mod precondition;
 mod problem;
 mod propagation;
+mod put_clauses;
 mod ranking;
 mod refuted;
 pub mod rest_ask;
 mod roots;
 mod rows;
+mod screens;
 mod signed;
 mod start;
 mod trail;

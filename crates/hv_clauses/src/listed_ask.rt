@@ -12,14 +12,17 @@ use hv_sets::{Literal, Scratch, StateSet};
 use hv_task::State;
 use std::alloc::{AllocError, Global};
 
+// For so many states all clauses are tried.
+const ALONE: u32 = 8;
+
 /// A question about a formula, or about the states outside it. Beside it stands what is tried for
-/// listed states. For the first of them all clauses are tried; the second one makes it.
+/// listed states. For the first of them all clauses are tried; the next one makes it.
 #[derive(Drop)]
 pub struct ListedAsk<'a, K: ClauseKind, A: Asker + Drop> {
     asked: A,
     set: &'a Formula<K>,
     inside: bool,
-    begun: bool,
+    tried: u32,
     ready: bool,
     mates: Mates,
 }
@@ -47,7 +50,7 @@ impl<'a, K: ClauseKind, A: Asker + Drop> ListedAsk<'a, K, A> {
             asked,
             set,
             inside,
-            begun: false,
+            tried: 0,
             ready: false,
             mates: Mates::none(alloc),
         }
@@ -62,8 +65,7 @@ impl<'a, K: ClauseKind, A: Asker + Drop> Asker for ListedAsk<'a, K, A> {
     ghost stands = { λ q. A.stands q.asked × (A.atoms q.asked ≡ q.set.now.atoms)
         × ((s : List Bool) → A.wanted q.asked s
         ≡ cond q.inside (in_formula q.set.now s) (not (in_formula q.set.now s)))
-        × (q.ready ≡ true
-        → AreMates q.set.now.atoms q.set.now.clauses (length q.set.now.clauses) q.mates) };
+        × (q.ready ≡ true → AreMates q.set.now.clauses q.mates) };
 
     ghost assumed = { λ q. A.assumed q.asked };
 
@@ -93,13 +95,13 @@ impl<'a, K: ClauseKind, A: Asker + Drop> Asker for ListedAsk<'a, K, A> {
 
     fn wants(&mut self, alloc: Global, held: &[u32], state: &State) -> Result<bool, AllocError> {
         let set = self.set;
-        if !self.begun {
-            self.begun = true;
+        if self.tried < ALONE {
+            self.tried += 1;
             let yes = set.holds(state);
             return Ok(if self.inside { yes } else { !yes });
         }
         make_ready(alloc, set, &mut self.ready, &mut self.mates)?;
-        let yes = self.mates.holds(set.clauses(), set.occurs(), held, state);
+        let yes = self.mates.holds(set.clauses(), held, state);
         Ok(if self.inside { yes } else { !yes })
     }
 }
@@ -111,15 +113,13 @@ fn make_ready<K: ClauseKind>(
     ready: &mut bool,
     mates: &mut Mates,
 ) -> Result<(), AllocError>
-    requires { ready.old ≡ true
-        → AreMates set.now.atoms set.now.clauses (length set.now.clauses) mates.old }
-    ensures { OnOk result
-        (AreMates set.now.atoms set.now.clauses (length set.now.clauses) mates.new) }
+    requires { ready.old ≡ true → AreMates set.now.clauses mates.old }
+    ensures { OnOk result (AreMates set.now.clauses mates.new) }
 {
     if *ready {
         return Ok(());
     }
-    *mates = Mates::of(alloc, set.atoms(), set.clauses())?;
+    *mates = Mates::of(alloc, set.atoms(), set.clauses(), set.occurs())?;
     *ready = true;
     Ok(())
 }

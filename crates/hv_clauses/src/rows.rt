@@ -12,7 +12,8 @@
 //! is below 8,388,608. The largest formula that is written has 524,800 clauses of two literals, and
 //! a log has at most 8,388,608 bytes.
 
-ghost use Rattle.std.specs.Prelude.{◌≡◌, ◌+◌, ◌↔◌, ℕ, List, length, map, true, IfOk, OnOk};
+ghost use Rattle.std.specs.Prelude.{◌≡◌, ◌+◌, ◌<◌, ◌↔◌, ℕ, List, length, map, true, IfOk, OnOk};
+ghost use Rattle.std.specs.Prelude.{MatchOption, slice_index_or};
 ghost use Rattle.std.specs.List.{Contains};
 ghost use Rattle.std.specs.List.Sorted.{IsNonDecreasingBy, IsStrictlyIncreasing};
 ghost use Rattle.hv_clauses.specs.declared.rows.RowHead.{RowHead};
@@ -177,6 +178,21 @@ fn count_below(heads: &[RowHead], key: u32) -> usize
         return near;
     }
     heads.partition_point(|head| head.key < key)
+}
+
+// The place of a head of this key, if there is one.
+pub(crate) fn head_of(heads: &[RowHead], key: u32) -> Option<usize>
+    requires { IsNonDecreasingBy (λ h. h.key) heads.now }
+    ensures { MatchOption result ((j : ℕ) (d : RowHead) → j < length heads.now
+        → (slice_index_or heads.now j d).key ≡ key → ⊥)
+        (λ j. (j < length heads.now)
+        × ((d : RowHead) → (slice_index_or heads.now j d).key ≡ key)) }
+{
+    let first = count_below(heads, key);
+    if first >= heads.len() || heads[first].key != key {
+        return None;
+    }
+    Some(first)
 }
 
 // Where the head of a key stands, if each greater key up to the last has a head.

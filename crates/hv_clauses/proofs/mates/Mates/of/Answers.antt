@@ -1,9 +1,14 @@
-use Rattle.std.proofs.Common.{arith, subst}
-use Rattle.hv_clauses.specs.Mates.{AreMates}
+use Rattle.std.proofs.Common.{refl}
+use Rattle.hv_clauses.proofs.Mated.{mates_are}
 use Rattle.hv_clauses.proofs.mates.Mates.of.Goals as goal
 
 pub returns : goal.returns
 returns c =
-    subst (λ n. AreMates c.args.atoms c.args.clauses.now n c.loop-place.mates)
-    (omega (arith, c.loop-place-test.false, c.loop-place.auto.place-end, c.len-place-end.ensures))
-    c.loop-place.invariant
+    mates_are c.args.clauses.now c.in_ok-put.put
+    (record {
+      negative = c.in_ok-negative.negative;
+      positive = c.in_ok-positive.positive;
+      others = c.in_ok-put.put.others;
+    }) c.in_ok-put.ensures.put c.in_ok-put.ensures.few c.in_ok-negative.ensures.are
+    c.in_ok-positive.ensures.are refl c.in_ok-negative.ensures.owned
+    c.in_ok-positive.ensures.owned
