@@ -1,7 +1,7 @@
 -- Numbers in blocks: those that give the same when they are divided by the size of a block.
 use Rattle.std.proofs.Common.{◌≡◌, ℕ, ◌<◌, ◌≤◌, ◌+◌, ◌*◌, ◌/◌, ap, arith}
 use Rattle.std.proofs.Math.Nat.{div-div-eq-div-mul, div-mul-le_self, le-mul_of_pos_right}
-use Rattle.std.proofs.Math.Nat.{lt-div-mul-add, mul-div_cancel}
+use Rattle.std.proofs.Math.Nat.{lt-div-mul-add}
 use Rattle.std.proofs.lemmas.Nat.{div_below, le-div, mul-le}
 
 pub below_end : (n w : ℕ) → 0 < w → n < (n / w + 1) * w
@@ -12,27 +12,10 @@ pub end_within : (n w k : ℕ) → 0 < w → n < k * w → (n / w + 1) * w ≤ k
 end_within n w k some less = mul-le (n / w + 1) w k w
     (let q = div_below n w k some less in omega arith) (omega arith)
 
--- a later number is in no earlier block
-pub div_rises : (m n w : ℕ) → 0 < w → m ≤ n → m / w ≤ n / w
-div_rises m n w some h = le-div (m / w) n w some (omega (arith, div-mul-le_self m w, h))
-
 pub div_between : (n w q : ℕ) → 0 < w → q * w ≤ n → n < (q + 1) * w → n / w ≡ q
 div_between n w q some low high =
     let a = le-div q n w some low in
     let b = div_below n w (q + 1) some high in omega arith
-
--- the first number of a block that isn't below another
-pub first_next : (next block size : ℕ) → 0 < size → next / size ≤ block → block * size < next
-    → next / size ≡ block
-first_next next block size some ahead past = let a = le-div block next size some (omega arith) in
-    omega arith
-
-pub first_start : (block size : ℕ) → 0 < size → block * size / size ≡ block
-first_start block size some = mul-div_cancel block some
-
-pub before_start : (block size number : ℕ) → 0 < size → number < block * size
-    → number / size < block
-before_start block size number some less = div_below number size block some less
 
 -- A block of blocks: of so many that have this size.
 module _ (next part count : ℕ) (some_part : 0 < part) (some_count : 0 < count) where
@@ -44,9 +27,6 @@ module _ (next part count : ℕ) (some_part : 0 < part) (some_count : 0 < count)
   rest_front rest ahead less =
       div_between rest count (next / part / count) some_count
       (omega (arith, div-mul-le_self (next / part) count, ahead)) less
-
-  pub first_less : next / part < (next / part / count + 1) * count
-  first_less = below_end (next / part) count some_count
 
   module _ (rest_size total : ℕ) (is : total ≡ part * count * rest_size) (less : next < total) where
     pub end_less : (next / part / count + 1) * count * part ≤ total

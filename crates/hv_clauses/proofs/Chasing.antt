@@ -437,30 +437,6 @@ followed_same P Q old new result back one = record {
   broken = λ is state size holds agrees. one.broken is state size (back state size holds) agrees;
 }
 
--- a settled clause that the effect leaves alone is settled through the effect
-pub settled_through : (e m : List ℕ) (clause : List Literal)
-    → All (λ l. known e l.atom ≡ None) clause → IsSettled [] m clause → IsSettled e m clause
-settled_through e m clause alone settled =
-    elim settled [
-      | inl at ↦ inl (at.0, at.1, value_same at.0 at.1 ∙ at.2)
-      | inr two ↦ inr (
-        two.0,
-        two.1,
-        two.2,
-        two.3,
-        two.4,
-        value_same two.0 two.2
-            ∙ two.5,
-        value_same two.1 two.3 ∙ two.6,
-      )
-    ]
-  where
-    value_same : (l : Literal) → Contains clause l → value_of e m l ≡ value_of [] m l
-    value_same l has =
-        ap (λ o. option_map (λ value. cond l.positive value (not value))
-        (first_of o (known m l.atom)))
-        (All-contains (λ l. known e l.atom ≡ None) clause l alone has)
-
 -- where all clauses are settled, nothing is left to follow up
 pub kept_settled : (e : List ℕ) (clauses : List (List Literal)) (k : Knowledge) (from : ℕ)
     → AreSettled e clauses (marks_of k) → AreKept e clauses k from

@@ -15,10 +15,9 @@ use Rattle.hv_task.specs.Strips.{Strips, atoms}
 use Rattle.hv_sets.specs.declared.literal.Literal.{Literal}
 use Rattle.hv_sets.specs.declared.operand.Operand.{Operand}
 use Rattle.hv_sets.specs.Cost.{choices_of, clauses_of}
-use Rattle.hv_sets.specs.Cubes.{SpeakBelow}
 use Rattle.hv_sets.specs.Query.{in_which}
 use Rattle.hv_sets.specs.Truth.{in_clause, in_clauses, in_literal}
-use Rattle.hv_clauses.specs.Clausal.{clause_at, AreClauses, tests_of, sizes_of}
+use Rattle.hv_clauses.specs.Clausal.{clause_at, tests_of, sizes_of}
 use Rattle.hv_clauses.specs.Working.Choices.{AreChosenFalse, Breaks}
 use Rattle.hv_clauses.specs.Working.Clausal.{clauses_in, late}
 use Rattle.hv_clauses.specs.Marks.{over}
@@ -27,7 +26,7 @@ use Rattle.hv_clauses.specs.Units.{value_of}
 use Rattle.hv_clauses.specs.Working.Units.{AreFalse}
 use Rattle.hv_clauses.proofs.Marked.{AreFalse_extends, known_within, length-over, through_some}
 use Rattle.hv_clauses.proofs.Marked.{value_false, value_some}
-use Rattle.hv_clauses.proofs.OperandClauses.{clause_at_below, clauses_in_is, clauses_of_is}
+use Rattle.hv_clauses.proofs.OperandClauses.{clauses_in_is, clauses_of_is}
 
 -- a clause that is false
 broken_clause : (clauses : List (List Literal)) (state : List Bool)
@@ -132,16 +131,6 @@ clause_known effect marks clause state effect_size size agrees known =
     (value_within effect marks l (length state) false effect_size (omega (arith, size)) e)) clause
     known)
 
--- the same where the clause speaks of atoms of the state
-pub clause_known_below : (effect marks : List ℕ) (clause : List Literal) (state : List Bool)
-    → SpeakBelow (length state) clause
-    → Agrees marks state → AreFalse effect clause marks
-    → in_clause clause (over effect state) ≡ false
-clause_known_below effect marks clause state below agrees known =
-    list_any_none (λ l. in_literal l (over effect state)) clause
-    (λ k d within. value_false effect marks (get_or clause k d) state (known k d within) agrees
-    (below k d within))
-
 length-late : (effect : List ℕ) (after : Bool) → length (late effect after) ≤ length effect
 length-late effect true = omega arith
 length-late effect false = omega arith
@@ -162,25 +151,6 @@ module _ (task : Strips) (formulas : ℕ → List (List Literal)) (effect : List
         clause_known seen marks (clause_at clauses (number % length clauses)) state seen_size size
             agrees known.0,
         breaks_known os (number / length clauses) marks state effect_size size agrees known.1,
-      )
-
-  -- the same where the clauses speak of atoms of the state
-  pub breaks_known_below : (operands : List Operand) (number : ℕ) (marks : List ℕ)
-      (state : List Bool)
-      → All (λ o. AreClauses (length state) (clauses_in task formulas o.which)) operands
-      → Agrees marks state → AreChosenFalse task formulas effect operands number marks
-      → Breaks task formulas effect operands number state
-  breaks_known_below [] number marks state below agrees known = tt
-  breaks_known_below (o ∷ os) number marks state below agrees known =
-      let clauses = clauses_in task formulas o.which in
-      let speaks : SpeakBelow (length state) (clause_at clauses (number % length clauses)) =
-      clause_at_below (length state) clauses (number % length clauses)
-      (All-head (λ o. AreClauses (length state) (clauses_in task formulas o.which)) o os below) in (
-        clause_known_below (late effect o.after) marks (clause_at clauses (number % length clauses))
-            state speaks agrees known.0,
-        breaks_known_below os (number / length clauses) marks state
-            (All-tail (λ o. AreClauses (length state) (clauses_in task formulas o.which)) o os
-            below) agrees known.1,
       )
 
   -- what is known to be false stays so

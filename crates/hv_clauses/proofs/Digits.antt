@@ -172,12 +172,6 @@ module _ (p : ProblemState) where
         | inr past ↦ second m past high state size fits
       ]
 
-  pub refuted_one : (number : ℕ) → ((state : List Bool) → length state ≡ width p
-      → FitsChoice p number state → ⊥) → AreRefuted p number (number + 1)
-  refuted_one number none m low high state size fits =
-      let at : m ≡ number = omega (arith, low, high) in
-      none state size (subst (λ n. FitsChoice p n state) at fits)
-
 -- How many choices there are of the operands up to a place, of the one there, and of all.
 module _ (task : Strips) (sizes : ℕ → ℕ) (os : List Operand) (place : ℕ) (o : Operand)
     (here : slice_get os place ≡ Some o) where

@@ -30,13 +30,6 @@ module _ (ls : List Literal) (bound : ℕ) (listed : ListsBelow bound ls) where
       written_none ls (replicate n 0) p (λ k d less same. let low = listed.below k d less in
       omega arith) ∙ known-replicate n p
 
-  pub listed_on : ListsBelow (bound + 1) ls
-  listed_on = record {
-    rises = listed.rises;
-    below = All-weaker (λ (l : Literal). l.atom < bound) (λ (l : Literal). l.atom < bound + 1)
-        (λ l less. omega arith) ls listed.below;
-  }
-
   module _ (l : Literal) (at : l.atom ≡ bound) where
     pub listed_more : ListsBelow (bound + 1) (ls ++ l ∷ [])
     listed_more =

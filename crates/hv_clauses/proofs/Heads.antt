@@ -7,17 +7,8 @@ use Rattle.std.proofs.lemmas.List.{get_or_append_left, get_or_default, get_or_pu
 use Rattle.std.proofs.lemmas.List.Sorted.{IsNonDecreasingBy-push}
 use Rattle.std.specs.List.Sorted.{IsStrictlyIncreasing}
 use Rattle.hv_clauses.specs.declared.rows.RowHead.{RowHead}
-use Rattle.hv_clauses.specs.Working.Rows.{AreHeads, AreHeadsOf, IsEndBefore, PutsHead, key_of}
+use Rattle.hv_clauses.specs.Working.Rows.{AreHeadsOf, IsEndBefore, PutsHead, key_of}
 use Rattle.hv_clauses.proofs.Keyed.{keys_upto}
-
--- no code has its head in an empty list
-pub heads_none : (codes : List ℕ) → AreHeadsOf codes 0 []
-heads_none codes = record {
-  rises = λ i j d upto within. absurd (omega arith);
-  each = λ k d less. absurd (omega arith);
-  all = λ k less. absurd (omega arith);
-  upto = λ k j d less more end. absurd (omega arith);
-}
 
 -- The head of one code more.
 module _ (codes : List ℕ) (rises : IsStrictlyIncreasing codes) (count : ℕ)
@@ -119,8 +110,3 @@ module _ (codes : List ℕ) (rises : IsStrictlyIncreasing codes) (count : ℕ)
           (heads_stay stays.1.0 stays.1.1 stays.1.2)
       | inr put ↦ subst (AreHeadsOf codes (count + 1)) (sym put.0) (heads_put put.1)
     ]
-
--- all codes have their heads
-pub heads_end : (codes : List ℕ) (heads : List RowHead) → AreHeadsOf codes (length codes) heads
-    → AreHeads codes heads
-heads_end codes heads are = record { rises = are.rises; each = are.each; all = are.all }

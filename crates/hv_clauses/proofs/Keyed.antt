@@ -188,26 +188,6 @@ less_before heads key place e rises less lesser k d below =
     let same = ap (λ (h : RowHead). h.key) (get_or_default heads place d e less) in
     omega arith
 
--- Where no head is of a key from the first one on that isn't of a lesser one, none is.
-pub no_head_past : (heads : List RowHead) (key first : ℕ) → IsFirstHead key heads first
-    → length heads ≤ first → (j : ℕ) (d : RowHead) → j < length heads
-    → (get_or heads j d).key ≡ key → ⊥
-no_head_past heads key first is past j d less same =
-    let lower = is.before j d (omega arith) in omega arith
-
-pub no_head : (heads : List RowHead) (key first : ℕ) (e : RowHead) → IsFirstHead key heads first
-    → IsNonDecreasingBy (λ h. h.key) heads → first < length heads
-    → ((get_or heads first e).key ≡ key → ⊥) → (j : ℕ) (d : RowHead) → j < length heads
-    → (get_or heads j d).key ≡ key → ⊥
-no_head heads key first e is rises less other j d within same = elim (cases_lt j first) [
-  | inl early ↦ let lower = is.before j d early in omega arith
-  | inr late ↦
-      let order = rises first j d late within in
-      let low = is.after first d (omega arith) less in
-      let one = ap (λ (h : RowHead). h.key) (get_or_default heads first d e less) in
-      other (omega arith)
-]
-
 -- The numbers of a key end where or after they begin, and within the list.
 module _ (heads : List RowHead) (len key from upto : ℕ)
     (starts : (codes : List ℕ) → AreHeads codes heads → length codes ≡ len

@@ -24,10 +24,10 @@ use Rattle.hv_clauses.specs.Clausal.{AreClauses, tests_of}
 use Rattle.hv_clauses.specs.Working.Clausal.{Completes, InAll, clauses_in, clauses_of_state, late}
 use Rattle.hv_clauses.specs.Working.Clausal.{unit}
 use Rattle.hv_clauses.specs.Marks.{filled, known, or_else, over}
-use Rattle.hv_clauses.specs.Working.Marks.{Agrees, AllKnown, low}
+use Rattle.hv_clauses.specs.Working.Marks.{AllKnown, low}
 use Rattle.hv_clauses.specs.Units.{IsSettled, value_of}
 use Rattle.hv_clauses.specs.Working.Units.{AreSettled}
-use Rattle.hv_clauses.proofs.Marked.{agrees_filled, agrees_low, agrees_over, has_atom-filled}
+use Rattle.hv_clauses.proofs.Marked.{agrees_filled, agrees_over, has_atom-filled}
 use Rattle.hv_clauses.proofs.Marked.{has_atom-over_none, length-filled, length-low, length-over}
 use Rattle.hv_clauses.proofs.Marked.{value_none, value_open, value_true}
 use Rattle.hv_clauses.proofs.OperandClauses.{clauses_in_below}
@@ -193,44 +193,6 @@ completes_all C.Try n xs Holds Settled each = (
   λ marks size known settled k d within.
       (each (get_or xs k d) (Contains-get_or xs k d within)).1 marks size known
       (settled k d within),
-)
-
--- two conditions together
-pub completes_both : (how : Completion) (n : ℕ) (P Q : List Bool → Type 0) (S T : List ℕ → Type 0)
-    → Completes how P S n
-    → Completes how Q T n
-    → Completes how (λ state. P state × Q state) (λ marks. S marks × T marks) n
-completes_both (C.Fill value) n P Q S T first second = λ marks size settled.
-    (first marks size settled.0, second marks size settled.1)
-completes_both C.Try n P Q S T first second = (
-  λ marks state size long settled holds. (
-    first.0 marks state size long settled.0 holds.0,
-    second.0 marks state size long settled.1
-        holds.1,
-  ),
-  λ marks size known settled. (
-    first.1 marks size known settled.0,
-    second.1 marks size known
-        settled.1,
-  ),
-)
-
--- a condition that each state meets that agrees with settled marks
-pub completes_agreeing : (how : Completion) (n : ℕ) (Holds : List Bool → Type 0)
-    (Settled : List ℕ → Type 0)
-    → ((marks : List ℕ) (state : List Bool) → length marks ≡ n → length state ≡ n → Settled marks
-    → Agrees marks state
-    → Holds state)
-    → Completes how Holds Settled n
-completes_agreeing (C.Fill value) n Holds Settled on = λ marks size settled.
-    on marks (filled value marks) size (length-filled value marks ∙ size) settled
-    (agrees_filled value marks)
-completes_agreeing C.Try n Holds Settled on = (
-  λ marks state size long settled holds.
-      on marks (over marks state) size (length-over marks state ∙ long) settled
-      (agrees_over marks state (size ∙ sym long)),
-  λ marks size known settled. on marks (low marks) size (length-low marks ∙ size) settled
-      (agrees_low marks),
 )
 
 -- the same condition by other words

@@ -76,10 +76,6 @@ has_atom-filled value m p h =
     has_atom-over m (replicate (length m) value) p within
     ∙ ap (or_else (known m p)) (get_or-replicate (length m) p value false h)
 
-pub has_atom-low : (m : List ℕ) (p : ℕ) → p < length m
-    → has_atom (low m) p ≡ or_else (known m p) false
-has_atom-low m p h = has_atom-filled false m p h
-
 -- marks that say nothing change nothing
 pub over-nil : (s : List Bool) → over [] s ≡ s
 over-nil [] = refl

@@ -1,10 +1,10 @@
 -- What is tried of a formula for a listed state decides whether the state is in the formula.
 use Rattle.std.proofs.Common.{◌≡◌, ◌∙◌, ◌+◌, ◌-◌, ◌<◌, ◌≤◌, ◌++◌, ◌⊎◌, ◌↔◌, ℕ, Bool}
 use Rattle.std.proofs.Common.{true, false, not}
-use Rattle.std.proofs.Common.{List, [], ◌∷◌, Option, None, Some, IfSome, length, get_or, map, set}
+use Rattle.std.proofs.Common.{List, [], ◌∷◌, Option, None, Some, IfSome, length, get_or, map}
 use Rattle.std.proofs.Common.{refl, sym, ap, arith, subst, inl, inr}
-use Rattle.std.proofs.lemmas.Bool.{cases_eq, cases_lt}
-use Rattle.std.proofs.lemmas.List.{get_or-set_other, get_or-set_same, get_or_default}
+use Rattle.std.proofs.lemmas.Bool.{cases_lt}
+use Rattle.std.proofs.lemmas.List.{get_or_default}
 use Rattle.std.proofs.lemmas.List.{get_or-map, get_or_append_left, get_or_push, length-map}
 use Rattle.std.proofs.lemmas.List.{length_push}
 use Rattle.std.proofs.lemmas.List.Edits.{get_or-between, length-between}
@@ -64,15 +64,6 @@ part_contains xs from upto x ends (k, less, is) =
       sym (get_or-between xs from upto k x (omega arith)) ∙ is,
     )
 
-pub part_inside : (xs : List ℕ) (from upto n : ℕ) → upto ≤ length xs
-    → ((k : ℕ) → k < length xs → get_or xs k 0 < n)
-    → (k : ℕ) → k < length (slice_range xs from upto) → get_or (slice_range xs from upto) k 0 < n
-part_inside xs from upto n ends all k less =
-    let size = length-between xs from upto ends in
-    let in_part : k < upto - from = omega (arith, less, size) in
-    subst (λ x. x < n) (sym (get_or-between xs from upto k 0 (omega arith)))
-    (all (from + k) (omega arith))
-
 -- one item more is inside, too
 pub push_inside : (xs : List ℕ) (y n : ℕ) → y < n → ((k : ℕ) → k < length xs → get_or xs k 0 < n)
     → (k : ℕ) → k < length (xs ++ y ∷ []) → get_or (xs ++ y ∷ []) k 0 < n
@@ -84,47 +75,6 @@ push_inside xs y n less all k early =
       | inr late ↦ subst (λ x. x < n)
           (sym (get_or_push xs y 0 k (omega (arith, early, late, long)))) less
     ]
-
-module _ (screen : Screen) (state : List Bool) where
-  -- where all literals of a screen are true, so is each clause that has one
-  pub screened_true : ((q : ℕ) → q < length state → has_atom screen.flags q ≡ screen.sign
-      → has_atom state q ≡ screen.sign)
-      → (clause : List Literal) → SpeakBelow (length state) clause → IsScreened screen clause
-      → in_clause clause state ≡ true
-  screened_true agree clause speak (q, has, flag) =
-      let in_q : q < length state = All-contains (λ (l : Literal). l.atom < length state) clause
-      (record { atom = q; positive = screen.sign }) speak has in
-      clause_has state clause (record { atom = q; positive = screen.sign }) has
-      (true_as screen.sign q state (agree q in_q flag))
-
-module _ (old new : Screen) (atom : ℕ) (sign : new.sign ≡ old.sign)
-    (flags : new.flags ≡ set old.flags atom old.sign) (less : atom < length old.flags) where
-  flag_here : has_atom new.flags atom ≡ old.sign
-  flag_here = ap (λ fs. has_atom fs atom) flags
-      ∙ get_or-set_same old.flags atom old.sign false less
-
-  flag_stays : (q : ℕ) → has_atom old.flags q ≡ old.sign → has_atom new.flags q ≡ old.sign
-  flag_stays q flag = elim (cases_eq q atom) [
-    | inl same ↦ ap (λ x. has_atom new.flags x) same ∙ flag_here
-    | inr other ↦ ap (λ fs. has_atom fs q) flags
-        ∙ (get_or-set_other old.flags atom q old.sign false other ∙ flag)
-  ]
-
-  -- a screen with one literal more has what it had, and that literal
-  pub screen_keeps : (clause : List Literal) → IsScreened old clause → IsScreened new clause
-  screen_keeps clause (q, has, flag) = (
-    q,
-    subst (λ b. Contains clause (record { atom = q; positive = b })) (sym sign) has,
-    flag_stays q flag ∙ sym sign,
-  )
-
-  pub screen_here : (clause : List Literal)
-      → Contains clause (record { atom = atom; positive = old.sign }) → IsScreened new clause
-  screen_here clause has = (
-    atom,
-    subst (λ b. Contains clause (record { atom = atom; positive = b })) (sym sign) has,
-    flag_here ∙ sym sign,
-  )
 
 -- one clause more has a literal of a screen
 pub screens_more : (clauses : List (List Literal)) (places : List ℕ) (at : ℕ) (old new : Screen)
@@ -146,16 +96,6 @@ pub screens_all : (clauses : List (List Literal)) (places : List ℕ) (at : ℕ)
 screens_all clauses places at screen past all c (k, less, is) =
     subst (λ n. IsScreened screen (clause_at clauses n)) (get_or_default places k 0 c less ∙ is)
     (all k (omega (arith, less, past)))
-
--- nothing was put
-pub put_first : (clauses : List (List Literal)) (put : PutClauses) → put.negative.items ≡ []
-    → put.positive.items ≡ [] → put.others.items ≡ [] → ArePut clauses 0 put
-put_first clauses put negative positive others = record {
-  negative = λ x has. absurd (omega (arith, has.1, ap length negative));
-  positive = λ x has. absurd (omega (arith, has.1, ap length positive));
-  others = λ k less. absurd (omega (arith, less, ap length others));
-  whole = λ c less. absurd (omega (arith, less));
-}
 
 module _ (clauses : List (List Literal)) (place : ℕ) (less : place < length clauses)
     (few : length clauses ≤ 4294967295) (old : PutClauses) (is : ArePut clauses place old) where

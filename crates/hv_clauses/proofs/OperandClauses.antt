@@ -5,7 +5,7 @@ use Rattle.std.proofs.Common.{cond, List, [], ◌∷◌, length, map, refl, sym,
 use Rattle.std.proofs.Common.{inl, inr, length-append, get_or}
 use Rattle.std.proofs.lemmas.Bool.{and_parts, and_from, cases_lt}
 use Rattle.std.proofs.lemmas.Bool.Decides.{same_from_decides}
-use Rattle.std.proofs.lemmas.List.{get_or-map, get_or_append_left, get_or_past, get_or_push}
+use Rattle.std.proofs.lemmas.List.{get_or-map, get_or_append_left, get_or_push}
 use Rattle.std.proofs.lemmas.List.{length-map}
 use Rattle.std.proofs.lemmas.List.Elements.{All-map, All-nil, All-cons, All-push, All-weaker}
 use Rattle.std.proofs.lemmas.List.Folds.{list_all-append}
@@ -141,18 +141,7 @@ pub start_holds : (atoms : ℕ) (held effect : List ℕ) (state : List Bool) →
 start_holds atoms held effect state size e =
     sym (clauses_of_state_is held (over effect state) atoms (length-over effect state ∙ size)) ∙ e
 
--- a clause speaks of atoms below the bound if all do
-pub clause_at_below : (bound : ℕ) (clauses : List (List Literal)) (place : ℕ)
-    → AreClauses bound clauses
-    → SpeakBelow bound (clause_at clauses place)
-clause_at_below bound clauses place below =
-    elim (cases_lt place (length clauses)) [
-      | inl within ↦ below place [] within
-      | inr past ↦ subst (SpeakBelow bound) (sym (get_or_past clauses place [] past))
-          (All-nil (λ l. l.atom < bound))
-    ]
-
--- so does a clause of one literal
+-- a clause of one literal speaks of atoms below the bound if its atom is below
 pub one_below : (bound : ℕ) (literal : Literal) (made : List Literal) → made ≡ literal ∷ []
     → literal.atom < bound
     → SpeakBelow bound made

@@ -23,12 +23,6 @@ orders_same upto old new same is = record {
   each = λ p less. let w = is.each p less in (w.0, (same (w.0)).1 (w.1), w.2);
 }
 
-pub orders_first : OrdersUpto 0 []
-orders_first = record {
-  only = λ c has. absurd (omega (arith, has.1));
-  each = λ p less. absurd (omega (arith, less));
-}
-
 pub orders_more : (upto code : ℕ) (order : List ℕ) → place_in code ≡ upto → OrdersUpto upto order
     → OrdersUpto (upto + 1) (order ++ code ∷ [])
 orders_more upto code order at is = record {

@@ -24,27 +24,6 @@ use Rattle.hv_clauses.proofs.Problems.{kept_earlier}
 use Rattle.hv_clauses.proofs.Rounds.{never}
 use Rattle.hv_clauses.proofs.Trailed.{known-set_same, length-marks}
 
--- a clause of two literals
-pub two_are : (clause : List Literal) (d : Literal) → length clause ≡ 2
-    → clause ≡ get_or clause 0 d ∷ get_or clause 1 d ∷ []
-two_are [] d e = absurd (omega arith)
-two_are (x ∷ []) d e = absurd (omega arith)
-two_are (x ∷ y ∷ []) d e = refl
-two_are (x ∷ y ∷ z ∷ zs) d e = absurd (omega arith)
-
-pub pair_two : (x y : Literal) → IsPair (x ∷ y ∷ []) x y
-pair_two x y = record {
-  has_first = (0, omega arith, refl);
-  has_second = (1, omega arith, refl);
-  only = each;
-}
-  where
-    each : (k : ℕ) (d : Literal) → k < 2 → (get_or (x ∷ y ∷ []) k d ≡ x)
-        ⊎ (get_or (x ∷ y ∷ []) k d ≡ y)
-    each zero d less = inl refl
-    each (suc zero) d less = inr refl
-    each (suc (suc k)) d less = absurd (omega arith)
-
 -- one literal of two is false, so what the clause says is that the other one is true
 pub pair_followed : (e : List ℕ) (old new : Knowledge) (own other : Literal) (clause : List Literal)
     (result : Bool) → SpeakBelow (length old.roots) clause

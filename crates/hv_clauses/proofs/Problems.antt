@@ -23,7 +23,7 @@ use Rattle.hv_clauses.specs.Working.Problem.{AreEachSettled, AreLeft, InOne, IsL
 use Rattle.hv_clauses.specs.Working.Trail.{Grows, Knowledge, marks_of}
 use Rattle.hv_clauses.specs.Units.{IsSettled, value_of}
 use Rattle.hv_clauses.specs.Working.Units.{AreSettled, IsConcluded}
-use Rattle.hv_clauses.proofs.Chasing.{followed_then, kept_grown, kept_on, kept_settled, settled_end}
+use Rattle.hv_clauses.proofs.Chasing.{followed_then, kept_grown, settled_end}
 use Rattle.hv_clauses.proofs.Chasing.{true_at}
 use Rattle.hv_clauses.proofs.Kinded.{constants_kind}
 use Rattle.hv_clauses.proofs.Marked.{extends_same, value_extends}
@@ -79,15 +79,6 @@ module _ (task : Strips) (formulas : ℕ → List (List Literal)) (e : List ℕ)
   left_grown (W.Set number) old new from grown h left = kept_grown e (formulas number) old new from
       grown h left
 
-  -- a constant is left alone by what is followed up
-  pub left_constant : (which : Which) (k : Knowledge) (from later : ℕ)
-      → ((number : ℕ) → which ≡ W.Set number → ⊥)
-      → IsLeft task formulas e which k from → IsLeft task formulas e which k later
-  left_constant W.Empty k from later none left = left
-  left_constant W.Start k from later none left = left
-  left_constant W.Goal k from later none left = left
-  left_constant (W.Set number) k from later none left = absurd (none number refl)
-
 -- what comes from a later place on comes from an earlier one on
 pub kept_earlier : (e : List ℕ) (clauses : List (List Literal)) (k : Knowledge) (from later : ℕ)
     → from ≤ later → later ≤ length k.trail
@@ -106,14 +97,6 @@ kept_earlier e clauses k from later h within kept = λ place less apart. kept pl
               ∙ (ap (λ j. get_or k.trail j x) at
               ∙ (sym (get_or-drop later k.trail has.0 x) ∙ has.2)),
         )
-
--- where what was known before settles all clauses, nothing comes from them but by the trail
-pub kept_based : (clauses : List (List Literal)) (k : Knowledge) → AreSettled [] clauses k.roots
-    → AreKept [] clauses k 0
-kept_based clauses k settled = λ place less.
-    let start : Knowledge = record { roots = k.roots; trail = [] } in
-    kept_on [] (clause_at clauses place) start k 0 refl (k.trail, refl) (omega arith)
-    (kept_settled [] clauses start 0 settled place less)
 
 pub followed_from : (P : List Bool → Type 0) (D : List ℕ → Type 0) (a b : Knowledge) (r : Bool)
     → IsConcluded P D (marks_of a) (marks_of b) r → Grows a b

@@ -2,8 +2,8 @@
 use Rattle.std.proofs.Common.{◌≡◌, ◌∙◌, ◌+◌, ◌<◌, ◌≤◌, ◌++◌, ℕ, Bool, true, false, not, List, []}
 use Rattle.std.proofs.Common.{◌∷◌, length, take, get_or, set, refl, sym, ap, arith, subst, inl, inr}
 use Rattle.std.proofs.lemmas.Bool.{cases_eq, cases_lt}
-use Rattle.std.proofs.lemmas.List.{get_or_append_left, get_or_push, get_or-take, length_push}
-use Rattle.std.proofs.lemmas.List.{length-take-le, take-append-le, take-take, take_all}
+use Rattle.std.proofs.lemmas.List.{get_or_append_left, get_or_push, length_push}
+use Rattle.std.proofs.lemmas.List.{take-append-le, take_all}
 use Rattle.std.proofs.lemmas.List.{get_or-set_other, get_or-set_same, length-set}
 use Rattle.std.specs.List.{Contains}
 use Rattle.hv_sets.specs.declared.literal.Literal.{Literal}
@@ -113,13 +113,6 @@ module _ (count clause done at other : ℕ) (order places : List ℕ)
     ]
   ]
 
-  pub keeps_front : KeepsUpto done order new_order
-  keeps_front k few = order_else k (λ e. absurd (omega (arith, few, e)))
-      (λ e. absurd (omega (arith, few, e, early)))
-
-  pub front_has : (k : ℕ) → done ≤ k → k < done + 1 → get_or new_order k 0 ≡ clause
-  front_has k from upto = order_done k (omega (arith, from, upto))
-
   pub moved_up : (new : Arranged) → count ≤ 4294967295
       → ((k : ℕ) → k < count → get_or order k 0 < count)
       → ((c : ℕ) → c < count → get_or places c 0 < count)
@@ -138,22 +131,6 @@ module _ (count clause done at other : ℕ) (order places : List ℕ)
         ∙ (ap (λ xs. get_or new_order (get_or xs c 0) 0) is_places ∙ new_back c few);
   }
 
--- each clause is at its own place
-pub arranged_rising : (count : ℕ) (arranged : Arranged) → count ≤ 4294967295
-    → length arranged.order.items ≡ count → length arranged.places.items ≡ count
-    → arranged.done ≡ 0 → ((k : ℕ) → k < count → get_or arranged.order.items k 0 ≡ k)
-    → ((k : ℕ) → k < count → get_or arranged.places.items k 0 ≡ k) → IsArranged count arranged
-arranged_rising count arranged fits size room none order places = record {
-  fits = fits;
-  size = size;
-  room = room;
-  few = omega (arith, none);
-  below = λ k less. omega (arith, order k less, less);
-  within = λ c less. omega (arith, places c less, less);
-  back = λ c less.
-      ap (λ n. get_or arranged.order.items n 0) (places c less) ∙ order c less;
-}
-
 -- one more clause of a list is told of
 pub more_told : (clauses old new : List ℕ) (start old_done new_done clause : ℕ)
     → start ≤ old_done → Contains clauses clause
@@ -168,11 +145,6 @@ more_told clauses old new start old_done new_done clause up has told keeps more 
     ]
 
 module _ (clauses : List (List Literal)) where
-  -- what is true in a cube is true in a smaller one
-  upto_push : (ls : List Literal) (l : Literal) (order : List ℕ) (upto : ℕ)
-      → AreTrueUpto clauses ls order upto → AreTrueUpto clauses (ls ++ l ∷ []) order upto
-  upto_push ls l order upto is k less s h = is k less s (push_front s ls l h)
-
   upto_same : (cube : List Literal) (old new : List ℕ) (done upto : ℕ) → upto ≤ done
       → KeepsUpto done old new → AreTrueUpto clauses cube old upto
       → AreTrueUpto clauses cube new upto
@@ -305,38 +277,3 @@ module _ (clauses : List (List Literal)) where
 
       last : (i : ℕ) → i ≡ length points → get_or (points ++ done ∷ []) i 0 ≡ done
       last i end = get_or_push points done 0 i (sym end)
-
-  -- literals are taken back
-  pub along_back : (ls : List Literal) (order points : List ℕ) (done depth : ℕ) → depth < length ls
-      → AreTrueAlong clauses ls order points done
-      → AreTrueAlong clauses (take depth ls) order (take depth points) (get_or points depth 0)
-  along_back ls order points done depth less is = record {
-    sizes = size ∙ sym (length-take-le depth ls (omega (arith, less)));
-    rises = λ i j up early.
-        let in_j : j < depth = omega (arith, early, size) in
-        let in_i : i < depth = omega (arith, up, in_j) in
-        omega (
-          arith,
-          is.rises i j up (omega (arith, in_j, less, is.sizes)),
-          get_or-take depth points i 0 in_i,
-          get_or-take depth points j 0 in_j,
-        );
-    within = λ i early.
-        let in_i : i < depth = omega (arith, early, size) in
-        omega (
-          arith,
-          get_or-take depth points i 0 in_i,
-          is.rises i depth (omega (arith, in_i)) (omega (arith, less, is.sizes)),
-        );
-    before = λ i early.
-        let in_i : i < depth = omega (arith, early, size) in
-        subst (λ n. AreTrueUpto clauses (take i (take depth ls)) order n)
-        (sym (get_or-take depth points i 0 in_i))
-        (subst (λ xs. AreTrueUpto clauses xs order (get_or points i 0))
-        (sym (take-take i depth ls (omega (arith, in_i))))
-        (is.before i (omega (arith, in_i, less, is.sizes))));
-    here = is.before depth (omega (arith, less, is.sizes));
-  }
-    where
-      size : length (take depth points) ≡ depth
-      size = length-take-le depth points (omega (arith, less, is.sizes))

@@ -93,11 +93,6 @@ upto_more P xs i x within is before here = λ k d less.
           subst P (is ∙ (get_or_default xs i x d within ∙ ap (λ j. get_or xs j d) (sym at))) here
     ]
 
--- one that is read under another name
-pub read_as : {X : Type 0} (xs : List X) (i : ℕ) (x y : X) → i < length xs → y ≡ x
-    → x ≡ get_or xs i x → y ≡ get_or xs i y
-read_as xs i x y within same is = same ∙ (is ∙ get_or_default xs i x y within)
-
 -- one that is read with a default
 pub read_at : {X : Type 0} (xs : List X) (i : ℕ) (d : X) → i < length xs
     → get_or xs i d ≡ get_or xs i (get_or xs i d)

@@ -108,10 +108,6 @@ unknown-set m p b h none =
     is_zero : (x : ℕ) → mark_of x ≡ None → (x == 0) ≡ true
     is_zero x e = only (x == 0) (not (x == 1)) e
 
-pub unknown-replicate : (n : ℕ) → unknown_in (replicate n 0) ≤ n
-unknown-replicate n = let e = length-zeros n in
-    omega (arith, count_by-le-length (λ (x : ℕ). x == 0) (replicate n 0))
-
 pub length-trail : (queue : List ℕ) (len : ℕ) → len ≤ length queue
     → length (trail_of queue len) ≡ len
 length-trail queue len h = length-map (take len queue) literal_of ∙ length-take-le len queue h

@@ -2,7 +2,6 @@
 use Rattle.std.proofs.Common.{◌≡◌, ◌∙◌, ◌<◌, ◌++◌, ◌&&◌, ◌||◌, ℕ, zero, suc, Bool, true, false}
 use Rattle.std.proofs.Common.{cond, not, List, [], ◌∷◌, length, get_or, refl, sym, ap, ap₂, arith}
 use Rattle.std.proofs.lemmas.Bool.{and_parts, false_from_ne_true}
-use Rattle.std.proofs.Math.Bool.{beq}
 use Rattle.std.specs.List.{Contains}
 use Rattle.hv_sets.specs.declared.literal.Literal.{Literal}
 use Rattle.hv_sets.specs.Truth.{in_clause, in_clauses, in_cube, in_literal}
@@ -72,24 +71,3 @@ pub one_false : (s : List Bool) (clauses : List (List Literal)) (p : ℕ) → p 
     → in_clause (clause_at clauses p) s ≡ false → in_clauses clauses s ≡ false
 one_false s clauses p less out = false_from_ne_true (in_clauses clauses s) (λ h.
     let f : true ≡ false = sym (each_clause s clauses p less h) ∙ out in absurd cc)
-
--- a clause with an atom and its negation is true in each state
-pub always_true : (clause : List Literal) (l k : Literal) → Contains clause l → Contains clause k
-    → l.atom ≡ k.atom → (beq l.positive k.positive ≡ true → ⊥) → (s : List Bool)
-    → in_clause clause s ≡ true
-always_true clause l k has_l has_k same differ s = by (in_literal l s) refl
-  where
-    flip : (p q b : Bool) → (beq p q ≡ true → ⊥) → cond p b (not b) ≡ false
-        → cond q b (not b) ≡ true
-    flip true true b apart e = absurd (apart refl)
-    flip true false true apart e = let f : true ≡ false = e in absurd cc
-    flip true false false apart e = refl
-    flip false true true apart e = refl
-    flip false true false apart e = let f : true ≡ false = e in absurd cc
-    flip false false b apart e = absurd (apart refl)
-
-    by : (b : Bool) → in_literal l s ≡ b → in_clause clause s ≡ true
-    by true e = clause_has s clause l has_l e
-    by false e = clause_has s clause k has_k
-        (flip l.positive k.positive (has_atom s k.atom) differ
-        (ap (λ a. cond l.positive (has_atom s a) (not (has_atom s a))) (sym same) ∙ e))

@@ -96,14 +96,6 @@ module _ (e : List ℕ) (n : ℕ) (ls : List Literal) where
   pub unsaid : (p : ℕ) (b : Bool) → known e p ≡ Some b → known (marked n (untouched e ls)) p ≡ None
   unsaid p b h = written_touched e ls (replicate n 0) p b h ∙ known-replicate n p
 
-  pub unsaid_none : (p : ℕ) → known (marked n ls) p ≡ None
-      → known (marked n (untouched e ls)) p ≡ None
-  unsaid_none p none = by (known e p) refl
-    where
-      by : (o : Option Bool) → known e p ≡ o → known (marked n (untouched e ls)) p ≡ None
-      by None alone = said_beside p alone ∙ none
-      by (Some b) some = unsaid p b some
-
   -- what the state after agrees with, the state before does beside the effect
   pub agrees_beside : (state : List Bool) → Agrees (marked n ls) (over e state)
       → Agrees (marked n (untouched e ls)) state

@@ -1,8 +1,8 @@
 -- The walk over the clauses of a formula.
-use Rattle.std.proofs.Common.{◌≡◌, ◌∙◌, ◌+◌, ◌<◌, ◌≤◌, ◌++◌, ◌&&◌, ◌||◌, ℕ, zero, suc, Bool, true}
+use Rattle.std.proofs.Common.{◌≡◌, ◌∙◌, ◌+◌, ◌<◌, ◌++◌, ◌&&◌, ◌||◌, ℕ, zero, suc, Bool, true}
 use Rattle.std.proofs.Common.{false, not, eqb, List, [], ◌∷◌, length, take, get_or}
 use Rattle.std.proofs.Common.{refl, sym, ap, ap₂, arith, subst}
-use Rattle.std.proofs.lemmas.List.{get_or-map, length-map, take_all}
+use Rattle.std.proofs.lemmas.List.{get_or-map, length-map}
 use Rattle.std.proofs.lemmas.List.Elements.{Contains-get_or}
 use Rattle.std.proofs.lemmas.Bool.{and_parts}
 use Rattle.std.proofs.lemmas.Bool.Decides.{Decides-eqb}
@@ -139,12 +139,6 @@ denied_below n clause codes below is k d less =
 pub size_denied : (clause : List Literal) (codes : List ℕ)
     → length (denied_along clause codes) ≡ length codes
 size_denied clause codes = length-map codes (denial_for clause)
-
-pub all_taken : (clause : List Literal) (codes : List ℕ) (k : ℕ) → length codes ≤ k
-    → take k (denied_along clause codes) ≡ denied_along clause codes
-all_taken clause codes k past =
-    take_all k (denied_along clause codes)
-    (omega (arith, past, length-map codes (denial_for clause)))
 
 pub literal_same : (x y : Literal) → false ≡ not (eqb x.atom y.atom && beq x.positive y.positive)
     → x ≡ y

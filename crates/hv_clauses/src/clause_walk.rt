@@ -1,7 +1,7 @@
 //! The walk over the states outside a formula, clause by clause, that says what stays. The step at
 //! a tautology has no cube.
 
-ghost use Rattle.std.specs.Prelude.{◌≡◌, ◌<◌, ◌≤◌, Bool, List, [], not, drop, length, take, OnOk};
+ghost use Rattle.std.specs.Prelude.{◌≡◌, ◌<◌, ◌≤◌, Bool, List, not, drop, length, take, OnOk};
 ghost use Rattle.std.specs.Prelude.{IfOk};
 ghost use Rattle.hv_sets.specs.Cubes.{SpeakBelow};
 ghost use Rattle.hv_sets.specs.Walks.{in_cubes, IsStateOf};

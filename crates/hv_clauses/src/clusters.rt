@@ -3,14 +3,13 @@
 //! A cluster is tried where its literal is false. It has a screen where that takes little room
 //! beside its clauses: where the screen is true in the state, all of them are.
 
-ghost use Rattle.std.specs.Prelude.{◌≡◌, ◌<◌, ◌≤◌, ◌^◌, ℕ, Bool, List, [], IfOk, OnOk, MatchOption};
-ghost use Rattle.std.specs.Prelude.{length, slice_index_or, true, false, not};
+ghost use Rattle.std.specs.Prelude.{◌≡◌, ◌<◌, ◌^◌, ℕ, [], IfOk, OnOk};
+ghost use Rattle.std.specs.Prelude.{length, slice_index_or, true, false};
 ghost use Rattle.std.specs.List.{Contains};
-ghost use Rattle.std.specs.List.Sorted.{IsNonDecreasingBy};
 ghost use Rattle.hv_task.specs.State.{AreBelow, has_atom, state_of};
 ghost use Rattle.hv_sets.specs.Cubes.{SpeakBelow};
 ghost use Rattle.hv_sets.specs.Truth.{in_clause};
-ghost use Rattle.hv_clauses.specs.Clausal.{AreClauses, clause_at};
+ghost use Rattle.hv_clauses.specs.Clausal.{AreClauses};
 ghost use Rattle.hv_clauses.specs.Mates.{AreClusters, IsPutUnder, cluster_places};
 ghost use Rattle.hv_clauses.specs.Working.Mates.{AreClustersUpto, AreTried, IsDue, PutsCluster};
 ghost use Rattle.hv_clauses.specs.Working.Rows.{HasHeads, code, place_of_code};

@@ -11,7 +11,7 @@
 //! condition of `find_in` asks for all the capacity that a query may need by its numbers of
 //! operands and clauses, so that a body with counters can come under the same contract.
 
-ghost use Rattle.std.specs.Prelude.{◌≡◌, ◌<◌, ◌≤◌, [], Bool, List, IfSome, false, true, length};
+ghost use Rattle.std.specs.Prelude.{◌≡◌, ◌<◌, ◌≤◌, [], Bool, List, IfSome, false, length};
 ghost use Rattle.std.specs.Prelude.{MatchOption};
 ghost use Rattle.hv_task.specs.Strips.{atoms};
 ghost use Rattle.hv_sets.specs.Cost.{ClausesPass, IsAnswer};

@@ -1,6 +1,6 @@
 //! The codes of the literals that literals imply at once.
 
-ghost use Rattle.std.specs.Prelude.{◌≡◌, ◌≤◌, ◌<◌, ◌⊎◌, ◌↔◌, ◌^◌, ℕ, [], length, slice_index_or};
+ghost use Rattle.std.specs.Prelude.{◌≡◌, ◌<◌, ◌↔◌, ◌^◌, [], length, slice_index_or};
 ghost use Rattle.std.specs.Prelude.{IfOk, IsTrue, MatchOption, OnOk};
 ghost use Rattle.std.specs.List.{All, Contains};
 ghost use Rattle.hv_sets.specs.declared.literal.Literal.{Literal};

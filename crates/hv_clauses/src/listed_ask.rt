@@ -1,6 +1,6 @@
 //! A question about a formula that answers for listed states by the atoms that they hold.
 
-ghost use Rattle.std.specs.Prelude.{◌≡◌, [], Bool, List, IfOk, OnOk, true, length, cond, not};
+ghost use Rattle.std.specs.Prelude.{◌≡◌, [], Bool, List, OnOk, true, cond, not};
 ghost use Rattle.hv_clauses.specs.Clausal.{in_formula};
 ghost use Rattle.hv_clauses.specs.Mates.{AreMates};
 

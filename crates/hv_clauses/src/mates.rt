@@ -6,7 +6,7 @@
 //! there are clauses if these are fewer; the positive ones; and the clauses whose own literal is
 //! false, each of them once: never more than to try all.
 
-ghost use Rattle.std.specs.Prelude.{◌≡◌, ◌<◌, ◌≤◌, ℕ, IfOk, length};
+ghost use Rattle.std.specs.Prelude.{◌≡◌, ◌<◌, ◌≤◌, IfOk, length};
 ghost use Rattle.hv_task.specs.State.{AreBelow, state_of};
 ghost use Rattle.hv_sets.specs.Truth.{in_clauses};
 ghost use Rattle.hv_clauses.specs.Clausal.{AreClauses};

@@ -1,6 +1,6 @@
 //! A query as it is asked, and its positive operands as a condition on states.
 
-ghost use Rattle.std.specs.Prelude.{◌≡◌, ◌<◌, ◌+◌, ℕ, None, Some, IfSome, MatchOption, false, true};
+ghost use Rattle.std.specs.Prelude.{◌≡◌, ◌<◌, ◌+◌, None, Some, IfSome, MatchOption, false, true};
 ghost use Rattle.std.specs.Prelude.{◌↔◌, IsTrue, length, map, slice_get};
 ghost use Rattle.std.specs.List.{All};
 ghost use Rattle.hv_task.specs.State.{AreBelow, names_atom};

@@ -8,9 +8,8 @@
 //! a table of which literal follows from which has a place for each pair of literals. A state is
 //! written only at the end, once there is one.
 
-ghost use Rattle.std.specs.Prelude.{◌≡◌, ◌<◌, ◌≤◌, ℕ, Bool, List, None, Some, false, true, length};
+ghost use Rattle.std.specs.Prelude.{◌≡◌, ◌<◌, ◌≤◌, None, Some, false, true, length};
 ghost use Rattle.std.specs.Prelude.{IfSome, is_some};
-ghost use Rattle.hv_task.specs.State.{has_atom};
 ghost use Rattle.hv_clauses.specs.Working.Chase.{IsFollowed};
 ghost use Rattle.hv_clauses.specs.Working.Clausal.{Completes};
 ghost use Rattle.hv_clauses.specs.declared.completion.Completion.TheVariants as Ways;

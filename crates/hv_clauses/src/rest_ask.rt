@@ -6,7 +6,7 @@
 //! refutation; so one direction alone is proved of it: no state that is looked for is in a prefix
 //! that is refuted. What is found, and that it is exact, stays with the question that is wrapped.
 
-ghost use Rattle.std.specs.Prelude.{◌≡◌, ◌<◌, ◌≤◌, ◌&&◌, ◌||◌, [], Bool, List, IfOk, OnOk, true};
+ghost use Rattle.std.specs.Prelude.{◌≡◌, ◌<◌, ◌≤◌, ◌&&◌, ◌||◌, [], Bool, List, OnOk, true};
 ghost use Rattle.std.specs.Prelude.{false, length, nat_lt, not};
 ghost use Rattle.hv_clauses.specs.Clausal.{in_formula};
 ghost use Rattle.hv_clauses.specs.Rest.{AreTrueAlong, IsArranged, IsReadyFor};

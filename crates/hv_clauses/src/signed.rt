@@ -1,6 +1,6 @@
 //! The codes of the literals of one sign: the atom is the key, and the clause's place the number.
 
-ghost use Rattle.std.specs.Prelude.{◌≡◌, ◌≤◌, ◌^◌, ℕ, length, slice_index_or, [], IfOk, OnOk};
+ghost use Rattle.std.specs.Prelude.{◌≡◌, ◌≤◌, ◌^◌, length, slice_index_or, [], IfOk, OnOk};
 ghost use Rattle.hv_clauses.specs.Working.Signed.{IsSignedCode};
 ghost use Rattle.hv_clauses.specs.Working.Rows.{ListsCodes, PutsCodes, code};
 
