@@ -23,6 +23,7 @@ pub mod Prefixed
 pub mod Permuted
 pub mod Noted
 pub mod Ranked
+pub mod ShortFronts
 pub mod Placed
 pub mod Enclosed
 pub mod Joined

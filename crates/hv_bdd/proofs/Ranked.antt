@@ -1,7 +1,7 @@
 -- The line of an order, spelled and read.
 use Rattle.std.proofs.Common.{◌≡◌, ℕ, ◌<◌, ◌≤◌, ◌^◌, ◌∙◌, ◌++◌, Bool, true, false, List, []}
-use Rattle.std.proofs.Common.{◌∷◌, Option, None, Some, cond, eqb, length, map, nat_lt, refl, sym, ap}
-use Rattle.std.proofs.Common.{subst, arith}
+use Rattle.std.proofs.Common.{◌∷◌, ◌+◌, Option, None, Some, append_assoc, cond, eqb, length, map}
+use Rattle.std.proofs.Common.{nat_lt, refl, sym, ap, subst, arith, take}
 use Rattle.std.specs.Prelude.{codes, decimal, is_some, option_and_then, option_map, MatchOption}
 use Rattle.std.proofs.lemmas.List.{length-append}
 use Rattle.std.specs.List.{All, join_with_byte}
@@ -20,6 +20,7 @@ use Rattle.hv_bdd.specs.OrderLine.{begins_with, if_order, is_order, named_atom, 
 use Rattle.hv_bdd.specs.OrderLine.{order_line, order_of_fields}
 use Rattle.hv_bdd.specs.Working.Inverse.{fields_left}
 use Rattle.hv_bdd.specs.Working.NodeText.{list_over}
+use Rattle.hv_bdd.specs.Working.Noting.{named_behind}
 use Rattle.hv_bdd.proofs.Parted.{BeginsWithNone, no_decimal, spelled}
 use Rattle.hv_bdd.proofs.Permuted.{below_from, is_from, order_from, size_of}
 
@@ -119,6 +120,32 @@ module _ (atoms n : ℕ) (later : List (List ℕ)) (short : n < 10 ^ 18) where
       (spelled n short)
       ∙ ap (option_and_then (put_first (named_atoms atoms later)))
       (cond-true (nat_lt n atoms) (Some n) None (lt-ltb n atoms less))
+
+-- behind no place stand the atoms that the fields name
+pub behind_all : (order : List ℕ) (fields : List (List ℕ))
+    → named_behind order 0 fields ≡ named_atoms (length order) fields
+behind_all order fields = by (named_atoms (length order) fields)
+  where
+    by : (o : Option (List ℕ)) → option_map (λ ns. ns) o ≡ o
+    by None = refl
+    by (Some ns) = refl
+
+-- the first of the fields fills one place more
+pub behind_more : (order new : List ℕ) (count atom : ℕ) (fields later : List (List ℕ))
+    → length new ≡ length order → take (count + 1) new ≡ take count order ++ atom ∷ []
+    → named_atoms (length order) fields
+    ≡ option_map (λ ns. atom ∷ ns) (named_atoms (length order) later)
+    → named_behind new (count + 1) later ≡ named_behind order count fields
+behind_more order new count atom fields later size front first =
+    ap (λ n. option_map (λ ns. take (count + 1) new ++ ns) (named_atoms n later)) size
+    ∙ (ap (λ (xs : List ℕ). option_map (λ ns. xs ++ ns) (named_atoms (length order) later)) front
+    ∙ (by (named_atoms (length order) later)
+    ∙ ap (option_map (λ ns. take count order ++ ns)) (sym first)))
+  where
+    by : (o : Option (List ℕ)) → option_map (λ ns. (take count order ++ atom ∷ []) ++ ns) o
+        ≡ option_map (λ ns. take count order ++ ns) (option_map (λ ns. atom ∷ ns) o)
+    by None = refl
+    by (Some ns) = ap (λ xs. Some xs) (append_assoc (take count order) (atom ∷ []) ns)
 
 -- the fields behind the first one
 pub left_is : {A : Type 0} (line : List ℕ) (n : ℕ) (behind : Option A) (now : A → List ℕ)

@@ -11,6 +11,7 @@ pub mod Listing
 pub mod NodeText
 pub mod Ordered
 pub mod Inverse
+pub mod Noting
 pub mod Walking
 pub mod Cubed
 pub mod Laws

@@ -1,18 +1,19 @@
 //! Orders of the atoms of a task.
 
-ghost use Rattle.std.specs.Prelude.{◌≡◌, ◌<◌, ◌≤◌, ◌∷◌, ℕ, None, Some, true, false, IfNone, IfOk};
-ghost use Rattle.std.specs.Prelude.{IfSome, length};
-ghost use Rattle.std.specs.Prelude.{option_and_then, option_map, slice_index_or};
-ghost use Rattle.std.specs.List.{All};
+ghost use Rattle.std.specs.Prelude.{◌≡◌, ◌≢◌, ◌+◌, ◌<◌, ◌≤◌, ◌^◌, [], ◌∷◌, ◌++◌, ℕ, None, Some};
+ghost use Rattle.std.specs.Prelude.{true, false, IfNone, IfOk, IfSome, length, take};
+ghost use Rattle.std.specs.Prelude.{option_and_then, option_map, slice_index, slice_index_or};
 ghost use Rattle.hv_bytes.specs.Fields.{cut_fields};
 ghost use Rattle.hv_task.specs.Atoms.{IsNext};
 ghost use Rattle.hv_task.specs.State.{has_atom};
 ghost use Rattle.hv_bdd.specs.Order.{position};
-ghost use Rattle.hv_bdd.specs.OrderLine.{if_order, is_order, named_atoms};
+ghost use Rattle.hv_bdd.specs.OrderLine.{if_order, named_atoms};
 ghost use Rattle.hv_bdd.specs.OrderLine.{order_of_fields};
 ghost use Rattle.hv_bdd.specs.Working.Inverse.{AreInverse, fields_left};
+ghost use Rattle.hv_bdd.specs.Working.Noting.{AreNoted, named_behind};
 
 use crate::atom_bits::ListedState;
+use crate::numbers::short_front;
 use hv_bytes::{decimal_front, split_field};
 use std::alloc::{AllocError, Global};
 use std::marker::Model;
@@ -38,22 +39,19 @@ impl Model for Order {
 }
 
 impl Order {
-    // The order of these atoms, where each of so many is among them once.
-    fn of(alloc: Global, order: Vec<u32>, atoms: u32) -> Result<Option<Order>, AllocError>
-        requires { All (λ a. a < atoms) order.items }
-        ensures { IfOk result (λ made. made ≡ if_order atoms order.items) }
+    // The order of the atoms that were noted at their places, where each of so many is among them.
+    fn of(order: Vec<u32>, places: Vec<u32>, atoms: u32) -> Option<Order>
+        requires noted { AreNoted order.items places.items (length order.items) }
+        requires size { length order.items ≡ atoms }
+        ensures { result ≡ if_order atoms order.items }
     {
-        if order.len() != atoms as usize {
-            return Ok(None);
+        if !has_all(places.as_slice(), atoms) {
+            return None;
         }
-        let mut places = vec![in alloc; atoms; order.len()]?;
-        if !note_places(order.as_slice(), &mut places) {
-            return Ok(None);
-        }
-        Ok(Some(Order {
+        Some(Order {
             atoms: order,
             places,
-        }))
+        })
     }
 
     /// The place of an atom.
@@ -96,27 +94,64 @@ impl Order {
     }
 }
 
-// Writes the place of each atom, where none was written. The answer is false where an atom stands
-// twice.
-fn note_places(order: &[u32], places: &mut Vec<u32>) -> bool
-    requires size { length places.old.items ≡ length order.now }
-    requires below { All (λ a. a < length order.now) order.now }
-    requires none { All (λ place. place ≡ length order.now) places.old.items }
-    ensures size { length places.new.items ≡ length order.now }
-    ensures places { result ≡ true → (v : ℕ) → v < length order.now → slice_index_or
-        places.new.items (slice_index_or order.now v (length order.now)) 0 ≡ v }
-    ensures twice { result ≡ false → is_order (length order.now) order.now ≡ false }
+// Whether none of the places is this number.
+fn has_all(places: &[u32], none: u32) -> bool
+    ensures all { result ≡ true → (a : ℕ) → a < length places.now
+        → slice_index places.now a ≢ none }
+    ensures some { result ≡ false → (a : ℕ) × (a < length places.now)
+        × (slice_index places.now a ≡ none) }
 {
-    let count = order.len();
-    for place in 0..count {
-        let atom = order[place] as usize;
-        let earlier = places[atom];
-        if earlier as usize != count {
-            return false;
-        }
-        places[atom] = place as u32;
+    let mut all = true;
+    for place in places {
+        all &= *place != none;
     }
-    true
+    all
+}
+
+// Notes that an atom stands at the next place.
+#[inline(always)]
+fn note(order: &mut [u32], places: &mut [u32], place: usize, atom: u32)
+    requires noted { AreNoted order.old places.old place }
+    requires place { place < length order.old }
+    requires atom { atom < length order.old }
+    requires few { length order.old < 2 ^ 32 }
+    ensures noted { AreNoted order.new places.new (place + 1) }
+    ensures front { take (place + 1) order.new ≡ take place order.old ++ atom ∷ [] }
+    ensures size { length order.new ≡ length order.old }
+{
+    places[atom as usize] = place as u32;
+    order[place] = atom;
+}
+
+// Notes the atoms that fields name, from this place on, as far as the quick way goes. The answer is
+// the next place, and what is left of the fields.
+fn note_short<'a>(
+    fields: &'a [u8],
+    order: &mut [u32],
+    places: &mut [u32],
+    from: usize,
+) -> (usize, &'a [u8])
+    requires noted { AreNoted order.old places.old from }
+    requires few { length order.old < 2 ^ 32 }
+    ensures noted { AreNoted order.new places.new result.0 }
+    ensures named { named_behind order.new result.0 (cut_fields result.1.now)
+        ≡ named_behind order.old from (cut_fields fields.now) }
+    ensures size { length order.new ≡ length order.old }
+    ensures fewer { length (cut_fields result.1.now) ≤ length (cut_fields fields.now) }
+{
+    let atoms = order.len();
+    let mut rest = fields;
+    for place in from..atoms {
+        let Some((atom, behind)) = short_front(rest) else {
+            return (place, rest);
+        };
+        if atom as usize >= atoms {
+            return (place, rest);
+        }
+        note(order, places, place, atom);
+        rest = behind;
+    }
+    (atoms, rest)
 }
 
 // The atom that the first field of a line names, of a task with so many, and what follows.
@@ -135,33 +170,33 @@ fn atom_front(line: &[u8], atoms: u32) -> Option<(u32, Option<&[u8]>)>
     Some((number as u32, behind))
 }
 
-// The atoms that the fields name, where each names one. More of them than there are atoms are no
-// order: then the answer is that there is none, and what follows isn't read.
-fn named_atoms(
-    alloc: Global,
-    fields: Option<&[u8]>,
-    atoms: u32,
-) -> Result<Option<Vec<u32>>, AllocError>
-    ensures named { IfOk result (λ named.
-        option_and_then (if_order atoms) (option_map (λ v. v.items) named)
-        ≡ option_and_then (if_order atoms)
-        (named_atoms atoms (fields_left fields.entry (λ f. f.now)))) }
-    ensures few { IfOk result (λ named. IfSome named (λ v. length v.items ≤ atoms)) }
-    ensures below { IfOk result (λ named. IfSome named (λ v. All (λ a. a < atoms) v.items)) }
+// Notes the atoms that fields name, where each names one and they are as many as there are atoms;
+// none is noted before. More of them are no order: then what follows isn't read.
+fn note_atoms(fields: Option<&[u8]>, order: &mut [u32], places: &mut [u32]) -> bool
+    requires noted { AreNoted order.old places.old 0 }
+    requires few { length order.old < 2 ^ 32 }
+    ensures noted { result ≡ true → AreNoted order.new places.new (length order.new) }
+    ensures named { result ≡ true → Some order.new
+        ≡ named_atoms (length order.old) (fields_left fields.entry (λ f. f.now)) }
+    ensures none { result ≡ false → None ≡ option_and_then (if_order (length order.old))
+        (named_atoms (length order.old) (fields_left fields.entry (λ f. f.now))) }
+    ensures size { length order.new ≡ length order.old }
 {
-    let mut named = Vec::new(alloc);
+    let mut place = 0;
     let mut rest = fields;
     'fields: loop {
         let Some(line) = rest else {
-            return Ok(Some(named));
+            return place == order.len();
         };
-        if named.len() >= atoms as usize {
-            return Ok(None);
+        let (next, last) = note_short(line, order, places, place);
+        if next >= order.len() {
+            return false;
         }
-        let Some((atom, behind)) = atom_front(line, atoms) else {
-            return Ok(None);
+        let Some((atom, behind)) = atom_front(last, order.len() as u32) else {
+            return false;
         };
-        named.push(atom)?;
+        note(order, places, next, atom);
+        place = next + 1;
         rest = behind;
     }
 }
@@ -175,8 +210,10 @@ pub(crate) fn order_of(alloc: Global, line: &[u8], atoms: u32) -> Result<Option<
     if word != b"order".as_slice() {
         return Ok(None);
     }
-    let Some(named) = named_atoms(alloc, behind, atoms)? else {
+    let mut order = vec![in alloc; atoms; atoms as usize]?;
+    let mut places = vec![in alloc; atoms; atoms as usize]?;
+    if !note_atoms(behind, order.as_mut_slice(), places.as_mut_slice()) {
         return Ok(None);
-    };
-    Order::of(alloc, named, atoms)
+    }
+    Ok(Order::of(order, places, atoms))
 }
