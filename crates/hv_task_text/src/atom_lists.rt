@@ -59,6 +59,7 @@ impl AtomLists {
     }
 
     /// The action of this name and cost that has these lists, of which none is left.
+    #[inline(always)]
     pub fn action(&mut self, alloc: Global, name: Name, cost: u32) -> Result<Action, AllocError>
         ensures action { IfOk result (λ action. (atoms : ℕ) (items : List Item)
             → AreOf atoms items self.old → action ≡ written_action atoms

@@ -1,15 +1,21 @@
 //! The lines of a task text.
 
-ghost use Rattle.std.specs.Prelude.{◌≡◌, ◌<◌, IfOk, IfSome};
-ghost use Rattle.hv_task_text.specs.TaskFile.{atom_behind, atom_of, atom_or, item_in, item_or};
+ghost use Rattle.std.specs.Prelude.{◌≡◌, ◌<◌, ◌≤◌, ◌↔◌, IfOk, IfSome, IsTrue, codes};
+ghost use Rattle.hv_grammar.specs.Forms.{is_word, numbered_in};
+ghost use Rattle.hv_task_text.specs.TaskFile.{atom_of, atom_or, item_in, item_or};
 ghost use Rattle.hv_task_text.specs.Working.Reading.{is_short_name};
 ghost use Rattle.hv_task_text.specs.Written.{IsItem};
+ghost use Rattle.hv_task_text.specs.declared.fault.TaskKind.TheVariants as Kind;
+ghost use Rattle.hv_task_text.specs.declared.fault.TaskLimit.TheVariants as Limit;
+ghost use Rattle.hv_task_text.specs.declared.fault.TaskRefusal.TheVariants as Refusal;
 
 use crate::atom_lists::Item;
 use crate::fault::{TaskKind, TaskLimit, TaskRefusal};
-use hv_grammar::{decimal, number_behind};
+use hv_grammar::{at_most, decimal};
 
 const LONGEST_NAME: usize = 1_024;
+
+const GREATEST_COST: u64 = 4_294_967_295;
 
 /// Whether the line is a name.
 pub fn is_short_name(line: &[u8]) -> Result<(), TaskRefusal>
@@ -19,6 +25,53 @@ pub fn is_short_name(line: &[u8]) -> Result<(), TaskRefusal>
         return Err(TaskRefusal::Limit(TaskLimit::Name));
     }
     Ok(())
+}
+
+// Whether the line is the word that begins an action.
+fn is_begin_action(line: &[u8]) -> bool
+    ensures { IsTrue result ↔ (line.now ≡ codes "begin_action") }
+{
+    match line {
+        [b'b', b'e', b'g', b'i', b'n', b'_', rest @ ..] => is_action(rest),
+        _ => false,
+    }
+}
+
+// Whether the bytes are the second part of that word.
+fn is_action(bytes: &[u8]) -> bool
+    ensures { IsTrue result ↔ (bytes.now ≡ codes "action") }
+{
+    match bytes {
+        b"action" => true,
+        _ => false,
+    }
+}
+
+/// Whether the line begins an action.
+pub fn begins_action(line: &[u8]) -> Result<(), TaskRefusal>
+    ensures { result ≡ is_word (codes "begin_action") (Refusal.Place Kind.BeginAction) line.now }
+{
+    if !is_begin_action(line) {
+        return Err(TaskRefusal::Place(TaskKind::BeginAction));
+    }
+    Ok(())
+}
+
+/// The cost that the line says.
+pub fn cost_in(line: &[u8]) -> Result<u64, TaskRefusal>
+    ensures said { result ≡ numbered_in (codes "cost:") 4294967295
+        (Refusal.Place Kind.Cost) (Refusal.Limit Limit.Cost) line.now }
+    ensures most { IfOk result (λ cost. cost ≤ 4294967295) }
+{
+    match line {
+        [b'c', b'o', b's', b't', b':', digits @ ..] => at_most(
+            decimal(digits),
+            GREATEST_COST,
+            TaskRefusal::Place(TaskKind::Cost),
+            TaskRefusal::Limit(TaskLimit::Cost),
+        ),
+        _ => Err(TaskRefusal::Place(TaskKind::Cost)),
+    }
 }
 
 // The number, where it is that of one of so many atoms.
@@ -49,29 +102,27 @@ pub fn atom_or(
     }
 }
 
-// The atom, of so many, that is behind the word.
-fn atom_behind(word: &[u8], line: &[u8], atoms: u32) -> Option<u32>
-    ensures atom { result ≡ atom_behind word.now atoms line.now }
-    ensures below { IfSome result (λ n. n < atoms) }
-{
-    atom_of(number_behind(word, line), atoms)
-}
-
 // What the line says of one of so many atoms.
 fn item_in(line: &[u8], atoms: u32) -> Option<Item>
     ensures item { result ≡ item_in atoms line.now }
     ensures is_item { IfSome result (IsItem atoms) }
 {
-    if let Some(atom) = atom_behind(b"PRE:", line, atoms) {
-        return Some(Item::Pre(atom));
+    match line {
+        [b'P', b'R', b'E', b':', digits @ ..] => atom_of(decimal(digits), atoms).map(Item::Pre),
+        [b'A', b'D', b'D', b':', digits @ ..] => atom_of(decimal(digits), atoms).map(Item::Add),
+        [b'D', b'E', b'L', b':', digits @ ..] => atom_of(decimal(digits), atoms).map(Item::Del),
+        _ => None,
     }
-    if let Some(atom) = atom_behind(b"ADD:", line, atoms) {
-        return Some(Item::Add(atom));
+}
+
+// Whether the line is the word that ends an action.
+fn is_end_action(line: &[u8]) -> bool
+    ensures { IsTrue result ↔ (line.now ≡ codes "end_action") }
+{
+    match line {
+        b"end_action" => true,
+        _ => false,
     }
-    if let Some(atom) = atom_behind(b"DEL:", line, atoms) {
-        return Some(Item::Del(atom));
-    }
-    None
 }
 
 /// What the line says of one of so many atoms, or nothing where it ends the action.
@@ -81,7 +132,7 @@ pub fn item_or(line: &[u8], atoms: u32) -> Result<Option<Item>, TaskRefusal>
 {
     match item_in(line, atoms) {
         Some(item) => Ok(Some(item)),
-        None if line == b"end_action".as_slice() => Ok(None),
+        None if is_end_action(line) => Ok(None),
         None => Err(TaskRefusal::Place(TaskKind::ActionLine)),
     }
 }

@@ -1,9 +1,10 @@
 //! Task texts from a shelf, part by part.
 
 ghost use Rattle.std.specs.Prelude.{◌≡◌, ◌≤◌, ◌<◌, ◌+◌, ◌^◌, [], length, IfOk, IfSome, OnOk};
-ghost use Rattle.std.specs.Prelude.{IsErrOf, IsTrue};
+ghost use Rattle.std.specs.Prelude.{IsErrOf, IsTrue, codes};
 ghost use Rattle.hv_bytes.specs.Devices.{Rose};
 ghost use Rattle.hv_bytes.specs.Files.{bytes_of};
+ghost use Rattle.hv_grammar.specs.Forms.{numbered_line, word_line};
 ghost use Rattle.hv_grammar.specs.Parsers.{line, one_more, repeat};
 ghost use Rattle.hv_grammar.specs.Positions.{CanRead};
 ghost use Rattle.hv_grammar.specs.Reads.{Reads};
@@ -17,6 +18,7 @@ ghost use Rattle.hv_task_text.specs.TaskText.{IsTaskReadFrom};
 ghost use Rattle.hv_task_text.specs.Working.Reading.{no_lists, no_task};
 ghost use Rattle.hv_task_text.specs.Written.{IsItem};
 ghost use Rattle.hv_task_text.specs.declared.fault.TaskKind.TheVariants as Kind;
+ghost use Rattle.hv_task_text.specs.declared.fault.TaskLimit.TheVariants as Limit;
 ghost use Rattle.hv_task_text.specs.declared.fault.TaskRefusal.TheVariants as Refusal;
 
 use crate::atom_lists::{AtomLists, Item};
@@ -35,9 +37,8 @@ const MOST_ATOMS: u64 = 65_535;
 
 const MOST_ACTIONS: u64 = 1_000_000;
 
-const GREATEST_COST: u64 = 4_294_967_295;
-
 // A name of this kind.
+#[inline(always)]
 fn name_line<R: Source>(alloc: Global, reader: &mut R, kind: TaskKind) -> Read<Name>
     requires { CanRead (R.position reader.old) }
     ensures { Reads (line_of_name kind) (R.position reader.old) (R.position reader.new) result }
@@ -178,6 +179,7 @@ fn item_line<R: Source>(reader: &mut R, atoms: u32) -> Read<Option<Item>>
 }
 
 // The lists of an action of this name and cost.
+#[inline(always)]
 fn action_lists<R: Source>(
     alloc: Global,
     reader: &mut R,
@@ -199,7 +201,29 @@ fn action_lists<R: Source>(
     Ok(lists.action(alloc, name, cost)?)
 }
 
+// The line that begins an action.
+fn begin_action<R: Source>(reader: &mut R) -> Read<()>
+    requires { CanRead (R.position reader.old) }
+    ensures { Reads (word_line (codes "begin_action") (Refusal.Place Kind.BeginAction))
+        (R.position reader.old) (R.position reader.new) result }
+{
+    next_line(reader, TaskRefusal::Place(TaskKind::BeginAction))?;
+    at_line(reader, forms::begins_action(reader.line()))
+}
+
+// The cost of an action.
+fn cost_line<R: Source>(reader: &mut R) -> Read<u64>
+    requires { CanRead (R.position reader.old) }
+    ensures reads { Reads (numbered_line (codes "cost:") 4294967295 (Refusal.Place Kind.Cost)
+        (Refusal.Limit Limit.Cost)) (R.position reader.old) (R.position reader.new) result }
+    ensures most { IfOk result (λ cost. cost ≤ 4294967295) }
+{
+    next_line(reader, TaskRefusal::Place(TaskKind::Cost))?;
+    at_line(reader, forms::cost_in(reader.line()))
+}
+
 // An action in a task of so many atoms.
+#[inline(always)]
 fn action<R: Source>(
     alloc: Global,
     reader: &mut R,
@@ -212,23 +236,14 @@ fn action<R: Source>(
     ensures over { IfOk result (IsOver atoms) }
     ensures none { OnOk result (lists.new ≡ no_lists) }
 {
-    word_line(
-        reader,
-        b"begin_action",
-        TaskRefusal::Place(TaskKind::BeginAction),
-    )?;
+    begin_action(reader)?;
     let name = name_line(alloc, reader, TaskKind::ActionName)?;
-    let cost = numbered_line(
-        reader,
-        b"cost:",
-        GREATEST_COST,
-        TaskRefusal::Place(TaskKind::Cost),
-        TaskRefusal::Limit(TaskLimit::Cost),
-    )?;
+    let cost = cost_line(reader)?;
     action_lists(alloc, reader, atoms, lists, name, cost as u32)
 }
 
 // One more action.
+#[inline(always)]
 fn one_action<R: Source>(
     alloc: Global,
     reader: &mut R,

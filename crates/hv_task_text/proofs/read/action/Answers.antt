@@ -4,11 +4,11 @@ use Rattle.hv_task_text.proofs.read.action.Goals as goal
 
 pub returns-in_err-cost-clause-reads : goal.returns-in_err-cost-clause-reads
 returns-in_err-cost-clause-reads g c =
-    stops _ (go _ (go _ (start (text.action c.args.atoms) _) c.in_ok-word_line.ensures)
+    stops _ (go _ (go _ (start (text.action c.args.atoms) _) c.in_ok-begin_action.ensures)
     c.in_ok-name.ensures) c.in_err-cost.ensures.reads c.from_residual-in_err-cost.ensures.1
 
 pub returns-clause-reads : goal.returns-clause-reads
 returns-clause-reads g c =
     last _ _ _ _ _ _ (go _ (go _ (go _ (start (text.action c.args.atoms) _)
-    c.in_ok-word_line.ensures) c.in_ok-name.ensures) c.in_ok-cost.ensures.reads)
+    c.in_ok-begin_action.ensures) c.in_ok-name.ensures) c.in_ok-cost.ensures.reads)
     c.action_lists.ensures.reads
