@@ -9,7 +9,7 @@ use Rattle.std.specs.List.{All, Contains}
 use Rattle.std.specs.List.Sorted.{IsStrictlyIncreasing}
 use Rattle.std.specs.Global.{Vec}
 use Rattle.hv_task.specs.declared.action.Action.{Action}
-use Rattle.hv_task.specs.State.{applicable, has_all, has_atom, names_atom, state_of}
+use Rattle.hv_task.specs.State.{applicable, has_all, has_atom, state_of}
 use Rattle.hv_task.specs.Strips.{Strips, atoms, start_state}
 use Rattle.hv_task.proofs.Places.{beq-Decides, has_all-Decides, has_atom-state_of, has_atom_past}
 use Rattle.hv_task.proofs.Places.{length-state_of, names_atom-Decides}

@@ -32,7 +32,8 @@ use Rattle.hv_lines.specs.declared.line.Line.{Line}
 use Rattle.hv_lines.specs.declared.verdict.Verdict.TheVariants as V
 use Rattle.hv_lines.proofs.Elements.{got_in, in_mapped, slice_get_some}
 use Rattle.hv_basic.specs.Working.Asked.{with_action}
-use Rattle.hv_basic.specs.Working.Candidates.{AreCandidates, HasEveryAction, IsAskedBefore}
+use Rattle.hv_basic.specs.Working.Candidates.{AreCandidates, HasEveryAction, HaveAllClashes}
+use Rattle.hv_basic.specs.Working.Candidates.{IsAskedBefore}
 use Rattle.hv_basic.specs.Working.Deciding.{AreEnough}
 use Rattle.hv_basic.proofs.Growing.{got_before, got_last}
 use Rattle.hv_basic.proofs.Listed.{one_more}
@@ -91,6 +92,23 @@ clash_in task sets query o state among before clash =
           held,
     )
 
+-- where a set is asked about before the action, the actions that can be applicable in a state of it
+-- are all that can have a counterexample
+pub clashes_in_set : (task : Strips) (sets : ℕ → List Bool → Bool) (query : Query) (which : Which)
+    (listed : List ℕ) → IsAskedBefore query.positive which → AreCandidates task sets which listed
+    → HaveAllClashes task sets query listed
+clashes_in_set task sets query which listed before are = record {
+  rises = are.rises;
+  below = are.below;
+  first = are.first;
+  each = λ n state less size yes.
+      let w = clash_in task sets (with_action query (Some n)) before.0 state before.1 before.2 yes
+      in
+      let a = slice_get_some task.actions n less in
+      are.each n a.0 state a.1 size (subst (λ x. in_which task sets x state ≡ true) before.3 w.1)
+      (subst (λ f. may_apply f state ≡ true) a.1 w.0);
+}
+
 -- the cost doesn't hang on the action, but over diagrams
 same_cost : (setting : Setting) (lines : List Line) (query : Query) (family : FormulaFamily)
     → (family ≡ F.Node → ⊥) → (a b : Option ℕ)
@@ -107,9 +125,8 @@ none_of xs x c = let h = c.1 in omega (arith, h)
 
 module _ (setting : Setting) (lines : List Line) (q : QuestionState) (query : Query)
     (is : (action : Option ℕ) → with_action query action ≡ query_of lines q action)
-    (every : HasEveryAction lines q.acts) (other : q.family ≡ F.Node → ⊥) (which : Which)
-    (before : IsAskedBefore query.positive which) (listed : List ℕ)
-    (are : AreCandidates setting.task (has_of setting lines q.family) which listed) where
+    (every : HasEveryAction lines q.acts) (other : q.family ≡ F.Node → ⊥) (listed : List ℕ)
+    (are : HaveAllClashes setting.task (has_of setting lines q.family) query listed) where
   abbrev count : ℕ
   count = length setting.task.actions
 
@@ -172,14 +189,7 @@ module _ (setting : Setting) (lines : List Line) (q : QuestionState) (query : Qu
   quiet : (n : ℕ) → n < count → (Contains listed n → ⊥) → (state : List Bool)
       → length state ≡ atoms setting.task → clash (for_action n) state ≡ false
   quiet n less out state size =
-      false_from_ne_true (clash (for_action n) state) (λ yes.
-      let w = clash_in setting.task (has_of setting lines q.family) (for_action n) before.0 state
-      before.1 before.2 yes in
-      let a = slice_get_some setting.task.actions n less in
-      out (are.each n a.0 state a.1 size
-      (subst (λ x. in_which setting.task (has_of setting lines q.family) x state ≡ true) before.3
-      w.1)
-      (subst (λ f. may_apply f state ≡ true) a.1 w.0)))
+      false_from_ne_true (clash (for_action n) state) (λ yes. out (are.each n state less size yes))
 
   -- where one query is within the budget, and those of the list up to a place decide nothing, none
   -- does that comes before the action of this place

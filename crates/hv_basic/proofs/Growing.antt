@@ -17,8 +17,10 @@ use Rattle.hv_lines.specs.declared.formula_family.FormulaFamily.TheVariants as F
 use Rattle.hv_lines.specs.declared.line.Expr.{Expr}
 use Rattle.hv_lines.specs.declared.line.Line.{Line}
 use Rattle.hv_lines.specs.declared.line.Line.TheVariants as L
-use Rattle.hv_basic.specs.Stores.{AreRowsFor, IsStoreOf, StoreState, formula, listing}
+use Rattle.hv_basic.specs.Stores.{AreChangesFor, AreRowsFor, IsStoreOf, StoreState, formula}
+use Rattle.hv_basic.specs.Stores.{listing}
 use Rattle.hv_basic.specs.Stores.{stored_counts, with_expr, with_line, with_rows}
+use Rattle.hv_basic.specs.declared.change_rows.ChangeRows.{ChangeRows}
 
 -- of a list with one more item, the items before it and that item
 pub got_before : {X : Type 0} (xs : List X) (x : X) (i : ℕ) → i < length xs
@@ -97,6 +99,7 @@ module _ (task : Strips) (older : List Line) (store : StoreState) (is : IsStoreO
           omega (arith, longer, is.each);
       names = name_at own expr numbered;
       rows = is.rows;
+      changes = is.changes;
     }
 
     -- with what the next line says the stores denote all lines
@@ -111,6 +114,7 @@ module _ (task : Strips) (older : List Line) (store : StoreState) (is : IsStoreO
           each = is.each;
           names = is.names;
           rows = is.rows;
+          changes = is.changes;
         }
     line_more (L.Expr id expr) numbered = expr_more id expr numbered
     line_more (L.Known id statement word premises) numbered =
@@ -122,13 +126,14 @@ module _ (task : Strips) (older : List Line) (store : StoreState) (is : IsStoreO
           each = is.each;
           names = is.names;
           rows = is.rows;
+          changes = is.changes;
         }
 
 -- stores without formulas denote no lines
 pub none_yet : (task : Strips) (store : StoreState) → store.horns ≡ [] → store.duals ≡ []
     → store.twos ≡ [] → store.listed ≡ [] → store.names ≡ [] → store.rows ≡ None
-    → IsStoreOf task [] store
-none_yet task store horns duals twos listed names rows = record {
+    → store.changes ≡ None → IsStoreOf task [] store
+none_yet task store horns duals twos listed names rows changes = record {
   horns = horns;
   duals = duals;
   twos = twos;
@@ -136,6 +141,7 @@ none_yet task store horns duals twos listed names rows = record {
   each = ap length names;
   names = λ id below. absurd (omega (arith, below));
   rows = λ made is. let f : None ≡ Some made = sym rows ∙ is in absurd cc;
+  changes = λ made is. let f : None ≡ Some made = sym changes ∙ is in absurd cc;
 }
 
 -- the stores after a line, by what they are then
@@ -149,10 +155,10 @@ stands_with task older old new line is numbered same =
 
 -- stores with other rows
 pub stands_beside : (task : Strips) (lines : List Line) (old new : StoreState)
-    (rows : Option (Vec (Vec ℕ)))
-    → IsStoreOf task lines old → new ≡ with_rows old rows → AreRowsFor task rows
-    → IsStoreOf task lines new
-stands_beside task lines old new rows is same made =
+    (rows : Option (Vec (Vec ℕ))) (changes : Option ChangeRows)
+    → IsStoreOf task lines old → new ≡ with_rows old rows changes → AreRowsFor task rows
+    → AreChangesFor task changes → IsStoreOf task lines new
+stands_beside task lines old new rows changes is same made changed =
     subst (IsStoreOf task lines) (sym same)
     record {
       horns = is.horns;
@@ -162,4 +168,15 @@ stands_beside task lines old new rows is same made =
       each = is.each;
       names = is.names;
       rows = made;
+      changes = changed;
     }
+
+-- stores with other rows of the one kind, and then with others of the other
+pub beside_both : (old middle new : StoreState)
+    → middle ≡ with_rows old middle.rows old.changes
+    → new ≡ with_rows middle middle.rows new.changes
+    → new ≡ with_rows old new.rows new.changes
+beside_both old middle new first second =
+    second
+    ∙ (ap (λ s. with_rows s middle.rows new.changes) first
+    ∙ ap (λ rows. with_rows old rows new.changes) (sym (ap (λ (s : StoreState). s.rows) second)))

@@ -14,6 +14,8 @@ pub mod Querying
 pub mod Growing
 pub mod Applicable
 pub mod Enough
+pub mod Crossing
+pub mod Flagged
 pub mod Mixing
 pub mod Turning
 pub mod Sharing

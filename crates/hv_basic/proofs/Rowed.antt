@@ -40,14 +40,14 @@ rowed_more past old new actions n b place at keeps within key here before k a be
     ]
 
 -- the test whether a number is in a row
-in_row_true : (rows : List (Vec ℕ)) (place k : ℕ) → place < length rows → IsInRow rows place k
+pub in_row_true : (rows : List (Vec ℕ)) (place k : ℕ) → place < length rows → IsInRow rows place k
     → in_row rows k place ≡ true
 in_row_true rows place k within here =
     let row = slice_get_some rows place within in
     ap (λ found. in_found_row found k) row.1
     ∙ (names_atom-Decides row.0.items k).1 (here row.0 row.1)
 
-is_in : (rows : List (Vec ℕ)) (place k : ℕ) → in_row rows k place ≡ true → IsInRow rows place k
+pub is_in : (rows : List (Vec ℕ)) (place k : ℕ) → in_row rows k place ≡ true → IsInRow rows place k
 is_in rows place k e row at =
     (names_atom-Decides row.items k).0 (ap (λ found. in_found_row found k) (sym at) ∙ e)
 

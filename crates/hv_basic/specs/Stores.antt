@@ -19,10 +19,12 @@ use Rattle.hv_lines.specs.declared.line.Expr.{Expr}
 use Rattle.hv_lines.specs.declared.line.Expr.TheVariants as E
 use Rattle.hv_lines.specs.declared.line.Line.{Line}
 use Rattle.hv_lines.specs.declared.line.Line.TheVariants as L
-use Rattle.hv_basic.specs.ActionRows.{AreActionRows}
+use Rattle.hv_basic.specs.ActionRows.{AreActionRows, AreChangeRows}
+use Rattle.hv_basic.specs.declared.change_rows.ChangeRows.{ChangeRows}
 
 -- the stores of the four families that have one, what each `e` line's set is named by in the store
--- of its family, and the actions in rows by atoms of their preconditions, once they are made
+-- of its family, and the actions in rows by atoms of their preconditions, and by atoms that they
+-- change, once they are made
 pub record StoreState : Type 0 where
   pub horns : List FormulaState
   pub duals : List FormulaState
@@ -30,6 +32,7 @@ pub record StoreState : Type 0 where
   pub listed : List ListedStates
   pub names : List Which
   pub rows : Option (Vec (Vec ℕ))
+  pub changes : Option ChangeRows
 
 -- the formula of these clauses, over so many atoms
 abbrev pub formula : ℕ → List (List Literal) → FormulaState
@@ -56,6 +59,7 @@ with_expr count store expr = record {
   listed = store.listed ++ map (listing count) (listed_in expr);
   names = store.names ++ named_by (stored_counts store) expr ∷ [];
   rows = store.rows;
+  changes = store.changes;
 }
 
 -- the stores with the formula of one more line, if it is an `e` line
@@ -65,20 +69,25 @@ with_line count store (L.Expr id expr) = with_expr count store expr
 with_line count store (L.Known id statement word premises) = store
 
 -- the stores with other rows
-abbrev pub with_rows : StoreState → Option (Vec (Vec ℕ)) → StoreState
-with_rows store rows = record {
+abbrev pub with_rows : StoreState → Option (Vec (Vec ℕ)) → Option ChangeRows → StoreState
+with_rows store rows changes = record {
   horns = store.horns;
   duals = store.duals;
   twos = store.twos;
   listed = store.listed;
   names = store.names;
   rows = rows;
+  changes = changes;
 }
 
 -- the rows, if they are made, have the actions of this task
 abbrev pub AreRowsFor : Strips → Option (Vec (Vec ℕ)) → Type 0
 AreRowsFor task rows =
     (made : Vec (Vec ℕ)) → rows ≡ Some made → AreActionRows task made.items
+
+-- the same of the rows by atoms that are changed
+abbrev pub AreChangesFor : Strips → Option ChangeRows → Type 0
+AreChangesFor task changes = (made : ChangeRows) → changes ≡ Some made → AreChangeRows task made
 
 -- the stores have the formulas of these lines, for this task
 pub record IsStoreOf (task : Strips) (lines : List Line) (store : StoreState) : Type 0 where
@@ -89,6 +98,7 @@ pub record IsStoreOf (task : Strips) (lines : List Line) (store : StoreState) : 
   pub each : length store.names ≡ expr_count lines
   pub names : (id : ℕ) → id < expr_count lines → slice_get store.names id ≡ Some (which_at lines id)
   pub rows : AreRowsFor task store.rows
+  pub changes : AreChangesFor task store.changes
 
 -- the formula can be stored: it speaks of atoms below this number, and its clauses are of its kind
 abbrev pub CanBeStored : ℕ → Expr → Type 0

@@ -8,5 +8,6 @@ pub mod Stores
 pub mod Asked
 pub mod Deciding
 pub mod Candidates
+pub mod Framed
 pub mod Formulas
 pub mod Sharing

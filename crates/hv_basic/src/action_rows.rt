@@ -23,7 +23,8 @@ pub(crate) fn action_rows(alloc: Global, task: &Task) -> Result<Vec<Vec<u32>>, A
     Ok(rows)
 }
 
-fn empty_rows(alloc: Global, count: u32) -> Result<Vec<Vec<u32>>, AllocError>
+/// So many rows without actions.
+pub(crate) fn empty_rows(alloc: Global, count: u32) -> Result<Vec<Vec<u32>>, AllocError>
     ensures { IfOk result (λ rows. length rows.items ≡ count) }
 {
     let mut rows = Vec::new(alloc);
@@ -63,7 +64,7 @@ fn shorter(rows: &[Vec<u32>], place: u32, other: u32) -> u32
 }
 
 /// Puts the number into the row of this place.
-fn enter(rows: &mut Vec<Vec<u32>>, place: u32, number: u32) -> Result<(), AllocError>
+pub(crate) fn enter(rows: &mut Vec<Vec<u32>>, place: u32, number: u32) -> Result<(), AllocError>
     requires { place < length rows.old.items }
     ensures size { length rows.new.items ≡ length rows.old.items }
     ensures keeps { OnOk result ((p k : ℕ) → IsInRow rows.old.items p k

@@ -1,5 +1,6 @@
 //! For which actions a statement over all actions is asked about: where few states are asked about
-//! before the action, for those that can be applicable in one of them.
+//! before the action, for those that can be applicable in one of them; where one formula is asked
+//! about before the action and after it, for those that can lead into it, or out of it.
 
 ghost use Rattle.std.specs.Prelude.{◌≡◌, ◌<◌, ◌⊎◌, ◌↔◌, ℕ, Option, Some, false, length, map};
 ghost use Rattle.std.specs.Prelude.{IfOk, IfSome, IsTrue, OnOk};
@@ -14,7 +15,7 @@ ghost use Rattle.hv_basic.specs.ActionRows.{AreActionRows};
 ghost use Rattle.hv_basic.specs.Cases.{lines_in, setting_in};
 ghost use Rattle.hv_basic.specs.Working.Asked.{with_action};
 ghost use Rattle.hv_basic.specs.Working.Candidates.{AreCandidates, AreFound, HasEveryAction};
-ghost use Rattle.hv_basic.specs.Working.Candidates.{IsAskedBefore, IsInRow};
+ghost use Rattle.hv_basic.specs.Working.Candidates.{HaveAllClashes, IsAskedBefore, IsInRow};
 ghost use Rattle.hv_basic.specs.Working.Deciding.{AreEnough};
 ghost use Rattle.hv_basic.specs.Working.Views.{question_of};
 
@@ -22,6 +23,8 @@ use crate::action_rows::action_rows;
 use crate::actions::asked_actions;
 use crate::basic::Question;
 use crate::case::Case;
+use crate::framed::crossing;
+use crate::picked::{put, put_row};
 use hv_lines::{Acts, FormulaFamily, Table};
 use hv_sets::{Operand, Query, StateList, Which};
 use hv_task::{AtomList, AtomSet, Task};
@@ -30,9 +33,9 @@ use std::alloc::{AllocError, Global};
 /// Lists of more states aren't looked at.
 const FEW: usize = 64;
 
-/// The actions for which the question's query is enough, rising; or once no action. Where few
-/// states are asked about before the action, these are the first action, which tells the cost, and
-/// those that can be applicable in one of the states.
+/// The actions for which the question's query is enough, rising; or once no action. Where the others
+/// can be told to have no counterexample, these are the first action, which tells the cost, and
+/// those that can have one.
 pub(crate) fn actions_to_ask(
     alloc: Global,
     case: &Case<'_>,
@@ -56,8 +59,7 @@ pub(crate) fn actions_to_ask(
     Ok(actions)
 }
 
-/// The same, where few states are asked about before any action, and not over diagrams, whose
-/// costs hang on the action.
+/// The same, where the others can be told, and not over diagrams, whose costs hang on the action.
 fn few_actions(
     alloc: Global,
     case: &Case<'_>,
@@ -80,10 +82,44 @@ fn few_actions(
     if !is_over_all(case.table, question.acts) {
         return Ok(None);
     }
-    let Some(which) = few_states(case, question.family, query.positive.as_slice()) else {
+    let Some(numbers) = all_clashes(alloc, case, question.family, query)? else {
         return Ok(None);
     };
-    let Some(numbers) = candidates(alloc, case, question.family, which)? else {
+    Ok(Some(numbers))
+}
+
+/// The first action and those for which the query can have a counterexample, where there is a way
+/// to find them that takes less than to ask about each action.
+fn all_clashes(
+    alloc: Global,
+    case: &Case<'_>,
+    family: FormulaFamily,
+    query: &Query,
+) -> Result<Option<AtomList>, AllocError>
+    ensures { IfOk result (λ found. IfSome found (HaveAllClashes case.now.task.now
+        (has_of (setting_in case.now) (lines_in case.now) family) query.now)) }
+{
+    if let Some(numbers) = clashes_in_few(alloc, case, family, query)? {
+        return Ok(Some(numbers));
+    }
+    let numbers = crossing(alloc, case, family, query)?;
+    Ok(numbers)
+}
+
+/// The same, where few states are asked about before the action.
+fn clashes_in_few(
+    alloc: Global,
+    case: &Case<'_>,
+    family: FormulaFamily,
+    query: &Query,
+) -> Result<Option<AtomList>, AllocError>
+    ensures { IfOk result (λ found. IfSome found (HaveAllClashes case.now.task.now
+        (has_of (setting_in case.now) (lines_in case.now) family) query.now)) }
+{
+    let Some(which) = few_states(case, family, query.positive.as_slice()) else {
+        return Ok(None);
+    };
+    let Some(numbers) = candidates(alloc, case, family, which)? else {
         return Ok(None);
     };
     Ok(Some(numbers))
@@ -259,34 +295,6 @@ fn put_rows(
     for atom in atoms {
         put_row(&rows[*atom as usize], actions, found)?;
     }
-    Ok(())
-}
-
-/// Puts in the numbers of the row, if they are among so many.
-fn put_row(row: &[u32], actions: u32, found: &mut AtomSet) -> Result<(), AllocError>
-    ensures kept { OnOk result ((k : ℕ) → Contains found.old k → Contains found.new k) }
-    ensures has { OnOk result ((k : ℕ) → Contains row.now k → k < actions
-        → Contains found.new k) }
-    ensures below { OnOk result ((k : ℕ) → Contains found.new k
-        → Contains found.old k ⊎ (k < actions)) }
-{
-    for number in row {
-        put(*number, actions, found)?;
-    }
-    Ok(())
-}
-
-/// Puts the number in, if it is among so many.
-fn put(number: u32, actions: u32, found: &mut AtomSet) -> Result<(), AllocError>
-    ensures kept { OnOk result ((k : ℕ) → Contains found.old k → Contains found.new k) }
-    ensures has { OnOk result (number < actions → Contains found.new number) }
-    ensures below { OnOk result ((k : ℕ) → Contains found.new k
-        → Contains found.old k ⊎ (k < actions)) }
-{
-    if number >= actions {
-        return Ok(());
-    }
-    found.insert(number)?;
     Ok(())
 }
 

@@ -18,10 +18,12 @@
 //! - Either way `verdicts::decide_sets` decides the question. It makes the query of it by the names
 //!   that the `store` keeps. `candidates` says for which actions it is asked: where these are all,
 //!   and few states are asked about before the action, for those that can be applicable there, by
-//!   the `action_rows` that the `store` keeps. Else `actions` lists the actions of the progression:
-//!   those of a list that rises as they are there, else by the flags of `acts`. For each of them
-//!   `query_walk` asks the query of the store of the family, and `node_walk` asks it of the
-//!   diagrams; the first query that exceeds the budget or has a counterexample decides.
+//!   the `action_rows` that the `store` keeps; where one formula is asked about at both times
+//!   (`framed`), for those that can turn a literal of it (`turned`), by the `change_rows` that the
+//!   `store` keeps, or by a look at each action. Else `actions` lists the actions of the progression: those of a list that rises as they are
+//!   there, else by the flags of `acts`. For each of them `query_walk` asks the query of the store
+//!   of the family, and `node_walk` asks it of the diagrams; the first query that exceeds the budget
+//!   or has a counterexample decides.
 //!
 //! Statements with `b1` and `b3` go the same way, without a step or with a regression. Those with
 //! `b4`, of two families, are decided in `mixed`, over the formulas that `any_formula` finds, and
@@ -60,6 +62,17 @@
 //! actions as the task; over diagrams, whose cost hangs on the action; and where the action set is
 //! a list or a union. The atoms of a state are compared as rising lists, which differ exactly where
 //! the states do.
+//!
+//! Where a formula in clauses is asked about positively before the action and negatively after it,
+//! a counterexample leads out of the formula, so its action makes some literal of it false: it
+//! deletes the atom of a positive one, or adds that of a negative one. With a regression it leads
+//! into the formula, and makes some literal true. So a statement over all actions is asked about
+//! those actions alone that change such an atom so, and about the first one. They are in the rows of
+//! these atoms, which the store makes with the ninth formula in clauses. Before that, and where the
+//! literals and the actions in their rows are together more than a quarter as many as the task's
+//! actions, each action is looked at, and the atoms have flags. All actions are asked about where
+//! the literals are that many themselves, with a sixteenth of the atoms for the flags. Of several
+//! formulas that are asked about at both times the one is taken for which the least is looked at.
 #![tactic(auto)]
 
 mod action_rows;
@@ -69,13 +82,16 @@ mod any_formula;
 pub mod basic;
 mod candidates;
 pub mod case;
+mod change_rows;
 mod families;
+mod framed;
 pub mod kinds;
 pub mod laws;
 mod leaves;
 mod lefts;
 mod mixed;
 mod node_walk;
+mod picked;
 mod query_walk;
 mod rights;
 mod rising;
@@ -85,6 +101,8 @@ pub mod shared_verdicts;
 mod sides;
 mod signed_sets;
 pub mod store;
+mod turned;
+mod turned_by_look;
 pub mod verdicts;
 
 pub use basic::Basic;

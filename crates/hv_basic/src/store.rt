@@ -12,12 +12,14 @@ ghost use Rattle.hv_lines.specs.declared.formula_family.FormulaFamily.{FormulaFa
 ghost use Rattle.hv_lines.specs.declared.line.Expr.TheVariants as E;
 ghost use Rattle.hv_lines.specs.declared.line.Line.{Line};
 ghost use Rattle.hv_lines.specs.declared.line.Line.TheVariants as L;
-ghost use Rattle.hv_basic.specs.ActionRows.{AreActionRows};
-ghost use Rattle.hv_basic.specs.Stores.{AreRowsFor, CanBeStored, IsStoreOf, LineCanBeStored};
+ghost use Rattle.hv_basic.specs.ActionRows.{AreActionRows, AreChangeRows};
+ghost use Rattle.hv_basic.specs.Stores.{AreChangesFor, AreRowsFor, CanBeStored, IsStoreOf};
+ghost use Rattle.hv_basic.specs.Stores.{LineCanBeStored};
 ghost use Rattle.hv_basic.specs.Stores.{with_expr, with_line, with_rows};
 ghost use Rattle.hv_basic.specs.Working.Stores.{IsUnstored};
 
 use crate::action_rows::action_rows;
+use crate::change_rows::{ChangeRows, change_rows};
 use hv_explicit::{Explicit, Explicits};
 use hv_horn::{DualHorn, DualHorns, Horn, Horns};
 use hv_lines::{Constant, Expr, Line};
@@ -27,7 +29,8 @@ use hv_twocnf::{TwoCnf, TwoCnfs};
 use std::alloc::{AllocError, Global};
 use std::marker::Model;
 
-/// With the explicit set that comes after so many, the actions are put in rows.
+/// With the explicit set that comes after so many, the actions are put in rows by their
+/// preconditions, and with the formula in clauses that does, by what they change.
 const MANY: usize = 8;
 
 /// The formulas of a proof, in the store of their family.
@@ -42,6 +45,8 @@ pub struct Store {
     names: Vec<Which>,
     // The actions in rows by atoms of their preconditions, once there are many explicit sets.
     rows: Option<Vec<Vec<u32>>>,
+    // The actions in rows by atoms that they change, once there are many formulas in clauses.
+    changes: Option<ChangeRows>,
 }
 
 impl Model for Store {
@@ -56,6 +61,7 @@ impl Model for Store {
       listed = s.listed;
       names = s.names.items;
       rows = s.rows;
+      changes = s.changes;
     } };
 }
 
@@ -68,6 +74,7 @@ impl Store {
         ensures listed { result.listed ≡ [] }
         ensures names { result.names ≡ [] }
         ensures rows { result.rows ≡ None }
+        ensures changes { result.changes ≡ None }
         ensures none { (task : Strips) → IsStoreOf task [] result }
     {
         Store {
@@ -78,16 +85,19 @@ impl Store {
             listed: Explicits::new(alloc),
             names: Vec::new(alloc),
             rows: None,
+            changes: None,
         }
     }
 
     /// Adds what the next line says: the formula of an `e` line goes to the store of its family,
     /// and nothing else is added. Stores that have the formulas of the lines before have those of
-    /// all lines then. Once there are many explicit sets, the actions are put in rows.
+    /// all lines then. Once there are many explicit sets, or many formulas in clauses, the actions
+    /// are put in rows.
     pub fn add_line(&mut self, task: &Task, line: &Line) -> Result<(), AllocError>
         requires { LineCanBeStored (atoms task.now) line.now }
         ensures ok { OnOk result (self.new
-            ≡ with_rows (with_line (atoms task.now) self.old line.now) self.new.rows) }
+            ≡ with_rows (with_line (atoms task.now) self.old line.now) self.new.rows
+            self.new.changes) }
         ensures err { OnErr result (self.new ≡ self.old) }
         ensures stands { OnOk result ((lines : List Line) → IsStoreOf task.now lines self.old
             → IsNumbered lines line.now → IsStoreOf task.now (line.now ∷ lines) self.new) }
@@ -95,8 +105,10 @@ impl Store {
         match line {
             Line::Expr { expr, .. } => {
                 let rows = self.rows_beside(task, expr)?;
+                let changes = self.changes_beside(task, expr)?;
                 self.add(task, expr)?;
                 self.keep_rows(rows);
+                self.keep_changes(changes);
                 Ok(())
             }
             Line::Acts { .. } => Ok(()),
@@ -178,12 +190,53 @@ impl Store {
 
     // Keeps the rows, if there are some.
     fn keep_rows(&mut self, rows: Option<Vec<Vec<u32>>>)
-        ensures kept { self.new ≡ with_rows self.old self.new.rows }
+        ensures kept { self.new ≡ with_rows self.old self.new.rows self.old.changes }
         ensures rows { (task : Strips) → AreRowsFor task self.old.rows → AreRowsFor task rows
             → AreRowsFor task self.new.rows }
     {
         match rows {
             Some(made) => self.rows = Some(made),
+            None => {}
+        }
+    }
+
+    /// The actions in rows by atoms that they change, if they were made.
+    pub(crate) fn changes(&self) -> Option<&ChangeRows>
+        ensures { (task : Strips) → AreChangesFor task self.now.changes
+            → IfSome result (λ changes. AreChangeRows task changes.now) }
+    {
+        match &self.changes {
+            Some(changes) => Some(changes),
+            None => None,
+        }
+    }
+
+    // The actions in rows by what they change, where this is the formula from which on they are
+    // worth it.
+    fn changes_beside(&self, task: &Task, expr: &Expr) -> Result<Option<ChangeRows>, AllocError>
+        ensures { IfOk result (AreChangesFor task.now) }
+    {
+        if self.in_clauses() != MANY || !is_in_clauses(expr) {
+            return Ok(None);
+        }
+        let changes = change_rows(self.alloc, task)?;
+        Ok(Some(changes))
+    }
+
+    // How many formulas in clauses there are.
+    fn in_clauses(&self) -> usize {
+        let both = self.horns.len().saturating_add(self.duals.len());
+        both.saturating_add(self.twos.len())
+    }
+
+    // Keeps the rows by what is changed, if there are some.
+    fn keep_changes(&mut self, changes: Option<ChangeRows>)
+        ensures kept { self.new ≡ with_rows self.old self.old.rows self.new.changes }
+        ensures changes { (task : Strips) → AreChangesFor task self.old.changes
+            → AreChangesFor task changes → AreChangesFor task self.new.changes }
+    {
+        match changes {
+            Some(made) => self.changes = Some(made),
             None => {}
         }
     }
@@ -236,6 +289,10 @@ impl Store {
 
 fn is_listed(expr: &Expr) -> bool {
     matches!(expr, Expr::States(_))
+}
+
+fn is_in_clauses(expr: &Expr) -> bool {
+    matches!(expr, Expr::Horn(_) | Expr::Dual(_) | Expr::Two(_))
 }
 
 /// What the set is named by that isn't put into a store.

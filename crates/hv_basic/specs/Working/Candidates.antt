@@ -7,11 +7,13 @@ use Rattle.std.specs.List.Sorted.{IsStrictlyIncreasing}
 use Rattle.hv_task.specs.declared.action.Action.{Action}
 use Rattle.hv_task.specs.State.{AreBelow, applicable}
 use Rattle.hv_task.specs.Strips.{Strips, atoms}
-use Rattle.hv_sets.specs.Query.{in_which}
+use Rattle.hv_sets.specs.Query.{in_which, is_clash}
 use Rattle.hv_sets.specs.declared.operand.Operand.{Operand}
 use Rattle.hv_sets.specs.declared.operand.Which.{Which}
+use Rattle.hv_sets.specs.declared.query.Query.{Query}
 use Rattle.hv_lines.specs.Meaning.{acts_of}
 use Rattle.hv_lines.specs.declared.line.Line.{Line}
+use Rattle.hv_basic.specs.Working.Asked.{with_action}
 
 -- the number is in the row of this place, if there is one
 abbrev pub IsInRow : List (Vec ℕ) → ℕ → ℕ → Type 0
@@ -49,4 +51,17 @@ pub record AreCandidates (task : Strips) (sets : ℕ → List Bool → Bool) (wh
     pub each : (number : ℕ) (action : Action) (state : List Bool)
         → slice_get task.actions number ≡ Some action → length state ≡ atoms task
         → in_which task sets which state ≡ true → applicable action state ≡ true
+        → Contains listed number
+
+-- the list rises and is of actions of the task, of which it has the first, and each one for which
+-- the query has a counterexample
+pub record HaveAllClashes (task : Strips) (sets : ℕ → List Bool → Bool) (query : Query)
+    (listed : List ℕ) : Type 0
+  where
+    pub rises : IsStrictlyIncreasing listed
+    pub below : AreBelow (length task.actions) listed
+    pub first : 0 < length task.actions → Contains listed 0
+    pub each : (number : ℕ) (state : List Bool) → number < length task.actions
+        → length state ≡ atoms task
+        → is_clash task sets (with_action query (Some number)) state ≡ true
         → Contains listed number

@@ -2,7 +2,7 @@ use Rattle.std.proofs.Common.{subst}
 use Rattle.std.specs.Option.{IfSome}
 use Rattle.hv_lines.specs.Queries.{has_of}
 use Rattle.hv_basic.specs.Cases.{lines_in, setting_in}
-use Rattle.hv_basic.specs.Working.Candidates.{AreCandidates, IsAskedBefore}
+use Rattle.hv_basic.specs.Working.Candidates.{HaveAllClashes}
 use Rattle.hv_basic.specs.Working.Views.{question_of}
 use Rattle.hv_basic.proofs.Enough.{few_among, few_enough}
 use Rattle.hv_basic.proofs.candidates.few_actions.Goals as goal
@@ -13,11 +13,9 @@ returns-clause-among c =
     let lines = lines_in c.args.case.now in
     few_among setting lines (question_of c.args.question.now) c.args.query.now c.requires.query
     (c.is_over_all.ensures c.if-not-is_over_all.false) (c.is_node.ensures c.if-is_node.false)
-    c.in-Some.which
-    (subst (λ xs. IsAskedBefore xs c.in-Some.which) c.as_slice.ensures c.in-Some.ensures)
-    c.in-Some-2.numbers
-    (subst (λ o. IfSome o (AreCandidates setting.task
-    (has_of setting lines c.args.question.now.family) c.in-Some.which)) c.in-Some-2.is
+    c.in-Some.numbers
+    (subst (λ o. IfSome o (HaveAllClashes setting.task
+    (has_of setting lines c.args.question.now.family) c.args.query.now)) c.in-Some.is
     c.in_ok-numbers.ensures)
 
 pub returns-clause-enough : goal.returns-clause-enough
@@ -26,9 +24,7 @@ returns-clause-enough c =
     let lines = lines_in c.args.case.now in
     few_enough setting lines (question_of c.args.question.now) c.args.query.now c.requires.query
     (c.is_over_all.ensures c.if-not-is_over_all.false) (c.is_node.ensures c.if-is_node.false)
-    c.in-Some.which
-    (subst (λ xs. IsAskedBefore xs c.in-Some.which) c.as_slice.ensures c.in-Some.ensures)
-    c.in-Some-2.numbers
-    (subst (λ o. IfSome o (AreCandidates setting.task
-    (has_of setting lines c.args.question.now.family) c.in-Some.which)) c.in-Some-2.is
+    c.in-Some.numbers
+    (subst (λ o. IfSome o (HaveAllClashes setting.task
+    (has_of setting lines c.args.question.now.family) c.args.query.now)) c.in-Some.is
     c.in_ok-numbers.ensures)

@@ -1,5 +1,5 @@
 use Rattle.std.proofs.Common.{arith, inl, inr, refl}
-use Rattle.hv_basic.proofs.candidates.put.Goals as goal
+use Rattle.hv_basic.proofs.picked.put.Goals as goal
 
 pub returns-clause-kept : goal.returns-clause-kept
 returns-clause-kept c = λ k h. (c.in_ok-insert.ensures.ok.has k).1 (inl h)

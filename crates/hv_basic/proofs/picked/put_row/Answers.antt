@@ -2,7 +2,7 @@ use Rattle.std.proofs.Common.{◌≡◌, ◌∙◌, arith, get_or, inr, inl, sub
 use Rattle.std.proofs.lemmas.List.{get_or_default}
 use Rattle.std.specs.List.{Contains}
 use Rattle.hv_basic.proofs.Applicable.{put_more}
-use Rattle.hv_basic.proofs.candidates.put_row.Goals as goal
+use Rattle.hv_basic.proofs.picked.put_row.Goals as goal
 
 pub loop-number-preserved : goal.loop-number-preserved
 loop-number-preserved c =

@@ -1,6 +1,6 @@
 use Rattle.std.proofs.Common.{◌<◌, ◌⊎◌, ℕ, get_or}
 use Rattle.std.specs.List.{Contains}
-use Rattle.hv_basic.proofs.candidates.put_row.Given as goal
+use Rattle.hv_basic.proofs.picked.put_row.Given as goal
 
 abbrev pub invariant-loop-number : goal.invariant-loop-number
 invariant-loop-number l = record {
