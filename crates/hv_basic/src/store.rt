@@ -3,9 +3,12 @@
 //! A store takes lines and not the expressions of `e` lines alone, so that its contract can speak
 //! of the lines of a table.
 
-ghost use Rattle.std.specs.Prelude.{◌≡◌, ◌<◌, ℕ, List, [], ◌∷◌, None, Some, IfOk, IfSome, OnOk};
-ghost use Rattle.std.specs.Prelude.{OnErr, length, slice_get};
+ghost use Rattle.std.specs.Prelude.{◌≡◌, ◌<◌, ◌++◌, ℕ, List, [], ◌∷◌, None, Some, IfOk, IfSome};
+ghost use Rattle.std.specs.Prelude.{OnErr, OnOk, length, slice_get};
+ghost use Rattle.std.specs.List.{All};
 ghost use Rattle.hv_task.specs.Strips.{Strips, atoms};
+ghost use Rattle.hv_clauses.specs.Clausal.{AreClauses};
+ghost use Rattle.hv_explicit.specs.ListedStates.{AreStates};
 ghost use Rattle.hv_lines.specs.Numbering.{IsNumbered, expr_count};
 ghost use Rattle.hv_lines.specs.Queries.{named_by};
 ghost use Rattle.hv_lines.specs.declared.formula_family.FormulaFamily.{FormulaFamily};
@@ -14,18 +17,19 @@ ghost use Rattle.hv_lines.specs.declared.line.Line.{Line};
 ghost use Rattle.hv_lines.specs.declared.line.Line.TheVariants as L;
 ghost use Rattle.hv_basic.specs.ActionRows.{AreActionRows, AreChangeRows};
 ghost use Rattle.hv_basic.specs.Stores.{AreChangesFor, AreRowsFor, CanBeStored, IsStoreOf};
-ghost use Rattle.hv_basic.specs.Stores.{LineCanBeStored};
+ghost use Rattle.hv_basic.specs.Stores.{LineCanBeStored, formula, listing};
 ghost use Rattle.hv_basic.specs.Stores.{with_expr, with_line, with_rows};
 ghost use Rattle.hv_basic.specs.Working.Stores.{IsUnstored};
 
 use crate::action_rows::action_rows;
 use crate::change_rows::{ChangeRows, change_rows};
+use hv_clauses::{ClauseKind, Formula, Formulas};
 use hv_explicit::{Explicit, Explicits};
-use hv_horn::{DualHorn, DualHorns, Horn, Horns};
+use hv_horn::{DualHorns, Horns};
 use hv_lines::{Constant, Expr, Line};
-use hv_sets::Which;
+use hv_sets::{Clauses, StateList, Which};
 use hv_task::Task;
-use hv_twocnf::{TwoCnf, TwoCnfs};
+use hv_twocnf::TwoCnfs;
 use std::alloc::{AllocError, Global};
 use std::marker::Model;
 
@@ -250,26 +254,22 @@ impl Store {
         self.names.reserve(1)?;
         match expr {
             Expr::Horn(clauses) => {
-                let set = Horn::of_kind(self.alloc, task, clauses)?;
-                let number = self.horns.add(set)?;
+                let number = add_formula(self.alloc, task, clauses, &mut self.horns)?;
                 self.names.push_reserved(Which::Set(number));
                 Ok(())
             }
             Expr::Dual(clauses) => {
-                let set = DualHorn::of_kind(self.alloc, task, clauses)?;
-                let number = self.duals.add(set)?;
+                let number = add_formula(self.alloc, task, clauses, &mut self.duals)?;
                 self.names.push_reserved(Which::Set(number));
                 Ok(())
             }
             Expr::Two(clauses) => {
-                let set = TwoCnf::of_kind(self.alloc, task, clauses)?;
-                let number = self.twos.add(set)?;
+                let number = add_formula(self.alloc, task, clauses, &mut self.twos)?;
                 self.names.push_reserved(Which::Set(number));
                 Ok(())
             }
             Expr::States(states) => {
-                let set = Explicit::new(self.alloc, task, states)?;
-                let number = self.listed.add(set)?;
+                let number = add_listing(self.alloc, task, states, &mut self.listed)?;
                 self.names.push_reserved(Which::Set(number));
                 Ok(())
             }
@@ -285,6 +285,44 @@ impl Store {
             }
         }
     }
+}
+
+/// Adds the formula of these clauses, and gives its number. It isn't inlined: what a set is made of
+/// takes some 2 KB, which would be cleared for each line.
+#[inline(never)]
+fn add_formula<K: ClauseKind>(
+    alloc: Global,
+    task: &Task,
+    clauses: &Clauses,
+    into: &mut Formulas<K>,
+) -> Result<usize, AllocError>
+    requires below { AreClauses (atoms task.now) clauses.now }
+    requires kind { All K.is_of clauses.now }
+    ensures number { IfOk result (λ number. number ≡ length into.old) }
+    ensures ok { OnOk result (into.new ≡ into.old ++ formula (atoms task.now) clauses.now ∷ []) }
+    ensures err { OnErr result (into.new ≡ into.old) }
+{
+    let set = Formula::of_kind(alloc, task, clauses)?;
+    let number = into.add(set)?;
+    Ok(number)
+}
+
+/// Adds the explicit set of these states, and gives its number. It isn't inlined, like the other.
+#[inline(never)]
+fn add_listing(
+    alloc: Global,
+    task: &Task,
+    states: &StateList,
+    into: &mut Explicits,
+) -> Result<usize, AllocError>
+    requires { AreStates (atoms task.now) states.now }
+    ensures number { IfOk result (λ number. number ≡ length into.old) }
+    ensures ok { OnOk result (into.new ≡ into.old ++ listing (atoms task.now) states.now ∷ []) }
+    ensures err { OnErr result (into.new ≡ into.old) }
+{
+    let set = Explicit::new(alloc, task, states)?;
+    let number = into.add(set)?;
+    Ok(number)
 }
 
 fn is_listed(expr: &Expr) -> bool {
