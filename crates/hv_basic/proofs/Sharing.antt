@@ -1,16 +1,18 @@
 -- What is kept of a right side stays right, and grows with the union.
 use Rattle.std.proofs.Common.{◌≡◌, ℕ, zero, suc, ◌<◌, ◌≤◌, ◌+◌, ◌-◌, ◌*◌, ◌∙◌, ◌⊎◌, ◌↔◌, ◌++◌, Bool}
 use Rattle.std.proofs.Common.{true, false, List, [], ◌∷◌, Option, Some, None, length, map, get_or}
-use Rattle.std.proofs.Common.{drop, eqb, ltb, mul_assoc, mul_comm}
+use Rattle.std.proofs.Common.{drop, eqb, ltb, mul_assoc, mul_comm, take}
 use Rattle.std.proofs.Common.{refl, sym, ap, ap₂, subst, inl, inr, arith}
 use Rattle.std.proofs.lemmas.Bool.{cases_lt, cond-false, ltb-false, ltb-true, ne_eqb}
 use Rattle.std.proofs.lemmas.List.{get_or_default, get_or-map, length-map, map-append}
+use Rattle.std.proofs.lemmas.List.Elements.{All-append, All-drop, All-get_or, All-push, All-take}
+use Rattle.std.proofs.lemmas.List.Elements.{All-weaker}
 use Rattle.std.proofs.lemmas.List.Edits.{get_or-insert_above, get_or-insert_at, get_or-insert_below}
 use Rattle.std.proofs.lemmas.List.Edits.{insert_end, length-insert}
 use Rattle.std.proofs.lemmas.List.Sorted.{Contains-permutation, IsPermutation-insert}
 use Rattle.std.proofs.lemmas.List.Sorted.{IsPermutation-sym}
 use Rattle.std.proofs.lemmas.Option.{get_or_from_slice_get, slice_get-get_or, slice_get_within}
-use Rattle.std.specs.List.{Contains, insert, slice_get}
+use Rattle.std.specs.List.{All, Contains, insert, remove, slice_get}
 use Rattle.std.specs.List.Sorted.{IsNonDecreasingBy, IsPartitionPoint}
 use Rattle.std.specs.Option.{IfSome, MatchOption}
 use Rattle.hv_sets.specs.declared.query.Query.{Query}
@@ -29,7 +31,7 @@ use Rattle.hv_lines.proofs.Laws.{expr_at_more, expr_below, exprs_grow, refers_be
 use Rattle.hv_lines.proofs.Truth.{or_is}
 use Rattle.hv_lines.proofs.Elements.{cons_cases, head_in, tail_in}
 use Rattle.hv_basic.specs.Sharing.{ArePlain, AreWays, HasToChoose, IsKeptFor, IsNoFormula}
-use Rattle.hv_basic.specs.Sharing.{IsPlainSide, IsShared, IsTheFamily}
+use Rattle.hv_basic.specs.Sharing.{IsPlainSide, IsRightSide, IsShared, IsTheFamily}
 use Rattle.hv_basic.specs.Working.Gathered.{IsThe}
 use Rattle.hv_basic.specs.Working.Leaves.{IsLeafRead, places}
 use Rattle.hv_basic.specs.Working.Sharing.{AreAddedTo, AreWaysWith, IsAddedTo, IsFamilyWith}
@@ -272,14 +274,42 @@ kept_more line older kept root next is = record {
 }
 
 -- what is kept stays right when a line is added
-pub shared_more : (line : Line) (older : List Line) (kept : Kept) → MayFollow older line
-    → IsShared older kept → IsShared (line ∷ older) kept
-shared_more line older kept next is = more kept.root is
+side_stays : (line : Line) (older : List Line) (kept : Kept) → MayFollow older line
+    → IsRightSide older kept → IsRightSide (line ∷ older) kept
+side_stays line older kept next is = more kept.root is
   where
     more : (root : Option ℕ) → IfSome root (IsKeptFor older kept)
         → IfSome root (IsKeptFor (line ∷ older) kept)
     more None h = tt
     more (Some root) h = kept_more line older kept root next h
+
+pub shared_more : (line : Line) (older : List Line) (sides : List Kept) → MayFollow older line
+    → IsShared older sides → IsShared (line ∷ older) sides
+shared_more line older sides next is =
+    All-weaker (IsRightSide older) (IsRightSide (line ∷ older))
+    (λ kept right. side_stays line older kept next right) sides is
+
+-- without one of the sides
+pub sides_without : (lines : List Line) (sides : List Kept) (place : ℕ)
+    → All (IsRightSide lines) sides → All (IsRightSide lines) (remove sides place)
+sides_without lines sides place is =
+    All-append (IsRightSide lines) (take place sides) (drop (suc place) sides)
+    (All-take (IsRightSide lines) place sides is) (All-drop (IsRightSide lines) (suc place) sides is)
+
+-- with one of the sides put behind the others
+pub sides_behind : (lines : List Line) (sides : List Kept) (place : ℕ) (side : Kept)
+    → place < length sides → side ≡ get_or sides place side → All (IsRightSide lines) sides
+    → All (IsRightSide lines) (remove sides place ++ side ∷ [])
+sides_behind lines sides place side within is are =
+    All-push (IsRightSide lines) (remove sides place) side (sides_without lines sides place are)
+    (subst (IsRightSide lines) (sym is) (All-get_or (IsRightSide lines) sides place side within are))
+
+-- with a side of which nothing is kept
+pub sides_begun : (lines : List Line) (sides : List Kept) (side : Kept) → side.root ≡ None
+    → All (IsRightSide lines) sides → All (IsRightSide lines) (sides ++ side ∷ [])
+sides_begun lines sides side none are =
+    All-push (IsRightSide lines) sides side are
+    (subst (λ root. IfSome root (IsKeptFor lines side)) (sym none) tt)
 
 -- one more leaf
 
@@ -502,7 +532,7 @@ kept_for lines root part after leaves old new made are added leaf = (
 )
 
 -- a union of what is kept and a part is made of both
-pub made_of : (lines : List Line) (kept : Kept) (root part : ℕ) → IsShared lines kept
+pub made_of : (lines : List Line) (kept : Kept) (root part : ℕ) → IsRightSide lines kept
     → IsPartBeside lines kept.root root part
     → IsMadeOf lines kept root part
 made_of lines kept root part shared (below, (first, same, or)) leaf =
@@ -630,7 +660,8 @@ plain_read lines leaf literal found plain read =
 -- what is kept stays right where its query has other operands
 pub shared_asked : (lines : List Line) (kept : Kept) (query : Query) (named : Bool)
     → (named ≡ true → query.negative ≡ map (λ a. operand_of lines a) kept.question.negative.items)
-    → IsShared lines kept → IsShared lines (record kept { query = query; named = named })
+    → IsRightSide lines kept
+    → IsRightSide lines (record kept { query = query; named = named })
 shared_asked lines kept query named same shared = asked kept.root shared
   where
     asked : (root : Option ℕ) → IfSome root (IsKeptFor lines kept)

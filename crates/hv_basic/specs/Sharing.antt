@@ -1,7 +1,7 @@
 -- What is kept of the right side of a statement for those after it.
 use Rattle.std.specs.Prelude.{◌≡◌, ◌<◌, ◌↔◌, ◌*◌, ℕ, Bool, true, List, [], ◌∷◌, Option, None, Some}
 use Rattle.std.specs.Prelude.{IfSome, length, map}
-use Rattle.std.specs.List.{Contains}
+use Rattle.std.specs.List.{All, Contains}
 use Rattle.hv_lines.specs.Literals.{IsPlainSet}
 use Rattle.hv_lines.specs.Numbering.{IsTable, expr_at, expr_count}
 use Rattle.hv_lines.specs.Queries.{operand_of}
@@ -79,5 +79,9 @@ pub record IsKeptFor (lines : List Line) (kept : Kept) (root : ℕ) : Type 0 whe
       → Contains kept.question.negative.items (leaf, kept.after) ↔ IsOrLeaf lines root leaf
 
 -- what is kept is right for these lines, if something is kept
-abbrev pub IsShared : List Line → Kept → Type 0
-IsShared lines kept = IfSome kept.root (IsKeptFor lines kept)
+abbrev pub IsRightSide : List Line → Kept → Type 0
+IsRightSide lines kept = IfSome kept.root (IsKeptFor lines kept)
+
+-- what is kept of each side is right for these lines
+abbrev pub IsShared : List Line → List Kept → Type 0
+IsShared lines sides = All (IsRightSide lines) sides

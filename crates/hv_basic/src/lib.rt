@@ -9,8 +9,9 @@
 //! - `lefts::left_of` reads the left side, once for both ways of asking: `leaves` takes it apart and
 //!   reads of each leaf's line which literal that is and of what family, `signed_sets` gathers what
 //!   the literals ask about, and the set of the progression is read like it.
-//! - `rights` keeps the right side, if that is a union of formulas and constants: where it is the
-//!   one before and a further set, only the leaves of that set are looked up.
+//! - `recent` brings what is kept of the right side, if that is a union, or of a part of it, and
+//!   `rights` keeps it, if its leaves are formulas and constants: where it is what is kept and a
+//!   further set, only the leaves of that set are looked up.
 //! - Where what is kept serves, and all that the left side asks about is positive, the question
 //!   is there already: `families` says whose family it is, and `rising` puts the left part in order.
 //! - Else `shapes::question_beside` makes the question: `sides` reads the leaves of the right side
@@ -30,17 +31,19 @@
 //! those with `b5`, of action sets, in `verdicts`, by the flags of `acts`. `kinds` says whether clauses
 //! are of their family, and `laws` what a verdict says of its statement.
 //!
-//! What a right side asks is kept for the next statement, one right side at a time: where the next
-//! one is the union of it and a further set, only that set is looked at, and its leaves are put
-//! where they belong by their identifiers. So n unions, each of which has the one before as a part
-//! and is asked about in a line of its own, cost their number of lines, in whatever order their
-//! parts were written. Every other union on the right is looked at anew and kept in place of the
-//! one before, and a left side is looked at anew for each statement, and once. Where a negation is
-//! among the leaves on the right, or gives the left side something that is asked about with the
-//! sign of the right one, the statement is decided as if nothing were kept. What is kept is the
-//! negative half of a question and of its query; the invariant says that it is right for the lines
-//! so far, and a further line changes nothing of it. The operands of a right side whose sets didn't
-//! come in order are made once a query is asked.
+//! What a right side asks is kept for the statements after it, of the four unions that were asked
+//! about last. One of these is there already, and where a right side is the union of one of them
+//! and a further set, only that set is looked at, and its leaves are put where they belong by their
+//! identifiers. So n unions, each of which has the one before as a part and is asked about in a
+//! line of its own, cost their number of lines, in whatever order their parts were written; and so
+//! do four such rows of unions that are asked about by turns. Every other union on the right is
+//! looked at anew and kept in place of the one that wasn't asked about for longest, and a left side
+//! is looked at anew for each statement, and once. Where a negation is among the leaves on the
+//! right, or gives the left side something that is asked about with the sign of the right one, the
+//! statement is decided as if nothing were kept. What is kept is the negative half of a question
+//! and of its query; the invariant says that it is right for the lines so far, and a further line
+//! changes nothing of it. The operands of a right side whose sets didn't come in order are made
+//! once a query is asked.
 //!
 //! Where the left side asks for a set that the right one has, no query is asked, since no state is
 //! in a set and outside of it. For that the cost has to be known to be within the budget: over
@@ -93,6 +96,7 @@ mod mixed;
 mod node_walk;
 mod picked;
 mod query_walk;
+mod recent;
 mod rights;
 mod rising;
 pub mod shapes;

@@ -1,4 +1,4 @@
-//! Keeping what a right side asks: where it is the union of the one before and a further set, only
+//! Keeping what a right side asks: where it is the union of what is kept and a further set, only
 //! that set is looked at.
 
 ghost use Rattle.std.specs.Prelude.{◌≡◌, ◌<◌, ◌≤◌, ◌++◌, ◌∷◌, Bool, true, [], None, Some, IfOk};
@@ -9,7 +9,7 @@ ghost use Rattle.hv_lines.specs.Queries.{operand_of};
 ghost use Rattle.hv_lines.specs.Shapes.{AskingsRise};
 ghost use Rattle.hv_lines.specs.declared.line.Expr.{Expr};
 ghost use Rattle.hv_basic.specs.Cases.{lines_in};
-ghost use Rattle.hv_basic.specs.Sharing.{IsPlainSide, IsShared, clauses_to_choose};
+ghost use Rattle.hv_basic.specs.Sharing.{IsPlainSide, IsRightSide, clauses_to_choose};
 ghost use Rattle.hv_basic.specs.Working.Leaves.{IsLeafRead, places};
 ghost use Rattle.hv_basic.specs.Working.Sharing.{AreAddedTo, AreWaysWith, IsAddedTo};
 ghost use Rattle.hv_basic.specs.Working.Sharing.{IsSplitAt, IsMadeOf, IsPartBeside};
@@ -34,8 +34,8 @@ pub(crate) fn keep_right(
     after: bool,
 ) -> Result<bool, AllocError>
     requires root { root < expr_count (lines_in case.now) }
-    requires kept { IsShared (lines_in case.now) kept.old }
-    ensures kept { IsShared (lines_in case.now) kept.new }
+    requires kept { IsRightSide (lines_in case.now) kept.old }
+    ensures kept { IsRightSide (lines_in case.now) kept.new }
     ensures root { IfOk result (λ yes. yes ≡ true → kept.new.root ≡ Some root) }
     ensures after { IfOk result (λ yes. yes ≡ true → kept.new.after ≡ after) }
 {
@@ -48,7 +48,8 @@ pub(crate) fn keep_right(
     renew(alloc, case, kept, root, after)
 }
 
-fn is_kept(kept: &Kept, root: usize, after: bool) -> bool
+/// Whether this right side is kept.
+pub(crate) fn is_kept(kept: &Kept, root: usize, after: bool) -> bool
     ensures root { result ≡ true → kept.now.root ≡ Some root }
     ensures after { result ≡ true → kept.now.after ≡ after }
 {
@@ -64,8 +65,8 @@ fn extend(
     after: bool,
 ) -> Result<bool, AllocError>
     requires root { root < expr_count (lines_in case.now) }
-    requires kept { IsShared (lines_in case.now) kept.old }
-    ensures kept { IsShared (lines_in case.now) kept.new }
+    requires kept { IsRightSide (lines_in case.now) kept.old }
+    ensures kept { IsRightSide (lines_in case.now) kept.new }
     ensures root { IfOk result (λ yes. yes ≡ true → kept.new.root ≡ Some root) }
     ensures after { IfOk result (λ yes. yes ≡ true → kept.new.after ≡ after) }
 {
@@ -87,8 +88,8 @@ fn renew(
     after: bool,
 ) -> Result<bool, AllocError>
     requires root { root < expr_count (lines_in case.now) }
-    requires kept { IsShared (lines_in case.now) kept.old }
-    ensures kept { IsShared (lines_in case.now) kept.new }
+    requires kept { IsRightSide (lines_in case.now) kept.old }
+    ensures kept { IsRightSide (lines_in case.now) kept.new }
     ensures root { IfOk result (λ yes. yes ≡ true → kept.new.root ≡ Some root) }
     ensures after { IfOk result (λ yes. yes ≡ true → kept.new.after ≡ after) }
 {
@@ -100,7 +101,8 @@ fn renew(
     grow(alloc, case, kept, root, root)
 }
 
-fn is_union(expr: &Expr) -> bool {
+/// Whether the set is a union.
+pub(crate) fn is_union(expr: &Expr) -> bool {
     match expr {
         Expr::Or(_, _) => true,
         _ => false,
@@ -125,7 +127,7 @@ fn clear(alloc: Global, kept: &mut Kept, after: bool)
 }
 
 /// The other part of the union, where one part is what is kept.
-fn part_beside(table: &Table, kept: Option<usize>, root: usize) -> Option<usize>
+pub(crate) fn part_beside(table: &Table, kept: Option<usize>, root: usize) -> Option<usize>
     requires { root < expr_count table.now.lines }
     ensures { IfSome result (IsPartBeside table.now.lines kept root) }
 {
@@ -155,7 +157,7 @@ fn grow(
     requires part { part < expr_count (lines_in case.now) }
     requires side { IsPlainSide (lines_in case.now) kept.old }
     requires made { IsMadeOf (lines_in case.now) kept.old root part }
-    ensures kept { IsShared (lines_in case.now) kept.new }
+    ensures kept { IsRightSide (lines_in case.now) kept.new }
     ensures root { IfOk result (λ yes. yes ≡ true → kept.new.root ≡ Some root) }
     ensures after { kept.new.after ≡ kept.old.after }
 {

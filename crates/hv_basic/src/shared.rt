@@ -1,4 +1,6 @@
-//! What the right side of a statement asks, kept for the statements after it.
+//! What right sides of statements ask, kept for the statements after them.
+
+ghost use Rattle.std.specs.Prelude.{◌≡◌, None};
 
 use crate::basic::Question;
 use hv_lines::FormulaFamily;
@@ -6,11 +8,12 @@ use hv_sets::{Operands, Query, Scratch};
 use std::alloc::{AllocError, Global};
 use std::marker::Model;
 
-/// What is handed from statement to statement: what the right side of an earlier one asks, where
-/// that was a union of formulas and constants, and space for the work of queries.
+/// What is handed from statement to statement: what right sides of earlier ones ask, where these
+/// were unions of formulas and constants, and space for the work of queries.
 #[derive(Drop)]
 pub struct Shared {
-    pub(crate) kept: Kept,
+    /// The one that was asked about last is the last.
+    pub(crate) sides: Vec<Kept>,
     pub(crate) scratch: Scratch,
 }
 
@@ -32,11 +35,12 @@ pub(crate) struct Kept {
 }
 
 impl Model for Shared {
+    ghost use Rattle.std.specs.Prelude.{List};
     ghost use Rattle.hv_basic.specs.declared.shared.Kept.{Kept};
 
-    ghost Value = { Kept };
+    ghost Value = { List Kept };
 
-    ghost view = { λ s. s.kept };
+    ghost view = { λ s. s.sides.items };
 }
 
 impl Shared {
@@ -50,24 +54,7 @@ impl Shared {
         ensures { IfOk result (λ shared. (lines : List Line) → IsShared lines shared) }
     {
         Ok(Shared {
-            kept: Kept {
-                root: None,
-                after: false,
-                family: None,
-                ways: None,
-                question: Question {
-                    family: FormulaFamily::Horn,
-                    positive: Vec::new(alloc),
-                    negative: Vec::new(alloc),
-                    acts: None,
-                },
-                query: Query {
-                    positive: Operands::new(alloc),
-                    negative: Operands::new(alloc),
-                    action: None,
-                },
-                named: false,
-            },
+            sides: Vec::new(alloc),
             scratch: Scratch::new(alloc)?,
         })
     }
@@ -78,4 +65,28 @@ impl Shared {
         ensures { (lines : List Line) (line : Line) → MayFollow lines line
             → IsShared lines self.now → IsShared (line ∷ lines) self.now }
     {}
+}
+
+/// A side of which nothing is kept.
+pub(crate) fn no_side(alloc: Global) -> Kept
+    ensures { result.root ≡ None }
+{
+    Kept {
+        root: None,
+        after: false,
+        family: None,
+        ways: None,
+        question: Question {
+            family: FormulaFamily::Horn,
+            positive: Vec::new(alloc),
+            negative: Vec::new(alloc),
+            acts: None,
+        },
+        query: Query {
+            positive: Operands::new(alloc),
+            negative: Operands::new(alloc),
+            action: None,
+        },
+        named: false,
+    }
 }

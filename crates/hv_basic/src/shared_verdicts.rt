@@ -10,7 +10,7 @@ ghost use Rattle.std.specs.List.{All, Contains};
 ghost use Rattle.hv_basic.specs.Deciding.{IsQuestionOver};
 ghost use Rattle.hv_basic.specs.Faults.{IsShapeFault};
 ghost use Rattle.hv_basic.specs.Cases.{lines_in, setting_in};
-ghost use Rattle.hv_basic.specs.Sharing.{AreWays, IsKeptFor, IsShared};
+ghost use Rattle.hv_basic.specs.Sharing.{AreWays, IsKeptFor, IsRightSide, IsShared};
 ghost use Rattle.hv_basic.specs.Working.Asked.{AreOperands};
 ghost use Rattle.hv_basic.specs.Working.Gathered.{IsLeftRead};
 ghost use Rattle.hv_basic.specs.Working.Sharing.{AreNamed, IsAskedBy, IsInClauses, IsVerdictOfSub};
@@ -23,7 +23,8 @@ use crate::candidates::is_listed;
 use crate::case::Case;
 use crate::families::one_family;
 use crate::lefts::{asks_sides_after, left_of};
-use crate::rights::{keep_right, lesser_before};
+use crate::recent::bring;
+use crate::rights::{is_union, keep_right, lesser_before};
 use crate::rising::in_order;
 use crate::shapes::{MOST_OPERANDS, ShapeFault, question_beside, shape};
 use crate::shared::{Kept, Shared};
@@ -116,8 +117,7 @@ fn verdict_of_sides(
     }
 }
 
-/// The same, of which the left side was read: by what is kept, if what its sides ask can be told
-/// so, and else by the leaves of its right side.
+/// The same, of which the left side was read: of a union by what is kept.
 fn verdict_beside(
     alloc: Global,
     case: &Case<'_>,
@@ -134,13 +134,92 @@ fn verdict_beside(
         → IsQuestion (lines_in case.now) claim.word claim.left claim.right question → ⊥)) }
     ensures shared { IsShared (lines_in case.now) shared.new }
 {
-    if ask_by_kept(alloc, case, &mut shared.kept, claim, &sides)? {
-        let verdict = decide_kept(alloc, case, &mut shared.kept, &mut shared.scratch)?;
+    if !is_union(case.table.expr(claim.right)) {
+        return verdict_by_leaves(alloc, case, &mut shared.scratch, claim, sides);
+    }
+    verdict_of_union(
+        alloc,
+        case,
+        &mut shared.sides,
+        &mut shared.scratch,
+        claim,
+        sides,
+    )
+}
+
+/// The same by the leaves of the right side.
+fn verdict_by_leaves(
+    alloc: Global,
+    case: &Case<'_>,
+    scratch: &mut Scratch,
+    claim: Inclusion,
+    sides: Sides,
+) -> Result<Verdict, ShapeFault>
+    requires right { claim.right < expr_count (lines_in case.now) }
+    requires left { IsLeftRead (lines_in case.now) claim.word claim.left sides }
+    ensures answer { IfOk result (IsVerdictOfSub (setting_in case.now) (lines_in case.now)
+        claim.word claim.left claim.right) }
+    ensures err { IfErr result (IsShapeFault ((question : AskedQuestion)
+        → IsQuestion (lines_in case.now) claim.word claim.left claim.right question → ⊥)) }
+{
+    let question = question_beside(alloc, case.table, claim, sides)?;
+    let verdict = decide_whole(alloc, case, &question, scratch)?;
+    Ok(verdict)
+}
+
+/// The same where the right side is a union: what is kept of it, or of a part, is brought.
+fn verdict_of_union(
+    alloc: Global,
+    case: &Case<'_>,
+    kept: &mut Vec<Kept>,
+    scratch: &mut Scratch,
+    claim: Inclusion,
+    sides: Sides,
+) -> Result<Verdict, ShapeFault>
+    requires right { claim.right < expr_count (lines_in case.now) }
+    requires left { IsLeftRead (lines_in case.now) claim.word claim.left sides }
+    requires kept { IsShared (lines_in case.now) kept.old.items }
+    ensures answer { IfOk result (IsVerdictOfSub (setting_in case.now) (lines_in case.now)
+        claim.word claim.left claim.right) }
+    ensures err { IfErr result (IsShapeFault ((question : AskedQuestion)
+        → IsQuestion (lines_in case.now) claim.word claim.left claim.right question → ⊥)) }
+    ensures kept { IsShared (lines_in case.now) kept.new.items }
+{
+    bring(
+        alloc,
+        kept,
+        case.table,
+        claim.right,
+        asks_sides_after(claim.word),
+    )?;
+    let last = kept.len() - 1;
+    verdict_by_kept(alloc, case, &mut kept[last], scratch, claim, sides)
+}
+
+/// The same by what is kept, if what its sides ask can be told so, and else by the leaves of its
+/// right side.
+fn verdict_by_kept(
+    alloc: Global,
+    case: &Case<'_>,
+    kept: &mut Kept,
+    scratch: &mut Scratch,
+    claim: Inclusion,
+    sides: Sides,
+) -> Result<Verdict, ShapeFault>
+    requires right { claim.right < expr_count (lines_in case.now) }
+    requires left { IsLeftRead (lines_in case.now) claim.word claim.left sides }
+    requires kept { IsRightSide (lines_in case.now) kept.old }
+    ensures answer { IfOk result (IsVerdictOfSub (setting_in case.now) (lines_in case.now)
+        claim.word claim.left claim.right) }
+    ensures err { IfErr result (IsShapeFault ((question : AskedQuestion)
+        → IsQuestion (lines_in case.now) claim.word claim.left claim.right question → ⊥)) }
+    ensures kept { IsRightSide (lines_in case.now) kept.new }
+{
+    if ask_by_kept(alloc, case, kept, claim, &sides)? {
+        let verdict = decide_kept(alloc, case, kept, scratch)?;
         return Ok(verdict);
     }
-    let question = question_beside(alloc, case.table, claim, sides)?;
-    let verdict = decide_whole(alloc, case, &question, &mut shared.scratch)?;
-    Ok(verdict)
+    verdict_by_leaves(alloc, case, scratch, claim, sides)
 }
 
 /// Puts what the inclusion asks beside what is kept, if its right side can be kept and all that its
@@ -154,8 +233,8 @@ fn ask_by_kept(
 ) -> Result<bool, AllocError>
     requires right { claim.right < expr_count (lines_in case.now) }
     requires left { IsLeftRead (lines_in case.now) claim.word claim.left sides.now }
-    requires kept { IsShared (lines_in case.now) kept.old }
-    ensures kept { IsShared (lines_in case.now) kept.new }
+    requires kept { IsRightSide (lines_in case.now) kept.old }
+    ensures kept { IsRightSide (lines_in case.now) kept.new }
     ensures asked { IfOk result (λ yes. yes ≡ true
         → IsAskedBy (lines_in case.now) claim.word claim.left claim.right kept.new) }
 {
@@ -225,8 +304,8 @@ fn decide_kept(
         kept.old.question.negative.items) }
     ensures answer { IfOk result (IsVerdictOfSets (setting_in case.now) (lines_in case.now)
         (question_of kept.old.question)) }
-    ensures kept { IsShared (lines_in case.now) kept.old
-        → IsShared (lines_in case.now) kept.new }
+    ensures kept { IsRightSide (lines_in case.now) kept.old
+        → IsRightSide (lines_in case.now) kept.new }
 {
     let _count = case.table.expr_count();
     if is_within_its(kept, case.budget) {
@@ -248,8 +327,8 @@ fn name_all(alloc: Global, case: &Case<'_>, kept: &mut Kept) -> Result<(), Alloc
     ensures question { kept.new.question ≡ kept.old.question }
     ensures named { OnOk result (AreOperands (lines_in case.now)
         kept.old.question.negative.items kept.new.query.negative) }
-    ensures kept { IsShared (lines_in case.now) kept.old
-        → IsShared (lines_in case.now) kept.new }
+    ensures kept { IsRightSide (lines_in case.now) kept.old
+        → IsRightSide (lines_in case.now) kept.new }
 {
     if kept.named {
         return Ok(());
