@@ -8,6 +8,7 @@ pub mod Siding
 pub mod Walking
 pub mod Inquired
 pub mod Listed
+pub mod Flagging
 pub mod Rowed
 pub mod Storing
 pub mod Querying

@@ -64,12 +64,12 @@ module _ (lines : List Line) (acts : ℕ) where
   module _ (listed : List ℕ) (rises : IsStrictlyIncreasing listed)
       (meaning : acts_of lines acts ≡ (λ number. list_any (λ n. eqb n number) listed))
       (actions : ℕ) where
-    listed_at : (n : ℕ) → acts_of lines acts n ≡ true → Contains listed n
+    pub listed_at : (n : ℕ) → acts_of lines acts n ≡ true → Contains listed n
     listed_at n has =
         Contains-from_any {eq = λ x y. eqb y x} (λ x y is. sym (eqb-true y x is)) n listed
         (sym (ap (λ f. f n) meaning) ∙ has)
 
-    had : (i : ℕ) → i < length listed → acts_of lines acts (get_or listed i 0) ≡ true
+    pub had : (i : ℕ) → i < length listed → acts_of lines acts (get_or listed i 0) ≡ true
     had i within =
         ap (λ f. f (get_or listed i 0)) meaning
         ∙ list_any_at (λ n. eqb n (get_or listed i 0)) listed i 0 within

@@ -31,7 +31,8 @@ use Rattle.hv_lines.proofs.Laws.{expr_at_more, expr_below, exprs_grow, refers_be
 use Rattle.hv_lines.proofs.Truth.{or_is}
 use Rattle.hv_lines.proofs.Elements.{cons_cases, head_in, tail_in}
 use Rattle.hv_basic.specs.Sharing.{ArePlain, AreWays, HasToChoose, IsKeptFor, IsNoFormula}
-use Rattle.hv_basic.specs.Sharing.{IsPlainSide, IsRightSide, IsShared, IsTheFamily}
+use Rattle.hv_basic.specs.Sharing.{AreItsFlags, IsPlainSide, IsRightSide, IsShared, IsTheFamily}
+use Rattle.hv_basic.specs.Sharing.{SharedState}
 use Rattle.hv_basic.specs.Working.Gathered.{IsThe}
 use Rattle.hv_basic.specs.Working.Leaves.{IsLeafRead, places}
 use Rattle.hv_basic.specs.Working.Sharing.{AreAddedTo, AreWaysWith, IsAddedTo, IsFamilyWith}
@@ -39,6 +40,7 @@ use Rattle.hv_basic.specs.Working.Sharing.{IsMadeOf, IsPartBeside, IsPlaceFor, I
 use Rattle.hv_basic.specs.declared.signed_sets.Leaf.{Leaf}
 use Rattle.hv_basic.specs.declared.signed_sets.SignedSet.{SignedSet}
 use Rattle.hv_basic.specs.declared.shared.Kept.{Kept}
+use Rattle.hv_basic.proofs.Flagging.{flagged_more}
 use Rattle.hv_basic.proofs.Leafing.{leaf_parts}
 
 -- lists
@@ -283,11 +285,14 @@ side_stays line older kept next is = more kept.root is
     more None h = tt
     more (Some root) h = kept_more line older kept root next h
 
-pub shared_more : (line : Line) (older : List Line) (sides : List Kept) → MayFollow older line
-    → IsShared older sides → IsShared (line ∷ older) sides
-shared_more line older sides next is =
-    All-weaker (IsRightSide older) (IsRightSide (line ∷ older))
-    (λ kept right. side_stays line older kept next right) sides is
+pub shared_more : (line : Line) (older : List Line) (shared : SharedState) → MayFollow older line
+    → IsShared older shared → IsShared (line ∷ older) shared
+shared_more line older shared next is = record {
+  sides = All-weaker (IsRightSide older) (IsRightSide (line ∷ older))
+      (λ kept right. side_stays line older kept next right) shared.sides is.sides;
+  flagged = All-weaker (AreItsFlags older) (AreItsFlags (line ∷ older))
+      (λ kept right. flagged_more line older kept next right) shared.flagged is.flagged;
+}
 
 -- without one of the sides
 pub sides_without : (lines : List Line) (sides : List Kept) (place : ℕ)

@@ -1,9 +1,10 @@
--- What is kept of the right side of a statement for those after it.
-use Rattle.std.specs.Prelude.{◌≡◌, ◌<◌, ◌↔◌, ◌*◌, ℕ, Bool, true, List, [], ◌∷◌, Option, None, Some}
-use Rattle.std.specs.Prelude.{IfSome, length, map}
+-- What is kept of right sides and action sets for the statements after them.
+use Rattle.std.specs.Prelude.{◌≡◌, ◌<◌, ◌↔◌, ◌*◌, ℕ, Bool, true, false, List, [], ◌∷◌, Option, None}
+use Rattle.std.specs.Prelude.{Some, IfSome, length, map, slice_index_or}
 use Rattle.std.specs.List.{All, Contains}
 use Rattle.hv_lines.specs.Literals.{IsPlainSet}
-use Rattle.hv_lines.specs.Numbering.{IsTable, expr_at, expr_count}
+use Rattle.hv_lines.specs.Meaning.{acts_of}
+use Rattle.hv_lines.specs.Numbering.{IsTable, acts_count, expr_at, expr_count}
 use Rattle.hv_lines.specs.Queries.{operand_of}
 use Rattle.hv_lines.specs.Shapes.{Askings, AskingsRise, IsOfFamily, IsOrLeaf, IsWithinFamily}
 use Rattle.hv_lines.specs.Shapes.{family_of}
@@ -12,6 +13,7 @@ use Rattle.hv_lines.specs.declared.line.Constant.TheVariants as C
 use Rattle.hv_lines.specs.declared.line.Expr.{Expr}
 use Rattle.hv_lines.specs.declared.line.Expr.TheVariants as E
 use Rattle.hv_lines.specs.declared.line.Line.{Line}
+use Rattle.hv_basic.specs.declared.shared.FlaggedActs.{FlaggedActs}
 use Rattle.hv_basic.specs.declared.shared.Kept.{Kept}
 
 -- the set is no formula
@@ -82,6 +84,18 @@ pub record IsKeptFor (lines : List Line) (kept : Kept) (root : ℕ) : Type 0 whe
 abbrev pub IsRightSide : List Line → Kept → Type 0
 IsRightSide lines kept = IfSome kept.root (IsKeptFor lines kept)
 
--- what is kept of each side is right for these lines
-abbrev pub IsShared : List Line → List Kept → Type 0
-IsShared lines sides = All (IsRightSide lines) sides
+-- the flags that are kept say which actions are in their action set
+pub record AreItsFlags (lines : List Line) (kept : FlaggedActs) : Type 0 where
+  pub below : kept.acts < acts_count lines
+  pub true_for : (number : ℕ) → number < length kept.flags.items
+      → slice_index_or kept.flags.items number false ≡ acts_of lines kept.acts number
+
+-- what is kept of right sides and of action sets
+pub record SharedState : Type 0 where
+  pub sides : List Kept
+  pub flagged : List FlaggedActs
+
+-- what is kept is right for these lines
+pub record IsShared (lines : List Line) (shared : SharedState) : Type 0 where
+  pub sides : All (IsRightSide lines) shared.sides
+  pub flagged : All (AreItsFlags lines) shared.flagged

@@ -106,7 +106,8 @@ fn push_below(asked: &mut Vec<Option<u32>>, action: u32, actions: u32) -> Result
     Ok(())
 }
 
-fn is_rising(listed: &[u32]) -> bool
+/// Whether each number is less than the next one.
+pub(crate) fn is_rising(listed: &[u32]) -> bool
     ensures { IsTrue result → IsStrictlyIncreasing listed.now }
 {
     for k in 1..listed.len() {

@@ -48,7 +48,8 @@ fn mark(acts: &Acts, flags: &mut Vec<bool>, wanted: &mut Vec<bool>)
     }
 }
 
-fn set_listed(flags: &mut Vec<bool>, listed: &[u32])
+/// Sets the flags of the actions that are listed.
+pub(crate) fn set_listed(flags: &mut Vec<bool>, listed: &[u32])
     ensures length { length flags.new.items ≡ length flags.old.items }
     ensures set { (number : ℕ) → number < length flags.old.items
         → flag_or_false flags.new.items number ≡ flag_or_false flags.old.items number

@@ -28,8 +28,9 @@
 //!
 //! Statements with `b1` and `b3` go the same way, without a step or with a regression. Those with
 //! `b4`, of two families, are decided in `mixed`, over the formulas that `any_formula` finds, and
-//! those with `b5`, of action sets, in `verdicts`, by the flags of `acts`. `kinds` says whether clauses
-//! are of their family, and `laws` what a verdict says of its statement.
+//! those with `b5`, of action sets, in `acts_verdicts`, by the flags of `acts`, which `kept_flags`
+//! keeps. `kinds` says whether clauses are of their family, and `laws` what a verdict says of its
+//! statement.
 //!
 //! What a right side asks is kept for the statements after it, of the four unions that were asked
 //! about last. One of these is there already, and where a right side is the union of one of them
@@ -53,7 +54,10 @@
 //!
 //! An action set is looked at from its newest part to its oldest, each part once, so a union that
 //! shares its parts costs its number of lines and not of paths. A list of actions that rises is
-//! asked about as it is, so a statement over a few actions doesn't cost their whole number.
+//! asked about as it is, so a statement over a few actions doesn't cost their whole number. The
+//! flags of the four action sets that were compared last are kept: where one of the next is the
+//! union of one of these and a list, only the list is looked at, and a union is within each that it
+//! is a part of without a look at its actions.
 //!
 //! Where few states are asked about before the action, a statement over all actions is asked about
 //! those actions alone that can be applicable in one of the states, and about the first one, which
@@ -81,6 +85,7 @@
 mod action_rows;
 mod actions;
 mod acts;
+mod acts_verdicts;
 mod any_formula;
 pub mod basic;
 mod candidates;
@@ -88,6 +93,7 @@ pub mod case;
 mod change_rows;
 mod families;
 mod framed;
+mod kept_flags;
 pub mod kinds;
 pub mod laws;
 mod leaves;

@@ -1,9 +1,10 @@
 //! Which of the right sides that are kept serves for a union.
 
 ghost use Rattle.std.specs.Prelude.{◌<◌, List, IfSome, OnOk, length};
+ghost use Rattle.std.specs.List.{All};
 ghost use Rattle.hv_lines.specs.Numbering.{expr_count};
 ghost use Rattle.hv_lines.specs.declared.line.Line.{Line};
-ghost use Rattle.hv_basic.specs.Sharing.{IsShared};
+ghost use Rattle.hv_basic.specs.Sharing.{IsRightSide};
 
 use crate::rights::{is_kept, part_beside};
 use crate::shared::{Kept, no_side};
@@ -24,8 +25,8 @@ pub(crate) fn bring(
 ) -> Result<(), AllocError>
     requires { root < expr_count table.now.lines }
     ensures some { OnOk result (0 < length sides.new.items) }
-    ensures kept { (lines : List Line) → IsShared lines sides.old.items
-        → IsShared lines sides.new.items }
+    ensures kept { (lines : List Line) → All (IsRightSide lines) sides.old.items
+        → All (IsRightSide lines) sides.new.items }
 {
     match serving(sides, table, root, after) {
         Some(place) => put_last(sides, place),
@@ -62,8 +63,8 @@ fn is_beside(kept: &Kept, table: &Table, root: usize, after: bool) -> bool
 fn put_last(sides: &mut Vec<Kept>, place: usize) -> Result<(), AllocError>
     requires { place < length sides.old.items }
     ensures some { OnOk result (0 < length sides.new.items) }
-    ensures kept { (lines : List Line) → IsShared lines sides.old.items
-        → IsShared lines sides.new.items }
+    ensures kept { (lines : List Line) → All (IsRightSide lines) sides.old.items
+        → All (IsRightSide lines) sides.new.items }
 {
     if place + 1 == sides.len() {
         return Ok(());
@@ -76,8 +77,8 @@ fn put_last(sides: &mut Vec<Kept>, place: usize) -> Result<(), AllocError>
 /// Puts a side last of which nothing is kept.
 fn begin(alloc: Global, sides: &mut Vec<Kept>) -> Result<(), AllocError>
     ensures some { OnOk result (0 < length sides.new.items) }
-    ensures kept { (lines : List Line) → IsShared lines sides.old.items
-        → IsShared lines sides.new.items }
+    ensures kept { (lines : List Line) → All (IsRightSide lines) sides.old.items
+        → All (IsRightSide lines) sides.new.items }
 {
     give_up(sides);
     sides.push(no_side(alloc))?;
@@ -86,8 +87,8 @@ fn begin(alloc: Global, sides: &mut Vec<Kept>) -> Result<(), AllocError>
 
 /// Gives a side up, where one doesn't serve or there are many.
 fn give_up(sides: &mut Vec<Kept>)
-    ensures { (lines : List Line) → IsShared lines sides.old.items
-        → IsShared lines sides.new.items }
+    ensures { (lines : List Line) → All (IsRightSide lines) sides.old.items
+        → All (IsRightSide lines) sides.new.items }
 {
     let Some(place) = to_give_up(sides) else {
         return;

@@ -1,4 +1,5 @@
-//! What right sides of statements ask, kept for the statements after them.
+//! What right sides of statements ask, and the flags of action sets, kept for the statements after
+//! them.
 
 ghost use Rattle.std.specs.Prelude.{◌≡◌, None};
 
@@ -9,11 +10,12 @@ use std::alloc::{AllocError, Global};
 use std::marker::Model;
 
 /// What is handed from statement to statement: what right sides of earlier ones ask, where these
-/// were unions of formulas and constants, and space for the work of queries.
+/// were unions of formulas and constants, the flags of action sets, and space for the work of
+/// queries. What was asked about last is the last.
 #[derive(Drop)]
 pub struct Shared {
-    /// The one that was asked about last is the last.
     pub(crate) sides: Vec<Kept>,
+    pub(crate) flagged: Vec<FlaggedActs>,
     pub(crate) scratch: Scratch,
 }
 
@@ -34,13 +36,19 @@ pub(crate) struct Kept {
     pub named: bool,
 }
 
+/// An action set, and a flag for each action: true for those of the set.
+#[derive(Drop)]
+pub(crate) struct FlaggedActs {
+    pub acts: usize,
+    pub flags: Vec<bool>,
+}
+
 impl Model for Shared {
-    ghost use Rattle.std.specs.Prelude.{List};
-    ghost use Rattle.hv_basic.specs.declared.shared.Kept.{Kept};
+    ghost use Rattle.hv_basic.specs.Sharing.{SharedState};
 
-    ghost Value = { List Kept };
+    ghost Value = { SharedState };
 
-    ghost view = { λ s. s.sides.items };
+    ghost view = { λ s. record { sides = s.sides.items; flagged = s.flagged.items } };
 }
 
 impl Shared {
@@ -55,6 +63,7 @@ impl Shared {
     {
         Ok(Shared {
             sides: Vec::new(alloc),
+            flagged: Vec::new(alloc),
             scratch: Scratch::new(alloc)?,
         })
     }

@@ -91,7 +91,13 @@ fn verdict_by_shape(
     ensures shared { IsShared (lines_in case.now) shared.new }
 {
     let basic = shape(alloc, case.table, statement, word)?;
-    let verdict = decide_on(alloc, case, &basic, &mut shared.scratch)?;
+    let verdict = decide_on(
+        alloc,
+        case,
+        &basic,
+        &mut shared.flagged,
+        &mut shared.scratch,
+    )?;
     Ok(verdict)
 }
 
@@ -178,12 +184,12 @@ fn verdict_of_union(
 ) -> Result<Verdict, ShapeFault>
     requires right { claim.right < expr_count (lines_in case.now) }
     requires left { IsLeftRead (lines_in case.now) claim.word claim.left sides }
-    requires kept { IsShared (lines_in case.now) kept.old.items }
+    requires kept { All (IsRightSide (lines_in case.now)) kept.old.items }
     ensures answer { IfOk result (IsVerdictOfSub (setting_in case.now) (lines_in case.now)
         claim.word claim.left claim.right) }
     ensures err { IfErr result (IsShapeFault ((question : AskedQuestion)
         → IsQuestion (lines_in case.now) claim.word claim.left claim.right question → ⊥)) }
-    ensures kept { IsShared (lines_in case.now) kept.new.items }
+    ensures kept { All (IsRightSide (lines_in case.now)) kept.new.items }
 {
     bring(
         alloc,

@@ -7,31 +7,33 @@ ghost use Rattle.hv_sets.specs.Query.{CanAnchor, HasAnchor};
 ghost use Rattle.hv_sets.specs.Room.{KeepsLengths};
 ghost use Rattle.hv_sets.specs.declared.literal.Literal.{Literal};
 ghost use Rattle.hv_clauses.specs.Store.{AreOver};
-ghost use Rattle.hv_lines.specs.Numbering.{acts_count, expr_count};
+ghost use Rattle.hv_lines.specs.Numbering.{expr_count};
 ghost use Rattle.hv_bdd.specs.Nodes.{node_count};
 ghost use Rattle.hv_lines.specs.Queries.{NamesNodes, count_of};
 ghost use Rattle.hv_lines.specs.Setting.{most_budget, setting_of};
 ghost use Rattle.hv_lines.specs.declared.formula_family.FormulaFamily.TheVariants as F;
-ghost use Rattle.hv_lines.specs.Verdicts.{IsVerdictOf, IsVerdictOfActs, IsVerdictOfSets};
+ghost use Rattle.hv_lines.specs.Verdicts.{IsVerdictOf, IsVerdictOfSets};
 ghost use Rattle.hv_basic.specs.Working.Asked.{AreOperands, with_action};
 ghost use Rattle.hv_basic.specs.Stores.{IsStoreOf, formula};
 ghost use Rattle.hv_basic.specs.Deciding.{IsBasicOver, IsQuestionOver};
 ghost use Rattle.hv_basic.specs.Cases.{lines_in, setting_in};
+ghost use Rattle.hv_basic.specs.Sharing.{AreItsFlags};
 ghost use Rattle.hv_basic.specs.Working.Deciding.{AreAllReady, AreEnough, IsDecidedIn};
 ghost use Rattle.hv_basic.specs.Working.Deciding.{IsDecidedOver, IsQueryFor};
 ghost use Rattle.hv_basic.specs.Working.Views.{question_of};
 
-use crate::acts::flags_of;
+use crate::acts_verdicts::decide_acts;
 use crate::basic::{Basic, BasicKind, Question};
 use crate::candidates::actions_to_ask;
 use crate::case::Case;
 use crate::mixed::decide_two;
 use crate::node_walk::walk_nodes;
 use crate::query_walk::walk;
+use crate::shared::FlaggedActs;
 use crate::store::Store;
 use hv_bdd::Diagrams;
 use hv_clauses::{ClauseKind, Formulas};
-use hv_lines::{Clash, FormulaFamily, Table, Verdict};
+use hv_lines::{FormulaFamily, Table, Verdict};
 use hv_sets::{Operand, Operands, Query, Scratch, Which};
 use hv_task::Task;
 use std::alloc::{AllocError, Global};
@@ -64,53 +66,31 @@ pub fn decide(
         store,
         budget,
     };
-    let verdict = decide_on(alloc, &case, basic, scratch)?;
+    let mut flagged = Vec::new(alloc);
+    let verdict = decide_on(alloc, &case, basic, &mut flagged, scratch)?;
     Ok(verdict)
 }
 
-/// The same on what statements are decided on.
+/// The same on what statements are decided on. The flags of action sets are kept.
 pub(crate) fn decide_on(
     alloc: Global,
     case: &Case<'_>,
     basic: &Basic,
+    flagged: &mut Vec<FlaggedActs>,
     scratch: &mut Scratch,
 ) -> Result<Verdict, AllocError>
     requires basic { IsBasicOver (lines_in case.now) basic.now }
+    requires flagged { All (AreItsFlags (lines_in case.now)) flagged.old.items }
     ensures answer { IfOk result
         (IsVerdictOf (setting_in case.now) (lines_in case.now) basic.now) }
+    ensures flagged { All (AreItsFlags (lines_in case.now)) flagged.new.items }
     ensures lengths { KeepsLengths scratch.old scratch.new }
 {
     match &basic.kind {
-        BasicKind::Acts(first, second) => decide_acts(alloc, case, *first, *second),
+        BasicKind::Acts(first, second) => decide_acts(alloc, case, flagged, *first, *second),
         BasicKind::Two(left, right) => decide_two(alloc, case, *left, *right, scratch),
         BasicKind::Sets(_, question) => decide_whole(alloc, case, question, scratch),
     }
-}
-
-/// The verdict on two action sets.
-fn decide_acts(
-    alloc: Global,
-    case: &Case<'_>,
-    first: usize,
-    second: usize,
-) -> Result<Verdict, AllocError>
-    requires first { first < acts_count (lines_in case.now) }
-    requires second { second < acts_count (lines_in case.now) }
-    ensures { IfOk result (IsVerdictOfActs case.now.task.now (lines_in case.now) first second) }
-{
-    let task = case.task;
-    let table = case.table;
-    let firsts = flags_of(alloc, table, first, task.actions())?;
-    let seconds = flags_of(alloc, table, second, task.actions())?;
-    for action in 0..task.actions() {
-        if firsts[action as usize] && !seconds[action as usize] {
-            return Ok(Verdict::False(Clash {
-                action: Some(action),
-                state: None,
-            }));
-        }
-    }
-    Ok(Verdict::True)
 }
 
 /// The verdict on a question.

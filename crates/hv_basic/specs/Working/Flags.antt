@@ -1,11 +1,14 @@
 -- Flags for the actions of an action set.
-use Rattle.std.specs.Prelude.{◌≡◌, ◌<◌, ◌||◌, ℕ, Bool, true, false, List, length, replicate}
+use Rattle.std.specs.Prelude.{◌≡◌, ◌<◌, ◌⊎◌, ◌||◌, ℕ, Some, Bool, true, false, List, length, replicate}
 use Rattle.std.specs.Prelude.{slice_index_or, slice_set, nat_eq}
 use Rattle.std.specs.List.{list_any}
 use Rattle.hv_lines.specs.Meaning.{acts_of}
+use Rattle.hv_lines.specs.Numbering.{acts_at, acts_count}
 use Rattle.hv_lines.specs.declared.line.Acts.{Acts}
 use Rattle.hv_lines.specs.declared.line.Acts.TheVariants as A
 use Rattle.hv_lines.specs.declared.line.Line.{Line}
+use Rattle.hv_basic.specs.Sharing.{AreItsFlags}
+use Rattle.hv_basic.specs.declared.shared.FlaggedActs.{FlaggedActs}
 
 -- the flag at this place; there is none past the end
 abbrev pub flag_or_false : List Bool → ℕ → Bool
@@ -31,3 +34,15 @@ Marks (A.List listed) flags wanted new_flags new_wanted =
     × (new_wanted ≡ wanted)
 Marks (A.Both left right) flags wanted new_flags new_wanted =
     (new_flags ≡ flags) × (new_wanted ≡ slice_set (slice_set wanted left true) right true)
+
+-- what is kept are the flags of this action set, one for each of so many actions
+pub record AreTakenFlags (lines : List Line) (acts actions : ℕ) (kept : FlaggedActs) : Type 0 where
+  pub is : kept.acts ≡ acts
+  pub each : length kept.flags.items ≡ actions
+  pub flagged : AreItsFlags lines kept
+
+-- the action set is the union of the first one and this part
+abbrev pub IsActsBeside : List Line → ℕ → ℕ → ℕ → Type 0
+IsActsBeside lines first acts part = (part < acts_count lines)
+    × ((acts_at lines acts ≡ Some (A.Both first part))
+    ⊎ (acts_at lines acts ≡ Some (A.Both part first)))

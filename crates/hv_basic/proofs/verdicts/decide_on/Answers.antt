@@ -27,7 +27,7 @@ pub returns-in-Acts-clause-answer : goal.returns-in-Acts-clause-answer
 returns-in-Acts-clause-answer c =
     subst (λ b. IfOk c.decide_acts.result (IsVerdictOf
     (setting_in c.args.case.now) (lines_in c.args.case.now) b))
-    (sym (ap basic_of c.in-Acts.is) ∙ c.basic.view_is) c.decide_acts.ensures
+    (sym (ap basic_of c.in-Acts.is) ∙ c.basic.view_is) c.decide_acts.ensures.answer
 
 pub returns-in-Sets-clause-answer : goal.returns-in-Sets-clause-answer
 returns-in-Sets-clause-answer c =

@@ -1,7 +1,7 @@
 use Rattle.std.proofs.Common.{ℕ, ◌<◌}
 use Rattle.hv_lines.specs.Verdicts.{IsOutside}
 use Rattle.hv_basic.specs.Cases.{lines_in}
-use Rattle.hv_basic.proofs.verdicts.decide_acts.Given as goal
+use Rattle.hv_basic.proofs.acts_verdicts.verdict_by_flags.Given as goal
 
 abbrev pub invariant-loop-action : goal.invariant-loop-action
 invariant-loop-action l = (lower : ℕ) → lower < l.action
