@@ -1,19 +1,17 @@
 -- Fronts of nodes that are moved down.
-use Rattle.std.proofs.Common.{◌≡◌, ℕ, zero, suc, ◌<◌, ◌≤◌, ◌+◌, ◌-◌, ◌∙◌, ◌++◌, ◌⊎◌, Bool}
+use Rattle.std.proofs.Common.{◌≡◌, ℕ, zero, suc, ◌<◌, ◌≤◌, ◌+◌, ◌∙◌, ◌++◌, ◌⊎◌, Bool}
 use Rattle.std.proofs.Common.{true, false, List, [], ◌∷◌, cond, length, get_or, refl, sym, ap}
 use Rattle.std.proofs.Common.{arith, inl, inr, subst, not}
 use Rattle.std.proofs.lemmas.Bool.{cases_lt}
 use Rattle.std.proofs.lemmas.List.{get_or_append_left, append_assoc, get_or_default, length-append}
 use Rattle.std.proofs.lemmas.List.Elements.{Contains-append_left, Contains-append_right}
 use Rattle.std.proofs.lemmas.List.Elements.{Contains-push}
-use Rattle.std.proofs.Math.Seq.{get_or-append_right}
 use Rattle.std.specs.List.{Contains}
 use Rattle.hv_task.specs.State.{has_atom}
 use Rattle.hv_sets.specs.declared.literal.Literal.{Literal}
 use Rattle.hv_sets.specs.Truth.{in_literal}
 use Rattle.hv_bdd.specs.Nodes.{NodeList, in_node, node_count}
 use Rattle.hv_bdd.specs.Reduced.{IsReduced, child, node_at}
-use Rattle.hv_bdd.specs.Fronts.{AreBelowBound}
 use Rattle.hv_bdd.specs.Working.Fronts.{IsContinued, IsAhead, IsPending, Turns, MovesTo}
 use Rattle.hv_bdd.specs.Working.Walking.{child_less, in_end, in_inner}
 
@@ -28,43 +26,15 @@ pub extends_more : (a b c : List ℕ) → IsContinued a b → IsContinued b c �
 extends_more a b c e f =
     (e.0 ++ f.0, f.1 ∙ (ap (λ xs. xs ++ f.0) e.1 ∙ append_assoc a (e.0) (f.0)))
 
-pub below_append : (bound : ℕ) (xs ys : List ℕ) → AreBelowBound bound xs → AreBelowBound bound ys
-    → AreBelowBound bound (xs ++ ys)
-below_append bound xs ys in_xs in_ys k less =
-    let e = length-append xs ys in
-    elim (cases_lt k (length xs)) [
-      | inl early ↦ subst (λ z. z < bound) (sym (get_or_append_left xs ys 0 k early))
-          (in_xs k early)
-      | inr late ↦ subst (λ z. z < bound) (sym (get_or-append_right xs ys k 0 late))
-          (in_ys (k - length xs) (omega arith))
-    ]
-
 contains_more : (a b : List ℕ) (x : ℕ) → IsContinued a b → Contains a x → Contains b x
 contains_more a b x e has = subst (λ xs. Contains xs x) (sym e.1) (Contains-append_left a
     (e.0) x has)
 
 module _ (list : NodeList) (inside : Bool) where
-  -- nothing waits
-  pub ahead_done : (first out queue : List ℕ) (at : ℕ) → length queue ≤ at → IsContinued first queue
-      → IsAhead list inside out queue at → MovesTo list inside first out
-  ahead_done first out queue at past extends ahead s x has is =
-      let w = ahead s x (contains_more first queue x extends has) is in
-      (w.0, by (w.0) (w.1), w.3)
-    where
-      by : (y : ℕ) → IsPending out queue at y → Contains out y
-      by y (inl there) = there
-      by y (inr (k, from, within, same)) = absurd (omega (arith, past, from, within))
-
   pub ahead_rest : (first out queue : List ℕ) → IsContinued first queue
       → MovesTo list inside first (out ++ queue)
   ahead_rest first out queue extends s x has is =
       (x, Contains-append_right out queue x (contains_more first queue x extends has), is)
-
-  -- all that waits is ahead
-  pub ahead_first : (queue : List ℕ) → IsAhead list inside [] queue 0
-  ahead_first queue s x has is =
-      let at = at_place queue x has in
-      (x, inr (at.0, omega arith, at.1, at.2), omega arith, is)
 
   -- the node at the place stays
   pub ahead_kept : (out queue : List ℕ) (at node : ℕ) → get_or queue at 0 ≡ node

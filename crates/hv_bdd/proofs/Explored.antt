@@ -21,7 +21,7 @@ use Rattle.std.specs.List.{All, Contains, list_any}
 use Rattle.smallvec.specs.SmallVec.{SmallVec}
 use Rattle.hv_bdd.specs.declared.tuple_search.Link.{Link}
 use Rattle.hv_bdd.specs.Working.Search.{IsExplored, IsPut, IsPutSome, link_at, tuple_at}
-use Rattle.hv_bdd.specs.Tuples.{IsReached, Moves, TuplesPass, if_live, next}
+use Rattle.hv_bdd.specs.Tuples.{IsReached, Moves, TuplesPass, next}
 use Rattle.hv_bdd.proofs.Moved.{reached_in, reached_next}
 
 -- what holds of each of two lists one after the other
@@ -108,14 +108,6 @@ grows_push old new t e = record {
   longer = let size = ap length e ∙ length-append old (t ∷ []) in omega arith;
   at = λ k less. ap (λ ts. tuple_at ts k) e ∙ get_or_append_left old (t ∷ []) [] k less;
   has = λ u c. subst (λ ts. Contains ts u) (sym e) (Contains-append_left old (t ∷ []) u c);
-}
-
-pub grows_twice : (a b c : List (List ℕ)) → ExploredGrows a b → ExploredGrows b c → ExploredGrows a
-    c
-grows_twice a b c first second = record {
-  longer = let x = first.longer in let y = second.longer in omega arith;
-  at = λ k less. let x = first.longer in second.at k (omega arith) ∙ first.at k less;
-  has = λ u in_a. second.has u (first.has u in_a);
 }
 
 module _ {O : Type 0} (m : Moves O) (os : List O) (root : List ℕ) where
@@ -219,44 +211,6 @@ module _ {O : Type 0} (m : Moves O) (os : List O) (root : List ℕ) where
                   (subst (λ a. Contains a t) (sym new.1) (Contains-push ts t)),
             )
       ]
-
-  -- nothing was found before the root is put in
-  pub rooted : (ts : List (List ℕ)) (ls : List Link) (o : Option (List ℕ)) (link : Link)
-      → if_live m os root ≡ o
-      → IsPutSome [] [] o link ts ls → Known 0 ts ls
-  rooted ts ls None link is put =
-      subst (λ a. Known 0 a ls) (sym put.0) (subst (Known 0 []) (sym put.1) record {
-        size = refl;
-        upto = omega arith;
-        reached = All-nil (IsReached m os root);
-        apart = λ i j less within _. absurd (omega arith);
-        roots = λ u e. let f : ◌≡◌ {A = Option (List ℕ)} None (Some u) = sym is ∙ e in absurd cc;
-        first = λ some. absurd (omega arith);
-        closed = λ k b u less e. absurd (omega arith);
-        parent = λ k some within. absurd (omega arith);
-        linked = λ k some within. absurd (omega arith);
-      })
-  rooted ts ls (Some t) link is put =
-      elim put [
-        | inl old ↦ absurd (omega (arith, old.0.1))
-        | inr new ↦
-            subst (λ a. Known 0 a ls) (sym new.1) (subst (Known 0 (t ∷ [])) (sym new.2) record {
-              size = refl;
-              upto = omega arith;
-              reached = All-push (IsReached m os root) [] t (All-nil (IsReached m os root))
-                  ([], is);
-              apart = λ i j less within _. absurd (omega arith);
-              roots = λ u e. let same_u : t ≡ u = some_is t u (sym is ∙ e) in
-                  (0, omega arith, same_u);
-              first = λ some. is;
-              closed = λ k b u less e. absurd (omega arith);
-              parent = λ k some within. absurd (omega arith);
-              linked = λ k some within. absurd (omega arith);
-            })
-      ]
-    where
-      some_is : (t u : List ℕ) → ◌≡◌ {A = Option (List ℕ)} (Some t) (Some u) → t ≡ u
-      some_is t u e = cc
 
   -- the moves of one more tuple were put in
   pub explored_more : (done : ℕ) (ts : List (List ℕ)) (ls : List Link) → Known done ts ls

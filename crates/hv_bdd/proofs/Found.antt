@@ -1,6 +1,6 @@
 -- What the search through live tuples knows when it answers.
-use Rattle.std.proofs.Common.{◌≡◌, ℕ, ◌<◌, ◌≤◌, ◌∙◌, ◌⊎◌, Bool, true, false, List, [], None, Some}
-use Rattle.std.proofs.Common.{cond, length, get_or, set, refl, sym, ap, arith, inl, inr, subst}
+use Rattle.std.proofs.Common.{◌≡◌, ℕ, ◌<◌, ◌≤◌, ◌∙◌, ◌⊎◌, Bool, true, false, List, [], Some}
+use Rattle.std.proofs.Common.{length, get_or, set, refl, sym, ap, arith, inl, inr, subst}
 use Rattle.std.proofs.lemmas.List.{get_or_default, length-map}
 use Rattle.std.proofs.lemmas.List.Elements.{All-get_or}
 use Rattle.std.specs.List.{All}
@@ -124,24 +124,6 @@ module _ (s : TupleSearch) (done : ℕ) (reached : Reached) (e : Explored s done
           (nodes_of s v.items (subst (IsTuple s) item (tuple_here link.parent (omega arith))))
           (omega arith)
           (subst (λ ts. agrees state ts) (sym says.3) old)))
-
-  -- at the first tuple stand the roots
-  pub suits_root : (state : List Bool) → 0 < length keys → FitsBits (moves s.setting) state
-      → agrees state (tuple_at (items keys) 0)
-      → Suits s.setting s.asked state
-  suits_root state some fits old =
-      let size = len in (
-        fits,
-        subst (λ ts. agrees state ts) (sym
-            (root_is (is_live (moves s.setting) s.asked (roots s.setting s.asked))
-            (e.known.first (omega arith)))) old,
-      )
-    where
-      root_is : (b : Bool) → cond b (Some (roots s.setting s.asked)) None
-          ≡ Some (tuple_at (items keys) 0)
-          → roots s.setting s.asked ≡ tuple_at (items keys) 0
-      root_is true e = cc
-      root_is false e = absurd cc
 
   -- each state is in a live tuple of ends
   pub end_agrees : (k : ℕ) (state : List Bool) → k < length keys

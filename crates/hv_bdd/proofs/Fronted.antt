@@ -3,7 +3,7 @@ use Rattle.std.proofs.Common.{◌≡◌, ℕ, zero, suc, ◌<◌, ◌≤◌, ◌
 use Rattle.std.proofs.Common.{List, [], ◌∷◌, ◌++◌, get_or, length, take, refl, sym, ap, arith, inl}
 use Rattle.std.proofs.Common.{inr, subst}
 use Rattle.std.proofs.lemmas.Bool.{cases_lt}
-use Rattle.std.proofs.lemmas.List.{length-append, length-take, length-take-le, take-append-le}
+use Rattle.std.proofs.lemmas.List.{length-take, take-append-le}
 use Rattle.std.proofs.lemmas.List.Elements.{All-nil}
 use Rattle.std.proofs.Math.Bool.{beq}
 use Rattle.hv_sets.specs.Cubes.{SpeakBelow}
@@ -102,21 +102,6 @@ module _ (list : NodeList) where
               ∙ sym (literals_take kept old))
         ];
       }
-
--- the first nodes and one other
-pub turns : (old new : List ℕ) (k node : ℕ) → k ≤ length old → new ≡ take k old ++ node ∷ []
-    → TurnsTo old new
-turns old new k node within is =
-    let size = ap length is ∙ length-append (take k old) (node ∷ []) in
-    let front = length-take-le k old within in
-    let at : length new - 1 ≡ k = omega arith in
-    record {
-      some = omega arith;
-      upto = omega arith;
-      same = subst (λ n. take n new ≡ take n old) (sym at)
-          (ap (take k) is ∙ (take-append-le k (take k old) (node ∷ []) (omega arith)
-          ∙ take_take k k old (omega arith)));
-    }
 
 -- further nodes behind leave the first ones
 pub front_push : (front stack new : List ℕ) (node : ℕ) → take (length front) stack ≡ front

@@ -3,7 +3,7 @@ use Rattle.std.proofs.Common.{◌≡◌, ℕ, zero, suc, ◌+◌, ◌<◌, ◌�
 use Rattle.std.proofs.Common.{None, Some, Result, Ok, Err, length, map, refl, sym, ◌∙◌, ap, subst}
 use Rattle.std.proofs.Common.{Bool, true, false, arith, decimal, cond, nat_le, append_assoc}
 use Rattle.std.proofs.Common.{append-nil, length-append}
-use Rattle.std.specs.Prelude.{IfOk, IfSome, IsErrAnd, codes, option_and_then}
+use Rattle.std.specs.Prelude.{IfOk, IfSome, codes, option_and_then}
 use Rattle.std.proofs.lemmas.List.{length-map}
 use Rattle.std.proofs.lemmas.Bool.{le-leb, leb-true}
 use Rattle.std.proofs.lemmas.List.Elements.{All-head, All-tail}
@@ -12,7 +12,7 @@ use Rattle.hv_bytes.specs.Fields.{cut_fields}
 use Rattle.hv_bytes.specs.Files.{Names, bytes_of}
 use Rattle.hv_bytes.specs.Pieces.{PieceBytes, as_pieces, pieces_of}
 use Rattle.hv_bytes.specs.declared.cutting.Limits.{Limits}
-use Rattle.hv_grammar.specs.Reads.{IsOfNoLine, at_number}
+use Rattle.hv_grammar.specs.Reads.{at_number}
 use Rattle.hv_grammar.specs.Working.Reads.{IsReadAs}
 use Rattle.hv_grammar.specs.declared.fault.ParseFault.{ParseFault}
 use Rattle.hv_grammar.specs.declared.fault.ParseFault.TheVariants as P
@@ -470,20 +470,3 @@ answers_fault None name limits atoms e answer is h = tt
 answers_fault (Some f) name limits atoms e answer is h =
     subst (λ a. IsNodesReadFrom limits atoms (bytes_of f name) (Err a)) (sym is)
     (fault_is limits atoms (bytes_of f name) e h)
-
-outside : (limits : Limits) (atoms : ℕ) (bytes : List ℕ) (e : ParseFault NodeRefusal)
-    → IsOfNoLine e → IsNodesReadFrom limits atoms bytes (Err (nodes_fault e))
-outside limits atoms bytes (P.Refused n b) h = absurd h
-outside limits atoms bytes (P.Long n) h = absurd h
-outside limits atoms bytes P.ReadFault h = tt
-outside limits atoms bytes P.Memory h = tt
-
-pub answers_unopened : (files : Option Names) (name : List ℕ) (limits : Limits) (atoms : ℕ)
-    (e : ParseFault NodeRefusal) (result : Result NodeList NodesFault) → IsOfNoLine e
-    → IsErrAnd result (λ f. f ≡ nodes_fault e)
-    → IfSome files (λ f. IsNodesReadFrom limits atoms (bytes_of f name) result)
-answers_unopened None name limits atoms e result h is = tt
-answers_unopened (Some f) name limits atoms e (Ok list) h is = absurd is
-answers_unopened (Some f) name limits atoms e (Err answer) h is =
-    subst (λ a. IsNodesReadFrom limits atoms (bytes_of f name) (Err a)) (sym is)
-    (outside limits atoms (bytes_of f name) e h)

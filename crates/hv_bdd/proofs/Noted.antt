@@ -1,22 +1,13 @@
 -- The places of the atoms of an order, and what is no order.
-use Rattle.std.proofs.Common.{◌≡◌, ◌≢◌, ℕ, ◌<◌, ◌∙◌, ◌&&◌, Bool, true, false, List, None, Some}
-use Rattle.std.proofs.Common.{cond, eqb, get_or, length, refl, sym, ap, subst, arith, ⊎_elim}
-use Rattle.std.proofs.lemmas.Bool.{ne_eqb}
+use Rattle.std.proofs.Common.{◌≡◌, ◌≢◌, ℕ, ◌<◌, ◌∙◌, Bool, true, false, List, None, Some}
+use Rattle.std.proofs.Common.{cond, get_or, length, refl, sym, ap, subst, arith, ⊎_elim}
 use Rattle.std.proofs.lemmas.Grind.{get_or_default_zero}
-use Rattle.std.specs.List.{All, list_all, range_with_len}
+use Rattle.std.specs.List.{All}
 use Rattle.hv_bdd.specs.Order.{position}
 use Rattle.hv_bdd.specs.OrderLine.{if_order, is_order}
 use Rattle.hv_bdd.specs.Working.Inverse.{AreInverse}
 use Rattle.hv_bdd.specs.Working.Noting.{AreNoted}
 use Rattle.hv_bdd.proofs.Permuted.{found, is_by, there_at}
-
--- a list of another length is none
-pub wrong_size : (atoms : ℕ) (order : List ℕ) → (length order ≡ atoms → ⊥)
-    → None ≡ if_order atoms order
-wrong_size atoms order never =
-    sym (ap (λ b. cond (b
-    && list_all (λ place. eqb (position order (get_or order place (length order))) place)
-    (range_with_len 0 atoms)) (Some order) None) (ne_eqb (length order) atoms never))
 
 pub not_order : (atoms : ℕ) (order : List ℕ) → length order ≡ atoms
     → is_order (length order) order ≡ false → None ≡ if_order atoms order

@@ -3,8 +3,8 @@ use Rattle.std.proofs.Common.{◌≡◌, ℕ, suc, ◌<◌, ◌≤◌, ◌+◌, 
 use Rattle.std.proofs.Common.{◌++◌, cond, get_or, length, take, refl, sym, ap, arith, inl, inr}
 use Rattle.std.proofs.Common.{subst, append_assoc}
 use Rattle.std.proofs.lemmas.Bool.{cases_lt, eq-eqb, ne_eqb}
-use Rattle.std.proofs.lemmas.List.{append-nil, get_or-take, get_or_append_left, get_or_at}
-use Rattle.std.proofs.lemmas.List.{length-append, length-take}
+use Rattle.std.proofs.lemmas.List.{append-nil, get_or_append_left, get_or_at}
+use Rattle.std.proofs.lemmas.List.{length-append}
 use Rattle.std.proofs.Math.Seq.{take-length, take-suc}
 use Rattle.hv_sets.specs.declared.cursor.Cursor.{Cursor}
 use Rattle.hv_sets.specs.declared.literal.Literal.{Literal}
@@ -204,30 +204,6 @@ module _ (list : NodeList) (stack : List ℕ) where
               inner)
         ];
       }
-
-  -- with its first nodes alone
-  pub stack_take : (count : ℕ) → 0 < count → count ≤ length stack → IsStack list stack
-      → IsStack list (take count stack)
-  stack_take count some within is =
-      let size = length-take count stack in
-      record {
-        some = omega arith;
-        node = λ k less.
-            subst (λ x. x < node_count list) (sym (get_or-take count stack k 0 (omega arith)))
-            (is.node k (omega arith));
-        inner = λ k less.
-            subst (λ x. 2 ≤ x) (sym (get_or-take count stack k 0 (omega arith)))
-            (is.inner k (omega arith));
-      }
-
--- one node alone
-pub stack_one : (list : NodeList) (n : ℕ) → n < node_count list → IsStack list (n ∷ [])
-stack_one list n within = record {
-  some = omega arith;
-  node = λ k less.
-      subst (λ j. get_or (n ∷ []) j 0 < node_count list) (let f : 0 ≡ k = omega arith in f) within;
-  inner = λ k less. absurd (omega arith);
-}
 
 pub left_later : (list : NodeList) (e root : ℕ) (cursor : Cursor) → (cursor.place ≡ 0 → ⊥)
     → left_at list e root cursor ≡ left_of list e cursor.path.items []

@@ -61,10 +61,6 @@ module _ (list : NodeList) where
   RisesPast v (l ∷ ls) =
       (v ≤ place list l.atom) × (l.atom < list.atoms) × RisesPast (place list l.atom + 1) ls
 
-  pub rises_from : (v w : ℕ) (ls : List Literal) → w ≤ v → RisesPast v ls → RisesPast w ls
-  rises_from v w [] less rises = tt
-  rises_from v w (l ∷ ls) less rises = (let upto = rises.0 in omega arith, rises.1, rises.2)
-
   abbrev pub Before : ℕ → Literal → Type 0
   Before v l = place list l.atom < v
 
@@ -94,17 +90,3 @@ module _ (list : NodeList) where
   pub in_cube_of : (ls : List Literal) (v : ℕ) (s : List Bool) → RisesPast v ls
       → in_cube (cube_of ls) s ≡ in_cube ls s
   in_cube_of ls v s rises = in_folded ls [] v s (All-nil (Before v)) rises
-
-  -- and speaks of atoms of the task
-  below_folded : (ls : List Literal) (cube : List Literal) (v : ℕ)
-      → All (λ (l : Literal). l.atom < list.atoms) cube → RisesPast v ls
-      → All (λ (l : Literal). l.atom < list.atoms) (fold (λ c l. put_in l c) cube ls)
-  below_folded [] cube v below rises = below
-  below_folded (l ∷ ls) cube v below rises =
-      below_folded ls (put_in l cube) (place list l.atom + 1)
-      (All-put l (λ (k : Literal). k.atom < list.atoms) cube rises.1 below) rises.2
-
-  pub below_cube_of : (ls : List Literal) (v : ℕ) → RisesPast v ls
-      → All (λ (l : Literal). l.atom < list.atoms) (cube_of ls)
-  below_cube_of ls v rises =
-      below_folded ls [] v (All-nil (λ (l : Literal). l.atom < list.atoms)) rises
