@@ -6,6 +6,7 @@ pub mod Joined
 pub mod LineFields
 pub mod LineForms
 pub mod ListedForms
+pub mod Names
 pub mod ReadBack
 pub mod ClosedBack
 pub mod Rising

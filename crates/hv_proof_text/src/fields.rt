@@ -1,10 +1,10 @@
 //! The fields of a line, one after the other, and the tokens that they denote.
 //!
-//! A number is read in one pass, over its digits up to the space behind them. Only a field that is
-//! a letter or a word is split off before it is looked at.
+//! A number is read in one pass, over its digits up to the space behind them, and a letter or a
+//! word, of one byte or two, by the bytes that the line begins with: no space is looked for.
 
 ghost use Rattle.std.specs.Prelude.{◌≡◌, ◌<◌, ◌≤◌, ◌^◌, ℕ, ◌∷◌, true, false, decimal, length, List};
-ghost use Rattle.std.specs.Prelude.{MatchOption, Ok, codes};
+ghost use Rattle.std.specs.Prelude.{MatchOption, Ok, [], codes};
 ghost use Rattle.hv_bytes.specs.Fields.{cut_fields};
 ghost use Rattle.hv_proof_text.specs.Working.Gathering.{fields_behind};
 ghost use Rattle.hv_proof_text.specs.Working.Tokens.{AreTokens, IsNameToken, IsToken, field_of};
@@ -12,8 +12,9 @@ ghost use Rattle.hv_proof_text.specs.Working.Tokens.{letter, letter_field, numbe
 ghost use Rattle.hv_proof_text.specs.declared.token.Letter.{Letter};
 ghost use Rattle.hv_proof_text.specs.declared.token.Token.{Token};
 
-use crate::token::{Letter, Token, letter_of, name_of};
-use hv_bytes::{decimal_front, split_field};
+use crate::token::{Letter, Token, letter_of};
+use hv_bytes::decimal_front;
+use hv_lines::Word;
 use std::alloc::AllocError;
 
 /// The letter of the first field, and what follows that.
@@ -25,11 +26,8 @@ pub(crate) fn first_letter(fields: Option<&[u8]>) -> Option<(Letter, Option<&[u8
         (λ p. fields_behind fields.entry (λ f. f.now)
         ≡ letter_field p.0 ∷ fields_behind p.1 (λ f. f.now)) }
 {
-    match fields? {
-        [byte] => Some((letter_of(*byte)?, None)),
-        [byte, b' ', rest @ ..] => Some((letter_of(*byte)?, Some(rest))),
-        _ => None,
-    }
+    let (letter, behind) = letter_front(fields?)?;
+    Some((letter, behind))
 }
 
 /// The number of the first field, and what follows that.
@@ -44,8 +42,7 @@ pub(crate) fn first_number(fields: Option<&[u8]>) -> Option<(u64, Option<&[u8]>)
     Some((number, behind))
 }
 
-/// The token of the first field, and what follows that. Each number is read in one pass; a letter
-/// or a word is split off first.
+/// The token of the first field, and what follows that.
 #[inline(always)]
 pub(crate) fn token_front(line: &[u8]) -> Option<(Token, Option<&[u8]>)>
     ensures { MatchOption result
@@ -69,9 +66,8 @@ pub(crate) fn token_front(line: &[u8]) -> Option<(Token, Option<&[u8]>)>
     Some((name, behind))
 }
 
-/// The letter or the word that the first field is, and what follows that. It stays out of the
-/// loops that read numbers.
-#[inline(never)]
+/// The letter or the word that the first field is, and what follows that.
+#[inline(always)]
 fn name_front(line: &[u8]) -> Option<(Token, Option<&[u8]>)>
     ensures { MatchOption result
         ((token : Token) (later : List (List ℕ)) → IsNameToken token
@@ -79,8 +75,46 @@ fn name_front(line: &[u8]) -> Option<(Token, Option<&[u8]>)>
         (λ p. IsNameToken p.0
         × (cut_fields line.now ≡ field_of p.0 ∷ fields_behind p.1 (λ f. f.now))) }
 {
-    let (field, behind) = split_field(line);
-    Some((name_of(field)?, behind))
+    if let Some((letter, behind)) = letter_front(line) {
+        return Some((Token::Letter(letter), behind));
+    }
+    let Some((first, second, behind)) = pair_front(line) else {
+        return None;
+    };
+    let Some(word) = Word::spelled(&[first, second]) else {
+        return None;
+    };
+    Some((Token::Word(word), behind))
+}
+
+/// The letter that the first field is, and what follows that.
+#[inline(always)]
+fn letter_front(line: &[u8]) -> Option<(Letter, Option<&[u8]>)>
+    ensures { MatchOption result
+        ((letter : Letter) (later : List (List ℕ))
+        → cut_fields line.now ≡ letter_field letter ∷ later → ⊥)
+        (λ p. cut_fields line.now ≡ letter_field p.0 ∷ fields_behind p.1 (λ f. f.now)) }
+{
+    match line {
+        [byte] => Some((letter_of(*byte)?, None)),
+        [byte, b' ', rest @ ..] => Some((letter_of(*byte)?, Some(rest))),
+        _ => None,
+    }
+}
+
+/// The two bytes that the first field is, and what follows that.
+fn pair_front(line: &[u8]) -> Option<(u8, u8, Option<&[u8]>)>
+    ensures { MatchOption result
+        ((first second : ℕ) (later : List (List ℕ))
+        → cut_fields line.now ≡ (first ∷ second ∷ []) ∷ later → ⊥)
+        (λ p. cut_fields line.now ≡ (p.0 ∷ p.1 ∷ []) ∷ fields_behind p.2 (λ f. f.now)) }
+{
+    match line {
+        [b' ', ..] | [_, b' ', ..] => None,
+        [first, second] => Some((*first, *second, None)),
+        [first, second, b' ', rest @ ..] => Some((*first, *second, Some(rest))),
+        _ => None,
+    }
 }
 
 /// The number behind the dash of the first field, and what follows that field.

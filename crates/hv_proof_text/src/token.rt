@@ -1,9 +1,8 @@
 //! Tokens: what a field of a line denotes.
 
 ghost use Rattle.std.specs.Prelude.{◌≡◌, [], ◌∷◌, MatchOption};
-ghost use Rattle.hv_proof_text.specs.Working.Tokens.{letter_field, field_of, IsNameToken};
+ghost use Rattle.hv_proof_text.specs.Working.Tokens.{letter_field};
 ghost use Rattle.hv_proof_text.specs.declared.token.Letter.{Letter};
-ghost use Rattle.hv_proof_text.specs.declared.token.Token.{Token};
 
 use hv_lines::Word;
 
@@ -39,33 +38,6 @@ pub(crate) enum Token {
     Minus(u64),
     /// The field `;`, which ends a state.
     End,
-}
-
-/// The letter or the word that the field is, where it is one.
-pub(crate) fn name_of(field: &[u8]) -> Option<Token>
-    ensures { MatchOption result
-        ((token : Token) → IsNameToken token → field_of token ≡ field.now → ⊥)
-        (λ token. IsNameToken token × (field_of token ≡ field.now)) }
-{
-    if let Some(letter) = letter_in(field) {
-        return Some(Token::Letter(letter));
-    }
-    if let Some(word) = Word::spelled(field) {
-        return Some(Token::Word(word));
-    }
-    None
-}
-
-/// The letter that the field is.
-fn letter_in(field: &[u8]) -> Option<Letter>
-    ensures { MatchOption result
-        ((letter : Letter) → letter_field letter ≡ field.now → ⊥)
-        (λ letter. letter_field letter ≡ field.now) }
-{
-    match field {
-        [byte] => letter_of(*byte),
-        _ => None,
-    }
 }
 
 /// The letter of this byte.
