@@ -93,6 +93,7 @@ impl Task {
     }
 
     /// Adds an action, and gives its number.
+    #[inline(always)]
     pub fn add_action(&mut self, action: Action) -> Result<u32, AllocError>
         requires over { IsOver (atoms self.old) action }
         requires room { length self.old.actions < 1000000 }
