@@ -1,5 +1,5 @@
 //! The decimal that a line begins with, read in one pass: its digits end where its field does, so
-//! no space is looked for first. No reader uses it yet.
+//! no space is looked for first. Proof lines and node files are read by it.
 
 ghost use Rattle.std.specs.Prelude.{◌≡◌, ℕ, ◌<◌, ◌^◌, List, [], ◌∷◌, length, take, decimal};
 ghost use Rattle.std.specs.Prelude.{IfNone, IfSome, MatchOption};
