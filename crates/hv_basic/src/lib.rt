@@ -21,10 +21,10 @@
 //!   and few states are asked about before the action, for those that can be applicable there, by
 //!   the `action_rows` that the `store` keeps; where one formula is asked about at both times
 //!   (`framed`), for those that can turn a literal of it (`turned`), by the `change_rows` that the
-//!   `store` keeps, or by a look at each action. Else `actions` lists the actions of the progression: those of a list that rises as they are
-//!   there, else by the flags of `acts`. For each of them `query_walk` asks the query of the store
-//!   of the family, and `node_walk` asks it of the diagrams; the first query that exceeds the budget
-//!   or has a counterexample decides.
+//!   `store` keeps, or by a look at each action. Else `actions` lists the actions of the
+//!   progression: those of a list that rises as they are there, else by the flags of `acts`. For
+//!   each of them `query_walk` asks the query of the store of the family, and `node_walk` asks it
+//!   of the diagrams; the first query that exceeds the budget or has a counterexample decides.
 //!
 //! Statements with `b1` and `b3` go the same way, without a step or with a regression. Those with
 //! `b4`, of two families, are decided in `mixed`, over the formulas that `any_formula` finds, and
@@ -55,9 +55,9 @@
 //! An action set is looked at from its newest part to its oldest, each part once, so a union that
 //! shares its parts costs its number of lines and not of paths. A list of actions that rises is
 //! asked about as it is, so a statement over a few actions doesn't cost their whole number. The
-//! flags of the four action sets that were compared last are kept: where one of the next is the
-//! union of one of these and a list, only the list is looked at, and a union is within each that it
-//! is a part of without a look at its actions.
+//! flags of four action sets are kept, of those that were compared by flags last: where a further
+//! one is the union of one of these and a list, only the list is looked at. A set is within a union
+//! of which it is a part without a look at its actions.
 //!
 //! Where few states are asked about before the action, a statement over all actions is asked about
 //! those actions alone that can be applicable in one of the states, and about the first one, which

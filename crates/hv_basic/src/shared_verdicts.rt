@@ -35,9 +35,9 @@ use hv_lines::{Expr, FormulaFamily, Statement, Table, Verdict, Word};
 use hv_sets::Scratch;
 use std::alloc::{AllocError, Global};
 
-/// The verdict of a basic statement with its word, as `shape` and `decide` give it. What the right
-/// side asks is kept for the statements after it: where the next right side is the union of this
-/// one and a further set, only that set is looked at.
+/// The verdict of a basic statement with its word, as `shape` and `decide` give it. What right sides
+/// ask, and which actions are in action sets, is kept for the statements after it, of the last four:
+/// where the next one is the union of one of these and a further set, only that set is looked at.
 pub fn verdict_of(
     alloc: Global,
     case: &Case<'_>,

@@ -2,8 +2,8 @@
 //!
 //! An order of the atoms is a list of them, or none where they rise: so a file without an order
 //! costs what it did, and what is said of nodes, paths and tuples is said by places (`place`,
-//! `atom_at`), whatever the order. That each atom occurs in the list once is seen in one pass,
-//! which writes the place of each: an atom whose place is written already occurs twice.
+//! `atom_at`), whatever the order. One pass over the line writes the list, and the place of each
+//! atom. The list is as long as there are atoms, so each occurs in it once if each has a place.
 //!
 //! Where an order is listed and the goal is among the operands, the next place of the goal is
 //! looked for at the places that follow, and then by the places of all its atoms; the search counts
