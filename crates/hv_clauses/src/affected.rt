@@ -6,19 +6,24 @@
 //! the operand is asked about after the action, or true, if before. They are found by the lists of
 //! where literals are, and one lemma says that no state fits any other choice. A clause of two
 //! whose other literal is known to be true is skipped where it is listed, without a look into it:
-//! no state that is as is known has it false. The negative operand is looked for beside the empty
+//! no state that is as is known has it false. So is a long clause of which the effect or the
+//! precondition makes a literal true: their atoms are looked for in the lists, and the clause isn't
+//! gone through for each action. The negative operand is looked for beside the empty
 //! set: the union with it, which such proofs write on the right, changes neither the
 //! counterexamples nor the cost of a query.
 
 ghost use Rattle.std.specs.Prelude.{◌≡◌, ◌<◌, Some, length, slice_index, true};
 ghost use Rattle.std.specs.List.{Contains};
+ghost use Rattle.std.specs.List.Sorted.{IsStrictlyIncreasing};
 ghost use Rattle.hv_clauses.specs.Working.Found.{AreFollowedRoots, IsAskedTwice, IsMet, IsMetAmong};
 ghost use Rattle.hv_clauses.specs.Working.Found.{IsMetBelow};
-ghost use Rattle.hv_clauses.specs.Working.Occurrences.{AreStanding, entry_or_none, no_literal};
+ghost use Rattle.hv_clauses.specs.Working.Occurrences.{AreStanding, IsIndexOf, entry_or_none};
+ghost use Rattle.hv_clauses.specs.Working.Occurrences.{no_literal};
 ghost use Rattle.hv_clauses.specs.Working.Occurrences.{turning_sign};
 ghost use Rattle.hv_clauses.specs.Working.Posed.{choices, formulas, width};
 ghost use Rattle.hv_clauses.specs.Working.Problem.{FitsChoice};
-ghost use Rattle.hv_clauses.specs.Working.Affected.{IsAffected, IsTurnedBy};
+ghost use Rattle.hv_clauses.specs.Clausal.{clause_at};
+ghost use Rattle.hv_clauses.specs.Working.Affected.{HasTrue, IsAffected, IsTurnedBy};
 ghost use Rattle.hv_clauses.specs.Working.Trail.{literal_of, marks_of};
 ghost use Rattle.hv_clauses.specs.Units.{value_of};
 
@@ -28,14 +33,18 @@ use crate::occurrences::{Occurrences, Standing};
 use crate::problem::Problem;
 use crate::trail::Assignment;
 use crate::{find, literals, partners};
-use hv_sets::{Literal, Operand, Which};
+use hv_sets::{Clauses, Literal, Operand, Which};
 use hv_task::State;
 
-// The one negative operand, the number of its set, and where the literals of its clauses stand.
+// A clause of at most so many literals is gone through.
+const SHORT: usize = 16;
+
+// The one negative operand, the number of its set, its clauses, and where their literals stand.
 #[derive(Drop)]
 pub(crate) struct Affected<'a> {
     pub operand: Operand,
     pub number: usize,
+    pub clauses: &'a Clauses,
     pub occurs: &'a Occurrences,
 }
 
@@ -58,10 +67,10 @@ pub(crate) fn choose_affected<K: ClauseKind>(
         return false;
     };
     let set = problem.set(number);
-    let _clauses = set.clauses();
     let touched = Affected {
         operand,
         number,
+        clauses: set.clauses(),
         occurs: set.occurs(),
     };
     if try_value(problem, &touched, false, marks, state) {
@@ -136,8 +145,8 @@ fn try_listed<K: ClauseKind>(
     false
 }
 
-// Tries the choice of the clause at this place of the list. Where the literal beside is known to be
-// true, no state fits it: that shows without a look into the clause.
+// Tries the choice of the clause at this place of the list. Where a literal is known to be true, no
+// state fits it: of the one beside that shows in the list, and of a long clause by other lists.
 fn try_one<K: ClauseKind>(
     problem: &Problem<'_, K>,
     touched: &Affected<'_>,
@@ -160,7 +169,80 @@ fn try_one<K: ClauseKind>(
     if is_true(standing.entries, index, &seen, marks) {
         return false;
     }
-    find::decide(problem, standing.places[index] as u64, marks, state)
+    let place = standing.places[index];
+    if is_held(problem, touched, place, &seen, marks) {
+        return false;
+    }
+    find::decide(problem, place as u64, marks, state)
+}
+
+// Whether the clause is long, and the effect or the precondition makes a literal of it true.
+fn is_held<K: ClauseKind>(
+    problem: &Problem<'_, K>,
+    touched: &Affected<'_>,
+    place: usize,
+    seen: &ActionEffect<'_>,
+    marks: &Assignment<'_>,
+) -> bool
+    requires index { IsIndexOf touched.now.clauses.now touched.now.occurs.now }
+    requires place { place < length touched.now.clauses.now }
+    ensures { result ≡ true → HasTrue seen.now (marks_of marks.now)
+        (clause_at touched.now.clauses.now place) }
+{
+    if touched.clauses.get(place).len() <= SHORT {
+        return false;
+    }
+    let required = match problem.action() {
+        None => [].as_slice(),
+        Some(action) => action.pre.as_slice(),
+    };
+    has_true_of(touched, seen.turned(true), true, place, seen, marks)
+        || has_true_of(touched, required, true, place, seen, marks)
+        || has_true_of(touched, seen.turned(false), false, place, seen, marks)
+}
+
+// Whether a literal of the clause that has one of these atoms and this sign is known to be true.
+fn has_true_of(
+    touched: &Affected<'_>,
+    atoms: &[u32],
+    sign: bool,
+    place: usize,
+    seen: &ActionEffect<'_>,
+    marks: &Assignment<'_>,
+) -> bool
+    requires { IsIndexOf touched.now.clauses.now touched.now.occurs.now }
+    ensures { result ≡ true → HasTrue seen.now (marks_of marks.now)
+        (clause_at touched.now.clauses.now place) }
+{
+    for atom in atoms {
+        let literal = Literal {
+            atom: *atom,
+            positive: sign,
+        };
+        if literals::value(seen, marks, literal) == Some(true)
+            && has_literal(touched, place, literal)
+        {
+            return true;
+        }
+    }
+    false
+}
+
+// Whether the literal stands in the clause.
+fn has_literal(touched: &Affected<'_>, place: usize, literal: Literal) -> bool
+    requires { IsIndexOf touched.now.clauses.now touched.now.occurs.now }
+    ensures { result ≡ true → Contains (clause_at touched.now.clauses.now place) literal }
+{
+    let standing = touched.occurs.standing(literal);
+    has_place(standing.places, place)
+}
+
+// Whether the place is among these.
+fn has_place(places: &[usize], place: usize) -> bool
+    requires { IsStrictlyIncreasing places.now }
+    ensures { result ≡ true → Contains places.now place }
+{
+    places.binary_search(&place).is_ok()
 }
 
 // Whether the entry at a place denotes a literal that is known to be true.

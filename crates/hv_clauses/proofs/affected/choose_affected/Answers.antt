@@ -13,8 +13,9 @@ try_value-requires-clause-touched g c =
       which = c.in-Set.is;
       below = subst (λ n. AreClauses n (formulas p c.in-Set.number)) c.set-set.ensures.atoms
           (subst (λ cs. AreClauses c.set-set.result.now.atoms cs)
-          (c.clauses-clauses.ensures.clauses ∙ c.set-set.ensures.clauses)
-          c.clauses-clauses.ensures.below);
+          (c.clauses.ensures.clauses ∙ c.set-set.ensures.clauses)
+          c.clauses.ensures.below);
+      clauses = c.clauses.ensures.clauses ∙ c.set-set.ensures.clauses;
       index = subst (λ cs. IsIndexOf cs c.occurs.result.now) c.set-set.ensures.clauses
           c.occurs.ensures;
     }
@@ -27,8 +28,9 @@ try_value-requires-2-clause-touched g c =
       which = c.in-Set.is;
       below = subst (λ n. AreClauses n (formulas p c.in-Set.number)) c.set-set.ensures.atoms
           (subst (λ cs. AreClauses c.set-set.result.now.atoms cs)
-          (c.clauses-clauses.ensures.clauses ∙ c.set-set.ensures.clauses)
-          c.clauses-clauses.ensures.below);
+          (c.clauses.ensures.clauses ∙ c.set-set.ensures.clauses)
+          c.clauses.ensures.below);
+      clauses = c.clauses.ensures.clauses ∙ c.set-set.ensures.clauses;
       index = subst (λ cs. IsIndexOf cs c.occurs.result.now) c.set-set.ensures.clauses
           c.occurs.ensures;
     }
