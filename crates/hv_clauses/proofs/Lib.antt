@@ -13,6 +13,7 @@ pub mod OperandRounds
 pub mod Outside
 pub mod Problems
 pub mod Rounds
+pub mod Scattered
 pub mod Searching
 pub mod Steps
 pub mod Stored

@@ -12,9 +12,10 @@
 //! - `start` and `roots` put what is known at first on the `trail`: the `closure` of one positive
 //!   operand, the action's `precondition`, the initial state and the goal. `falsified` finds the
 //!   clauses of that operand to which the action gives a false literal.
-//! - `chase` propagates: `occurrences` says which clauses have a literal that became false,
-//!   `partners` what follows in clauses of two literals, and `watched` looks into longer ones.
-//!   `literal_owners` says, in a query with many positive operands, which of them have the literal.
+//! - `chase` propagates: `occurrences` says which clauses have a literal that became false, in
+//!   `rows` by atoms, which `counted` puts in order; `partners` what follows in clauses of two
+//!   literals, and `watched` looks into longer ones. `literal_owners` says, in a query with many
+//!   positive operands, which of them have the literal.
 //! - `choices`, `refuted`, `affected` and `fronts` go through the choices of one clause of each
 //!   negative operand.
 //! - `propagation` completes the assignment to a state where none of this refutes it, as the kind
@@ -38,6 +39,7 @@ mod closure;
 mod clusters;
 pub mod completion;
 mod constraint;
+mod counted;
 mod cover;
 mod denial;
 mod effect;

@@ -13,6 +13,7 @@ ghost use Rattle.hv_sets.specs.Cubes.{SpeakBelow};
 ghost use Rattle.hv_clauses.specs.Working.Occurrences.{AreOccurrences, AreStanding, IsIndexOf};
 ghost use Rattle.hv_clauses.specs.Working.Occurrences.{signed};
 
+use crate::counted::sort_by_keys;
 use crate::rows::RowHead;
 use crate::{partners, rows, signed};
 use hv_sets::{Clauses, Literal};
@@ -86,7 +87,7 @@ impl SignedOccurrences {
         ensures { IfOk result (AreOccurrences sign clauses.now) }
     {
         let mut places = signed::codes_of(alloc, clauses, sign)?;
-        rows::sort(&mut places);
+        sort_by_keys(alloc, &mut places)?;
         let heads = rows::heads_of(alloc, &places)?;
         let partners = partners::entries_of(alloc, clauses, &places, sign)?;
         rows::strip(&mut places);

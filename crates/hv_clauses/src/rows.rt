@@ -3,7 +3,7 @@
 //! number.
 //!
 //! The codes are sorted and then stripped to the numbers where they are, so making rows takes no
-//! second list.
+//! second list; but where many are put in order by counting (`counted`), one is there meanwhile.
 //!
 //! Numbers and ends have 32 bits, so a formula of more than 2^32 clauses, literals or implications
 //! is refused as out of memory. Nothing that the program reads or writes comes near: a formula is
@@ -74,7 +74,7 @@ pub(crate) fn sort(codes: &mut Vec<usize>)
 }
 
 // Whether the codes are in order, each once.
-fn do_rise(codes: &[usize]) -> bool
+pub(crate) fn do_rise(codes: &[usize]) -> bool
     ensures { result ≡ true → IsStrictlyIncreasing codes.now }
 {
     for place in 1..codes.len() {
