@@ -6,6 +6,7 @@ pub mod Tasks
 pub mod Flags
 pub mod Next
 pub mod Outside
+pub mod Turned
 pub mod Listing
 pub mod Lists
 pub mod Sets

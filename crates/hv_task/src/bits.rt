@@ -1,7 +1,7 @@
 //! One bit of a word, and one flag of some words.
 
 ghost use Rattle.std.specs.Prelude.{◌≡◌, ◌≢◌, ◌*◌, ◌+◌, ◌-◌, ◌/◌, ◌%◌, ◌^◌, ◌<◌, ◌≤◌, ◌==◌, ◌↔◌};
-ghost use Rattle.std.specs.Prelude.{◌&&◌, not, ℕ, length, slice_index, false, true, cond};
+ghost use Rattle.std.specs.Prelude.{◌&&◌, ◌||◌, not, ℕ, length, slice_index, false, true, cond};
 ghost use Rattle.std.specs.Prelude.{IsTrue, IfOk, OnOk, OnErr};
 ghost use Rattle.std.specs.Int.{bit_at};
 ghost use Rattle.hv_task.specs.Atoms.{IsNext};
@@ -69,6 +69,33 @@ pub(crate) fn meet_all(words: &mut Vec<u64>, other: &Vec<u64>)
         let both = words[at] & other[at];
         words[at] = both;
     }
+}
+
+/// Takes out the flags that are set in some words, and then sets those of others.
+pub(crate) fn turn_all(words: &mut Vec<u64>, out: &Vec<u64>, put: &Vec<u64>)
+    requires out { length words.old.items ≡ length out.now.items }
+    requires put { length words.old.items ≡ length put.now.items }
+    ensures flags { (p : ℕ) → flag_at words.new.items p ≡ (flag_at put.now.items p
+        || (flag_at words.old.items p && not (flag_at out.now.items p))) }
+    ensures length { length words.new.items ≡ length words.old.items }
+{
+    for at in 0..words.len() {
+        let word = turned(words[at], out[at], put[at]);
+        words[at] = word;
+    }
+}
+
+/// Whether each flag is set in the others too.
+pub(crate) fn are_within(words: &[u64], other: &[u64]) -> bool
+    requires { length words.now ≡ length other.now }
+    ensures { IsTrue result ↔ ((p : ℕ) → flag_at words.now p ≡ true → flag_at other.now p ≡ true) }
+{
+    for at in 0..words.len() {
+        if outside(words[at], other[at]) != 0 {
+            return false;
+        }
+    }
+    true
 }
 
 /// Sets no flag.
@@ -171,6 +198,14 @@ fn outside(word: u64, other: u64) -> u64
         → (bit_at result i == 1) ≡ ((bit_at word i == 1) && not (bit_at other i == 1)) }
 {
     word & !other
+}
+
+// The bits of the word that are not in the first other one, and those of the second.
+fn turned(word: u64, out: u64, put: u64) -> u64
+    ensures { (i : ℕ) → i < 64 → (bit_at result i == 1)
+        ≡ ((bit_at put i == 1) || ((bit_at word i == 1) && not (bit_at out i == 1))) }
+{
+    outside(word, out) | put
 }
 
 fn has_bit(word: u64, k: u32) -> bool

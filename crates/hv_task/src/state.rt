@@ -1,7 +1,7 @@
 //! States of a task, 64 atoms a word.
 
-ghost use Rattle.std.specs.Prelude.{◌≡◌, ◌<◌, ◌↔◌, ◌&&◌, not, ℕ, [], length, IsTrue, IfOk, OnOk};
-ghost use Rattle.std.specs.Prelude.{OnErr, slice_set};
+ghost use Rattle.std.specs.Prelude.{◌≡◌, ◌<◌, ◌↔◌, ◌&&◌, ◌||◌, not, ℕ, [], length, true, IsTrue, IfOk};
+ghost use Rattle.std.specs.Prelude.{OnOk, OnErr, slice_set};
 ghost use Rattle.std.specs.Cmp.{bool_eq_equiv, partial_equiv_from_equiv};
 ghost use Rattle.std.specs.Cmp.Lexicographic.{pointwise, lists_equiv, lists_per};
 ghost use Rattle.std.proofs.Math.Bool.{beq};
@@ -12,8 +12,8 @@ ghost use Rattle.hv_task.specs.Words.{AreWords};
 
 use crate::atoms::{Atoms, Hint};
 use crate::bits::{
-    clear_all, copy_all, has_flag, meet_all, next_flag, next_outside, put_flag, resize_all,
-    same_all, zeros,
+    are_within, clear_all, copy_all, has_flag, meet_all, next_flag, next_outside, put_flag,
+    resize_all, same_all, turn_all, zeros,
 };
 use std::alloc::{AllocError, Global};
 use std::marker::Model;
@@ -179,6 +179,26 @@ impl State {
         ensures { result ≡ has_all atoms.now self.now }
     {
         atoms.iter().all(|atom| self.has(*atom))
+    }
+
+    /// Whether the other holds each of its atoms.
+    pub(crate) fn is_within(&self, other: &State) -> bool
+        requires { length self.now ≡ length other.now }
+        ensures { IsTrue result
+            ↔ ((p : ℕ) → has_atom self.now p ≡ true → has_atom other.now p ≡ true) }
+    {
+        are_within(self.words.as_slice(), other.words.as_slice())
+    }
+
+    /// Takes out the atoms that the first holds, and then puts in those that the second holds.
+    pub(crate) fn turn(&mut self, out: &State, put: &State)
+        requires out { length self.old ≡ length out.now }
+        requires put { length self.old ≡ length put.now }
+        ensures turned { (p : ℕ) → has_atom self.new p
+            ≡ (has_atom put.now p || (has_atom self.old p && not (has_atom out.now p))) }
+        ensures atoms { length self.new ≡ length self.old }
+    {
+        turn_all(&mut self.words, &out.words, &put.words);
     }
 
     // Puts these atoms in (true) or takes them out (false).
