@@ -3,3 +3,4 @@ pub mod Costs
 pub mod PlanAnswers
 pub mod PlanFile
 pub mod PlanText
+pub mod Working

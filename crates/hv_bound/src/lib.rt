@@ -4,6 +4,7 @@
 pub mod bound;
 pub mod fault;
 pub mod laws;
+mod long_actions;
 pub mod plan_check;
 pub mod plan_list;
 pub mod read;

@@ -4,6 +4,7 @@ ghost use Rattle.std.specs.Prelude.{◌≡◌, ◌≤◌, length, IfOk};
 ghost use Rattle.hv_bound.specs.declared.plan_check.PlanAnswer.{PlanAnswer};
 ghost use Rattle.hv_bound.specs.PlanAnswers.{IsPlanAnswer};
 
+use crate::long_actions::LongActions;
 use hv_task::Task;
 use std::alloc::{AllocError, Global};
 
@@ -29,18 +30,18 @@ pub fn check_plan(alloc: Global, task: &Task, list: &[u32]) -> Result<PlanAnswer
         → IsPlanAnswer task.now list.now other → other ≡ answer) }
 {
     let mut state = task.start_state(alloc)?;
+    let mut long = LongActions::new(alloc);
     let mut cost = 0;
     for (place, number) in list.iter().enumerate() {
         let step = place as u64 + 1;
         if *number >= task.actions() {
             return Ok(PlanAnswer::Unknown(step));
         }
-        if !task.applicable(*number, &state) {
+        let taken = long.step(alloc, task, *number, &mut state)?;
+        if !taken {
             return Ok(PlanAnswer::NotApplicable(step));
         }
-        let action = task.action(*number);
-        cost += u64::from(action.cost);
-        action.apply(&mut state);
+        cost += u64::from(task.action(*number).cost);
     }
     if task.goal_in(&state) {
         Ok(PlanAnswer::Cost(cost))

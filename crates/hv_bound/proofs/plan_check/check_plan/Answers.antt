@@ -18,12 +18,21 @@ returns-then-number-actions c =
           (Unknown (c.loop-place.place + 1)) h answer;
     }
 
-pub returns-then-not-applicable : goal.returns-then-not-applicable
-returns-then-not-applicable c =
+pub loop-place-init : goal.loop-place-init
+loop-place-init c = record {
+  run = ap (λ s. Some s) (sym c.in_ok-state.ensures.start);
+  cost = refl;
+  small = omega arith;
+  state = c.in_ok-state.ensures.state;
+  kept = c.new-long.ensures c.args.task.now;
+}
+
+pub returns-then-not-taken : goal.returns-then-not-taken
+returns-then-not-taken c =
     let answer = not_applicable_at c.args.task.now c.args.list.now c.loop-place.place
     (get_or c.args.list.now c.loop-place.place 0) c.loop-place.state (omega arith) refl
-    c.loop-place.invariant.run c.applicable.result (omega (arith, c.actions.ensures.actions))
-    c.applicable.ensures c.if-not-applicable.true in
+    c.loop-place.invariant.run c.in_ok-taken.taken (omega (arith, c.actions.ensures.actions))
+    (λ a named. (c.in_ok-taken.ensures.step a named).applies) c.if-not-taken.true in
     record {
       answer = answer;
       only = λ other h. one_answer c.args.task.now c.args.list.now other
@@ -34,18 +43,18 @@ pub loop-place-preserved : goal.loop-place-preserved
 loop-place-preserved c =
     let i = c.loop-place.invariant in
     let small = i.small in
+    let step = c.in_ok-taken.ensures.step c.action.result.now c.action.ensures.named in
     let r = taken c.args.task.now c.args.list.now c.loop-place.place
     (get_or c.args.list.now c.loop-place.place 0) c.loop-place.state (omega arith) refl i.run
-    c.action-action.result.now c.action-action.ensures.named
-    (sym (c.applicable.ensures c.action-action.result.now c.action-action.ensures.named)
-    ∙ c.if-not-applicable.false) in
+    c.action.result.now c.action.ensures.named (sym step.applies ∙ c.if-not-taken.false) in
     record {
-      run = r.0 ∙ ap (λ s. Some s) (sym c.apply.ensures.successor);
+      run = r.0 ∙ ap (λ s. Some s) (sym (step.moves c.if-not-taken.false));
       cost = ap (λ n. n + c.from-cost.result) i.cost
           ∙ ap (λ n. cost_of_list c.args.task.now (take c.loop-place.place c.args.list.now) + n)
           c.from-cost.ensures ∙ sym r.1;
       small = omega arith;
-      state = c.apply.ensures.atoms ∙ i.state;
+      state = c.in_ok-taken.ensures.state;
+      kept = c.in_ok-taken.ensures.kept;
     }
 
 pub returns-then-goal_in : goal.returns-then-goal_in
