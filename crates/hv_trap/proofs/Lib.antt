@@ -1,5 +1,6 @@
 pub mod Listed
 pub mod Enclosing
+pub mod Marked
 pub mod Trapped
 pub mod Covered
 pub mod Formulas

@@ -2,4 +2,5 @@
 pub mod Trap
 pub mod Asking
 pub mod Room
+pub mod Marks
 pub mod Fitting

@@ -22,8 +22,8 @@ use hv_task::{Action, AtomList};
 /// What follows from which literals by clauses of at most two literals over at most 64 atoms.
 #[derive(Clone, Copy)]
 pub(crate) struct Implications {
-    // By one clause.
-    next: LiteralTable,
+    /// By one clause.
+    pub next: LiteralTable,
     // By any number of clauses.
     all: LiteralTable,
     // From the clauses alone.
@@ -48,6 +48,11 @@ impl Implications {
         for place in 0..clauses.len() {
             put_clause(&mut next, clauses.get(place));
         }
+        Implications::by(next)
+    }
+
+    /// Those where this follows by one clause.
+    pub(crate) fn by(next: LiteralTable) -> Implications {
         let all = next.closed();
         Implications {
             next,
@@ -101,25 +106,25 @@ impl Implications {
     }
 
     /// The atoms that a state lacks from which the action may lead, with a bit for each, if some
-    /// state is seen.
-    pub(crate) fn lacked(&self, action: &Action) -> Option<u64>
+    /// state is seen. No more follows by one clause than this.
+    pub(crate) fn lacked(&self, next: &LiteralTable, action: &Action) -> Option<u64>
         requires { IsOver 64 action.now }
     {
         let step = self.step_of(action);
         if step.after.clashes() {
             return None;
         }
-        self.lacked_by_added(step, &action.add)
-            .or_else(|| self.lacked_by_deleted(step, action))
+        self.lacked_by_added(next, step, &action.add)
+            .or_else(|| self.lacked_by_deleted(next, step, action))
     }
 
     // The same where a clause is made true by an atom that is added.
-    fn lacked_by_added(&self, step: ActionMasks, add: &AtomList) -> Option<u64>
+    fn lacked_by_added(&self, next: &LiteralTable, step: ActionMasks, add: &AtomList) -> Option<u64>
         requires { AreBelow 64 add.now }
     {
         for atom in add.as_slice() {
             if !has_bit(step.pre, *atom) {
-                if let Some(lacked) = self.lacked_from(step, denies(*atom)) {
+                if let Some(lacked) = self.lacked_from(next, step, denies(*atom)) {
                     return Some(lacked);
                 }
             }
@@ -128,12 +133,17 @@ impl Implications {
     }
 
     // The same where a clause is made true by an atom that is deleted.
-    fn lacked_by_deleted(&self, step: ActionMasks, action: &Action) -> Option<u64>
+    fn lacked_by_deleted(
+        &self,
+        next: &LiteralTable,
+        step: ActionMasks,
+        action: &Action,
+    ) -> Option<u64>
         requires { IsOver 64 action.now }
     {
         for atom in action.del.as_slice() {
             if !action.add.has(*atom) {
-                if let Some(lacked) = self.lacked_from(step, holds(*atom)) {
+                if let Some(lacked) = self.lacked_from(next, step, holds(*atom)) {
                     return Some(lacked);
                 }
             }
@@ -143,10 +153,10 @@ impl Implications {
 
     // The same where the literal is true before and false after the action, and some clause that
     // has its opposite is false before.
-    fn lacked_from(&self, step: ActionMasks, before: Literal) -> Option<u64>
+    fn lacked_from(&self, next: &LiteralTable, step: ActionMasks, before: Literal) -> Option<u64>
         requires { before.atom < 64 }
     {
-        let other = step.open(self.next.of(before)).first()?;
+        let other = step.open(next.of(before)).first()?;
         let denied = opposite(other);
         let mut after = step.after;
         if !has_bit(step.set, other.atom) {

@@ -18,6 +18,7 @@ mod implications;
 pub mod laws;
 mod literal_mask;
 mod literal_table;
+mod marks;
 mod notes;
 mod sweep;
 pub mod trap;

@@ -67,6 +67,14 @@ impl Mask {
         }
     }
 
+    /// The literals that are in both sets.
+    pub(crate) fn met(self, other: Mask) -> Mask {
+        Mask {
+            holds: self.holds & other.holds,
+            denies: self.denies & other.denies,
+        }
+    }
+
     /// The negations of its literals.
     pub(crate) fn opposite(self) -> Mask {
         Mask {

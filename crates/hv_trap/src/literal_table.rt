@@ -39,6 +39,15 @@ impl LiteralTable {
         self.rows[place] = self.rows[place].with(to);
     }
 
+    /// Takes out of the set of each of these literals what isn't among them.
+    pub(crate) fn keep(&mut self, literals: Mask) {
+        for place in 0..LITERALS {
+            if literals.has(literal_at(place)) {
+                self.rows[place] = self.rows[place].met(literals);
+            }
+        }
+    }
+
     /// The table of what follows by any number of steps, none among them.
     pub(crate) fn closed(&self) -> LiteralTable {
         let mut table = *self;

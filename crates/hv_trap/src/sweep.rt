@@ -1,30 +1,40 @@
 //! Sweeps over the actions, in which most of what can't be in a trap is taken out.
 //!
 //! A clause that an action turns gives a state from which it may lead in (`implications`). That
-//! state is written down and tried on all clauses before any is taken out. A visit of an action
-//! that took something out is followed by another; later an action is visited again only where
-//! something else follows from a literal that its visit reads: whenever clauses were taken out, the
-//! rows before and after are compared, and the literals whose rows differ count for this sweep and
-//! the next. What would be missed is found by the queries, so nothing of this is proved.
+//! state is written down and tried on all clauses before any is marked. A visit looks for one state
+//! after another by the same rows, with what each marked taken out of what follows by one clause;
+//! then what is marked is taken out. A visit that took something out is followed by another, with
+//! rows made anew; later an action is visited again only where something else follows from a
+//! literal that its visit reads: whenever clauses were taken out, the rows before and after are
+//! compared, and the literals whose rows differ count for this sweep and the next. What would be
+//! missed is found by the queries, so nothing of this is proved.
 
 ghost use Rattle.std.specs.Prelude.{◌≡◌, ◌<◌, ◌≤◌, true, false, IfOk, OnOk, length};
 ghost use Rattle.hv_task.specs.Strips.{IsState, atoms};
 ghost use Rattle.hv_clauses.specs.Clausal.{AreClauses};
+ghost use Rattle.hv_trap.specs.Working.Marks.{AreLeft};
 ghost use Rattle.hv_trap.specs.Working.Room.{HasStates};
 ghost use Rattle.hv_trap.specs.Working.Trap.{EncloseTrap, Escapes};
 
 use crate::implications::Implications;
 use crate::literal_mask::{Mask, has_bit};
-use crate::trap_query::{are_true_in, true_in};
+use crate::literal_table::LiteralTable;
+use crate::marks::{leave_all, left_of, mark_false};
+use crate::trap_query::are_true_in;
 use hv_sets::Clauses;
 use hv_task::{State, Task};
 use std::alloc::{AllocError, Global};
 
 /// What follows by the clauses that are left, from which literals that changed in the last sweep
-/// and in this one, and space for two states.
+/// and in this one, which clauses are left in a visit, and space for two states.
 #[derive(Drop)]
 pub(crate) struct SweepState {
+    // As the last visit began.
     rows: Implications,
+    // By one clause that is left.
+    next: LiteralTable,
+    // Of each clause, in a visit.
+    left: Vec<bool>,
     earlier: Mask,
     changed: Mask,
     before: State,
@@ -41,6 +51,8 @@ pub(crate) fn take_out(alloc: Global, task: &Task, clauses: &mut Clauses) -> Res
     let rows = Implications::of(clauses);
     let mut room = SweepState {
         rows,
+        next: rows.next,
+        left: Vec::new(alloc),
         earlier: Mask::all(),
         changed: Mask::none(),
         before: State::empty(alloc, task.atoms())?,
@@ -104,7 +116,7 @@ fn exhaust(
 {
     let mut found = false;
     while visit(alloc, task, room, action, clauses)? {
-        let rows = Implications::of(clauses);
+        let rows = Implications::by(room.next);
         room.changed = room.changed.joined(rows.changed(&room.rows));
         room.rows = rows;
         found = true;
@@ -112,8 +124,9 @@ fn exhaust(
     Ok(found)
 }
 
-// Takes out the clauses that are false in a state from which the action leads to one in which all
-// are true, if such a state is seen. The answer is whether one is.
+// Takes out the clauses that are false in states from which the action leads to one in which all
+// are true, as far as such states are seen by the rows. The answer is whether a clause is taken
+// out.
 fn visit(
     alloc: Global,
     task: &Task,
@@ -130,16 +143,63 @@ fn visit(
     ensures shrinks { OnOk result (length clauses.new ≤ length clauses.old) }
     ensures fewer { IfOk result (λ found. found ≡ true → length clauses.new < length clauses.old) }
 {
-    let Some(lacked) = room.rows.lacked(task.action(action)) else {
+    if room.rows.lacked(&room.next, task.action(action)).is_none() {
         return Ok(false);
+    }
+    leave_all(&mut room.left, clauses.len())?;
+    if !mark_all(task, room, action, clauses) {
+        return Ok(false);
+    }
+    let kept = left_of(alloc, clauses, &room.left)?;
+    let fewer = kept.len() < clauses.len();
+    *clauses = kept;
+    Ok(fewer)
+}
+
+// Marks the clauses that are false in such states, one state after another. The answer is whether
+// there is one.
+fn mark_all(task: &Task, room: &mut SweepState, action: u32, clauses: &Clauses) -> bool
+    requires few { atoms task.now ≤ 64 }
+    requires action { action < length task.now.actions }
+    requires room { HasStates task.now room.old }
+    requires clauses { EncloseTrap task.now clauses.now }
+    requires left { AreLeft task.now clauses.now room.old.left.items }
+    ensures room { HasStates task.now room.new }
+    ensures left { AreLeft task.now clauses.now room.new.left.items }
+{
+    let mut found = false;
+    for _ in 0..clauses.len() {
+        if !mark(task, room, action, clauses) {
+            return found;
+        }
+        found = true;
+    }
+    found
+}
+
+// Marks the clauses that are false in such a state, if one is seen. The answer is whether one is.
+fn mark(task: &Task, room: &mut SweepState, action: u32, clauses: &Clauses) -> bool
+    requires few { atoms task.now ≤ 64 }
+    requires action { action < length task.now.actions }
+    requires room { HasStates task.now room.old }
+    requires clauses { EncloseTrap task.now clauses.now }
+    requires left { AreLeft task.now clauses.now room.old.left.items }
+    ensures room { HasStates task.now room.new }
+    ensures left { AreLeft task.now clauses.now room.new.left.items }
+{
+    let Some(lacked) = room.rows.lacked(&room.next, task.action(action)) else {
+        return false;
     };
     hold_others(&mut room.before, lacked);
     if !escapes(task, action, clauses, &room.before, &mut room.after) {
-        return Ok(false);
+        return false;
     }
-    let kept = true_in(alloc, clauses, &room.before)?;
-    *clauses = kept;
-    Ok(true)
+    mark_false(&mut room.left, clauses, &room.before);
+    room.next.keep(Mask {
+        holds: !lacked,
+        denies: lacked,
+    });
+    true
 }
 
 // Makes it the state that lacks these atoms alone.

@@ -139,12 +139,8 @@ fn leads_in(
     Ok(found == Finding::Clash)
 }
 
-/// The clauses that are true in the state, in order.
-pub(crate) fn true_in(
-    alloc: Global,
-    clauses: &Clauses,
-    state: &State,
-) -> Result<Clauses, AllocError>
+// The clauses that are true in the state, in order.
+fn true_in(alloc: Global, clauses: &Clauses, state: &State) -> Result<Clauses, AllocError>
     requires { AreClauses (length state.now) clauses.now }
     ensures { IfOk result (λ kept. kept ≡ filter (λ c. in_clause c state.now) clauses.now) }
 {
@@ -167,8 +163,8 @@ fn put_true(kept: &mut Clauses, clause: &[Literal], state: &State) -> Result<(),
     Ok(())
 }
 
-// Whether some literal of the clause is true in the state.
-fn is_true_in(clause: &[Literal], state: &State) -> bool
+/// Whether some literal of the clause is true in the state.
+pub(crate) fn is_true_in(clause: &[Literal], state: &State) -> bool
     requires { SpeakBelow (length state.now) clause.now }
     ensures { result ≡ in_clause clause.now state.now }
 {
