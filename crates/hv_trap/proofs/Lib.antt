@@ -1,6 +1,7 @@
 pub mod Listed
 pub mod Enclosing
 pub mod Marked
+pub mod Quickly
 pub mod Trapped
 pub mod Covered
 pub mod Formulas

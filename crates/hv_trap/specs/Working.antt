@@ -3,4 +3,5 @@ pub mod Trap
 pub mod Asking
 pub mod Room
 pub mod Marks
+pub mod Quick
 pub mod Fitting

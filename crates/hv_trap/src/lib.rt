@@ -20,6 +20,7 @@ mod literal_mask;
 mod literal_table;
 mod marks;
 mod notes;
+mod quick;
 mod sweep;
 pub mod trap;
 pub mod trap_proof;

@@ -9,18 +9,19 @@
 //! compared, and the literals whose rows differ count for this sweep and the next. What would be
 //! missed is found by the queries, so nothing of this is proved.
 
-ghost use Rattle.std.specs.Prelude.{◌≡◌, ◌<◌, ◌≤◌, true, false, IfOk, OnOk, length};
+ghost use Rattle.std.specs.Prelude.{◌≡◌, ◌<◌, ◌≤◌, true, false, List, IfOk, OnOk, length};
 ghost use Rattle.hv_task.specs.Strips.{IsState, atoms};
-ghost use Rattle.hv_clauses.specs.Clausal.{AreClauses};
+ghost use Rattle.hv_sets.specs.declared.literal.Literal.{Literal};
 ghost use Rattle.hv_trap.specs.Working.Marks.{AreLeft};
+ghost use Rattle.hv_trap.specs.Working.Quick.{ArePairs};
 ghost use Rattle.hv_trap.specs.Working.Room.{HasStates};
 ghost use Rattle.hv_trap.specs.Working.Trap.{EncloseTrap, Escapes};
 
 use crate::implications::Implications;
 use crate::literal_mask::{Mask, has_bit};
 use crate::literal_table::LiteralTable;
-use crate::marks::{leave_all, left_of, mark_false};
-use crate::trap_query::are_true_in;
+use crate::marks::{leave_all, left_of};
+use crate::quick::QuickClauses;
 use hv_sets::Clauses;
 use hv_task::{State, Task};
 use std::alloc::{AllocError, Global};
@@ -33,7 +34,8 @@ pub(crate) struct SweepState {
     rows: Implications,
     // By one clause that is left.
     next: LiteralTable,
-    // Of each clause, in a visit.
+    // The clauses, and which of them are left, in a visit.
+    quick: QuickClauses,
     left: Vec<bool>,
     earlier: Mask,
     changed: Mask,
@@ -52,6 +54,7 @@ pub(crate) fn take_out(alloc: Global, task: &Task, clauses: &mut Clauses) -> Res
     let mut room = SweepState {
         rows,
         next: rows.next,
+        quick: QuickClauses::new(alloc),
         left: Vec::new(alloc),
         earlier: Mask::all(),
         changed: Mask::none(),
@@ -146,8 +149,12 @@ fn visit(
     if room.rows.lacked(&room.next, task.action(action)).is_none() {
         return Ok(false);
     }
+    let short = room.quick.set(clauses)?;
+    if !short {
+        return Ok(false);
+    }
     leave_all(&mut room.left, clauses.len())?;
-    if !mark_all(task, room, action, clauses) {
+    if !mark_all(task, room, action) {
         return Ok(false);
     }
     let kept = left_of(alloc, clauses, &room.left)?;
@@ -158,18 +165,20 @@ fn visit(
 
 // Marks the clauses that are false in such states, one state after another. The answer is whether
 // there is one.
-fn mark_all(task: &Task, room: &mut SweepState, action: u32, clauses: &Clauses) -> bool
+fn mark_all(task: &Task, room: &mut SweepState, action: u32) -> bool
     requires few { atoms task.now ≤ 64 }
     requires action { action < length task.now.actions }
     requires room { HasStates task.now room.old }
-    requires clauses { EncloseTrap task.now clauses.now }
-    requires left { AreLeft task.now clauses.now room.old.left.items }
+    requires marks { length room.old.left.items ≡ length room.old.quick.pairs.items }
     ensures room { HasStates task.now room.new }
-    ensures left { AreLeft task.now clauses.now room.new.left.items }
+    ensures left { (clauses : List (List Literal)) → EncloseTrap task.now clauses
+        → ArePairs (atoms task.now) clauses room.old.quick.pairs.items
+        → AreLeft task.now clauses room.old.left.items
+        → AreLeft task.now clauses room.new.left.items }
 {
     let mut found = false;
-    for _ in 0..clauses.len() {
-        if !mark(task, room, action, clauses) {
+    for _ in 0..room.left.len() {
+        if !mark(task, room, action) {
             return found;
         }
         found = true;
@@ -178,23 +187,27 @@ fn mark_all(task: &Task, room: &mut SweepState, action: u32, clauses: &Clauses) 
 }
 
 // Marks the clauses that are false in such a state, if one is seen. The answer is whether one is.
-fn mark(task: &Task, room: &mut SweepState, action: u32, clauses: &Clauses) -> bool
+fn mark(task: &Task, room: &mut SweepState, action: u32) -> bool
     requires few { atoms task.now ≤ 64 }
     requires action { action < length task.now.actions }
     requires room { HasStates task.now room.old }
-    requires clauses { EncloseTrap task.now clauses.now }
-    requires left { AreLeft task.now clauses.now room.old.left.items }
+    requires marks { length room.old.left.items ≡ length room.old.quick.pairs.items }
     ensures room { HasStates task.now room.new }
-    ensures left { AreLeft task.now clauses.now room.new.left.items }
+    ensures pairs { room.new.quick.pairs.items ≡ room.old.quick.pairs.items }
+    ensures marks { length room.new.left.items ≡ length room.new.quick.pairs.items }
+    ensures left { (clauses : List (List Literal)) → EncloseTrap task.now clauses
+        → ArePairs (atoms task.now) clauses room.old.quick.pairs.items
+        → AreLeft task.now clauses room.old.left.items
+        → AreLeft task.now clauses room.new.left.items }
 {
     let Some(lacked) = room.rows.lacked(&room.next, task.action(action)) else {
         return false;
     };
     hold_others(&mut room.before, lacked);
-    if !escapes(task, action, clauses, &room.before, &mut room.after) {
+    if !escapes(task, room, action) {
         return false;
     }
-    mark_false(&mut room.left, clauses, &room.before);
+    room.quick.mark_false(&mut room.left, &room.before);
     room.next.keep(Mask {
         holds: !lacked,
         denies: lacked,
@@ -212,22 +225,26 @@ fn hold_others(state: &mut State, lacked: u64)
     }
 }
 
-// Whether a clause is false in the state, and the action leads from it to one in which all are
-// true.
-fn escapes(task: &Task, action: u32, clauses: &Clauses, before: &State, after: &mut State) -> bool
+// Whether a clause is false in the first state, and the action leads from it to one in which all
+// are true.
+fn escapes(task: &Task, room: &mut SweepState, action: u32) -> bool
+    requires few { atoms task.now ≤ 64 }
     requires action { action < length task.now.actions }
-    requires clauses { AreClauses (atoms task.now) clauses.now }
-    requires before { IsState task.now before.now }
-    requires after { IsState task.now after.old }
-    ensures escapes { result ≡ true → Escapes task.now clauses.now action before.now }
-    ensures after { IsState task.now after.new }
+    requires room { HasStates task.now room.old }
+    ensures escapes { result ≡ true → (clauses : List (List Literal))
+        → ArePairs (atoms task.now) clauses room.old.quick.pairs.items
+        → Escapes task.now clauses action room.old.before }
+    ensures before { room.new.before ≡ room.old.before }
+    ensures room { HasStates task.now room.new }
+    ensures pairs { room.new.quick.pairs.items ≡ room.old.quick.pairs.items }
+    ensures left { room.new.left.items ≡ room.old.left.items }
 {
-    if are_true_in(clauses, before) {
+    if room.quick.are_true_in(&room.before) {
         return false;
     }
-    if !task.applicable(action, before) {
+    if !task.applicable(action, &room.before) {
         return false;
     }
-    task.after(action, before, after);
-    are_true_in(clauses, after)
+    task.after(action, &room.before, &mut room.after);
+    room.quick.are_true_in(&room.after)
 }

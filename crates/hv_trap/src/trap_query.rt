@@ -163,8 +163,8 @@ fn put_true(kept: &mut Clauses, clause: &[Literal], state: &State) -> Result<(),
     Ok(())
 }
 
-/// Whether some literal of the clause is true in the state.
-pub(crate) fn is_true_in(clause: &[Literal], state: &State) -> bool
+// Whether some literal of the clause is true in the state.
+fn is_true_in(clause: &[Literal], state: &State) -> bool
     requires { SpeakBelow (length state.now) clause.now }
     ensures { result ≡ in_clause clause.now state.now }
 {

@@ -1,0 +1,12 @@
+use Rattle.std.proofs.Common.{false, arith}
+use Rattle.hv_sets.specs.declared.literal.Literal.{Literal}
+use Rattle.hv_trap.proofs.Quickly.{pair_tells}
+use Rattle.hv_trap.proofs.quick.pair_of.Goals as goal
+
+pub returns : goal.returns
+returns c = λ bound below.
+    let none : Literal = record { atom = 0; positive = false } in
+    pair_tells bound c.args.clause.now
+    (record { first = c.code_of-first.result; second = c.code_of-second.result }) none none
+    (let some = c.if-count-eq0.false in omega arith) c.if-count-gt2.false c.code_of-first.ensures
+    c.code_of-second.ensures below
