@@ -5,4 +5,6 @@ pub mod HeldBytes
 pub mod Known
 pub mod LineFields
 pub mod LineLaws
+pub mod Places
+pub mod ShortFronts
 pub mod WholeText

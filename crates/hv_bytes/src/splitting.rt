@@ -5,15 +5,24 @@ ghost use Rattle.hv_bytes.specs.Fields.{HasNoSpace, cut_fields};
 ghost use Rattle.hv_bytes.specs.Working.Fields.{IsFirstSpace};
 ghost use Rattle.hv_bytes.specs.LineCuts.{IsClean};
 ghost use Rattle.hv_bytes.specs.Working.LineCuts.{IsFirstLf};
+ghost use Rattle.memchr.specs.Find.{IsFirstByte, is_byte};
 
-use memchr::memchr;
+use memchr::{memchr, memchr_iter};
 
 /// The place of the first LF.
 pub(crate) fn find_lf(bytes: &[u8]) -> Option<usize>
     ensures none { IfNone result (IsClean bytes.now) }
     ensures some { IfSome result (IsFirstLf bytes.now) }
 {
-    memchr(b'\n', bytes)
+    find_near(b'\n', bytes)
+}
+
+/// The first place of the byte, which is likely to be near: the next 32 bytes are looked at first.
+#[inline(always)]
+fn find_near(byte: u8, bytes: &[u8]) -> Option<usize>
+    ensures { IsFirstByte (is_byte byte) bytes.now result }
+{
+    memchr_iter(byte, bytes).next()
 }
 
 /// The place of the first space.
