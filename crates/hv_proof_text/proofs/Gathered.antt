@@ -36,7 +36,7 @@ gathers_more whole left more fields rest later token so_far short first reads =
 one_injective : {A : Type 0} {x y : A} → x ∷ [] ≡ y ∷ [] → x ≡ y
 one_injective e = cc
 
-same_first : {A : Type 0} {x y : A} {xs ys : List A} → x ∷ xs ≡ y ∷ ys → (x ≡ y) × (xs ≡ ys)
+pub same_first : {A : Type 0} {x y : A} {xs ys : List A} → x ∷ xs ≡ y ∷ ys → (x ≡ y) × (xs ≡ ys)
 same_first e = (cc, cc)
 
 -- two tokens of one field are one
@@ -196,7 +196,7 @@ gathers_tokens items fields rest so_far none =
     subst (λ ts. AreTokens ts fields) same (record { each = so_far.1; same = spelled })
 
 -- a line has a first field
-has_first : (line : List ℕ)
+pub has_first : (line : List ℕ)
     → (first : List ℕ) × (later : List (List ℕ)) × (cut_fields line ≡ first ∷ later)
 has_first line = first_of (cut_fields line) (omega (arith, length-slice_split (λ b. eqb b 32) line))
   where

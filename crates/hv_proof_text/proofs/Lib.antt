@@ -3,6 +3,7 @@ pub mod Decoding
 pub mod Fronts
 pub mod Gathered
 pub mod Joined
+pub mod KnownForms
 pub mod LineFields
 pub mod LineForms
 pub mod ListedForms

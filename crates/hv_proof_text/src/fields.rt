@@ -6,11 +6,14 @@
 ghost use Rattle.std.specs.Prelude.{◌≡◌, ◌<◌, ◌≤◌, ◌^◌, ℕ, ◌∷◌, true, false, decimal, length, List};
 ghost use Rattle.std.specs.Prelude.{MatchOption, Ok, [], codes};
 ghost use Rattle.hv_bytes.specs.Fields.{cut_fields};
+ghost use Rattle.hv_lines.specs.Spelling.{word_field};
+ghost use Rattle.hv_lines.specs.declared.line.Word.{Word};
 ghost use Rattle.hv_proof_text.specs.Working.Gathering.{fields_behind};
 ghost use Rattle.hv_proof_text.specs.Working.Tokens.{AreTokens, IsNameToken, IsToken, field_of};
 ghost use Rattle.hv_proof_text.specs.Working.Tokens.{letter, letter_field, number};
 ghost use Rattle.hv_proof_text.specs.declared.token.Letter.{Letter};
 ghost use Rattle.hv_proof_text.specs.declared.token.Token.{Token};
+ghost use Rattle.hv_proof_text.specs.declared.token.Token.TheVariants as T;
 
 use crate::token::{Letter, Token, letter_of};
 use hv_bytes::decimal_front;
@@ -31,6 +34,7 @@ pub(crate) fn first_letter(fields: Option<&[u8]>) -> Option<(Letter, Option<&[u8
 }
 
 /// The number of the first field, and what follows that.
+#[inline(always)]
 pub(crate) fn first_number(fields: Option<&[u8]>) -> Option<(u64, Option<&[u8]>)>
     ensures { MatchOption result
         ((n : ℕ) (tokens : List Token) → AreTokens (number n ∷ tokens)
@@ -40,6 +44,27 @@ pub(crate) fn first_number(fields: Option<&[u8]>) -> Option<(u64, Option<&[u8]>)
 {
     let (number, behind) = decimal_front(fields?)?;
     Some((number, behind))
+}
+
+/// The word of the first field, and what follows that.
+#[inline(always)]
+pub(crate) fn first_word(fields: Option<&[u8]>) -> Option<(Word, Option<&[u8]>)>
+    ensures { MatchOption result
+        ((word : Word) (tokens : List Token) → AreTokens (T.Word word ∷ tokens)
+        (fields_behind fields.entry (λ f. f.now)) → ⊥)
+        (λ p. fields_behind fields.entry (λ f. f.now)
+        ≡ word_field p.0 ∷ fields_behind p.1 (λ f. f.now)) }
+{
+    let Some(line) = fields else {
+        return None;
+    };
+    let Some((first, second, behind)) = pair_front(line) else {
+        return None;
+    };
+    let Some(word) = Word::spelled(&[first, second]) else {
+        return None;
+    };
+    Some((word, behind))
 }
 
 /// The token of the first field, and what follows that.
@@ -103,6 +128,7 @@ fn letter_front(line: &[u8]) -> Option<(Letter, Option<&[u8]>)>
 }
 
 /// The two bytes that the first field is, and what follows that.
+#[inline(always)]
 fn pair_front(line: &[u8]) -> Option<(u8, u8, Option<&[u8]>)>
     ensures { MatchOption result
         ((first second : ℕ) (later : List (List ℕ))
@@ -118,6 +144,7 @@ fn pair_front(line: &[u8]) -> Option<(u8, u8, Option<&[u8]>)>
 }
 
 /// The number behind the dash of the first field, and what follows that field.
+#[inline(always)]
 fn minus_front(line: &[u8]) -> Option<(u64, Option<&[u8]>)>
     ensures { MatchOption result
         ((n : ℕ) (later : List (List ℕ)) → n < 10 ^ 18

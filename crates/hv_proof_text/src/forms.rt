@@ -1,14 +1,11 @@
 //! Lines from tokens: what may be behind each letter.
 
-ghost use Rattle.std.specs.Prelude.{◌≡◌, ℕ, List, ◌∷◌, None, MatchOption, IfOk, length};
+ghost use Rattle.std.specs.Prelude.{◌≡◌, ◌≢◌, ℕ, List, ◌∷◌, None, MatchOption, IfOk, length};
 ghost use Rattle.hv_lines.specs.Spelling.{Spells};
 ghost use Rattle.hv_lines.specs.declared.line.Acts.{Acts};
 ghost use Rattle.hv_lines.specs.declared.line.Expr.{Expr};
 ghost use Rattle.hv_lines.specs.declared.line.Line.{Line};
-ghost use Rattle.hv_lines.specs.declared.line.Statement.{Statement};
-ghost use Rattle.hv_lines.specs.declared.line.Word.{Word};
-ghost use Rattle.hv_proof_text.specs.Working.Forms.{ActsForm, ExprForm, ClaimForm, SupportForm};
-ghost use Rattle.hv_proof_text.specs.Working.Forms.{LineForm};
+ghost use Rattle.hv_proof_text.specs.Working.Forms.{ActsForm, ExprForm, LineForm};
 ghost use Rattle.hv_sets.specs.declared.literal.Literal.{Literal};
 ghost use Rattle.hv_proof_text.specs.Working.Gathering.{BeginsWithCount, StandFor, fields_behind};
 ghost use Rattle.hv_proof_text.specs.Working.Heads.{listed_by, listed_kind, listed_letter};
@@ -16,75 +13,14 @@ ghost use Rattle.hv_proof_text.specs.Working.Tokens.{AreClauseTokens, AreRisingN
 ghost use Rattle.hv_proof_text.specs.Working.Tokens.{AreStateTokens};
 ghost use Rattle.hv_proof_text.specs.declared.token.Token.{Token};
 
+use crate::claims::known_of;
 use crate::fields::{first_number, tokens_in};
 use crate::token::{Letter, Token};
 use crate::token_rows::{LineHead, ListKind};
 use crate::{lists, token_rows};
-use hv_lines::{ActionList, Acts, Expr, Line, Premises, Statement, Word};
+use hv_lines::{ActionList, Acts, Expr, Line};
 use hv_sets::{Clauses, StateList};
 use std::alloc::{AllocError, Global};
-
-/// A statement, and what follows it.
-#[derive(Drop)]
-struct Claim<'a> {
-    statement: Statement,
-    rest: &'a [Token],
-}
-
-/// The statement behind its letter.
-fn claim_of(kind: Letter, tokens: &[Token]) -> Option<Claim<'_>>
-    ensures { MatchOption result
-        ((statement : Statement) (rest : List Token) → ClaimForm kind tokens.now statement rest → ⊥)
-        (λ claim. ClaimForm kind tokens.now claim.statement claim.rest.now) }
-{
-    match kind {
-        Letter::S => match token_rows::two_first(tokens) {
-            Some(first) => Some(Claim {
-                statement: Statement::Sub(first.left, first.right),
-                rest: first.rest,
-            }),
-            None => None,
-        },
-        Letter::A => match token_rows::two_first(tokens) {
-            Some(first) => Some(Claim {
-                statement: Statement::ActSub(first.left, first.right),
-                rest: first.rest,
-            }),
-            None => None,
-        },
-        Letter::D => match token_rows::counted(tokens) {
-            Some(first) => Some(Claim {
-                statement: Statement::Dead(first.0 as usize),
-                rest: first.1,
-            }),
-            None => None,
-        },
-        Letter::U => Some(Claim {
-            statement: Statement::Unsolvable,
-            rest: tokens,
-        }),
-        _ => None,
-    }
-}
-
-/// A word and its premises.
-#[derive(Drop)]
-struct Support {
-    word: Word,
-    premises: Premises,
-}
-
-/// The word behind a statement, with as many premises as it has there.
-fn support_of(statement: &Statement, tokens: &[Token]) -> Option<Support>
-    ensures { MatchOption result
-        ((word : Word) (premises : List ℕ) → SupportForm statement.now tokens.now word premises → ⊥)
-        (λ support. SupportForm statement.now tokens.now support.word support.premises) }
-{
-    let (word, rest) = token_rows::word_first(tokens)?;
-    let count = word.premises_after(statement)?;
-    let premises = token_rows::premises_in(count, rest)?;
-    Some(Support { word, premises })
-}
 
 /// The action set behind its letter, where that isn't listed.
 fn acts_of(kind: Letter, tokens: &[Token]) -> Option<Acts>
@@ -125,25 +61,10 @@ fn expr_of(kind: Letter, tokens: &[Token]) -> Option<Expr>
     }
 }
 
-/// The claim behind its identifier.
-fn known_of(id: usize, kind: Letter, tokens: &[Token]) -> Option<Line>
-    ensures { MatchOption result
-        ((line : Line) → LineForm Letter.K id kind tokens.now line → ⊥)
-        (λ line. LineForm Letter.K id kind tokens.now line) }
-{
-    let claim = claim_of(kind, tokens)?;
-    let support = support_of(&claim.statement, claim.rest)?;
-    Some(Line::Known {
-        id,
-        statement: claim.statement,
-        word: support.word,
-        premises: support.premises,
-    })
-}
-
-/// The line behind its head, where nothing is listed there.
+/// The line of a set behind its head, where nothing is listed there.
 fn plain_line(letter: Letter, id: usize, kind: Letter, tokens: &[Token]) -> Option<Line>
-    requires { listed_by letter kind ≡ None }
+    requires plain { listed_by letter kind ≡ None }
+    requires no_claim { letter ≢ Letter.K }
     ensures { MatchOption result
         ((line : Line) → LineForm letter id kind tokens.now line → ⊥)
         (λ line. LineForm letter id kind tokens.now line) }
@@ -157,7 +78,6 @@ fn plain_line(letter: Letter, id: usize, kind: Letter, tokens: &[Token]) -> Opti
             Some(expr) => Some(Line::Expr { id, expr }),
             None => None,
         },
-        Letter::K => known_of(id, kind, tokens),
         _ => None,
     }
 }
@@ -293,6 +213,9 @@ fn line_by(
         (λ line. StandFor (λ ts. LineForm head.now.letter head.now.id head.now.kind ts line)
         (fields_behind head.now.rest (λ f. f.now)))) }
 {
+    if let Letter::K = head.letter {
+        return Ok(known_of(head.id, head.kind, head.rest));
+    }
     if let Some(listed) = token_rows::listed_by(head.letter, head.kind) {
         return listed_line(alloc, listed, head.id, head.rest);
     }

@@ -1,6 +1,7 @@
 //! Proof texts: lines to bytes and back.
 #![tactic(auto)]
 
+mod claims;
 mod fields;
 mod forms;
 pub mod laws;

@@ -1,22 +1,19 @@
-//! Short rows of tokens: numbers, a constant, a word, premises.
+//! The head of a line, and short rows of tokens: numbers, a constant.
 
-ghost use Rattle.std.specs.Prelude.{◌≡◌, ◌<◌, ◌≤◌, ◌^◌, ℕ, List, [], ◌∷◌, MatchOption, decimal};
-ghost use Rattle.std.specs.Prelude.{length, map};
+ghost use Rattle.std.specs.Prelude.{◌≡◌, ◌<◌, ◌^◌, ℕ, List, [], ◌∷◌, MatchOption, decimal};
 ghost use Rattle.hv_bytes.specs.Fields.{cut_fields};
 ghost use Rattle.hv_lines.specs.Spelling.{FitsShortDecimal};
 ghost use Rattle.hv_lines.specs.declared.line.Constant.{Constant};
-ghost use Rattle.hv_lines.specs.declared.line.Word.{Word};
 ghost use Rattle.hv_proof_text.specs.Working.Gathering.{fields_behind};
 ghost use Rattle.hv_proof_text.specs.Working.Heads.{listed_by};
 ghost use Rattle.hv_proof_text.specs.Working.Tokens.{AreTokens, constant_letter, letter};
 ghost use Rattle.hv_proof_text.specs.Working.Tokens.{letter_field, number};
 ghost use Rattle.hv_proof_text.specs.declared.token.Letter.{Letter};
 ghost use Rattle.hv_proof_text.specs.declared.token.Token.{Token};
-ghost use Rattle.hv_proof_text.specs.declared.token.Token.TheVariants as T;
 
 use crate::fields::{first_letter, first_number};
 use crate::token::{Letter, Token};
-use hv_lines::{Constant, Premises, Word};
+use hv_lines::Constant;
 
 /// The least number that isn't a short decimal.
 pub(crate) const NOT_SHORT: u64 = 1_000_000_000;
@@ -128,42 +125,6 @@ pub(crate) fn two_numbers(tokens: &[Token]) -> Option<(usize, usize)>
     }
 }
 
-/// A count, and what follows it.
-pub(crate) fn counted(tokens: &[Token]) -> Option<(u64, &[Token])>
-    ensures { MatchOption result
-        ((n : ℕ) (rest : List Token) → tokens.now ≡ number n ∷ rest → ⊥)
-        (λ p. tokens.now ≡ number p.0 ∷ p.1.now) }
-{
-    match tokens {
-        [Token::Number(count), rest @ ..] => Some((*count, rest)),
-        _ => None,
-    }
-}
-
-/// Two numbers, and what follows them.
-#[derive(Drop)]
-pub(crate) struct TwoFirst<'a> {
-    pub(crate) left: usize,
-    pub(crate) right: usize,
-    pub(crate) rest: &'a [Token],
-}
-
-/// The first two numbers.
-pub(crate) fn two_first(tokens: &[Token]) -> Option<TwoFirst<'_>>
-    ensures { MatchOption result
-        ((m n : ℕ) (rest : List Token) → tokens.now ≡ number m ∷ number n ∷ rest → ⊥)
-        (λ first. tokens.now ≡ number first.left ∷ number first.right ∷ first.rest.now) }
-{
-    match tokens {
-        [Token::Number(left), Token::Number(right), rest @ ..] => Some(TwoFirst {
-            left: *left as usize,
-            right: *right as usize,
-            rest,
-        }),
-        _ => None,
-    }
-}
-
 /// The letter of a constant, and nothing more.
 pub(crate) fn constant_of(tokens: &[Token]) -> Option<Constant>
     ensures { MatchOption result
@@ -174,66 +135,6 @@ pub(crate) fn constant_of(tokens: &[Token]) -> Option<Constant>
         [Token::Letter(Letter::E)] => Some(Constant::Empty),
         [Token::Letter(Letter::I)] => Some(Constant::Start),
         [Token::Letter(Letter::G)] => Some(Constant::Goal),
-        _ => None,
-    }
-}
-
-/// A word, and what follows it.
-pub(crate) fn word_first(tokens: &[Token]) -> Option<(Word, &[Token])>
-    ensures { MatchOption result
-        ((word : Word) (rest : List Token) → tokens.now ≡ T.Word word ∷ rest → ⊥)
-        (λ p. tokens.now ≡ T.Word p.0 ∷ p.1.now) }
-{
-    match tokens {
-        [Token::Word(word), rest @ ..] => Some((*word, rest)),
-        _ => None,
-    }
-}
-
-/// So many numbers, of at most three.
-pub(crate) fn premises_in(count: usize, tokens: &[Token]) -> Option<Premises>
-    requires { count ≤ 3 }
-    ensures { MatchOption result
-        ((premises : List ℕ) → length premises ≡ count → tokens.now ≡ map number premises → ⊥)
-        (λ premises. (length premises ≡ count) × (tokens.now ≡ map number premises)) }
-{
-    match count {
-        0 => no_premises(tokens),
-        1 => match one_number(tokens) {
-            Some(first) => Some(Premises::one(first)),
-            None => None,
-        },
-        2 => match two_numbers(tokens) {
-            Some(pair) => Some(Premises::two(pair.0, pair.1)),
-            None => None,
-        },
-        _ => three_premises(tokens),
-    }
-}
-
-/// Nothing.
-fn no_premises(tokens: &[Token]) -> Option<Premises>
-    ensures { MatchOption result (tokens.now ≡ [] → ⊥) (λ premises. (premises ≡ [])
-        × (tokens.now ≡ [])) }
-{
-    match tokens {
-        [] => Some(Premises::none()),
-        _ => None,
-    }
-}
-
-/// Three numbers, and nothing more.
-fn three_premises(tokens: &[Token]) -> Option<Premises>
-    ensures { MatchOption result
-        ((l m n : ℕ) → tokens.now ≡ number l ∷ number m ∷ number n ∷ [] → ⊥)
-        (λ premises. (length premises ≡ 3) × (tokens.now ≡ map number premises)) }
-{
-    match tokens {
-        [
-            Token::Number(first),
-            Token::Number(second),
-            Token::Number(third),
-        ] => Some(Premises::three(*first as usize, *second as usize, *third as usize)),
         _ => None,
     }
 }

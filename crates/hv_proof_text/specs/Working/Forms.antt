@@ -1,5 +1,6 @@
 -- What may be behind a letter: the forms of lines, letter by letter.
-use Rattle.std.specs.Prelude.{◌≡◌, ℕ, List, [], ◌∷◌, Some, length, map}
+use Rattle.std.specs.Prelude.{◌≡◌, ℕ, List, [], ◌∷◌, ◌++◌, Some, length, map}
+use Rattle.std.specs.List.{All}
 use Rattle.hv_sets.specs.declared.literal.Literal.{Literal}
 use Rattle.hv_lines.specs.Spelling.{FitsShortDecimal, premises_of}
 use Rattle.hv_lines.specs.declared.line.Acts.{Acts}
@@ -17,7 +18,7 @@ use Rattle.hv_proof_text.specs.declared.token.Letter.TheVariants as L
 use Rattle.hv_proof_text.specs.declared.token.Token.{Token}
 use Rattle.hv_proof_text.specs.declared.token.Token.TheVariants as T
 use Rattle.hv_proof_text.specs.Working.Tokens.{AreRisingNumbers, AreClauseTokens, AreStateTokens}
-use Rattle.hv_proof_text.specs.Working.Tokens.{constant_letter, letter, number}
+use Rattle.hv_proof_text.specs.Working.Tokens.{IsToken, constant_letter, field_of, letter, number}
 
 -- behind `a ID` and this letter
 abbrev pub ActsForm : Letter → List Token → Acts → Type 0
@@ -75,6 +76,13 @@ ClaimForm L.D tokens statement rest = (set : ℕ) × (tokens ≡ number set ∷ 
     × (statement ≡ S.Dead set)
 ClaimForm L.U tokens statement rest = (tokens ≡ rest) × (statement ≡ S.Unsolvable)
 ClaimForm _ tokens statement rest = ⊥
+
+-- behind `k ID` and this letter these fields are the statement and others: of all tokens, those of
+-- the first fields are its form
+abbrev pub ReadsClaim : Letter → List (List ℕ) → Statement → List (List ℕ) → Type 0
+ReadsClaim kind fields statement later =
+    (done : List Token) × All IsToken done × (map field_of done ++ later ≡ fields)
+    × ((tokens : List Token) → ClaimForm kind (done ++ tokens) statement tokens)
 
 -- behind a statement: a word that may be there, with as many premises as it has there
 abbrev pub SupportForm : Statement → List Token → Word → List ℕ → Type 0

@@ -17,3 +17,6 @@ returns-then-branch c =
     c.args.head.now.id c.args.head.now.kind c.plain_line.result c.deref.ensures.value
     (c.in_ok-tokens_in.ensures.some (cc))
     c.plain_line.ensures
+
+pub returns-in-K : goal.returns-in-K
+returns-in-K c = rw c.in-K.is c.known_of.ensures
