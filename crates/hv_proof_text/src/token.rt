@@ -41,6 +41,7 @@ pub(crate) enum Token {
 }
 
 /// The letter of this byte.
+#[inline(always)]
 pub(crate) fn letter_of(byte: u8) -> Option<Letter>
     ensures { MatchOption result
         ((letter : Letter) → letter_field letter ≡ byte ∷ [] → ⊥)
