@@ -1,5 +1,6 @@
 -- Why a walk over two lists that rise tells whether they agree but for some atoms.
-use Rattle.std.proofs.Common.{◌≡◌, ◌∙◌, ◌+◌, ◌<◌, ◌≤◌, ◌⊎◌, ◌&&◌, ◌||◌, not, ℕ, Bool, true, false}
+use Rattle.std.proofs.Common.{◌≡◌, ◌∙◌, ◌+◌, ◌-◌, ◌<◌, ◌≤◌, ◌⊎◌, ◌&&◌, ◌||◌, not, ℕ, Bool, true}
+use Rattle.std.proofs.Common.{false}
 use Rattle.std.proofs.Common.{List, length, get_or, refl, sym, ap, subst, arith, inl, inr}
 use Rattle.std.proofs.Common.{below_more}
 use Rattle.std.proofs.lemmas.Bool.{both_ways, cases_lt, cases_order, false_from_ne_true}
@@ -93,6 +94,47 @@ module _ (touched : ℕ → Bool) (one other : List ℕ) (rises : IsStrictlyIncr
                     (sym (ap touched here) ∙ rest c.0 past c.1))
               ],
         )
+
+    -- past atoms that are the same in both
+    pub walk_alike : (many : ℕ) → i + many ≤ length one → at + many ≤ length other
+        → ((k : ℕ) → k < many → get_or one (i + k) 0 ≡ get_or other (at + k) 0)
+        → IsWalk touched one other (i + many) (at + many)
+    walk_alike many in_one in_other same = record {
+      within = in_other;
+      mine = λ m less. elim (cases_lt m i) [
+        | inl old ↦ walk.mine m old
+        | inr new ↦ inr (subst (Contains other) (sym (from_one m new less))
+            (Contains-get_or other (at + (m - i)) 0 (omega arith)))
+      ];
+      theirs = λ n less. elim (cases_lt n at) [
+        | inl old ↦ walk.theirs n old
+        | inr new ↦ inr (subst (Contains one) (sym (from_other n new less))
+            (Contains-get_or one (i + (n - at)) 0 (omega arith)))
+      ];
+      before = λ n m less upto within. elim (cases_lt n at) [
+        | inl old ↦ walk.before n m old (omega arith) within
+        | inr new ↦ let here = from_other n new less in
+            let apart = rises_apart one (i + (n - at)) m rises (omega arith) within in omega arith
+      ];
+      ahead = λ m n less upto within. elim (cases_lt m i) [
+        | inl old ↦ walk.ahead m n old (omega arith) within
+        | inr new ↦ let here = from_one m new less in
+            let apart = rises_apart other (at + (m - i)) n other_rises (omega arith) within in
+            omega arith
+      ];
+    }
+      where
+        from_one : (m : ℕ) → i ≤ m → m < i + many
+            → get_or one m 0 ≡ get_or other (at + (m - i)) 0
+        from_one m new less =
+            let e : m ≡ i + (m - i) = omega arith in
+            ap (λ k. get_or one k 0) e ∙ same (m - i) (omega arith)
+
+        from_other : (n : ℕ) → at ≤ n → n < at + many
+            → get_or other n 0 ≡ get_or one (i + (n - at)) 0
+        from_other n new less =
+            let e : n ≡ at + (n - at) = omega arith in
+            ap (λ k. get_or other k 0) e ∙ sym (same (n - at) (omega arith))
 
     module _ (in_ : i < length one) (next : ℕ) (low : at ≤ next) (high : next ≤ length other)
         (passed : (n : ℕ) → at ≤ n → n < next → (get_or other n 0 < get_or one i 0) ×

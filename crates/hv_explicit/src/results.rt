@@ -83,17 +83,54 @@ fn agree(one: &[u32], other: &[u32], action: &Action) -> bool
     requires other { IsStrictlyIncreasing other.now }
     ensures { IsTrue result ↔ AgreeBut action.now one.now other.now }
 {
-    let mut at = 0;
-    for atom in one {
-        let Some(next) = pass(other, at, *atom, action) else {
+    let mut i = alike(one, 0, other, 0);
+    let mut at = i;
+    while i < one.len() {
+        let Some(next) = pass(other, at, one[i], action) else {
             return false;
         };
-        let Some(met) = meet(other, next, *atom, action) else {
+        let Some(met) = meet(other, next, one[i], action) else {
             return false;
         };
-        at = met;
+        let more = alike(one, i + 1, other, met);
+        i = i + 1 + more;
+        at = met + more;
     }
     are_touched(other, at, action)
+}
+
+// How many atoms are the same in both lists, one after another, from these places on. Equal lists
+// are the rule, and so the atoms are compared four at a time.
+fn alike(one: &[u32], i: usize, other: &[u32], at: usize) -> usize
+    requires one { i ≤ length one.now }
+    requires other { at ≤ length other.now }
+    ensures one { i + result ≤ length one.now }
+    ensures other { at + result ≤ length other.now }
+    ensures same { (k : ℕ) → k < result
+        → slice_index one.now (i + k) ≡ slice_index other.now (at + k) }
+{
+    let most = (one.len() - i).min(other.len() - at);
+    let mut many = 0;
+    while most - many >= 4 && are_four_alike(one, i + many, other, at + many) {
+        many += 4;
+    }
+    while many < most && one[i + many] == other[at + many] {
+        many += 1;
+    }
+    many
+}
+
+// Whether the four atoms from these places on are the same.
+fn are_four_alike(one: &[u32], i: usize, other: &[u32], at: usize) -> bool
+    requires one { i + 4 ≤ length one.now }
+    requires other { at + 4 ≤ length other.now }
+    ensures { IsTrue result → (k : ℕ) → k < 4
+        → slice_index one.now (i + k) ≡ slice_index other.now (at + k) }
+{
+    one[i] == other[at]
+        && one[i + 1] == other[at + 1]
+        && one[i + 2] == other[at + 2]
+        && one[i + 3] == other[at + 3]
 }
 
 // Whether the action touches all atoms of the list from this place on.

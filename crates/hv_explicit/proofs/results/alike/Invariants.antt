@@ -1,0 +1,20 @@
+use Rattle.std.proofs.Common.{◌≡◌, ◌+◌, ◌-◌, ◌<◌, ◌≤◌, ℕ, get_or}
+use Rattle.hv_explicit.proofs.results.alike.Given as goal
+
+abbrev pub invariant-loop-many : goal.invariant-loop-many
+invariant-loop-many l = record {
+  within : l.many ≤ l.most;
+  same : (k : ℕ) → k < l.many → get_or l.one (l.i + k) 0 ≡ get_or l.other (l.at + k) 0;
+}
+
+abbrev pub decreases-loop-many : goal.decreases-loop-many
+decreases-loop-many l = l.most - l.many
+
+abbrev pub invariant-loop-many-2 : goal.invariant-loop-many-2
+invariant-loop-many-2 l = record {
+  within : l.many ≤ l.most;
+  same : (k : ℕ) → k < l.many → get_or l.one (l.i + k) 0 ≡ get_or l.other (l.at + k) 0;
+}
+
+abbrev pub decreases-loop-many-2 : goal.decreases-loop-many-2
+decreases-loop-many-2 l = l.most - l.many
