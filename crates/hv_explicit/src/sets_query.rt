@@ -51,20 +51,22 @@ pub(crate) struct SetsQuery<'a> {
     task: &'a Task,
     sets: &'a Explicits,
     query: &'a Query,
+    // Whether some negative operand is asked about before the action.
+    asks_before: bool,
 }
 
 impl<'a> Model for SetsQuery<'a> {
-    ghost use Rattle.hv_explicit.specs.Working.Search.{IsListedSearch, ListedSearch};
+    ghost use Rattle.hv_explicit.specs.Working.Search.{IsFlaggedSearch, ListedSearch};
 
     ghost Value = { ListedSearch };
 
     ghost view = { λ s. record { task = s.task.now; sets = s.sets.now; query = s.query.now } };
 
-    ghost invariant = { λ s. IsListedSearch record {
+    ghost invariant = { λ s. IsFlaggedSearch record {
       task = s.task.now;
       sets = s.sets.now;
       query = s.query.now;
-    } };
+    } s.asks_before };
 }
 
 impl<'a> SetsQuery<'a> {
@@ -77,7 +79,13 @@ impl<'a> SetsQuery<'a> {
         } }
         ensures { result ≡ record { task = task.now; sets = sets.now; query = query.now } }
     {
-        SetsQuery { task, sets, query }
+        let asks_before = ask_before(query.negative.as_slice());
+        SetsQuery {
+            task,
+            sets,
+            query,
+            asks_before,
+        }
     }
 
     // The set of this number.
@@ -114,6 +122,16 @@ impl<'a> SetsQuery<'a> {
         ensures { result ≡ false → All (λ o. o.after ≡ false) self.now.query.negative }
     {
         self.query.action.is_some()
+    }
+
+    // Whether some negative operand is asked about after the action (true), or before it.
+    fn asks(&self, after: bool) -> bool
+        ensures { result ≡ false → All (λ o. o.after ≡ after → ⊥) self.now.query.negative }
+    {
+        if after {
+            return true;
+        }
+        self.asks_before
     }
 
     // What the anchor names.
@@ -368,6 +386,9 @@ impl SetsQuery<'_> {
         ensures { (state : List Bool) → HasJust self.now.task (A.has held.now) state
             → IsTrue result ↔ IsHit self.now self.now.query.negative after state }
     {
+        if !self.asks(after) {
+            return false;
+        }
         let operands = self.negative();
         if operands.len() <= FEW {
             return self.is_hit_among(operands, held, after);
@@ -471,6 +492,18 @@ fn has_atom<A: Sought>(atom: u32, held: &A) -> bool
     ensures { result ≡ A.has held.now atom }
 {
     held.holds(atom)
+}
+
+// Whether some of these operands is asked about before the action.
+fn ask_before(operands: &[Operand]) -> bool
+    ensures { result ≡ false → All (λ o. o.after ≡ true) operands.now }
+{
+    for operand in operands {
+        if !operand.after {
+            return true;
+        }
+    }
+    false
 }
 
 // The first operand that can be the anchor, which has the least identifier, since identifiers rise.

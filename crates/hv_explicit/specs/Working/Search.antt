@@ -27,6 +27,12 @@ pub record IsListedSearch (s : ListedSearch) : Type 0 where
   pub anchor : HasAnchor s.query
   pub action : IfSome s.query.action (λ a. a < length s.task.actions)
 
+-- the same of a search with a flag: where it isn't set, no negative operand is asked about before
+-- the action
+pub record IsFlaggedSearch (s : ListedSearch) (asks_before : Bool) : Type 0 where
+  pub search : IsListedSearch s
+  pub asks : asks_before ≡ false → All (λ o. o.after ≡ true) s.query.negative
+
 -- the state is in what is named
 abbrev pub in_named : ListedSearch → Which → List Bool → Bool
 in_named s which state = in_which s.task (in_set s.sets) which state

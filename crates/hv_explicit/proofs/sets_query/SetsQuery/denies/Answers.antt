@@ -8,5 +8,5 @@ pub returns-clause-named : goal.returns-clause-named
 returns-clause-named c = λ asks.
     let s = c.self.inside in
     subst (λ (p : ListedSearch). IsNamed (length p.sets) c.args.which) c.self.view_is
-    (named_there (length s.sets.now) s.query.now c.args.which c.args.after c.self.invariant.ready
-    (c.names.ensures.0 asks))
+    (named_there (length s.sets.now) s.query.now c.args.which c.args.after
+    c.self.invariant.search.ready (c.names.ensures.0 asks))

@@ -10,5 +10,5 @@ returns-clause-named c =
     let s = c.self.inside in
     subst (λ (p : ListedSearch). All (λ o. IsNamed (length p.sets) o.which) c.as_slice.result.now)
     c.self.view_is
-    (negative_named (length s.sets.now) s.query.now c.as_slice.result.now c.self.invariant.ready
-    c.as_slice.ensures)
+    (negative_named (length s.sets.now) s.query.now c.as_slice.result.now
+    c.self.invariant.search.ready c.as_slice.ensures)

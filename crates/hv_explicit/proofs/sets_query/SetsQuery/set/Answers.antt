@@ -8,5 +8,5 @@ pub returns-clause-over : goal.returns-clause-over
 returns-clause-over c =
     let s = c.self.inside in
     subst (λ (p : ListedSearch). c.get.result.now.atoms ≡ atoms p.task) c.self.view_is
-    (over_at s.sets.now (atoms s.task.now) c.args.number c.get.result.now c.self.invariant.over
-    c.get.ensures)
+    (over_at s.sets.now (atoms s.task.now) c.args.number c.get.result.now
+    c.self.invariant.search.over c.get.ensures)
