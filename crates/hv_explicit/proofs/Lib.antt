@@ -10,4 +10,4 @@ pub mod Clashes
 pub mod Wider
 pub mod Holding
 pub mod Walked
-pub mod Agreeing
+pub mod Merging

@@ -7,7 +7,8 @@ ghost use Rattle.std.specs.List.Sorted.{IsStrictlyIncreasing};
 ghost use Rattle.hv_task.specs.State.{AreBelow, names_atom};
 ghost use Rattle.hv_task.specs.Atoms.{is_after};
 ghost use Rattle.hv_explicit.specs.Working.Codes.{IsSame};
-ghost use Rattle.hv_explicit.specs.Working.Results.{AgreeBut, is_touched};
+ghost use Rattle.hv_explicit.specs.Working.Results.{IsNextTouched, IsStand, IsTouchedEnd, Splits};
+ghost use Rattle.hv_explicit.specs.Working.Results.{made};
 
 use hv_task::{Action, Atoms, Hint, names_all, names_atom};
 
@@ -36,19 +37,17 @@ pub(crate) fn is_same<A: Atoms>(list: &[u32], held: &A) -> bool
     held.next(from, &mut hint).is_none()
 }
 
-/// Whether the list is the result of the action in the state of these atoms; both rise.
+/// Whether the list is the result of the action in the state of these atoms; both rise. Where the
+/// effect touches no atom the two have to be the same, and so they are compared in runs from one
+/// touched atom to the next.
 pub(crate) fn is_result(list: &[u32], held: &[u32], action: &Action) -> bool
     requires list { IsStrictlyIncreasing list.now }
     requires held { IsStrictlyIncreasing held.now }
     ensures { IsTrue result ↔ IsSame (is_after action.now held.now) list.now }
 {
-    if !names_all(list, action.add.as_slice()) {
-        return false;
-    }
-    if !has_no_other(list, action.del.as_slice(), action.add.as_slice()) {
-        return false;
-    }
-    agree(list, held, action)
+    let add = action.add.as_slice();
+    let del = action.del.as_slice();
+    is_made(list, held, add, del)
 }
 
 /// Whether the action leaves the state of these atoms, which rise, as it is.
@@ -77,123 +76,221 @@ fn has_no_other(list: &[u32], atoms: &[u32], others: &[u32]) -> bool
     true
 }
 
-// Whether the lists have the same atoms but for those that the action touches.
-fn agree(one: &[u32], other: &[u32], action: &Action) -> bool
-    requires one { IsStrictlyIncreasing one.now }
-    requires other { IsStrictlyIncreasing other.now }
-    ensures { IsTrue result ↔ AgreeBut action.now one.now other.now }
-{
-    let mut i = alike(one, 0, other, 0);
-    let mut at = i;
-    while i < one.len() {
-        let Some(next) = pass(other, at, one[i], action) else {
-            return false;
-        };
-        let Some(met) = meet(other, next, one[i], action) else {
-            return false;
-        };
-        let more = alike(one, i + 1, other, met);
-        i = i + 1 + more;
-        at = met + more;
-    }
-    are_touched(other, at, action)
+// How many atoms of each list a walk over all of them has passed.
+#[derive(Clone, Copy)]
+struct Stand {
+    listed: usize,
+    held: usize,
+    added: usize,
+    deleted: usize,
 }
 
-// How many atoms are the same in both lists, one after another, from these places on. Equal lists
-// are the rule, and so the atoms are compared four at a time.
-fn alike(one: &[u32], i: usize, other: &[u32], at: usize) -> usize
-    requires one { i ≤ length one.now }
-    requires other { at ≤ length other.now }
-    ensures one { i + result ≤ length one.now }
-    ensures other { at + result ≤ length other.now }
-    ensures same { (k : ℕ) → k < result
-        → slice_index one.now (i + k) ≡ slice_index other.now (at + k) }
+// Whether the list is what the effect makes of the state of the held atoms; all four rise.
+fn is_made(list: &[u32], held: &[u32], add: &[u32], del: &[u32]) -> bool
+    requires list { IsStrictlyIncreasing list.now }
+    requires held { IsStrictlyIncreasing held.now }
+    requires add { IsStrictlyIncreasing add.now }
+    requires del { IsStrictlyIncreasing del.now }
+    ensures { IsTrue result ↔ IsSame (made add.now del.now held.now) list.now }
 {
-    let most = (one.len() - i).min(other.len() - at);
+    let mut stand = Stand {
+        listed: 0,
+        held: 0,
+        added: 0,
+        deleted: 0,
+    };
+    while let Some(atom) = next_touched(add, del, stand) {
+        let Some(next) = past(list, held, add, del, stand, atom) else {
+            return false;
+        };
+        stand = next;
+    }
+    is_rest_made(list, held, add, del, stand)
+}
+
+// The next atom that the effect touches.
+fn next_touched(add: &[u32], del: &[u32], stand: Stand) -> Option<u32>
+    ensures { MatchOption result (IsTouchedEnd add.now del.now stand)
+        (IsNextTouched add.now del.now stand) }
+{
+    if stand.added >= add.len() {
+        if stand.deleted >= del.len() {
+            return None;
+        }
+        return Some(del[stand.deleted]);
+    }
+    if stand.deleted >= del.len() || add[stand.added] <= del[stand.deleted] {
+        return Some(add[stand.added]);
+    }
+    Some(del[stand.deleted])
+}
+
+// Where the walk stands behind the next atom that the effect touches, if up to it the list is what
+// the effect makes of the state.
+fn past(
+    list: &[u32],
+    held: &[u32],
+    add: &[u32],
+    del: &[u32],
+    stand: Stand,
+    atom: u32,
+) -> Option<Stand>
+    requires list { IsStrictlyIncreasing list.now }
+    requires held { IsStrictlyIncreasing held.now }
+    requires add { IsStrictlyIncreasing add.now }
+    requires del { IsStrictlyIncreasing del.now }
+    requires stand { IsStand list.now held.now add.now del.now stand }
+    requires next { IsNextTouched add.now del.now stand atom }
+    ensures { MatchOption result (IsSame (made add.now del.now held.now) list.now → ⊥)
+        (λ next. IsStand list.now held.now add.now del.now next
+        × (stand.added + stand.deleted < next.added + next.deleted)) }
+{
+    let many = alike(list, stand.listed, held, stand.held, atom as u64);
+    let listed = stand.listed + many;
+    let kept = stand.held + many;
+    if is_before(list, listed, atom) {
+        return None;
+    }
+    if is_before(held, kept, atom) {
+        return None;
+    }
+    if !are_same(stands(list, listed, atom), stands(add, stand.added, atom)) {
+        return None;
+    }
+    Some(Stand {
+        listed: behind(list, listed, atom),
+        held: behind(held, kept, atom),
+        added: behind(add, stand.added, atom),
+        deleted: behind(del, stand.deleted, atom),
+    })
+}
+
+// Whether the list is what the effect makes of the state, where the walk has passed all atoms that
+// the effect touches.
+fn is_rest_made(list: &[u32], held: &[u32], add: &[u32], del: &[u32], stand: Stand) -> bool
+    requires list { IsStrictlyIncreasing list.now }
+    requires held { IsStrictlyIncreasing held.now }
+    requires add { IsStrictlyIncreasing add.now }
+    requires del { IsStrictlyIncreasing del.now }
+    requires stand { IsStand list.now held.now add.now del.now stand }
+    requires end { IsTouchedEnd add.now del.now stand }
+    ensures { IsTrue result ↔ IsSame (made add.now del.now held.now) list.now }
+{
+    let _ = add;
+    let _ = del;
+    let many = alike(list, stand.listed, held, stand.held, 0x1_0000_0000);
+    if stand.listed + many < list.len() {
+        return false;
+    }
+    if stand.held + many < held.len() {
+        return false;
+    }
+    true
+}
+
+// How many atoms less than the bound are the same in both lists, one after another, from these
+// places on. They are compared four at a time.
+fn alike(list: &[u32], place: usize, held: &[u32], at: usize, bound: u64) -> usize
+    requires rises { IsStrictlyIncreasing list.now }
+    requires list { place ≤ length list.now }
+    requires held { at ≤ length held.now }
+    ensures list { place + result ≤ length list.now }
+    ensures held { at + result ≤ length held.now }
+    ensures same { (k : ℕ) → k < result
+        → slice_index list.now (place + k) ≡ slice_index held.now (at + k) }
+    ensures less { (k : ℕ) → k < result → slice_index list.now (place + k) < bound }
+    ensures stop { place + result < length list.now → at + result < length held.now
+        → slice_index list.now (place + result) ≡ slice_index held.now (at + result)
+        → bound ≤ slice_index list.now (place + result) }
+{
+    let most = (list.len() - place).min(held.len() - at);
     let mut many = 0;
-    while most - many >= 4 && are_four_alike(one, i + many, other, at + many) {
+    while most - many >= 4 && are_four_alike(list, place + many, held, at + many, bound) {
         many += 4;
     }
-    while many < most && one[i + many] == other[at + many] {
+    while many < most && is_alike(list, place + many, held, at + many, bound) {
         many += 1;
     }
     many
 }
 
-// Whether the four atoms from these places on are the same.
-fn are_four_alike(one: &[u32], i: usize, other: &[u32], at: usize) -> bool
-    requires one { i + 4 ≤ length one.now }
-    requires other { at + 4 ≤ length other.now }
-    ensures { IsTrue result → (k : ℕ) → k < 4
-        → slice_index one.now (i + k) ≡ slice_index other.now (at + k) }
+// Whether the atoms at these places are the same, and less than the bound.
+fn is_alike(list: &[u32], place: usize, held: &[u32], at: usize, bound: u64) -> bool
+    requires list { place < length list.now }
+    requires held { at < length held.now }
+    ensures { IsTrue result ↔ ((slice_index list.now place ≡ slice_index held.now at)
+        × (slice_index list.now place < bound)) }
 {
-    one[i] == other[at]
-        && one[i + 1] == other[at + 1]
-        && one[i + 2] == other[at + 2]
-        && one[i + 3] == other[at + 3]
+    if list[place] != held[at] {
+        return false;
+    }
+    (list[place] as u64) < bound
 }
 
-// Whether the action touches all atoms of the list from this place on.
-fn are_touched(list: &[u32], from: usize, action: &Action) -> bool
-    requires { from ≤ length list.now }
-    ensures { IsTrue result ↔ ((n : ℕ) → from ≤ n → n < length list.now
-        → is_touched action.now (slice_index list.now n) ≡ true) }
+// Whether the four atoms from these places on are the same, and less than the bound.
+fn are_four_alike(list: &[u32], place: usize, held: &[u32], at: usize, bound: u64) -> bool
+    requires rises { IsStrictlyIncreasing list.now }
+    requires list { place + 4 ≤ length list.now }
+    requires held { at + 4 ≤ length held.now }
+    ensures same { IsTrue result → (k : ℕ) → k < 4
+        → slice_index list.now (place + k) ≡ slice_index held.now (at + k) }
+    ensures less { IsTrue result → (k : ℕ) → k < 4 → slice_index list.now (place + k) < bound }
 {
-    for place in from..list.len() {
-        if !touches(action, list[place]) {
-            return false;
-        }
+    if (list[place + 3] as u64) >= bound {
+        return false;
+    }
+    list[place] == held[at]
+        && list[place + 1] == held[at + 1]
+        && list[place + 2] == held[at + 2]
+        && list[place + 3] == held[at + 3]
+}
+
+// Whether the list has a lesser atom at this place.
+fn is_before(list: &[u32], place: usize, atom: u32) -> bool
+    ensures before { IsTrue result → (place < length list.now)
+        × (slice_index list.now place < atom) }
+    ensures over { result ≡ false → place < length list.now → atom ≤ slice_index list.now place }
+{
+    place < list.len() && list[place] < atom
+}
+
+// Whether the list has the atom, which can only be at this place.
+fn stands(list: &[u32], place: usize, atom: u32) -> bool
+    requires rises { IsStrictlyIncreasing list.now }
+    requires split { Splits list.now place atom }
+    ensures { result ≡ names_atom list.now atom }
+{
+    if place >= list.len() {
+        return false;
+    }
+    if list[place] != atom {
+        return false;
     }
     true
 }
 
-// The place from this one on where the list has no lesser atom, if the action touches all between.
-fn pass(list: &[u32], from: usize, bound: u32, action: &Action) -> Option<usize>
-    requires { from ≤ length list.now }
-    ensures { MatchOption result
-        ((n : ℕ) × (from ≤ n) × (n < length list.now) × (slice_index list.now n < bound)
-        × (is_touched action.now (slice_index list.now n) ≡ false))
-        (λ next. (from ≤ next) × (next ≤ length list.now)
-        × ((n : ℕ) → from ≤ n → n < next → (slice_index list.now n < bound)
-        × (is_touched action.now (slice_index list.now n) ≡ true))
-        × (next < length list.now → bound ≤ slice_index list.now next)) }
+fn are_same(one: bool, other: bool) -> bool
+    ensures { IsTrue result ↔ (one ≡ other) }
 {
-    let mut at = from;
-    while at < list.len() && list[at] < bound {
-        if !touches(action, list[at]) {
-            return None;
-        }
-        at += 1;
+    if one {
+        return other;
     }
-    Some(at)
+    !other
 }
 
-// The next place, where the atom is at this one, or this one, if the action touches the atom.
-fn meet(list: &[u32], place: usize, atom: u32, action: &Action) -> Option<usize>
-    requires { place ≤ length list.now }
-    ensures { MatchOption result
-        ((place < length list.now → slice_index list.now place ≡ atom → ⊥)
-        × (is_touched action.now atom ≡ false))
-        (λ at. ((at ≡ place + 1) × (place < length list.now)
-        × (slice_index list.now place ≡ atom))
-        ⊎ ((at ≡ place) × (place < length list.now → slice_index list.now place ≡ atom → ⊥)
-        × (is_touched action.now atom ≡ true))) }
+// The next place, where the list has the atom at this one, and else this place.
+fn behind(list: &[u32], place: usize, atom: u32) -> usize
+    requires rises { IsStrictlyIncreasing list.now }
+    requires split { Splits list.now place atom }
+    ensures split { Splits list.now result (atom + 1) }
+    ensures upto { place ≤ result }
+    ensures more { place < length list.now → slice_index list.now place ≡ atom → place < result }
 {
-    if place < list.len() && list[place] == atom {
-        return Some(place + 1);
+    if place >= list.len() {
+        return place;
     }
-    if touches(action, atom) {
-        return Some(place);
+    if list[place] != atom {
+        return place;
     }
-    None
-}
-
-// Whether the action adds or deletes the atom.
-fn touches(action: &Action, atom: u32) -> bool
-    ensures { result ≡ is_touched action.now atom }
-{
-    if named(action.add.as_slice(), atom) {
-        return true;
-    }
-    named(action.del.as_slice(), atom)
+    place + 1
 }

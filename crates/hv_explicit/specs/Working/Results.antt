@@ -1,26 +1,39 @@
--- What an action leaves as it is.
-use Rattle.std.specs.Prelude.{◌≡◌, ◌||◌, ◌<◌, ◌≤◌, ◌⊎◌, ℕ, Bool, true, false, List, length}
+-- What an effect makes of a state, and a walk that compares it with a list.
+use Rattle.std.specs.Prelude.{◌≡◌, ◌||◌, ◌&&◌, not, ◌<◌, ◌≤◌, ◌⊎◌, ℕ, Bool, true, List, length}
 use Rattle.std.specs.Prelude.{slice_index}
-use Rattle.std.specs.List.{Contains}
-use Rattle.hv_task.specs.declared.action.Action.{Action}
 use Rattle.hv_task.specs.State.{names_atom}
+use Rattle.hv_explicit.specs.declared.results.Stand.{Stand}
 
--- the action adds or deletes the atom
-abbrev pub is_touched : Action → ℕ → Bool
-is_touched action p = names_atom action.add p || names_atom action.del p
+-- the atom is added, or it was there and isn't deleted
+abbrev pub made : List ℕ → List ℕ → List ℕ → ℕ → Bool
+made add del held p = names_atom add p || (not (names_atom del p) && names_atom held p)
 
--- the lists have the same atoms but for those that the action touches
-abbrev pub AgreeBut : Action → List ℕ → List ℕ → Type 0
-AgreeBut action one other =
-    (p : ℕ) → is_touched action p ≡ false → names_atom other p ≡ names_atom one p
+-- so many atoms of the list are less than the bound, and the others aren't
+pub record Splits (list : List ℕ) (passed bound : ℕ) : Type 0 where
+  pub within : passed ≤ length list
+  pub below : (k : ℕ) → k < passed → slice_index list k < bound
+  pub over : (k : ℕ) → passed ≤ k → k < length list → bound ≤ slice_index list k
 
--- a walk over both has passed so many atoms of each
-pub record IsWalk (touched : ℕ → Bool) (one other : List ℕ) (i at : ℕ) : Type 0 where
-  pub within : at ≤ length other
-  pub mine : (m : ℕ) → m < i → (touched (slice_index one m) ≡ true) ⊎ Contains other
-      (slice_index one m)
-  pub theirs : (n : ℕ) → n < at → (touched (slice_index other n) ≡ true) ⊎ Contains one
-      (slice_index other n)
-  pub before : (n m : ℕ) → n < at → i ≤ m → m < length one → slice_index other n < slice_index one m
-  pub ahead : (m n : ℕ) → m < i → at ≤ n → n < length other → slice_index one m < slice_index other
-      n
+-- a walk over all of these lists stands where the atoms below the bound are passed, and of these
+-- the list has what the effect makes of the state
+pub record IsMerged (list held add del : List ℕ) (stand : Stand) (bound : ℕ) : Type 0 where
+  pub list_split : Splits list stand.listed bound
+  pub held_split : Splits held stand.held bound
+  pub add_split : Splits add stand.added bound
+  pub del_split : Splits del stand.deleted bound
+  pub same : (p : ℕ) → p < bound → made add del held p ≡ names_atom list p
+
+-- it stands so for some bound
+abbrev pub IsStand : List ℕ → List ℕ → List ℕ → List ℕ → Stand → Type 0
+IsStand list held add del stand = (bound : ℕ) × IsMerged list held add del stand bound
+
+-- the atom is the next one that the effect touches
+pub record IsNextTouched (add del : List ℕ) (stand : Stand) (atom : ℕ) : Type 0 where
+  pub one : ((stand.added < length add) × (slice_index add stand.added ≡ atom))
+      ⊎ ((stand.deleted < length del) × (slice_index del stand.deleted ≡ atom))
+  pub added : stand.added < length add → atom ≤ slice_index add stand.added
+  pub deleted : stand.deleted < length del → atom ≤ slice_index del stand.deleted
+
+-- the effect touches no atom any more
+abbrev pub IsTouchedEnd : List ℕ → List ℕ → Stand → Type 0
+IsTouchedEnd add del stand = (length add ≤ stand.added) × (length del ≤ stand.deleted)
