@@ -15,6 +15,7 @@ ghost use Rattle.hv_explicit.specs.Working.Codes.{IsAfterCode, IsCode, IsListCod
 ghost use Rattle.hv_explicit.specs.Working.Codes.{code_sum, folded, sip_of, weight, with_atom};
 ghost use Rattle.hv_explicit.specs.Working.Codes.{with_more, without};
 
+use crate::near::named_near;
 use crate::results::named;
 use hv_task::{Action, Atoms, Hint};
 use std::hash::{DefaultHasher, Hasher};
@@ -68,8 +69,9 @@ fn code_without(key: u64, code: u64, held: &[u32], del: &[u32], add: &[u32]) -> 
         → result ≡ code_sum key (without del.now add.now held.now) bound }
 {
     let mut less = code;
+    let mut near = 0;
     for atom in del {
-        less = taken_out(key, less, held, add, *atom);
+        less = taken_out(key, less, held, add, *atom, &mut near);
     }
     less
 }
@@ -85,14 +87,16 @@ fn code_with(key: u64, code: u64, held: &[u32], add: &[u32], del: &[u32]) -> u64
 {
     let _ = del;
     let mut more = code;
+    let mut near = 0;
     for atom in add {
-        more = put_in(key, more, held, *atom);
+        more = put_in(key, more, held, *atom, &mut near);
     }
     more
 }
 
-// The code without the atom, where it is held and isn't added.
-fn taken_out(key: u64, code: u64, held: &[u32], add: &[u32], atom: u32) -> u64
+// The code without the atom, where it is held and isn't added; the near place is where it may be
+// held.
+fn taken_out(key: u64, code: u64, held: &[u32], add: &[u32], atom: u32, near: &mut usize) -> u64
     requires held { IsStrictlyIncreasing held.now }
     requires add { IsStrictlyIncreasing add.now }
     ensures out { names_atom held.now atom ≡ true → names_atom add.now atom ≡ false
@@ -101,19 +105,19 @@ fn taken_out(key: u64, code: u64, held: &[u32], add: &[u32], atom: u32) -> u64
     ensures none { names_atom held.now atom ≡ false → result ≡ code }
     ensures added { names_atom add.now atom ≡ true → result ≡ code }
 {
-    if named(held, atom) && !named(add, atom) {
+    if named_near(held, atom, near) && !named(add, atom) {
         return code.wrapping_sub(number(key, atom));
     }
     code
 }
 
-// The code with the atom, where it isn't held.
-fn put_in(key: u64, code: u64, held: &[u32], atom: u32) -> u64
+// The code with the atom, where it isn't held; the near place is where it may be.
+fn put_in(key: u64, code: u64, held: &[u32], atom: u32, near: &mut usize) -> u64
     requires { IsStrictlyIncreasing held.now }
     ensures there { names_atom held.now atom ≡ true → result ≡ code }
     ensures new { names_atom held.now atom ≡ false → result ≡ (code + weight key atom) % 2 ^ 64 }
 {
-    if named(held, atom) {
+    if named_near(held, atom, near) {
         return code;
     }
     code.wrapping_add(number(key, atom))

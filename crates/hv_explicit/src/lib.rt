@@ -12,6 +12,7 @@ pub mod explicit;
 pub mod explicits;
 mod firsts;
 mod holders;
+mod near;
 mod paths;
 mod places;
 mod results;

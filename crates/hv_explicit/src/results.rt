@@ -245,8 +245,8 @@ fn are_four_alike(list: &[u32], place: usize, held: &[u32], at: usize, bound: u6
         && list[place + 3] == held[at + 3]
 }
 
-// Whether the list has a lesser atom at this place.
-fn is_before(list: &[u32], place: usize, atom: u32) -> bool
+/// Whether the list has a lesser atom at this place.
+pub(crate) fn is_before(list: &[u32], place: usize, atom: u32) -> bool
     ensures before { IsTrue result → (place < length list.now)
         × (slice_index list.now place < atom) }
     ensures over { result ≡ false → place < length list.now → atom ≤ slice_index list.now place }
@@ -254,8 +254,8 @@ fn is_before(list: &[u32], place: usize, atom: u32) -> bool
     place < list.len() && list[place] < atom
 }
 
-// Whether the list has the atom, which can only be at this place.
-fn stands(list: &[u32], place: usize, atom: u32) -> bool
+/// Whether the list has the atom, which can only be at this place.
+pub(crate) fn stands(list: &[u32], place: usize, atom: u32) -> bool
     requires rises { IsStrictlyIncreasing list.now }
     requires split { Splits list.now place atom }
     ensures { result ≡ names_atom list.now atom }
