@@ -344,7 +344,8 @@ module _ (list held add del : List ℕ) (list_rises : IsStrictlyIncreasing list)
         same = λ p before. elim (cases_lt p b) [
           | inl old ↦ m.same p old
           | inr new ↦
-              run_same p new (none_between add add_rises s.added b m.add_split t p add_over new before)
+              run_same p new
+              (none_between add add_rises s.added b m.add_split t p add_over new before)
               (none_between del del_rises s.deleted b m.del_split t p del_over new before)
               (λ within. let over = list_over within in omega arith)
               (λ within. let over = held_over within in omega arith)

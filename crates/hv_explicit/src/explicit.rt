@@ -20,30 +20,26 @@ ghost use Rattle.hv_explicit.specs.Codes.{IsBelow, IsSetOf};
 ghost use Rattle.hv_explicit.specs.ListedStates.{AreRising, AreStates, full_cube, full_cubes};
 ghost use Rattle.hv_explicit.specs.ListedStates.{in_listing};
 ghost use Rattle.hv_explicit.specs.Working.Codes.{IsSame};
-ghost use Rattle.hv_explicit.specs.Working.Listing.{AreFirsts, ArePlacesOf};
-ghost use Rattle.hv_explicit.specs.Working.Holders.{AreHolders, IsHolderIndex, listed_places};
+ghost use Rattle.hv_explicit.specs.Working.Listing.{AreFirsts};
+ghost use Rattle.hv_explicit.specs.Working.Holders.{AreHolders, listed_places};
 ghost use Rattle.hv_explicit.specs.Working.Laws as laws;
 
-use crate::firsts::{Firsts, coded_state, firsts_of, is_at, look_up};
-use crate::holders::{Holders, SomePlaces, holders_of, holding_all};
+use crate::firsts::is_at;
+use crate::holders::SomePlaces;
 use crate::sought::{ActionResult, Coded, ReadInOrder, Sought};
+use crate::state_index::{StateIndex, firsts_in, held_in, index_of, lists_in, state_in};
 use hv_sets::{Cube, Cursor, Inside, Literal, Scratch, StateList, StateSet, Step};
 use hv_task::{Action, Atoms, State, Task, names_atom};
 use std::alloc::{AllocError, Global};
 use std::marker::Model;
-
-// So many states are gone through without a choice.
-const FEW: usize = 64;
 
 /// A set of states of a task that are listed one by one. Each is kept once, as its atoms.
 #[derive(Drop)]
 pub struct Explicit {
     atoms: u32,
     states: StateList,
-    // The states that no earlier one is, to look one up.
-    firsts: Firsts,
-    // The places of the same states by the atoms that are held, if they are many.
-    holders: Option<Holders>,
+    // Where the states are that no earlier one is, to look one up.
+    index: StateIndex,
 }
 
 impl Model for Explicit {
@@ -54,7 +50,7 @@ impl Model for Explicit {
 
     ghost view = { λ s. record { atoms = s.atoms; states = s.states } };
 
-    ghost invariant = { λ s. IsKeptListing s.atoms s.states s.firsts s.holders };
+    ghost invariant = { λ s. IsKeptListing s.atoms s.states s.index };
 }
 
 impl Explicit {
@@ -75,13 +71,11 @@ impl Explicit {
         ensures { IfOk result (λ set. set ≡ record { atoms = atoms task.now; states = states }) }
     {
         let atoms = task.atoms();
-        let firsts = firsts_of(alloc, &states)?;
-        let holders = holders_if_many(alloc, atoms, &states, firsts.places.as_slice())?;
+        let index = index_of(alloc, atoms, &states)?;
         Ok(Explicit {
             atoms,
             states,
-            firsts,
-            holders,
+            index,
         })
     }
 
@@ -94,11 +88,11 @@ impl Explicit {
         &self.states
     }
 
-    /// The places of the states that no earlier one is.
+    /// The places of the states that no earlier one is; of two states both.
     pub(crate) fn firsts(&self) -> &[u32]
         ensures { AreFirsts self.now.states result.now (length self.now.states) }
     {
-        self.firsts.places.as_slice()
+        firsts_in(&self.index, &self.states)
     }
 
     /// The places of the states that hold all of these atoms, and maybe others. There are none
@@ -111,10 +105,7 @@ impl Explicit {
         ensures { IfOk result (λ o. IfSome o (λ part.
             AreHolders self.now.states atoms.now (listed_places part))) }
     {
-        match &self.holders {
-            None => Ok(None),
-            Some(holders) => holding_all(alloc, holders, atoms, self.states.len()),
-        }
+        held_in(alloc, &self.index, &self.states, atoms)
     }
 
     /// Whether the state of these atoms is listed: of a state, of a list, or of the result of an
@@ -134,7 +125,7 @@ impl Explicit {
         ensures { (state : List Bool) → length state ≡ self.now.atoms
             → IsSetOf (is_after action.now held.now) state → result ≡ in_listing self.now state }
     {
-        let state = Coded::new(self.firsts.key, held);
+        let state = Coded::new(self.index.key(), held);
         self.has(&ActionResult::of(state, action))
     }
 
@@ -154,7 +145,7 @@ impl Explicit {
 
     /// The key of the codes of the states.
     pub(crate) fn key(&self) -> u64 {
-        self.firsts.key
+        self.index.key()
     }
 
     /// Whether the set of atoms is listed.
@@ -163,8 +154,7 @@ impl Explicit {
         ensures { (state : List Bool) → length state ≡ self.now.atoms
             → IsSetOf (A.has held.now) state → result ≡ in_listing self.now state }
     {
-        let code = held.code(self.firsts.key, self.atoms);
-        look_up(&self.states, &self.firsts, code, held)
+        lists_in(&self.index, &self.states, held, self.atoms)
     }
 
     /// Whether the state at this place has just these atoms.
@@ -181,7 +171,7 @@ impl Explicit {
         ensures atoms { result.atoms.now ≡ slice_index_or self.now.states place [] }
         ensures below { AreBelow self.now.atoms result.atoms.now }
     {
-        coded_state(&self.states, &self.firsts, place)
+        state_in(&self.index, &self.states, place)
     }
 }
 
@@ -257,20 +247,4 @@ fn fill(cube: &mut Cube, atoms: u32, held: &[u32]) -> Result<(), AllocError>
         cube.add(Literal { atom, positive })?;
     }
     Ok(())
-}
-
-// The holders among the states at these places, if they are many.
-fn holders_if_many(
-    alloc: Global,
-    atoms: u32,
-    states: &StateList,
-    firsts: &[u32],
-) -> Result<Option<Holders>, AllocError>
-    requires { ArePlacesOf states.now firsts.now }
-    ensures { IfOk result (λ found. IfSome found (IsHolderIndex states.now firsts.now)) }
-{
-    if firsts.len() <= FEW {
-        return Ok(None);
-    }
-    holders_of(alloc, atoms, states, firsts)
 }

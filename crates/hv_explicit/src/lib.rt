@@ -2,7 +2,8 @@
 //!
 //! A state takes a bit for each atom of its task while it is worked on. A listed state takes four
 //! bytes for each of its atoms and four for its end; where no earlier one is the same, some 20 to
-//! 30 to be found by its code, and once more some 25 where its set is in a store of more than four.
+//! 30 to be found by its code, but nothing in a set of at most two; and once more some 25 where its
+//! set is in a store of more than four.
 #![tactic(auto)]
 
 mod atom_columns;
@@ -18,6 +19,7 @@ mod places;
 mod results;
 mod sets_query;
 mod sought;
+mod state_index;
 mod state_owners;
 pub mod state_walk;
 
