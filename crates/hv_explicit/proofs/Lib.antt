@@ -1,5 +1,6 @@
 pub mod Coded
 pub mod Totals
+pub mod Bits
 pub mod Linked
 pub mod Listing
 pub mod LookUp

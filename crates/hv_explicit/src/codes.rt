@@ -2,12 +2,15 @@
 //! for each atom under a key. So the code of an action's result follows from the code of the state
 //! and the effect alone, and no result is built.
 //!
-//! Prepared files stay harmless. States with equal sums can be computed, so a set is entered in
-//! haste by a fixed key: where two different states have one code, the set is entered once more by
-//! a key that all its listed states give together, so that no state can be chosen for it. Building
-//! costs twice at most.
+//! In a task with at most 64 atoms the key is 0, by which these numbers are powers of two: a code
+//! has a bit for each atom, and whatever has the code of a state is that state.
+//!
+//! With more atoms prepared files stay harmless. States with equal sums can be computed, so a set
+//! is entered in haste by a fixed key: where two different states have one code, the set is entered
+//! once more by a key that all its listed states give together, so that no state can be chosen for
+//! it. Building costs twice at most.
 
-ghost use Rattle.std.specs.Prelude.{◌≡◌, ◌<◌, ◌+◌, ◌%◌, ◌^◌, ℕ, Bool, true, false};
+ghost use Rattle.std.specs.Prelude.{◌≡◌, ◌<◌, ◌≤◌, ◌+◌, ◌%◌, ◌^◌, ℕ, Bool, IsTrue, true, false};
 ghost use Rattle.std.specs.List.Sorted.{IsStrictlyIncreasing};
 ghost use Rattle.hv_task.specs.State.{AreBelow, names_atom};
 ghost use Rattle.hv_explicit.specs.Codes.{IsBelow};
@@ -19,6 +22,17 @@ use crate::near::named_near;
 use crate::results::named;
 use hv_task::{Action, Atoms, Hint};
 use std::hash::{DefaultHasher, Hasher};
+
+/// The key by which the code of a set of at most 64 atoms has a bit for each of them, so that no
+/// other set has it.
+pub(crate) const BITS: u64 = 0;
+
+/// Whether codes by this key tell all sets of so many atoms apart.
+pub(crate) fn is_exact(key: u64, atoms: u32) -> bool
+    ensures { IsTrue result → (key ≡ 0) × (atoms ≤ 64) }
+{
+    key == BITS && atoms <= 64
+}
 
 /// The code of a set of atoms below a bound.
 pub(crate) fn code_of<A: Atoms>(key: u64, held: &A, atoms: u32) -> u64
@@ -128,8 +142,17 @@ fn put_in(key: u64, code: u64, held: &[u32], atom: u32, near: &mut usize) -> u64
 fn number(key: u64, atom: u32) -> u64
     ensures { result ≡ weight key atom }
 {
+    if key == BITS {
+        return bit(atom);
+    }
     let first = halves(key ^ atom as u64, 0x9e37_79b9_7f4a_7c15);
     halves(first ^ key, 0xd134_2543_de82_ef95)
+}
+
+fn bit(atom: u32) -> u64
+    ensures { result ≡ 2 ^ (atom % 64) }
+{
+    1 << (atom % 64)
 }
 
 // The two halves of a product, joined.

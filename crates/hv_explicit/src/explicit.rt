@@ -1,10 +1,10 @@
 //! Sets of listed states.
 //!
 //! A listed state is kept once: a set has the list of its states, and an index (`places`) of codes
-//! (`codes`). A hit is confirmed on the atoms, and a result is compared with a listed state through
-//! the effect. Only the first of equal states is entered, in the set and in the store, and the
-//! search goes through these alone, so repeats cost one look-up each. The cost of a query stays the
-//! length of the list.
+//! (`codes`). A hit is confirmed on the atoms, where codes aren't exact, and a result is compared
+//! with a listed state through the effect. Only the first of equal states is entered, in the set
+//! and in the store, and the search goes through these alone, so repeats cost one look-up each. The
+//! cost of a query stays the length of the list.
 
 ghost use Rattle.std.specs.Prelude.{◌≡◌, ◌<◌, ◌-◌, ◌^◌, ℕ, Bool, List, [], length, map, min, drop};
 ghost use Rattle.std.specs.Prelude.{slice_index_or, IsTrue, IfOk, IfSome, OnOk};
@@ -26,7 +26,7 @@ ghost use Rattle.hv_explicit.specs.Working.Laws as laws;
 
 use crate::firsts::is_at;
 use crate::holders::SomePlaces;
-use crate::sought::{ActionResult, Coded, ReadInOrder, Sought};
+use crate::sought::{ActionResult, Coded, ReadInOrder, Sought, is_state};
 use crate::state_index::{StateIndex, firsts_in, held_in, index_of, lists_in, state_in};
 use hv_sets::{Cube, Cursor, Inside, Literal, Scratch, StateList, StateSet, Step};
 use hv_task::{Action, Atoms, State, Task, names_atom};
@@ -125,7 +125,7 @@ impl Explicit {
         ensures { (state : List Bool) → length state ≡ self.now.atoms
             → IsSetOf (is_after action.now held.now) state → result ≡ in_listing self.now state }
     {
-        let state = Coded::new(self.index.key(), held);
+        let state = Coded::new(self.key(), held);
         self.has(&ActionResult::of(state, action))
     }
 
@@ -145,7 +145,7 @@ impl Explicit {
 
     /// The key of the codes of the states.
     pub(crate) fn key(&self) -> u64 {
-        self.index.key()
+        self.index.key(self.atoms)
     }
 
     /// Whether the set of atoms is listed.
@@ -165,13 +165,25 @@ impl Explicit {
         place < self.states.len() && is_at(&self.states, place, held)
     }
 
+    /// The same of a set of atoms of the task.
+    pub(crate) fn has_state_at<A: Sought>(&self, place: usize, held: &A) -> bool
+        requires { IsBelow self.now.atoms (A.has held.now) }
+        ensures { IsTrue result ↔ ((place < length self.now.states)
+            × IsSame (A.has held.now) (slice_index_or self.now.states place [])) }
+    {
+        if place >= self.states.len() {
+            return false;
+        }
+        is_state(self.at(place), held, self.atoms)
+    }
+
     /// The state at this place, with its code.
     pub(crate) fn at(&self, place: usize) -> Coded<'_>
         requires { place < length self.now.states }
         ensures atoms { result.atoms.now ≡ slice_index_or self.now.states place [] }
         ensures below { AreBelow self.now.atoms result.atoms.now }
     {
-        state_in(&self.index, &self.states, place)
+        state_in(&self.index, &self.states, place, self.atoms)
     }
 }
 

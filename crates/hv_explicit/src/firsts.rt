@@ -3,18 +3,25 @@
 ghost use Rattle.std.specs.Prelude.{◌≡◌, ◌<◌, ◌+◌, ◌-◌, ◌^◌, ◌↔◌, ℕ, true, false, [], length};
 ghost use Rattle.std.specs.Prelude.{slice_index, slice_index_or, IsTrue, IfOk, IfSome, OnOk};
 ghost use Rattle.hv_explicit.specs.ListedStates.{AreRising, AreStates};
-ghost use Rattle.hv_explicit.specs.Working.Codes.{IsCode, IsSame};
+ghost use Rattle.hv_explicit.specs.Working.Codes.{AreExact, IsCode, IsSame};
 ghost use Rattle.hv_explicit.specs.Working.Listing.{AreFirsts, ArePlacesOf, IsEnteredState};
 ghost use Rattle.hv_explicit.specs.Working.Listing.{IsIndex};
 
+use crate::codes::BITS;
 use crate::places::Places;
 use crate::sought::{Coded, Sought};
 use hv_sets::StateList;
 use std::alloc::{AllocError, Global};
 use std::hash::{DefaultHasher, Hasher};
 
-/// The first key: that of the sets in which no two states have one code by it.
+/// The first key where there are more than 64 atoms: that of the sets in which no two states have
+/// one code by it.
 pub(crate) const PLAIN: u64 = 0x243f_6a88_85a3_08d3;
+
+/// The key by which the states of a task with so many atoms are entered first.
+pub(crate) fn first_key(atoms: u32) -> u64 {
+    if atoms <= 64 { BITS } else { PLAIN }
+}
 
 /// The places of the states that no earlier one is, and the codes of these states by a key.
 #[derive(Drop)]
@@ -41,7 +48,7 @@ impl Firsts {
 
 /// Enters each state that no earlier one is, by a key for which no two of them have one code, if
 /// possible. The second key hangs on all states, so none of them can be chosen for it.
-pub(crate) fn firsts_of(alloc: Global, states: &StateList) -> Result<Firsts, AllocError>
+pub(crate) fn firsts_of(alloc: Global, atoms: u32, states: &StateList) -> Result<Firsts, AllocError>
     requires { AreStates (2 ^ 32 - 1) states.now }
     ensures rise { OnOk result (AreRising states.now) }
     ensures firsts { IfOk result (λ firsts.
@@ -49,7 +56,7 @@ pub(crate) fn firsts_of(alloc: Global, states: &StateList) -> Result<Firsts, All
     ensures index { IfOk result (λ firsts.
         IsIndex firsts.key firsts.codes firsts.places.items states.now) }
 {
-    let mut firsts = Firsts::new(alloc, PLAIN);
+    let mut firsts = Firsts::new(alloc, first_key(atoms));
     if enter_all(states, &mut firsts, true)? {
         return Ok(firsts);
     }
@@ -119,7 +126,7 @@ fn enter(
     ensures whole { hasty ≡ false → IfOk result (λ done. done ≡ true) }
 {
     let held = Coded::new(firsts.key, states.get(place));
-    if look_up(states, firsts, held.code, &held) {
+    if look_up(states, firsts, held.code, &held, false) {
         return Ok(true);
     }
     if hasty && firsts.codes.last(held.code) > 0 {
@@ -130,17 +137,28 @@ fn enter(
     Ok(true)
 }
 
-/// Whether the state at some entry has just these atoms, of which this is the code.
-pub(crate) fn look_up<A: Sought>(states: &StateList, firsts: &Firsts, code: u64, held: &A) -> bool
+/// Whether the state at some entry has just these atoms, of which this is the code. Where codes are
+/// exact, a state that has the code isn't compared.
+pub(crate) fn look_up<A: Sought>(
+    states: &StateList,
+    firsts: &Firsts,
+    code: u64,
+    held: &A,
+    exact: bool,
+) -> bool
     requires code { IsCode firsts.now.key (A.has held.now) code }
     requires below { AreStates (2 ^ 32 - 1) states.now }
     requires rise { AreRising states.now }
     requires firsts { ArePlacesOf states.now firsts.now.places.items }
     requires index { IsIndex firsts.now.key firsts.now.codes firsts.now.places.items states.now }
+    requires exact { exact ≡ true → AreExact firsts.now.key (A.has held.now) states.now }
     ensures { IsTrue result ↔ IsEnteredState (A.has held.now) states.now firsts.now.places.items }
 {
     let mut end = firsts.codes.last(code);
     while end > 0 {
+        if exact {
+            return true;
+        }
         let entry = end - 1;
         if is_at(states, firsts.places[entry] as usize, held) {
             return true;

@@ -11,7 +11,8 @@ ghost use Rattle.hv_explicit.specs.Working.Listing.{AreFirsts, ArePlacesOf};
 ghost use Rattle.hv_explicit.specs.Working.Holders.{AreHolders, IsHolderIndex, IsManyIndex};
 ghost use Rattle.hv_explicit.specs.Working.Holders.{IsStateIndex, listed_places};
 
-use crate::firsts::{Firsts, PLAIN, coded_state, firsts_of, is_at, look_up};
+use crate::codes::is_exact;
+use crate::firsts::{Firsts, coded_state, first_key, firsts_of, is_at, look_up};
 use crate::holders::{Holders, SomePlaces, holders_of, holding_all};
 use crate::sought::{Coded, Sought};
 use hv_sets::StateList;
@@ -39,10 +40,10 @@ pub(crate) struct ManyIndex {
 }
 
 impl StateIndex {
-    /// The key of the codes of the states.
-    pub(crate) fn key(&self) -> u64 {
+    /// The key of the codes of the states; the task has so many atoms.
+    pub(crate) fn key(&self, atoms: u32) -> u64 {
         match self {
-            StateIndex::Pair(_) => PLAIN,
+            StateIndex::Pair(_) => first_key(atoms),
             StateIndex::Many(many) => many.firsts.key,
         }
     }
@@ -71,7 +72,7 @@ fn many_of(alloc: Global, atoms: u32, states: &StateList) -> Result<ManyIndex, A
     ensures rise { OnOk result (AreRising states.now) }
     ensures index { IfOk result (IsManyIndex states.now) }
 {
-    let firsts = firsts_of(alloc, states)?;
+    let firsts = firsts_of(alloc, atoms, states)?;
     let holders = holders_if_many(alloc, atoms, states, firsts.places.as_slice())?;
     Ok(ManyIndex { firsts, holders })
 }
@@ -147,6 +148,7 @@ pub(crate) fn lists_in<A: Sought>(
 ) -> bool
     requires below { AreStates (2 ^ 32 - 1) states.now }
     requires rise { AreRising states.now }
+    requires of_task { AreStates atoms states.now }
     requires index { IsStateIndex states.now index.now }
     requires fits { IsBelow atoms (A.has held.now) }
     ensures { IsTrue result ↔ HasListed (A.has held.now) states.now }
@@ -161,12 +163,14 @@ pub(crate) fn lists_in<A: Sought>(
 fn has_in_many<A: Sought>(many: &ManyIndex, states: &StateList, held: &A, atoms: u32) -> bool
     requires below { AreStates (2 ^ 32 - 1) states.now }
     requires rise { AreRising states.now }
+    requires of_task { AreStates atoms states.now }
     requires index { IsManyIndex states.now many.now }
     requires fits { IsBelow atoms (A.has held.now) }
     ensures { IsTrue result ↔ HasListed (A.has held.now) states.now }
 {
     let code = held.code(many.firsts.key, atoms);
-    look_up(states, &many.firsts, code, held)
+    let exact = is_exact(many.firsts.key, atoms);
+    look_up(states, &many.firsts, code, held, exact)
 }
 
 // The same by going through the states.
@@ -182,22 +186,27 @@ fn has_among<A: Sought>(states: &StateList, held: &A) -> bool
     false
 }
 
-/// The state at this place, with its code.
-pub(crate) fn state_in<'a>(index: &StateIndex, states: &'a StateList, place: usize) -> Coded<'a>
+/// The state at this place, with its code; the task has so many atoms.
+pub(crate) fn state_in<'a>(
+    index: &StateIndex,
+    states: &'a StateList,
+    place: usize,
+    atoms: u32,
+) -> Coded<'a>
     requires place { place < length states.now }
     requires index { IsStateIndex states.now index.now }
     ensures { result.atoms.now ≡ slice_index_or states.now place [] }
 {
     match index {
-        StateIndex::Pair(_) => coded_anew(states, place),
+        StateIndex::Pair(_) => coded_anew(states, place, first_key(atoms)),
         StateIndex::Many(many) => coded_state(states, &many.firsts, place),
     }
 }
 
 // The same, where no code is kept.
-fn coded_anew(states: &StateList, place: usize) -> Coded<'_>
+fn coded_anew(states: &StateList, place: usize, key: u64) -> Coded<'_>
     requires { place < length states.now }
     ensures { result.atoms.now ≡ slice_index_or states.now place [] }
 {
-    Coded::new(PLAIN, states.get(place))
+    Coded::new(key, states.get(place))
 }

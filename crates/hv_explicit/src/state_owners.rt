@@ -19,7 +19,6 @@ ghost use Rattle.hv_explicit.specs.Working.Owners.{IsOwnerIndex, KeepsEntries};
 
 use crate::coding::{Coding, code_by, tells_apart};
 use crate::explicit::Explicit;
-use crate::firsts::PLAIN;
 use crate::places::Places;
 use crate::sought::{Coded, Sought};
 use hv_sets::{Operands, Which};
@@ -103,7 +102,7 @@ fn owners_of(alloc: Global, sets: &[Explicit], last: &Explicit) -> Result<StateO
     requires { length sets.now < 2 ^ 32 }
     ensures { IfOk result (λ owners. IsOwnerIndex owners (sets.now ++ last.now ∷ [])) }
 {
-    let owners = owners_by(alloc, Coding::Sums(PLAIN), sets, last)?;
+    let owners = owners_by(alloc, Coding::Sums(last.key()), sets, last)?;
     if owners.known {
         return Ok(owners);
     }
@@ -232,7 +231,7 @@ pub(crate) fn find_owner<A: Sought>(
         if rest == 0 {
             return Some(false);
         }
-        if is_owner(sets, operands, after, owners.entries[rest - 1], held) {
+        if is_owner(sets, operands, after, owners.entries[rest - 1], held, atoms) {
             return Some(true);
         }
         rest = owners.codes.earlier(rest - 1);
@@ -247,12 +246,16 @@ fn is_owner<A: Sought>(
     after: bool,
     entry: ListedAt,
     held: &A,
+    atoms: u32,
 ) -> bool
+    requires over { AreListsOver sets.now atoms }
+    requires below { IsBelow atoms (A.has held.now) }
     ensures { IsTrue result ↔ IsOwner (A.has held.now) sets.now operands.now after entry }
 {
+    let _ = atoms;
     let number = entry.set as usize;
     if number >= sets.len() || !operands.names(Which::Set(number), after) {
         return false;
     }
-    sets[number].has_at(entry.place as usize, held)
+    sets[number].has_state_at(entry.place as usize, held)
 }

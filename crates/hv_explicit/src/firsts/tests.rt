@@ -63,7 +63,7 @@ fn are_plain(alloc: Global, states: &StateList) -> Result<bool, AllocError>
 fn states_made_for_one_code_get_a_second_key(rt: HostRuntime) -> Result<(), Fail> {
     let states = meeting_states(rt.alloc())?;
     assert!(rt; !are_plain(rt.alloc(), &states)?);
-    let firsts = firsts_of(rt.alloc(), &states)?;
+    let firsts = firsts_of(rt.alloc(), 65_535, &states)?;
     assert!(rt; firsts.key != PLAIN);
     assert_eq!(rt; firsts.places.len(), 2);
     Ok(())
