@@ -3,7 +3,8 @@
 //! effect cost about one walk over a state of some dozens; in a longer one each is looked for by
 //! halves.
 
-ghost use Rattle.std.specs.Prelude.{◌≡◌, ◌<◌, ◌≤◌, ℕ, length, slice_index};
+ghost use Rattle.std.specs.Prelude.{◌≡◌, ◌<◌, ◌≤◌, ◌↔◌, ℕ, IsTrue, length, slice_index};
+ghost use Rattle.std.specs.List.{All, Contains};
 ghost use Rattle.std.specs.List.Sorted.{IsStrictlyIncreasing};
 ghost use Rattle.hv_task.specs.State.{names_atom};
 ghost use Rattle.hv_explicit.specs.Working.Results.{Splits};
@@ -26,6 +27,20 @@ pub(crate) fn named_near(list: &[u32], atom: u32, near: &mut usize) -> bool
     let place = place_from(list, atom, start);
     *near = place;
     stands(list, place, atom)
+}
+
+/// Whether all of these atoms are in a list that rises; it is quick where they rise too.
+pub(crate) fn names_each(list: &[u32], atoms: &[u32]) -> bool
+    requires { IsStrictlyIncreasing list.now }
+    ensures { IsTrue result ↔ All (λ p. Contains list.now p) atoms.now }
+{
+    let mut near = 0;
+    for atom in atoms {
+        if !named_near(list, *atom, &mut near) {
+            return false;
+        }
+    }
+    true
 }
 
 // The near place, if all atoms before it are less, and else the first.

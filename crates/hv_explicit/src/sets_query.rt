@@ -35,10 +35,11 @@ use crate::explicit::Explicit;
 use crate::explicits::Explicits;
 use crate::firsts::PLAIN;
 use crate::holders::SomePlaces;
+use crate::near::names_each;
 use crate::results::is_left;
 use crate::sought::{ActionResult, Coded, Sought};
 use hv_sets::{Finding, Operand, Query, Which};
-use hv_task::{Action, State, Task, names_all};
+use hv_task::{Action, State, Task};
 use std::alloc::{AllocError, Global};
 use std::marker::Model;
 
@@ -296,7 +297,7 @@ impl SetsQuery<'_> {
         match self.action() {
             None => self.fits(anchor, &held, &held),
             Some(action) => {
-                names_all(held.atoms, action.pre.as_slice())
+                names_each(held.atoms, action.pre.as_slice())
                     && self.fits_after(anchor, held, action)
             }
         }

@@ -29,8 +29,8 @@ returns-in-None c =
     let stands = stands_list task held c.requires.held in
     c.fits.ensures state state stands stands ∙ clash_alone c.args.self.now state c.in-None.ensures
 
-pub returns-then-names_all : goal.returns-then-names_all
-returns-then-names_all c =
+pub returns-then-names_each : goal.returns-then-names_each
+returns-then-names_each c =
     let task = c.args.self.now.task in
     let held = c.args.held.atoms.now in
     let action = c.in-Some.action.now in
@@ -39,23 +39,23 @@ returns-then-names_all c =
     (stands_list task held c.requires.held)
     (stands_after task action held c.requires.held c.in-Some.ensures.1) in
     let has = subst (All (λ p. Contains held p)) c.as_slice.ensures.items
-    (c.names_all.ensures.0 c.if-names_all.true) in
+    (c.names_each.ensures.0 c.if-names_each.true) in
     let yes : applicable action state ≡ true = applies (atoms task) held action.pre
     c.requires.held has in
     fit ∙ (ap (λ b. b && is_fit c.args.self.now state (successor action state)) (sym yes)
     ∙ clash_acting c.args.self.now state action c.in-Some.ensures.0)
 
-pub returns-else-names_all : goal.returns-else-names_all
-returns-else-names_all c =
+pub returns-else-names_each : goal.returns-else-names_each
+returns-else-names_each c =
     let task = c.args.self.now.task in
     let held = c.args.held.atoms.now in
     let action = c.in-Some.action.now in
     let state = state_of (atoms task) held in
     let no : applicable action state ≡ false =
     applies_not (atoms task) held action.pre c.in-Some.ensures.1.pre
-    (λ has. both_ways c.names_all.result c.if-names_all.false
-    (c.names_all.ensures.1 (subst (All (λ p. Contains held p))
+    (λ has. both_ways c.names_each.result c.if-names_each.false
+    (c.names_each.ensures.1 (subst (All (λ p. Contains held p))
     (sym c.as_slice.ensures.items) has))) in
-    c.if-names_all.false ∙ (ap (λ b. b && is_fit c.args.self.now state (successor action state))
+    c.if-names_each.false ∙ (ap (λ b. b && is_fit c.args.self.now state (successor action state))
     (sym no)
     ∙ clash_acting c.args.self.now state action c.in-Some.ensures.0)

@@ -1,0 +1,6 @@
+use Rattle.std.proofs.Common.{◌<◌, ℕ, get_or}
+use Rattle.std.specs.List.{Contains}
+use Rattle.hv_explicit.proofs.near.names_each.Given as goal
+
+abbrev pub invariant-loop-atom : goal.invariant-loop-atom
+invariant-loop-atom l = (k : ℕ) → k < l.atom-index → Contains l.list (get_or l.atoms k 0)
