@@ -3,9 +3,11 @@
 //!
 //! To fall into one slot, states need codes whose product with the slot's factor agrees; where a
 //! place comes behind 64 others with other codes, all places are linked again by the next factor,
-//! at most 16 times between two doublings of the slots, so linking stays linear. Places have 32
-//! bits: more than 4,294,967,295 states in one set are answered as out of memory; a line has fewer
-//! than 8,388,608.
+//! and again while some place does. By each next factor a chain may be 4 longer, until there are
+//! more slots. So n states that were made to meet by one factor after another are linked no more
+//! than some root of n times, and no chain is much longer than 64 and 3 times that root. Places
+//! have 32 bits: more than 4,294,967,295 states in one set are answered as out of memory; a line
+//! has fewer than 8,388,608.
 
 ghost use Rattle.std.specs.Prelude.{◌≡◌, ◌<◌, ◌≤◌, ◌-◌, ◌+◌, ◌^◌, ◌++◌, ◌∷◌, ℕ, [], length};
 ghost use Rattle.std.specs.Prelude.{slice_index, IfOk, OnOk, OnErr};
@@ -15,11 +17,11 @@ ghost use Rattle.hv_explicit.specs.Working.Places.{slot_at, slot_of};
 use std::alloc::{AllocError, Global};
 use std::marker::Model;
 
-// A chain of so many places in a row with other codes is long.
+// A chain of so many places in a row with other codes is long at first.
 const LONG: usize = 64;
 
-// How often all places are linked again before there are more slots.
-const TURNS: u32 = 16;
+// How much longer it may be after each change of the factor, until there are more slots.
+const MORE: usize = 4;
 
 /// A list of codes, in which the places of a code are found without a walk over the list. Each slot
 /// has a chain of the places whose codes fall into it. Codes that were made to fall into one slot
@@ -34,12 +36,12 @@ pub(crate) struct Places {
     turn: CodeFactor,
 }
 
-// The factor by which codes fall into slots, and how often it may be changed before there are more
-// slots.
+// The factor by which codes fall into slots, and how many places in a row with other codes make a
+// long chain.
 #[derive(Clone, Copy)]
 struct CodeFactor {
     factor: u64,
-    left: u32,
+    long: usize,
 }
 
 impl Model for Places {
@@ -65,7 +67,7 @@ impl Places {
             heads: Vec::new(alloc),
             turn: CodeFactor {
                 factor: 0x9e37_79b9_7f4a_7c15,
-                left: TURNS,
+                long: LONG,
             },
         }
     }
@@ -209,7 +211,7 @@ fn widen(
     *heads = wider;
     Ok(CodeFactor {
         factor: turn.factor,
-        left: TURNS,
+        long: LONG,
     })
 }
 
@@ -233,7 +235,8 @@ fn lengthen(
     Ok(())
 }
 
-// Where the last place came into a long chain, links all again by another factor.
+// Where the last place came into a long chain, links all again by another factor, and again while
+// some chain is long.
 fn settle(
     codes: &[u64],
     turn: CodeFactor,
@@ -250,26 +253,46 @@ fn settle(
     ensures before { length before.new.items ≡ length before.old.items }
     ensures heads { length heads.new.items ≡ length heads.old.items }
 {
-    if turn.left == 0 || !is_crowded(codes, before.as_slice()) {
-        return turn;
+    let mut turn = turn;
+    let mut crowded = is_crowded(codes, before.as_slice(), codes.len(), turn.long);
+    while crowded && turn.long < codes.len() {
+        turn = next_factor(turn);
+        heads.fill(0);
+        link_all(codes, turn.factor, before, heads);
+        crowded = has_long_chain(codes, before.as_slice(), turn.long);
     }
-    let next = CodeFactor {
-        factor: turn.factor.wrapping_mul(0xd134_2543_de82_ef95),
-        left: turn.left - 1,
-    };
-    heads.fill(0);
-    link_all(codes, next.factor, before, heads);
-    next
+    turn
 }
 
-// Whether many places with other codes come before the last one in its chain.
-fn is_crowded(codes: &[u64], before: &[u32]) -> bool {
-    let mut end = codes.len();
-    for _ in 0..LONG {
-        if end == 0 || end > codes.len() || end > before.len() {
+// The factor that comes after another one.
+fn next_factor(turn: CodeFactor) -> CodeFactor
+    requires { turn.long < 2 ^ 32 }
+    ensures { turn.long < result.long }
+{
+    CodeFactor {
+        factor: turn.factor.wrapping_mul(0xd134_2543_de82_ef95),
+        long: turn.long + MORE,
+    }
+}
+
+// Whether so many places with other codes come before some place in its chain.
+fn has_long_chain(codes: &[u64], before: &[u32], many: usize) -> bool {
+    for place in 0..codes.len() {
+        if is_crowded(codes, before, place + 1, many) {
+            return true;
+        }
+    }
+    false
+}
+
+// Whether so many places with other codes come in its chain before the place at this end.
+fn is_crowded(codes: &[u64], before: &[u32], last: usize, many: usize) -> bool {
+    let mut end = last;
+    for _ in 0..many {
+        if end == 0 || end > codes.len() || end > before.len() || last > codes.len() {
             return false;
         }
-        if end < codes.len() && codes[end - 1] == codes[codes.len() - 1] {
+        if end < last && codes[end - 1] == codes[last - 1] {
             return false;
         }
         end = before[end - 1] as usize;
