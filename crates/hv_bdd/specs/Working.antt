@@ -15,4 +15,5 @@ pub mod Noting
 pub mod Walking
 pub mod Cubed
 pub mod Laws
+pub mod Digits
 pub mod Fronts

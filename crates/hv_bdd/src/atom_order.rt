@@ -1,7 +1,7 @@
 //! Orders of the atoms of a task.
 
 ghost use Rattle.std.specs.Prelude.{◌≡◌, ◌≢◌, ◌+◌, ◌<◌, ◌≤◌, ◌^◌, [], ◌∷◌, ◌++◌, ℕ, None, Some};
-ghost use Rattle.std.specs.Prelude.{true, false, IfNone, IfOk, IfSome, length, take};
+ghost use Rattle.std.specs.Prelude.{true, false, decimal, IfNone, IfOk, IfSome, length, take};
 ghost use Rattle.std.specs.Prelude.{option_and_then, option_map, slice_index, slice_index_or};
 ghost use Rattle.hv_bytes.specs.Fields.{cut_fields};
 ghost use Rattle.hv_task.specs.Atoms.{IsNext};
@@ -9,11 +9,12 @@ ghost use Rattle.hv_task.specs.State.{has_atom};
 ghost use Rattle.hv_bdd.specs.Order.{position};
 ghost use Rattle.hv_bdd.specs.OrderLine.{if_order, named_atoms};
 ghost use Rattle.hv_bdd.specs.OrderLine.{order_of_fields};
+ghost use Rattle.hv_bdd.specs.Working.Digits.{AreDigits};
 ghost use Rattle.hv_bdd.specs.Working.Inverse.{AreInverse, fields_left};
 ghost use Rattle.hv_bdd.specs.Working.Noting.{AreNoted, named_behind};
 
 use crate::atom_bits::ListedState;
-use crate::numbers::short_front;
+use crate::numbers::{digit_table, long_front, short_front};
 use hv_bytes::{decimal_front, split_field};
 use std::alloc::{AllocError, Global};
 use std::marker::Model;
@@ -110,7 +111,7 @@ fn has_all(places: &[u32], none: u32) -> bool
 
 // Notes that an atom stands at the next place.
 #[inline(always)]
-fn note(order: &mut [u32], places: &mut [u32], place: usize, atom: u32)
+fn note(order: &mut [u32], places: &mut [u32], place: usize, atom: usize)
     requires noted { AreNoted order.old places.old place }
     requires place { place < length order.old }
     requires atom { atom < length order.old }
@@ -119,18 +120,42 @@ fn note(order: &mut [u32], places: &mut [u32], place: usize, atom: u32)
     ensures front { take (place + 1) order.new ≡ take place order.old ++ atom ∷ [] }
     ensures size { length order.new ≡ length order.old }
 {
-    places[atom as usize] = place as u32;
-    order[place] = atom;
+    places[atom] = place as u32;
+    order[place] = atom as u32;
+}
+
+// The atom that the first field of a line of 8 bytes or more names, of so many, and what follows,
+// where a quick way gives them.
+#[inline(always)]
+fn quick_front<'a>(digits: &[u64; 512], line: &'a [u8], atoms: usize) -> Option<(usize, &'a [u8])>
+    requires digits { AreDigits digits.now }
+    requires room { 8 ≤ length line.now }
+    requires few { atoms < 2 ^ 32 }
+    ensures below { IfSome result (λ p. p.0 < atoms) }
+    ensures fields { IfSome result (λ p.
+        cut_fields line.now ≡ decimal p.0 ∷ cut_fields p.1.now) }
+    ensures rest { IfSome result (λ p. length line.now ≤ length p.1.now + 8) }
+{
+    if let Some(front) = long_front(digits, line, atoms) {
+        return Some(front);
+    }
+    match short_front(line) {
+        Some((atom, behind)) if (atom as usize) < atoms => Some((atom as usize, behind)),
+        _ => None,
+    }
 }
 
 // Notes the atoms that fields name, from this place on, as far as the quick way goes. The answer is
-// the next place, and what is left of the fields.
-fn note_short<'a>(
+// the next place, and what is left of the fields. It goes no further than there are 8 bytes for
+// each field, so that none has to be looked for.
+fn note_quickly<'a>(
+    digits: &[u64; 512],
     fields: &'a [u8],
     order: &mut [u32],
     places: &mut [u32],
     from: usize,
 ) -> (usize, &'a [u8])
+    requires digits { AreDigits digits.now }
     requires noted { AreNoted order.old places.old from }
     requires few { length order.old < 2 ^ 32 }
     ensures noted { AreNoted order.new places.new result.0 }
@@ -139,19 +164,16 @@ fn note_short<'a>(
     ensures size { length order.new ≡ length order.old }
     ensures fewer { length (cut_fields result.1.now) ≤ length (cut_fields fields.now) }
 {
-    let atoms = order.len();
+    let last = from + (order.len() - from).min(fields.len() / 8);
     let mut rest = fields;
-    for place in from..atoms {
-        let Some((atom, behind)) = short_front(rest) else {
+    for place in from..last {
+        let Some((atom, behind)) = quick_front(digits, rest, order.len()) else {
             return (place, rest);
         };
-        if atom as usize >= atoms {
-            return (place, rest);
-        }
         note(order, places, place, atom);
         rest = behind;
     }
-    (atoms, rest)
+    (last, rest)
 }
 
 // The atom that the first field of a line names, of a task with so many, and what follows.
@@ -182,20 +204,21 @@ fn note_atoms(fields: Option<&[u8]>, order: &mut [u32], places: &mut [u32]) -> b
         (named_atoms (length order.old) (fields_left fields.entry (λ f. f.now))) }
     ensures size { length order.new ≡ length order.old }
 {
+    let digits = digit_table();
     let mut place = 0;
     let mut rest = fields;
     'fields: loop {
         let Some(line) = rest else {
             return place == order.len();
         };
-        let (next, last) = note_short(line, order, places, place);
+        let (next, last) = note_quickly(&digits, line, order, places, place);
         if next >= order.len() {
             return false;
         }
         let Some((atom, behind)) = atom_front(last, order.len() as u32) else {
             return false;
         };
-        note(order, places, next, atom);
+        note(order, places, next, atom as usize);
         place = next + 1;
         rest = behind;
     }

@@ -12,17 +12,17 @@ pub returns-then-next-order-clause-none : goal.returns-then-next-order-clause-no
 returns-then-next-order-clause-none c = λ _.
     let order = c.args.order.now in
     let fields = fields_left c.args.fields (λ f. f.now) in
-    let now = c.note_short-next.new.order in
-    let next = c.note_short-next.result.0 in
-    let last = c.note_short-next.result.1.now in
+    let now = c.note_quickly-next.new.order in
+    let next = c.note_quickly-next.result.0 in
+    let last = c.note_quickly-next.result.1.now in
     let size : length now ≡ length order =
-    c.note_short-next.ensures.size ∙ c.fields.invariant.size in
+    c.note_quickly-next.ensures.size ∙ c.fields.invariant.size in
     let named : named_atoms (length order) fields ≡ named_behind now next (cut_fields last) =
     sym (behind_all order fields) ∙ (sym c.fields.invariant.named
     ∙ (ap (λ rest. named_behind c.fields.order c.fields.place (fields_left rest (λ f. f.now)))
-    c.in-Some.is ∙ sym c.note_short-next.ensures.named)) in
+    c.in-Some.is ∙ sym c.note_quickly-next.ensures.named)) in
     let upto : length now ≤ length (take next now) =
-    (let within = c.note_short-next.ensures.noted.within in
+    (let within = c.note_quickly-next.ensures.noted.within in
     let taken = length-take-le next now within in
     let full = c.if-next-order.true in
     omega arith) in

@@ -1,4 +1,4 @@
-use Rattle.hv_bdd.proofs.ShortFronts.{IsSpelled}
+use Rattle.hv_bdd.specs.Working.Digits.{IsSpelled}
 use Rattle.hv_bdd.proofs.numbers.short_front.Given as goal
 
 abbrev pub invariant-loop-count : goal.invariant-loop-count
