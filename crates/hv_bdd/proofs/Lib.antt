@@ -30,3 +30,4 @@ pub mod Joined
 pub mod OneAnswer
 pub mod Advanced
 pub mod Along
+pub mod Jumped

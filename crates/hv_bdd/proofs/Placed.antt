@@ -45,7 +45,7 @@ same_place list is a v within less =
     ]
 
 -- so the places of atoms name the places at which these stand
-places_name : (list : NodeList) → IsOrder list → (named : List ℕ)
+pub places_name : (list : NodeList) → IsOrder list → (named : List ℕ)
     → All (λ a. a < list.atoms) named → (v : ℕ) → v < list.atoms
     → names_atom (map (place list) named) v ≡ names_atom named (atom_at list v)
 places_name list is [] below v less = refl

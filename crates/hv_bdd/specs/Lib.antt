@@ -1,5 +1,6 @@
 pub mod Building
 pub mod Fronts
+pub mod Jumps
 pub mod Live
 pub mod NodeFile
 pub mod NodeText

@@ -17,3 +17,4 @@ pub mod Cubed
 pub mod Laws
 pub mod Digits
 pub mod Fronts
+pub mod Jumping

@@ -5,13 +5,16 @@
 //! moved there once more. A node that is moved gives way to children, which are less, so a node's
 //! witness is never the node itself; no order of the atoms occurs in the proof. Where the literals
 //! of a walk don't go by the order of the diagram, a prefix is refuted later, and the question that
-//! is wrapped answers. A question that is wrapped so only gets a refutation more.
+//! is wrapped answers. A question that is wrapped so only gets a refutation more. A listed state is
+//! asked of the node itself, and the question that is wrapped only about one that may be wanted.
 
 ghost use Rattle.std.specs.Prelude.{◌≡◌, ◌<◌, ◌≤◌, [], Bool, List, IfOk, true, not, ◌&&◌, length};
 ghost use Rattle.hv_bdd.specs.Nodes.{IsNode, in_node};
 ghost use Rattle.hv_bdd.specs.Fronts.{StandsAlong};
+ghost use Rattle.hv_bdd.specs.Jumps.{StandsAtNode};
 
 use crate::diagrams::Diagrams;
+use crate::jumps::Jumps;
 use crate::level::{Level, NodeSide, deepen};
 use hv_paths::Asker;
 use hv_sets::{Literal, Scratch};
@@ -23,7 +26,9 @@ use std::alloc::{AllocError, Global};
 pub struct FrontAsk<'a, A: Asker + Drop> {
     asked: A,
     nodes: &'a Diagrams,
+    node: u32,
     inside: bool,
+    jumps: Jumps,
     // The nodes that can be met are below this number.
     bound: usize,
     // Where each of them was put last, from the first literal on.
@@ -63,7 +68,9 @@ impl<'a, A: Asker + Drop> FrontAsk<'a, A> {
         Ok(FrontAsk {
             asked,
             nodes,
+            node,
             inside,
+            jumps: Jumps::none(alloc),
             bound: node as usize + 1,
             places: Vec::new(alloc),
             levels,
@@ -80,7 +87,8 @@ impl<'a, A: Asker + Drop> Asker for FrontAsk<'a, A> {
 
     ghost stands = { λ q. A.stands q.asked
         × StandsAlong q.nodes.now q.inside (A.atoms q.asked) (A.wanted q.asked)
-        (A.assumed q.asked) q.bound q.levels.items q.refuted };
+        (A.assumed q.asked) q.bound q.levels.items q.refuted
+        × StandsAtNode q.nodes.now q.inside (A.wanted q.asked) q.node q.jumps.to.items };
 
     ghost assumed = { λ q. A.assumed q.asked };
 
@@ -125,6 +133,10 @@ impl<'a, A: Asker + Drop> Asker for FrontAsk<'a, A> {
     }
 
     fn wants(&mut self, alloc: Global, held: &[u32], state: &State) -> Result<bool, AllocError> {
+        let has = self.jumps.has(alloc, self.nodes, self.node, held, state)?;
+        if has != self.inside {
+            return Ok(false);
+        }
         let yes = self.asked.wants(alloc, held, state)?;
         Ok(yes)
     }

@@ -30,6 +30,7 @@ pub mod fault;
 pub mod first;
 mod front_ask;
 mod goal;
+mod jumps;
 pub mod laws;
 mod level;
 pub mod node;

@@ -1,5 +1,6 @@
 use Rattle.std.proofs.Common.{◌≡◌, ◌+◌, ◌∙◌, ◌++◌, ◌∷◌, [], get_or, sym, subst, length}
 use Rattle.hv_bdd.specs.Working.Fronts.{GoesDeeper}
+use Rattle.hv_bdd.proofs.Jumped.{at_node_same}
 use Rattle.hv_bdd.proofs.Along.{along_more, along_same}
 use Rattle.hv_bdd.proofs.front_ask.FrontAskAsker.assume.Goals as goal
 
@@ -24,4 +25,7 @@ returns-clause-stands g c =
           c.in_ok-none.ensures.deeper))
           (λ yes d. subst (λ n. length (get_or new (n + 1) d).start.items ≡ 0)
           c.depth-depth.ensures (c.in_ok-none.ensures.none yes d))),
+      at_node_same q.nodes.now q.inside (g.A.Asker.wanted q.asked)
+          (g.A.Asker.wanted c.assume.new.self) q.node q.jumps.to.items q.jumps.to.items
+          c.assume.ensures.wanted (c.requires.stands.2) (c.requires.stands.2).known,
     )

@@ -1,3 +1,4 @@
+use Rattle.hv_bdd.proofs.Jumped.{at_node_same}
 use Rattle.hv_bdd.proofs.Along.{along_same}
 use Rattle.hv_bdd.proofs.front_ask.FrontAskAsker.meets.Goals as goal
 
@@ -11,4 +12,7 @@ returns-clause-stands g c =
           q.bound q.levels.items q.refuted
           c.meets.ensures.atoms c.meets.ensures.wanted c.in_ok-yes.ensures.assumed
           (c.requires.stands.1),
+      at_node_same q.nodes.now q.inside (g.A.Asker.wanted q.asked)
+          (g.A.Asker.wanted c.meets.new.self) q.node q.jumps.to.items q.jumps.to.items
+          c.meets.ensures.wanted (c.requires.stands.2) (c.requires.stands.2).known,
     )

@@ -1,4 +1,5 @@
 use Rattle.std.proofs.Common.{false, take}
+use Rattle.hv_bdd.proofs.Jumped.{at_node_same}
 use Rattle.hv_bdd.proofs.Along.{along_back, along_same}
 use Rattle.hv_bdd.proofs.front_ask.FrontAskAsker.take_back.Goals as goal
 
@@ -16,4 +17,7 @@ returns-clause-stands g c =
           (g.A.Asker.assumed q.asked) q.bound q.levels.items q.refuted c.args.depth
           c.requires.depth
           (c.requires.stands.1)),
+      at_node_same q.nodes.now q.inside (g.A.Asker.wanted q.asked)
+          (g.A.Asker.wanted c.take_back.new.self) q.node q.jumps.to.items q.jumps.to.items
+          c.take_back.ensures.wanted (c.requires.stands.2) (c.requires.stands.2).known,
     )
