@@ -10,6 +10,7 @@ pub mod Tupled
 pub mod Explored
 pub mod Found
 pub mod Fronted
+pub mod Idle
 pub mod Queried
 pub mod Within
 pub mod Built

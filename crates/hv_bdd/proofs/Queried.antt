@@ -1,7 +1,7 @@
 -- Why the search through live tuples answers a query.
 use Rattle.std.proofs.Common.{◌≡◌, ℕ, ◌∙◌, Bool, true, false, List, Option, Result, Ok, Err, IfOk}
-use Rattle.std.proofs.Common.{get_or, map, sym, arith, subst}
-use Rattle.std.proofs.lemmas.List.Elements.{All-append, All-map}
+use Rattle.std.proofs.Common.{get_or, map, not, refl, sym, arith, subst}
+use Rattle.std.proofs.lemmas.List.Elements.{All-append, All-filter, All-map}
 use Rattle.std.proofs.lemmas.Bool.{false_from_ne_true}
 use Rattle.std.specs.List.{All}
 use Rattle.std.specs.declared.alloc.AllocError.{AllocError}
@@ -20,7 +20,9 @@ use Rattle.hv_bdd.specs.Nodes.{NodeList, in_node, node_count}
 use Rattle.hv_bdd.specs.Reduced.{IsReduced}
 use Rattle.hv_bdd.specs.Live.{LivePass, asked_of, operands_of, tuple_setting_of}
 use Rattle.hv_bdd.specs.Working.Graphs.{IsLiveAnswer}
-use Rattle.hv_bdd.specs.Working.Search.{IsAskable, IsTupleSearch, TupleSearch, search_for}
+use Rattle.hv_bdd.specs.Working.Search.{IsAskable, IsTupleSearch, TupleSearch, is_idle}
+use Rattle.hv_bdd.specs.Working.Search.{search_for}
+use Rattle.hv_bdd.proofs.Idle.{answer_filled}
 use Rattle.hv_bdd.proofs.Asking.{clash_from, suits_from}
 use Rattle.hv_bdd.proofs.Marked.{length-changed_by, length-needed_by}
 use Rattle.hv_bdd.proofs.Explored.{first_and_second}
@@ -79,9 +81,11 @@ module _ (list : NodeList) (task : Strips) (query : Query) (t : IsTask task)
       first_and_second (λ (o : Operand). IsNamed (node_count list) o.which) query.positive
       query.negative ready.named in
       let named : All (λ (o : Asked). IsNamed (node_count list) o.which) it.asked =
-      All-append (λ (o : Asked). IsNamed (node_count list) o.which)
+      All-filter (λ (o : Asked). not (is_idle o))
+      (λ (o : Asked). IsNamed (node_count list) o.which) (operands_of query)
+      (All-append (λ (o : Asked). IsNamed (node_count list) o.which)
       (map (asked_of true) query.positive) (map (asked_of false) query.negative)
-      (all_named true query.positive parts.0) (all_named false query.negative parts.1) in
+      (all_named true query.positive parts.0) (all_named false query.negative parts.1)) in
       subst IsTupleSearch (sym is) record {
         reduced = reduced;
         needed = length-needed_by (atoms task) (action_of task query.action) ∙ sym size;
@@ -104,13 +108,15 @@ module _ (list : NodeList) (task : Strips) (query : Query) (t : IsTask task)
   )
 
   -- so its answer is that of the query
-  pub answer_is : (s : TupleSearch) → s ≡ it → IsReduced list
+  pub answer_is : (s : TupleSearch) → s ≡ it → IsReduced list → IsReady (node_count list) query
       → (found : Result Finding AllocError) (budget : ℕ) (state : List Bool)
       → IfOk found (λ f. IsLiveAnswer f s.setting s.asked budget state)
       → IfOk found (λ f.
       IsAnswer f (LivePass list task query budget) (atoms task)
       (is_clash task (in_node list) query) state)
-  answer_is s is reduced (Ok found) budget state says =
+  answer_is s is reduced ready (Ok found) budget state says =
       by_answer reduced found budget state
-      (subst (λ (x : TupleSearch). IsLiveAnswer found x.setting x.asked budget state) is says)
-  answer_is s is reduced (Err e) budget state says = says
+      (answer_filled it.setting (operands_of query) (can_search it refl reduced ready) found budget
+      state
+      (subst (λ (x : TupleSearch). IsLiveAnswer found x.setting x.asked budget state) is says))
+  answer_is s is reduced ready (Err e) budget state says = says

@@ -14,9 +14,10 @@
 //! list nothing, and no inquiry costs more than a few times the listing besides.
 //!
 //! A tuple's places are the positive operands of a query and then the negative ones: the order of
-//! the places doesn't change the number of tuples, and so the lists of the query serve as they are.
-//! A link from each tuple to the one before it gives the counterexample backwards, so no bits are
-//! stored. One search serves queries, `meets` and `covers`.
+//! the places doesn't change the number of tuples. An operand that says that a state isn't in the
+//! empty set has no place: with it there are as many tuples. A link from each tuple to the one
+//! before it gives the counterexample backwards, so no bits are stored. One search serves queries,
+//! `meets` and `covers`.
 #![tactic(auto)]
 
 pub mod asked;

@@ -13,7 +13,7 @@ ghost use Rattle.hv_bdd.specs.Working.Search.{ListsPlaces};
 use crate::atom_bits::ListedState;
 use crate::diagrams::Diagrams;
 use crate::goal::{Goal, GoalPlaces, is_asked};
-use crate::node_queries::{changed_by, needed_by, operands_of};
+use crate::node_queries::{active_operands, changed_by, needed_by};
 use crate::tuple_search::Search;
 use hv_sets::{Finding, Query, Scratch};
 use hv_task::Task;
@@ -87,7 +87,7 @@ impl<'a> NodeInquiry<'a> {
         let atoms = task.atoms();
         let _atoms = self.nodes.atoms();
         scratch.reserve(atoms, 0, 0)?;
-        let asked = operands_of(alloc, query)?;
+        let asked = active_operands(alloc, query)?;
         let operands = asked.as_slice();
         let goal = Goal {
             held: ListedState::new(atoms, task.goal()),

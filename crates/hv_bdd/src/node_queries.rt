@@ -1,18 +1,19 @@
 //! Queries about nodes.
 
-ghost use Rattle.std.specs.Prelude.{◌≡◌, ◌<◌, ◌∷◌, [], length, IfOk, IfSome};
+ghost use Rattle.std.specs.Prelude.{◌≡◌, ◌<◌, ◌∷◌, ◌++◌, [], length, IfOk, IfSome, OnOk};
 ghost use Rattle.hv_task.specs.Strips.{atoms};
 ghost use Rattle.hv_sets.specs.Cost.{IsAnswer};
-ghost use Rattle.hv_sets.specs.Query.{action_of, is_clash};
+ghost use Rattle.hv_sets.specs.Query.{IsReady, action_of, is_clash};
 ghost use Rattle.hv_bdd.specs.Nodes.{in_node, node_count};
 ghost use Rattle.hv_bdd.specs.Live.{LivePass, asked_of, changed_by, needed_by, operands_of};
+ghost use Rattle.hv_bdd.specs.Working.Search.{active, is_idle};
 
 use crate::asked::Asked;
 use crate::atom_bits::AtomBits;
 use crate::diagrams::Diagrams;
 use crate::node_inquiry::NodeInquiry;
 use crate::tuple_search::Search;
-use hv_sets::{Family, Finding, Operand, Query, Scratch};
+use hv_sets::{Family, Finding, Operand, Query, Scratch, Which};
 use hv_task::{State, Task};
 use std::alloc::{AllocError, Global};
 
@@ -52,6 +53,7 @@ impl Search<'_> {
         budget: u64,
         state: &mut State,
     ) -> Result<Finding, AllocError>
+        requires ready { IsReady (node_count self.old.setting.list) query.now }
         requires query { self.old ≡ search_for self.old.setting.list task.now query.now }
         requires task { self.old.setting.list.atoms ≡ atoms task.now }
         requires state { length state.old ≡ atoms task.now }
@@ -68,18 +70,38 @@ impl Search<'_> {
 }
 
 // The operands of a query as the places of its tuples: the positive ones, and then the negative
-// ones.
-pub(crate) fn operands_of(alloc: Global, query: &Query) -> Result<Vec<Asked>, AllocError>
-    ensures { IfOk result (λ asked. asked.items ≡ operands_of query.now) }
+// ones. Those that say nothing are left out: with their nodes and without, tuples are one to one.
+pub(crate) fn active_operands(alloc: Global, query: &Query) -> Result<Vec<Asked>, AllocError>
+    ensures { IfOk result (λ asked. asked.items ≡ active (operands_of query.now)) }
 {
     let mut asked = Vec::new(alloc);
     for operand in query.positive.as_slice() {
-        asked.push(asked_of(true, operand))?;
+        put_active(&mut asked, asked_of(true, operand))?;
     }
     for operand in query.negative.as_slice() {
-        asked.push(asked_of(false, operand))?;
+        put_active(&mut asked, asked_of(false, operand))?;
     }
     Ok(asked)
+}
+
+// Puts the operand last, if it says something.
+fn put_active(asked: &mut Vec<Asked>, operand: Asked) -> Result<(), AllocError>
+    ensures { OnOk result (asked.new.items ≡ asked.old.items ++ active (operand ∷ [])) }
+{
+    if !is_idle(&operand) {
+        asked.push(operand)?;
+    }
+    Ok(())
+}
+
+// Whether it says nothing: each state is outside the empty set.
+fn is_idle(operand: &Asked) -> bool
+    ensures { result ≡ is_idle operand.now }
+{
+    match operand.which {
+        Which::Empty => !operand.positive,
+        _ => false,
+    }
 }
 
 fn asked_of(positive: bool, operand: &Operand) -> Asked

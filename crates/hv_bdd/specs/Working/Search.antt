@@ -1,5 +1,6 @@
 -- The search through live tuples.
-use Rattle.std.specs.Prelude.{◌≡◌, ◌<◌, ◌≤◌, ◌++◌, ◌⊎◌, ℕ, Bool, false, List, [], ◌∷◌, Option}
+use Rattle.std.specs.Prelude.{◌≡◌, ◌<◌, ◌≤◌, ◌++◌, ◌⊎◌, ◌&&◌, ℕ, Bool, true, false, not, List, []}
+use Rattle.std.specs.Prelude.{◌∷◌, Option, filter}
 use Rattle.std.specs.Prelude.{None}
 use Rattle.std.specs.Prelude.{Some, length, map, slice_index_or, ⊤}
 use Rattle.std.specs.List.{All, Contains}
@@ -121,11 +122,26 @@ IsDone s budget reached =
 abbrev pub IsEndTuple : TupleSearch → List ℕ → Type 0
 IsEndTuple s nodes = least (moves s.setting) s.asked nodes ≡ s.setting.list.atoms
 
+-- the set is the empty one
+abbrev pub is_empty : Which → Bool
+is_empty W.Empty = true
+is_empty W.Start = false
+is_empty W.Goal = false
+is_empty (W.Set number) = false
+
+-- the operand says nothing: each state is outside the empty set
+abbrev pub is_idle : Asked → Bool
+is_idle o = is_empty o.which && not o.positive
+
+-- the operands that say something
+abbrev pub active : List Asked → List Asked
+active os = filter (λ o. not (is_idle o)) os
+
 -- what a query gives to the search
 abbrev pub search_for : NodeList → Strips → Query → TupleSearch
 search_for list task query = record {
   setting = tuple_setting_of list task query;
-  asked = operands_of query;
+  asked = active (operands_of query);
 }
 
 -- the search is for a state of the cube that is in the node or outside it
