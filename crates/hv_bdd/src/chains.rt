@@ -1,6 +1,9 @@
 //! Nodes of a list, found by their numbers: by chains of the places whose nodes fall into one slot,
 //! so a file takes time linear in its nodes, and no node is kept twice. Nodes that were made to
-//! fall into one slot are chained again by another factor.
+//! fall into one slot are chained again by another factor, and then a chain may be 4 longer, until
+//! there are more slots. So n nodes that were made to meet by one factor after another are chained
+//! no more than some root of n times, and no search passes much more nodes than 64 and 3 times that
+//! root, but for one before each of these times.
 
 ghost use Rattle.std.specs.Prelude.{◌≡◌, ◌<◌, ◌≤◌, ◌-◌, ◌+◌, ◌^◌, ◌++◌, ◌∷◌, ℕ, [], false, length};
 ghost use Rattle.std.specs.Prelude.{slice_index, IsTrue, OnOk};
@@ -14,11 +17,11 @@ ghost use Rattle.hv_bdd.specs.Working.Chains.{AreAllBelow, IsListedNode};
 use crate::node::Node;
 use std::alloc::{AllocError, Global};
 
-// A search that passes so many nodes is long.
+// A search that passes so many nodes is long at first.
 const LONG: usize = 64;
 
-// How often all nodes are chained again before there are more slots.
-const TURNS: u32 = 16;
+// How many more it may pass after each change of the factor, until there are more slots.
+const MORE: usize = 4;
 
 /// Finds the nodes of a list without a walk over it. Each slot has a chain of the places whose
 /// nodes fall into it. Nodes that were made to fall into one slot are chained again by another
@@ -32,12 +35,11 @@ pub struct Chains {
     turn: NodeFactor,
 }
 
-// The factor by which nodes fall into slots, and how often it may be changed before there are more
-// slots.
+// The factor by which nodes fall into slots, and how many nodes a long search passes.
 #[derive(Clone, Copy)]
 struct NodeFactor {
     factor: u64,
-    left: u32,
+    long: usize,
 }
 
 /// What a search for a node found.
@@ -59,7 +61,7 @@ impl Chains {
             heads: Vec::new(alloc),
             turn: NodeFactor {
                 factor: 0x9e37_79b9_7f4a_7c15,
-                left: TURNS,
+                long: LONG,
             },
         }
     }
@@ -110,11 +112,11 @@ impl Chains {
         if nodes.len() >= self.heads.len() {
             let size = (nodes.len() * 2).max(16);
             self.heads = vec![in *self.heads.allocator(); 0; size]?;
-            self.turn.left = TURNS;
-        } else if passed >= LONG && self.turn.left > 0 {
+            self.turn.long = LONG;
+        } else if passed >= self.turn.long {
             self.heads.fill(0);
             self.turn.factor = self.turn.factor.wrapping_mul(0xd134_2543_de82_ef95);
-            self.turn.left -= 1;
+            self.turn.long = self.turn.long.saturating_add(MORE);
         } else {
             return Ok(());
         }
