@@ -459,3 +459,13 @@ def one_code(apart):
         state_lists.write_lists(file, [(len(states), states)])
         return len(states), [("check", ["check", name, file], measure.UNSOLVABLE)]
     return row
+
+
+def one_slot(folder, percent):
+    """States that meet in slots, each looked up in another list of the same."""
+    count, lines = 400 * percent, Lines()
+    states = [" ".join(map(str, state)) + " ;" for state in state_lists.meeting_in_slots(count)]
+    one = lines.set("x %d " % count + " ".join(states))
+    other = lines.set("x %d " % count + " ".join(reversed(states)))
+    lines.know("s %d %d b1", one, other)
+    return count, checked(folder, task(folder, 64, [0], [1]), lines.text)

@@ -167,6 +167,18 @@ def meeting(percent, apart):
     return actions, start, [sorted(sum(chosen, [])) for chosen in itertools.product(*pairs)]
 
 
+def meeting_in_slots(count):
+    """States over 64 atoms. The first half are spread; then more and more meet in a slot by one
+    factor after another of those by which codes, a bit for each atom, fall into slots."""
+    most, factor, many = 2**64, 0x9E3779B97F4A7C15, 66
+    codes = [n * 0xBF58476D1CE4E5B9 % most for n in range(1, count // 2)]
+    while len(codes) < count:
+        turned = pow(factor, -1, most)
+        codes += [n * turned % most for n in range(1, many + 1)]
+        factor, many = factor * 0xD1342543DE82EF95 % most, many + 4
+    return [[atom for atom in range(64) if code >> atom & 1] for code in codes[:count]]
+
+
 class Dials:
     """Dials of some positions each: a state has an atom for each dial. The last atom is the goal,
     which no action adds."""
