@@ -1,10 +1,12 @@
 -- Unit propagation in rounds: the cube stays around the states in which the clauses are true.
-use Rattle.std.proofs.Common.{◌≡◌, ℕ, ◌+◌, ◌<◌, ◌∙◌, ◌⊎◌, Bool, true, false, List, [], length, get_or}
+use Rattle.std.proofs.Common.{◌≡◌, ℕ, ◌+◌, ◌<◌, ◌∙◌, ◌⊎◌, Bool, true, false, not, cond, List, []}
+use Rattle.std.proofs.Common.{length, get_or}
 use Rattle.std.proofs.Common.{None, Some, replicate, refl, sym, ap, arith, inl, inr, subst}
 use Rattle.std.proofs.lemmas.List.Elements.{All-contains, Contains-get_or}
 use Rattle.std.proofs.lemmas.Bool.{cases_lt}
 use Rattle.std.proofs.lemmas.Option.{get_or_from_slice_get}
 use Rattle.std.specs.List.{All, Contains}
+use Rattle.std.specs.Option.{option_map}
 use Rattle.std.specs.Prelude.{slice_get}
 use Rattle.hv_task.specs.State.{has_atom}
 use Rattle.hv_sets.specs.declared.literal.Literal.{Literal}
@@ -18,7 +20,7 @@ use Rattle.hv_clauses.specs.Working.Closure.{AreForced}
 use Rattle.hv_clauses.specs.Working.Laws.{clause_found, in_cube-Decides}
 use Rattle.hv_clauses.specs.Working.Marks.{Agrees}
 use Rattle.hv_clauses.specs.Working.Trail.{marked}
-use Rattle.hv_clauses.specs.Working.UnitRounds.{IsAround}
+use Rattle.hv_clauses.specs.Working.UnitRounds.{HasTwo, IsAround}
 use Rattle.hv_clauses.specs.Working.Units.{AreFalse, AreSettled}
 use Rattle.hv_clauses.proofs.Chasing.{written_or}
 use Rattle.hv_clauses.proofs.Marked.{has_atom-literal, over-nil, value_false}
@@ -137,3 +139,27 @@ settled_more atoms clauses old new place clause at same here before k d less =
           (subst (λ x. IsSettled [] (marked atoms old) x)
           (sym (get_or_from_slice_get clauses place clause d at)) here)
     ])
+
+-- where each clause has two different literals, none tells anything while nothing is known
+pub two_settled : (atoms : ℕ) (clauses : List (List Literal)) → All HasTwo clauses
+    → AreSettled [] clauses (marked atoms [])
+two_settled atoms clauses all = λ k d less.
+    let two = all k d less in
+    inr (two.0, two.1, two.2, two.3, two.4, unknown two.0, unknown two.1)
+  where
+    unknown : (l : Literal) → value_of [] (marked atoms []) l ≡ None
+    unknown l = ap (option_map (λ value. cond l.positive value (not value)))
+        (known-replicate atoms l.atom)
+
+-- one clause more has two different literals
+pub two_more : (clauses : List (List Literal)) (place : ℕ) (clause : List Literal)
+    → slice_get clauses place ≡ Some clause → HasTwo clause
+    → ((k : ℕ) (d : List Literal) → k < place → HasTwo (get_or clauses k d))
+    → (k : ℕ) (d : List Literal) → k < place + 1 → HasTwo (get_or clauses k d)
+two_more clauses place clause at here before k d less = elim (cases_lt k place) [
+  | inl early ↦ before k d early
+  | inr late ↦
+      let is : place ≡ k = omega (arith, less, late) in
+      subst (λ j. HasTwo (get_or clauses j d)) is
+      (subst HasTwo (sym (get_or_from_slice_get clauses place clause d at)) here)
+]

@@ -6,7 +6,8 @@
 //! what its clause has, and any other at most about twice what rows as long as there are atoms
 //! cost.
 
-ghost use Rattle.std.specs.Prelude.{◌≡◌, ◌<◌, [], length, slice_index_or, IfOk, OnOk};
+ghost use Rattle.std.specs.Prelude.{◌≡◌, ◌<◌, [], length, slice_index_or, true, IfOk, OnOk};
+ghost use Rattle.std.specs.List.{All};
 ghost use Rattle.std.specs.List.Sorted.{IsStrictlyIncreasing};
 ghost use Rattle.hv_sets.specs.declared.literal.Literal.{Literal as LiteralOf};
 ghost use Rattle.hv_sets.specs.Cubes.{SpeakBelow, atoms_of};
@@ -14,7 +15,7 @@ ghost use Rattle.hv_clauses.specs.declared.watched.ScanState.TheVariants as T;
 ghost use Rattle.hv_clauses.specs.Clausal.{AreClauses};
 ghost use Rattle.hv_clauses.specs.Working.Scan.{IsSeenIn, IsScanState, Scans};
 ghost use Rattle.hv_clauses.specs.Working.Trail.{marked};
-ghost use Rattle.hv_clauses.specs.Working.UnitRounds.{IsAround, StepTells, RoundsTell};
+ghost use Rattle.hv_clauses.specs.Working.UnitRounds.{HasTwo, IsAround, StepTells, RoundsTell};
 ghost use Rattle.hv_clauses.specs.Units.{value_of};
 
 use crate::roots;
@@ -40,6 +41,9 @@ pub(crate) fn run(clauses: &Clauses, atoms: usize, cube: &mut Cube) -> Result<Ro
     ensures around { OnOk result (IsAround atoms clauses.now cube.new) }
     ensures tells { IfOk result (RoundsTell atoms clauses.now cube.new) }
 {
+    if tell_nothing(clauses) {
+        return Ok(RoundsEnd::Settled);
+    }
     for _ in 0..rounds_of(clauses, atoms) {
         match look_at_each(clauses, atoms, cube)? {
             RoundsEnd::Settled => return Ok(RoundsEnd::Settled),
@@ -48,6 +52,33 @@ pub(crate) fn run(clauses: &Clauses, atoms: usize, cube: &mut Cube) -> Result<Ro
         }
     }
     Ok(RoundsEnd::Open)
+}
+
+// Whether each clause has two different literals: then it tells nothing while nothing is known.
+fn tell_nothing(clauses: &Clauses) -> bool
+    ensures { result ≡ true → All HasTwo clauses.now }
+{
+    for place in 0..clauses.len() {
+        if !has_two(clauses.get(place)) {
+            return false;
+        }
+    }
+    true
+}
+
+// Whether the clause has two different literals.
+fn has_two(clause: &[Literal]) -> bool
+    ensures { result ≡ true → HasTwo clause.now }
+{
+    let Some(first) = clause.first() else {
+        return false;
+    };
+    for literal in clause {
+        if *literal != *first {
+            return true;
+        }
+    }
+    false
 }
 
 // How often all literals may be read, so that no more are read than there are atoms.

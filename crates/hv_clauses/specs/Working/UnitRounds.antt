@@ -16,6 +16,11 @@ IsAround atoms clauses cube =
     (state : List Bool) → length state ≡ atoms → in_clauses clauses state ≡ true
     → in_cube cube state ≡ true
 
+-- the clause has two different literals
+abbrev pub HasTwo : List Literal → Type 0
+HasTwo clause =
+    (l : Literal) × (k : Literal) × Contains clause l × Contains clause k × (l ≡ k → ⊥)
+
 -- what a look into a clause did to a cube: nothing, since the clause tells nothing more, or since
 -- all its literals are false; or the one open literal was put in, since the others are false
 abbrev pub StepTells : ℕ → List Literal → List Literal → List Literal → RoundsEnd → Type 0
