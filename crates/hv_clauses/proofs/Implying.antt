@@ -12,7 +12,7 @@ use Rattle.hv_clauses.specs.Working.Implied.{ImpliesNumber, IsImpliedCode}
 use Rattle.hv_clauses.specs.Rows.{IsRow}
 use Rattle.hv_clauses.specs.Working.Rows.{AreCoded, ListsCodes, code, place_of_code}
 
-opposite_twice : (l : Literal) → opposite (opposite l) ≡ l
+pub opposite_twice : (l : Literal) → opposite (opposite l) ≡ l
 opposite_twice l = let sign = not-not l.positive in λ i. record { atom = l.atom; positive = sign i }
 
 -- of three that are one of two, the first two are one, or the third is one of them
@@ -52,7 +52,7 @@ ways a b x y (inl xa) (inl ya) ea (inr by) = inl (xa, sym by)
 ways a b x y (inr xb) (inr yb) (inl ax) eb = inr (xb, yb ∙ (sym xb ∙ sym ax))
 ways a b x y (inr xb) (inr yb) (inr ay) eb = inr (xb, sym ay)
 
-pair_ways : (clause : List Literal) (a b x y : Literal) → IsPair clause a b → IsPair clause x y
+pub pair_ways : (clause : List Literal) (a b x y : Literal) → IsPair clause a b → IsPair clause x y
     → ((x ≡ a) × (y ≡ b)) ⊎ ((x ≡ b) × (y ≡ a))
 pair_ways clause a b x y first second =
     ways a b x y (All-contains (IsEither a b) clause x first.only second.has_first)

@@ -39,3 +39,5 @@ pub mod Ordering
 pub mod Truths
 pub mod Owned
 pub mod Around
+pub mod FirstTried
+pub mod ImpliedRows

@@ -36,12 +36,12 @@ use Rattle.hv_clauses.proofs.Keyed.{code_is, key_of-code, number_of-code, row_fr
 use Rattle.hv_clauses.proofs.Truths.{clause_has, clauses_by, one_false}
 
 -- a literal is true where its atom has its sign
-true_as : (sign : Bool) (p : ℕ) (s : List Bool) → has_atom s p ≡ sign
+pub true_as : (sign : Bool) (p : ℕ) (s : List Bool) → has_atom s p ≡ sign
     → in_literal (record { atom = p; positive = sign }) s ≡ true
 true_as true p s e = e
 true_as false p s e = ap not e
 
-sign_or : (sign b : Bool) → (b ≡ sign) ⊎ (b ≡ not sign)
+pub sign_or : (sign b : Bool) → (b ≡ sign) ⊎ (b ≡ not sign)
 sign_or true true = inl refl
 sign_or true false = inr refl
 sign_or false true = inr refl

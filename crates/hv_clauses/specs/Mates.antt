@@ -65,3 +65,9 @@ pub record AreMates (clauses : List (List Literal)) (mates : Mates) : Type 0 whe
       → slice_index_or mates.others.items k 0 < length clauses
   pub whole : (c : ℕ) → c < length clauses → Contains mates.others.items c
       ⊎ (IsPutUnderOwn false clauses mates.negative c ⊎ IsPutUnderOwn true clauses mates.positive c)
+
+-- each of the first so many clauses is among these, or has a negative literal
+pub record ArePositive (clauses : List (List Literal)) (upto : ℕ) (places : List ℕ) : Type 0 where
+  pub inside : (k : ℕ) → k < length places → slice_index_or places k 0 < length clauses
+  pub whole : (c : ℕ) → c < upto → Contains places c
+      ⊎ ((l : Literal) × Contains (clause_at clauses c) l × (l.positive ≡ false))

@@ -258,7 +258,8 @@ pub(crate) fn are_true(clauses: &Clauses, places: &[u32], state: &State) -> bool
     true
 }
 
-fn is_true_in(clause: &[Literal], state: &State) -> bool
+// Whether the clause is true in the state.
+pub(crate) fn is_true_in(clause: &[Literal], state: &State) -> bool
     requires { SpeakBelow (length state.now) clause.now }
     ensures { result ≡ in_clause clause.now state.now }
 {

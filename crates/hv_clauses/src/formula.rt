@@ -85,8 +85,8 @@ impl<K: ClauseKind> Formula<K> {
     {
         let atoms = task.atoms();
         let copy = clauses.copy(alloc)?;
-        let lists = ImplicationLists::new(alloc, K::listing(), clauses)?;
         let closure = Closure::of(alloc, atoms as usize, clauses)?;
+        let lists = ImplicationLists::new(alloc, K::listing(), clauses, &closure.occurs)?;
         Ok(Formula {
             atoms,
             clauses: copy,

@@ -5,9 +5,12 @@ ghost use Rattle.std.specs.List.{All};
 ghost use Rattle.hv_sets.specs.Cubes.{SpeakBelow};
 ghost use Rattle.hv_clauses.specs.Working.Implied.{ImpliesNumber};
 ghost use Rattle.hv_clauses.specs.Working.Lists.{AreListsOf};
+ghost use Rattle.hv_clauses.specs.Working.Occurrences.{IsIndexOf};
 ghost use Rattle.hv_clauses.specs.Working.Rows.{AreRows};
 
+use crate::counted::sort_by_keys;
 use crate::kept_lists::KeptLists;
+use crate::occurrences::Occurrences;
 use crate::rows::RowHead;
 use crate::{implied, rows};
 use hv_sets::Clauses;
@@ -28,8 +31,10 @@ impl ImplicationLists {
         alloc: Global,
         listing: KeptLists,
         clauses: &Clauses,
+        occurs: &Occurrences,
     ) -> Result<ImplicationLists, AllocError>
-        requires { All (SpeakBelow (2 ^ 31)) clauses.now }
+        requires below { All (SpeakBelow (2 ^ 31)) clauses.now }
+        requires index { IsIndexOf clauses.now occurs.now }
         ensures { IfOk result (AreListsOf listing clauses.now) }
     {
         match listing {
@@ -37,17 +42,22 @@ impl ImplicationLists {
                 heads: Vec::new(alloc),
                 numbers: Vec::new(alloc),
             }),
-            KeptLists::Implied => implied_lists(alloc, clauses),
+            KeptLists::Implied => implied_lists(alloc, clauses, occurs),
         }
     }
 }
 
-fn implied_lists(alloc: Global, clauses: &Clauses) -> Result<ImplicationLists, AllocError>
-    requires { All (SpeakBelow (2 ^ 31)) clauses.now }
+fn implied_lists(
+    alloc: Global,
+    clauses: &Clauses,
+    occurs: &Occurrences,
+) -> Result<ImplicationLists, AllocError>
+    requires below { All (SpeakBelow (2 ^ 31)) clauses.now }
+    requires index { IsIndexOf clauses.now occurs.now }
     ensures { IfOk result (λ l. AreRows (ImpliesNumber clauses.now) l.heads.items l.numbers.items) }
 {
-    let mut codes = implied::codes_of(alloc, clauses)?;
-    rows::sort(&mut codes);
+    let mut codes = implied::codes_of(alloc, clauses, occurs)?;
+    sort_by_keys(alloc, &mut codes)?;
     let heads = rows::heads_of(alloc, &codes)?;
     let numbers = rows::numbers_of(alloc, &codes)?;
     Ok(ImplicationLists { heads, numbers })

@@ -1,15 +1,22 @@
 //! The codes of the literals that literals imply at once.
+//!
+//! They are read from where the literals stand, one literal after the other, and not clause by
+//! clause: so of what a literal implies the numbers come in order, mostly, however the clauses are
+//! ordered.
 
-ghost use Rattle.std.specs.Prelude.{◌≡◌, ◌<◌, ◌↔◌, ◌^◌, [], length, slice_index_or};
+ghost use Rattle.std.specs.Prelude.{◌≡◌, ◌<◌, ◌↔◌, ◌^◌, [], length, slice_index, slice_index_or};
 ghost use Rattle.std.specs.Prelude.{IfOk, IsTrue, MatchOption, OnOk};
 ghost use Rattle.std.specs.List.{All, Contains};
 ghost use Rattle.hv_sets.specs.declared.literal.Literal.{Literal};
 ghost use Rattle.hv_sets.specs.Cubes.{SpeakBelow, opposite};
 ghost use Rattle.hv_clauses.specs.Implied.{IsEither, IsPair, literal_number};
-ghost use Rattle.hv_clauses.specs.Working.Implied.{IsImpliedCode};
+ghost use Rattle.hv_clauses.specs.Working.Implied.{IsImpliedCode, PutsImplied, PutsSigned};
+ghost use Rattle.hv_clauses.specs.Working.Occurrences.{AreStanding, IsIndexOf};
 ghost use Rattle.hv_clauses.specs.Working.Rows.{ListsCodes, PutsCodes, code};
+ghost use Rattle.hv_clauses.specs.Working.Signed.{StandsAs};
 
-use crate::rows;
+use crate::occurrences::{Occurrences, Standing};
+use crate::{partners, rows};
 use hv_sets::{Clauses, Literal};
 use std::alloc::{AllocError, Global};
 
@@ -26,16 +33,104 @@ pub(crate) fn number_of(literal: Literal) -> u32
 }
 
 // The codes of what the clauses of one or two literals imply.
-pub(crate) fn codes_of(alloc: Global, clauses: &Clauses) -> Result<Vec<usize>, AllocError>
-    requires { All (SpeakBelow (2 ^ 31)) clauses.now }
+pub(crate) fn codes_of(
+    alloc: Global,
+    clauses: &Clauses,
+    occurs: &Occurrences,
+) -> Result<Vec<usize>, AllocError>
+    requires below { All (SpeakBelow (2 ^ 31)) clauses.now }
+    requires index { IsIndexOf clauses.now occurs.now }
     ensures { IfOk result (λ codes. ListsCodes
         (λ k. IsImpliedCode (slice_index_or clauses.now k [])) (length clauses.now) codes.items) }
 {
     let mut codes = Vec::new(alloc);
-    for place in 0..clauses.len() {
-        put_clause(&mut codes, clauses.get(place))?;
-    }
+    put_signed(&mut codes, clauses, occurs, false)?;
+    put_signed(&mut codes, clauses, occurs, true)?;
     Ok(codes)
+}
+
+// Puts the codes of how the literals of this sign are implied last, by rising atoms.
+fn put_signed(
+    codes: &mut Vec<usize>,
+    clauses: &Clauses,
+    occurs: &Occurrences,
+    sign: bool,
+) -> Result<(), AllocError>
+    requires below { All (SpeakBelow (2 ^ 31)) clauses.now }
+    requires index { IsIndexOf clauses.now occurs.now }
+    ensures { OnOk result (PutsSigned clauses.now sign codes.old.items codes.new.items) }
+{
+    let heads = occurs.signed(sign).heads.as_slice();
+    for at in 0..heads.len() {
+        put_atom(codes, clauses, occurs, sign, heads[at].key)?;
+    }
+    Ok(())
+}
+
+// The same for the literal of an atom.
+fn put_atom(
+    codes: &mut Vec<usize>,
+    clauses: &Clauses,
+    occurs: &Occurrences,
+    sign: bool,
+    atom: u32,
+) -> Result<(), AllocError>
+    requires below { All (SpeakBelow (2 ^ 31)) clauses.now }
+    requires index { IsIndexOf clauses.now occurs.now }
+    ensures { OnOk result (PutsImplied clauses.now (StandsAs sign clauses.now atom)
+        (record { atom = atom; positive = sign }) codes.old.items codes.new.items) }
+{
+    let own = Literal {
+        atom,
+        positive: sign,
+    };
+    let standing = occurs.standing(own);
+    put_standing(codes, clauses, &standing)?;
+    Ok(())
+}
+
+// Puts the codes of how a literal is implied last, where it stands.
+fn put_standing(
+    codes: &mut Vec<usize>,
+    clauses: &Clauses,
+    standing: &Standing<'_>,
+) -> Result<(), AllocError>
+    requires below { All (SpeakBelow (2 ^ 31)) clauses.now }
+    requires standing { AreStanding clauses.now standing.now }
+    ensures { OnOk result (PutsImplied clauses.now (Contains standing.now.places.now)
+        standing.now.literal codes.old.items codes.new.items) }
+{
+    for index in 0..standing.places.len() {
+        put_at(codes, clauses, standing, index)?;
+    }
+    Ok(())
+}
+
+// Puts the codes of how a literal is implied by one of these clauses last. Of two literals, what
+// the other one is tells the list, without a look into the clause.
+fn put_at(
+    codes: &mut Vec<usize>,
+    clauses: &Clauses,
+    standing: &Standing<'_>,
+    index: usize,
+) -> Result<(), AllocError>
+    requires below { All (SpeakBelow (2 ^ 31)) clauses.now }
+    requires standing { AreStanding clauses.now standing.now }
+    requires index { index < length standing.now.places.now }
+    ensures { OnOk result (PutsImplied clauses.now
+        (λ p. p ≡ slice_index standing.now.places.now index) standing.now.literal codes.old.items
+        codes.new.items) }
+{
+    match partners::literal_at(standing.entries, index) {
+        Some(other) => {
+            put(codes, other, standing.literal)?;
+            Ok(())
+        }
+        None => {
+            put_clause(codes, clauses.get(standing.places[index]))?;
+            Ok(())
+        }
+    }
 }
 
 // Puts the codes of what a clause implies last, if it has one or two literals.

@@ -23,9 +23,9 @@
 //!
 //! The way of an inclusion: `clause_walk` goes through the states outside a formula, in the order
 //! of `ranking`; `formula_ask` answers about a formula and `rest_ask` about what is outside it,
-//! literal by literal. For listed states `listed_ask` asks `mates`: there `put_clauses` puts each
-//! clause under one of its literals, `clusters` tries those under literals that are false in the
-//! state, and `screens` passes over many of them at once.
+//! literal by literal. For listed states `listed_ask` asks `first_states`, and later `mates`: there
+//! `put_clauses` puts each clause under one of its literals, `clusters` tries those under literals
+//! that are false in the state, and `screens` passes over many of them at once.
 #![tactic(auto)]
 
 mod affected;
@@ -45,6 +45,7 @@ mod denial;
 mod effect;
 mod falsified;
 mod find;
+mod first_states;
 pub mod formula;
 mod formula_ask;
 pub mod formulas;

@@ -1,28 +1,26 @@
 //! A question about a formula that answers for listed states by the atoms that they hold.
 
-ghost use Rattle.std.specs.Prelude.{◌≡◌, [], Bool, List, OnOk, true, cond, not};
+ghost use Rattle.std.specs.Prelude.{◌≡◌, [], Bool, List, OnOk, length, true, cond, not};
 ghost use Rattle.hv_clauses.specs.Clausal.{in_formula};
-ghost use Rattle.hv_clauses.specs.Mates.{AreMates};
+ghost use Rattle.hv_clauses.specs.Mates.{AreMates, ArePositive};
 
 use crate::clause_kind::ClauseKind;
+use crate::first_states::FirstStates;
 use crate::formula::Formula;
 use crate::mates::Mates;
 use hv_paths::Asker;
-use hv_sets::{Literal, Scratch, StateSet};
+use hv_sets::{Literal, Scratch};
 use hv_task::State;
 use std::alloc::{AllocError, Global};
 
-// For so many states all clauses are tried.
-const ALONE: u32 = 8;
-
 /// A question about a formula, or about the states outside it. Beside it stands what is tried for
-/// listed states. For the first of them all clauses are tried; the next one makes it.
+/// listed states: for the first of them what there is without it, and then what is made for them.
 #[derive(Drop)]
 pub struct ListedAsk<'a, K: ClauseKind, A: Asker + Drop> {
     asked: A,
     set: &'a Formula<K>,
     inside: bool,
-    tried: u32,
+    first: FirstStates,
     ready: bool,
     mates: Mates,
 }
@@ -50,7 +48,7 @@ impl<'a, K: ClauseKind, A: Asker + Drop> ListedAsk<'a, K, A> {
             asked,
             set,
             inside,
-            tried: 0,
+            first: FirstStates::new(alloc),
             ready: false,
             mates: Mates::none(alloc),
         }
@@ -65,6 +63,8 @@ impl<'a, K: ClauseKind, A: Asker + Drop> Asker for ListedAsk<'a, K, A> {
     ghost stands = { λ q. A.stands q.asked × (A.atoms q.asked ≡ q.set.now.atoms)
         × ((s : List Bool) → A.wanted q.asked s
         ≡ cond q.inside (in_formula q.set.now s) (not (in_formula q.set.now s)))
+        × (q.first.listed ≡ true → ArePositive q.set.now.clauses (length q.set.now.clauses)
+        q.first.positive.items)
         × (q.ready ≡ true → AreMates q.set.now.clauses q.mates) };
 
     ghost assumed = { λ q. A.assumed q.asked };
@@ -95,9 +95,8 @@ impl<'a, K: ClauseKind, A: Asker + Drop> Asker for ListedAsk<'a, K, A> {
 
     fn wants(&mut self, alloc: Global, held: &[u32], state: &State) -> Result<bool, AllocError> {
         let set = self.set;
-        if self.tried < ALONE {
-            self.tried += 1;
-            let yes = set.holds(state);
+        if self.first.are_few(set.clauses()) {
+            let yes = self.first.hold(alloc, &set.bare(), held, state)?;
             return Ok(if self.inside { yes } else { !yes });
         }
         make_ready(alloc, set, &mut self.ready, &mut self.mates)?;

@@ -1,7 +1,6 @@
 //! Whether a listed state is in a formula, by the atoms that it holds.
 //!
-//! It is worked out once, at the ninth state that is asked about, since for a few states it costs
-//! more than to try all clauses. Each clause is put under one of its literals, and is tried where
+//! It is worked out once, after the first states (`first_states`). Each clause is put under one of its literals, and is tried where
 //! that is false. So a state costs the atoms that it holds, or the negative literals under which
 //! there are clauses if these are fewer; the positive ones; and the clauses whose own literal is
 //! false, each of them once: never more than to try all.
