@@ -1,5 +1,6 @@
 -- How values that were tried join.
-use Rattle.std.proofs.Common.{◌≡◌, ℕ, ◌+◌, ◌∙◌, Bool, true, false, List, length, Option, None, Some}
+use Rattle.std.proofs.Common.{◌≡◌, ℕ, ◌+◌, ◌∙◌, ◌⊎◌, Bool, true, false, not, List, length, Option}
+use Rattle.std.proofs.Common.{None, Some}
 use Rattle.std.proofs.Common.{refl, sym, ap, subst, arith, inl, inr}
 use Rattle.std.proofs.lemmas.Bool.{cases_lt}
 use Rattle.hv_task.specs.State.{has_atom}
@@ -11,6 +12,7 @@ use Rattle.hv_clauses.specs.Marks.{filled, known, over}
 use Rattle.hv_clauses.specs.Working.Marks.{Agrees, AllKnown, KeepsKnown, low}
 use Rattle.hv_clauses.proofs.Marked.{agrees_extends, agrees_filled, agrees_low, agrees_over}
 use Rattle.hv_clauses.proofs.Marked.{agrees_write, extends_same, extends_write, length-over}
+use Rattle.hv_clauses.proofs.Mated.{sign_or}
 
 -- something is known of an atom, and still is when the marks have grown
 pub stays_known : (old new : List ℕ) (atom : ℕ)
@@ -58,17 +60,17 @@ module _ (Holds : List Bool → Type 0) (Settled : List ℕ → Type 0) where
 
   -- a value was refuted and the other one tried: a state that meets the condition can be made to
   -- agree with the marks, and has one of the two values
-  pub tried_both : (atom : ℕ) (old mid new : List ℕ) (result : Bool)
+  pub tried_both : (atom : ℕ) (value : Bool) (old mid new : List ℕ) (result : Bool)
       → Completes C.Try Holds Settled (length old) → Settled old
-      → IsAssumed Holds Settled atom false old mid false
-      → IsAssumed Holds Settled atom true mid new result
+      → IsAssumed Holds Settled atom value old mid false
+      → IsAssumed Holds Settled atom (not value) mid new result
       → IsTried Holds Settled (λ marks. known marks atom ≡ None → ⊥) old new result
-  tried_both atom old mid new result completes settled first second =
+  tried_both atom value old mid new result completes settled first second =
       let same : mid ≡ old = first.kept refl in
       record {
         size = second.size ∙ ap length same;
-        grows = λ a value k. second.grows a value
-            (subst (λ marks. known marks a ≡ Some value) (sym same) k);
+        grows = λ a b k. second.grows a b
+            (subst (λ marks. known marks a ≡ Some b) (sym same) k);
         settled = second.settled;
         done = λ e none. (let is = second.here e in absurd cc);
         refuted = λ e state size holds.
@@ -76,14 +78,13 @@ module _ (Holds : List Bool → Type 0) (Settled : List ℕ → Type 0) where
             let long : length t ≡ length old = length-over old state ∙ size in
             let agrees : Agrees old t = agrees_over old state (sym size) in
             let meets : Holds t = completes.0 old state refl size settled holds in
-            split t (has_atom t atom) refl long agrees meets same e;
+            split t (sign_or value (has_atom t atom)) long agrees meets same e;
       }
     where
-      split : (t : List Bool) (flag : Bool) → has_atom t atom ≡ flag → length t ≡ length old
-          → Agrees old t → Holds t → mid ≡ old
-          → result ≡ false → ⊥
-      split t false is long agrees meets same e = first.refuted refl t long meets agrees is
-      split t true is long agrees meets same e =
+      split : (t : List Bool) → (has_atom t atom ≡ value) ⊎ (has_atom t atom ≡ not value)
+          → length t ≡ length old → Agrees old t → Holds t → mid ≡ old → result ≡ false → ⊥
+      split t (inl is) long agrees meets same e = first.refuted refl t long meets agrees is
+      split t (inr is) long agrees meets same e =
           second.refuted e t (long ∙ ap length (sym same)) meets
           (subst (λ marks. Agrees marks t) (sym same) agrees) is
 

@@ -4,9 +4,10 @@
 //! formula by putting each such atom in. For clauses of two literals each unassigned atom is tried
 //! with one value and then the other, each time with all that follows; a trial that is refuted is
 //! taken back by shortening the trail, and where both are refuted there is no state, since a value
-//! that isn't refuted never has to be taken back. This needs memory for a few marks an atom, where
-//! a table of which literal follows from which has a place for each pair of literals. A state is
-//! written only at the end, once there is one.
+//! that isn't refuted never has to be taken back. A trial may be refuted after a long way; so once
+//! the value that is tried first was refuted for some atoms, the other one is tried first. This
+//! needs memory for a few marks an atom, where a table of which literal follows from which has a
+//! place for each pair of literals. A state is written only at the end, once there is one.
 
 ghost use Rattle.std.specs.Prelude.{◌≡◌, ◌<◌, ◌≤◌, None, Some, false, true, length};
 ghost use Rattle.std.specs.Prelude.{IfSome, is_some};
@@ -23,6 +24,9 @@ use crate::constraint::Constraint;
 use crate::trail::Assignment;
 use hv_sets::Literal;
 use hv_task::State;
+
+// For so many atoms, and one more, the value that is tried first is refuted before it is changed.
+const PATIENCE: u32 = 16;
 
 // Follows up what the trail has from a place on, until nothing more follows. The answer is false
 // only if no state that agrees with what was known meets the condition.
@@ -94,8 +98,14 @@ pub(crate) fn assume<C: Constraint>(
     false
 }
 
-// Finds a value for an atom. The answer is false only if no state meets the condition.
-pub(crate) fn settle<C: Constraint>(constraint: &C, marks: &mut Assignment<'_>, atom: u32) -> bool
+// Finds a value for an atom, and tries this one first. The answer is false only if no state meets
+// the condition.
+pub(crate) fn settle<C: Constraint>(
+    constraint: &C,
+    marks: &mut Assignment<'_>,
+    atom: u32,
+    first: bool,
+) -> bool
     requires over { C.is_over constraint.now (length marks.old.roots) }
     requires atom { atom < length marks.old.roots }
     requires left { C.left constraint.now marks.old (length marks.old.trail) }
@@ -110,18 +120,18 @@ pub(crate) fn settle<C: Constraint>(constraint: &C, marks: &mut Assignment<'_>, 
     if marks.read(atom).is_some() {
         return true;
     }
-    let out = Literal {
+    let guess = Literal {
         atom,
-        positive: false,
+        positive: first,
     };
-    if assume(constraint, marks, out) {
+    if assume(constraint, marks, guess) {
         return true;
     }
-    let inside = Literal {
+    let other = Literal {
         atom,
-        positive: true,
+        positive: !first,
     };
-    assume(constraint, marks, inside)
+    assume(constraint, marks, other)
 }
 
 // Finds a value for each atom. The answer is false only if no state meets the condition.
@@ -135,12 +145,44 @@ pub(crate) fn settle_all<C: Constraint>(constraint: &C, marks: &mut Assignment<'
     ensures grown { Grows marks.old marks.new }
 {
     constraint.laws();
+    let mut first = FirstGuess {
+        value: false,
+        refuted: 0,
+    };
     for atom in 0..marks.atoms() as u32 {
-        if !settle(constraint, marks, atom) {
+        let open = marks.read(atom).is_none();
+        if !settle(constraint, marks, atom, first.value) {
             return false;
         }
+        first = first.after(open, marks.read(atom));
     }
     true
+}
+
+// The value that is tried first, and for how many atoms it was refuted since it is.
+#[derive(Clone, Copy, Debug, PartialEq, Eq)]
+struct FirstGuess {
+    value: bool,
+    refuted: u32,
+}
+
+impl FirstGuess {
+    // What is tried first after an atom that was open or not, of which now this is known.
+    fn after(self, open: bool, known: Option<bool>) -> FirstGuess {
+        if !open || known == Some(self.value) {
+            return self;
+        }
+        if self.refuted < PATIENCE {
+            return FirstGuess {
+                value: self.value,
+                refuted: self.refuted + 1,
+            };
+        }
+        FirstGuess {
+            value: !self.value,
+            refuted: 0,
+        }
+    }
 }
 
 // Completes what is known to a state that meets the condition. The answer is false only if no state

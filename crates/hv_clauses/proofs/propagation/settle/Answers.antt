@@ -11,7 +11,7 @@ pub returns-clause-tried : goal.returns-clause-tried
 returns-clause-tried g c =
     let k = c.args.marks.now in
     tried_both (g.C.Constraint.admits c.args.constraint.now)
-    (g.C.Constraint.settled c.args.constraint.now) c.args.atom
+    (g.C.Constraint.settled c.args.constraint.now) c.args.atom c.args.first
     (marks_of k) (marks_of c.assume.new.marks) (marks_of c.assume-2.new.marks) c.assume-2.result
     (subst (λ n. Completes C.Try (g.C.Constraint.admits c.args.constraint.now)
     (g.C.Constraint.settled c.args.constraint.now) n) (sym (length-marks k))
