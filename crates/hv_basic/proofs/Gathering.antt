@@ -12,7 +12,7 @@ use Rattle.hv_lines.specs.Shapes.{IsLiteralOf}
 use Rattle.hv_lines.specs.declared.line.Line.{Line}
 use Rattle.hv_lines.proofs.Shaped.{literal_from, literal_once}
 use Rattle.hv_basic.specs.Working.Gathered.{AreGathered, AreOthers, IsGiven, IsThe, sign_on}
-use Rattle.hv_basic.specs.Working.Leaves.{IsLeafRead, places}
+use Rattle.hv_basic.specs.Leaves.{IsLeafRead, places}
 use Rattle.hv_basic.specs.declared.signed_sets.Asking.{Asking}
 use Rattle.hv_basic.specs.declared.signed_sets.Leaf.{Leaf}
 use Rattle.hv_basic.specs.declared.signed_sets.SignedSet.{SignedSet}
@@ -24,7 +24,8 @@ pub read_there : (lines : List Line) (xs ys : List Leaf) → xs ≡ ys → All (
     → All (IsLeafRead lines) xs
 read_there lines xs ys same = subst (All (IsLeafRead lines)) (sym same)
 
-place_at : (leaves : List Leaf) (i : ℕ) (d : Leaf) → i < length leaves
+-- the identifier at a place
+pub place_at : (leaves : List Leaf) (i : ℕ) (d : Leaf) → i < length leaves
     → get_or (places leaves) i 0 ≡ (get_or leaves i d).place
 place_at leaves i d within = get_or-map (λ (leaf : Leaf). leaf.place) leaves i d 0 within
 

@@ -1,6 +1,7 @@
 -- Going through the sets that a set is made of, from the newest to the oldest, and keeping its
 -- leaves.
-use Rattle.std.proofs.Common.{◌≡◌, ℕ, ◌<◌, ◌≤◌, ◌⊎◌, ◌++◌, ◌∙◌, List, [], ◌∷◌, Option, Some, None}
+use Rattle.std.proofs.Common.{◌≡◌, ℕ, ◌<◌, ◌≤◌, ◌⊎◌, ◌↔◌, ◌++◌, ◌∙◌, List, [], ◌∷◌, Option, Some}
+use Rattle.std.proofs.Common.{None}
 use Rattle.std.proofs.Common.{refl, sym, subst, inl, inr, arith}
 use Rattle.std.proofs.lemmas.List.Elements.{Contains-append_left, Contains-push}
 use Rattle.std.proofs.lemmas.List.Elements.{Contains-push_cases}
@@ -11,6 +12,7 @@ use Rattle.hv_lines.specs.Numbering.{expr_at, expr_count}
 use Rattle.hv_lines.specs.Shapes.{IsLeaf, alone, of_left, of_right}
 use Rattle.hv_lines.specs.declared.line.Expr.{Expr}
 use Rattle.hv_lines.specs.declared.line.Line.{Line}
+use Rattle.hv_lines.proofs.Elements.{head_in, of_one}
 use Rattle.hv_basic.specs.Working.Work.{Has, IsLookedAt, IsTaken, LookedAt, parts_on}
 use Rattle.hv_basic.specs.declared.leaves.Half.{Half}
 
@@ -42,6 +44,18 @@ leaf_alone parts lines _ leaf expr at none (of_right set left right l x found ha
     let both : parts expr ≡ Some (left, right) = subst
     (λ y. parts y ≡ Some (left, right)) same has in
     absurd (cc (none, both))
+
+-- so this is all that is found of it
+pub leaf_found : (parts : Expr → Option (ℕ × ℕ)) (lines : List Line) (set : ℕ) (expr : Expr)
+    (found : List ℕ) → expr_at lines set ≡ Some expr → parts expr ≡ None → found ≡ set ∷ []
+    → (leaf : ℕ) → Contains found leaf ↔ IsLeaf parts lines set leaf
+leaf_found parts lines set expr found at none is leaf = (
+  λ c. of_one (IsLeaf parts lines set) set (alone set expr at none) leaf
+      (subst (λ ls. Contains ls leaf) is c),
+  λ of. subst (λ ls. Contains ls leaf) (sym is)
+      (subst (Contains (set ∷ [])) (sym (leaf_alone parts lines set leaf expr at none of))
+      (head_in set [])),
+)
 
 -- a leaf of a set that is taken apart is a leaf of one of its parts
 pub leaf_parts : (parts : Expr → Option (ℕ × ℕ)) (lines : List Line) (set leaf : ℕ) (expr : Expr)

@@ -20,5 +20,6 @@ pub mod Flagged
 pub mod Mixing
 pub mod Turning
 pub mod Sharing
+pub mod KeptLeaves
 pub mod LeftSides
 pub mod Within

@@ -1,6 +1,8 @@
 -- What is asked about, put in order.
 use Rattle.std.proofs.Common.{◌≡◌, ℕ, suc, ◌<◌, ◌+◌, ◌∙◌, ◌++◌, Bool, true, false, List, [], ◌∷◌}
+use Rattle.std.proofs.Common.{◌≤◌, ◌-◌, Some, drop}
 use Rattle.std.proofs.Common.{length, get_or, take, refl, sym, ap, ap₂, subst, inl, inr, arith}
+use Rattle.std.proofs.lemmas.List.{get_or_default, length-append}
 use Rattle.std.proofs.lemmas.Bool.{cases_lt, cond-true, cond-false}
 use Rattle.std.proofs.lemmas.Cmp.{nat_cmp_total}
 use Rattle.std.proofs.lemmas.List.Elements.{Contains-append_left, Contains-push}
@@ -8,18 +10,21 @@ use Rattle.std.proofs.lemmas.List.Elements.{Contains-push_cases}
 use Rattle.std.proofs.lemmas.Map.Keys.{Less-from_sorted}
 use Rattle.std.proofs.lemmas.Map.Lookups.{exact_pairs, exact_unsigned}
 use Rattle.std.proofs.lemmas.Map.Views.{btree_set_contains_iff, tells_apart}
-use Rattle.std.proofs.lemmas.Option.{get_or_from_slice_get, slice_get_within}
+use Rattle.std.proofs.lemmas.Option.{get_or_from_slice_get, slice_get-get_or, slice_get_within}
 use Rattle.std.specs.BTreeSet.{BTreeSet, Updates, contains}
 use Rattle.std.specs.BTreeMap.{is_at}
 use Rattle.std.specs.Cmp.{bool_cmp_total, nat_cmp_is, on_total, then_total}
-use Rattle.std.specs.List.{Contains}
+use Rattle.std.specs.List.{Contains, slice_get}
 use Rattle.std.specs.List.Sorted.{IsStrictlySortedBy}
 use Rattle.std.specs.Ordering.{bool_cmp, nat_cmp, ordering_then}
 use Rattle.std.specs.declared.cmp.Ordering.TheVariants.{Less, Equal, Greater}
 use Rattle.hv_lines.specs.Shapes.{AskedBefore, Askings, AskingsRise}
 use Rattle.hv_basic.specs.Working.Asked.{AreChosen, AreKeys, order}
 use Rattle.hv_basic.specs.declared.signed_sets.Asking.{Asking}
+use Rattle.hv_lines.proofs.Elements.{cons_cases, got_in, head_in, last_cases, tail_in}
 use Rattle.hv_basic.proofs.Gathering.{take_more}
+use Rattle.hv_basic.proofs.Growing.{got_before}
+use Rattle.hv_basic.proofs.Sharing.{drop_at}
 
 bool_exact : (a b : Bool) → bool_cmp a b ≡ Equal → a ≡ b
 bool_exact false false e = refl
@@ -145,3 +150,120 @@ module _ (askings : List Asking) (positive : Bool) (i : ℕ) (within : i < lengt
                     subst (λ p. contains order new p ≡ true) one updates.1
               ],
         )
+
+-- a list from the last to the first
+
+before_trans : (a b c : ℕ × Bool) → AskedBefore a b → AskedBefore b c → AskedBefore a c
+before_trans a b c (inl less) (inl more) = inl (omega (arith, less, more))
+before_trans a b c (inl less) (inr (same, _, _)) = inl (omega (arith, less, same))
+before_trans a b c (inr (same, _, _)) (inl less) = inl (omega (arith, same, less))
+before_trans a b c (inr (_, _, is)) (inr (_, other, _)) =
+    let both : true ≡ false = sym is ∙ other in absurd cc
+
+-- what comes behind the last of what rises comes behind all of it
+pub behind_all : (asked : Askings) (next e : ℕ × Bool) → AskingsRise asked → 0 < length asked
+    → AskedBefore (get_or asked (length asked - 1) e) next → (a : ℕ × Bool) → Contains asked a
+    → AskedBefore a next
+behind_all asked next e rises some before a (k, within, is) =
+    let last : ℕ × Bool = get_or asked (length asked - 1) e in
+    elim (cases_lt k (length asked - 1)) [
+      | inl less ↦
+          before_trans a last next
+          (rises k (length asked - 1) a last less
+          (slice_get-get_or asked k a within ∙ ap Some is)
+          (slice_get-get_or asked (length asked - 1) e (omega (arith, some)))) before
+      | inr upto ↦
+          let one : length asked - 1 ≡ k = omega (arith, upto, within) in
+          let own : last ≡ a = get_or_default asked (length asked - 1) e a (omega (arith, some))
+          ∙ (ap (λ j. get_or asked j a) one ∙ is) in
+          subst (λ (p : ℕ × Bool). AskedBefore p next) own before
+    ]
+
+-- what comes behind all of a list comes behind all of one that is the same
+pub behind_in : (xs ys : Askings) (next : ℕ × Bool) → xs ≡ ys
+    → ((a : ℕ × Bool) → Contains xs a → AskedBefore a next) → (a : ℕ × Bool) → Contains ys a
+    → AskedBefore a next
+behind_in xs ys next same = subst
+    (λ (zs : Askings). (a : ℕ × Bool) → Contains zs a → AskedBefore a next) same
+
+pub rises_push : (asked : Askings) (next : ℕ × Bool) → AskingsRise asked
+    → ((a : ℕ × Bool) → Contains asked a → AskedBefore a next) → AskingsRise (asked ++ next ∷ [])
+rises_push asked next rises before i j first second less at_first at_second =
+    let long = length-append asked (next ∷ []) in
+    let end = slice_get_within (asked ++ next ∷ []) j second at_second in
+    let there : slice_get asked i ≡ Some first =
+    sym (got_before asked next i (omega (arith, less, end, long))) ∙ at_first in
+    elim (last_cases asked next second j at_second) [
+      | inl was ↦ rises i j first second less there was
+      | inr same ↦
+          subst (λ (p : ℕ × Bool). AskedBefore first p) same
+          (before first (got_in asked i first there))
+    ]
+
+module _ (askings : List Asking) (positive : Bool) (count : ℕ) (d : Asking)
+    (within : count < length askings) (old : Askings)
+    (before : AreChosen (drop (length askings - count) askings) positive old) where
+  abbrev pub this : Asking
+  this = get_or askings (length askings - 1 - count) d
+
+  abbrev pub rest : List Asking
+  rest = drop (length askings - count) askings
+
+  one_before : drop (length askings - (count + 1)) askings ≡ this ∷ rest
+  one_before =
+      let from : length askings - (count + 1) ≡ length askings - 1 - count = omega arith in
+      let to : suc (length askings - 1 - count) ≡ length askings - count = omega (arith, within) in
+      ap (λ k. drop k askings) from
+      ∙ (drop_at askings (length askings - 1 - count) d (omega (arith, within))
+      ∙ ap (λ k. this ∷ drop k askings) to)
+
+  pub chosen_kept : (this.positive ≡ positive → ⊥)
+      → AreChosen (drop (length askings - (count + 1)) askings) positive old
+  chosen_kept other asked =
+      let a : Asking = record { set = asked.0; after = asked.1; positive = positive } in (
+        λ c. subst (λ xs. Contains xs a) (sym one_before) (tail_in this rest a ((before asked).0 c)),
+        λ c. elim (cons_cases this rest a (subst (λ xs. Contains xs a) one_before c)) [
+          | inl same ↦ absurd (other (ap (λ (x : Asking). x.positive) same))
+          | inr there ↦ (before asked).1 there
+        ],
+      )
+
+  pub chosen_more : (new : Askings) → this.positive ≡ positive
+      → new ≡ old ++ (this.set, this.after) ∷ []
+      → AreChosen (drop (length askings - (count + 1)) askings) positive new
+  chosen_more new sign is asked =
+      let a : Asking = record { set = asked.0; after = asked.1; positive = positive } in (
+        λ c. subst (λ xs. Contains xs a) (sym one_before)
+            (elim (Contains-push_cases old (this.set, this.after) asked
+            (subst (λ xs. Contains xs asked) is c)) [
+              | inl was ↦ tail_in this rest a ((before asked).0 was)
+              | inr same ↦
+                  let ids : this.set ≡ asked.0 = ap (λ (p : ℕ × Bool). p.0) same in
+                  let late : this.after ≡ asked.1 = ap (λ (p : ℕ × Bool). p.1) same in
+                  let one : this ≡ a = λ k. record {
+                    set = ids k;
+                    after = late k;
+                    positive = sign k;
+                  } in
+                  subst (Contains (this ∷ rest)) one (head_in this rest)
+            ]),
+        λ c. subst (λ xs. Contains xs asked) (sym is)
+            (elim (cons_cases this rest a (subst (λ xs. Contains xs a) one_before c)) [
+              | inl same ↦
+                  let ids : this.set ≡ asked.0 = ap (λ (x : Asking). x.set) same in
+                  let late : this.after ≡ asked.1 = ap (λ (x : Asking). x.after) same in
+                  let one : (this.set, this.after) ≡ asked = λ k. (ids k, late k) in
+                  subst (Contains (old ++ (this.set, this.after) ∷ [])) one
+                  (Contains-push old (this.set, this.after))
+              | inr there ↦
+                  Contains-append_left old ((this.set, this.after) ∷ []) asked
+                  ((before asked).1 there)
+            ]),
+      )
+
+pub chosen_whole : (askings : List Asking) (positive : Bool) (count : ℕ) (chosen : Askings)
+    → length askings ≤ count → AreChosen (drop (length askings - count) askings) positive chosen
+    → AreChosen askings positive chosen
+chosen_whole askings positive count chosen whole are =
+    let none : length askings - count ≡ 0 = omega (arith, whole) in
+    subst (λ k. AreChosen (drop k askings) positive chosen) none are

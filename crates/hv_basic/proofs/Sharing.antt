@@ -6,7 +6,6 @@ use Rattle.std.proofs.Common.{refl, sym, ap, ap₂, subst, inl, inr, arith}
 use Rattle.std.proofs.lemmas.Bool.{cases_lt, cond-false, ltb-false, ltb-true, ne_eqb}
 use Rattle.std.proofs.lemmas.List.{get_or_default, get_or-map, length-map, map-append}
 use Rattle.std.proofs.lemmas.List.Elements.{All-append, All-drop, All-get_or, All-push, All-take}
-use Rattle.std.proofs.lemmas.List.Elements.{All-weaker}
 use Rattle.std.proofs.lemmas.List.Edits.{get_or-insert_above, get_or-insert_at, get_or-insert_below}
 use Rattle.std.proofs.lemmas.List.Edits.{insert_end, length-insert}
 use Rattle.std.proofs.lemmas.List.Sorted.{Contains-permutation, IsPermutation-insert}
@@ -20,47 +19,46 @@ use Rattle.hv_lines.specs.Literals.{IsLiteral, IsPlainSet}
 use Rattle.hv_lines.specs.Numbering.{MayFollow, IsTable, expr_at, expr_count}
 use Rattle.hv_lines.specs.Queries.{count_of, named_by, operand_of, which_at}
 use Rattle.hv_lines.specs.Shapes.{Askings, AskingsRise, IsLiteralOf, IsOfFamily, IsOrLeaf, IsWithinFamily}
-use Rattle.hv_lines.specs.Shapes.{alone}
-use Rattle.hv_lines.specs.Shapes.{family_of, of_left, of_right, or_parts}
+use Rattle.hv_lines.specs.Shapes.{IsLeaf, alone, and_parts, family_of, of_left, of_right}
+use Rattle.hv_lines.specs.Shapes.{or_parts}
 use Rattle.hv_lines.specs.declared.formula_family.FormulaFamily.{FormulaFamily}
 use Rattle.hv_lines.specs.declared.line.Expr.{Expr}
 use Rattle.hv_lines.specs.declared.line.Expr.TheVariants as E
 use Rattle.hv_lines.specs.declared.line.Line.{Line}
 use Rattle.hv_lines.specs.declared.line.Line.TheVariants as L
 use Rattle.hv_lines.proofs.Laws.{expr_at_more, expr_below, exprs_grow, refers_below}
-use Rattle.hv_lines.proofs.Truth.{or_is}
+use Rattle.hv_lines.proofs.Truth.{and_is, or_is}
 use Rattle.hv_lines.proofs.Elements.{cons_cases, head_in, tail_in}
 use Rattle.hv_basic.specs.Sharing.{ArePlain, AreWays, HasToChoose, IsKeptFor, IsNoFormula}
-use Rattle.hv_basic.specs.Sharing.{AreItsFlags, IsPlainSide, IsRightSide, IsShared, IsTheFamily}
-use Rattle.hv_basic.specs.Sharing.{SharedState}
+use Rattle.hv_basic.specs.Sharing.{IsPlainSide, IsRightSide, IsTheFamily}
 use Rattle.hv_basic.specs.Working.Gathered.{IsThe}
-use Rattle.hv_basic.specs.Working.Leaves.{IsLeafRead, places}
+use Rattle.hv_basic.specs.Leaves.{IsLeafRead, places}
 use Rattle.hv_basic.specs.Working.Sharing.{AreAddedTo, AreWaysWith, IsAddedTo, IsFamilyWith}
 use Rattle.hv_basic.specs.Working.Sharing.{IsMadeOf, IsPartBeside, IsPlaceFor, IsSplitAt}
 use Rattle.hv_basic.specs.declared.signed_sets.Leaf.{Leaf}
 use Rattle.hv_basic.specs.declared.signed_sets.SignedSet.{SignedSet}
 use Rattle.hv_basic.specs.declared.shared.Kept.{Kept}
-use Rattle.hv_basic.proofs.Flagging.{flagged_more}
 use Rattle.hv_basic.proofs.Leafing.{leaf_parts}
 
 -- lists
 
-drop_at : (xs : List ℕ) (i d : ℕ) → i < length xs → drop i xs ≡ get_or xs i d ∷ drop (suc i) xs
+pub drop_at : {X : Type 0} (xs : List X) (i : ℕ) (d : X) → i < length xs
+    → drop i xs ≡ get_or xs i d ∷ drop (suc i) xs
 drop_at [] i d below = absurd (omega (arith, below))
 drop_at (x ∷ xs) zero d below = refl
 drop_at (x ∷ xs) (suc i) d below = drop_at xs i d (omega (arith, below))
 
 -- what is in a list with one item more
-insert_in : {X : Type 0} (xs : List X) (i : ℕ) (y x : X) → Contains xs x
+pub insert_in : {X : Type 0} (xs : List X) (i : ℕ) (y x : X) → Contains xs x
     → Contains (insert xs i y) x
 insert_in xs i y x c =
     Contains-permutation (y ∷ xs) (insert xs i y) x (IsPermutation-insert xs i y) (tail_in y xs x c)
 
-inserted : {X : Type 0} (xs : List X) (i : ℕ) (y : X) → Contains (insert xs i y) y
+pub inserted : {X : Type 0} (xs : List X) (i : ℕ) (y : X) → Contains (insert xs i y) y
 inserted xs i y =
     Contains-permutation (y ∷ xs) (insert xs i y) y (IsPermutation-insert xs i y) (head_in y xs)
 
-insert_cases : {X : Type 0} (xs : List X) (i : ℕ) (y x : X) → Contains (insert xs i y) x
+pub insert_cases : {X : Type 0} (xs : List X) (i : ℕ) (y x : X) → Contains (insert xs i y) x
     → Contains xs x ⊎ (y ≡ x)
 insert_cases xs i y x c =
     elim (cons_cases y xs x (Contains-permutation (insert xs i y) (y ∷ xs) x
@@ -143,7 +141,7 @@ rises_insert asked place leaf after rises is i j first second less at_first at_s
 -- a further line changes nothing of what earlier ones say
 
 module _ (line : Line) (older : List Line) (next : MayFollow older line) where
-  plain_more : (set : ℕ) → IsTable older → IsPlainSet older set → IsPlainSet (line ∷ older) set
+  pub plain_more : (set : ℕ) → IsTable older → IsPlainSet older set → IsPlainSet (line ∷ older) set
   plain_more set table (expr, at, plain) =
       (expr, expr_at_more line older set next (expr_below older set expr table at) ∙ at, plain)
 
@@ -187,35 +185,42 @@ module _ (line : Line) (older : List Line) (next : MayFollow older line) where
   told_more asked None table are = tt
   told_more asked (Some ways) table are = ways_more asked ways table are
 
-  leaf_more : (set leaf : ℕ) → IsTable older → IsOrLeaf older set leaf
-      → IsOrLeaf (line ∷ older) set leaf
-  leaf_more _ _ table (alone set x at none) = alone set x
+  pub leaf_more : (parts : Expr → Option (ℕ × ℕ)) (set leaf : ℕ) → IsTable older
+      → IsLeaf parts older set leaf → IsLeaf parts (line ∷ older) set leaf
+  leaf_more parts _ _ table (alone set x at none) = alone set x
       (expr_at_more line older set next (expr_below older set x table at) ∙ at) none
-  leaf_more _ _ table (of_left set left right leaf x at has of) =
+  leaf_more parts _ _ table (of_left set left right leaf x at has of) =
       of_left set left right leaf x (expr_at_more line older set next
-      (expr_below older set x table at) ∙ at) has (leaf_more left leaf table of)
-  leaf_more _ _ table (of_right set left right leaf x at has of) =
+      (expr_below older set x table at) ∙ at) has (leaf_more parts left leaf table of)
+  leaf_more parts _ _ table (of_right set left right leaf x at has of) =
       of_right set left right leaf x (expr_at_more line older set next
-      (expr_below older set x table at) ∙ at) has (leaf_more right leaf table of)
+      (expr_below older set x table at) ∙ at) has (leaf_more parts right leaf table of)
 
-  parts_below : (set left right : ℕ) (x : Expr) → IsTable older → expr_at older set ≡ Some x
-      → or_parts x ≡ Some (left, right)
-      → (left < expr_count older) × (right < expr_count older)
-  parts_below set left right x table at has =
+  -- the parts of a set have earlier lines
+  abbrev AreEarlier : (Expr → Option (ℕ × ℕ)) → Type 0
+  AreEarlier parts = (set left right : ℕ) (x : Expr) → expr_at older set ≡ Some x
+      → parts x ≡ Some (left, right) → (left < expr_count older) × (right < expr_count older)
+
+  or_earlier : IsTable older → AreEarlier or_parts
+  or_earlier table set left right x at has =
       refers_below older set (E.Or left right) table (at ∙ ap Some (or_is x left right has))
 
-  leaf_before : (set leaf : ℕ) → IsTable older → set < expr_count older
-      → IsOrLeaf (line ∷ older) set leaf → IsOrLeaf older set leaf
-  leaf_before _ _ table below (alone set x at none) = alone set x
+  pub and_earlier : IsTable older → AreEarlier and_parts
+  and_earlier table set left right x at has =
+      refers_below older set (E.And left right) table (at ∙ ap Some (and_is x left right has))
+
+  pub leaf_before : (parts : Expr → Option (ℕ × ℕ)) → AreEarlier parts → (set leaf : ℕ)
+      → set < expr_count older → IsLeaf parts (line ∷ older) set leaf → IsLeaf parts older set leaf
+  leaf_before parts earlier _ _ below (alone set x at none) = alone set x
       (sym (expr_at_more line older set next below) ∙ at) none
-  leaf_before _ _ table below (of_left set left right leaf x at has of) =
+  leaf_before parts earlier _ _ below (of_left set left right leaf x at has of) =
       let was = sym (expr_at_more line older set next below) ∙ at in
       of_left set left right leaf x was has
-      (leaf_before left leaf table (parts_below set left right x table was has).0 of)
-  leaf_before _ _ table below (of_right set left right leaf x at has of) =
+      (leaf_before parts earlier left leaf (earlier set left right x was has).0 of)
+  leaf_before parts earlier _ _ below (of_right set left right leaf x at has of) =
       let was = sym (expr_at_more line older set next below) ∙ at in
       of_right set left right leaf x was has
-      (leaf_before right leaf table (parts_below set left right x table was has).1 of)
+      (leaf_before parts earlier right leaf (earlier set left right x was has).1 of)
 
 which_at_more : (line : Line) (older : List Line) (e : ℕ) → MayFollow older line
     → e < expr_count older
@@ -269,14 +274,14 @@ kept_more line older kept root next is = record {
   below = omega (arith, is.below, exprs_grow line older);
   side = side_more line older kept next is.side;
   leaves = λ leaf. (
-    λ c. leaf_more line older next root leaf is.side.plain.table ((is.leaves leaf).0 c),
-    λ of. (is.leaves leaf).1
-        (leaf_before line older next root leaf is.side.plain.table is.below of),
+    λ c. leaf_more line older next or_parts root leaf is.side.plain.table ((is.leaves leaf).0 c),
+    λ of. (is.leaves leaf).1 (leaf_before line older next or_parts
+        (or_earlier line older next is.side.plain.table) root leaf is.below of),
   );
 }
 
 -- what is kept stays right when a line is added
-side_stays : (line : Line) (older : List Line) (kept : Kept) → MayFollow older line
+pub side_stays : (line : Line) (older : List Line) (kept : Kept) → MayFollow older line
     → IsRightSide older kept → IsRightSide (line ∷ older) kept
 side_stays line older kept next is = more kept.root is
   where
@@ -284,15 +289,6 @@ side_stays line older kept next is = more kept.root is
         → IfSome root (IsKeptFor (line ∷ older) kept)
     more None h = tt
     more (Some root) h = kept_more line older kept root next h
-
-pub shared_more : (line : Line) (older : List Line) (shared : SharedState) → MayFollow older line
-    → IsShared older shared → IsShared (line ∷ older) shared
-shared_more line older shared next is = record {
-  sides = All-weaker (IsRightSide older) (IsRightSide (line ∷ older))
-      (λ kept right. side_stays line older kept next right) shared.sides is.sides;
-  flagged = All-weaker (AreItsFlags older) (AreItsFlags (line ∷ older))
-      (λ kept right. flagged_more line older kept next right) shared.flagged is.flagged;
-}
 
 -- without one of the sides
 pub sides_without : (lines : List Line) (sides : List Kept) (place : ℕ)
@@ -567,6 +563,24 @@ made_of lines kept root part shared (below, (first, same, or)) leaf =
         ],
       )
     ]
+
+-- the union of what is kept with itself is kept too
+pub made_twice : (lines : List Line) (kept : Kept) (root part : ℕ) → root < expr_count lines
+    → IsRightSide lines kept → kept.root ≡ Some part → IsPartBeside lines kept.root root part
+    → IsRightSide lines (record kept { root = Some root })
+made_twice lines kept root part below shared same beside =
+    let is : IsKeptFor lines kept part = subst (λ r. IfSome r (IsKeptFor lines kept)) same shared in
+    let made = made_of lines kept root part shared beside in record {
+      below = below;
+      side = record { plain = is.side.plain; ways = is.side.ways; named = is.side.named };
+      leaves = λ leaf. (
+        λ c. (made leaf).1 (inl c),
+        λ of. elim ((made leaf).0 of) [
+          | inl c ↦ c
+          | inr in_part ↦ (is.leaves leaf).1 in_part
+        ],
+      );
+    }
 
 -- where the test for lesser identifiers turns
 pub never_falls : (asked : Askings) → AskingsRise asked → IsNonDecreasingBy (λ a. a.0) asked

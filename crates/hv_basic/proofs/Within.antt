@@ -131,7 +131,7 @@ no_clash task sets query o state asked has =
     let both : not true ≡ true = subst (λ b. not b ≡ true) yes_in not_in in
     absurd (cc (both)))
 
-map_has : {X Y : Type 0} (f : X → Y) (xs : List X) (a : X) → Contains xs a
+pub map_has : {X Y : Type 0} (f : X → Y) (xs : List X) (a : X) → Contains xs a
     → Contains (map f xs) (f a)
 map_has f [] a c = absurd (nothing_in a c)
 map_has f (x ∷ xs) a c = elim (cons_cases x xs a c) [

@@ -3,5 +3,6 @@ pub mod ActionRows
 pub mod Stores
 pub mod Cases
 pub mod Deciding
+pub mod Leaves
 pub mod Sharing
 pub mod Working

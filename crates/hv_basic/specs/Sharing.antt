@@ -1,4 +1,4 @@
--- What is kept of right sides and action sets for the statements after them.
+-- What is kept of right sides, left sides and action sets for the statements after them.
 use Rattle.std.specs.Prelude.{◌≡◌, ◌<◌, ◌↔◌, ◌*◌, ℕ, Bool, true, false, List, [], ◌∷◌, Option, None}
 use Rattle.std.specs.Prelude.{Some, IfSome, length, map, slice_index_or}
 use Rattle.std.specs.List.{All, Contains}
@@ -6,15 +6,17 @@ use Rattle.hv_lines.specs.Literals.{IsPlainSet}
 use Rattle.hv_lines.specs.Meaning.{acts_of}
 use Rattle.hv_lines.specs.Numbering.{IsTable, acts_count, expr_at, expr_count}
 use Rattle.hv_lines.specs.Queries.{operand_of}
-use Rattle.hv_lines.specs.Shapes.{Askings, AskingsRise, IsOfFamily, IsOrLeaf, IsWithinFamily}
-use Rattle.hv_lines.specs.Shapes.{family_of}
+use Rattle.hv_lines.specs.Shapes.{Askings, AskingsRise, IsAndLeaf, IsOfFamily, IsOrLeaf}
+use Rattle.hv_lines.specs.Shapes.{IsWithinFamily, family_of}
 use Rattle.hv_lines.specs.declared.formula_family.FormulaFamily.{FormulaFamily}
 use Rattle.hv_lines.specs.declared.line.Constant.TheVariants as C
 use Rattle.hv_lines.specs.declared.line.Expr.{Expr}
 use Rattle.hv_lines.specs.declared.line.Expr.TheVariants as E
 use Rattle.hv_lines.specs.declared.line.Line.{Line}
+use Rattle.hv_basic.specs.Leaves.{IsLeafRead, places}
 use Rattle.hv_basic.specs.declared.shared.FlaggedActs.{FlaggedActs}
 use Rattle.hv_basic.specs.declared.shared.Kept.{Kept}
+use Rattle.hv_basic.specs.declared.shared.KeptLeaves.{KeptLeaves}
 
 -- the set is no formula
 abbrev pub IsNoFormula : List Line → ℕ → Type 0
@@ -90,12 +92,21 @@ pub record AreItsFlags (lines : List Line) (kept : FlaggedActs) : Type 0 where
   pub true_for : (number : ℕ) → number < length kept.flags.items
       → slice_index_or kept.flags.items number false ≡ acts_of lines kept.acts number
 
--- what is kept of right sides and of action sets
+-- the leaves that are kept are those of the intersection, with what was read of each
+pub record AreItsLeaves (lines : List Line) (kept : KeptLeaves) : Type 0 where
+  pub table : IsTable lines
+  pub below : kept.root < expr_count lines
+  pub leaves : (leaf : ℕ) → Contains (places kept.leaves.items) leaf ↔ IsAndLeaf lines kept.root leaf
+  pub read : All (IsLeafRead lines) kept.leaves.items
+
+-- what is kept of right sides, of left sides and of action sets
 pub record SharedState : Type 0 where
   pub sides : List Kept
+  pub lefts : List KeptLeaves
   pub flagged : List FlaggedActs
 
 -- what is kept is right for these lines
 pub record IsShared (lines : List Line) (shared : SharedState) : Type 0 where
   pub sides : All (IsRightSide lines) shared.sides
+  pub lefts : All (AreItsLeaves lines) shared.lefts
   pub flagged : All (AreItsFlags lines) shared.flagged

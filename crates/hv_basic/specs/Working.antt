@@ -3,7 +3,6 @@ pub mod Flags
 pub mod Views
 pub mod Work
 pub mod Gathered
-pub mod Leaves
 pub mod Stores
 pub mod Asked
 pub mod Deciding

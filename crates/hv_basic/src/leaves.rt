@@ -4,13 +4,13 @@
 //! Each leaf is given with its literal and family, so the lines of leaves are looked up once for
 //! that, and gathering or keeping what they ask needs no table.
 
-ghost use Rattle.std.specs.Prelude.{◌≡◌, ◌<◌, ◌↔◌, ℕ, false, IfNone, IfOk, IfSome, OnOk};
+ghost use Rattle.std.specs.Prelude.{◌≡◌, ◌<◌, ◌↔◌, ◌∷◌, [], ℕ, false, IfNone, IfOk, IfSome, OnOk};
 ghost use Rattle.std.specs.BTreeSet.{contains};
 ghost use Rattle.std.specs.List.{All, Contains};
 ghost use Rattle.std.specs.Ordering.{nat_cmp};
 ghost use Rattle.hv_lines.specs.Numbering.{expr_count};
 ghost use Rattle.hv_lines.specs.Shapes.{IsLeaf};
-ghost use Rattle.hv_basic.specs.Working.Leaves.{IsLeafRead, places};
+ghost use Rattle.hv_basic.specs.Leaves.{IsLeafRead, places};
 ghost use Rattle.hv_basic.specs.Working.Work.{AreAdded, IsLookedAt, IsTaken, parts_on};
 
 use crate::signed_sets::{Leaf, leaf_of};
@@ -29,6 +29,37 @@ pub(crate) enum Half {
 /// The leaves of the set. The line of each set on the way is looked up once, however often the set
 /// is shared: the newest first.
 pub(crate) fn leaves(
+    alloc: Global,
+    table: &Table,
+    side: Half,
+    root: usize,
+) -> Result<Vec<Leaf>, AllocError>
+    requires { root < expr_count table.now.lines }
+    ensures leaves { IfOk result (λ found. (leaf : ℕ) → Contains (places found.items) leaf
+        ↔ IsLeaf (parts_on side) table.now.lines root leaf) }
+    ensures read { IfOk result (λ found. All (IsLeafRead table.now.lines) found.items) }
+{
+    let expr = table.expr(root);
+    match parts(side, expr) {
+        None => {
+            let found = lone(alloc, leaf_of(table, root, expr))?;
+            Ok(found)
+        }
+        Some(_) => leaves_within(alloc, table, side, root),
+    }
+}
+
+/// The leaf alone.
+fn lone(alloc: Global, leaf: Leaf) -> Result<Vec<Leaf>, AllocError>
+    ensures { IfOk result (λ found. found.items ≡ leaf ∷ []) }
+{
+    let mut found = Vec::new(alloc);
+    found.push(leaf)?;
+    Ok(found)
+}
+
+/// The leaves of a set that is taken apart.
+fn leaves_within(
     alloc: Global,
     table: &Table,
     side: Half,
@@ -78,7 +109,7 @@ fn look_at(
 }
 
 /// The two parts of the set, if it is one that this side takes apart.
-fn parts(side: Half, expr: &Expr) -> Option<(usize, usize)>
+pub(crate) fn parts(side: Half, expr: &Expr) -> Option<(usize, usize)>
     ensures { result ≡ parts_on side expr.now }
 {
     match side {

@@ -1,14 +1,17 @@
 //! What the left side of a statement asks.
 
 ghost use Rattle.std.specs.Prelude.{◌≡◌, ◌<◌, ℕ, Option, IfErr, IfOk};
+ghost use Rattle.std.specs.List.{All};
 ghost use Rattle.hv_lines.specs.Numbering.{expr_count};
 ghost use Rattle.hv_lines.specs.Shapes.{asked_step, asks_sides_after, asks_step_after};
 ghost use Rattle.hv_basic.specs.Faults.{IsShapeFault};
+ghost use Rattle.hv_basic.specs.Sharing.{AreItsLeaves};
 ghost use Rattle.hv_basic.specs.Working.Gathered.{IsLeftRead, IsLeftSide, IsLiteralStep};
 ghost use Rattle.hv_basic.specs.Working.Gathered.{IsStepAdded};
 
-use crate::leaves::{Half, leaves};
+use crate::kept_leaves::{put_leaves, take_leaves};
 use crate::shapes::ShapeFault;
+use crate::shared::KeptLeaves;
 use crate::sides::Sides;
 use crate::signed_sets::{Asking, Others, gather};
 use hv_lines::{Expr, Table, Word};
@@ -18,18 +21,23 @@ use std::alloc::Global;
 pub(crate) fn left_of(
     alloc: Global,
     table: &Table,
+    kept: &mut Vec<KeptLeaves>,
     word: Word,
     left: usize,
 ) -> Result<Sides, ShapeFault>
-    requires { left < expr_count table.now.lines }
+    requires left { left < expr_count table.now.lines }
+    requires kept { All (AreItsLeaves table.now.lines) kept.old.items }
     ensures ok { IfOk result (IsLeftRead table.now.lines word left) }
     ensures err { IfErr result (IsShapeFault ((acts : Option ℕ)
         → IsLeftSide table.now.lines word left acts → ⊥)) }
+    ensures kept { All (AreItsLeaves table.now.lines) kept.new.items }
 {
     let _count = table.expr_count();
-    let lefts = leaves(alloc, table, Half::Left, left)?;
+    let lefts = take_leaves(alloc, table, kept, left)?;
     let mut askings = Vec::new(alloc);
-    match gather(&lefts, true, asks_sides_after(word), &mut askings)? {
+    let others = gather(&lefts.leaves, true, asks_sides_after(word), &mut askings)?;
+    put_leaves(kept, lefts)?;
+    match others {
         Others::None => match word {
             Word::B1 => Ok(Sides {
                 askings,
@@ -37,7 +45,7 @@ pub(crate) fn left_of(
             }),
             _ => Err(ShapeFault::Shape),
         },
-        Others::One(leaf) => match add_step(alloc, table, word, leaf, &mut askings) {
+        Others::One(leaf) => match add_step(alloc, table, kept, word, leaf, &mut askings) {
             Ok(acts) => Ok(Sides {
                 askings,
                 acts: Some(acts),
@@ -53,21 +61,26 @@ pub(crate) fn left_of(
 fn add_step(
     alloc: Global,
     table: &Table,
+    kept: &mut Vec<KeptLeaves>,
     word: Word,
     leaf: usize,
     into: &mut Vec<Asking>,
 ) -> Result<usize, ShapeFault>
-    requires { leaf < expr_count table.now.lines }
+    requires leaf { leaf < expr_count table.now.lines }
+    requires kept { All (AreItsLeaves table.now.lines) kept.old.items }
     ensures ok { IfOk result (λ acts.
         IsStepAdded table.now.lines word leaf acts into.old.items into.new.items) }
     ensures err { IfErr result (IsShapeFault ((set acts : ℕ)
         → IsLiteralStep table.now.lines word leaf set acts → ⊥)) }
+    ensures kept { All (AreItsLeaves table.now.lines) kept.new.items }
 {
     let Some((set, acts)) = step_of(word, table.expr(leaf)) else {
         return Err(ShapeFault::Shape);
     };
-    let inner = leaves(alloc, table, Half::Left, set)?;
-    match gather(&inner, true, asks_step_after(word), into)? {
+    let inner = take_leaves(alloc, table, kept, set)?;
+    let others = gather(&inner.leaves, true, asks_step_after(word), into)?;
+    put_leaves(kept, inner)?;
+    match others {
         Others::None => Ok(acts),
         Others::One(_) => Err(ShapeFault::Shape),
         Others::More => Err(ShapeFault::Shape),

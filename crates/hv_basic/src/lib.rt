@@ -7,8 +7,9 @@
 //! - `shared_verdicts::verdict_of` takes it, with the `case` that it is judged in (task, lines,
 //!   nodes, stores, budget) and what is kept of the right sides before it (`shared`).
 //! - `lefts::left_of` reads the left side, once for both ways of asking: `leaves` takes it apart and
-//!   reads of each leaf's line which literal that is and of what family, `signed_sets` gathers what
-//!   the literals ask about, and the set of the progression is read like it.
+//!   reads of each leaf's line which literal that is and of what family, `kept_leaves` keeps that of
+//!   an intersection, `signed_sets` gathers what the literals ask about, and the set of the
+//!   progression is read like it.
 //! - `recent` brings what is kept of the right side, if that is a union, or of a part of it, and
 //!   `rights` keeps it, if its leaves are formulas and constants: where it is what is kept and a
 //!   further set, only the leaves of that set are looked up.
@@ -38,8 +39,9 @@
 //! identifiers. So n unions, each of which has the one before as a part and is asked about in a
 //! line of its own, cost their number of lines, in whatever order their parts were written; and so
 //! do four such rows of unions that are asked about by turns. Every other union on the right is
-//! looked at anew and kept in place of the one that wasn't asked about for longest, and a left side
-//! is looked at anew for each statement, and once. Where a negation is among the leaves on the
+//! looked at anew and kept in place of the one that wasn't asked about for longest. The leaves of
+//! the four intersections that were on the left last are kept in the same way, and what they ask is
+//! gathered for each statement. Where a negation is among the leaves on the
 //! right, or gives the left side something that is asked about with the sign of the right one, the
 //! statement is decided as if nothing were kept. What is kept is the negative half of a question
 //! and of its query; the invariant says that it is right for the lines so far, and a further line
@@ -94,6 +96,7 @@ mod change_rows;
 mod families;
 mod framed;
 mod kept_flags;
+mod kept_leaves;
 pub mod kinds;
 pub mod laws;
 mod leaves;

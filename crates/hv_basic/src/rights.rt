@@ -10,7 +10,7 @@ ghost use Rattle.hv_lines.specs.Shapes.{AskingsRise};
 ghost use Rattle.hv_lines.specs.declared.line.Expr.{Expr};
 ghost use Rattle.hv_basic.specs.Cases.{lines_in};
 ghost use Rattle.hv_basic.specs.Sharing.{IsPlainSide, IsRightSide, clauses_to_choose};
-ghost use Rattle.hv_basic.specs.Working.Leaves.{IsLeafRead, places};
+ghost use Rattle.hv_basic.specs.Leaves.{IsLeafRead, places};
 ghost use Rattle.hv_basic.specs.Working.Sharing.{AreAddedTo, AreWaysWith, IsAddedTo};
 ghost use Rattle.hv_basic.specs.Working.Sharing.{IsSplitAt, IsMadeOf, IsPartBeside};
 ghost use Rattle.hv_basic.specs.Working.Sharing.{IsPlaceFor};
@@ -75,7 +75,13 @@ fn extend(
     }
     match part_beside(case.table, kept.root, root) {
         None => Ok(false),
-        Some(part) => grow(alloc, case, kept, root, part),
+        Some(part) => {
+            if is_kept(kept, part, after) {
+                kept.root = Some(root);
+                return Ok(true);
+            }
+            grow(alloc, case, kept, root, part)
+        }
     }
 }
 

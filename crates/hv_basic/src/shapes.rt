@@ -114,7 +114,8 @@ fn question_of(alloc: Global, table: &Table, claim: Inclusion) -> Result<Questio
     ensures err { IfErr result (IsShapeFault ((question : AskedQuestion)
         → IsQuestion table.now.lines claim.word claim.left claim.right question → ⊥)) }
 {
-    match left_of(alloc, table, claim.word, claim.left) {
+    let mut kept = Vec::new(alloc);
+    match left_of(alloc, table, &mut kept, claim.word, claim.left) {
         Ok(sides) => question_beside(alloc, table, claim, sides),
         Err(fault) => Err(fault),
     }

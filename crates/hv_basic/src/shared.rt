@@ -1,20 +1,22 @@
-//! What right sides of statements ask, and the flags of action sets, kept for the statements after
-//! them.
+//! What right sides of statements ask, the leaves of intersections on the left, and the flags of
+//! action sets, kept for the statements after them.
 
 ghost use Rattle.std.specs.Prelude.{◌≡◌, None};
 
 use crate::basic::Question;
+use crate::signed_sets::Leaf;
 use hv_lines::FormulaFamily;
 use hv_sets::{Operands, Query, Scratch};
 use std::alloc::{AllocError, Global};
 use std::marker::Model;
 
 /// What is handed from statement to statement: what right sides of earlier ones ask, where these
-/// were unions of formulas and constants, the flags of action sets, and space for the work of
-/// queries. What was asked about last is the last.
+/// were unions of formulas and constants, the leaves of intersections on their left, the flags of
+/// action sets, and space for the work of queries. What was asked about last is the last.
 #[derive(Drop)]
 pub struct Shared {
     pub(crate) sides: Vec<Kept>,
+    pub(crate) lefts: Vec<KeptLeaves>,
     pub(crate) flagged: Vec<FlaggedActs>,
     pub(crate) scratch: Scratch,
 }
@@ -36,6 +38,13 @@ pub(crate) struct Kept {
     pub named: bool,
 }
 
+/// An intersection and its leaves.
+#[derive(Drop)]
+pub(crate) struct KeptLeaves {
+    pub root: usize,
+    pub leaves: Vec<Leaf>,
+}
+
 /// An action set, and a flag for each action: true for those of the set.
 #[derive(Drop)]
 pub(crate) struct FlaggedActs {
@@ -48,7 +57,11 @@ impl Model for Shared {
 
     ghost Value = { SharedState };
 
-    ghost view = { λ s. record { sides = s.sides.items; flagged = s.flagged.items } };
+    ghost view = { λ s. record {
+      sides = s.sides.items;
+      lefts = s.lefts.items;
+      flagged = s.flagged.items;
+    } };
 }
 
 impl Shared {
@@ -63,6 +76,7 @@ impl Shared {
     {
         Ok(Shared {
             sides: Vec::new(alloc),
+            lefts: Vec::new(alloc),
             flagged: Vec::new(alloc),
             scratch: Scratch::new(alloc)?,
         })

@@ -36,8 +36,9 @@ use hv_sets::Scratch;
 use std::alloc::{AllocError, Global};
 
 /// The verdict of a basic statement with its word, as `shape` and `decide` give it. What right sides
-/// ask, and which actions are in action sets, is kept for the statements after it, of the last four:
-/// where the next one is the union of one of these and a further set, only that set is looked at.
+/// ask, the leaves of left sides, and which actions are in action sets, is kept for the statements
+/// after it, of the last four: where the next one is made of one of these and a further set, only
+/// that set is looked at.
 pub fn verdict_of(
     alloc: Global,
     case: &Case<'_>,
@@ -117,7 +118,7 @@ fn verdict_of_sides(
         → IsQuestion (lines_in case.now) claim.word claim.left claim.right question → ⊥)) }
     ensures shared { IsShared (lines_in case.now) shared.new }
 {
-    match left_of(alloc, case.table, claim.word, claim.left) {
+    match left_of(alloc, case.table, &mut shared.lefts, claim.word, claim.left) {
         Ok(sides) => verdict_beside(alloc, case, shared, claim, sides),
         Err(fault) => Err(fault),
     }

@@ -7,7 +7,7 @@ ghost use Rattle.hv_lines.specs.Literals.{IsLiteral};
 ghost use Rattle.hv_lines.specs.Numbering.{ExprRefersBelow, acts_count, expr_at, expr_count};
 ghost use Rattle.hv_lines.specs.declared.line.Line.{Line};
 ghost use Rattle.hv_basic.specs.Working.Gathered.{AreGathered, AreOthers, IsThe, sign_on};
-ghost use Rattle.hv_basic.specs.Working.Leaves.{IsLeafRead, places};
+ghost use Rattle.hv_basic.specs.Leaves.{IsLeafRead, places};
 
 use crate::families::plain_family;
 use hv_lines::{Expr, FormulaFamily, Table};

@@ -14,12 +14,13 @@ use Rattle.hv_lines.specs.declared.line.Word.{Word}
 use Rattle.hv_lines.specs.Setting.{Setting}
 use Rattle.hv_lines.specs.Verdicts.{IsVerdictOfSets}
 use Rattle.hv_lines.specs.declared.verdict.Verdict.{Verdict}
-use Rattle.hv_basic.specs.Sharing.{AreWays, clauses_to_choose}
+use Rattle.hv_basic.specs.Sharing.{AreItsLeaves, AreWays, clauses_to_choose}
 use Rattle.hv_basic.specs.Working.Asked.{AreOperands}
 use Rattle.hv_basic.specs.Working.Gathered.{IsFamilyIn}
 use Rattle.hv_basic.specs.Working.Views.{question_of}
 use Rattle.hv_basic.specs.declared.signed_sets.Asking.{Asking}
 use Rattle.hv_basic.specs.declared.shared.Kept.{Kept}
+use Rattle.hv_basic.specs.declared.shared.KeptLeaves.{KeptLeaves}
 
 -- what the family of one more set makes of the family of those before it
 abbrev pub IsFamilyWith : Option FormulaFamily → Option FormulaFamily → Option FormulaFamily
@@ -70,6 +71,21 @@ abbrev pub IsPartBeside : List Line → Option ℕ → ℕ → ℕ → Type 0
 IsPartBeside lines kept root part = (part < expr_count lines) × ((first : ℕ) × (kept ≡ Some first)
     × ((expr_at lines root ≡ Some (E.Or first part))
     ⊎ (expr_at lines root ≡ Some (E.Or part first))))
+
+-- the set is the intersection of the first one and this part
+abbrev pub IsAndBeside : List Line → ℕ → ℕ → ℕ → Type 0
+IsAndBeside lines first root part = (part < expr_count lines)
+    × ((expr_at lines root ≡ Some (E.And first part))
+    ⊎ (expr_at lines root ≡ Some (E.And part first)))
+
+-- what is kept are the leaves of this set
+abbrev pub AreTakenLeaves : List Line → ℕ → KeptLeaves → Type 0
+AreTakenLeaves lines root kept = (kept.root ≡ root) × AreItsLeaves lines kept
+
+-- leaves with further ones
+abbrev pub AreLeavesWith : List ℕ → List ℕ → List ℕ → Type 0
+AreLeavesWith old more new =
+    (leaf : ℕ) → Contains new leaf ↔ (Contains old leaf ⊎ Contains more leaf)
 
 -- the family of a statement, of whose right side this is the family
 abbrev pub IsFamilyBeside : List Line → List Asking → Option FormulaFamily → FormulaFamily → Type 0

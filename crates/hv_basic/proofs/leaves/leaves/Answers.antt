@@ -1,13 +1,11 @@
-use Rattle.hv_basic.specs.Working.Leaves.{places}
-use Rattle.hv_basic.proofs.Leafing.{leafing_step}
+use Rattle.std.proofs.Common.{◌∙◌, ◌∷◌, [], ap, sym}
+use Rattle.hv_basic.specs.Leaves.{places}
+use Rattle.hv_basic.specs.Working.Work.{parts_on}
+use Rattle.hv_basic.proofs.Leafing.{leaf_found}
 use Rattle.hv_basic.proofs.leaves.leaves.Goals as goal
 
-pub sets-preserved : goal.sets-preserved
-sets-preserved c = record {
-  leafing =
-      leafing_step c.args.table.now.lines c.args.side c.args.root c.in-Some.set c.sets.bound
-      c.sets.work c.take_last.new.work c.look_at.new.work
-      (places c.sets.found.items) (places c.look_at.new.found.items) c.sets.invariant.leafing
-      c.in-Some.ensures.some c.in_ok-look_at.ensures.looked;
-  read = c.in_ok-look_at.ensures.read;
-}
+pub returns-in_ok-found-in-None-clause-leaves : goal.returns-in_ok-found-in-None-clause-leaves
+returns-in_ok-found-in-None-clause-leaves c =
+    leaf_found (parts_on c.args.side) c.args.table.now.lines c.args.root c.expr-expr.result.now
+    (places c.in_ok-found-in-None.found.items) c.expr-expr.ensures.says (sym c.in-None.ensures)
+    (ap places c.in_ok-found-in-None.ensures ∙ ap (λ p. p ∷ []) c.leaf_of.ensures.place)

@@ -1,7 +1,7 @@
 use Rattle.std.proofs.Common.{subst, sym}
 use Rattle.std.proofs.lemmas.List.Elements.{All-push}
 use Rattle.std.specs.List.{All}
-use Rattle.hv_basic.specs.Working.Leaves.{IsLeafRead}
+use Rattle.hv_basic.specs.Leaves.{IsLeafRead}
 use Rattle.hv_basic.proofs.leaves.look_at.Goals as goal
 
 pub returns-in_ok-push-in-None-clause-read : goal.returns-in_ok-push-in-None-clause-read

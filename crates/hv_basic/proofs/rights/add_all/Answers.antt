@@ -1,6 +1,6 @@
 use Rattle.std.proofs.Common.{◌≡◌, ◌-◌, ◌∙◌, arith, drop, length, subst}
 use Rattle.std.proofs.lemmas.List.{length-map}
-use Rattle.hv_basic.specs.Working.Leaves.{places}
+use Rattle.hv_basic.specs.Leaves.{places}
 use Rattle.hv_basic.specs.Working.Sharing.{AreAddedTo}
 use Rattle.hv_basic.proofs.Sharing.{added_at}
 use Rattle.hv_basic.proofs.rights.add_all.Goals as goal

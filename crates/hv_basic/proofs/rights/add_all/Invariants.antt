@@ -1,6 +1,6 @@
 use Rattle.std.proofs.Common.{◌≡◌, ◌-◌, drop, length}
 use Rattle.hv_basic.specs.Cases.{lines_in}
-use Rattle.hv_basic.specs.Working.Leaves.{places}
+use Rattle.hv_basic.specs.Leaves.{places}
 use Rattle.hv_basic.specs.Sharing.{IsPlainSide}
 use Rattle.hv_basic.specs.Working.Sharing.{AreAddedTo}
 use Rattle.hv_basic.proofs.rights.add_all.Given as goal

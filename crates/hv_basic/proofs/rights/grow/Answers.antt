@@ -2,7 +2,7 @@ use Rattle.std.proofs.Common.{◌↔◌, ℕ, subst, sym}
 use Rattle.std.specs.List.{Contains}
 use Rattle.hv_lines.specs.Shapes.{IsOrLeaf}
 use Rattle.hv_basic.specs.Cases.{lines_in}
-use Rattle.hv_basic.specs.Working.Leaves.{places}
+use Rattle.hv_basic.specs.Leaves.{places}
 use Rattle.hv_basic.specs.Working.Sharing.{AreAddedTo}
 use Rattle.hv_basic.proofs.Sharing.{kept_for}
 use Rattle.hv_basic.proofs.rights.grow.Goals as goal

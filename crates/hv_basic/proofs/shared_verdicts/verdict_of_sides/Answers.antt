@@ -1,6 +1,32 @@
+use Rattle.std.proofs.Common.{subst, sym}
+use Rattle.std.specs.List.{All}
 use Rattle.hv_basic.specs.Cases.{lines_in}
+use Rattle.hv_basic.specs.Sharing.{AreItsFlags, AreItsLeaves, IsRightSide, SharedState}
 use Rattle.hv_basic.proofs.Siding.{fault_of, left_part}
 use Rattle.hv_basic.proofs.shared_verdicts.verdict_of_sides.Goals as goal
+
+pub left_of-requires-clause-kept : goal.left_of-requires-clause-kept
+left_of-requires-clause-kept c =
+    subst (λ (s : SharedState). All (AreItsLeaves (lines_in c.args.case.now)) s.lefts)
+    (sym c.shared.view_is) c.requires.shared.lefts
+
+pub verdict_beside-requires-clause-shared : goal.verdict_beside-requires-clause-shared
+verdict_beside-requires-clause-shared c = record {
+  sides = subst (λ (s : SharedState). All (IsRightSide (lines_in c.args.case.now)) s.sides)
+      (sym c.shared.view_is) c.requires.shared.sides;
+  lefts = c.left_of.ensures.kept;
+  flagged = subst (λ (s : SharedState). All (AreItsFlags (lines_in c.args.case.now)) s.flagged)
+      (sym c.shared.view_is) c.requires.shared.flagged;
+}
+
+pub returns-in-Err-clause-shared : goal.returns-in-Err-clause-shared
+returns-in-Err-clause-shared c = record {
+  sides = subst (λ (s : SharedState). All (IsRightSide (lines_in c.args.case.now)) s.sides)
+      (sym c.shared.view_is) c.requires.shared.sides;
+  lefts = c.left_of.ensures.kept;
+  flagged = subst (λ (s : SharedState). All (AreItsFlags (lines_in c.args.case.now)) s.flagged)
+      (sym c.shared.view_is) c.requires.shared.flagged;
+}
 
 pub returns-in-Err-clause-err : goal.returns-in-Err-clause-err
 returns-in-Err-clause-err c =

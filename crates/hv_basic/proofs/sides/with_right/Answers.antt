@@ -1,7 +1,7 @@
 use Rattle.std.proofs.Common.{false, subst}
 use Rattle.hv_lines.specs.Shapes.{asks_sides_after}
 use Rattle.hv_basic.specs.Working.Gathered.{AreGathered, AreOthers}
-use Rattle.hv_basic.specs.Working.Leaves.{places}
+use Rattle.hv_basic.specs.Leaves.{places}
 use Rattle.hv_basic.specs.declared.signed_sets.Others.TheVariants as O
 use Rattle.hv_basic.proofs.Gathering.{read_there}
 use Rattle.hv_basic.proofs.Siding.{asked_lines, askings_from, right_fails, sides_from}

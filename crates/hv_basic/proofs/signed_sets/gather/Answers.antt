@@ -2,7 +2,7 @@ use Rattle.std.proofs.Common.{◌<◌, ◌+◌, List, arith, get_or, length, sub
 use Rattle.std.proofs.lemmas.List.{length-map}
 use Rattle.hv_lines.proofs.Shaped.{literal_from}
 use Rattle.hv_basic.specs.Working.Gathered.{AreGathered, AreOthers}
-use Rattle.hv_basic.specs.Working.Leaves.{places}
+use Rattle.hv_basic.specs.Leaves.{places}
 use Rattle.hv_basic.specs.declared.signed_sets.Asking.{Asking}
 use Rattle.hv_basic.proofs.Gathering.{gathered_more, gathered_other, gathered_whole, others_at}
 use Rattle.hv_basic.proofs.Gathering.{literal_at, other_at, others_same, others_whole, others_with}

@@ -2,7 +2,7 @@ use Rattle.std.proofs.Common.{List, take}
 use Rattle.std.specs.List.{All}
 use Rattle.hv_lines.specs.declared.line.Line.{Line}
 use Rattle.hv_basic.specs.Working.Gathered.{AreGathered, AreOthers}
-use Rattle.hv_basic.specs.Working.Leaves.{IsLeafRead, places}
+use Rattle.hv_basic.specs.Leaves.{IsLeafRead, places}
 use Rattle.hv_basic.proofs.signed_sets.gather.Given as goal
 
 abbrev pub invariant-loop-leaf : goal.invariant-loop-leaf

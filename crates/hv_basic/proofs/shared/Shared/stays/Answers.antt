@@ -1,4 +1,4 @@
-use Rattle.hv_basic.proofs.Sharing.{shared_more}
+use Rattle.hv_basic.proofs.KeptLeaves.{shared_more}
 use Rattle.hv_basic.proofs.shared.Shared.stays.Goals as goal
 
 pub returns : goal.returns

@@ -1,8 +1,8 @@
 use Rattle.std.specs.List.{All}
-use Rattle.hv_basic.specs.Working.Leaves.{IsLeafRead, places}
+use Rattle.hv_basic.specs.Leaves.{IsLeafRead, places}
 use Rattle.hv_basic.specs.Working.Work.{parts_on}
 use Rattle.hv_basic.proofs.Leafing.{IsLeafing}
-use Rattle.hv_basic.proofs.leaves.leaves.Given as goal
+use Rattle.hv_basic.proofs.leaves.leaves_within.Given as goal
 
 abbrev pub invariant-sets : goal.invariant-sets
 invariant-sets l = record {

@@ -1,0 +1,286 @@
+-- The leaves that are kept of left sides stay right, and grow with the intersection.
+use Rattle.std.proofs.Common.{◌≡◌, ℕ, suc, ◌<◌, ◌≤◌, ◌+◌, ◌∙◌, ◌⊎◌, ◌↔◌, ◌++◌, Bool, true, false}
+use Rattle.std.proofs.Common.{List, [], ◌∷◌, Option, Some, None, length, get_or, drop, take}
+use Rattle.std.proofs.Common.{refl, sym, ap, subst, inl, inr, arith}
+use Rattle.std.proofs.lemmas.List.{take_all}
+use Rattle.std.proofs.lemmas.List.Elements.{All-append, All-contains, All-drop}
+use Rattle.std.proofs.lemmas.List.Elements.{All-take, All-weaker, Contains-append_left}
+use Rattle.std.proofs.lemmas.List.Elements.{Contains-get_or, Contains-push, Contains-push_cases}
+use Rattle.std.specs.Global.{Vec}
+use Rattle.std.specs.List.{All, Contains, insert, remove}
+use Rattle.std.specs.Option.{IfSome, MatchOption}
+use Rattle.hv_lines.specs.Literals.{IsLiteral}
+use Rattle.hv_lines.specs.Numbering.{MayFollow, IsTable, expr_at, expr_count}
+use Rattle.hv_lines.specs.Shapes.{IsAndLeaf, IsLiteralOf, and_parts, family_of, of_left, of_right}
+use Rattle.hv_lines.specs.declared.formula_family.FormulaFamily.{FormulaFamily}
+use Rattle.hv_lines.specs.declared.line.Expr.{Expr}
+use Rattle.hv_lines.specs.declared.line.Expr.TheVariants as E
+use Rattle.hv_lines.specs.declared.line.Line.{Line}
+use Rattle.hv_lines.proofs.Elements.{all_from, head_in, in_mapped, of_one}
+use Rattle.hv_lines.proofs.Laws.{expr_at_more, expr_below, exprs_grow, refers_below}
+use Rattle.hv_lines.proofs.Shaped.{leaf_below}
+use Rattle.hv_basic.specs.Leaves.{IsLeafRead, places}
+use Rattle.hv_basic.specs.Sharing.{AreItsFlags, AreItsLeaves, IsRightSide, IsShared, SharedState}
+use Rattle.hv_basic.specs.Working.Sharing.{AreLeavesWith, AreTakenLeaves, IsAndBeside}
+use Rattle.hv_basic.specs.declared.shared.KeptLeaves.{KeptLeaves}
+use Rattle.hv_basic.specs.declared.signed_sets.Leaf.{Leaf}
+use Rattle.hv_basic.specs.declared.signed_sets.SignedSet.{SignedSet}
+use Rattle.hv_basic.proofs.Flagging.{flagged_more}
+use Rattle.hv_basic.proofs.Gathering.{take_more}
+use Rattle.hv_basic.proofs.Leafing.{leaf_parts}
+use Rattle.hv_basic.proofs.Sharing.{and_earlier, insert_cases, insert_in, inserted, leaf_before}
+use Rattle.hv_basic.proofs.Sharing.{leaf_more, plain_more, side_stays}
+use Rattle.hv_basic.proofs.Within.{map_has}
+
+-- the identifier of a leaf
+abbrev place_of : Leaf → ℕ
+place_of leaf = leaf.place
+
+-- a further line changes nothing of what was read of a leaf
+
+module _ (line : Line) (older : List Line) (next : MayFollow older line) (table : IsTable older) where
+  literal_more : (leaf set : ℕ) (plain : Bool) → IsLiteralOf older leaf set plain
+      → IsLiteralOf (line ∷ older) leaf set plain
+  literal_more leaf set true is = (is.0, plain_more line older next set table is.1)
+  literal_more leaf set false is = (
+    expr_at_more line older leaf next (expr_below older leaf (E.Not set) table is.0) ∙ is.0,
+    plain_more line older next set table is.1,
+  )
+
+  literal_before : (leaf : ℕ) → leaf < expr_count older → IsLiteral (line ∷ older) leaf
+      → IsLiteral older leaf
+  literal_before leaf below (inl (expr, at, plain)) =
+      inl (expr, sym (expr_at_more line older leaf next below) ∙ at, plain)
+  literal_before leaf below (inr (inner, at, (expr, inner_at, plain))) =
+      let was : expr_at older leaf ≡ Some (E.Not inner) =
+      sym (expr_at_more line older leaf next below) ∙ at in
+      let earlier = refers_below older leaf (E.Not inner) table was in
+      inr (inner, was, (expr, sym (expr_at_more line older inner next earlier) ∙ inner_at, plain))
+
+  is_more : (place : ℕ) (found : Option SignedSet) → place < expr_count older
+      → MatchOption found (IsLiteral older place → ⊥)
+      (λ (l : SignedSet). IsLiteralOf older place l.set l.is_plain)
+      → MatchOption found (IsLiteral (line ∷ older) place → ⊥)
+      (λ (l : SignedSet). IsLiteralOf (line ∷ older) place l.set l.is_plain)
+  is_more place None below none = λ yes. none (literal_before place below yes)
+  is_more place (Some l) below is = literal_more place l.set l.is_plain is
+
+  family_more : (found : Option SignedSet) (family : Option FormulaFamily)
+      → IfSome found (λ (l : SignedSet). (expr : Expr)
+      × (expr_at older l.set ≡ Some expr) × (family ≡ family_of expr))
+      → IfSome found (λ (l : SignedSet). (expr : Expr)
+      × (expr_at (line ∷ older) l.set ≡ Some expr) × (family ≡ family_of expr))
+  family_more None family is = tt
+  family_more (Some l) family (expr, at, is) =
+      (expr, expr_at_more line older l.set next (expr_below older l.set expr table at) ∙ at, is)
+
+  below_more : (found : Option SignedSet)
+      → IfSome found (λ (l : SignedSet). l.set < expr_count older)
+      → IfSome found (λ (l : SignedSet). l.set < expr_count (line ∷ older))
+  below_more None is = tt
+  below_more (Some l) is = omega (arith, is, exprs_grow line older)
+
+  read_more : (leaf : Leaf) → leaf.place < expr_count older → IsLeafRead older leaf
+      → IsLeafRead (line ∷ older) leaf
+  read_more leaf below read = record {
+    is = is_more leaf.place leaf.literal below read.is;
+    family = family_more leaf.literal leaf.family read.family;
+    below = below_more leaf.literal read.below;
+  }
+
+-- what is kept of a left side stays right when a line is added
+leaves_more : (line : Line) (older : List Line) (kept : KeptLeaves) → MayFollow older line
+    → AreItsLeaves older kept → AreItsLeaves (line ∷ older) kept
+leaves_more line older kept next is = record {
+  table = (next, is.table);
+  below = omega (arith, is.below, exprs_grow line older);
+  leaves = λ leaf. (
+    λ c. leaf_more line older next and_parts kept.root leaf is.table ((is.leaves leaf).0 c),
+    λ of. (is.leaves leaf).1 (leaf_before line older next and_parts
+        (and_earlier line older next is.table) kept.root leaf is.below of),
+  );
+  read = all_from (IsLeafRead (line ∷ older)) kept.leaves.items (λ leaf c.
+      read_more line older next is.table leaf
+      (leaf_below older and_parts kept.root leaf.place is.table
+      ((is.leaves leaf.place).0 (map_has place_of kept.leaves.items leaf c)))
+      (All-contains (IsLeafRead older) kept.leaves.items leaf is.read c));
+}
+
+pub shared_more : (line : Line) (older : List Line) (shared : SharedState) → MayFollow older line
+    → IsShared older shared → IsShared (line ∷ older) shared
+shared_more line older shared next is = record {
+  sides = All-weaker (IsRightSide older) (IsRightSide (line ∷ older))
+      (λ kept right. side_stays line older kept next right) shared.sides is.sides;
+  lefts = All-weaker (AreItsLeaves older) (AreItsLeaves (line ∷ older))
+      (λ kept right. leaves_more line older kept next right) shared.lefts is.lefts;
+  flagged = All-weaker (AreItsFlags older) (AreItsFlags (line ∷ older))
+      (λ kept right. flagged_more line older kept next right) shared.flagged is.flagged;
+}
+
+-- without one of what is kept
+pub lefts_without : (lines : List Line) (lefts : List KeptLeaves) (place : ℕ)
+    → All (AreItsLeaves lines) lefts → All (AreItsLeaves lines) (remove lefts place)
+lefts_without lines lefts place are =
+    All-append (AreItsLeaves lines) (take place lefts) (drop (suc place) lefts)
+    (All-take (AreItsLeaves lines) place lefts are)
+    (All-drop (AreItsLeaves lines) (suc place) lefts are)
+
+-- one leaf more
+pub leaf_put : (leaves : List Leaf) (i : ℕ) (leaf : Leaf)
+    → AreLeavesWith (places leaves) (leaf.place ∷ []) (places (insert leaves i leaf))
+leaf_put leaves i leaf p = (
+  λ c.
+      let w = in_mapped place_of (insert leaves i leaf) p c in
+      elim (insert_cases leaves i leaf w.0 w.1) [
+        | inl was ↦ inl (subst (Contains (places leaves)) w.2 (map_has place_of leaves w.0 was))
+        | inr same ↦
+            inr (subst (Contains (leaf.place ∷ [])) (ap place_of same ∙ w.2)
+            (head_in leaf.place []))
+      ],
+  elim [
+    | inl was ↦
+        let w = in_mapped place_of leaves p was in
+        subst (Contains (places (insert leaves i leaf))) w.2
+        (map_has place_of (insert leaves i leaf) w.0 (insert_in leaves i leaf w.0 w.1))
+    | inr here ↦
+        of_one (Contains (places (insert leaves i leaf))) leaf.place
+        (map_has place_of (insert leaves i leaf) leaf (inserted leaves i leaf)) p here
+  ],
+)
+
+pub leaf_there : (leaves : List ℕ) (place : ℕ) → Contains leaves place
+    → AreLeavesWith leaves (place ∷ []) leaves
+leaf_there leaves place there p = (
+  λ c. inl c,
+  elim [
+    | inl c ↦ c
+    | inr here ↦ of_one (Contains leaves) place there p here
+  ],
+)
+
+pub read_put : (lines : List Line) (leaves : List Leaf) (i : ℕ) (leaf : Leaf)
+    → All (IsLeafRead lines) leaves → IsLeafRead lines leaf
+    → All (IsLeafRead lines) (insert leaves i leaf)
+read_put lines leaves i leaf read own =
+    all_from (IsLeafRead lines) (insert leaves i leaf) (λ x c.
+    elim (insert_cases leaves i leaf x c) [
+      | inl was ↦ All-contains (IsLeafRead lines) leaves x read was
+      | inr same ↦ subst (IsLeafRead lines) same own
+    ])
+
+-- one more of the leaves that are put in
+pub leaves_put : (old mid new more : List ℕ) (i p : ℕ) → i < length more → get_or more i 0 ≡ p
+    → AreLeavesWith old (take i more) mid → AreLeavesWith mid (p ∷ []) new
+    → AreLeavesWith old (take (i + 1) more) new
+leaves_put old mid new more i p within is before put leaf =
+    let up : i + 1 ≡ suc i = omega arith in
+    let next : take (i + 1) more ≡ take i more ++ p ∷ [] = ap (λ n. take n more) up
+    ∙ (take_more more i 0 within ∙ ap (λ x. take i more ++ x ∷ []) is) in (
+      λ c. elim ((put leaf).0 c) [
+        | inl was ↦ elim ((before leaf).0 was) [
+          | inl first ↦ inl first
+          | inr early ↦ inr (subst (λ xs. Contains xs leaf) (sym next)
+              (Contains-append_left (take i more) (p ∷ []) leaf early))
+        ]
+        | inr here ↦ inr (subst (λ xs. Contains xs leaf) (sym next)
+            (of_one (Contains (take i more ++ p ∷ [])) p (Contains-push (take i more) p) leaf here))
+      ],
+      elim [
+        | inl first ↦ (put leaf).1 (inl ((before leaf).1 (inl first)))
+        | inr many ↦ elim (Contains-push_cases (take i more) p leaf
+            (subst (λ xs. Contains xs leaf) next many)) [
+              | inl early ↦ (put leaf).1 (inl ((before leaf).1 (inr early)))
+              | inr same ↦ (put leaf).1 (inr (subst (Contains (p ∷ [])) same (head_in p [])))
+            ]
+      ],
+    )
+
+pub leaves_whole : (old more new : List ℕ) (i : ℕ) → length more ≤ i
+    → AreLeavesWith old (take i more) new → AreLeavesWith old more new
+leaves_whole old more new i whole are =
+    subst (λ xs. AreLeavesWith old xs new) (take_all i more whole) are
+
+-- the leaf at a place is there
+pub leaf_at : (leaves : List Leaf) (place set : ℕ) (d : Leaf) → place < length leaves
+    → (get_or leaves place d).place ≡ set → Contains (places leaves) set
+leaf_at leaves place set d within is =
+    subst (Contains (places leaves)) is
+    (map_has place_of leaves (get_or leaves place d) (Contains-get_or leaves place d within))
+
+-- what is kept becomes the intersection's
+pub joined : (lines : List Line) (own : KeptLeaves) (root part : ℕ) (leaves : Vec Leaf)
+    → root < expr_count lines → IsAndBeside lines own.root root part → AreItsLeaves lines own
+    → ((leaf : ℕ) → Contains (places leaves.items) leaf
+    ↔ (Contains (places own.leaves.items) leaf ⊎ IsAndLeaf lines part leaf))
+    → All (IsLeafRead lines) leaves.items
+    → AreTakenLeaves lines root (record { root = root; leaves = leaves })
+joined lines own root part leaves below (_, both) is with read = (
+  refl,
+  record {
+    table = is.table;
+    below = below;
+    leaves = λ leaf. (
+      λ c. elim ((with leaf).0 c) [
+        | inl was ↦ elim both [
+          | inl at ↦ of_left root own.root part leaf (E.And own.root part) at refl
+              ((is.leaves leaf).0 was)
+          | inr at ↦ of_right root part own.root leaf (E.And part own.root) at refl
+              ((is.leaves leaf).0 was)
+        ]
+        | inr of ↦ elim both [
+          | inl at ↦ of_right root own.root part leaf (E.And own.root part) at refl of
+          | inr at ↦ of_left root part own.root leaf (E.And part own.root) at refl of
+        ]
+      ],
+      λ of. elim both [
+        | inl at ↦ elim (leaf_parts and_parts lines root leaf (E.And own.root part)
+            (own.root, part) at refl of) [
+              | inl first ↦ (with leaf).1 (inl ((is.leaves leaf).1 first))
+              | inr other ↦ (with leaf).1 (inr other)
+            ]
+        | inr at ↦ elim (leaf_parts and_parts lines root leaf (E.And part own.root)
+            (part, own.root) at refl of) [
+              | inl other ↦ (with leaf).1 (inr other)
+              | inr first ↦ (with leaf).1 (inl ((is.leaves leaf).1 first))
+            ]
+      ],
+    );
+    read = read;
+  },
+)
+
+-- leaves with those of a part
+pub with_part : (lines : List Line) (part : ℕ) (old more new : List ℕ)
+    → ((leaf : ℕ) → Contains more leaf ↔ IsAndLeaf lines part leaf) → AreLeavesWith old more new
+    → (leaf : ℕ) → Contains new leaf ↔ (Contains old leaf ⊎ IsAndLeaf lines part leaf)
+with_part lines part old more new are with leaf = (
+  λ c. elim ((with leaf).0 c) [
+    | inl was ↦ inl was
+    | inr also ↦ inr ((are leaf).0 also)
+  ],
+  elim [
+    | inl was ↦ (with leaf).1 (inl was)
+    | inr also ↦ (with leaf).1 (inr ((are leaf).1 also))
+  ],
+)
+
+-- the intersection of a set with itself has its leaves
+pub joined_twice : (lines : List Line) (own : KeptLeaves) (root part : ℕ)
+    → root < expr_count lines → IsAndBeside lines own.root root part → AreItsLeaves lines own
+    → part ≡ own.root
+    → AreTakenLeaves lines root (record { root = root; leaves = own.leaves })
+joined_twice lines own root part below beside is same =
+    joined lines own root part own.leaves below beside is (λ leaf. (
+      λ c. inl c,
+      elim [
+        | inl c ↦ c
+        | inr of ↦ (is.leaves leaf).1 (subst (λ set. IsAndLeaf lines set leaf) same of)
+      ],
+    )) is.read
+
+-- the leaves of the set of which they were asked for
+pub taken : (lines : List Line) (root : ℕ) (own : KeptLeaves) → AreTakenLeaves lines root own
+    → (leaf : ℕ) → Contains (places own.leaves.items) leaf ↔ IsAndLeaf lines root leaf
+taken lines root own (same, is) =
+    subst (λ r. (leaf : ℕ) → Contains (places own.leaves.items) leaf ↔ IsAndLeaf lines r leaf) same
+    is.leaves
