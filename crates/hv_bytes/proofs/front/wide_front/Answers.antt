@@ -6,7 +6,8 @@ use Rattle.hv_bytes.proofs.front.wide_front.Goals as goal
 pub returns-then-digit-gt9-clause-fields : goal.returns-then-digit-gt9-clause-fields
 returns-then-digit-gt9-clause-fields c = rw take_rest
     (spelled_field c.args.line.now c.loop-count.count c.loop-count.number (omega arith)
-    (omega arith) (omega arith) c.loop-count.invariant (c.digit_of-digit.ensures.space c.if-digit.false))
+    (omega arith) (omega arith) c.loop-count.invariant
+    (c.digit_of-digit.ensures.space c.if-digit.false))
 
 pub overflow_mul-number : goal.overflow_mul-number
 overflow_mul-number c =
