@@ -248,8 +248,8 @@ struct Known<'a> {
     premises: &'a Premises,
 }
 
-/// Puts the line last, and its place last among the places of its letter. It is inlined, so that the
-/// line is written once, where it stays.
+/// Puts the line last, and its place last among the places of its letter. It is inlined, so that
+/// the line is written once, where it stays.
 #[inline(always)]
 fn push_both(lines: &mut Vec<Line>, places: &mut Vec<usize>, line: Line) -> Result<(), AllocError>
     ensures ok_line { OnOk result (lines.new.items ≡ lines.old.items ++ line ∷ []) }
