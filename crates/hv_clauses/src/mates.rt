@@ -1,9 +1,9 @@
 //! Whether a listed state is in a formula, by the atoms that it holds.
 //!
-//! It is worked out once, after the first states (`first_states`). Each clause is put under one of its literals, and is tried where
-//! that is false. So a state costs the atoms that it holds, or the negative literals under which
-//! there are clauses if these are fewer; the positive ones; and the clauses whose own literal is
-//! false, each of them once: never more than to try all.
+//! It is worked out once, after the first states (`first_states`). Each clause is put under one of
+//! its literals, and is tried where that is false. So a state costs the atoms that it holds, or the
+//! negative literals under which there are clauses if these are fewer; the positive ones; and the
+//! clauses whose own literal is false, each of them once: never more than to try all.
 
 ghost use Rattle.std.specs.Prelude.{◌≡◌, ◌<◌, ◌≤◌, IfOk, length};
 ghost use Rattle.hv_task.specs.State.{AreBelow, state_of};

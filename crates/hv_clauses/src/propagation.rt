@@ -160,7 +160,7 @@ pub(crate) fn settle_all<C: Constraint>(constraint: &C, marks: &mut Assignment<'
 }
 
 // The value that is tried first, and for how many atoms it was refuted since it is.
-#[derive(Clone, Copy, Debug, PartialEq, Eq)]
+#[derive(Clone, Copy)]
 struct FirstGuess {
     value: bool,
     refuted: u32,

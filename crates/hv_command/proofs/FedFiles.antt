@@ -2,12 +2,11 @@
 use Rattle.std.proofs.Common.{◌≡◌, ℕ, ◌≤◌, ◌∙◌, List, [], ◌∷◌, ◌++◌, Option, Some, None, IfSome}
 use Rattle.std.proofs.Common.{append_assoc, ap, length, refl, subst, sym}
 use Rattle.std.proofs.lemmas.List.{map-append}
-use Rattle.std.specs.Io.KnownBytes.{IsAtEnd}
 use Rattle.hv_bytes.specs.FirstLine.{BeginsLong, FitsLimits, MovesBytes, TakesLine}
 use Rattle.hv_bytes.specs.Pieces.{PieceBytes, as_pieces, pieces_of}
 use Rattle.hv_bytes.specs.Working.Pieces.{GaveLines}
 use Rattle.hv_bytes.specs.Standard.{standard}
-use Rattle.hv_bytes.proofs.WholeText.{gave_all, gave_front, gave_long, gave_more}
+use Rattle.hv_bytes.proofs.WholeText.{gave_front, gave_long, gave_more}
 use Rattle.hv_lines.specs.declared.reason.Reason.{Reason}
 use Rattle.hv_checker.specs.Checkers.{CheckerState, HasJudged, HasJudgedAt}
 use Rattle.hv_checker.specs.Stopping.{stop_after}
@@ -82,16 +81,6 @@ fed_refused (Some bytes) coming earlier checker reason fed e =
     let front = gave_front standard (Some bytes) coming fed.given earlier fed.gave in
     subst (λ ps. HasJudged checker ps) (sym front.1)
     (stands_longer checker reason (as_pieces fed.given) front.0 e fed.stands)
-
--- the file ended: the checker is as the whole file leaves it
-pub fed_all : (file coming : Option (List ℕ)) (earlier number : ℕ) (checker : CheckerState)
-    → IsFeeding file coming earlier number checker → IsAtEnd coming
-    → IfSome file (λ bytes. HasJudged checker (pieces_of standard bytes))
-fed_all None coming earlier number checker so_far end = tt
-fed_all (Some bytes) coming earlier number checker so_far end =
-    subst (λ ps. HasJudged checker ps) (sym (gave_all standard (Some bytes) coming so_far.given
-    earlier
-    so_far.gave end)) so_far.stands
 
 -- a long line was fed, which is the last piece: the checker is as the whole file leaves it
 pub fed_long : (file coming : Option (List ℕ)) (earlier number : ℕ) (was is : CheckerState)

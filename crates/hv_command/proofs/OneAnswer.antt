@@ -1,13 +1,13 @@
 -- A job has one answer.
 use Rattle.std.proofs.Common.{◌≡◌, ◌⊎◌, ◌↔◌, ◌<◌, ◌^◌, ℕ, ◌∙◌, Bool, List, [], Option, Some, None}
-use Rattle.std.proofs.Common.{Ok, Err, IsSome, inl, inr, ap, arith, refl, reverse, subst}
+use Rattle.std.proofs.Common.{Ok, Err, IsSome, inl, inr, ap, refl, reverse, subst}
 use Rattle.std.proofs.Common.{sym}
 use Rattle.std.specs.Option.{option_map}
 use Rattle.hv_bytes.specs.Files.{Names, bytes_of}
-use Rattle.hv_bytes.specs.Pieces.{PieceBytes, pieces_of}
+use Rattle.hv_bytes.specs.Pieces.{pieces_of}
 use Rattle.hv_bytes.specs.Standard.{standard}
 use Rattle.hv_task.specs.Strips.{Strips, atoms}
-use Rattle.hv_task_text.specs.TaskText.{AreTaskTextOf, HasTaskFault, TaskText}
+use Rattle.hv_task_text.specs.TaskText.{HasTaskFault, TaskText}
 use Rattle.hv_bdd.specs.NodeText.{AreNodeTextOf as AreTextOfNodes}
 use Rattle.hv_bdd.specs.NodeText.{HasNodesFault as IsFirstNodesFault}
 use Rattle.hv_bdd.specs.Nodes.{no_nodes}

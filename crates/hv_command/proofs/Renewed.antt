@@ -6,9 +6,8 @@ use Rattle.hv_bytes.specs.Files.{Names, bytes_of}
 use Rattle.hv_bytes.specs.Pieces.{PieceBytes, pieces_of}
 use Rattle.hv_bytes.specs.Standard.{most_file_bytes, standard}
 use Rattle.hv_task.specs.Strips.{Strips, atoms}
-use Rattle.hv_task_text.specs.TaskText.{AreTaskTextOf, TaskText}
+use Rattle.hv_task_text.specs.TaskText.{AreTaskTextOf}
 use Rattle.hv_task_text.proofs.OneAnswer.{one_task}
-use Rattle.hv_bdd.specs.NodeText.{AreNodeTextOf as AreTextOfNodes}
 use Rattle.hv_bdd.specs.Nodes.{NodeList, no_nodes}
 use Rattle.hv_bdd.proofs.OneAnswer.{one_list}
 use Rattle.hv_lines.specs.Judged.{Accepts, Concludes, Judged, JudgedBytes, Judgement, LineText}

@@ -1,41 +1,26 @@
 -- The sets of a log, and what a query of them tells.
-use Rattle.std.proofs.Common.{◌≡◌, ◌<◌, ◌≤◌, ◌+◌, ◌∙◌, ◌++◌, ℕ, suc, Bool, true, false, List}
-use Rattle.std.proofs.Common.{[], ◌∷◌, Option, Some, get_or, length, map, refl, sym, ap, subst}
+use Rattle.std.proofs.Common.{◌≡◌, ◌<◌, ◌≤◌, ◌+◌, ◌∙◌, ◌++◌, ℕ, suc, Bool, true, List}
+use Rattle.std.proofs.Common.{[], ◌∷◌, Some, get_or, length, map, refl, sym, ap, subst}
 use Rattle.std.proofs.Common.{arith, inl, inr}
-use Rattle.std.specs.Prelude.{◌&&◌, not, slice_get}
-use Rattle.std.specs.List.{Contains, filter, list_all}
+use Rattle.std.specs.Prelude.{slice_get}
+use Rattle.std.specs.List.{Contains, filter}
 use Rattle.std.proofs.lemmas.Bool.{cases_lt}
 use Rattle.std.proofs.lemmas.List.Elements.{All-append, All-cons, All-filter, All-map, All-nil}
 use Rattle.std.proofs.lemmas.List.Elements.{Contains-append_left, Contains-append_right}
 use Rattle.std.proofs.lemmas.List.Folds.{list_any_at}
 use Rattle.std.proofs.lemmas.Option.{get_or_from_slice_get, slice_get_within}
-use Rattle.hv_task.specs.declared.action.Action.{Action}
-use Rattle.hv_task.specs.State.{AreBelow, applicable, state_of, successor}
+use Rattle.hv_task.specs.State.{AreBelow, state_of, successor}
 use Rattle.hv_task.specs.Strips.{Strips, atoms}
 use Rattle.hv_task.proofs.Places.{beq-Decides, length-state_of}
-use Rattle.hv_sets.specs.declared.operand.Operand.{Operand}
-use Rattle.hv_sets.specs.declared.query.Query.{Query}
-use Rattle.hv_sets.specs.Query.{action_of, in_operand, is_clash, may_apply}
 use Rattle.hv_sets.specs.Truth.{in_states, is_same}
 use Rattle.hv_explicit.specs.ListedStates.{AreStates, ListedStates, in_listing, in_set}
 use Rattle.hv_replay.specs.Closed.{IsLogged, state_in}
 use Rattle.hv_replay.specs.Expanded.{expanded_in}
 use Rattle.hv_replay.specs.Logs.{IsLog, IsLogEntry, LogEntry, SearchLog, StandsInLog}
-use Rattle.hv_replay.specs.Working.Following.{ListsLog}
 use Rattle.hv_replay.specs.Working.Leading.{HasLog, IsOpenPart, LeadOnIn, ListsExpanded}
-use Rattle.hv_replay.specs.Working.Leading.{SetHasExpanded, StaysInFirst, set_asked}
+use Rattle.hv_replay.specs.Working.Leading.{SetHasExpanded, StaysInFirst}
 use Rattle.hv_replay.specs.declared.leading.LogPart.{LogPart}
 use Rattle.hv_replay.proofs.Followed.{from_listed, same_entry, to_listed}
-
--- a store with the set of the log alone
-pub has_one : (log : SearchLog) (set : ListedStates) → ListsLog log set → HasLog log (set ∷ [])
-has_one log set lists = record {
-  some = omega arith;
-  over = All-cons (λ (s : ListedStates). s.atoms ≡ log.atoms) set [] lists.over
-      (All-nil (λ (s : ListedStates). s.atoms ≡ log.atoms));
-  first = λ s at. let same : ◌≡◌ {A = Option ListedStates} (Some set) (Some s) = at in
-      let is : set ≡ s = cc in subst (ListsLog log) is lists;
-}
 
 -- one set more
 pub has_more : (log : SearchLog) (sets : List ListedStates) (set : ListedStates) → HasLog log sets
@@ -143,47 +128,6 @@ all_expanded [] each = refl
 all_expanded (entry ∷ entries) each =
     let rest = all_expanded entries (λ place e at. each (suc place) e at) in
     rw (each 0 entry refl) (ap (λ states. entry.state ∷ states) rest)
-
--- what the query tells of an action: where it has no counterexample, the action leads on
-abbrev clash_of : Strips → List ListedStates → Option ℕ → List Operand → List Operand → List Bool → Bool
-clash_of task sets acting positive negative state =
-    may_apply (action_of task acting) state
-    && (list_all (λ o. in_operand task (in_set sets) (action_of task acting) state o) positive
-    && list_all (λ o. not (in_operand task (in_set sets) (action_of task acting) state o)) negative)
-
-abbrev clash_by : Strips → List ListedStates → ℕ → Option Action → List Bool → Bool
-clash_by task sets number action state =
-    may_apply action state
-    && ((in_operand task (in_set sets) action state (set_asked number false) && true)
-    && (not (in_operand task (in_set sets) action state (set_asked 0 true)) && true))
-
-settled : (a b c : Bool) → a ≡ true → b ≡ true
-    → (a && ((b && true) && (not c && true))) ≡ false → c ≡ true
-settled true true true p q e = refl
-settled true true false p q e = absurd cc
-settled true false c p q e = absurd cc
-settled false b c p q e = absurd cc
-
-pub query_tells : (task : Strips) (sets : List ListedStates) (number acting : ℕ) (query : Query)
-    → query.positive ≡ set_asked number false ∷ [] → query.negative ≡ set_asked 0 true ∷ []
-    → query.action ≡ Some acting
-    → ((state : List Bool) → length state ≡ atoms task
-    → is_clash task (in_set sets) query state ≡ false)
-    → StaysInFirst task sets number acting
-query_tells task sets number acting query positive negative acts none =
-    λ state action size has named can.
-    let whole : clash_of task sets query.action query.positive query.negative state ≡ false =
-    none state size in
-    let one = subst (λ ps. clash_of task sets query.action ps query.negative state ≡ false) positive
-    whole in
-    let two = subst (λ ns. clash_of task sets query.action (set_asked number false ∷ []) ns state
-    ≡ false) negative one in
-    let three : clash_by task sets number (slice_get task.actions acting) state ≡ false =
-    subst (λ a. clash_of task sets a (set_asked number false ∷ []) (set_asked 0 true ∷ []) state
-    ≡ false) acts two in
-    let four = subst (λ a. clash_by task sets number a state ≡ false) named three in
-    settled (applicable action state) (in_set sets number state)
-    (in_set sets 0 (successor action state)) can has four
 
 -- the second half, where every action leads on from the first one
 pub second_open : (task : Strips) (log : SearchLog) (part : LogPart) (middle : ℕ)
