@@ -142,10 +142,70 @@ fn search_from<K: ClauseKind>(
         return false;
     };
     let cost = means.cost;
-    let pays = place < marks.len() || literal_owners::pays(problem, size, cost);
+    let pays = pays_to_list(problem, place, cost, size, marks);
     match literal_owners::listed(means.alloc, problem, pays) {
         None => search_on(problem, place, cost, marks, state),
         Some(owners) => search_on(&problem.with(owners), place, cost, marks, state),
+    }
+}
+
+// Whether it pays to list the positive operands that have each literal: more is to be gone through
+// than that costs, for what is known, for so many choices, or for the first of them, if it isn't
+// likely to be passed over. What is known stays as it was.
+fn pays_to_list<K: ClauseKind>(
+    problem: &Problem<'_, K>,
+    place: usize,
+    cost: u64,
+    size: usize,
+    marks: &mut Assignment<'_>,
+) -> bool
+    requires cost { cost ≡ choices problem.now }
+    requires begun { IsSearchBegun problem.now place marks.old }
+    ensures { marks.new ≡ marks.old }
+{
+    if place < marks.len() || literal_owners::pays(problem, size, cost) {
+        return true;
+    }
+    if size == usize::MAX || cost == 0 || refuted::asked_twice(problem).is_some() {
+        return false;
+    }
+    leads_far(problem, literal_owners::patience(problem, size), marks)
+}
+
+// Whether more than so many literals follow from the first choice. What is known stays as it was.
+fn leads_far<K: ClauseKind>(
+    problem: &Problem<'_, K>,
+    many: usize,
+    marks: &mut Assignment<'_>,
+) -> bool
+    requires some { 0 < choices problem.now }
+    requires begun { IsSearchBegun problem.now (length marks.old.trail) marks.old }
+    ensures { marks.new ≡ marks.old }
+{
+    let point = marks.len();
+    let far = follow_first(problem, many, marks);
+    marks.undo(point);
+    far
+}
+
+// The same, with what follows left on the trail.
+fn follow_first<K: ClauseKind>(
+    problem: &Problem<'_, K>,
+    many: usize,
+    marks: &mut Assignment<'_>,
+) -> bool
+    requires some { 0 < choices problem.now }
+    requires begun { IsSearchBegun problem.now (length marks.old.trail) marks.old }
+    ensures { Grows marks.old marks.new }
+{
+    problem.laws();
+    let point = marks.len();
+    if !choices::deny_all(problem, 0, marks) {
+        return false;
+    }
+    match propagation::close_upto(problem, marks, point, point.saturating_add(many)) {
+        None => false,
+        Some(place) => place < marks.len(),
     }
 }
 
@@ -193,7 +253,7 @@ fn mark_base<K: ClauseKind>(
     if !problem::start_all(problem, rooted, marks) {
         return None;
     }
-    propagation::close_upto(problem, marks, upto)
+    propagation::close_upto(problem, marks, 0, upto)
 }
 
 // Tries choices of one clause of each negative operand. The answer is true once one fits some

@@ -49,20 +49,22 @@ pub(crate) fn close<C: Constraint>(constraint: &C, marks: &mut Assignment<'_>, f
     true
 }
 
-// The same of the literals before a place of the trail, from its beginning. The answer is the place
-// that was come to, or None if no state that agrees with what was known meets the condition.
+// The same of the literals before another place of the trail. The answer is the place that was come
+// to, or None if no state that agrees with what was known meets the condition.
 pub(crate) fn close_upto<C: Constraint>(
     constraint: &C,
     marks: &mut Assignment<'_>,
+    from: usize,
     upto: usize,
 ) -> Option<usize>
     requires over { C.is_over constraint.now (length marks.old.roots) }
-    requires left { C.left constraint.now marks.old 0 }
+    requires from { from ≤ length marks.old.trail }
+    requires left { C.left constraint.now marks.old from }
     ensures followed { IsFollowed (C.admits constraint.now) marks.old marks.new (is_some result) }
     ensures left { IfSome result (λ place. (place ≤ length marks.new.trail)
         × C.left constraint.now marks.new place) }
 {
-    let mut place = 0;
+    let mut place = from;
     while place < upto && place < marks.len() {
         if !constraint.visit(marks, place) {
             return None;
