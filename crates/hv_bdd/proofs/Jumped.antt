@@ -13,18 +13,18 @@ use Rattle.std.specs.List.Sorted.{IsPermutation, IsSorted}
 use Rattle.std.specs.Ordering.{nat_cmp}
 use Rattle.hv_task.specs.State.{has_atom, names_atom, state_of}
 use Rattle.hv_task.proofs.Places.{has_atom-state_of, names_atom-Decides}
-use Rattle.hv_bdd.specs.Jumps.{AreJumps, HoldsNone, IsJump, Passes, StandsAtNode}
+use Rattle.hv_bdd.specs.Jumps.{AreJumps, HoldsNone, IsJump, PassesAlong, StandsAtNode}
 use Rattle.hv_bdd.specs.Nodes.{NodeList, in_node, node_count}
 use Rattle.hv_bdd.specs.Order.{IsOrder, atom_at, place}
 use Rattle.hv_bdd.specs.Reduced.{IsReduced, child, top}
-use Rattle.hv_bdd.specs.Working.Jumping.{HoldsAt, Turns}
+use Rattle.hv_bdd.specs.Working.Jumping.{HoldsAt, TurnsAt}
 use Rattle.hv_bdd.specs.Working.Walking.{atom_at_top, child_later, child_less, in_end, in_inner}
 use Rattle.hv_bdd.specs.Working.Walking.{top_end, top_less}
 use Rattle.hv_bdd.proofs.Placed.{places_name}
 
 module _ (list : NodeList) where
   -- a node is passed to itself
-  pub passes_none : (node place : ℕ) → Passes list node node place
+  pub passes_none : (node place : ℕ) → PassesAlong list node node place
   passes_none node place = record {
     upto = omega arith;
     later = omega arith;
@@ -32,8 +32,8 @@ module _ (list : NodeList) where
   }
 
   -- one passage after the other
-  pub passes_on : (a b c near far : ℕ) → near ≤ far → Passes list a b near → Passes list b c far
-      → Passes list a c far
+  pub passes_on : (a b c near far : ℕ) → near ≤ far → PassesAlong list a b near → PassesAlong list b c far
+      → PassesAlong list a c far
   passes_on a b c near far le first second =
       let upto = first.upto in
       let more = second.upto in
@@ -49,7 +49,7 @@ module _ (list : NodeList) where
 
   -- a jump from a node is there too
   pub jump_is : (node to place : ℕ) → IsJump list node to → top list to ≤ place
-      → Passes list node to place
+      → PassesAlong list node to place
   jump_is node to place jump le = passes_on node to to (top list to) place le jump.passes
       (passes_none to place)
 
@@ -84,7 +84,7 @@ module _ (list : NodeList) where
   module _ (reduced : IsReduced list) where
     -- a state without the atom of a node goes to the low child
     pub passes_low : (node place : ℕ) → 2 ≤ node → node < node_count list → top list node < place
-        → Passes list node (child list node false) place
+        → PassesAlong list node (child list node false) place
     passes_low node place inner within less =
         let below = child_less list reduced node false inner within in
         let later = child_later list reduced node false inner within in
@@ -153,8 +153,8 @@ module _ (list : NodeList) where
     ends node s within past = in_end list reduced s node (outer_past node within past)
 
     -- to a node that asks for a later atom
-    pub turns_past : (node first place : ℕ) → Passes list node first place
-        → place < top list first → Turns list node first place
+    pub turns_past : (node first place : ℕ) → PassesAlong list node first place
+        → place < top list first → TurnsAt list node first place
     turns_past node first place passes less = record {
       upto = passes.upto;
       further = passes.later;
@@ -164,8 +164,8 @@ module _ (list : NodeList) where
 
     -- or by the high child of the node that asks for the atom
     pub turns_high : (node first place : ℕ) → first < node_count list → place < list.atoms
-        → Passes list node first place → top list first ≡ place
-        → Turns list node (child list first true) place
+        → PassesAlong list node first place → top list first ≡ place
+        → TurnsAt list node (child list first true) place
     turns_high node first place within under passes at =
         let inner : 2 ≤ first = elim (cases_lt first 2) [
           | inl end ↦ let e = top_end list first end in absurd (omega arith)

@@ -13,10 +13,10 @@ use Rattle.hv_bytes.specs.Working.Decimals.{HasDecimalShape}
 use Rattle.hv_bytes.specs.Working.Fronts.{IsDigitFront}
 use Rattle.hv_bytes.proofs.DecimalFronts.{front_decimal, front_space}
 use Rattle.hv_bytes.proofs.DecimalTexts.{digits_model}
-use Rattle.hv_bdd.specs.Working.Digits.{AreDigits, IsSpelled}
+use Rattle.hv_bdd.specs.Working.Digits.{AreDigits, SpellsNumber}
 
 -- before the first one
-pub spelled_none : (bytes : List ℕ) → get_or bytes 0 0 ≢ 48 → IsSpelled bytes 0 0
+pub spelled_none : (bytes : List ℕ) → get_or bytes 0 0 ≢ 48 → SpellsNumber bytes 0 0
 spelled_none bytes plain = record {
   digits = tt;
   value = refl;
@@ -37,15 +37,15 @@ more_digit bytes count number digit within digits value few is =
     )
 
 pub spelled_more : (bytes : List ℕ) (count number digit : ℕ) → count < length bytes
-    → IsSpelled bytes count number → digit ≤ 9 → digit + 48 ≡ get_or bytes count 0
-    → IsSpelled bytes (count + 1) (number * 10 + digit)
+    → SpellsNumber bytes count number → digit ≤ 9 → digit + 48 ≡ get_or bytes count 0
+    → SpellsNumber bytes (count + 1) (number * 10 + digit)
 spelled_more bytes count number digit within so_far few is =
     let more = more_digit bytes count number digit within so_far.digits so_far.value few is in
     record { digits = more.0; value = more.1; plain = so_far.plain }
 
 -- seven digits are a number below 10^7
 pub spelled_short : (bytes : List ℕ) (count number : ℕ) → count ≤ length bytes → count ≤ 7
-    → IsSpelled bytes count number → number < 10 ^ 7
+    → SpellsNumber bytes count number → number < 10 ^ 7
 spelled_short bytes count number within few so_far =
     let size = length-take-le count bytes within in
     let short = digits_value_short digits_model (take count bytes) 7 so_far.digits
@@ -54,7 +54,7 @@ spelled_short bytes count number within few so_far =
 
 -- a space behind them ends the first field
 pub spelled_field : (bytes : List ℕ) (count number : ℕ) → 1 ≤ count → count ≤ 7
-    → count < length bytes → IsSpelled bytes count number → get_or bytes count 0 ≡ 32
+    → count < length bytes → SpellsNumber bytes count number → get_or bytes count 0 ≡ 32
     → cut_fields bytes ≡ decimal number ∷ cut_fields (drop (count + 1) bytes)
 spelled_field bytes count number some few within so_far space =
     let size = length-take-le count bytes (omega arith) in
@@ -140,12 +140,12 @@ module _ (digits : List ℕ) (size : length digits ≡ 512) (old : AreDigits dig
 pub more_spelled : (digits bytes : List ℕ) (count number next : ℕ) → AreDigits digits
     → count < length bytes → get_or bytes count 0 < 256
     → next ≡ number * 10 + get_or digits (get_or bytes count 0) 0 → next < 2 ^ 32
-    → IsSpelled bytes count number → IsSpelled bytes (count + 1) next
+    → SpellsNumber bytes count number → SpellsNumber bytes (count + 1) next
 more_spelled digits bytes count number next table within byte is few so_far =
     let digit = table.unit (get_or bytes count 0) byte (omega arith) in
     let upto = digit.0.1 in
     let at = digit.1 in
-    subst (λ n. IsSpelled bytes (count + 1) n) (sym is)
+    subst (λ n. SpellsNumber bytes (count + 1) n) (sym is)
     (spelled_more bytes count number (get_or digits (get_or bytes count 0) 0) within so_far
     (omega arith) at)
 
@@ -154,7 +154,7 @@ pub pair_spelled : (digits bytes : List ℕ) (count number next : ℕ) → AreDi
     → count + 1 < length bytes → get_or bytes count 0 < 256 → get_or bytes (count + 1) 0 < 256
     → next ≡ number * 100 + get_or digits (256 + get_or bytes count 0) 0
     + get_or digits (get_or bytes (count + 1) 0) 0
-    → next < 2 ^ 32 → IsSpelled bytes count number → IsSpelled bytes (count + 2) next
+    → next < 2 ^ 32 → SpellsNumber bytes count number → SpellsNumber bytes (count + 2) next
 pair_spelled digits bytes count number next table within byte other is few so_far =
     let tens = table.tens (get_or bytes count 0) byte (omega arith) in
     let unit = table.unit (get_or bytes (count + 1) 0) other (omega arith) in
@@ -167,8 +167,8 @@ pair_spelled digits bytes count number next table within byte other is few so_fa
     let at = unit.1 in
     let one : count + 1 + 1 ≡ count + 2 = omega arith in
     let same : (number * 10 + first) * 10 + second ≡ next = omega arith in
-    subst (λ c. IsSpelled bytes c next) one
-    (subst (λ n. IsSpelled bytes (count + 1 + 1) n) same
+    subst (λ c. SpellsNumber bytes c next) one
+    (subst (λ n. SpellsNumber bytes (count + 1 + 1) n) same
     (spelled_more bytes (count + 1) (number * 10 + first) second within
     (spelled_more bytes count number first (omega arith) so_far (omega arith) (omega arith))
     (omega arith) at))

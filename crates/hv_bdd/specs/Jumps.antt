@@ -12,7 +12,7 @@ HoldsNone list s from to =
 
 -- a state that holds no atom from the place of a node on and before this one is in the node exactly
 -- where it is in another, which is listed no later and asks for no earlier atom
-pub record Passes (list : NodeList) (node to place : ℕ) : Type 0 where
+pub record PassesAlong (list : NodeList) (node to place : ℕ) : Type 0 where
   pub upto : to ≤ node
   pub later : top list node ≤ top list to
   pub same : (s : List Bool) → HoldsNone list s (top list node) place
@@ -21,7 +21,7 @@ pub record Passes (list : NodeList) (node to place : ℕ) : Type 0 where
 -- the jump of a node passes over what is before the place of its end, and that of a listed node
 -- leads to an earlier one
 pub record IsJump (list : NodeList) (node to : ℕ) : Type 0 where
-  pub passes : Passes list node to (top list to)
+  pub passes : PassesAlong list node to (top list to)
   pub less : 2 ≤ node → to < node
 
 -- the jumps of the first nodes

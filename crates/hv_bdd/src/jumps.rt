@@ -11,10 +11,10 @@ ghost use Rattle.std.specs.Prelude.{◌≡◌, ◌+◌, ◌<◌, ◌≤◌, [], 
 ghost use Rattle.std.specs.List.{All};
 ghost use Rattle.std.specs.List.Sorted.{IsNonDecreasing};
 ghost use Rattle.hv_task.specs.State.{AreBelow, state_of};
-ghost use Rattle.hv_bdd.specs.Jumps.{AreJumps, IsJump, Passes};
+ghost use Rattle.hv_bdd.specs.Jumps.{AreJumps, IsJump, PassesAlong};
 ghost use Rattle.hv_bdd.specs.Nodes.{IsNode, in_node, node_count};
 ghost use Rattle.hv_bdd.specs.Reduced.{top};
-ghost use Rattle.hv_bdd.specs.Working.Jumping.{HoldsAt, Turns};
+ghost use Rattle.hv_bdd.specs.Working.Jumping.{HoldsAt, TurnsAt};
 
 use crate::diagrams::Diagrams;
 use hv_task::State;
@@ -177,7 +177,7 @@ fn behind(nodes: &Diagrams, to: &[u32], node: u32, place: u32) -> u32
     requires node { node < length to.now }
     requires jumps { AreJumps nodes.now to.now }
     requires place { place < nodes.now.atoms }
-    ensures { Turns nodes.now node result place }
+    ensures { TurnsAt nodes.now node result place }
 {
     let _atoms = nodes.atoms();
     let first = first_from(nodes, to, node, place);
@@ -193,7 +193,7 @@ fn first_from(nodes: &Diagrams, to: &[u32], node: u32, place: u32) -> u32
     requires node { node < length to.now }
     requires jumps { AreJumps nodes.now to.now }
     requires place { place ≤ nodes.now.atoms }
-    ensures passes { Passes nodes.now node result place }
+    ensures passes { PassesAlong nodes.now node result place }
     ensures there { place ≤ top nodes.now result }
 {
     let mut at = node;
@@ -210,7 +210,7 @@ fn further(nodes: &Diagrams, to: &[u32], node: u32, place: u32) -> u32
     requires jumps { AreJumps nodes.now to.now }
     requires place { place ≤ nodes.now.atoms }
     requires before { top nodes.now node < place }
-    ensures passes { Passes nodes.now node result place }
+    ensures passes { PassesAlong nodes.now node result place }
     ensures less { result < node }
 {
     let _atoms = nodes.atoms();

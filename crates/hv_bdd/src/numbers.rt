@@ -5,7 +5,7 @@ ghost use Rattle.std.specs.Prelude.{◌≡◌, ℕ, ◌+◌, ◌<◌, ◌≤◌,
 ghost use Rattle.std.specs.Prelude.{◌*◌, ◌≢◌, IfNone, IfSome, MatchOption, slice_index};
 ghost use Rattle.hv_bytes.specs.Fields.{cut_fields};
 ghost use Rattle.hv_bdd.specs.NodeFile.{node_of_fields};
-ghost use Rattle.hv_bdd.specs.Working.Digits.{AreDigits, IsSpelled};
+ghost use Rattle.hv_bdd.specs.Working.Digits.{AreDigits, SpellsNumber};
 ghost use Rattle.hv_bdd.specs.Working.NodeText.{node_of};
 
 use hv_bytes::decimal_front;
@@ -82,7 +82,7 @@ fn with_digit(digits: &[u64; 512], line: &[u8], count: usize, number: u64) -> u6
     requires number { number ≤ 202 * 2 ^ 32 }
     ensures most { result ≤ number * 10 + 2 ^ 32 }
     ensures spelled { result < 2 ^ 32 → (number < 2 ^ 32)
-        × (IsSpelled line.now count number → IsSpelled line.now (count + 1) result) }
+        × (SpellsNumber line.now count number → SpellsNumber line.now (count + 1) result) }
 {
     number * 10 + digits[line[count] as usize]
 }
@@ -95,7 +95,7 @@ fn with_pair(digits: &[u64; 512], line: &[u8], count: usize, number: u64) -> u64
     requires number { number ≤ 2 * 2 ^ 32 }
     ensures most { result ≤ number * 100 + 2 * 2 ^ 32 }
     ensures spelled { result < 2 ^ 32 → (number < 2 ^ 32)
-        × (IsSpelled line.now count number → IsSpelled line.now (count + 2) result) }
+        × (SpellsNumber line.now count number → SpellsNumber line.now (count + 2) result) }
 {
     number * 100 + digits[256 + line[count] as usize] + digits[line[count + 1] as usize]
 }
@@ -107,7 +107,7 @@ fn four_digits(digits: &[u64; 512], line: &[u8]) -> u64
     requires room { 8 ≤ length line.now }
     requires plain { slice_index line.now 0 ≢ 48 }
     ensures most { result ≤ 202 * 2 ^ 32 }
-    ensures spelled { result < 2 ^ 32 → IsSpelled line.now 4 result }
+    ensures spelled { result < 2 ^ 32 → SpellsNumber line.now 4 result }
 {
     let first = with_pair(digits, line, 0, 0);
     with_pair(digits, line, 2, first)

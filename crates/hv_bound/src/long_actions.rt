@@ -5,11 +5,11 @@
 
 ghost use Rattle.std.specs.Prelude.{◌≡◌, ◌<◌, length, true, IfOk, OnOk, IfSome, Some, slice_get};
 ghost use Rattle.hv_task.specs.declared.action.Action.{Action};
-ghost use Rattle.hv_task.specs.ActionRows.{AreRowsOf, HaveAtoms};
+ghost use Rattle.hv_task.specs.ActionWords.{AreRowsOf, HaveAtoms};
 ghost use Rattle.hv_task.specs.Strips.{Strips, IsOver, IsState};
-ghost use Rattle.hv_bound.specs.Working.LongActions.{AreRowsFor, AreThere, IsStep, IsStepOf};
+ghost use Rattle.hv_bound.specs.Working.LongActions.{AreKeptWords, AreThere, IsStepTaken, IsStepOf};
 
-use hv_task::{Action, ActionRows, State, Task};
+use hv_task::{Action, ActionWords, State, Task};
 use std::alloc::{AllocError, Global};
 
 // Of how many actions rows are kept.
@@ -27,13 +27,13 @@ pub(crate) struct LongActions {
 #[derive(Drop)]
 pub(crate) struct NumberedRows {
     pub number: u32,
-    pub rows: ActionRows,
+    pub rows: ActionWords,
 }
 
 impl LongActions {
     /// None yet.
     pub(crate) fn new(alloc: Global) -> LongActions
-        ensures { (task : Strips) → AreRowsFor task result }
+        ensures { (task : Strips) → AreKeptWords task result }
     {
         LongActions {
             places: Vec::new(alloc),
@@ -52,9 +52,9 @@ impl LongActions {
     ) -> Result<bool, AllocError>
         requires number { number < length task.now.actions }
         requires state { IsState task.now state.old }
-        requires kept { AreRowsFor task.now self.old }
-        ensures kept { OnOk result (AreRowsFor task.now self.new) }
-        ensures step { IfOk result (λ taken. IsStep task.now number state.old state.new taken) }
+        requires kept { AreKeptWords task.now self.old }
+        ensures kept { OnOk result (AreKeptWords task.now self.new) }
+        ensures step { IfOk result (λ taken. IsStepTaken task.now number state.old state.new taken) }
         ensures state { IsState task.now state.new }
     {
         let action = task.action(number);
@@ -75,8 +75,8 @@ impl LongActions {
         number: u32,
     ) -> Result<Option<usize>, AllocError>
         requires number { number < length task.now.actions }
-        requires kept { AreRowsFor task.now self.old }
-        ensures kept { OnOk result (AreRowsFor task.now self.new) }
+        requires kept { AreKeptWords task.now self.old }
+        ensures kept { OnOk result (AreKeptWords task.now self.new) }
         ensures there { IfOk result (λ found. IfSome found (AreThere number self.new)) }
     {
         let found = self.place_of(number);
@@ -105,13 +105,13 @@ impl LongActions {
     // Makes the rows of the action, and says where they are.
     fn keep(&mut self, alloc: Global, task: &Task, number: u32) -> Result<usize, AllocError>
         requires number { number < length task.now.actions }
-        requires kept { AreRowsFor task.now self.old }
-        ensures kept { OnOk result (AreRowsFor task.now self.new) }
+        requires kept { AreKeptWords task.now self.old }
+        ensures kept { OnOk result (AreKeptWords task.now self.new) }
         ensures there { IfOk result (λ place. AreThere number self.new place) }
     {
         let place = self.rows.len();
         note(&mut self.places, number, place)?;
-        let rows = ActionRows::of(alloc, task.atoms(), task.action(number))?;
+        let rows = ActionWords::of(alloc, task.atoms(), task.action(number))?;
         self.rows.push(NumberedRows { number, rows })?;
         Ok(place)
     }
@@ -142,7 +142,7 @@ fn is_long(action: &Action, atoms: u32) -> bool {
 fn step_by_lists(task: &Task, number: u32, state: &mut State) -> bool
     requires number { number < length task.now.actions }
     requires state { IsState task.now state.old }
-    ensures step { IsStep task.now number state.old state.new result }
+    ensures step { IsStepTaken task.now number state.old state.new result }
     ensures state { IsState task.now state.new }
 {
     if !task.applicable(number, state) {
@@ -153,7 +153,7 @@ fn step_by_lists(task: &Task, number: u32, state: &mut State) -> bool
 }
 
 // Takes the step by the rows of the action.
-fn step_by_rows(action: &Action, rows: &ActionRows, state: &mut State) -> bool
+fn step_by_rows(action: &Action, rows: &ActionWords, state: &mut State) -> bool
     requires over { IsOver (length state.old) action.now }
     requires atoms { HaveAtoms (length state.old) rows.now }
     requires rows { AreRowsOf (length state.old) action.now rows.now }

@@ -7,7 +7,7 @@ use Rattle.std.proofs.lemmas.Str.{digit_value_digit}
 use Rattle.std.proofs.lemmas.Str.Parse.{digits_value_short}
 use Rattle.hv_bytes.specs.Fields.{cut_fields}
 use Rattle.hv_bytes.specs.Working.Decimals.{HasDecimalShape}
-use Rattle.hv_bytes.specs.Working.Fronts.{IsDigitFront, IsSpelled}
+use Rattle.hv_bytes.specs.Working.Fronts.{IsDigitFront, SpellsFront}
 use Rattle.hv_bytes.proofs.DecimalFronts.{front_decimal, front_last, front_space}
 use Rattle.hv_bytes.proofs.DecimalTexts.{digits_model}
 
@@ -25,15 +25,15 @@ more_digit bytes count number digit within digits value few is =
     )
 
 pub spelled_more : (bytes : List ℕ) (count number digit : ℕ) → count < length bytes
-    → IsSpelled bytes count number → digit ≤ 9 → digit + 48 ≡ get_or bytes count 0
-    → IsSpelled bytes (count + 1) (number * 10 + digit)
+    → SpellsFront bytes count number → digit ≤ 9 → digit + 48 ≡ get_or bytes count 0
+    → SpellsFront bytes (count + 1) (number * 10 + digit)
 spelled_more bytes count number digit within so_far few is =
     let more = more_digit bytes count number digit within so_far.digits so_far.value few is in
     record { within = omega arith; digits = more.0; value = more.1; plain = so_far.plain }
 
 -- seven digits are a number below 10^7
 pub spelled_short : (bytes : List ℕ) (count number : ℕ) → count ≤ 7
-    → IsSpelled bytes count number → number < 10 ^ 7
+    → SpellsFront bytes count number → number < 10 ^ 7
 spelled_short bytes count number few so_far =
     let size = length-take-le count bytes so_far.within in
     let short = digits_value_short digits_model (take count bytes) 7 so_far.digits
@@ -42,7 +42,7 @@ spelled_short bytes count number few so_far =
 
 -- digits of which the first is no zero have the shape of a decimal
 shape_of : (bytes : List ℕ) (count number : ℕ) → 1 ≤ count → count ≤ 7
-    → IsSpelled bytes count number → HasDecimalShape (take count bytes)
+    → SpellsFront bytes count number → HasDecimalShape (take count bytes)
 shape_of bytes count number some few so_far =
     let size = length-take-le count bytes so_far.within in
     let first = get_or-take count bytes 0 0 some in
@@ -54,7 +54,7 @@ shape_of bytes count number some few so_far =
 
 -- they are the first field where no byte follows
 pub spelled_last : (bytes : List ℕ) (count number : ℕ) → 1 ≤ count → count ≤ 7
-    → IsSpelled bytes count number → count ≡ length bytes
+    → SpellsFront bytes count number → count ≡ length bytes
     → cut_fields bytes ≡ decimal number ∷ []
 spelled_last bytes count number some few so_far whole =
     let front : IsDigitFront bytes count = record {
@@ -70,7 +70,7 @@ spelled_last bytes count number some few so_far whole =
 
 -- and where a space follows
 pub spelled_field : (bytes : List ℕ) (count number : ℕ) → 1 ≤ count → count ≤ 7
-    → count < length bytes → IsSpelled bytes count number → get_or bytes count 0 ≡ 32
+    → count < length bytes → SpellsFront bytes count number → get_or bytes count 0 ≡ 32
     → cut_fields bytes ≡ decimal number ∷ cut_fields (drop (count + 1) bytes)
 spelled_field bytes count number some few within so_far space =
     let front : IsDigitFront bytes count = record {

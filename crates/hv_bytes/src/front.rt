@@ -6,7 +6,7 @@ ghost use Rattle.std.specs.Prelude.{◌≡◌, ℕ, ◌+◌, ◌<◌, ◌≤◌,
 ghost use Rattle.std.specs.Prelude.{take, codes, decimal, IfNone, IfSome, MatchOption};
 ghost use Rattle.std.specs.Str.Parse.{AllDigits, digits_value};
 ghost use Rattle.hv_bytes.specs.Fields.{cut_fields};
-ghost use Rattle.hv_bytes.specs.Working.Fronts.{IsDigitFront, IsSpelled};
+ghost use Rattle.hv_bytes.specs.Working.Fronts.{IsDigitFront, SpellsFront};
 
 use crate::spelling::{MAX_DIGITS, has_decimal_shape};
 
@@ -72,7 +72,7 @@ fn zero_front(line: &[u8]) -> Option<Option<&[u8]>>
 /// space behind it, where the number has at most 7 digits.
 #[inline(always)]
 fn tight_front(line: &[u8], first: u32) -> Option<(u32, Option<&[u8]>)>
-    requires { IsSpelled line.now 1 first }
+    requires { SpellsFront line.now 1 first }
     ensures fields { IfSome result (λ p. MatchOption p.1
         (cut_fields line.now ≡ decimal p.0 ∷ [])
         (λ rest. cut_fields line.now ≡ decimal p.0 ∷ cut_fields rest.now)) }
@@ -99,7 +99,7 @@ fn tight_front(line: &[u8], first: u32) -> Option<(u32, Option<&[u8]>)>
 /// The same of a line of 8 bytes and more, whose end isn't asked for.
 #[inline(always)]
 fn wide_front(line: &[u8], first: u32) -> Option<(u32, Option<&[u8]>)>
-    requires spelled { IsSpelled line.now 1 first }
+    requires spelled { SpellsFront line.now 1 first }
     requires wide { 8 ≤ length line.now }
     ensures fields { IfSome result (λ p. MatchOption p.1
         (cut_fields line.now ≡ decimal p.0 ∷ [])

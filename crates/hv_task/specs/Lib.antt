@@ -1,5 +1,5 @@
 pub mod State
-pub mod ActionRows
+pub mod ActionWords
 pub mod Atoms
 pub mod AtomList
 pub mod Words

@@ -2,7 +2,7 @@
 #![tactic(auto)]
 
 pub mod action;
-pub mod action_rows;
+pub mod action_words;
 pub mod after;
 pub mod atom_list;
 pub mod atom_set;
@@ -14,7 +14,7 @@ pub mod state;
 pub mod task;
 
 pub use action::Action;
-pub use action_rows::ActionRows;
+pub use action_words::ActionWords;
 pub use after::After;
 pub use atom_list::{AtomList, names_all, names_atom};
 pub use atom_set::AtomSet;

@@ -7,7 +7,7 @@ use Rattle.std.specs.List.{filter}
 use Rattle.hv_task.specs.Strips.{Strips}
 use Rattle.hv_sets.specs.Truth.{in_clause}
 use Rattle.hv_sets.specs.declared.literal.Literal.{Literal}
-use Rattle.hv_trap.specs.Working.Marks.{AreLeft}
+use Rattle.hv_trap.specs.Working.Marks.{AreMarkedLeft}
 use Rattle.hv_trap.specs.Working.Trap.{EncloseTrap, Escapes}
 use Rattle.hv_trap.proofs.Enclosing.{visit_encloses}
 
@@ -26,7 +26,7 @@ filter_twice p q (x ∷ xs) =
 
 -- all are left at first
 pub left_at_first : (task : Strips) (clauses : List (List Literal)) (left : List Bool)
-    → left ≡ replicate (length clauses) true → EncloseTrap task clauses → AreLeft task clauses left
+    → left ≡ replicate (length clauses) true → EncloseTrap task clauses → AreMarkedLeft task clauses left
 left_at_first task clauses left is has = record {
   stays = λ _. true;
   count = ap length is ∙ length-replicate (length clauses) true;
@@ -38,10 +38,10 @@ left_at_first task clauses left is has = record {
 -- fewer, by a state from which an action leads to one in which all clauses are true
 pub left_more : (task : Strips) (clauses : List (List Literal)) (number : ℕ) (state : List Bool)
     (old new : List Bool) → number < length task.actions → EncloseTrap task clauses
-    → Escapes task clauses number state → AreLeft task clauses old → length new ≡ length clauses
+    → Escapes task clauses number state → AreMarkedLeft task clauses old → length new ≡ length clauses
     → ((k : ℕ) → k < length clauses
     → get_or new k false ≡ (get_or old k false && in_clause (get_or clauses k []) state))
-    → AreLeft task clauses new
+    → AreMarkedLeft task clauses new
 left_more task clauses number state old new within outer escape was size marked = record {
   stays = λ c. was.stays c && in_clause c state;
   count = size;

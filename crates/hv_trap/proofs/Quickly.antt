@@ -6,7 +6,7 @@ use Rattle.hv_sets.specs.Cubes.{SpeakBelow}
 use Rattle.hv_sets.specs.Truth.{in_clause, in_clauses, in_literal}
 use Rattle.hv_sets.specs.declared.literal.Literal.{Literal}
 use Rattle.hv_trap.specs.declared.quick.LiteralPair.{LiteralPair}
-use Rattle.hv_trap.specs.Working.Quick.{ArePairs, AreTruths, IsPair, code, is_true_by}
+use Rattle.hv_trap.specs.Working.Quick.{ArePairs, AreTruths, IsPlacedPair, truth_place, is_true_by}
 
 twice : (b : Bool) → (b || false) ≡ (b || b)
 twice true = refl
@@ -26,15 +26,15 @@ ends p (x ∷ y ∷ z ∷ more) d e some few = absurd (omega arith)
 
 -- the places of the first and the last literal tell whether a short clause is true
 pub pair_tells : (bound : ℕ) (clause : List Literal) (pair : LiteralPair) (d e : Literal)
-    → 0 < length clause → length clause ≤ 2 → pair.first ≡ code (get_or clause 0 d)
-    → pair.second ≡ code (get_or clause (length clause - 1) e) → SpeakBelow bound clause
-    → IsPair bound clause pair
+    → 0 < length clause → length clause ≤ 2 → pair.first ≡ truth_place (get_or clause 0 d)
+    → pair.second ≡ truth_place (get_or clause (length clause - 1) e) → SpeakBelow bound clause
+    → IsPlacedPair bound clause pair
 pair_tells bound clause pair d e some few first second below state truths size are =
     let one = get_or clause 0 d in
     let two = get_or clause (length clause - 1) e in
     ap (λ p. get_or truths p false || get_or truths pair.second false) first
-    ∙ ap (λ p. get_or truths (code one) false || get_or truths p false) second
-    ∙ ap (λ b. b || get_or truths (code two) false)
+    ∙ ap (λ p. get_or truths (truth_place one) false || get_or truths p false) second
+    ∙ ap (λ b. b || get_or truths (truth_place two) false)
     (are one (let low = below 0 d some in omega arith))
     ∙ ap (λ b. in_literal one state || b)
     (are two (let low = below (length clause - 1) e (omega arith) in omega arith))
@@ -43,7 +43,7 @@ pair_tells bound clause pair d e some few first second below state truths size a
 -- one pair more
 pub pairs_more : (bound : ℕ) (clauses : List (List Literal)) (pairs : List LiteralPair)
     (clause : List Literal) (pair : LiteralPair) → ArePairs bound clauses pairs
-    → IsPair bound clause pair → ArePairs bound (clauses ++ clause ∷ []) (pairs ++ pair ∷ [])
+    → IsPlacedPair bound clause pair → ArePairs bound (clauses ++ clause ∷ []) (pairs ++ pair ∷ [])
 pairs_more bound [] [] clause pair are is = (is, tt)
 pairs_more bound [] (q ∷ qs) clause pair are is = absurd are
 pairs_more bound (c ∷ cs) [] clause pair are is = absurd are

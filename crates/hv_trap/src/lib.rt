@@ -12,13 +12,13 @@
 //! successor of states, and asked by queries after an action, in the crates below.
 #![tactic(auto)]
 
+mod clause_marks;
 mod conjunctions;
 pub mod fault;
 mod implications;
 pub mod laws;
 mod literal_mask;
 mod literal_table;
-mod marks;
 mod notes;
 mod quick;
 mod sweep;

@@ -11,7 +11,7 @@ ghost use Rattle.hv_sets.specs.Truth.{in_clause, in_clauses};
 ghost use Rattle.hv_sets.specs.declared.literal.Literal.{Literal};
 ghost use Rattle.hv_clauses.specs.Clausal.{AreClauses};
 ghost use Rattle.hv_trap.specs.declared.quick.LiteralPair.{LiteralPair};
-ghost use Rattle.hv_trap.specs.Working.Quick.{ArePairs, AreTruths, IsPair, code, is_true_by};
+ghost use Rattle.hv_trap.specs.Working.Quick.{ArePairs, AreTruths, IsPlacedPair, truth_place, is_true_by};
 
 use hv_sets::{Clauses, Literal};
 use hv_task::State;
@@ -89,7 +89,7 @@ impl QuickClauses {
 fn pair_of(clause: &[Literal]) -> Option<LiteralPair>
     requires { SpeakBelow 64 clause.now }
     ensures { IfSome result (λ pair. (bound : ℕ) → SpeakBelow bound clause.now
-        → IsPair bound clause.now pair) }
+        → IsPlacedPair bound clause.now pair) }
 {
     let count = clause.len();
     if count == 0 || count > 2 {
@@ -103,7 +103,7 @@ fn pair_of(clause: &[Literal]) -> Option<LiteralPair>
 // The place of the literal among the truths.
 fn code_of(literal: Literal) -> u8
     requires { literal.atom < 64 }
-    ensures { result ≡ code literal }
+    ensures { result ≡ truth_place literal }
 {
     if literal.positive {
         literal.atom as u8 + 64

@@ -12,15 +12,15 @@
 ghost use Rattle.std.specs.Prelude.{◌≡◌, ◌<◌, ◌≤◌, true, false, List, IfOk, OnOk, length};
 ghost use Rattle.hv_task.specs.Strips.{IsState, atoms};
 ghost use Rattle.hv_sets.specs.declared.literal.Literal.{Literal};
-ghost use Rattle.hv_trap.specs.Working.Marks.{AreLeft};
+ghost use Rattle.hv_trap.specs.Working.Marks.{AreMarkedLeft};
 ghost use Rattle.hv_trap.specs.Working.Quick.{ArePairs};
 ghost use Rattle.hv_trap.specs.Working.Room.{HasStates};
 ghost use Rattle.hv_trap.specs.Working.Trap.{EncloseTrap, Escapes};
 
+use crate::clause_marks::{leave_all, left_of};
 use crate::implications::Implications;
 use crate::literal_mask::{Mask, has_bit};
 use crate::literal_table::LiteralTable;
-use crate::marks::{leave_all, left_of};
 use crate::quick::QuickClauses;
 use hv_sets::Clauses;
 use hv_task::{State, Task};
@@ -173,8 +173,8 @@ fn mark_all(task: &Task, room: &mut SweepState, action: u32) -> bool
     ensures room { HasStates task.now room.new }
     ensures left { (clauses : List (List Literal)) → EncloseTrap task.now clauses
         → ArePairs (atoms task.now) clauses room.old.quick.pairs.items
-        → AreLeft task.now clauses room.old.left.items
-        → AreLeft task.now clauses room.new.left.items }
+        → AreMarkedLeft task.now clauses room.old.left.items
+        → AreMarkedLeft task.now clauses room.new.left.items }
 {
     let mut found = false;
     for _ in 0..room.left.len() {
@@ -197,8 +197,8 @@ fn mark(task: &Task, room: &mut SweepState, action: u32) -> bool
     ensures marks { length room.new.left.items ≡ length room.new.quick.pairs.items }
     ensures left { (clauses : List (List Literal)) → EncloseTrap task.now clauses
         → ArePairs (atoms task.now) clauses room.old.quick.pairs.items
-        → AreLeft task.now clauses room.old.left.items
-        → AreLeft task.now clauses room.new.left.items }
+        → AreMarkedLeft task.now clauses room.old.left.items
+        → AreMarkedLeft task.now clauses room.new.left.items }
 {
     let Some(lacked) = room.rows.lacked(&room.next, task.action(action)) else {
         return false;

@@ -3,7 +3,7 @@ use Rattle.std.specs.Prelude.{◌≡◌, ◌≢◌, ◌<◌, ◌≤◌, ◌+◌,
 use Rattle.std.specs.Str.Parse.{AllDigits, digits_value}
 
 -- the first bytes are digits, of which the first is no zero, and spell the number
-pub record IsSpelled (bytes : List ℕ) (count number : ℕ) : Type 0 where
+pub record SpellsNumber (bytes : List ℕ) (count number : ℕ) : Type 0 where
   pub digits : AllDigits 10 (take count bytes)
   pub value : number ≡ digits_value 10 (take count bytes)
   pub plain : slice_index bytes 0 ≢ 48

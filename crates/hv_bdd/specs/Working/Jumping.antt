@@ -14,7 +14,7 @@ pub record HoldsAt (list : NodeList) (s : List Bool) (places : List ℕ) : Type 
 
 -- a state that holds the atom at this place, and none from the place of a node on and before it, is
 -- in the node exactly where it is in another, which is listed no later and asks for a later atom
-pub record Turns (list : NodeList) (node to place : ℕ) : Type 0 where
+pub record TurnsAt (list : NodeList) (node to place : ℕ) : Type 0 where
   pub upto : to ≤ node
   pub further : top list node ≤ top list to
   pub later : place < top list to

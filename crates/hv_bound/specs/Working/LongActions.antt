@@ -3,7 +3,7 @@ use Rattle.std.specs.Prelude.{◌≡◌, ◌<◌, ℕ, Bool, true, List, Some, l
 use Rattle.std.specs.List.{All}
 use Rattle.std.specs.Prelude.{slice_index_or}
 use Rattle.hv_task.specs.declared.action.Action.{Action}
-use Rattle.hv_task.specs.ActionRows.{AreRowsOf, HaveAtoms}
+use Rattle.hv_task.specs.ActionWords.{AreRowsOf, HaveAtoms}
 use Rattle.hv_task.specs.State.{applicable, successor}
 use Rattle.hv_task.specs.Strips.{Strips, atoms}
 use Rattle.hv_bound.specs.declared.long_actions.LongActions.{LongActions}
@@ -15,8 +15,8 @@ pub record IsStepOf (action : Action) (before after : List Bool) (taken : Bool) 
   pub moves : taken ≡ true → after ≡ successor action before
 
 -- the same for the action of this number
-abbrev pub IsStep : Strips → ℕ → List Bool → List Bool → Bool → Type 0
-IsStep task number before after taken =
+abbrev pub IsStepTaken : Strips → ℕ → List Bool → List Bool → Bool → Type 0
+IsStepTaken task number before after taken =
     (action : Action) → slice_get task.actions number ≡ Some action
     → IsStepOf action before after taken
 
@@ -27,8 +27,8 @@ pub record AreNumbered (task : Strips) (kept : NumberedRows) : Type 0 where
       → AreRowsOf (atoms task) action kept.rows
 
 -- all rows that are kept are such ones
-abbrev pub AreRowsFor : Strips → LongActions → Type 0
-AreRowsFor task kept = All (AreNumbered task) kept.rows.items
+abbrev pub AreKeptWords : Strips → LongActions → Type 0
+AreKeptWords task kept = All (AreNumbered task) kept.rows.items
 
 -- the rows of the action of this number are at this place
 pub record AreThere (number : ℕ) (kept : LongActions) (place : ℕ) : Type 0 where

@@ -12,7 +12,7 @@ pub record IsDigitFront (bytes : List ℕ) (count : ℕ) : Type 0 where
       → 48 ≤ slice_index bytes count → slice_index bytes count ≤ 57 → ⊥
 
 -- the first bytes are digits, of which the first is no zero, and spell the number
-pub record IsSpelled (bytes : List ℕ) (count number : ℕ) : Type 0 where
+pub record SpellsFront (bytes : List ℕ) (count number : ℕ) : Type 0 where
   pub within : count ≤ length bytes
   pub digits : AllDigits 10 (take count bytes)
   pub value : number ≡ digits_value 10 (take count bytes)

@@ -1,5 +1,5 @@
 use Rattle.std.proofs.Common.{arith, subst, sym}
-use Rattle.hv_bdd.specs.Working.Jumping.{Turns}
+use Rattle.hv_bdd.specs.Working.Jumping.{TurnsAt}
 use Rattle.hv_bdd.proofs.Jumped.{turns_high, turns_past}
 use Rattle.hv_bdd.proofs.jumps.behind.Goals as goal
 
@@ -12,7 +12,7 @@ returns-then-top-place c =
     let upto = passes.upto in
     let at = c.top.ensures in
     let same = c.if-top-place.true in
-    subst (λ n. Turns list c.args.node n c.args.place) (sym c.child.ensures.child)
+    subst (λ n. TurnsAt list c.args.node n c.args.place) (sym c.child.ensures.child)
     (turns_high list c.atoms-atoms.ensures.reduced c.args.node c.first_from-first.result
     c.args.place (omega arith) c.requires.place passes (omega arith))
 

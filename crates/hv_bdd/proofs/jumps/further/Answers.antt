@@ -1,5 +1,5 @@
 use Rattle.std.proofs.Common.{◌<◌, arith, subst, sym}
-use Rattle.hv_bdd.specs.Jumps.{Passes}
+use Rattle.hv_bdd.specs.Jumps.{PassesAlong}
 use Rattle.hv_bdd.specs.Nodes.{node_count}
 use Rattle.hv_bdd.proofs.Jumped.{inner_before, jump_is, passes_low}
 use Rattle.hv_bdd.proofs.jumps.further.Goals as goal
@@ -18,7 +18,7 @@ returns-else-top-place-clause-passes c =
     let reduced = c.atoms-atoms.ensures.reduced in
     let few = c.requires.jumps.few in
     let within : c.args.node < node_count list = let less = c.requires.node in omega arith in
-    subst (λ n. Passes list c.args.node n c.args.place) (sym c.child.ensures.child)
+    subst (λ n. PassesAlong list c.args.node n c.args.place) (sym c.child.ensures.child)
     (passes_low list reduced c.args.node c.args.place
     (inner_before list reduced c.args.node c.args.place c.requires.before c.requires.place) within
     c.requires.before)

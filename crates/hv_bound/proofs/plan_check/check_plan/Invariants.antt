@@ -2,7 +2,7 @@ use Rattle.std.proofs.Common.{◌≡◌, ◌*◌, ◌^◌, ◌≤◌, Some, take
 use Rattle.hv_task.specs.Strips.{IsState, start_state}
 use Rattle.hv_task.specs.Plan.{run_of}
 use Rattle.hv_bound.specs.Costs.{cost_of_list}
-use Rattle.hv_bound.specs.Working.LongActions.{AreRowsFor}
+use Rattle.hv_bound.specs.Working.LongActions.{AreKeptWords}
 use Rattle.hv_bound.proofs.plan_check.check_plan.Given as goal
 
 abbrev pub invariant-loop-place : goal.invariant-loop-place
@@ -11,5 +11,5 @@ invariant-loop-place l = record {
   cost : l.cost ≡ cost_of_list l.task (take l.place l.list);
   small : l.cost ≤ l.place * 2 ^ 32;
   state : IsState l.task l.state;
-  kept : AreRowsFor l.task l.long;
+  kept : AreKeptWords l.task l.long;
 }

@@ -1,5 +1,5 @@
-use Rattle.hv_bytes.specs.Working.Fronts.{IsSpelled}
+use Rattle.hv_bytes.specs.Working.Fronts.{SpellsFront}
 use Rattle.hv_bytes.proofs.front.wide_front.Given as goal
 
 abbrev pub invariant-loop-count : goal.invariant-loop-count
-invariant-loop-count l = IsSpelled l.line l.count l.number
+invariant-loop-count l = SpellsFront l.line l.count l.number

@@ -1,5 +1,5 @@
 use Rattle.std.proofs.Common.{◌∙◌, sym, subst}
-use Rattle.hv_trap.specs.Working.Marks.{AreLeft}
+use Rattle.hv_trap.specs.Working.Marks.{AreMarkedLeft}
 use Rattle.hv_trap.specs.Working.Quick.{ArePairs}
 use Rattle.hv_trap.specs.Working.Trap.{Escapes}
 use Rattle.hv_trap.proofs.Enclosing.{few_over}
@@ -12,13 +12,13 @@ lacked-requires c = few_over c.args.task.now c.action.result.now c.requires.few
 
 pub returns-then-not-escapes-clause-left : goal.returns-then-not-escapes-clause-left
 returns-then-not-escapes-clause-left c = λ clauses has are left.
-    subst (AreLeft c.args.task.now clauses) (sym c.escapes.ensures.left) left
+    subst (AreMarkedLeft c.args.task.now clauses) (sym c.escapes.ensures.left) left
 
 pub returns-clause-left : goal.returns-clause-left
 returns-clause-left c = λ clauses has are left.
     let task = c.args.task.now in
     let room = c.escapes.new.room in
-    let still = subst (AreLeft task clauses) (sym c.escapes.ensures.left) left in
+    let still = subst (AreMarkedLeft task clauses) (sym c.escapes.ensures.left) left in
     let pairs = subst (λ n. ArePairs n clauses room.quick.pairs.items)
     (sym c.escapes.ensures.room.before)
     (subst (ArePairs _ clauses) (sym c.escapes.ensures.pairs) are) in

@@ -3,7 +3,7 @@ use Rattle.std.proofs.lemmas.List.{get_or_read, take_all}
 use Rattle.std.proofs.lemmas.Option.{get_or_from_slice_get}
 use Rattle.std.specs.List.{filter}
 use Rattle.hv_trap.proofs.Enclosing.{filter_next}
-use Rattle.hv_trap.proofs.marks.left_of.Goals as goal
+use Rattle.hv_trap.proofs.clause_marks.left_of.Goals as goal
 
 pub loop-place-preserved : goal.loop-place-preserved
 loop-place-preserved c = λ stays marks.

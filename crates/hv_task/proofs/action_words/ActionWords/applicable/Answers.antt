@@ -1,6 +1,6 @@
 use Rattle.std.proofs.Common.{length}
 use Rattle.hv_task.proofs.Turned.{row_within}
-use Rattle.hv_task.proofs.action_rows.ActionRows.applicable.Goals as goal
+use Rattle.hv_task.proofs.action_words.ActionWords.applicable.Goals as goal
 
 pub returns : goal.returns
 returns c = λ action over rows.

@@ -1,5 +1,5 @@
 use Rattle.hv_task.proofs.Turned.{turned_successor}
-use Rattle.hv_task.proofs.action_rows.ActionRows.apply.Goals as goal
+use Rattle.hv_task.proofs.action_words.ActionWords.apply.Goals as goal
 
 pub returns-clause-successor : goal.returns-clause-successor
 returns-clause-successor c = λ action rows.

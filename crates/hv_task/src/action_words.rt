@@ -5,7 +5,7 @@
 //! is taken more than once.
 
 ghost use Rattle.std.specs.Prelude.{◌≡◌, length, IfOk};
-ghost use Rattle.hv_task.specs.ActionRows.{AreRowsOf, HaveAtoms};
+ghost use Rattle.hv_task.specs.ActionWords.{AreRowsOf, HaveAtoms};
 ghost use Rattle.hv_task.specs.State.{AreBelow, applicable, state_of, successor};
 ghost use Rattle.hv_task.specs.Strips.{IsOver};
 ghost use Rattle.hv_task.specs.declared.action.Action.{Action};
@@ -18,20 +18,20 @@ use std::alloc::{AllocError, Global};
 /// The precondition, the add set and the delete set of an action, each as a state that holds its
 /// atoms alone.
 #[derive(Drop)]
-pub struct ActionRows {
+pub struct ActionWords {
     pre: State,
     add: State,
     del: State,
 }
 
-impl ActionRows {
+impl ActionWords {
     /// Those of the action, in a task with so many atoms.
-    pub fn of(alloc: Global, atoms: u32, action: &Action) -> Result<ActionRows, AllocError>
+    pub fn of(alloc: Global, atoms: u32, action: &Action) -> Result<ActionWords, AllocError>
         requires { IsOver atoms action.now }
         ensures rows { IfOk result (λ rows. AreRowsOf atoms action.now rows) }
         ensures atoms { IfOk result (λ rows. HaveAtoms atoms rows) }
     {
-        Ok(ActionRows {
+        Ok(ActionWords {
             pre: row_of(alloc, atoms, &action.pre)?,
             add: row_of(alloc, atoms, &action.add)?,
             del: row_of(alloc, atoms, &action.del)?,
