@@ -1,10 +1,9 @@
 -- A field denotes one token: tokens are read back from their fields.
 use Rattle.std.proofs.Common.{◌≡◌, ℕ, ◌<◌, ◌≤◌, ◌^◌, ◌∙◌, true, false, cond, eqb, ltb, List, []}
-use Rattle.std.proofs.Common.{◌∷◌, Option, None, Some, length, map, drop, get_or, refl, sym, ap}
+use Rattle.std.proofs.Common.{◌∷◌, Option, None, Some, map, drop, get_or, refl, sym, ap}
 use Rattle.std.proofs.Common.{arith, decimal, lit<}
 use Rattle.std.proofs.lemmas.Bool.{le-ltb, lt-ltb, ne_eqb}
 use Rattle.std.proofs.lemmas.Fmt.{decimal_is_IsNumeral}
-use Rattle.std.proofs.lemmas.List.{get_or-map, length-map}
 use Rattle.std.proofs.lemmas.List.Elements.{All-nil, All-cons, All-head, All-tail, All-from_get_or}
 use Rattle.std.proofs.lemmas.List.Splits.{slice_split_at, slice_split_none}
 use Rattle.std.proofs.lemmas.Str.Parse.{digit_at}
@@ -18,21 +17,7 @@ use Rattle.hv_proof_text.specs.declared.token.Letter.TheVariants as L
 use Rattle.hv_proof_text.specs.declared.token.Token.{Token}
 use Rattle.hv_proof_text.specs.declared.token.Token.TheVariants as T
 use Rattle.hv_bytes.specs.Fields.{cut_fields}
-use Rattle.hv_proof_text.specs.Working.Tokens.{AreTokens, IsToken, field_of, letter_field}
-
--- where one field denotes no token, the fields denote no tokens
-pub no_tokens : (fields : List (List ℕ)) (i : ℕ) (field : List ℕ) → i < length fields
-    → field ≡ get_or fields i field
-    → ((token : Token) → IsToken token → field_of token ≡ field → ⊥) → (tokens : List Token)
-    → AreTokens tokens fields → ⊥
-no_tokens fields i field within at never tokens are =
-    let size : length tokens ≡ length fields = sym (length-map tokens field_of)
-    ∙ ap length are.same in
-    let inside : i < length tokens = omega arith in
-    let token = get_or tokens i T.End in
-    never token (are.each i T.End inside)
-    (sym (get_or-map field_of tokens i T.End field inside) ∙ ap (λ fs. get_or fs i field) are.same
-    ∙ sym at)
+use Rattle.hv_proof_text.specs.Working.Tokens.{IsToken, field_of, letter_field}
 
 -- the token of one byte that is no digit
 abbrev letter_by : ℕ → Token

@@ -13,10 +13,6 @@ use Rattle.hv_proof_text.specs.Working.Tokens.{AreTokens, IsToken, field_of, num
 use Rattle.hv_proof_text.specs.declared.token.Token.{Token}
 use Rattle.hv_proof_text.proofs.Decoding.{same_tokens}
 
-pub gathers_none : {A : Type 0} (whole : List Token → A) (fields : List (List ℕ))
-    → Gathers whole fields whole fields
-gathers_none whole fields = ([], All-nil IsToken, refl, λ tokens. refl)
-
 pub gathers_more : {A : Type 0} (whole left more : List Token → A)
     (fields rest later : List (List ℕ)) (token : Token)
     → Gathers whole fields left rest → IsToken token → rest ≡ field_of token ∷ later
@@ -175,14 +171,6 @@ module _ {A : Type 0} (P : A → List Token → Type 0) (size : A → ℕ) (fiel
       let tokens = same_tokens behind.1.0 stand.0 behind.1.1.each stand.1.each
       (behind.1.1.same ∙ sym stand.1.same) in
       other (ap size (one x y stand.0 stand.2 (subst (P y) tokens behind.1.2)) ∙ behind.0)
-
--- without a count first there is no list
-pub counted_no_count : {A : Type 0} (P : A → List Token → Type 0) (size : A → ℕ)
-    (fields : List (List ℕ))
-    → ((n : ℕ) (tokens : List Token) → AreTokens (number n ∷ tokens) fields → ⊥) → (x : A)
-    → StandFor (BeginsWithCount (P x) (size x)) fields → ⊥
-counted_no_count P size fields never x stand =
-    never (size x) stand.2.0 (subst (λ ts. AreTokens ts fields) stand.2.1 stand.1)
 
 -- tokens that are read to the end denote all fields
 pub gathers_tokens : (items : List Token) (fields rest : List (List ℕ))

@@ -1,7 +1,7 @@
 -- Fields behind one another, with a space before each.
-use Rattle.std.proofs.Common.{◌≡◌, ℕ, ◌+◌, ◌<◌, ◌∙◌, List, [], ◌∷◌, ◌++◌, length, map, take, get_or}
+use Rattle.std.proofs.Common.{◌≡◌, ℕ, ◌+◌, ◌<◌, ◌∙◌, List, [], ◌∷◌, ◌++◌, length, take, get_or}
 use Rattle.std.proofs.Common.{Some, refl, sym, ap, append_assoc, decimal, slice_get}
-use Rattle.std.proofs.lemmas.List.{append-nil, map_more, take_more}
+use Rattle.std.proofs.lemmas.List.{append-nil, take_more}
 use Rattle.std.proofs.lemmas.List.Concat.{flat_map-append}
 use Rattle.std.proofs.lemmas.Option.{get_or_from_slice_get, slice_get_within}
 use Rattle.std.proofs.lemmas.List.Sums.{fold-append}
@@ -47,19 +47,6 @@ further text third fourth new front_fields back_fields field at_third at_fourth 
     ∙ ap (λ t. with_fields t back_fields) at_fourth
     ∙ ap (λ t. with_fields (t ++ 32 ∷ field) back_fields) at_third
     ∙ sym (fold-append (λ t f. t ++ 32 ∷ f) text front_fields (field ∷ back_fields))
-
--- one more number of a list
-pub one_more : (numbers : List ℕ) (i n : ℕ) (text before after : List ℕ) → i < length numbers
-    → get_or numbers i 0 ≡ n
-    → before ≡ with_fields text (map decimal (take i numbers)) → after ≡ before ++ 32 ∷ decimal n
-    → after ≡ with_fields text (map decimal (take (i + 1) numbers))
-one_more numbers i n text before after within at so_far more =
-    more
-    ∙ ap (λ t. t ++ 32 ∷ decimal n) so_far
-    ∙ ap (λ m. with_fields text (map decimal (take i numbers)) ++ 32 ∷ decimal m) (sym at)
-    ∙ sym (fold-append (λ t f. t ++ 32 ∷ f) text (map decimal (take i numbers))
-    (decimal (get_or numbers i 0) ∷ []))
-    ∙ ap (with_fields text) (sym (map_more decimal numbers i 0 within))
 
 -- one more line of a text
 pub one_line_more : (lines : List Line) (i : ℕ) (line : Line) (before middle after : List ℕ)

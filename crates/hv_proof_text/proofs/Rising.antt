@@ -1,14 +1,9 @@
 -- Short decimals that rise from a least number on.
-use Rattle.std.proofs.Common.{◌≡◌, ℕ, zero, suc, ◌+◌, ◌<◌, ◌≤◌, ◌∙◌, inl, inr, List, [], ◌∷◌, ◌++◌}
-use Rattle.std.proofs.Common.{length, get_or, refl, sym, ap, subst, arith, add-one}
-use Rattle.std.proofs.lemmas.List.Elements.{All-nil, All-cons, All-head, All-tail, All-push}
-use Rattle.std.proofs.lemmas.List.Elements.{All-weaker, Contains-append_left, Contains-push}
-use Rattle.std.proofs.lemmas.List.Elements.{Contains-push_cases}
-use Rattle.std.proofs.lemmas.Bool.{cases_order}
-use Rattle.std.proofs.lemmas.List.{get_or_append_left, get_or_push, length_push}
-use Rattle.hv_task.specs.AtomList.{Inserts}
-use Rattle.hv_task.proofs.Rising.{same_rising, rises-tail}
-use Rattle.std.specs.List.{All, Contains}
+use Rattle.std.proofs.Common.{◌≡◌, ℕ, zero, suc, ◌+◌, ◌<◌, ◌≤◌, List, [], ◌∷◌}
+use Rattle.std.proofs.Common.{length, get_or, arith, add-one}
+use Rattle.std.proofs.lemmas.List.Elements.{All-nil, All-cons, All-head, All-tail}
+use Rattle.hv_task.proofs.Rising.{rises-tail}
+use Rattle.std.specs.List.{All}
 use Rattle.std.specs.List.Sorted.{IsStrictlyIncreasing}
 use Rattle.hv_lines.specs.Spelling.{FitsShortDecimal, IsRising}
 
@@ -49,46 +44,3 @@ from_parts least (n ∷ m ∷ ns) first short rises =
 
 pub from_rising : (ns : List ℕ) → IsRising ns → RisesFrom 0 ns
 from_rising ns r = from_parts 0 ns (λ _. omega arith) r.short r.rising
-
--- what stands below a number stands below a greater one, and so does the number itself
-pub below_more : (ns : List ℕ) (least n : ℕ) → All (λ a. a < least) ns → least ≤ n
-    → All (λ a. a < n + 1) (ns ++ n ∷ [])
-below_more ns least n below from =
-    All-push (λ a. a < n + 1) ns n (All-weaker (λ a. a < least) (λ a. a < n + 1)
-    (λ a less. omega arith) ns below) (omega arith)
-
--- the same, below the new one alone
-pub below_new : (ns : List ℕ) (least n : ℕ) → All (λ a. a < least) ns → least ≤ n
-    → All (λ a. a < n) ns
-below_new ns least n below from = All-weaker (λ a. a < least) (λ a. a < n)
-    (λ a less. omega arith) ns below
-
--- a rising list behind which a greater number stands
-increasing_more : (ns : List ℕ) (n : ℕ) → IsStrictlyIncreasing ns → All (λ a. a < n) ns
-    → IsStrictlyIncreasing (ns ++ n ∷ [])
-increasing_more ns n rises below k within =
-    elim (cases_order (k + 1) (length ns)) [
-      | inl equal ↦
-          let here = get_or_append_left ns (n ∷ []) 0 k (omega arith) in
-          let last = ap (λ j. get_or (ns ++ n ∷ []) j 0) equal
-          ∙ get_or_push ns n 0 (length ns) refl in
-          let less = below k 0 (omega arith) in omega arith
-      | inr (inl less) ↦
-          let here = get_or_append_left ns (n ∷ []) 0 k (omega arith) in
-          let next = get_or_append_left ns (n ∷ []) 0 (k + 1) less in
-          let rise = rises k less in omega arith
-      | inr (inr greater) ↦ absurd (omega (arith, length_push ns n))
-    ]
-
--- a number put into a list of lesser ones occurs last
-pub inserted_last : (old : List ℕ) (n : ℕ) (new : List ℕ) → IsStrictlyIncreasing old
-    → All (λ a. a < n) old → Inserts old n new
-    → new ≡ old ++ n ∷ []
-inserted_last old n new rises below puts =
-    same_rising new (old ++ n ∷ []) puts.rises (increasing_more old n rises below)
-    (λ a c. elim ((puts.has a).0 c) [
-      | inl before ↦ Contains-append_left old (n ∷ []) a before
-      | inr same ↦ subst (Contains (old ++ n ∷ [])) (sym same) (Contains-push old n)
-    ])
-    (λ a c. elim (Contains-push_cases old n a c)
-    [ inl before ↦ (puts.has a).1 (inl before) | inr same ↦ (puts.has a).1 (inr (sym same)) ])

@@ -67,9 +67,6 @@ no_atom (Q.Atom m) n other e = elim other [ inl end ↦ cc | inr none ↦ cc ]
 no_atom Q.End n other e = cc
 no_atom Q.Other n other e = cc
 
-pub some_and_none : {A : Type 0} {o : Option A} {x : A} → o ≡ Some x → o ≡ None → ⊥
-some_and_none some none = cc
-
 -- Rising numbers.
 
 pub rising_stop : (piece : StatePiece) (go : ℕ → Option (List ℕ)) → ((n : ℕ) → piece ≡ Q.Atom n → ⊥)

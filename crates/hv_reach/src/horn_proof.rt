@@ -3,6 +3,7 @@
 //! and the code may keep its sets in any form.
 
 ghost use Rattle.std.specs.Prelude.{◌≡◌, ◌<◌, ◌+◌, ◌^◌, IfOk};
+ghost use Rattle.hv_task.specs.Strips.{IsTask};
 ghost use Rattle.hv_lines.specs.Drafts.{IsGoodTable};
 ghost use Rattle.hv_lines.specs.Judged.{Concludes};
 ghost use Rattle.hv_reach.specs.Written.{dead_block, denied, horn_proof};
@@ -16,12 +17,12 @@ use std::alloc::{AllocError, Global};
 /// The proof by a formula that holds the initial state and no goal state, and that no action leads
 /// out of.
 pub(crate) fn horn_proof(alloc: Global, task: &Task, clauses: Clauses) -> Result<Draft, AllocError>
-    requires { Separates task.now clauses }
+    requires task { IsTask task.now }
+    requires separates { Separates task.now clauses }
     ensures lines { IfOk result (λ draft. draft.lines ≡ horn_proof clauses) }
     ensures good { IfOk result (λ draft. IsGoodTable task.now draft.lines) }
     ensures concludes { IfOk result (λ draft. Concludes draft.lines) }
 {
-    let _atoms = task.atoms();
     let block = dead_block(alloc, 3, 1, clauses)?;
     let end = conclusion(alloc, 5, 3, 4)?;
     let mut draft = Draft::new(alloc, task)?;

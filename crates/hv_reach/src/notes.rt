@@ -1,6 +1,7 @@
 //! Notes of formulas whose states are dead.
 
 ghost use Rattle.std.specs.Prelude.{◌≡◌, ◌+◌, ◌++◌, [], ◌∷◌, length, IfOk, OnOk, OnErr};
+ghost use Rattle.hv_task.specs.Strips.{IsTask};
 ghost use Rattle.hv_lines.specs.Drafts.{IsGoodTable, onto};
 ghost use Rattle.hv_lines.specs.Numbering.{expr_count, known_count};
 ghost use Rattle.hv_reach.specs.Working.NoteRows.{AreRowsOver};
@@ -53,6 +54,7 @@ pub(crate) fn write_block(
     clauses: Clauses,
     row: State,
 ) -> Result<usize, AllocError>
+    requires task { IsTask task.now }
     requires good { IsGoodTable task.now draft.old.lines }
     requires dead { IsDeadEnd task.now clauses }
     requires over { AreRowsOver (length row) noted.old.rows.rows }
@@ -69,7 +71,6 @@ pub(crate) fn write_block(
     ensures err_notes { OnErr result (noted.new.notes.items ≡ noted.old.notes.items) }
     ensures err_rows { OnErr result (noted.new.rows.rows ≡ noted.old.rows.rows) }
 {
-    let _atoms = task.atoms();
     let set = draft.table().expr_count();
     let id = draft.table().known_count();
     let block = dead_block(alloc, set, id, clauses)?;

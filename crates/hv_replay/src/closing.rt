@@ -1,6 +1,7 @@
 //! The lines by which the expanded states are dead, and the conclusion.
 
 ghost use Rattle.std.specs.Prelude.{◌≡◌, ◌<◌, ◌≤◌, ◌+◌, ◌^◌, ℕ, IfOk, OnOk, OnErr};
+ghost use Rattle.hv_task.specs.Strips.{IsTask};
 ghost use Rattle.hv_lines.specs.Drafts.{IsGoodTable, IsShortLine, onto};
 ghost use Rattle.hv_lines.specs.Judged.{Concludes};
 ghost use Rattle.hv_lines.specs.Numbering.{expr_count, known_count};
@@ -26,6 +27,7 @@ pub(crate) fn push_closing(
     states: StateList,
     union: Note,
 ) -> Result<(), AllocError>
+    requires task { IsTask task.now }
     requires draft { IsGoodTable task.now draft.old.lines }
     requires union { (pruned : ℕ) × (pruned ≤ most_pruned)
         × IsPrunedUnion draft.old.lines pruned union }
@@ -40,7 +42,6 @@ pub(crate) fn push_closing(
     ensures concludes { OnOk result (Concludes draft.new.lines) }
     ensures err { OnErr result (draft.new.lines ≡ draft.old.lines) }
 {
-    let _atoms = task.atoms();
     draft.reserve(12)?;
     let next = next_in(draft.table());
     let block = closing_block(alloc, next, states, union)?;

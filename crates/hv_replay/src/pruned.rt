@@ -9,7 +9,7 @@ ghost use Rattle.std.specs.List.Sorted.{IsStrictlyIncreasing};
 ghost use Rattle.hv_task.specs.State.{state_of};
 ghost use Rattle.hv_task.specs.Strips.{atoms};
 ghost use Rattle.hv_lines.specs.Drafts.{IsGoodTable, onto};
-ghost use Rattle.hv_lines.specs.Numbering.{expr_count, known_count};
+ghost use Rattle.hv_lines.specs.Numbering.{IsTable, expr_count, known_count};
 ghost use Rattle.hv_lines.specs.Pruning.{Extends, IsDeadBy, states_in};
 ghost use Rattle.hv_lines.specs.Rules.{Says};
 ghost use Rattle.hv_lines.specs.declared.line.Statement.TheVariants as T;
@@ -74,6 +74,7 @@ pub(crate) fn next_in(table: &Table) -> Note
     ensures line { result.line ≡ known_count table.now.lines }
     ensures small_set { result.set < 2 ^ 63 }
     ensures small_line { result.line < 2 ^ 63 }
+    ensures table { IsTable table.now.lines }
 {
     Note {
         set: table.expr_count(),
@@ -83,11 +84,11 @@ pub(crate) fn next_in(table: &Table) -> Note
 
 // The set that this line says to be dead.
 fn dead_by(table: &Table, line: usize) -> Note
-    requires { (set : ℕ) × Says table.now.lines line (T.Dead set) }
+    requires table { IsTable table.now.lines }
+    requires dead { (set : ℕ) × Says table.now.lines line (T.Dead set) }
     ensures line { result.line ≡ line }
     ensures says { Says table.now.lines line (T.Dead result.set) }
 {
-    let _count = table.known_count();
     match *table.statement(line) {
         Statement::Dead(set) => Note { set, line },
         _ => unreachable!(),

@@ -59,9 +59,6 @@ cond_if true x y = refl
 cond_if false x y = refl
 
 module _ (set : List Literal → Bool) (state : List Bool) where
-  abbrev Truth : List Literal → Bool
-  Truth c = in_clause c state
-
   kept_one : (c : List Literal) (b : Bool)
       → filter (λ x. in_clause x state) (if b then denying_clause c ∷ [] else [])
       ≡ (if b && not (in_cube c state) then denying_clause c ∷ [] else [])

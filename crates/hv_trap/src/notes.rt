@@ -7,7 +7,7 @@ ghost use Rattle.std.specs.Option.{SomeIff};
 ghost use Rattle.hv_task.specs.Strips.{IsState, atoms};
 ghost use Rattle.hv_sets.specs.declared.literal.Literal.{Literal};
 ghost use Rattle.hv_lines.specs.Drafts.{IsGoodTable, onto};
-ghost use Rattle.hv_lines.specs.Numbering.{expr_at, expr_count, known_count};
+ghost use Rattle.hv_lines.specs.Numbering.{IsTable, expr_at, expr_count, known_count};
 ghost use Rattle.hv_lines.specs.Pruning.{states_in};
 ghost use Rattle.hv_lines.specs.declared.line.Expr.TheVariants as E;
 ghost use Rattle.hv_lines.specs.declared.line.Line.{Line};
@@ -102,10 +102,10 @@ pub(crate) fn write_block(
 
 // The set of which this one is the negation.
 fn negated(table: &Table, set: usize) -> usize
-    requires { (formula : ℕ) × (expr_at table.now.lines set ≡ Some (E.Not formula)) }
+    requires table { IsTable table.now.lines }
+    requires not { (formula : ℕ) × (expr_at table.now.lines set ≡ Some (E.Not formula)) }
     ensures { expr_at table.now.lines set ≡ Some (E.Not result) }
 {
-    let _count = table.expr_count();
     match table.expr(set) {
         Expr::Not(formula) => *formula,
         _ => unreachable!(),
@@ -114,10 +114,10 @@ fn negated(table: &Table, set: usize) -> usize
 
 // The clauses of the formula.
 fn clauses_of(table: &Table, set: usize) -> &Clauses
-    requires { (clauses : List (List Literal)) × IsFormulaOf table.now.lines set clauses }
+    requires table { IsTable table.now.lines }
+    requires formula { (clauses : List (List Literal)) × IsFormulaOf table.now.lines set clauses }
     ensures { IsFormulaOf table.now.lines set result.now }
 {
-    let _count = table.expr_count();
     match table.expr(set) {
         Expr::Two(clauses) => clauses,
         _ => unreachable!(),

@@ -11,7 +11,8 @@ ghost use Rattle.hv_sets.specs.Truth.{in_clause, in_clauses};
 ghost use Rattle.hv_sets.specs.declared.literal.Literal.{Literal};
 ghost use Rattle.hv_clauses.specs.Clausal.{AreClauses};
 ghost use Rattle.hv_trap.specs.declared.quick.LiteralPair.{LiteralPair};
-ghost use Rattle.hv_trap.specs.Working.Quick.{ArePairs, AreTruths, IsPlacedPair, truth_place, is_true_by};
+ghost use Rattle.hv_trap.specs.Working.Quick.{ArePairs, AreTruths, IsPlacedPair};
+ghost use Rattle.hv_trap.specs.Working.Quick.{is_true_by, truth_place};
 
 use hv_sets::{Clauses, Literal};
 use hv_task::State;
@@ -95,13 +96,13 @@ fn pair_of(clause: &[Literal]) -> Option<LiteralPair>
     if count == 0 || count > 2 {
         return None;
     }
-    let first = code_of(clause[0]);
-    let second = code_of(clause[count - 1]);
+    let first = truth_place_of(clause[0]);
+    let second = truth_place_of(clause[count - 1]);
     Some(LiteralPair { first, second })
 }
 
 // The place of the literal among the truths.
-fn code_of(literal: Literal) -> u8
+fn truth_place_of(literal: Literal) -> u8
     requires { literal.atom < 64 }
     ensures { result ≡ truth_place literal }
 {

@@ -11,7 +11,7 @@ push_all-requires-clause-good c =
     put_good c.args.task.now (dead_block 3 1 c.args.clauses) (onto prelude [])
     c.in_ok-block.block.items c.reserve.new.self.lines c.in_ok-block.ensures
     (cc (c.in_ok-reserve.ensures.lines, c.in_ok-draft.ensures.lines))
-    (good_start_block c.args.task.now c.atoms-atoms.ensures.task c.args.clauses c.requires)
+    (good_start_block c.args.task.now c.requires.task c.args.clauses c.requires.separates)
 
 pub push_all-requires-2-clause-good : goal.push_all-requires-2-clause-good
 push_all-requires-2-clause-good c =
@@ -21,7 +21,7 @@ push_all-requires-2-clause-good c =
     (put_is (dead_block 3 1 c.args.clauses) (onto prelude []) c.in_ok-block.block.items
     c.reserve.new.self.lines c.push_all.new.self.lines c.in_ok-block.ensures
     (cc (c.in_ok-reserve.ensures.lines, c.in_ok-draft.ensures.lines)) c.push_all.ensures.lines)
-    (good_horn_proof c.args.task.now c.atoms-atoms.ensures.task c.args.clauses c.requires)
+    (good_horn_proof c.args.task.now c.requires.task c.args.clauses c.requires.separates)
 
 pub returns-clause-lines : goal.returns-clause-lines
 returns-clause-lines c =
@@ -35,9 +35,9 @@ returns-clause-lines c =
 pub returns-clause-good : goal.returns-clause-good
 returns-clause-good c =
     subst (IsGoodTable c.args.task.now) (sym (returns-clause-lines c))
-    (good_horn_proof c.args.task.now c.atoms-atoms.ensures.task c.args.clauses c.requires)
+    (good_horn_proof c.args.task.now c.requires.task c.args.clauses c.requires.separates)
 
 pub returns-clause-concludes : goal.returns-clause-concludes
 returns-clause-concludes c =
     subst Concludes (sym (returns-clause-lines c))
-    (horn_concludes c.args.task.now c.atoms-atoms.ensures.task c.args.clauses c.requires)
+    (horn_concludes c.args.task.now c.requires.task c.args.clauses c.requires.separates)

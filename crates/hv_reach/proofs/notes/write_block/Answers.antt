@@ -6,7 +6,7 @@ use Rattle.hv_reach.proofs.notes.write_block.Goals as goal
 
 pub push_all-requires-clause-good : goal.push_all-requires-clause-good
 push_all-requires-clause-good c =
-    block_good c.args.task.now c.atoms-atoms.ensures.task c.args.draft.now.lines
+    block_good c.args.task.now c.requires.task c.args.draft.now.lines
     c.reserve-3.new.self.lines c.in_ok-block.block.items c.expr_count-set.result
     c.known_count-id.result c.args.clauses c.table.ensures.begins c.requires.good
     (omega (arith, c.in_ok-reserve-3.ensures.few, c.in_ok-reserve-3.ensures.spare))
@@ -17,7 +17,7 @@ push_all-requires-clause-good c =
 pub returns-clause-good : goal.returns-clause-good
 returns-clause-good c =
     subst (IsGoodTable c.args.task.now) (sym c.push_all.ensures.lines)
-    (block_good c.args.task.now c.atoms-atoms.ensures.task c.args.draft.now.lines
+    (block_good c.args.task.now c.requires.task c.args.draft.now.lines
     c.reserve-3.new.self.lines c.in_ok-block.block.items c.expr_count-set.result
     c.known_count-id.result c.args.clauses c.table.ensures.begins c.requires.good
     (omega (arith, c.in_ok-reserve-3.ensures.few, c.in_ok-reserve-3.ensures.spare))

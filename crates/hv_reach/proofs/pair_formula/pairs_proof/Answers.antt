@@ -5,8 +5,8 @@ use Rattle.hv_reach.specs.Written.{PairsExcludeFrom}
 use Rattle.hv_reach.proofs.Found.{pairs_found_proof, pairs_found_separates}
 use Rattle.hv_reach.proofs.pair_formula.pairs_proof.Goals as goal
 
-pub horn_proof-requires : goal.horn_proof-requires
-horn_proof-requires c =
+pub horn_proof-requires-clause-separates : goal.horn_proof-requires-clause-separates
+horn_proof-requires-clause-separates c =
     let task = c.args.task.now in
     let start = c.in_ok-start.start in
     let each = subst (λ (f : Option (List (List Bool))). IfSome f

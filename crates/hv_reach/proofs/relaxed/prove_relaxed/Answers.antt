@@ -8,8 +8,8 @@ use Rattle.hv_reach.specs.Written.{RelaxedExcludesFrom}
 use Rattle.hv_reach.proofs.Found.{relaxed_found_proof, relaxed_found_separates}
 use Rattle.hv_reach.proofs.relaxed.prove_relaxed.Goals as goal
 
-pub horn_proof-requires : goal.horn_proof-requires
-horn_proof-requires c =
+pub horn_proof-requires-clause-separates : goal.horn_proof-requires-clause-separates
+horn_proof-requires-clause-separates c =
     let task = c.args.task.now in
     let start = c.in_ok-start.start in
     let size = subst (λ (f : Option (List Bool)). IfSome f (λ r. length r ≡ atoms task))

@@ -21,7 +21,7 @@ push_all-requires-clause-good c =
     put_good c.args.task.now (closing_block c.next_in-next.result.set c.next_in-next.result.line
     c.args.states c.args.union) old c.in_ok-block.block.items c.reserve.new.self.lines
     c.in_ok-block.ensures c.in_ok-reserve.ensures.lines
-    (put_block c.args.task.now c.atoms-atoms.ensures.task old c.requires.draft begins
+    (put_block c.args.task.now c.requires.task old c.requires.draft begins
     c.next_in-next.result is_next c.args.states c.args.union
     c.requires.union.0 c.requires.union.1 c.requires.union.2 c.requires.short c.requires.closed)
 
@@ -41,7 +41,7 @@ push_all-requires-2-clause-good c =
     c.in_ok-end.end.items c.push_all.new.self.lines c.in_ok-end.ensures
     (put_is block old c.in_ok-block.block.items c.reserve.new.self.lines c.push_all.new.self.lines
     c.in_ok-block.ensures c.in_ok-reserve.ensures.lines c.push_all.ensures.lines)
-    (put_closing c.args.task.now c.atoms-atoms.ensures.task old c.requires.draft begins
+    (put_closing c.args.task.now c.requires.task old c.requires.draft begins
     c.next_in-next.result is_next c.args.states c.args.union
     c.requires.union.0 c.requires.union.1 c.requires.union.2 c.requires.short c.requires.closed)
 
@@ -74,7 +74,7 @@ returns-clause-extends c =
     subst (Extends c.args.task.now old) (sym (last c))
     (extends_by c.args.task.now (closing_lines c.next_in-next.result.set c.next_in-next.result.line
     c.args.states c.args.union) old
-    (put_closing c.args.task.now c.atoms-atoms.ensures.task old c.requires.draft begins
+    (put_closing c.args.task.now c.requires.task old c.requires.draft begins
     c.next_in-next.result is_next c.args.states
     c.args.union c.requires.union.0 c.requires.union.1 c.requires.union.2 c.requires.short
     c.requires.closed))

@@ -4,5 +4,5 @@ use Rattle.hv_replay.proofs.pruned.dead_by.Goals as goal
 
 pub statement-requires : goal.statement-requires
 statement-requires c =
-    known_below c.args.table.now.lines c.args.line (T.Dead c.requires.0)
-    c.known_count-count.ensures.table c.requires.1
+    known_below c.args.table.now.lines c.args.line (T.Dead c.requires.dead.0)
+    c.requires.table c.requires.dead.1

@@ -4,5 +4,5 @@ use Rattle.hv_trap.proofs.notes.negated.Goals as goal
 
 pub expr-requires : goal.expr-requires
 expr-requires c =
-    expr_below c.args.table.now.lines c.args.set (E.Not c.requires.0)
-    c.expr_count-count.ensures.table c.requires.1
+    expr_below c.args.table.now.lines c.args.set (E.Not c.requires.not.0)
+    c.requires.table c.requires.not.1
