@@ -10,10 +10,11 @@ ghost use Rattle.hv_explicit.specs.ListedStates.{AreListsOver, in_set, states_li
 ghost use Rattle.hv_explicit.specs.Working.Owners.{IsOwned};
 
 use crate::explicit::Explicit;
+use crate::named_sets::NamedSets;
 use crate::sets_query::SetsQuery;
 use crate::sought::Sought;
 use crate::state_owners::{StateOwners, find_owner, take_in};
-use hv_sets::{Family, Finding, Operands, Query, Scratch};
+use hv_sets::{Family, Finding, Query, Scratch};
 use hv_task::Task;
 use std::alloc::{AllocError, Global};
 use std::marker::Model;
@@ -81,7 +82,7 @@ impl Explicits {
     /// there are operands, and where the sets are few.
     pub(crate) fn find_owner<A: Sought>(
         &self,
-        operands: &Operands,
+        operands: &NamedSets<'_>,
         after: bool,
         held: &A,
         atoms: u32,
@@ -123,6 +124,7 @@ impl Family for Explicits {
         scratch: &mut Scratch,
     ) -> Result<Finding, AllocError> {
         scratch.reserve(task.atoms(), 0, 0)?;
-        SetsQuery::new(task, self, query).answer(alloc, budget, &mut scratch.state)
+        let search = SetsQuery::new(alloc, task, self, query)?;
+        search.answer(alloc, budget, &mut scratch.state)
     }
 }

@@ -6,6 +6,7 @@
 //! set is in a store of more than four.
 #![tactic(auto)]
 
+mod action_bits;
 mod atom_columns;
 mod codes;
 mod coding;
@@ -13,6 +14,7 @@ pub mod explicit;
 pub mod explicits;
 mod firsts;
 mod holders;
+mod named_sets;
 mod near;
 mod paths;
 mod places;

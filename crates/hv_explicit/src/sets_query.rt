@@ -6,7 +6,8 @@
 //! the rarest atom, less what isn't in the columns of the others or in rows that aren't much
 //! longer. Each of these costs the search for the precondition's atoms in its list, and then a
 //! look-up for each operand: the code of a result costs the effect, and a hit is compared atom by
-//! atom. The counterexample alone is written as a state.
+//! atom. With at most 64 atoms all but the look-up are some steps on words (`action_bits`). The
+//! counterexample alone is written as a state.
 
 ghost use Rattle.std.specs.Prelude.{◌≡◌, ◌<◌, ◌↔◌, ◌∷◌, ℕ, Bool, List, [], length, slice_index_or};
 ghost use Rattle.std.specs.Prelude.{slice_get, None, Some, false, true, IsTrue, IfOk, IfSome};
@@ -31,10 +32,13 @@ ghost use Rattle.hv_explicit.specs.Working.Search.{IsListedSearch, NamesAnchor, 
 ghost use Rattle.hv_explicit.specs.Working.Search.{clashes_in, in_either, in_named, is_fit};
 ghost use Rattle.hv_explicit.specs.Working.Search.{is_in_none};
 
+use crate::action_bits::{ActionBits, bits_of};
+use crate::codes::is_exact;
 use crate::explicit::Explicit;
 use crate::explicits::Explicits;
 use crate::firsts::PLAIN;
 use crate::holders::SomePlaces;
+use crate::named_sets::{FEW, NamedSets};
 use crate::near::names_each;
 use crate::results::is_left;
 use crate::sought::{ActionResult, Coded, Sought};
@@ -42,9 +46,6 @@ use hv_sets::{Finding, Operand, Query, Which};
 use hv_task::{Action, State, Task};
 use std::alloc::{AllocError, Global};
 use std::marker::Model;
-
-// To go through so many operands is no dearer than to look up the sets that list a state.
-const FEW: usize = 4;
 
 /// A query, with the task and the sets of which it is asked.
 #[derive(Drop)]
@@ -54,39 +55,55 @@ pub(crate) struct SetsQuery<'a> {
     query: &'a Query,
     // Whether some negative operand is asked about before the action.
     asks_before: bool,
+    // The negative operands.
+    named: NamedSets<'a>,
+    // The action, where there are at most 64 atoms.
+    bits: Option<ActionBits<'a>>,
 }
 
 impl<'a> Model for SetsQuery<'a> {
-    ghost use Rattle.hv_explicit.specs.Working.Search.{IsFlaggedSearch, ListedSearch};
+    ghost use Rattle.hv_explicit.specs.Working.Search.{IsPreparedSearch, ListedSearch};
 
     ghost Value = { ListedSearch };
 
     ghost view = { λ s. record { task = s.task.now; sets = s.sets.now; query = s.query.now } };
 
-    ghost invariant = { λ s. IsFlaggedSearch record {
+    ghost invariant = { λ s. IsPreparedSearch record {
       task = s.task.now;
       sets = s.sets.now;
       query = s.query.now;
-    } s.asks_before };
+    } s.asks_before s.named s.bits };
 }
 
 impl<'a> SetsQuery<'a> {
     /// The query, asked of these sets.
-    pub(crate) fn new(task: &'a Task, sets: &'a Explicits, query: &'a Query) -> SetsQuery<'a>
+    pub(crate) fn new(
+        alloc: Global,
+        task: &'a Task,
+        sets: &'a Explicits,
+        query: &'a Query,
+    ) -> Result<SetsQuery<'a>, AllocError>
         requires { IsListedSearch record {
           task = task.now;
           sets = sets.now;
           query = query.now;
         } }
-        ensures { result ≡ record { task = task.now; sets = sets.now; query = query.now } }
+        ensures { IfOk result (λ search.
+            search ≡ record { task = task.now; sets = sets.now; query = query.now }) }
     {
+        let after = query.action.is_some();
+        let states = first_len(sets, query.positive.as_slice());
+        let named = NamedSets::new(alloc, &query.negative, after, states, sets.len())?;
         let asks_before = ask_before(query.negative.as_slice());
-        SetsQuery {
+        let bits = bits_of(task, query.action);
+        Ok(SetsQuery {
             task,
             sets,
             query,
             asks_before,
-        }
+            named,
+            bits,
+        })
     }
 
     // The set of this number.
@@ -116,6 +133,20 @@ impl<'a> SetsQuery<'a> {
             None => None,
             Some(number) => Some(self.task.action(number)),
         }
+    }
+
+    // The action by bits, where the state's code has a bit for each atom.
+    fn bits_for(&self, held: Coded<'_>) -> Option<ActionBits<'a>>
+        requires { AreBelow (atoms self.now.task) held.atoms.now }
+        ensures action { IfSome result (λ bits.
+            action_of self.now.task self.now.query.action ≡ Some bits.action.now) }
+        ensures bits { IfSome result (λ _. held.entry.key ≡ 0) }
+        ensures below { IfSome result (λ _. AreBelow 64 held.entry.atoms.now) }
+    {
+        if !is_exact(held.key, self.task.atoms()) {
+            return None;
+        }
+        self.bits
     }
 
     // Whether there is an action, without which nothing is asked about after it.
@@ -178,7 +209,7 @@ impl<'a> SetsQuery<'a> {
             → IsTrue yes ↔ IsOwned self.now.sets self.now.query.negative after state) }
     {
         self.sets
-            .find_owner(&self.query.negative, after, held, self.task.atoms())
+            .find_owner(&self.named, after, held, self.task.atoms())
     }
 }
 
@@ -297,9 +328,33 @@ impl SetsQuery<'_> {
         match self.action() {
             None => self.fits(anchor, &held, &held),
             Some(action) => {
-                names_each(held.atoms, action.pre.as_slice())
-                    && self.fits_after(anchor, held, action)
+                self.is_enabled(held, action) && self.fits_after(anchor, held, action)
             }
+        }
+    }
+
+    // Whether the action's precondition holds in the state.
+    fn is_enabled(&self, held: Coded<'_>, action: &Action) -> bool
+        requires held { AreBelow (atoms self.now.task) held.atoms.now }
+        requires action { action_of self.now.task self.now.query.action ≡ Some action.now }
+        ensures { IsTrue result ↔ All (λ p. Contains held.entry.atoms.now p) action.now.pre }
+    {
+        match self.bits_for(held) {
+            Some(bits) => bits.is_enabled(held),
+            None => names_each(held.atoms, action.pre.as_slice()),
+        }
+    }
+
+    // What the action makes of the state.
+    fn result_in<'b>(&'b self, held: Coded<'b>, action: &'b Action) -> ActionResult<'b>
+        requires held { AreBelow (atoms self.now.task) held.atoms.now }
+        requires action { action_of self.now.task self.now.query.action ≡ Some action.now }
+        ensures held { result.held.now ≡ held.entry.atoms.now }
+        ensures action { result.action.now ≡ action.now }
+    {
+        match self.bits_for(held) {
+            Some(bits) => bits.result_in(held),
+            None => ActionResult::of(held, action),
         }
     }
 
@@ -310,11 +365,12 @@ impl SetsQuery<'_> {
             (state_of (atoms self.now.task) held.atoms.now) ≡ true }
         requires held { AreBelow (atoms self.now.task) held.atoms.now }
         requires over { IsOver (atoms self.now.task) action.now }
+        requires action { action_of self.now.task self.now.query.action ≡ Some action.now }
         ensures { (b a : List Bool) → HasJust self.now.task (names_atom held.entry.atoms.now) b
             → HasJust self.now.task (is_after action.now held.entry.atoms.now) a
             → result ≡ is_fit self.now b a }
     {
-        let after = ActionResult::of(held, action);
+        let after = self.result_in(held, action);
         if after.code == held.code && self.stays(anchor, held.atoms, action) {
             return false;
         }
@@ -493,6 +549,17 @@ fn has_atom<A: Sought>(atom: u32, held: &A) -> bool
     ensures { result ≡ A.has held.now atom }
 {
     held.holds(atom)
+}
+
+// How many states the first of these operands lists.
+fn first_len(sets: &Explicits, operands: &[Operand]) -> usize {
+    if operands.is_empty() {
+        return 0;
+    }
+    match operands[0].which {
+        Which::Set(number) if number < sets.len() => sets.get(number).len(),
+        _ => 0,
+    }
 }
 
 // Whether some of these operands is asked about before the action.

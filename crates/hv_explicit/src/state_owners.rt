@@ -19,9 +19,9 @@ ghost use Rattle.hv_explicit.specs.Working.Owners.{IsOwnerIndex, KeepsEntries};
 
 use crate::coding::{Coding, code_by, tells_apart};
 use crate::explicit::Explicit;
+use crate::named_sets::NamedSets;
 use crate::places::Places;
 use crate::sought::{Coded, Sought};
-use hv_sets::{Operands, Which};
 use std::alloc::{AllocError, Global};
 
 // With so few sets none of their states is entered: to go through the sets is no dearer.
@@ -210,7 +210,7 @@ fn meets_other(owners: &StateOwners, sets: &[Explicit], code: u64, state: &Coded
 pub(crate) fn find_owner<A: Sought>(
     owners: &StateOwners,
     sets: &[Explicit],
-    operands: &Operands,
+    operands: &NamedSets<'_>,
     after: bool,
     held: &A,
     atoms: u32,
@@ -242,7 +242,7 @@ pub(crate) fn find_owner<A: Sought>(
 // Whether the entry is of a set that the operands name, and its state has just these atoms.
 fn is_owner<A: Sought>(
     sets: &[Explicit],
-    operands: &Operands,
+    operands: &NamedSets<'_>,
     after: bool,
     entry: ListedAt,
     held: &A,
@@ -254,7 +254,7 @@ fn is_owner<A: Sought>(
 {
     let _ = atoms;
     let number = entry.set as usize;
-    if number >= sets.len() || !operands.names(Which::Set(number), after) {
+    if number >= sets.len() || !operands.names(number, after) {
         return false;
     }
     sets[number].has_state_at(entry.place as usize, held)

@@ -1,8 +1,8 @@
 -- Which sets list a state: entries by code.
-use Rattle.std.specs.Prelude.{◌≡◌, ◌<◌, ◌≤◌, ℕ, Bool, true, List, [], length, slice_get}
+use Rattle.std.specs.Prelude.{◌≡◌, ◌<◌, ◌≤◌, ◌↔◌, ℕ, Bool, true, List, [], length, slice_get}
 use Rattle.std.specs.Prelude.{slice_index_or, Some}
 use Rattle.std.specs.List.{All}
-use Rattle.hv_task.specs.State.{names_atom}
+use Rattle.hv_task.specs.State.{has_atom, names_atom}
 use Rattle.hv_sets.specs.Names.{AsksAbout}
 use Rattle.hv_sets.specs.declared.operand.Operand.{Operand}
 use Rattle.hv_sets.specs.declared.operand.Which.TheVariants as W
@@ -67,3 +67,9 @@ IsOwner held sets operands after entry =
 abbrev pub IsOwned : List ListedStates → List Operand → Bool → List Bool → Type 0
 IsOwned sets operands after state =
     (number : ℕ) × AsksAbout operands (W.Set number) after × (in_set sets number state ≡ true)
+
+-- each flag says whether the operands name the set of its number, on this side
+abbrev pub AreFlagged : List Operand → Bool → List Bool → Type 0
+AreFlagged operands after flags =
+    (number : ℕ) → number < length flags
+    → (has_atom flags number ≡ true) ↔ AsksAbout operands (W.Set number) after

@@ -1,5 +1,5 @@
 -- What an effect makes of a state, and a walk that compares it with a list.
-use Rattle.std.specs.Prelude.{◌≡◌, ◌||◌, ◌&&◌, not, ◌<◌, ◌≤◌, ◌⊎◌, ℕ, Bool, true, List, length}
+use Rattle.std.specs.Prelude.{◌≡◌, ◌||◌, ◌&&◌, not, ◌<◌, ◌≤◌, ◌⊎◌, ℕ, Bool, List, length}
 use Rattle.std.specs.Prelude.{slice_index}
 use Rattle.hv_task.specs.State.{names_atom}
 use Rattle.hv_explicit.specs.declared.results.Stand.{Stand}

@@ -1,6 +1,6 @@
 -- The search through listed states for a counterexample to a query.
 use Rattle.std.specs.Prelude.{◌≡◌, ◌<◌, ◌≤◌, ◌&&◌, ℕ, Bool, true, false, not, List, length}
-use Rattle.std.specs.Prelude.{if◌then◌else◌, IfSome}
+use Rattle.std.specs.Prelude.{if◌then◌else◌, IfSome, Option, Some}
 use Rattle.std.specs.List.{All, Contains, list_all}
 use Rattle.hv_task.specs.State.{state_of}
 use Rattle.hv_task.specs.Strips.{IsState, Strips, atoms}
@@ -10,9 +10,11 @@ use Rattle.hv_sets.specs.declared.operand.Operand.{Operand}
 use Rattle.hv_sets.specs.declared.operand.Which.{Which}
 use Rattle.hv_sets.specs.declared.query.Query.{Query}
 use Rattle.hv_sets.specs.Names.{AsksAbout}
-use Rattle.hv_sets.specs.Query.{HasAnchor, IsAnchor, IsNamed, IsReady, in_which, is_clash}
+use Rattle.hv_sets.specs.Query.{HasAnchor, IsAnchor, IsNamed, IsReady, action_of, in_which}
+use Rattle.hv_sets.specs.Query.{is_clash}
 use Rattle.hv_explicit.specs.Codes.{IsSetOf}
 use Rattle.hv_explicit.specs.ListedStates.{AreListsOver, ListedStates, in_set}
+use Rattle.hv_explicit.specs.declared.action_bits.ActionBits.{ActionBits}
 
 -- a query, with the task and the sets of which it is asked
 pub record ListedSearch : Type 0 where
@@ -27,11 +29,16 @@ pub record IsListedSearch (s : ListedSearch) : Type 0 where
   pub anchor : HasAnchor s.query
   pub action : IfSome s.query.action (λ a. a < length s.task.actions)
 
--- the same of a search with a flag: where it isn't set, no negative operand is asked about before
--- the action
-pub record IsFlaggedSearch (s : ListedSearch) (asks_before : Bool) : Type 0 where
+-- the same of a search with what is made once of its query: a flag without which no negative
+-- operand is asked about before the action, the negative operands by flags, and the action by bits
+-- where the task has few atoms
+pub record IsPreparedSearch (s : ListedSearch) (asks_before : Bool) (named : List Operand)
+    (bits : Option ActionBits) : Type 0 where
   pub search : IsListedSearch s
   pub asks : asks_before ≡ false → All (λ o. o.after ≡ true) s.query.negative
+  pub names : named ≡ s.query.negative
+  pub acts : IfSome bits (λ b. (action_of s.task s.query.action ≡ Some b.action.now)
+      × (atoms s.task ≤ 64))
 
 -- the state is in what is named
 abbrev pub in_named : ListedSearch → Which → List Bool → Bool

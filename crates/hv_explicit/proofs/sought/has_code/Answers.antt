@@ -1,4 +1,4 @@
-use Rattle.std.proofs.Common.{◌≡◌, false, true, refl, subst, sym}
+use Rattle.std.proofs.Common.{◌≡◌, false, true, refl, subst}
 use Rattle.hv_task.specs.State.{names_atom}
 use Rattle.hv_explicit.specs.Working.Codes.{IsCode, IsListCode}
 use Rattle.hv_explicit.proofs.Bits.{exact_same}

@@ -1,6 +1,5 @@
-use Rattle.std.proofs.Common.{◌≡◌, ◌∙◌, ◌&&◌, true, false, sym, ap, subst}
+use Rattle.std.proofs.Common.{◌≡◌, ◌∙◌, ◌&&◌, true, false, sym, ap}
 use Rattle.std.proofs.lemmas.Bool.{both_ways}
-use Rattle.std.specs.List.{All, Contains}
 use Rattle.hv_task.specs.State.{applicable, state_of, successor}
 use Rattle.hv_task.specs.Strips.{atoms}
 use Rattle.hv_explicit.specs.Working.Search.{in_named, is_fit}
@@ -29,8 +28,8 @@ returns-in-None c =
     let stands = stands_list task held c.requires.held in
     c.fits.ensures state state stands stands ∙ clash_alone c.args.self.now state c.in-None.ensures
 
-pub returns-then-names_each : goal.returns-then-names_each
-returns-then-names_each c =
+pub returns-then-is_enabled : goal.returns-then-is_enabled
+returns-then-is_enabled c =
     let task = c.args.self.now.task in
     let held = c.args.held.atoms.now in
     let action = c.in-Some.action.now in
@@ -38,24 +37,20 @@ returns-then-names_each c =
     let fit = c.fits_after.ensures state (successor action state)
     (stands_list task held c.requires.held)
     (stands_after task action held c.requires.held c.in-Some.ensures.1) in
-    let has = subst (All (λ p. Contains held p)) c.as_slice.ensures.items
-    (c.names_each.ensures.0 c.if-names_each.true) in
     let yes : applicable action state ≡ true = applies (atoms task) held action.pre
-    c.requires.held has in
+    c.requires.held (c.is_enabled.ensures.0 c.if-is_enabled.true) in
     fit ∙ (ap (λ b. b && is_fit c.args.self.now state (successor action state)) (sym yes)
     ∙ clash_acting c.args.self.now state action c.in-Some.ensures.0)
 
-pub returns-else-names_each : goal.returns-else-names_each
-returns-else-names_each c =
+pub returns-else-is_enabled : goal.returns-else-is_enabled
+returns-else-is_enabled c =
     let task = c.args.self.now.task in
     let held = c.args.held.atoms.now in
     let action = c.in-Some.action.now in
     let state = state_of (atoms task) held in
     let no : applicable action state ≡ false =
     applies_not (atoms task) held action.pre c.in-Some.ensures.1.pre
-    (λ has. both_ways c.names_each.result c.if-names_each.false
-    (c.names_each.ensures.1 (subst (All (λ p. Contains held p))
-    (sym c.as_slice.ensures.items) has))) in
-    c.if-names_each.false ∙ (ap (λ b. b && is_fit c.args.self.now state (successor action state))
+    (λ has. both_ways c.is_enabled.result c.if-is_enabled.false (c.is_enabled.ensures.1 has)) in
+    c.if-is_enabled.false ∙ (ap (λ b. b && is_fit c.args.self.now state (successor action state))
     (sym no)
     ∙ clash_acting c.args.self.now state action c.in-Some.ensures.0)
