@@ -11,6 +11,7 @@ use Rattle.hv_sets.specs.Walks.{IsNew, in_cubes}
 use Rattle.hv_sets.specs.declared.cursor.Cursor.{Cursor}
 use Rattle.hv_sets.specs.declared.literal.Literal.{Literal}
 use Rattle.hv_paths.specs.Along.{KeepsFront}
+use Rattle.hv_bdd.specs.declared.set.DiagramSet.{DiagramSet}
 use Rattle.hv_bdd.specs.Nodes.{IsNode, NodeList, in_node}
 use Rattle.hv_bdd.specs.Paths.{is_high, paths}
 use Rattle.hv_bdd.specs.Working.Paths.{literals_of}
@@ -135,6 +136,11 @@ inside_paths list node reduced within s = in_paths list 1 reduced (omega arith) 
     beq_true true = refl
     beq_true false = refl
 
+-- and so of a set, whose list is reduced
+pub inside_set : (set : DiagramSet) (s : List Bool)
+    → in_cubes (paths set.nodes.now 1 set.node) s ≡ in_node set.nodes.now set.node s
+inside_set set s = inside_paths set.nodes.now set.node set.reduced set.within s
+
 pub outside_paths : (list : NodeList) (node : ℕ) → IsReduced list → IsNode list node
     → (s : List Bool) → in_cubes (paths list 0 node) s ≡ not (in_node list node s)
 outside_paths list node reduced within s = in_paths list 0 reduced (omega arith) s node within
@@ -143,3 +149,7 @@ outside_paths list node reduced within s = in_paths list 0 reduced (omega arith)
     beq_false : (b : Bool) → beq b false ≡ not b
     beq_false true = refl
     beq_false false = refl
+
+pub outside_set : (set : DiagramSet) (s : List Bool)
+    → in_cubes (paths set.nodes.now 0 set.node) s ≡ not (in_node set.nodes.now set.node s)
+outside_set set s = outside_paths set.nodes.now set.node set.reduced set.within s

@@ -32,3 +32,4 @@ pub mod OneAnswer
 pub mod Advanced
 pub mod Along
 pub mod Jumped
+pub mod Alike

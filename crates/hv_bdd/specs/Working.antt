@@ -18,3 +18,4 @@ pub mod Laws
 pub mod Digits
 pub mod Fronts
 pub mod Jumping
+pub mod Untouched

@@ -1,7 +1,7 @@
 //! Atoms and bits that are read off lists, those that an action needs or changes and those of a
 //! cube, so that no table by atom is made for a query.
 
-ghost use Rattle.std.specs.Prelude.{◌≡◌, ◌<◌, ◌↔◌, ℕ, IfSome, IsTrue, length};
+ghost use Rattle.std.specs.Prelude.{◌≡◌, ◌<◌, ◌↔◌, ℕ, IfSome, IsTrue, length, true};
 ghost use Rattle.std.specs.List.{Contains};
 ghost use Rattle.std.specs.List.Sorted.{IsStrictlyIncreasing};
 ghost use Rattle.hv_task.specs.Working.AtomList.{IsFirstFrom, IsPlaceOf};
@@ -10,11 +10,15 @@ ghost use Rattle.hv_task.specs.State.{AreBelow, has_atom, names_atom, state_of};
 ghost use Rattle.hv_sets.specs.Cubes.{atoms_of};
 ghost use Rattle.hv_sets.specs.Working.Cubes.{IsFirstUpto};
 ghost use Rattle.hv_bdd.specs.Live.{changed_by, bit_mark_of, needed_by, no_marks};
+ghost use Rattle.hv_bdd.specs.Order.{atom_at};
+ghost use Rattle.hv_bdd.specs.Reduced.{IsReduced};
 ghost use Rattle.hv_bdd.specs.Working.Marked.{IsSignOf};
+ghost use Rattle.hv_bdd.specs.Working.Untouched.{MarksNone};
 ghost use Rattle.hv_bdd.specs.Working.Sets.{mark_literals};
 
+use crate::diagrams::Diagrams;
 use hv_sets::{Cube, Literal};
-use hv_task::{Action, AtomList, Atoms, Hint};
+use hv_task::{Action, AtomList, Atoms, Hint, State};
 use std::marker::Model;
 
 /// A state of a task with so many atoms, by the list of those that it holds.
@@ -113,7 +117,8 @@ impl<'a> AtomBits<'a> {
     /// The signs of these literals.
     #[tactic(auto, using(crate::proofs::Listed::no_listed))]
     pub fn signs(atoms: u32, cube: &'a Cube) -> AtomBits<'a>
-        ensures { result ≡ mark_literals cube.now (no_marks atoms) }
+        ensures signs { result ≡ mark_literals cube.now (no_marks atoms) }
+        ensures rises { IsStrictlyIncreasing (atoms_of cube.now) }
     {
         AtomBits {
             atoms,
@@ -163,6 +168,41 @@ impl<'a> AtomBits<'a> {
         }
         None
     }
+
+    /// Whether no atom at these places has a bit; where more atoms than these many have one, this
+    /// isn't looked for.
+    pub(crate) fn is_none_at(&self, nodes: &Diagrams, places: &State, most: usize) -> bool
+        requires atoms { length self.now ≡ nodes.now.atoms }
+        requires places { length places.now ≡ nodes.now.atoms }
+        ensures { result ≡ true → MarksNone nodes.now self.now places.now }
+    {
+        if !self.literals.is_empty() || self.ones.len() > most || self.zeros.len() > most {
+            return false;
+        }
+        if !are_apart(self.ones, nodes, places) {
+            return false;
+        }
+        are_apart(self.zeros, nodes, places)
+    }
+}
+
+// Whether none of these atoms is at one of the places.
+fn are_apart(list: &[u32], nodes: &Diagrams, places: &State) -> bool
+    requires { length places.now ≡ nodes.now.atoms }
+    ensures apart { result ≡ true → (v : ℕ) → v < nodes.now.atoms → has_atom places.now v ≡ true
+        → Contains list.now (atom_at nodes.now v) → ⊥ }
+    ensures reduced { IsReduced nodes.now }
+{
+    let atoms = nodes.atoms();
+    for atom in list {
+        if *atom >= atoms {
+            return false;
+        }
+        if places.has(nodes.place(*atom)) {
+            return false;
+        }
+    }
+    true
 }
 
 // The sign of the literal of an atom, if there is one.

@@ -36,7 +36,6 @@ fn count_at(nodes: &Diagrams, counts: &[u64], node: u32, end: u32, cap: u64) -> 
     requires lesser { node ≤ length counts.now }
     ensures { result ≡ min (length (paths nodes.now end node)) (cap + 1) }
 {
-    let _atoms = nodes.atoms();
     if node < 2 {
         return if node == end { 1 } else { 0 };
     }

@@ -1,7 +1,8 @@
 //! Lists of nodes of decision diagrams, and which states a node holds.
 
 ghost use Rattle.std.specs.Prelude.{◌≡◌, ◌<◌, ◌≤◌, ◌↔◌, ◌&&◌, None, Some, IfSome, IsTrue};
-ghost use Rattle.std.specs.Prelude.{IfNone, IfOk, MatchResult, OnErr, OnOk, is_some, length, nat_lt};
+ghost use Rattle.std.specs.Prelude.{IfNone, IfOk, MatchResult, OnErr, OnOk, cond, is_some, length};
+ghost use Rattle.std.specs.Prelude.{nat_eq, nat_lt};
 ghost use Rattle.hv_task.specs.Atoms.{IsNext};
 ghost use Rattle.hv_task.specs.State.{has_atom};
 ghost use Rattle.hv_bdd.specs.Building.{fault_of, is_later, plain_fault};
@@ -144,7 +145,8 @@ impl Diagrams {
     pub(crate) fn node(&self, node: u32) -> Node
         requires inner { 2 ≤ node }
         requires node { IsNode self.now node }
-        ensures { result ≡ node_at self.now node }
+        ensures node { result ≡ node_at self.now node }
+        ensures reduced { IsReduced self.now }
     {
         self.nodes[node as usize - 2]
     }
@@ -155,16 +157,37 @@ impl Diagrams {
         requires node { IsNode self.now node }
         ensures child { result ≡ child self.now node bit }
         ensures less { result < node }
+        ensures reduced { IsReduced self.now }
     {
         let listed = self.node(node);
-        let _atoms = self.atoms();
         if bit { listed.high } else { listed.low }
+    }
+
+    // The node to which a bit at a place leads: its child where it asks for the atom there, and
+    // itself elsewhere.
+    pub(crate) fn moved(&self, node: u32, place: u32, bit: bool) -> u32
+        requires node { IsNode self.now node }
+        requires place { place < self.now.atoms }
+        ensures { result ≡ cond (nat_eq (top self.now node) place) (child self.now node bit) node }
+    {
+        if node < 2 {
+            return node;
+        }
+        let listed = self.node(node);
+        if self.place(listed.atom) != place {
+            return node;
+        }
+        match bit {
+            true => listed.high,
+            false => listed.low,
+        }
     }
 
     // The place of the atom for which a node asks, or that past all atoms for an end.
     pub(crate) fn top(&self, node: u32) -> u32
         requires { IsNode self.now node }
-        ensures { result ≡ top self.now node }
+        ensures top { result ≡ top self.now node }
+        ensures reduced { IsReduced self.now }
     {
         let atoms = self.atoms();
         if node < 2 {
@@ -236,7 +259,6 @@ impl Diagrams {
         requires { length held.now ≡ self.now.atoms }
         ensures { IfOk result (λ places. ListsPlaces self.now held.now places.items) }
     {
-        let _atoms = self.atoms();
         let flags = self.placed(alloc, held)?;
         let mut places = Vec::new(alloc);
         flags.list_atoms(&mut places)?;

@@ -79,10 +79,9 @@ impl Jumps {
         requires jumps { AreJumps nodes.now self.old.to.items }
         ensures jumps { OnOk result (AreJumps nodes.now self.new.to.items) }
     {
-        let _atoms = nodes.atoms();
         self.passed = self.passed.wrapping_add(count);
         if self.to.is_empty() && self.passed / 8 > node as usize {
-            self.to = jumps_below(alloc, nodes, node + 1)?;
+            self.to = jumps_below(alloc, nodes, node.saturating_add(1))?;
         }
         Ok(())
     }
@@ -127,7 +126,6 @@ fn jump_of(nodes: &Diagrams, node: u32, to: &[u32], depths: &[u32]) -> (u32, u32
     requires depths { length depths.now ≡ node }
     ensures { IsJump nodes.now node result.0 }
 {
-    let _atoms = nodes.atoms();
     if node < 2 {
         return (node, 0);
     }
@@ -179,7 +177,6 @@ fn behind(nodes: &Diagrams, to: &[u32], node: u32, place: u32) -> u32
     requires place { place < nodes.now.atoms }
     ensures { TurnsAt nodes.now node result place }
 {
-    let _atoms = nodes.atoms();
     let first = first_from(nodes, to, node, place);
     if nodes.top(first) == place {
         nodes.child(first, true)
@@ -213,7 +210,6 @@ fn further(nodes: &Diagrams, to: &[u32], node: u32, place: u32) -> u32
     ensures passes { PassesAlong nodes.now node result place }
     ensures less { result < node }
 {
-    let _atoms = nodes.atoms();
     let jump = to[node as usize];
     if nodes.top(jump) <= place {
         jump

@@ -285,7 +285,6 @@ fn move_one(
     ensures places { length places.new.items ≡ length places.old.items }
 {
     let node = queue[at];
-    let _atoms = side.nodes.atoms();
     if node < 2 || side.nodes.top(node) >= place {
         out.push(node)?;
         return Ok(());
@@ -326,7 +325,6 @@ fn turned(nodes: &Diagrams, node: u32, literal: Literal) -> u32
         → in_node nodes.now node s ≡ in_node nodes.now result s }
     ensures less { result ≤ node }
 {
-    let _atoms = nodes.atoms();
     if node >= 2 && nodes.node(node).atom == literal.atom {
         nodes.child(node, literal.positive)
     } else {

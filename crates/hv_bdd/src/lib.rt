@@ -13,6 +13,12 @@
 //! all of them. So queries that ask for few of the atoms, or for such as follow each other closely,
 //! list nothing, and no inquiry costs more than a few times the listing besides.
 //!
+//! From its second query on an inquiry also keeps, for one list of operands, the places for which
+//! tuples asked and how many tuples there were, once an action that marks none of these places had
+//! no counterexample (`untouched.rt`). No other action that marks none of them has one then, by as
+//! many tuples, so none of these is searched for; but where an action has many more marks than
+//! there were tuples, these aren't looked at.
+//!
 //! A tuple's places are the positive operands of a query and then the negative ones: the order of
 //! the places doesn't change the number of tuples. An operand that says that a state isn't in the
 //! empty set has no place: with it there are as many tuples. A link from each tuple to the one
@@ -45,6 +51,7 @@ mod reach;
 pub mod read;
 pub mod set;
 mod tuple_search;
+mod untouched;
 mod walk;
 
 pub use asked::Asked;

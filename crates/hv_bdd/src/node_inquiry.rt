@@ -15,6 +15,7 @@ use crate::diagrams::Diagrams;
 use crate::goal::{Goal, GoalPlaces, is_asked};
 use crate::node_queries::{active_operands, changed_by, needed_by};
 use crate::tuple_search::Search;
+use crate::untouched::{Untouched, is_fruitless, known_for};
 use hv_sets::{Finding, Query, Scratch};
 use hv_task::Task;
 use std::alloc::{AllocError, Global};
@@ -22,12 +23,14 @@ use std::marker::Model;
 use std::mem;
 
 /// Asks diagrams queries about one task, one after the other. What serves all of them is kept: the
-/// places of the goal's atoms, where the diagrams list an order.
+/// places of the goal's atoms, where the diagrams list an order; and what is known of the actions
+/// that touch no place of the operands, so that few of these are searched for.
 #[derive(Drop)]
 pub struct NodeInquiry<'a> {
     nodes: &'a Diagrams,
     task: &'a Task,
     places: GoalPlaces,
+    known: Option<Untouched>,
     // Whether a query was asked before.
     again: bool,
 }
@@ -35,9 +38,10 @@ pub struct NodeInquiry<'a> {
 impl<'a> Model for NodeInquiry<'a> {
     ghost use Rattle.std.specs.Prelude.{◌≡◌, IfSome};
     ghost use Rattle.hv_task.specs.State.{state_of};
-    ghost use Rattle.hv_task.specs.Strips.{atoms};
+    ghost use Rattle.hv_task.specs.Strips.{atoms, start_state};
     ghost use Rattle.hv_bdd.specs.Live.{NodeTask};
     ghost use Rattle.hv_bdd.specs.Working.Search.{ListsPlaces};
+    ghost use Rattle.hv_bdd.specs.Working.Untouched.{IsKeptTruly};
 
     ghost Value = { NodeTask };
 
@@ -46,7 +50,9 @@ impl<'a> Model for NodeInquiry<'a> {
     // The places that are kept are those of the atoms of this task's goal, in this order.
     ghost invariant = { λ q. (q.nodes.now.atoms ≡ atoms q.task.now)
         × IfSome q.places.listed (λ places.
-        ListsPlaces q.nodes.now (state_of (atoms q.task.now) q.task.now.goal) places.items) };
+        ListsPlaces q.nodes.now (state_of (atoms q.task.now) q.task.now.goal) places.items)
+        × IfSome q.known (IsKeptTruly q.nodes.now (start_state q.task.now)
+        (state_of (atoms q.task.now) q.task.now.goal)) };
 }
 
 impl<'a> NodeInquiry<'a> {
@@ -62,6 +68,7 @@ impl<'a> NodeInquiry<'a> {
             nodes,
             task,
             places,
+            known: None,
             again: false,
         }
     }
@@ -85,27 +92,29 @@ impl<'a> NodeInquiry<'a> {
     {
         let task = self.task;
         let atoms = task.atoms();
-        let _atoms = self.nodes.atoms();
         scratch.reserve(atoms, 0, 0)?;
         let asked = active_operands(alloc, query)?;
         let operands = asked.as_slice();
+        let needed = needed_by(task, query.action);
+        let changed = changed_by(task, query.action);
+        let kept = mem::replace(&mut self.known, None);
+        let mut known = known_for(alloc, kept, self.again, self.nodes, task, operands)?;
+        if is_fruitless(&known, self.nodes, &needed, &changed, budget) {
+            self.known = known;
+            return Ok(Finding::Empty);
+        }
         let goal = Goal {
             held: ListedState::new(atoms, task.goal()),
             places: mem::replace(&mut self.places, GoalPlaces::never()),
             counts: is_asked(operands),
         };
-        let mut search = Search::new(
-            self.nodes,
-            ListedState::new(atoms, task.start()),
-            goal,
-            needed_by(task, query.action),
-            changed_by(task, query.action),
-            operands,
-        );
+        let start = ListedState::new(atoms, task.start());
+        let mut search = Search::new(self.nodes, start, goal, needed, changed, operands);
         search.count_root(alloc, self.again)?;
         self.again = true;
-        let found = search.answer(alloc, task, query, budget, &mut scratch.state)?;
+        let found = search.answer(alloc, task, query, budget, &mut scratch.state, &mut known)?;
         self.places = search.places();
+        self.known = known;
         Ok(found)
     }
 }

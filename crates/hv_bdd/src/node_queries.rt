@@ -1,7 +1,7 @@
 //! Queries about nodes.
 
 ghost use Rattle.std.specs.Prelude.{◌≡◌, ◌<◌, ◌∷◌, ◌++◌, [], length, IfOk, IfSome, OnOk};
-ghost use Rattle.hv_task.specs.Strips.{atoms};
+ghost use Rattle.hv_task.specs.Strips.{IsTask, atoms};
 ghost use Rattle.hv_sets.specs.Cost.{IsAnswer};
 ghost use Rattle.hv_sets.specs.Query.{IsReady, action_of, is_clash};
 ghost use Rattle.hv_bdd.specs.Nodes.{in_node, node_count};
@@ -13,6 +13,7 @@ use crate::atom_bits::AtomBits;
 use crate::diagrams::Diagrams;
 use crate::node_inquiry::NodeInquiry;
 use crate::tuple_search::Search;
+use crate::untouched::Untouched;
 use hv_sets::{Family, Finding, Operand, Query, Scratch, Which};
 use hv_task::{State, Task};
 use std::alloc::{AllocError, Global};
@@ -43,8 +44,9 @@ impl Family for Diagrams {
 
 impl Search<'_> {
     ghost use Rattle.hv_bdd.specs.Working.Search.{search_for};
+    ghost use Rattle.hv_bdd.specs.Working.Untouched.{IsKeptTrulyFor};
 
-    // The answer to the query that it is for.
+    // The answer to the query that it is for; what is so known of other actions is kept.
     pub(crate) fn answer(
         &mut self,
         alloc: Global,
@@ -52,20 +54,22 @@ impl Search<'_> {
         query: &Query,
         budget: u64,
         state: &mut State,
+        known: &mut Option<Untouched>,
     ) -> Result<Finding, AllocError>
         requires ready { IsReady (node_count self.old.setting.list) query.now }
         requires query { self.old ≡ search_for self.old.setting.list task.now query.now }
+        requires is_task { IsTask task.now }
         requires task { self.old.setting.list.atoms ≡ atoms task.now }
         requires state { length state.old ≡ atoms task.now }
+        requires known { IsKeptTrulyFor self.old known.old }
         ensures answer { IfOk result (λ found.
             IsAnswer found (LivePass self.old.setting.list task.now query.now budget)
             (atoms task.now) (is_clash task.now (in_node self.old.setting.list) query.now)
             state.new) }
         ensures same { self.new ≡ self.old }
+        ensures known { OnOk result (IsKeptTrulyFor self.old known.new) }
     {
-        let _atoms = task.atoms();
-        let _nodes = self.count();
-        self.find(alloc, budget, state)
+        self.find_and_keep(alloc, budget, state, known)
     }
 }
 

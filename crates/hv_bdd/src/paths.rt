@@ -10,9 +10,8 @@ use std::alloc::{AllocError, Global};
 impl<'a, 'b: 'a> InsideWalked<'a> for DiagramSet<'b> {
     type Walk = PathWalk<'b>;
 
-    #[tactic(auto, using(crate::proofs::Fronted::inside_paths))]
+    #[tactic(auto, using(crate::proofs::Fronted::inside_set))]
     fn walk_inside(&'a self, alloc: Global) -> Result<PathWalk<'b>, AllocError> {
-        let _atoms = self.nodes.atoms();
         Ok(PathWalk::new(alloc, self.nodes, self.node, 1))
     }
 }
@@ -20,14 +19,13 @@ impl<'a, 'b: 'a> InsideWalked<'a> for DiagramSet<'b> {
 impl<'a, 'b: 'a> OutsideWalked<'a> for DiagramSet<'b> {
     type Walk = PathWalk<'b>;
 
-    #[tactic(auto, using(crate::proofs::Fronted::outside_paths))]
+    #[tactic(auto, using(crate::proofs::Fronted::outside_set))]
     fn walk_outside(
         &'a self,
         alloc: Global,
         places: Option<&'a [u32]>,
     ) -> Result<PathWalk<'b>, AllocError> {
         let _ = places;
-        let _atoms = self.nodes.atoms();
         Ok(PathWalk::new(alloc, self.nodes, self.node, 0))
     }
 }

@@ -9,7 +9,7 @@ ghost use Rattle.hv_bdd.specs.Working.Graphs.{in_asked};
 ghost use Rattle.hv_bdd.specs.Live.{moves, roots};
 ghost use Rattle.hv_bdd.specs.Tuples.{if_live};
 
-use crate::tuple_search::{Link, Search, Tuple};
+use crate::tuple_search::{Link, PlaceMarks, Search, Tuple};
 use hv_sets::Finding;
 use hv_task::State;
 use indexmap::IndexSet;
@@ -42,8 +42,9 @@ impl Reached {
 }
 
 impl Search<'_> {
-    ghost use Rattle.hv_bdd.specs.Working.Search.{Explored, IsDone, IsEndTuple, IsTuple, tuple_at};
-    ghost use Rattle.hv_bdd.specs.Working.Search.{tuples_of};
+    ghost use Rattle.hv_bdd.specs.Working.Search.{AreMarksOf};
+    ghost use Rattle.hv_bdd.specs.Working.Search.{Explored, IsDone, IsEndTuple, IsTuple};
+    ghost use Rattle.hv_bdd.specs.Working.Search.{IsTupleSearch, tuple_at, tuples_of};
 
     /// Looks for a state that suits the operands.
     pub(crate) fn find(
@@ -62,7 +63,7 @@ impl Search<'_> {
     }
 
     // What was found, where these tuples were reached.
-    fn conclude(&self, budget: u64, reached: &Reached, state: &mut State) -> Finding
+    pub(crate) fn conclude(&self, budget: u64, reached: &Reached, state: &mut State) -> Finding
         requires done { IsDone self.now budget reached.now }
         requires state { length state.old ≡ self.now.setting.list.atoms }
         ensures { IsLiveAnswer result self.now.setting self.now.asked budget state.new }
@@ -81,21 +82,22 @@ impl Search<'_> {
     }
 
     // All live tuples that are reached, or more of them than the budget.
-    fn reach(&mut self, alloc: Global, budget: u64) -> Result<Reached, AllocError>
+    pub(crate) fn reach(&mut self, alloc: Global, budget: u64) -> Result<Reached, AllocError>
         ensures done { IfOk result (λ reached. IsDone self.old budget reached) }
+        ensures search { IsTupleSearch self.old }
         ensures same { self.new ≡ self.old }
     {
-        let _atoms = self.atoms();
         let mut reached = Reached {
             tuples: IndexSet::new(alloc),
             links: Vec::new(alloc),
         };
         let root = self.live_root(alloc)?;
         reached.put(root, 0, false)?;
+        let mut marks = PlaceMarks::none(self.atoms());
         let mut done = 0;
         while done < reached.tuples.len() && reached.tuples.len() as u64 <= budget {
             self.prepare(alloc, done, &reached)?;
-            self.expand(alloc, done, &mut reached)?;
+            self.expand(alloc, done, &mut reached, &mut marks)?;
             done += 1;
         }
         Ok(reached)
@@ -103,12 +105,12 @@ impl Search<'_> {
 
     // The tuple of the roots, if it is live.
     fn live_root(&self, alloc: Global) -> Result<Option<Tuple>, AllocError>
-        ensures { IfOk result (λ root.
+        ensures root { IfOk result (λ root.
             option_map (λ t. t.items) root
             ≡ if_live (moves self.now.setting) self.now.asked
             (roots self.now.setting self.now.asked)) }
+        ensures search { IsTupleSearch self.now }
     {
-        let _atoms = self.atoms();
         let root = self.roots(alloc)?;
         if !self.is_live(root.as_slice()) {
             return Ok(None);
@@ -129,16 +131,25 @@ impl Search<'_> {
         self.count_moves(alloc, place)
     }
 
-    // Puts in what the bits lead to from one more tuple.
-    fn expand(&self, alloc: Global, done: usize, reached: &mut Reached) -> Result<(), AllocError>
+    // Puts in what the bits lead to from one more tuple. The marks become those of its place.
+    fn expand(
+        &self,
+        alloc: Global,
+        done: usize,
+        reached: &mut Reached,
+        marks: &mut PlaceMarks,
+    ) -> Result<(), AllocError>
         requires explored { Explored self.now done reached.old }
         requires done { done < length reached.old.tuples.keys }
-        ensures { OnOk result (Explored self.now (done + 1) reached.new) }
+        requires marks { AreMarksOf self.now.setting marks.old }
+        ensures explored { OnOk result (Explored self.now (done + 1) reached.new) }
+        ensures marks { OnOk result (AreMarksOf self.now.setting marks.new) }
     {
         let tuple = reached.tuples.as_slice()[done].as_slice();
-        let place = self.least(tuple);
-        let low = self.next(alloc, tuple, place, false)?;
-        let high = self.next(alloc, tuple, place, true)?;
+        let here = self.marks_at(self.least(tuple), *marks);
+        *marks = here;
+        let low = self.next(alloc, tuple, &here, false)?;
+        let high = self.next(alloc, tuple, &here, true)?;
         reached.put(low, done, false)?;
         reached.put(high, done, true)?;
         Ok(())

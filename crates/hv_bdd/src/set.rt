@@ -5,7 +5,8 @@
 
 ghost use Rattle.std.specs.Prelude.{◌≡◌, length, map, Some, IfOk};
 ghost use Rattle.std.proofs.Common.{ap};
-ghost use Rattle.hv_sets.specs.Cubes.{SpeakBelow, cube_of};
+ghost use Rattle.std.specs.List.Sorted.{IsStrictlyIncreasing};
+ghost use Rattle.hv_sets.specs.Cubes.{SpeakBelow, atoms_of, cube_of};
 ghost use Rattle.hv_bdd.specs.Nodes.{IsNode, in_node};
 ghost use Rattle.hv_bdd.specs.Paths.{StandsForWalk, left_at, path_cubes};
 ghost use Rattle.hv_bdd.specs.Reduced.{IsReduced};
@@ -172,12 +173,12 @@ impl Search<'_> {
     ) -> Result<bool, AllocError>
         requires within { SearchesCube node inside cube.now self.old }
         requires cube { SpeakBelow self.old.setting.list.atoms cube.now }
+        requires rises { IsStrictlyIncreasing (atoms_of cube.now) }
         requires state { length state.old ≡ self.old.setting.list.atoms }
         ensures { IfOk result (λ yes.
             Finds inside yes self.old.setting.list.atoms (in_node self.old.setting.list node)
             cube.now state.new) }
     {
-        let _literals = cube.as_slice();
         let count = self.count() as u64;
         match self.find(alloc, count, state)? {
             Finding::Clash => Ok(true),

@@ -1,7 +1,7 @@
 //! The search through live tuples: how a tuple moves.
 
-ghost use Rattle.std.specs.Prelude.{◌≡◌, ◌<◌, ◌≤◌, ◌-◌, true, cond, length, option_map, IfOk};
-ghost use Rattle.std.specs.Prelude.{IfSome, slice_index_or};
+ghost use Rattle.std.specs.Prelude.{◌≡◌, ◌<◌, ◌≤◌, ◌-◌, ◌&&◌, true, cond, length, nat_eq, nat_lt};
+ghost use Rattle.std.specs.Prelude.{option_map, IfOk, IfSome, slice_index_or};
 ghost use Rattle.std.specs.List.{All};
 ghost use Rattle.std.specs.List.Sorted.{IsStrictlyIncreasing};
 ghost use Rattle.hv_task.specs.Atoms.{IsNext};
@@ -19,6 +19,7 @@ use crate::atom_bits::{AtomBits, ListedState, first_from};
 use crate::diagrams::Diagrams;
 use crate::goal::{Goal, GoalPlaces};
 use hv_sets::Which;
+use hv_task::State;
 use smallvec::SmallVec;
 use std::alloc::{AllocError, Global};
 use std::marker::Model;
@@ -31,6 +32,28 @@ pub(crate) type Tuple = SmallVec<u32, 8>;
 pub(crate) struct Link {
     pub parent: usize,
     pub bit: bool,
+}
+
+/// The marks of the atom at a place: the bit that the state needs of it, and the one that the action
+/// makes of it, if there are such. Past the last place there is none.
+#[derive(Clone, Copy)]
+pub(crate) struct PlaceMarks {
+    pub place: u32,
+    pub needed: Option<bool>,
+    pub changed: Option<bool>,
+}
+
+impl PlaceMarks {
+    /// No marks, at a place.
+    pub(crate) fn none(place: u32) -> PlaceMarks
+        ensures { result.place ≡ place }
+    {
+        PlaceMarks {
+            place,
+            needed: None,
+            changed: None,
+        }
+    }
 }
 
 /// What tuples move through, and the operands that are asked.
@@ -80,7 +103,9 @@ impl<'a> Model for Search<'a> {
 }
 
 impl<'a> Search<'a> {
-    ghost use Rattle.hv_bdd.specs.Working.Search.{IsAskable, IsTupleSearch, ListsPlaces};
+    ghost use Rattle.hv_bdd.specs.Working.Search.{AreMarksOf, IsAskable, IsTupleSearch};
+    ghost use Rattle.hv_bdd.specs.Working.Search.{ListsPlaces};
+    ghost use Rattle.hv_bdd.specs.Working.Untouched.{MarksNone};
 
     /// The search for these operands.
     pub(crate) fn new(
@@ -157,12 +182,53 @@ impl<'a> Search<'a> {
         self.needed.read(atom)
     }
 
+    /// Whether the action marks none of these places, as far as it has at most so many marks of one
+    /// kind.
+    pub(crate) fn marks_none(&self, places: &State, most: usize) -> bool
+        requires { length places.now ≡ self.now.setting.list.atoms }
+        ensures needed { result ≡ true
+            → MarksNone self.now.setting.list self.now.setting.needed places.now }
+        ensures changed { result ≡ true
+            → MarksNone self.now.setting.list self.now.setting.changed places.now }
+    {
+        self.needed.is_none_at(self.nodes, places, most)
+            && self.changed.is_none_at(self.nodes, places, most)
+    }
+
     /// The places of the goal's atoms, as far as they are listed.
     pub(crate) fn places(self) -> GoalPlaces
         ensures { IfSome result.listed (λ places.
             ListsPlaces self.entry.setting.list self.entry.setting.goal places.items) }
     {
         self.goal.places
+    }
+
+    // The bit that the action makes of an atom, if it changes it.
+    fn changes(&self, atom: u32) -> Option<bool>
+        requires { atom < self.now.setting.list.atoms }
+        ensures { result ≡ bit_mark_of self.now.setting.changed atom }
+    {
+        self.changed.read(atom)
+    }
+
+    /// The marks of a place. Tuples come mostly place by place, so those of the last one are tried.
+    pub(crate) fn marks_at(&self, place: u32, last: PlaceMarks) -> PlaceMarks
+        requires { AreMarksOf self.now.setting last }
+        ensures place { result.place ≡ place }
+        ensures marks { AreMarksOf self.now.setting result }
+    {
+        if last.place == place {
+            return last;
+        }
+        if place >= self.atoms() {
+            return PlaceMarks::none(place);
+        }
+        let atom = self.atom_at(place);
+        PlaceMarks {
+            place,
+            needed: self.needs(atom),
+            changed: self.changes(atom),
+        }
     }
 
     /// Whether the places of the goal may come to be listed.
@@ -224,7 +290,8 @@ impl<'a> Search<'a> {
 }
 
 impl Search<'_> {
-    ghost use Rattle.hv_bdd.specs.Working.Search.{IsAskable, IsTuple};
+    ghost use Rattle.hv_bdd.specs.Working.Search.{AreMarksOf, IsAskable, IsTuple};
+    ghost use Rattle.hv_bdd.specs.Working.Search.{IsTupleSearch};
 
     // The root of an operand.
     pub(crate) fn root(&self, which: Which) -> u32
@@ -323,29 +390,19 @@ impl Search<'_> {
         if bit { self.goal_from(node - 1) } else { 0 }
     }
 
-    // The bit that an operand sees where the state before the action has this bit at a place.
-    fn seen(&self, after: bool, place: u32, bit: bool) -> bool
-        requires { place < self.now.setting.list.atoms }
-        ensures { result
-            ≡ cond after
-            (bit_or (bit_mark_of self.now.setting.changed
-            (atom_at self.now.setting.list place)) bit) bit }
+    // Whether the state may have this bit at a place, if there is such a place.
+    fn allows(&self, marks: &PlaceMarks, bit: bool) -> bool
+        requires { AreMarksOf self.now.setting marks.now }
+        ensures allows { result
+            ≡ (nat_lt marks.now.place self.now.setting.list.atoms
+            && (moves self.now.setting).allows marks.now.place bit) }
+        ensures place { result ≡ true → marks.now.place < self.now.setting.list.atoms }
+        ensures search { IsTupleSearch self.now }
     {
-        if after {
-            bit_or(self.changed.read(self.atom_at(place)), bit)
-        } else {
-            bit
+        if marks.place >= self.atoms() {
+            return false;
         }
-    }
-
-    // Whether the state may have this bit at a place.
-    fn allows(&self, place: u32, bit: bool) -> bool
-        requires { place < self.now.setting.list.atoms }
-        ensures { result
-            ≡ is_marked (bit_mark_of self.now.setting.needed
-            (atom_at self.now.setting.list place)) bit }
-    {
-        is_marked(self.needs(self.atom_at(place)), bit)
+        is_marked(marks.needed, bit)
     }
 
     /// The least place for which a node of the tuple asks, or the place past all atoms.
@@ -378,33 +435,66 @@ impl Search<'_> {
         &self,
         alloc: Global,
         tuple: &[u32],
-        place: u32,
+        marks: &PlaceMarks,
         bit: bool,
     ) -> Result<Tuple, AllocError>
         requires tuple { IsTuple self.now tuple.now }
-        requires place { place < self.now.setting.list.atoms }
+        requires place { marks.now.place < self.now.setting.list.atoms }
+        requires marks { AreMarksOf self.now.setting marks.now }
         ensures { IfOk result (λ moved.
             moved.items
-            ≡ move_all (moves self.now.setting) place bit self.now.asked tuple.now) }
+            ≡ move_all (moves self.now.setting) marks.now.place bit self.now.asked tuple.now) }
     {
         let mut moved = SmallVec::new(alloc);
         for (k, node) in tuple.iter().enumerate() {
-            moved.push(self.move_one(self.operand(k), *node, place, bit))?;
+            moved.push(self.move_one(self.operand(k), *node, marks, bit))?;
         }
         Ok(moved)
     }
 
     // The node to which a bit at a place leads.
-    fn move_one(&self, asked: &Asked, node: u32, place: u32, bit: bool) -> u32
+    fn move_one(&self, asked: &Asked, node: u32, marks: &PlaceMarks, bit: bool) -> u32
         requires askable { IsAskable self.now.setting asked.now.which }
         requires node { node < limit self.now.setting asked.now.which }
-        requires place { place < self.now.setting.list.atoms }
-        ensures { result ≡ move_one (moves self.now.setting) place bit asked.now node }
+        requires place { marks.now.place < self.now.setting.list.atoms }
+        requires marks { AreMarksOf self.now.setting marks.now }
+        ensures { result ≡ move_one (moves self.now.setting) marks.now.place bit asked.now node }
     {
-        if self.top(asked.which, node) == place {
-            self.child(asked.which, node, self.seen(asked.after, place, bit))
+        let seen = self.seen(marks, asked.after, bit);
+        match asked.which {
+            Which::Set(_) => self.nodes.moved(node, marks.place, seen),
+            which => self.move_chain(which, node, marks.place, seen),
+        }
+    }
+
+    // The same in a graph that is a chain, with the bit that the operand sees.
+    fn move_chain(&self, which: Which, node: u32, place: u32, bit: bool) -> u32
+        requires askable { IsAskable self.now.setting which }
+        requires node { node < limit self.now.setting which }
+        requires place { place < self.now.setting.list.atoms }
+        ensures { result ≡ cond (nat_eq (graph_top self.now.setting which node) place)
+            (graph_child self.now.setting which node bit) node }
+    {
+        if self.top(which, node) == place {
+            self.child(which, node, bit)
         } else {
             node
+        }
+    }
+
+    // The bit that an operand sees where the state before the action has this bit at a place.
+    fn seen(&self, marks: &PlaceMarks, after: bool, bit: bool) -> bool
+        requires place { marks.now.place < self.now.setting.list.atoms }
+        requires marks { AreMarksOf self.now.setting marks.now }
+        ensures { result
+            ≡ cond after
+            (bit_or (bit_mark_of self.now.setting.changed
+            (atom_at self.now.setting.list marks.now.place)) bit) bit }
+    {
+        if after {
+            bit_or(marks.changed, bit)
+        } else {
+            bit
         }
     }
 
@@ -413,19 +503,20 @@ impl Search<'_> {
         &self,
         alloc: Global,
         tuple: &[u32],
-        place: u32,
+        marks: &PlaceMarks,
         bit: bool,
     ) -> Result<Option<Tuple>, AllocError>
         requires tuple { IsTuple self.now tuple.now }
-        requires least { place ≡ least (moves self.now.setting) self.now.asked tuple.now }
+        requires least { marks.now.place ≡ least (moves self.now.setting) self.now.asked tuple.now }
+        requires marks { AreMarksOf self.now.setting marks.now }
         ensures { IfOk result (λ to.
             option_map (λ t. t.items) to
             ≡ next (moves self.now.setting) self.now.asked tuple.now bit) }
     {
-        if place >= self.atoms() || !self.allows(place, bit) {
+        if !self.allows(marks, bit) {
             return Ok(None);
         }
-        let moved = self.move_all(alloc, tuple, place, bit)?;
+        let moved = self.move_all(alloc, tuple, marks, bit)?;
         if !self.is_live(moved.as_slice()) {
             return Ok(None);
         }
@@ -434,7 +525,9 @@ impl Search<'_> {
 
     // The tuple of the roots.
     pub(crate) fn roots(&self, alloc: Global) -> Result<Tuple, AllocError>
-        ensures { IfOk result (λ tuple. tuple.items ≡ roots self.now.setting self.now.asked) }
+        ensures roots { IfOk result (λ tuple.
+            tuple.items ≡ roots self.now.setting self.now.asked) }
+        ensures search { IsTupleSearch self.now }
     {
         let mut tuple = SmallVec::new(alloc);
         for asked in self.asked {

@@ -121,7 +121,6 @@ fn descend(nodes: &Diagrams, path: &mut Vec<u32>, end: u32) -> Result<(), AllocE
     ensures left { OnOk result (left_of nodes.now end path.new.items (paths nodes.now end end)
         ≡ left_of nodes.now end path.old.items (paths nodes.now end (last_of path.old.items))) }
 {
-    let _atoms = nodes.atoms();
     let mut last = path[path.len() - 1];
     while last >= 2 {
         last = first_child(nodes, last, end);
@@ -142,7 +141,6 @@ fn first_child(nodes: &Diagrams, node: u32, end: u32) -> u32
         → left_of nodes.now end (front ++ node ∷ []) (paths nodes.now end node)
         ≡ left_of nodes.now end (front ++ node ∷ result ∷ []) (paths nodes.now end result) }
 {
-    let _atoms = nodes.atoms();
     let listed = nodes.node(node);
     if listed.low == 1 - end {
         listed.high
@@ -194,7 +192,6 @@ fn sibling(nodes: &Diagrams, node: u32, child: u32, end: u32) -> Option<u32>
         left_of nodes.now end (front ++ node ∷ []) []
         ≡ left_of nodes.now end (front ++ node ∷ child ∷ []) []) }
 {
-    let _atoms = nodes.atoms();
     let high = nodes.node(node).high;
     if child == high {
         return None;
@@ -218,7 +215,6 @@ pub(crate) fn extend(
     ensures literals { OnOk result (literals.new.items ≡ literals_of nodes.now path.now) }
     ensures below { OnOk result (SpeakBelow nodes.now.atoms literals.new.items) }
 {
-    let _atoms = nodes.atoms();
     for at in literals.len()..path.len() - 1 {
         let node = nodes.node(path[at]);
         literals.push(Literal {
@@ -235,7 +231,6 @@ fn fill(nodes: &Diagrams, path: &[u32], cube: &mut Cube) -> Result<(), AllocErro
     ensures cube { OnOk result (cube.new ≡ cube_of (literals_of nodes.now path.now)) }
     ensures below { OnOk result (SpeakBelow nodes.now.atoms cube.new) }
 {
-    let _atoms = nodes.atoms();
     cube.clear();
     for at in 1..path.len() {
         let node = nodes.node(path[at - 1]);

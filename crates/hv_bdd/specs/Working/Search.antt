@@ -16,10 +16,11 @@ use Rattle.hv_sets.specs.declared.query.Query.{Query}
 use Rattle.hv_bdd.specs.declared.asked.Asked.{Asked}
 use Rattle.hv_bdd.specs.declared.reach.Reached.{Reached}
 use Rattle.hv_bdd.specs.declared.tuple_search.Link.{Link}
+use Rattle.hv_bdd.specs.declared.tuple_search.PlaceMarks.{PlaceMarks}
 use Rattle.hv_bdd.specs.Nodes.{NodeList, node_count}
 use Rattle.hv_bdd.specs.Order.{atom_at}
 use Rattle.hv_bdd.specs.Reduced.{IsReduced}
-use Rattle.hv_bdd.specs.Live.{TupleSetting, moves, no_marks, operands_of, roots}
+use Rattle.hv_bdd.specs.Live.{TupleSetting, bit_mark_of, moves, no_marks, operands_of, roots}
 use Rattle.hv_bdd.specs.Live.{tuple_setting_of}
 use Rattle.hv_bdd.specs.Working.Graphs.{limit}
 use Rattle.hv_bdd.specs.Working.Sets.{mark_literals}
@@ -59,6 +60,13 @@ pub record IsTuple (s : TupleSearch) (nodes : List ℕ) : Type 0 where
   pub size : length nodes ≡ length s.asked
   pub each : (k : ℕ) (o : Asked) → k < length nodes
       → slice_index_or nodes k 0 < limit s.setting (slice_index_or s.asked k o).which
+
+-- the marks are those of the atom at their place, if there is one
+pub record AreMarksOf (s : TupleSetting) (marks : PlaceMarks) : Type 0 where
+  pub needed : marks.place < s.list.atoms
+      → marks.needed ≡ bit_mark_of s.needed (atom_at s.list marks.place)
+  pub changed : marks.place < s.list.atoms
+      → marks.changed ≡ bit_mark_of s.changed (atom_at s.list marks.place)
 
 -- the tuples of a set, in order
 abbrev pub tuples_of : {H : Type 0} → IndexSet (SmallVec ℕ) H → List (List ℕ)

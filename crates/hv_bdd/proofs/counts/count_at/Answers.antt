@@ -15,17 +15,17 @@ returns-else-node-end c = count_other c.args.nodes.now c.args.end c.args.node c.
 
 pub bounds-counts-listed-2 : goal.bounds-counts-listed-2
 bounds-counts-listed-2 c =
-    let high = c.atoms-atoms.ensures.reduced.high c.args.node c.if-node-lt2.false c.requires.node in
-    let is = ap (λ (n : Node). n.high) c.node-listed.ensures in
+    let high = c.node-listed.ensures.reduced.high c.args.node c.if-node-lt2.false c.requires.node in
+    let is = ap (λ (n : Node). n.high) c.node-listed.ensures.node in
     let lesser = c.requires.lesser in omega arith
 
 pub returns : goal.returns
 returns c =
-    let low = c.atoms-atoms.ensures.reduced.low c.args.node c.if-node-lt2.false c.requires.node in
-    let high = c.atoms-atoms.ensures.reduced.high c.args.node c.if-node-lt2.false c.requires.node in
-    let is_low = ap (λ (n : Node). n.low) c.node-listed.ensures in
-    let is_high = ap (λ (n : Node). n.high) c.node-listed.ensures in
-    let sum = count_inner c.args.nodes.now c.args.end c.atoms-atoms.ensures.reduced c.args.node
+    let low = c.node-listed.ensures.reduced.low c.args.node c.if-node-lt2.false c.requires.node in
+    let high = c.node-listed.ensures.reduced.high c.args.node c.if-node-lt2.false c.requires.node in
+    let is_low = ap (λ (n : Node). n.low) c.node-listed.ensures.node in
+    let is_high = ap (λ (n : Node). n.high) c.node-listed.ensures.node in
+    let sum = count_inner c.args.nodes.now c.args.end c.node-listed.ensures.reduced c.args.node
     c.if-node-lt2.false c.requires.node in
     let lesser = c.requires.lesser in
     let count_low = c.requires.counts (node_at c.args.nodes.now c.args.node).low (omega arith) in

@@ -7,7 +7,7 @@ use Rattle.hv_bdd.proofs.jumps.further.Goals as goal
 pub returns-then-top-place-clause-passes : goal.returns-then-top-place-clause-passes
 returns-then-top-place-clause-passes c =
     let list = c.args.nodes.now in
-    let at = c.top.ensures in
+    let at = c.top.ensures.top in
     let upto = c.if-top-place.true in
     jump_is list c.args.node _ c.args.place (c.requires.jumps.each c.args.node c.requires.node)
     (omega arith)
@@ -15,7 +15,7 @@ returns-then-top-place-clause-passes c =
 pub returns-else-top-place-clause-passes : goal.returns-else-top-place-clause-passes
 returns-else-top-place-clause-passes c =
     let list = c.args.nodes.now in
-    let reduced = c.atoms-atoms.ensures.reduced in
+    let reduced = c.top.ensures.reduced in
     let few = c.requires.jumps.few in
     let within : c.args.node < node_count list = let less = c.requires.node in omega arith in
     subst (λ n. PassesAlong list c.args.node n c.args.place) (sym c.child.ensures.child)

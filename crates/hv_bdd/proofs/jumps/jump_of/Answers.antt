@@ -10,7 +10,7 @@ returns-then-node-lt2 c = jump_none c.args.nodes.now c.args.node c.if-node-lt2.t
 pub returns : goal.returns
 returns c =
     let list = c.args.nodes.now in
-    let reduced = c.atoms-atoms.ensures.reduced in
+    let reduced = c.child-low.ensures.reduced in
     let node = c.args.node in
     let low = c.child-low.ensures.child in
     let inner = c.if-node-lt2.false in

@@ -11,7 +11,7 @@ has-requires c =
     let size = c.requires.state in
     let less = c.atoms-atoms.ensures.reduced.atom c.loop-at.at c.loop-at-test.true
     c.loop-at.invariant.within in
-    subst (λ (n : Node). n.atom < length c.args.state.now) (sym c.node.ensures) (omega arith)
+    subst (λ (n : Node). n.atom < length c.args.state.now) (sym c.node.ensures.node) (omega arith)
 
 pub loop-at-preserved : goal.loop-at-preserved
 loop-at-preserved c = record {
@@ -19,7 +19,7 @@ loop-at-preserved c = record {
       omega arith;
   same =
       let bit = c.has.ensures ∙ ap (λ (n : Node). has_atom c.args.state.now n.atom)
-      c.node.ensures in
+      c.node.ensures.node in
       ap (λ n. in_node c.args.nodes.now n c.args.state.now)
       (c.child-at.ensures.child ∙ ap (child c.args.nodes.now c.loop-at.at) bit)
       ∙ (sym (in_inner c.args.nodes.now c.atoms-atoms.ensures.reduced c.args.state.now c.loop-at.at

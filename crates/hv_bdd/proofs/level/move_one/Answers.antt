@@ -30,7 +30,7 @@ returns-clause-ahead c =
     c.requires.at same c.requires.ahead
     (extends_more queue c.put_live.new.list.items c.put_live-2.new.list.items
     c.in_ok-put_live.ensures.extends c.in_ok-put_live-2.ensures.extends)
-    (goes_on list inside c.atoms-atoms.ensures.reduced node c.child.result
+    (goes_on list inside c.child.ensures.reduced node c.child.result
     c.child-2.result c.put_live.new.list.items c.put_live-2.new.list.items
     c.if-node-lt2.false within c.child.ensures.child c.child-2.ensures.child
     c.in_ok-put_live.ensures.put c.in_ok-put_live-2.ensures.extends

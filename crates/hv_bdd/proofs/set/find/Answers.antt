@@ -8,7 +8,7 @@ use Rattle.hv_bdd.proofs.set.find.Goals as goal
 pub new-search-requires-clause-tuples : goal.new-search-requires-clause-tuples
 new-search-requires-clause-tuples c =
     can_look _ c.args.node c.args.inside c.args.cube.now (record {
-      needed = c.signs.ensures
+      needed = c.signs.ensures.signs
           ∙ ap (λ n. mark_literals c.args.cube.now (no_marks n)) c.atoms-atoms.ensures.atoms;
       asked = c.from_ref.ensures.value;
     })

@@ -26,7 +26,7 @@ loop-at-preserved c =
     } in
     let is : made ≡ get_or (literals_of list path) at none =
     ap (λ (x : Node). let l : Literal = record { atom = x.atom; positive = eqb m x.high } in l)
-    c.node-node.ensures
+    c.node-node.ensures.node
     ∙ sym (literal_at list path at none (omega arith)) in record {
       front = items
           ∙ (ap (λ ls. ls ++ made ∷ []) c.loop-at.invariant.front
@@ -35,8 +35,8 @@ loop-at-preserved c =
       below = subst (SpeakBelow list.atoms) (sym items)
           (All-push (λ (l : Literal). l.atom < list.atoms) c.loop-at.literals.items made
           c.loop-at.invariant.below
-          (subst (λ (x : Node). x.atom < list.atoms) (sym c.node-node.ensures)
-          (c.atoms-atoms.ensures.reduced.atom n (c.requires.stack.inner at (omega arith))
+          (subst (λ (x : Node). x.atom < list.atoms) (sym c.node-node.ensures.node)
+          (c.node-node.ensures.reduced.atom n (c.requires.stack.inner at (omega arith))
           (c.requires.stack.node at (omega arith)))));
     }
 

@@ -38,7 +38,7 @@ loop-at-preserved c =
     let placed : c.add.new.self ≡ put_in literal c.loop-at.cube =
     c.in_ok-add.ensures.placed
     ∙ ap (λ (x : Node). put_in (record { atom = x.atom; positive = eqb m x.high }) c.loop-at.cube)
-    c.node-node.ensures in
+    c.node-node.ensures.node in
     let longer : literals_of list (take (at + 1) path)
     ≡ literals_of list (take at path) ++ literal ∷ [] =
     ap (literals_of list) two
@@ -53,7 +53,7 @@ loop-at-preserved c =
       cube = placed ∙ (ap (put_in literal) c.loop-at.invariant.cube ∙ sym cube);
       below = subst (SpeakBelow list.atoms) (sym placed)
           (All-put literal (λ (l : Literal). l.atom < list.atoms) c.loop-at.cube
-          (c.atoms-atoms.ensures.reduced.atom n (c.requires.inner k (omega arith))
+          (c.node-node.ensures.reduced.atom n (c.requires.inner k (omega arith))
           (c.requires.node k (omega arith)))
           c.loop-at.invariant.below);
     }

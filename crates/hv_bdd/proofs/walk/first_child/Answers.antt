@@ -12,10 +12,10 @@ returns-then-listed-end-clause-left c = λ front.
     let n = c.args.node in
     subst (λ (m : Node). left_of list e (front ++ n ∷ []) (paths list e n)
     ≡ left_of list e (front ++ n ∷ m.high ∷ []) (paths list e m.high))
-    (sym c.node-listed.ensures)
-    (go_high list e c.atoms-atoms.ensures.reduced front n c.requires.inner c.requires.node
+    (sym c.node-listed.ensures.node)
+    (go_high list e c.node-listed.ensures.reduced front n c.requires.inner c.requires.node
     (no_paths list e (node_at list n).low c.requires.end
-    (sym (ap (λ (m : Node). m.low) c.node-listed.ensures) ∙ c.if-listed-end.true)))
+    (sym (ap (λ (m : Node). m.low) c.node-listed.ensures.node) ∙ c.if-listed-end.true)))
 
 pub returns-else-listed-end-clause-left : goal.returns-else-listed-end-clause-left
 returns-else-listed-end-clause-left c = λ front.
@@ -24,10 +24,10 @@ returns-else-listed-end-clause-left c = λ front.
     let n = c.args.node in
     subst (λ (m : Node). left_of list e (front ++ n ∷ []) (paths list e n)
     ≡ left_of list e (front ++ n ∷ m.low ∷ []) (paths list e m.low))
-    (sym c.node-listed.ensures)
-    (go_low list e c.atoms-atoms.ensures.reduced front n c.requires.inner c.requires.node)
+    (sym c.node-listed.ensures.node)
+    (go_low list e c.node-listed.ensures.reduced front n c.requires.inner c.requires.node)
 
 pub returns-then-listed-end-clause-less : goal.returns-then-listed-end-clause-less
 returns-then-listed-end-clause-less c =
-    subst (λ (m : Node). m.high < c.args.node) (sym c.node-listed.ensures)
-    (c.atoms-atoms.ensures.reduced.high c.args.node c.requires.inner c.requires.node)
+    subst (λ (m : Node). m.high < c.args.node) (sym c.node-listed.ensures.node)
+    (c.node-listed.ensures.reduced.high c.args.node c.requires.inner c.requires.node)

@@ -1,13 +1,18 @@
-use Rattle.std.proofs.Common.{◌∙◌, ap, ap₂, arith, length, subst, sym}
+use Rattle.std.proofs.Common.{◌∙◌, Ok, Result, ap, ap₂, arith, length, refl, subst, sym}
+use Rattle.std.specs.declared.alloc.AllocError.{AllocError}
 use Rattle.hv_task.specs.State.{state_of}
-use Rattle.hv_task.specs.Strips.{atoms}
+use Rattle.hv_task.specs.Strips.{atoms, start_state}
 use Rattle.hv_task.proofs.Places.{length-state_of}
 use Rattle.hv_sets.specs.Cost.{IsAnswer}
-use Rattle.hv_sets.specs.Query.{IsReady, is_clash}
+use Rattle.hv_sets.specs.Query.{IsReady, action_of, is_clash}
+use Rattle.hv_sets.specs.declared.finding.Finding.{Finding}
+use Rattle.hv_sets.specs.declared.finding.Finding.TheVariants as F
 use Rattle.hv_bdd.specs.Live.{LivePass, NodeTask, TupleSetting}
 use Rattle.hv_bdd.specs.Nodes.{NodeList, in_node, node_count}
 use Rattle.hv_bdd.specs.Working.Search.{TupleSearch}
-use Rattle.hv_bdd.proofs.Queried.{can_search, parts_are}
+use Rattle.hv_bdd.proofs.Alike.{by_marks, fruitless}
+use Rattle.hv_bdd.proofs.Marked.{length-changed_by, length-needed_by}
+use Rattle.hv_bdd.proofs.Queried.{answer_is, can_search, parts_are}
 use Rattle.hv_bdd.proofs.node_inquiry.NodeInquiry.find.Goals as goal
 
 pub new-search-requires-clause-goal : goal.new-search-requires-clause-goal
@@ -26,11 +31,11 @@ new-search-requires-clause-tuples c =
     (parts_are c.self.inside.nodes.now c.self.inside.task.now c.args.query.now
     c.atoms-atoms.ensures.task
     c.self.invariant.0 _ _ _ _ _
-    (c.new-2.ensures ∙ ap₂ state_of c.atoms-atoms.ensures.atoms c.start.ensures.start)
+    (c.new-start.ensures ∙ ap₂ state_of c.atoms-atoms.ensures.atoms c.start.ensures.start)
     (c.new.ensures ∙ ap₂ state_of c.atoms-atoms.ensures.atoms c.goal.ensures.goal)
-    c.needed_by.ensures c.changed_by.ensures
+    c.needed_by-needed.ensures c.changed_by-changed.ensures
     (c.as_slice-operands.ensures.value ∙ c.in_ok-asked.ensures))
-    c.atoms-atoms-2.ensures.reduced
+    c.known_for.ensures.reduced
     (subst (λ (i : NodeTask). IsReady (node_count i.list) c.args.query.now) (sym c.self.view_is)
     c.requires.ready)
 
@@ -48,3 +53,50 @@ returns-clause-answer c =
     (ap (λ (s : TupleSearch). s.setting.list) c.count_root.ensures
     ∙ ap (λ (s : TupleSetting). s.list) c.new-search.ensures.setting)
     c.in_ok-found.ensures.answer)
+
+pub is_fruitless-requires-clause-needed : goal.is_fruitless-requires-clause-needed
+is_fruitless-requires-clause-needed c =
+    let task = c.self.inside.task.now in
+    ap length c.needed_by-needed.ensures
+    ∙ (length-needed_by (atoms task) (action_of task c.args.query.now.action)
+    ∙ sym c.self.invariant.0)
+
+pub is_fruitless-requires-clause-changed : goal.is_fruitless-requires-clause-changed
+is_fruitless-requires-clause-changed c =
+    let task = c.self.inside.task.now in
+    ap length c.changed_by-changed.ensures
+    ∙ (length-changed_by (atoms task) (action_of task c.args.query.now.action)
+    ∙ sym c.self.invariant.0)
+
+pub returns-then-is_fruitless-clause-answer : goal.returns-then-is_fruitless-clause-answer
+returns-then-is_fruitless-clause-answer c =
+    let list = c.self.inside.nodes.now in
+    let task = c.self.inside.task.now in
+    let query = c.args.query.now in
+    let needed = c.needed_by-needed.result in
+    let changed = c.changed_by-changed.result in
+    let asked = c.as_slice-operands.result.now in
+    let state = c.reserve.new.self.state in
+    let start = start_state task in
+    let goal = state_of (atoms task) task.goal in
+    let s : TupleSearch = record {
+      setting = by_marks list start goal needed changed;
+      asked = asked;
+    } in
+    let found : Result Finding AllocError = Ok F.Empty in
+    subst (λ (i : NodeTask). IsAnswer F.Empty (LivePass i.list i.task query c.args.budget)
+    (atoms i.task) (is_clash i.task (in_node i.list) query) state) c.self.view_is
+    (answer_is list task query c.atoms-atoms.ensures.task c.self.invariant.0 s
+    (parts_are list task query c.atoms-atoms.ensures.task c.self.invariant.0 start goal needed
+    changed asked refl refl c.needed_by-needed.ensures c.changed_by-changed.ensures
+    (c.as_slice-operands.ensures.value ∙ c.in_ok-asked.ensures))
+    c.known_for.ensures.reduced
+    (subst (λ (i : NodeTask). IsReady (node_count i.list) query) (sym c.self.view_is)
+    c.requires.ready) found c.args.budget state
+    (fruitless list start goal asked needed changed c.args.budget state c.in_ok-known.known
+    c.in_ok-known.ensures.asked c.in_ok-known.ensures.known
+    (ap length c.needed_by-needed.ensures
+    ∙ (length-needed_by (atoms task) (action_of task query.action) ∙ sym c.self.invariant.0))
+    (ap length c.changed_by-changed.ensures
+    ∙ (length-changed_by (atoms task) (action_of task query.action) ∙ sym c.self.invariant.0))
+    (c.is_fruitless.ensures c.if-is_fruitless.true)))

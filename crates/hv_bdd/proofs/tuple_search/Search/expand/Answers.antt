@@ -7,8 +7,8 @@ use Rattle.hv_bdd.proofs.Explored.{expanded, item_at, items}
 use Rattle.hv_bdd.proofs.Found.{tuple_read}
 use Rattle.hv_bdd.proofs.tuple_search.Search.expand.Goals as goal
 
-pub least-place-requires : goal.least-place-requires
-least-place-requires c =
+pub least-requires : goal.least-requires
+least-requires c =
     tuple_read c.args.self.now c.args.done c.args.reached.now c.requires.explored c.args.done
     c.index-as_slice-done.result c.as_slice-tuple.result.now c.requires.done
     (ap (λ keys. get_or keys c.args.done c.index-as_slice-done.result) (sym c.as_slice.ensures.keys)
@@ -31,8 +31,8 @@ next-requires-2-clause-tuple c =
     ∙ sym c.index-as_slice-done.is)
     c.as_slice-tuple.ensures
 
-pub returns : goal.returns
-returns c =
+pub returns-clause-explored : goal.returns-clause-explored
+returns-clause-explored c =
     let keys = c.args.reached.now.tuples.keys in
     let read = ap (λ keys. get_or keys c.args.done c.index-as_slice-done.result)
     (sym c.as_slice.ensures.keys) ∙ sym c.index-as_slice-done.is in

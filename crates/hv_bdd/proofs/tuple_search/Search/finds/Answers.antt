@@ -1,16 +1,12 @@
-use Rattle.std.proofs.Common.{List, subst, arith}
-use Rattle.std.specs.List.Sorted.{IsStrictlyIncreasing}
-use Rattle.hv_sets.specs.Cubes.{atoms_of}
+use Rattle.std.proofs.Common.{subst, arith}
 use Rattle.hv_sets.specs.declared.finding.Finding.{Finding}
-use Rattle.hv_sets.specs.declared.literal.Literal.{Literal}
 use Rattle.hv_bdd.specs.Working.Graphs.{IsLiveAnswer}
 use Rattle.hv_bdd.proofs.Within.{few_tuples, found_in, none_in}
 use Rattle.hv_bdd.proofs.tuple_search.Search.finds.Goals as goal
 
 pub returns-in-Clash : goal.returns-in-Clash
 returns-in-Clash c =
-    let rises = subst (λ (ls : List Literal). IsStrictlyIncreasing (atoms_of ls))
-    c.as_slice-literals.ensures.items c.as_slice-literals.ensures.rises in
+    let rises = c.requires.rises in
     found_in c.args.self.now c.count-count.ensures.search c.args.node c.args.inside c.args.cube.now
     c.requires.within rises c.requires.cube c.count-count.result c.find.new.state
     (subst (λ (f : Finding). IsLiveAnswer f c.args.self.now.setting c.args.self.now.asked
@@ -18,8 +14,7 @@ returns-in-Clash c =
 
 pub returns-in-Empty : goal.returns-in-Empty
 returns-in-Empty c =
-    let rises = subst (λ (ls : List Literal). IsStrictlyIncreasing (atoms_of ls))
-    c.as_slice-literals.ensures.items c.as_slice-literals.ensures.rises in
+    let rises = c.requires.rises in
     none_in c.args.self.now c.count-count.ensures.search c.args.node c.args.inside c.args.cube.now
     c.requires.within rises c.requires.cube c.count-count.result c.find.new.state
     (subst (λ (f : Finding). IsLiveAnswer f c.args.self.now.setting c.args.self.now.asked
@@ -27,8 +22,7 @@ returns-in-Empty c =
 
 pub returns-in-Over : goal.returns-in-Over
 returns-in-Over c =
-    let rises = subst (λ (ls : List Literal). IsStrictlyIncreasing (atoms_of ls))
-    c.as_slice-literals.ensures.items c.as_slice-literals.ensures.rises in
+    let rises = c.requires.rises in
     let enough = c.count-count.ensures.count in
     absurd (few_tuples c.args.self.now c.count-count.ensures.search c.args.node c.args.inside
     c.args.cube.now c.requires.within rises c.requires.cube c.count-count.result (omega arith)

@@ -5,6 +5,6 @@ use Rattle.hv_bdd.proofs.tuple_search.Search.move_all.Given as goal
 
 abbrev pub invariant-loop-k : goal.invariant-loop-k
 invariant-loop-k l =
-    l.moved.items ++ move_all (moves l.self.setting) l.place l.bit (drop l.k l.self.asked)
+    l.moved.items ++ move_all (moves l.self.setting) l.marks.place l.bit (drop l.k l.self.asked)
     (drop l.k l.tuple)
-    ≡ move_all (moves l.self.setting) l.place l.bit l.self.asked l.tuple
+    ≡ move_all (moves l.self.setting) l.marks.place l.bit l.self.asked l.tuple
