@@ -1,12 +1,18 @@
 -- Why the choices of which the effect turns a literal are enough, where the set is a positive
 -- operand at the other time.
-use Rattle.std.proofs.Common.{◌≡◌, ℕ, zero, suc, ◌*◌, ◌/◌, ◌%◌, ◌<◌, ◌∙◌, ◌⊎◌, Bool, true, false}
+use Rattle.std.proofs.Common.{◌≡◌, ℕ, zero, suc, ◌*◌, ◌/◌, ◌%◌, ◌<◌, ◌≤◌, ◌∙◌, ◌⊎◌, Bool, true}
+use Rattle.std.proofs.Common.{false}
 use Rattle.std.proofs.Common.{not, cond, List, [], ◌∷◌, Option, None, Some, length, slice_get, refl}
-use Rattle.std.proofs.Common.{ap, arith, inl, inr, subst}
+use Rattle.std.proofs.Common.{ap, arith, get_or, inl, inr, subst}
 use Rattle.std.proofs.Math.Nat.{mod-eq_of_lt}
+use Rattle.std.proofs.lemmas.Bool.{cases_lt}
+use Rattle.std.proofs.lemmas.List.{get_or_default}
 use Rattle.std.proofs.lemmas.List.Elements.{All-cons, All-nil}
 use Rattle.std.proofs.lemmas.Option.{slice_get_within}
 use Rattle.std.specs.List.{All, Contains}
+use Rattle.std.specs.List.Sorted.{IsStrictlyIncreasing}
+use Rattle.hv_task.proofs.Rising.{rises_upto}
+use Rattle.hv_task.specs.Working.AtomList.{IsFirstFrom}
 use Rattle.hv_task.specs.Strips.{Strips}
 use Rattle.hv_sets.specs.declared.literal.Literal.{Literal}
 use Rattle.hv_sets.specs.declared.operand.Operand.{Operand}
@@ -15,14 +21,14 @@ use Rattle.hv_sets.specs.Cost.{choices_of, clauses_of}
 use Rattle.hv_sets.specs.Cubes.{SpeakBelow}
 use Rattle.hv_sets.specs.Names.{AsksAbout}
 use Rattle.hv_sets.specs.Truth.{in_clause}
-use Rattle.hv_clauses.specs.Clausal.{clause_at, sizes_of}
+use Rattle.hv_indexes.specs.Places.{clause_at}
+use Rattle.hv_clauses.specs.Clausal.{sizes_of}
 use Rattle.hv_clauses.specs.Working.Choices.{Breaks}
 use Rattle.hv_clauses.specs.Working.Clausal.{clauses_in, late}
 use Rattle.hv_clauses.specs.Working.Found.{IsAskedTwice, IsMetAmong, IsMetBelow}
 use Rattle.hv_clauses.specs.Marks.{known, over}
 use Rattle.hv_clauses.specs.Working.Marks.{Agrees}
-use Rattle.hv_clauses.specs.Working.Occurrences.{turning_sign}
-use Rattle.hv_clauses.specs.Working.Affected.{IsTurnedBy}
+use Rattle.hv_clauses.specs.Working.Affected.{turning_sign, IsTurnedBy}
 use Rattle.hv_clauses.specs.Working.Posed.{ProblemState, choices, formulas, sizes, width}
 use Rattle.hv_clauses.specs.Working.Problem.{FitsChoice}
 use Rattle.hv_clauses.specs.Units.{value_of}
@@ -77,6 +83,41 @@ turned_by effect after l h =
     sign false true false e = absurd cc
     sign false false true e = absurd cc
     sign false false false e = refl
+
+-- a clause of which the effect turns no literal by an atom of either value
+pub all_held : (effect : List ℕ) (after : Bool) (clauses : List (List Literal)) (number : ℕ)
+    → number < length clauses
+    → ((v : Bool) → IsTurnedBy effect v (turning_sign after v) clauses number → ⊥)
+    → All (λ l. value_of effect [] l ≡ Some (not after) → ⊥) (clause_at clauses number)
+all_held effect after clauses number less apart =
+    elim (turned_or effect (not after) (clause_at clauses number)) [
+      | inl all ↦ all
+      | inr some ↦
+          let by = turned_by effect after some.0 some.2 in
+          absurd (apart by.0 (record {
+            atom = some.0.atom;
+            made = by.1;
+            stands = record {
+              among = less;
+              has = subst (λ (s : Bool). Contains (clause_at clauses number)
+                  (record { atom = some.0.atom; positive = s })) by.2 some.1;
+            };
+          }))
+    ]
+
+-- rising numbers, of which one begins a part, have none between a number and what that one is
+pub none_between : (xs : List ℕ) (from at next : ℕ) → IsStrictlyIncreasing xs
+    → IsFirstFrom xs from at → (at < length xs → next ≤ get_or xs at 0)
+    → (n : ℕ) → Contains xs n → from ≤ n → n < next → ⊥
+none_between xs from at next rises first upto n has ahead early =
+    let here = get_or_default xs has.0 0 n has.1 ∙ has.2 in
+    elim (cases_lt has.0 at) [
+      | inl before ↦ let less = first.before has.0 before in omega arith
+      | inr past ↦
+          let within : at < length xs = omega (arith, has.1) in
+          let more = rises_upto xs at has.0 rises past has.1 in
+          let low = upto within in omega arith
+    ]
 
 -- Operands of which all but one are the empty set.
 module _ (task : Strips) (formulas : ℕ → List (List Literal)) (effect : List ℕ) where

@@ -13,7 +13,7 @@ use Rattle.hv_sets.specs.declared.literal.Literal.{Literal}
 use Rattle.hv_sets.specs.Cubes.{Adds, SpeakBelow, atoms_of}
 use Rattle.hv_sets.specs.Truth.{in_clauses, in_cube, in_literal}
 use Rattle.std.specs.List.Sorted.{IsStrictlyIncreasing}
-use Rattle.hv_clauses.specs.Clausal.{clause_at}
+use Rattle.hv_indexes.specs.Places.{clause_at}
 use Rattle.hv_clauses.specs.Marks.{known}
 use Rattle.hv_clauses.specs.Units.{IsSettled, value_of}
 use Rattle.hv_clauses.specs.Working.Closure.{AreForced}
@@ -26,7 +26,7 @@ use Rattle.hv_clauses.proofs.Chasing.{written_or}
 use Rattle.hv_clauses.proofs.Marked.{has_atom-literal, over-nil, value_false}
 use Rattle.hv_clauses.proofs.Rounds.{never}
 use Rattle.hv_clauses.proofs.Trailed.{known-replicate}
-use Rattle.hv_clauses.proofs.Truths.{each_clause}
+use Rattle.hv_indexes.proofs.Truths.{each_clause}
 
 -- a state in a cube agrees with its literals as marks
 pub cube_says : (atoms : ℕ) (cube : List Literal) (state : List Bool) → in_cube cube state ≡ true

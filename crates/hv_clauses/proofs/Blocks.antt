@@ -1,8 +1,19 @@
 -- Numbers in blocks: those that give the same when they are divided by the size of a block.
-use Rattle.std.proofs.Common.{◌≡◌, ℕ, ◌<◌, ◌≤◌, ◌+◌, ◌*◌, ◌/◌, ap, arith}
+use Rattle.std.proofs.Common.{◌≡◌, ℕ, ◌<◌, ◌≤◌, ◌+◌, ◌*◌, ◌/◌, ◌%◌, ◌∙◌, ap, arith}
 use Rattle.std.proofs.Math.Nat.{div-div-eq-div-mul, div-mul-le_self, le-mul_of_pos_right}
-use Rattle.std.proofs.Math.Nat.{lt-div-mul-add}
-use Rattle.std.proofs.lemmas.Nat.{div_below, le-div, mul-le}
+use Rattle.std.proofs.Math.Nat.{lt-div-mul-add, mod-eq-sub-div-mul}
+use Rattle.std.proofs.lemmas.Nat.{div_below, le-div, mod-mul-add, mul-le}
+
+-- a number by what it gives when it is divided, and what is left
+pub div_parts : (n w : ℕ) → n ≡ n / w * w + n % w
+div_parts n w = omega (arith, mod-eq-sub-div-mul n w, div-mul-le_self n w)
+
+-- a greater number in the same block leaves as much more
+pub mod_more : (n w k : ℕ) → n % w + k < w → (n + k) % w ≡ n % w + k
+mod_more n w k less =
+    let split = div_parts n w in
+    let e : n + k ≡ n / w * w + (n % w + k) = omega arith in
+    ap (λ m. m % w) e ∙ mod-mul-add (n / w) w (n % w + k) less
 
 pub below_end : (n w : ℕ) → 0 < w → n < (n / w + 1) * w
 below_end n w some = omega (arith, lt-div-mul-add {a = n} {b = w} some)

@@ -15,10 +15,11 @@ use Rattle.std.specs.Prelude.{slice_get, slice_set}
 use Rattle.hv_sets.specs.declared.literal.Literal.{Literal}
 use Rattle.hv_sets.specs.Cubes.{SpeakBelow, opposite}
 use Rattle.hv_sets.specs.Truth.{in_clause, in_clauses, in_literal}
-use Rattle.hv_clauses.specs.Rows.{IsRow}
-use Rattle.hv_clauses.specs.Working.Signed.{StandsAs}
+use Rattle.hv_indexes.specs.Rows.{IsRow}
+use Rattle.hv_indexes.specs.Signed.{StandsAs}
 use Rattle.hv_clauses.specs.Working.Chase.{AreKept, IsApart, IsFollowed, IsKept}
-use Rattle.hv_clauses.specs.Clausal.{clause_at, AreClauses}
+use Rattle.hv_indexes.specs.Places.{clause_at}
+use Rattle.hv_clauses.specs.Clausal.{AreClauses}
 use Rattle.hv_clauses.specs.Denial.{names_literal}
 use Rattle.hv_clauses.specs.Working.Laws.{names_literal-Decides}
 use Rattle.hv_clauses.specs.Marks.{known, over}

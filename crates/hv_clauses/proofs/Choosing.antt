@@ -17,7 +17,8 @@ use Rattle.hv_sets.specs.declared.operand.Operand.{Operand}
 use Rattle.hv_sets.specs.Cost.{choices_of, clauses_of}
 use Rattle.hv_sets.specs.Query.{in_which}
 use Rattle.hv_sets.specs.Truth.{in_clause, in_clauses, in_literal}
-use Rattle.hv_clauses.specs.Clausal.{clause_at, tests_of, sizes_of}
+use Rattle.hv_indexes.specs.Places.{clause_at}
+use Rattle.hv_clauses.specs.Clausal.{tests_of, sizes_of}
 use Rattle.hv_clauses.specs.Working.Choices.{AreChosenFalse, Breaks}
 use Rattle.hv_clauses.specs.Working.Clausal.{clauses_in, late}
 use Rattle.hv_clauses.specs.Marks.{over}

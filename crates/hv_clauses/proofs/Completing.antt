@@ -12,7 +12,7 @@ use Rattle.hv_clauses.specs.Marks.{filled, known, over}
 use Rattle.hv_clauses.specs.Working.Marks.{Agrees, AllKnown, KeepsKnown, low}
 use Rattle.hv_clauses.proofs.Marked.{agrees_extends, agrees_filled, agrees_low, agrees_over}
 use Rattle.hv_clauses.proofs.Marked.{agrees_write, extends_same, extends_write, length-over}
-use Rattle.hv_clauses.proofs.Mated.{sign_or}
+use Rattle.hv_indexes.proofs.Mated.{sign_or}
 
 -- something is known of an atom, and still is when the marks have grown
 pub stays_known : (old new : List ℕ) (atom : ℕ)

@@ -22,8 +22,7 @@ use Rattle.hv_clauses.specs.Working.Found.{AreRoots, IsMet}
 use Rattle.hv_clauses.specs.Working.Marks.{Agrees}
 use Rattle.hv_clauses.specs.Working.Kinded.{IsKinded}
 use Rattle.hv_clauses.specs.Working.Posed.{InEach, IsPosed, ProblemState, choices, formulas}
-use Rattle.hv_clauses.specs.Working.Posed.{size_in}
-use Rattle.hv_clauses.specs.Working.Posed.{sizes, width}
+use Rattle.hv_clauses.specs.Working.Posed.{size_in, sizes, width}
 use Rattle.hv_clauses.specs.Working.Problem.{AreEachSettled, AreMissed, FitsChoice, MissesAll}
 use Rattle.hv_clauses.specs.Working.Units.{IsConcluded}
 use Rattle.hv_clauses.proofs.Choosing.{breaks_known, chosen_false_extends, some_from_choices}

@@ -1,5 +1,6 @@
 -- Choices that have the clauses of the last negative operands in common.
-use Rattle.std.proofs.Common.{◌≡◌, ℕ, ◌<◌, ◌≤◌, ◌+◌, ◌*◌, ◌/◌, ◌%◌, ◌∙◌, Bool, true, false, List}
+use Rattle.std.proofs.Common.{◌≡◌, ℕ, zero, suc, ◌<◌, ◌≤◌, ◌+◌, ◌*◌, ◌/◌, ◌%◌, ◌∙◌, Bool, true}
+use Rattle.std.proofs.Common.{false, List}
 use Rattle.std.proofs.Common.{[], ◌∷◌, ◌++◌, Some, length, take, drop, slice_get, refl, sym, ap}
 use Rattle.std.proofs.Common.{ap₂, arith, subst, inl, inr}
 use Rattle.std.proofs.Math.Nat.{div-div-eq-div-mul, div-one, mul-div_cancel, mul-one}
@@ -23,8 +24,8 @@ use Rattle.hv_clauses.specs.Working.Posed.{InEach, ProblemState, choices, formul
 use Rattle.hv_clauses.specs.Working.Posed.{sizes, width}
 use Rattle.hv_clauses.specs.Working.Problem.{AreLeft, FitsChoice, IsMissed, MissesClause}
 use Rattle.hv_clauses.specs.Working.Trail.{Grows, Knowledge, marks_of}
-use Rattle.hv_clauses.proofs.Blocks.{below_end, end_few, end_less, end_within, front_is, rest_front}
-use Rattle.hv_clauses.proofs.Blocks.{rest_less}
+use Rattle.hv_clauses.proofs.Blocks.{below_end, div_parts, end_few, end_less, end_within, front_is}
+use Rattle.hv_clauses.proofs.Blocks.{mod_more, rest_front, rest_less}
 use Rattle.hv_clauses.proofs.Choosing.{breaks_known, choices_append, choices_more}
 use Rattle.hv_clauses.proofs.Choosing.{chosen_false_extends, some_from_choices}
 use Rattle.hv_clauses.proofs.Marked.{agrees_extends}
@@ -89,6 +90,11 @@ module _ (p : ProblemState) where
                 (drop (place + 1) p.query.negative) (rest / n) state) (sym size_is) breaks.1;
           },
         )
+
+    -- no state that is in each positive operand misses its clause
+    pub held_never : ((state : List Bool) → InEach p state → MissesClause p o (rest % count) state
+        → ⊥) → IsNever p place rest
+    held_never never state size fits = never state fits.inside (fits_parts state fits).0
 
     module _ (digit : ℕ) (digit_is : digit ≡ rest % count) (old : Knowledge)
         (front : IsFront p (place + 1) (rest / count) old) where
@@ -332,6 +338,37 @@ module _ (p : ProblemState) where
               (subst (λ n. FitsFrom p place n state) (ap (λ b. number / b) (sym part_eq) ∙ at)
               (fits_from p place number state fits))
         ]
+
+    -- the same of several, one after the other
+    open_skip : (rest held : ℕ) → NoneBefore rest
+        → ((k : ℕ) → k < held → IsNever p place (rest + k)) → NoneBefore (rest + held)
+    open_skip rest zero none never = subst NoneBefore (let e : rest ≡ rest + 0 = omega arith in e)
+        none
+    open_skip rest (suc held) none never =
+        subst NoneBefore (let e : rest + held + 1 ≡ rest + suc held = omega arith in e)
+        (open_more (rest + held) (open_skip rest held none (λ k less. never k (omega arith)))
+        (never held (omega arith)))
+
+    -- where so many clauses of the operand are missed by no state that is in each positive operand
+    module _ (rest held : ℕ) (upto : rest % count + held ≤ size_in p o.which) where
+      pub open_held : NoneBefore rest
+          → ((digit : ℕ) → rest % count ≤ digit → digit < rest % count + held
+          → (state : List Bool) → InEach p state → MissesClause p o digit state → ⊥)
+          → NoneBefore (rest + held)
+      open_held none missed = open_skip rest held none (λ k early.
+          let at = mod_more rest count k (omega (arith, upto, early, count_eq)) in
+          held_never p place (rest + k) o here count count_eq (λ state inside misses.
+          missed (rest % count + k) (omega arith) (omega (arith, early)) state inside
+          (subst (λ n. MissesClause p o n state) at misses)))
+
+      pub held_within : next / part ≤ rest → rest < (next / part / count + 1) * count
+          → rest + held ≤ (next / part / count + 1) * count
+      held_within ahead within =
+          let same = rest_front next part count open_part open_count rest ahead within in
+          let split = div_parts rest count in
+          let whole : rest / count * count ≡ next / part / count * count =
+          ap (λ n. n * count) same in
+          omega (arith, upto, count_eq, split, whole)
 
     pub open_advanced : (rest found : ℕ) (k : Knowledge) → next ≤ found → found / part ≡ rest
         → rest < (next / part / count + 1) * count

@@ -8,13 +8,14 @@ use Rattle.std.specs.List.{Contains}
 use Rattle.hv_task.specs.State.{AreBelow, has_atom, state_of}
 use Rattle.hv_sets.specs.declared.literal.Literal.{Literal}
 use Rattle.hv_sets.specs.Truth.{in_clause, in_clauses}
-use Rattle.hv_clauses.specs.Clausal.{AreClauses, clause_at}
-use Rattle.hv_clauses.specs.Mates.{ArePositive}
-use Rattle.hv_clauses.specs.Rows.{IsRow}
-use Rattle.hv_clauses.specs.Working.Mates.{AreTried}
-use Rattle.hv_clauses.specs.Working.Signed.{StandsAs}
-use Rattle.hv_clauses.proofs.Mated.{is_held, push_inside, sign_or, true_as}
-use Rattle.hv_clauses.proofs.Truths.{clause_has, clauses_by, one_false}
+use Rattle.hv_clauses.specs.Clausal.{AreClauses}
+use Rattle.hv_indexes.specs.Places.{clause_at}
+use Rattle.hv_clauses.specs.Positive.{ArePositive}
+use Rattle.hv_indexes.specs.Rows.{IsRow}
+use Rattle.hv_indexes.specs.Mates.{AreTried}
+use Rattle.hv_indexes.specs.Signed.{StandsAs}
+use Rattle.hv_indexes.proofs.Mated.{is_held, push_inside, sign_or, true_as}
+use Rattle.hv_indexes.proofs.Truths.{clause_has, clauses_by, one_false}
 
 module _ (clauses : List (List Literal)) (place : ℕ) (less : place < length clauses)
     (old : List ℕ) (is : ArePositive clauses place old) where

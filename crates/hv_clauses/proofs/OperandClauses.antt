@@ -22,7 +22,8 @@ use Rattle.hv_sets.specs.Cost.{clauses_of}
 use Rattle.hv_sets.specs.Cubes.{SpeakBelow}
 use Rattle.hv_sets.specs.Query.{in_which}
 use Rattle.hv_sets.specs.Truth.{in_clause, in_clauses, is_same}
-use Rattle.hv_clauses.specs.Clausal.{clause_at, AreClauses, tests_of, sizes_of}
+use Rattle.hv_indexes.specs.Places.{clause_at}
+use Rattle.hv_clauses.specs.Clausal.{AreClauses, tests_of, sizes_of}
 use Rattle.hv_clauses.specs.Working.Clausal.{clauses_in, clauses_of_state, unit}
 use Rattle.hv_clauses.specs.Marks.{over}
 use Rattle.hv_clauses.proofs.Marked.{length-over}

@@ -7,7 +7,8 @@ use Rattle.hv_sets.specs.declared.literal.Literal.{Literal}
 use Rattle.hv_sets.specs.declared.operand.Operand.{Operand}
 use Rattle.hv_sets.specs.Cost.{clauses_of}
 use Rattle.hv_sets.specs.Truth.{in_clause}
-use Rattle.hv_clauses.specs.Clausal.{clause_at, sizes_of}
+use Rattle.hv_indexes.specs.Places.{clause_at}
+use Rattle.hv_clauses.specs.Clausal.{sizes_of}
 use Rattle.hv_clauses.specs.Working.Choices.{AreChosenFalse, Breaks}
 use Rattle.hv_clauses.specs.Working.Clausal.{clauses_in, late}
 use Rattle.hv_clauses.specs.Marks.{over}

@@ -1,41 +1,18 @@
 -- The walk over the clauses of a formula in another order.
-use Rattle.std.proofs.Common.{◌≡◌, ◌∙◌, ◌+◌, ◌<◌, ◌++◌, ◌&&◌, ◌||◌, ◌↔◌, ℕ, zero, suc, Bool}
+use Rattle.std.proofs.Common.{◌≡◌, ◌∙◌, ◌+◌, ◌<◌, ◌&&◌, ◌||◌, ℕ, zero, suc, Bool}
 use Rattle.std.proofs.Common.{true, false, not, List, [], ◌∷◌, length, drop, get_or}
-use Rattle.std.proofs.Common.{refl, sym, ap, ap₂, arith, inl, inr}
-use Rattle.std.proofs.lemmas.Bool.{cases_lt}
+use Rattle.std.proofs.Common.{refl, sym, ap, ap₂, arith}
 use Rattle.std.proofs.lemmas.List.{drop_more, get_or-map, length-map}
-use Rattle.std.proofs.lemmas.List.Elements.{Contains-append_left, Contains-push}
-use Rattle.std.proofs.lemmas.List.Elements.{Contains-push_cases}
 use Rattle.std.specs.List.{Contains}
 use Rattle.hv_sets.specs.declared.literal.Literal.{Literal}
 use Rattle.hv_sets.specs.Truth.{in_clause, in_clauses, in_cube}
 use Rattle.hv_sets.specs.Walks.{in_cubes}
-use Rattle.hv_clauses.specs.Clausal.{clause_at}
+use Rattle.hv_indexes.specs.Places.{clause_at}
 use Rattle.hv_paths.specs.Along.{LeavesRest}
-use Rattle.hv_clauses.specs.Walked.{OrdersUpto, opposed_in, opposed, place_in}
-use Rattle.hv_clauses.proofs.Truths.{each_clause}
+use Rattle.hv_indexes.specs.Orders.{OrdersUpto, place_in}
+use Rattle.hv_clauses.specs.Walked.{opposed_in, opposed}
+use Rattle.hv_indexes.proofs.Truths.{each_clause}
 use Rattle.hv_clauses.proofs.Walked.{opposed_is}
-
-pub orders_same : (upto : ℕ) (old new : List ℕ) → ((c : ℕ) → Contains new c ↔ Contains old c)
-    → OrdersUpto upto old → OrdersUpto upto new
-orders_same upto old new same is = record {
-  only = λ c has. is.only c ((same c).0 has);
-  each = λ p less. let w = is.each p less in (w.0, (same (w.0)).1 (w.1), w.2);
-}
-
-pub orders_more : (upto code : ℕ) (order : List ℕ) → place_in code ≡ upto → OrdersUpto upto order
-    → OrdersUpto (upto + 1) (order ++ code ∷ [])
-orders_more upto code order at is = record {
-  only = λ c has. elim (Contains-push_cases order code c has) [
-    | inl old ↦ let less = is.only c old in omega (arith, less)
-    | inr same ↦ let e = ap place_in same in omega (arith, e, at)
-  ];
-  each = λ p less. elim (cases_lt p upto) [
-    | inl before ↦ let w = is.each p before in
-        (w.0, Contains-append_left order (code ∷ []) (w.0) (w.1), w.2)
-    | inr late ↦ (code, Contains-push order code, omega (arith, at, late, less))
-  ];
-}
 
 module _ (s : List Bool) where
   first_false : (clauses : List (List Literal)) → in_clauses clauses s ≡ false

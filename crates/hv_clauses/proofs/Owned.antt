@@ -11,20 +11,20 @@ use Rattle.hv_sets.specs.declared.operand.Operand.{Operand}
 use Rattle.hv_sets.specs.declared.operand.Which.{Which}
 use Rattle.hv_sets.specs.declared.operand.Which.TheVariants as W
 use Rattle.hv_sets.specs.Cubes.{opposite}
-use Rattle.hv_clauses.specs.declared.occurrences.SignedOccurrences.{SignedOccurrences}
+use Rattle.hv_indexes.specs.declared.occurrences.SignedOccurrences.{SignedOccurrences}
 use Rattle.hv_clauses.specs.declared.literal_owners.SignedOwners.{SignedOwners}
-use Rattle.hv_clauses.specs.declared.rows.RowHead.{RowHead}
+use Rattle.hv_indexes.specs.declared.rows.RowHead.{RowHead}
 use Rattle.hv_clauses.specs.Working.Clausal.{late}
-use Rattle.hv_clauses.specs.Working.Occurrences.{AreOccurrences}
+use Rattle.hv_indexes.specs.Occurrences.{AreOccurrences}
 use Rattle.hv_clauses.specs.Working.Owners.{AreSignedOwners, Gains, HasLiteral, IsCodeOfHead}
 use Rattle.hv_clauses.specs.Working.Owners.{ListsUpto, Owns, PutsOwner}
 use Rattle.hv_clauses.specs.Working.Posed.{ProblemState, formulas}
 use Rattle.hv_clauses.specs.Working.Problem.{AreLeft, IsLeft, IsLeftOf}
-use Rattle.hv_clauses.specs.Working.Rows.{AreCoded, IsPartOf, code, key_of, place_of_code}
-use Rattle.hv_clauses.specs.Working.Signed.{StandsAs}
+use Rattle.hv_indexes.specs.Rows.{AreCoded, IsPartOf, code, key_of, place_of_code}
+use Rattle.hv_indexes.specs.Signed.{StandsAs}
 use Rattle.hv_clauses.specs.Working.Trail.{Knowledge}
 use Rattle.hv_clauses.proofs.Chasing.{kept_beyond}
-use Rattle.hv_clauses.proofs.Keyed.{code_is, key_of-code, row_from}
+use Rattle.hv_indexes.proofs.Keyed.{code_is, key_of-code, row_from}
 
 -- each atom that stands somewhere with this sign has a head
 pub head_of : (sign : Bool) (clauses : List (List Literal)) (signed : SignedOccurrences)

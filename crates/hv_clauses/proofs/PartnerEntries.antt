@@ -11,8 +11,8 @@ use Rattle.hv_sets.specs.declared.literal.Literal.{Literal}
 use Rattle.hv_sets.specs.Cubes.{SpeakBelow, opposite}
 use Rattle.hv_sets.specs.Truth.{in_clause, in_clauses, in_literal}
 use Rattle.hv_clauses.specs.Working.Chase.{AreKept, IsFollowed, IsKept}
-use Rattle.hv_clauses.specs.Clausal.{clause_at}
-use Rattle.hv_clauses.specs.Implied.{IsPair}
+use Rattle.hv_indexes.specs.Places.{clause_at}
+use Rattle.hv_indexes.specs.Implied.{IsPair}
 use Rattle.hv_clauses.specs.Marks.{known, over}
 use Rattle.hv_clauses.specs.Working.Marks.{Agrees, mark_for}
 use Rattle.hv_clauses.specs.Working.Trail.{Grows, Knowledge, marks_of, written}

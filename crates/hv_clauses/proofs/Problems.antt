@@ -13,7 +13,8 @@ use Rattle.hv_sets.specs.declared.operand.Which.TheVariants as W
 use Rattle.hv_sets.specs.Query.{in_which}
 use Rattle.hv_sets.specs.Truth.{in_clause, in_literal, is_same}
 use Rattle.hv_clauses.specs.Working.Chase.{AreKept, IsFollowed}
-use Rattle.hv_clauses.specs.Clausal.{clause_at, tests_of}
+use Rattle.hv_indexes.specs.Places.{clause_at}
+use Rattle.hv_clauses.specs.Clausal.{tests_of}
 use Rattle.hv_clauses.specs.Working.Clausal.{clauses_in, clauses_of_state, late}
 use Rattle.hv_clauses.specs.Kinded.{IsShort}
 use Rattle.hv_clauses.specs.Marks.{over}
@@ -23,8 +24,7 @@ use Rattle.hv_clauses.specs.Working.Problem.{AreEachSettled, AreLeft, InOne, IsL
 use Rattle.hv_clauses.specs.Working.Trail.{Grows, Knowledge, marks_of}
 use Rattle.hv_clauses.specs.Units.{IsSettled, value_of}
 use Rattle.hv_clauses.specs.Working.Units.{AreSettled, IsConcluded}
-use Rattle.hv_clauses.proofs.Chasing.{followed_then, kept_grown, settled_end}
-use Rattle.hv_clauses.proofs.Chasing.{true_at}
+use Rattle.hv_clauses.proofs.Chasing.{followed_then, kept_grown, settled_end, true_at}
 use Rattle.hv_clauses.proofs.Kinded.{constants_kind}
 use Rattle.hv_clauses.proofs.Marked.{extends_same, value_extends}
 use Rattle.hv_clauses.proofs.OperandClauses.{clause_of_state_at, length-clauses_of_state}

@@ -20,7 +20,8 @@ use Rattle.hv_sets.specs.Cost.{clauses_of}
 use Rattle.hv_sets.specs.Names.{AsksAbout}
 use Rattle.hv_sets.specs.Query.{in_which}
 use Rattle.hv_sets.specs.Truth.{in_clause, in_clauses, in_literal}
-use Rattle.hv_clauses.specs.Clausal.{clause_at, AreClauses, tests_of, sizes_of}
+use Rattle.hv_indexes.specs.Places.{clause_at}
+use Rattle.hv_clauses.specs.Clausal.{AreClauses, tests_of, sizes_of}
 use Rattle.hv_clauses.specs.Working.Choices.{Breaks}
 use Rattle.hv_clauses.specs.Working.Clausal.{InAll, clauses_in, late}
 use Rattle.hv_clauses.specs.Marks.{known, over}

@@ -10,12 +10,12 @@ use Rattle.hv_sets.specs.declared.literal.Literal.{Literal}
 use Rattle.hv_sets.specs.Truth.{in_clause, in_clauses, in_literal}
 use Rattle.hv_paths.specs.Along.{IsBarren}
 use Rattle.hv_clauses.specs.declared.arranged.Arranged.{Arranged}
-use Rattle.hv_clauses.specs.Clausal.{clause_at}
+use Rattle.hv_indexes.specs.Places.{clause_at}
 use Rattle.hv_clauses.specs.Rest.{AreTrueAlong, AreTrueUpto, IsArranged}
 use Rattle.hv_clauses.specs.Working.Rest.{AreTrueFrom, IsMade, KeepsUpto}
-use Rattle.hv_clauses.specs.Rows.{IsRow}
-use Rattle.hv_clauses.specs.Working.Signed.{StandsAs}
-use Rattle.hv_clauses.proofs.Truths.{clause_has, clauses_by, push_front, push_last}
+use Rattle.hv_indexes.specs.Rows.{IsRow}
+use Rattle.hv_indexes.specs.Signed.{StandsAs}
+use Rattle.hv_indexes.proofs.Truths.{clause_has, clauses_by, push_front, push_last}
 
 -- A clause goes to the first place behind those that are told of, and the one that stood there
 -- takes

@@ -11,8 +11,7 @@ use Rattle.hv_clauses.specs.Clausal.{tests_of}
 use Rattle.hv_clauses.specs.Working.Clausal.{late}
 use Rattle.hv_clauses.specs.Working.Found.{IsFound, IsMetBelow}
 use Rattle.hv_clauses.specs.Marks.{over}
-use Rattle.hv_clauses.specs.Working.Posed.{IsPosed, ProblemState, choices, formulas}
-use Rattle.hv_clauses.specs.Working.Posed.{sizes, width}
+use Rattle.hv_clauses.specs.Working.Posed.{IsPosed, ProblemState, choices, formulas, sizes, width}
 use Rattle.hv_clauses.specs.Working.Problem.{FitsChoice}
 use Rattle.std.proofs.lemmas.Bool.{and_from, and_parts}
 use Rattle.hv_clauses.proofs.Choosing.{choose, chosen, some_from_choices}

@@ -22,8 +22,9 @@ use Rattle.hv_sets.proofs.Cubes.{atom_at}
 use Rattle.hv_clauses.specs.Marks.{known, mark_of}
 use Rattle.hv_clauses.specs.Working.Marks.{mark_for, unknown_in}
 use Rattle.hv_clauses.proofs.Marked.{known_past}
-use Rattle.hv_clauses.specs.Working.Trail.{AreJoined, Knowledge, literal_of, marked, marks_of}
+use Rattle.hv_clauses.specs.Working.Trail.{AreJoined, Knowledge, marked, marks_of}
 use Rattle.hv_clauses.specs.Working.Trail.{trail_of, written}
+use Rattle.hv_indexes.specs.Occurrences.{literal_of}
 
 pub length-written : (ls : List Literal) (m : List ℕ) → length (written ls m) ≡ length m
 length-written [] m = refl

@@ -14,7 +14,7 @@ use Rattle.hv_sets.specs.Truth.{in_clauses}
 use Rattle.hv_clauses.specs.Working.Roots.{AreSettledBut, put_unless, untouched}
 use Rattle.hv_clauses.specs.Working.Chase.{AreKept, IsFollowed, IsKept}
 use Rattle.hv_clauses.specs.Working.Closure.{AreForced, AreNever}
-use Rattle.hv_clauses.specs.Clausal.{clause_at}
+use Rattle.hv_indexes.specs.Places.{clause_at}
 use Rattle.hv_clauses.specs.Marks.{known, over}
 use Rattle.hv_clauses.specs.Working.Marks.{Agrees, mark_for}
 use Rattle.hv_clauses.specs.Working.Trail.{Knowledge, marked, written}

@@ -11,8 +11,9 @@ use Rattle.std.specs.List.{Contains}
 use Rattle.hv_sets.specs.declared.literal.Literal.{Literal}
 use Rattle.hv_sets.specs.Cubes.{SpeakBelow}
 use Rattle.hv_sets.specs.Truth.{in_clause, in_cube, in_literal}
-use Rattle.hv_clauses.proofs.Truths.{opposite_is}
-use Rattle.hv_clauses.specs.Walked.{OrdersUpto, opposed, place_in}
+use Rattle.hv_indexes.proofs.Truths.{opposite_is}
+use Rattle.hv_indexes.specs.Orders.{OrdersUpto, place_in}
+use Rattle.hv_clauses.specs.Walked.{opposed}
 use Rattle.hv_clauses.specs.Working.Walked.{denial_for, denied_along}
 
 pub opposed_is : (clause : List Literal) (s : List Bool) → in_cube (opposed clause) s ≡ not

@@ -1,5 +1,5 @@
 -- Sets of states given by clauses, and stores of them.
-use Rattle.std.specs.Prelude.{ℕ, Bool, List, length, [], slice_index_or}
+use Rattle.std.specs.Prelude.{ℕ, Bool, List, length}
 use Rattle.std.specs.List.{All}
 use Rattle.hv_task.specs.Strips.{atoms}
 use Rattle.hv_sets.specs.declared.literal.Literal.{Literal}
@@ -28,7 +28,3 @@ tests_of formulas number state = in_clauses (formulas number) state
 -- how many clauses each set of the store has, by number
 abbrev pub sizes_of : (ℕ → List (List Literal)) → ℕ → ℕ
 sizes_of formulas number = length (formulas number)
-
--- the clause at this place
-abbrev pub clause_at : List (List Literal) → ℕ → List Literal
-clause_at clauses place = slice_index_or clauses place []

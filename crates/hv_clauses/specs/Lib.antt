@@ -1,12 +1,10 @@
 pub mod Clausal
 pub mod Denial
-pub mod Implied
 pub mod Kinded
 pub mod Marks
-pub mod Mates
 pub mod Negative
+pub mod Positive
 pub mod Rest
-pub mod Rows
 pub mod Store
 pub mod Units
 pub mod Walked

@@ -4,7 +4,7 @@ use Rattle.std.specs.Prelude.{slice_index_or}
 use Rattle.hv_sets.specs.declared.literal.Literal.{Literal}
 use Rattle.hv_sets.specs.Truth.{in_clause, in_cube}
 use Rattle.hv_clauses.specs.declared.arranged.Arranged.{Arranged}
-use Rattle.hv_clauses.specs.Clausal.{clause_at}
+use Rattle.hv_indexes.specs.Places.{clause_at}
 
 -- each of so many places is in the order, where its own entry says
 pub record IsArranged (count : ℕ) (arranged : Arranged) : Type 0 where

@@ -1,18 +1,9 @@
 -- The walk over the clauses of a formula.
-use Rattle.std.specs.Prelude.{◌≡◌, ◌<◌, ◌%◌, ℕ, List, map}
-use Rattle.std.specs.List.{Contains}
+use Rattle.std.specs.Prelude.{ℕ, List, map}
 use Rattle.hv_sets.specs.declared.literal.Literal.{Literal}
 use Rattle.hv_sets.specs.Cubes.{opposite}
-use Rattle.hv_clauses.specs.Clausal.{clause_at}
-
--- the place for which a code stands
-abbrev pub place_in : ℕ → ℕ
-place_in c = c % 268435456
-
--- the codes denote places below this number, and for each of these
-pub record OrdersUpto (upto : ℕ) (codes : List ℕ) : Type 0 where
-  pub only : (c : ℕ) → Contains codes c → place_in c < upto
-  pub each : (p : ℕ) → p < upto → (c : ℕ) × Contains codes c × (place_in c ≡ p)
+use Rattle.hv_indexes.specs.Places.{clause_at}
+use Rattle.hv_indexes.specs.Orders.{place_in}
 
 -- the opposites of the literals, in their order
 abbrev pub opposed : List Literal → List Literal

@@ -13,13 +13,9 @@ pub mod Overwriting
 pub mod Laws
 pub mod Kinded
 pub mod Trail
-pub mod Occurrences
 pub mod Chase
 pub mod Closure
 pub mod Start
-pub mod Rows
-pub mod Signed
-pub mod Implied
 pub mod Lists
 pub mod Roots
 pub mod Front
@@ -28,6 +24,5 @@ pub mod Buffers
 pub mod Asking
 pub mod Walked
 pub mod Rest
-pub mod Mates
 pub mod Owners
 pub mod UnitRounds

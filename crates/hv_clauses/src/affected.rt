@@ -17,22 +17,21 @@ ghost use Rattle.std.specs.List.{Contains};
 ghost use Rattle.std.specs.List.Sorted.{IsStrictlyIncreasing};
 ghost use Rattle.hv_clauses.specs.Working.Found.{AreFollowedRoots, IsAskedTwice, IsMet, IsMetAmong};
 ghost use Rattle.hv_clauses.specs.Working.Found.{IsMetBelow};
-ghost use Rattle.hv_clauses.specs.Working.Occurrences.{AreStanding, IsIndexOf, entry_or_none};
-ghost use Rattle.hv_clauses.specs.Working.Occurrences.{no_literal};
-ghost use Rattle.hv_clauses.specs.Working.Occurrences.{turning_sign};
+ghost use Rattle.hv_indexes.specs.Occurrences.{AreStanding, IsIndexOf, entry_or_none, no_literal};
+ghost use Rattle.hv_indexes.specs.Occurrences.{literal_of};
+ghost use Rattle.hv_clauses.specs.Working.Affected.{turning_sign, HasTrue, IsAffected, IsTurnedBy};
 ghost use Rattle.hv_clauses.specs.Working.Posed.{choices, formulas, width};
 ghost use Rattle.hv_clauses.specs.Working.Problem.{FitsChoice};
-ghost use Rattle.hv_clauses.specs.Clausal.{clause_at};
-ghost use Rattle.hv_clauses.specs.Working.Affected.{HasTrue, IsAffected, IsTurnedBy};
-ghost use Rattle.hv_clauses.specs.Working.Trail.{literal_of, marks_of};
+ghost use Rattle.hv_indexes.specs.Places.{clause_at};
+ghost use Rattle.hv_clauses.specs.Working.Trail.{marks_of};
 ghost use Rattle.hv_clauses.specs.Units.{value_of};
 
 use crate::clause_kind::ClauseKind;
 use crate::effect::ActionEffect;
-use crate::occurrences::{Occurrences, Standing};
 use crate::problem::Problem;
 use crate::trail::Assignment;
-use crate::{find, literals, partners};
+use crate::{find, literals};
+use hv_indexes::{Occurrences, Standing, partners};
 use hv_sets::{Clauses, Literal, Operand, Which};
 use hv_task::State;
 
@@ -114,7 +113,7 @@ fn try_value<K: ClauseKind>(
 
 // The sign of the literals that are turned against an operand where their atoms are made this
 // value: false, if the operand is asked about after the action, and else true.
-fn turning_sign(after: bool, value: bool) -> bool
+pub(crate) fn turning_sign(after: bool, value: bool) -> bool
     ensures { result ≡ turning_sign after value }
 {
     value != after

@@ -9,29 +9,33 @@
 //!
 //! Of many positive operands only those are gone through that have the literal that became false
 //! (`literal_owners`). From 16 operands on it is counted how many literals they have, each once in
-//! each. Once all operands were gone through for four times as many literals of the trail as an
-//! operand has on average, or where there are so many choices that this is to be expected, the
-//! places of the operands that have each literal are listed for this query, by rising atoms; so a
-//! query costs no more than some multiple of what its operands have. The lists may have places too
-//! many, and are read as such. `find` takes memory for them, some 30 bytes a literal at most; where
-//! there is none, and in `find_in`, all operands are gone through.
+//! each. Once all operands were gone through for half as many literals of the trail as an operand
+//! has on average, or for one, which costs what the lists do, or where there are so many choices
+//! that this is to be expected, the places of the operands that have each literal are listed for this query, by
+//! rising atoms; so a query costs no more than some multiple of what its operands have. The lists
+//! may have places too many, and are read as such. `find` takes memory for them, some 30 bytes a
+//! literal at most; where there is none, and in `find_in`, all operands are gone through.
 
-ghost use Rattle.std.specs.Prelude.{◌≡◌, ◌<◌, ◌+◌, ℕ, Some, false, true, length, slice_index};
+ghost use Rattle.std.specs.Prelude.{◌≡◌, ◌<◌, ◌+◌, ℕ, List, Some, false, true, length};
+ghost use Rattle.std.specs.Prelude.{slice_index};
 ghost use Rattle.std.specs.List.{Contains};
+ghost use Rattle.hv_sets.specs.declared.literal.Literal.{Literal as LiteralOf};
 ghost use Rattle.hv_sets.specs.Cubes.{SpeakBelow};
 ghost use Rattle.hv_sets.specs.Truth.{in_clause, in_clauses};
 ghost use Rattle.hv_clauses.specs.Working.Chase.{AreKept, IsFollowed, IsKept};
-ghost use Rattle.hv_clauses.specs.Clausal.{clause_at, AreClauses};
+ghost use Rattle.hv_indexes.specs.Places.{clause_at};
+ghost use Rattle.hv_clauses.specs.Clausal.{AreClauses};
 ghost use Rattle.hv_clauses.specs.Marks.{over};
-ghost use Rattle.hv_clauses.specs.Working.Occurrences.{AreStanding, IsIndexOf};
+ghost use Rattle.hv_indexes.specs.Occurrences.{AreStanding, IsIndexOf};
+ghost use Rattle.hv_indexes.specs.Signed.{StandsAs};
 ghost use Rattle.hv_clauses.specs.Working.Trail.{marks_of};
 ghost use Rattle.hv_clauses.specs.Units.{IsSettled, value_of};
 
 use crate::effect::ActionEffect;
-use crate::occurrences::{Occurrences, Standing};
 use crate::trail::Assignment;
 use crate::watched::Scan;
-use crate::{literals, partners, watched};
+use crate::{literals, watched};
+use hv_indexes::{Occurrences, Standing, partners};
 use hv_sets::{Clauses, Literal};
 
 // Puts on the trail what the clause at this place says next. The answer is false if the clause is
@@ -101,12 +105,35 @@ pub(crate) fn visit(
         atom: literal.atom,
         positive: !literal.positive,
     };
+    if stands_nowhere(occurs, own.positive) {
+        return true;
+    }
     // Something is known of its atom. Where the effect makes it true, so are its clauses.
     if literals::value(effect, marks, own) != Some(false) {
         return true;
     }
     let standing = occurs.standing(own);
     visit_all(clauses, &standing, effect, marks)
+}
+
+// Whether no clause has a literal of this sign, as no clause of exclusions has a positive one.
+#[inline(always)]
+fn stands_nowhere(occurs: &Occurrences, sign: bool) -> bool
+    ensures { result ≡ true → (clauses : List (List LiteralOf)) → IsIndexOf clauses occurs.now
+        → (atom number : ℕ) → StandsAs sign clauses atom number → ⊥ }
+{
+    occurs.signed(sign).places.is_empty()
+}
+
+// How many clauses are looked at where this literal is followed up, and one more.
+pub(crate) fn weight(occurs: &Occurrences, literal: Literal) -> usize
+    requires { (clauses : List (List LiteralOf)) × IsIndexOf clauses occurs.now }
+{
+    let own = Literal {
+        atom: literal.atom,
+        positive: !literal.positive,
+    };
+    occurs.standing(own).places.len().saturating_add(1)
 }
 
 // Looks again at each clause that has a literal that was found false.

@@ -6,13 +6,13 @@ ghost use Rattle.std.specs.Prelude.{IfOk};
 ghost use Rattle.hv_sets.specs.Cubes.{SpeakBelow};
 ghost use Rattle.hv_sets.specs.Walks.{in_cubes, IsStateOf};
 ghost use Rattle.hv_clauses.specs.Clausal.{in_formula};
-ghost use Rattle.hv_clauses.specs.Walked.{OrdersUpto, opposed_in, place_in};
+ghost use Rattle.hv_indexes.specs.Orders.{OrdersUpto, place_in};
+ghost use Rattle.hv_clauses.specs.Walked.{opposed_in};
 ghost use Rattle.hv_clauses.specs.Working.Walked.{denial_for, denied_along};
 
 use crate::clause_kind::ClauseKind;
 use crate::formula::Formula;
-use crate::ranking;
-use crate::ranking::LiteralOrder;
+use hv_indexes::{LiteralOrder, ranking};
 use hv_paths::{WalkStop, Walker};
 use hv_sets::Literal;
 use std::alloc::{AllocError, Global};

@@ -5,15 +5,15 @@ ghost use Rattle.hv_sets.specs.Truth.{in_clauses};
 ghost use Rattle.hv_clauses.specs.Working.Chase.{AreKept, IsFollowed};
 ghost use Rattle.hv_clauses.specs.Clausal.{AreClauses};
 ghost use Rattle.hv_clauses.specs.Marks.{over};
-ghost use Rattle.hv_clauses.specs.Working.Occurrences.{IsIndexOf};
+ghost use Rattle.hv_indexes.specs.Occurrences.{IsIndexOf};
 ghost use Rattle.hv_clauses.specs.Working.Trail.{Grows, Knowledge, marks_of};
 ghost use Rattle.hv_clauses.specs.Working.Units.{AreSettled};
 
 use crate::chase;
 use crate::effect::ActionEffect;
-use crate::occurrences::Occurrences;
 use crate::trail::Assignment;
-use hv_sets::Clauses;
+use hv_indexes::Occurrences;
+use hv_sets::{Clauses, Literal};
 
 // A condition on states of which can be told what follows from what was found out last.
 pub(crate) trait Constraint {
@@ -37,6 +37,10 @@ pub(crate) trait Constraint {
         requires left { left self.now marks.old from }
         ensures followed { IsFollowed (admits self.now) marks.old marks.new result }
         ensures left { result ≡ true → left self.now marks.new (from + 1) };
+
+    // About how many clauses are looked at where a literal of the trail is followed up.
+    fn weight(&self, literal: Literal) -> usize
+        requires { (atoms : ℕ) × is_over self.now atoms };
 
     // What it means that it tells nothing more than what comes from a place on.
     fn laws(&self)
@@ -66,6 +70,10 @@ impl Constraint for BareClauses<'_> {
     fn visit(&self, marks: &mut Assignment<'_>, from: usize) -> bool {
         let none = ActionEffect::none();
         chase::visit(self.clauses, self.occurs, &none, marks, from)
+    }
+
+    fn weight(&self, literal: Literal) -> usize {
+        chase::weight(self.occurs, literal)
     }
 
     fn laws(&self) {}

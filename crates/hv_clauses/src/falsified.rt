@@ -14,16 +14,17 @@ ghost use Rattle.hv_sets.specs.Truth.{in_clauses};
 ghost use Rattle.hv_clauses.specs.Working.Roots.{AreSettledBut};
 ghost use Rattle.hv_clauses.specs.Working.Chase.{AreKept, IsFollowed, IsKept};
 ghost use Rattle.hv_clauses.specs.Working.Closure.{AreForced};
-ghost use Rattle.hv_clauses.specs.Clausal.{clause_at, AreClauses};
+ghost use Rattle.hv_indexes.specs.Places.{clause_at};
+ghost use Rattle.hv_clauses.specs.Clausal.{AreClauses};
 ghost use Rattle.hv_clauses.specs.Marks.{known, over};
-ghost use Rattle.hv_clauses.specs.Working.Occurrences.{IsIndexOf};
-ghost use Rattle.hv_clauses.specs.Working.Signed.{StandsAs};
+ghost use Rattle.hv_indexes.specs.Occurrences.{IsIndexOf};
+ghost use Rattle.hv_indexes.specs.Signed.{StandsAs};
 ghost use Rattle.hv_clauses.specs.Working.Trail.{marked};
 
 use crate::effect::ActionEffect;
-use crate::occurrences::{Occurrences, Standing};
 use crate::trail::Assignment;
 use crate::{chase, roots};
+use hv_indexes::{Occurrences, Standing};
 use hv_sets::{Clauses, Literal};
 
 // Looks at each clause of which the effect makes a literal false, where beside what was known

@@ -3,7 +3,7 @@
 //! Nothing is put in order for it: the clauses without a negative literal are tried, and those with
 //! the negative literal of an atom that the state holds. Under one atom these may be many, so this
 //! serves for the first states alone, until so many clauses were tried that it had cost less to
-//! put them in order (`mates`).
+//! put them in order (`mates` of hv_indexes).
 
 ghost use Rattle.std.specs.Prelude.{◌≡◌, ◌<◌, ◌≤◌, ◌+◌, ℕ, IfOk, OnOk, length, slice_index};
 ghost use Rattle.std.specs.Prelude.{true, false};
@@ -11,15 +11,15 @@ ghost use Rattle.std.specs.List.{Contains};
 ghost use Rattle.hv_task.specs.State.{AreBelow, state_of};
 ghost use Rattle.hv_sets.specs.declared.literal.Literal.{Literal as LiteralOf};
 ghost use Rattle.hv_sets.specs.Truth.{in_clause, in_clauses};
-ghost use Rattle.hv_clauses.specs.Clausal.{AreClauses, clause_at};
-ghost use Rattle.hv_clauses.specs.Mates.{ArePositive};
-ghost use Rattle.hv_clauses.specs.Working.Mates.{AreTried};
-ghost use Rattle.hv_clauses.specs.Working.Occurrences.{AreStanding, IsIndexOf};
-ghost use Rattle.hv_clauses.specs.Working.Signed.{StandsAs};
+ghost use Rattle.hv_clauses.specs.Clausal.{AreClauses};
+ghost use Rattle.hv_indexes.specs.Places.{clause_at};
+ghost use Rattle.hv_clauses.specs.Positive.{ArePositive};
+ghost use Rattle.hv_indexes.specs.Mates.{AreTried};
+ghost use Rattle.hv_indexes.specs.Occurrences.{AreStanding, IsIndexOf};
+ghost use Rattle.hv_indexes.specs.Signed.{StandsAs};
 
 use crate::constraint::BareClauses;
-use crate::occurrences::Standing;
-use crate::{clusters, partners};
+use hv_indexes::{Standing, clusters, partners};
 use hv_sets::{Clauses, Literal};
 use hv_task::State;
 use std::alloc::{AllocError, Global};

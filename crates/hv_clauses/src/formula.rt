@@ -14,20 +14,21 @@ ghost use Rattle.hv_sets.specs.Walks.{Covers, Meets};
 ghost use Rattle.hv_clauses.specs.Clausal.{AreClauses, in_formula};
 ghost use Rattle.hv_clauses.specs.Working.Closure.{AreForced, AreNever};
 ghost use Rattle.hv_clauses.specs.Denial.{steps_of};
-ghost use Rattle.hv_clauses.specs.Implied.{AreImplied};
+ghost use Rattle.hv_indexes.specs.Implied.{AreImplied};
 ghost use Rattle.hv_clauses.specs.Working.Kinded.{IsKinded};
 ghost use Rattle.hv_clauses.specs.Working.Laws as laws;
+ghost use Rattle.hv_clauses.specs.Working.Lists.{AreListsOf};
 ghost use Rattle.hv_clauses.specs.Negative.{StandsNegatively};
-ghost use Rattle.hv_clauses.specs.Rows.{IsRow};
+ghost use Rattle.hv_indexes.specs.Rows.{IsRow};
 ghost use Rattle.hv_clauses.specs.declared.kept_lists.KeptLists.TheVariants as L;
-ghost use Rattle.hv_clauses.specs.Working.Occurrences.{IsIndexOf};
+ghost use Rattle.hv_indexes.specs.Occurrences.{IsIndexOf};
 
 use crate::clause_kind::ClauseKind;
 use crate::closure::Closure;
 use crate::constraint::BareClauses;
-use crate::implication_lists::ImplicationLists;
-use crate::occurrences::Occurrences;
-use crate::{cover, denial, implied, meet, rows};
+use crate::kept_lists::KeptLists;
+use crate::{cover, denial, meet};
+use hv_indexes::{ImplicationLists, Occurrences};
 use hv_sets::{Clauses, Covering, Cube, Cursor, Literal, Outside, Scratch, StateSet, Step};
 use hv_task::{State, Task};
 use std::alloc::{AllocError, Global};
@@ -85,8 +86,8 @@ impl<K: ClauseKind> Formula<K> {
     {
         let atoms = task.atoms();
         let copy = clauses.copy(alloc)?;
-        let closure = Closure::of(alloc, atoms as usize, clauses)?;
-        let lists = ImplicationLists::new(alloc, K::listing(), clauses, &closure.occurs)?;
+        let closure = Closure::of::<K>(alloc, atoms as usize, clauses)?;
+        let lists = lists_of(alloc, K::listing(), clauses, &closure.occurs)?;
         Ok(Formula {
             atoms,
             clauses: copy,
@@ -132,9 +133,7 @@ impl<K: ClauseKind> Formula<K> {
         requires atom { literal.atom < self.now.atoms }
         ensures { AreImplied self.now.clauses literal result.now }
     {
-        let lists = &self.lists;
-        let key = implied::number_of(literal);
-        rows::numbers_at(&lists.heads, &lists.numbers, key)
+        self.lists.row(literal)
     }
 
     // How many entries the places take that looks into its clauses remember.
@@ -283,6 +282,24 @@ impl<K: ClauseKind> Outside for Formula<K> {
     ghost starts_with_outside = { laws.starts_with_steps };
 
     ghost outside_is = { laws.outside_are };
+}
+
+// The lists that are handed out; nothing where these are the negative literals, which are
+// elsewhere.
+fn lists_of(
+    alloc: Global,
+    listing: KeptLists,
+    clauses: &Clauses,
+    occurs: &Occurrences,
+) -> Result<ImplicationLists, AllocError>
+    requires below { All (SpeakBelow (2 ^ 31)) clauses.now }
+    requires index { IsIndexOf clauses.now occurs.now }
+    ensures { IfOk result (AreListsOf listing clauses.now) }
+{
+    match listing {
+        KeptLists::Negative => Ok(ImplicationLists::none(alloc)),
+        KeptLists::Implied => ImplicationLists::of(alloc, clauses, occurs),
+    }
 }
 
 // The place of the first clause that is of another kind.

@@ -9,6 +9,11 @@
 //! no state fits any number with these digits, and the whole block of them is skipped; what is
 //! known is as before, and the next clause of the same operand is tried. When each clause of an
 //! operand is refuted, the search goes on behind the block, from what was known without a choice.
+//!
+//! Where the set of an operand is a positive operand at the other time, only those clauses of it
+//! are tried of which the effect turns a literal: the next one is found by the lists of where
+//! literals are, unless few clauses are left or the effect has many atoms.
+//!
 //! No digit and no place on the trail is stored, so this takes no memory: the operands may be as
 //! many as 65,003, and a stack of them would cost memory or depth. The invariant is that no number
 //! below the present one fits any state, and that what is known is what the digits of the present
@@ -144,10 +149,16 @@ fn first_open<K: ClauseKind>(
     let count = problem.count_of(operand.which);
     let first = next / part;
     let end = (first / count + 1) * count;
-    for rest in first..end {
-        if fix(problem, operand, place, rest, marks) {
-            return Some(first_in(next, rest, part));
+    let mut rest = first;
+    while rest < end {
+        let at = rest + refuted::held_from(problem, operand, rest % count);
+        if at >= end {
+            return None;
         }
+        if fix(problem, operand, place, at, marks) {
+            return Some(first_in(next, at, part));
+        }
+        rest = at + 1;
     }
     None
 }

@@ -12,20 +12,18 @@
 //! - `start` and `roots` put what is known at first on the `trail`: the `closure` of one positive
 //!   operand, the action's `precondition`, the initial state and the goal. `falsified` finds the
 //!   clauses of that operand to which the action gives a false literal.
-//! - `chase` propagates: `occurrences` says which clauses have a literal that became false, in
-//!   `rows` by atoms, which `counted` puts in order; `partners` what follows in clauses of two
-//!   literals, and `watched` looks into longer ones. `literal_owners` says, in a query with many
-//!   positive operands, which of them have the literal.
+//! - `chase` propagates: the indexes of hv_indexes say which clauses have a literal that became
+//!   false, and what follows in those of two literals, and `watched` looks into longer ones.
+//!   `literal_owners` says, in a query with many positive operands, which of them have the literal.
 //! - `choices`, `refuted`, `affected` and `fronts` go through the choices of one clause of each
 //!   negative operand.
 //! - `propagation` completes the assignment to a state where none of this refutes it, as the kind
 //!   says (`clause_kind`, `completion`).
 //!
-//! The way of an inclusion: `clause_walk` goes through the states outside a formula, in the order
-//! of `ranking`; `formula_ask` answers about a formula and `rest_ask` about what is outside it,
-//! literal by literal. For listed states `listed_ask` asks `first_states`, and later `mates`: there
-//! `put_clauses` puts each clause under one of its literals, `clusters` tries those under literals
-//! that are false in the state, and `screens` passes over many of them at once.
+//! The way of an inclusion: `clause_walk` goes through the states outside a formula, in an order of
+//! hv_indexes; `formula_ask` answers about a formula and `rest_ask` about what is outside it,
+//! literal by literal. For listed states `listed_ask` asks `first_states`, and later the clusters
+//! of clauses that hv_indexes makes.
 #![tactic(auto)]
 
 mod affected;
@@ -36,10 +34,8 @@ mod choices;
 pub mod clause_kind;
 pub mod clause_walk;
 mod closure;
-mod clusters;
 pub mod completion;
 mod constraint;
-mod counted;
 mod cover;
 mod denial;
 mod effect;
@@ -50,28 +46,18 @@ pub mod formula;
 mod formula_ask;
 pub mod formulas;
 mod fronts;
-mod implication_lists;
-mod implied;
 pub mod kept_lists;
 pub mod listed_ask;
 mod literal_owners;
 mod literals;
-mod mates;
 mod meet;
-mod occurrences;
-mod partners;
 mod paths;
 mod precondition;
 mod problem;
 mod propagation;
-mod put_clauses;
-mod ranking;
 mod refuted;
 pub mod rest_ask;
 mod roots;
-mod rows;
-mod screens;
-mod signed;
 mod start;
 mod trail;
 mod unit_rounds;

@@ -2,12 +2,13 @@
 
 ghost use Rattle.std.specs.Prelude.{◌≡◌, [], Bool, List, OnOk, length, true, cond, not};
 ghost use Rattle.hv_clauses.specs.Clausal.{in_formula};
-ghost use Rattle.hv_clauses.specs.Mates.{AreMates, ArePositive};
+ghost use Rattle.hv_indexes.specs.Mates.{AreMates};
+ghost use Rattle.hv_clauses.specs.Positive.{ArePositive};
 
 use crate::clause_kind::ClauseKind;
 use crate::first_states::FirstStates;
 use crate::formula::Formula;
-use crate::mates::Mates;
+use hv_indexes::Mates;
 use hv_paths::Asker;
 use hv_sets::{Literal, Scratch};
 use hv_task::State;

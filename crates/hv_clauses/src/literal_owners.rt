@@ -9,17 +9,16 @@ ghost use Rattle.hv_clauses.specs.Working.Owners.{Gains, IsCodeOfHead, PutsOwner
 ghost use Rattle.hv_clauses.specs.Working.Posed.{ProblemState as ProblemOf};
 
 use crate::clause_kind::ClauseKind;
-use crate::occurrences::SignedOccurrences;
 use crate::problem::Problem;
-use crate::rows::{self, RowHead};
+use hv_indexes::{RowHead, SignedOccurrences, rows};
 use hv_sets::{Literal, Operand, Which};
 use std::alloc::{AllocError, Global};
 
 // Fewer positive operands are gone through one by one.
 const MANY: usize = 16;
 
-// How many times dearer it is to list a literal of an operand than to look for one there.
-const WAIT: usize = 4;
+// How many literals of operands are listed in the time in which one is looked for in an operand.
+const LISTED: usize = 2;
 
 // How many choices are tried before one is taken to be followed up in all operands.
 const CHOICES: usize = 64;
@@ -169,11 +168,11 @@ pub(crate) fn size_of<K: ClauseKind>(problem: &Problem<'_, K>) -> usize {
     size
 }
 
-/// After how many literals of the trail it is as dear to go through all positive operands once more
-/// as to list those that have each literal.
+/// After how many literals of the trail it has cost as much to go through all positive operands as
+/// it does to list those that have each literal.
 pub(crate) fn patience<K: ClauseKind>(problem: &Problem<'_, K>, size: usize) -> usize {
     let count = problem.positive().len();
-    (size / count.max(1)).saturating_mul(WAIT)
+    (size / count.max(1) / LISTED).max(1)
 }
 
 /// Whether so many choices are worth the listing, if each is followed up by a literal or so.

@@ -7,7 +7,7 @@ ghost use Rattle.hv_sets.specs.Truth.{in_clauses};
 ghost use Rattle.hv_sets.specs.Walks.{Meets};
 ghost use Rattle.hv_clauses.specs.Clausal.{AreClauses, in_formula};
 ghost use Rattle.hv_clauses.specs.Working.Marks.{Agrees};
-ghost use Rattle.hv_clauses.specs.Working.Occurrences.{IsIndexOf};
+ghost use Rattle.hv_indexes.specs.Occurrences.{IsIndexOf};
 ghost use Rattle.hv_clauses.specs.Working.Trail.{marks_of};
 ghost use Rattle.hv_clauses.specs.Working.Units.{AreSettled};
 

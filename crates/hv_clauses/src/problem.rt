@@ -245,7 +245,56 @@ impl<K: ClauseKind> Constraint for Problem<'_, K> {
         }
     }
 
+    fn weight(&self, literal: Literal) -> usize {
+        match self.owners() {
+            None => weight_in_each(self, literal),
+            Some(owners) => weight_of_owners(self, owners, literal),
+        }
+    }
+
     fn laws(&self) {}
+}
+
+// About how many clauses of the positive operands are looked at where a literal is followed up.
+fn weight_in_each<K: ClauseKind>(problem: &Problem<'_, K>, literal: Literal) -> usize {
+    let positive = problem.positive();
+    let mut sum: usize = 0;
+    for operand in positive {
+        sum = sum.saturating_add(weight_in(problem, *operand, literal));
+    }
+    sum
+}
+
+// The same, where only those that have its opposite are gone through.
+fn weight_of_owners<K: ClauseKind>(
+    problem: &Problem<'_, K>,
+    owners: &ClauseOwners,
+    literal: Literal,
+) -> usize
+    requires { AreOwners problem.now owners.now }
+{
+    let row = owners.row(Literal {
+        atom: literal.atom,
+        positive: !literal.positive,
+    });
+    let positive = problem.positive();
+    let mut sum: usize = 0;
+    for place in row {
+        if let Some(operand) = positive.get(*place as usize) {
+            sum = sum.saturating_add(weight_in(problem, *operand, literal));
+        }
+    }
+    sum
+}
+
+// The same of one operand.
+fn weight_in<K: ClauseKind>(problem: &Problem<'_, K>, operand: Operand, literal: Literal) -> usize
+    requires { IsNamed (length problem.now.store) operand.which }
+{
+    let Which::Set(number) = operand.which else {
+        return 1;
+    };
+    chase::weight(problem.set(number).occurs(), literal)
 }
 
 // Follows up the literal at this place of the trail in each positive operand.

@@ -2,9 +2,15 @@
 //! to be true, or its set is a positive operand at the other time and the effect turns no literal
 //! of it.
 
-ghost use Rattle.std.specs.Prelude.{◌≡◌, ◌<◌, ◌≤◌, [], ℕ, Some, true, false, not, length};
+ghost use Rattle.std.specs.Prelude.{◌≡◌, ◌<◌, ◌≤◌, ◌+◌, [], ℕ, Some, true, false, not, length};
 ghost use Rattle.std.specs.Prelude.{slice_get, List, Bool, IfSome};
-ghost use Rattle.std.specs.List.{All};
+ghost use Rattle.std.specs.List.{All, Contains};
+ghost use Rattle.std.specs.List.Sorted.{IsStrictlyIncreasing};
+ghost use Rattle.hv_task.specs.Working.AtomList.{IsFirstFrom};
+ghost use Rattle.hv_sets.specs.declared.literal.Literal.{Literal as LiteralOf};
+ghost use Rattle.hv_clauses.specs.Working.Affected.{IsTurnedBy};
+ghost use Rattle.hv_indexes.specs.Occurrences.{IsIndexOf};
+ghost use Rattle.hv_clauses.specs.Working.Affected.{turning_sign};
 ghost use Rattle.hv_sets.specs.declared.operand.Operand.{Operand as OperandOf};
 ghost use Rattle.hv_sets.specs.declared.operand.Which.TheVariants as W;
 ghost use Rattle.hv_clauses.specs.Working.Found.{IsSole, IsAskedTwice};
@@ -16,10 +22,18 @@ ghost use Rattle.hv_clauses.specs.Units.{value_of};
 
 use crate::clause_kind::ClauseKind;
 use crate::effect::ActionEffect;
-use crate::literals;
 use crate::problem::Problem;
 use crate::trail::Assignment;
+use crate::{affected, literals};
+use hv_indexes::Occurrences;
 use hv_sets::{Literal, Operand, Which};
+
+// To look for where a literal stands costs as much as to look into so many clauses.
+const DEAR: usize = 4;
+
+// The atoms of an effect of more aren't looked for: it may turn a literal of each clause, and they
+// would be looked for after each.
+const MOST: usize = 16;
 
 // Whether a chosen clause is true in each state that agrees with what is known and is in each
 // positive operand, as far as that shows without propagation.
@@ -91,6 +105,106 @@ fn is_made(literal: Literal, effect: &ActionEffect<'_>, to: bool) -> bool
     match effect.read(literal.atom) {
         None => false,
         Some(value) => (value == literal.positive) == to,
+    }
+}
+
+// How many clauses of an operand, from this place on, are true in each state that is in each
+// positive operand, as far as the effect tells: where the set is a positive operand at the other
+// time, these are the clauses up to the next one of which the effect turns a literal. Where few
+// clauses are left, or the effect has more than 16 atoms, these aren't looked for.
+pub(crate) fn held_from<K: ClauseKind>(
+    problem: &Problem<'_, K>,
+    operand: Operand,
+    place: u64,
+) -> u64
+    requires { place < size_in problem.now operand.which }
+    ensures within { place + result ≤ size_in problem.now operand.which }
+    ensures held { (digit : ℕ) → place ≤ digit → digit < place + result → (state : List Bool)
+        → InEach problem.now state → MissesClause problem.now operand digit state → ⊥ }
+{
+    let Which::Set(number) = operand.which else {
+        return 0;
+    };
+    let set = problem.set(number);
+    let count = set.clauses().len();
+    let from = place as usize;
+    let effect = problem.effect();
+    if is_dear(effect, count.saturating_sub(from)) {
+        return 0;
+    }
+    if !problem.names(operand.which, !operand.after) {
+        return 0;
+    }
+    let occurs = set.occurs();
+    let low = next_turned(occurs, effect, operand.after, false, from, count);
+    let next = next_turned(occurs, effect, operand.after, true, from, low);
+    (next - from) as u64
+}
+
+// Whether to look for what an effect turns costs more than to go through so many clauses.
+fn is_dear(effect: &ActionEffect<'_>, clauses: usize) -> bool {
+    let atoms = effect
+        .turned(false)
+        .len()
+        .saturating_add(effect.turned(true).len());
+    atoms > MOST || atoms.saturating_mul(DEAR) >= clauses
+}
+
+// The first clause from this place on of which the effect turns a literal whose atom it makes this
+// value; or else the end.
+fn next_turned(
+    occurs: &Occurrences,
+    effect: &ActionEffect<'_>,
+    after: bool,
+    value: bool,
+    from: usize,
+    end: usize,
+) -> usize
+    requires index { (clauses : List (List LiteralOf)) × IsIndexOf clauses occurs.now }
+    requires from { from ≤ end }
+    ensures from { from ≤ result }
+    ensures end { result ≤ end }
+    ensures apart { (clauses : List (List LiteralOf)) → IsIndexOf clauses occurs.now
+        → (place : ℕ) → from ≤ place → place < result
+        → IsTurnedBy effect.now value (turning_sign after value) clauses place → ⊥ }
+{
+    let sign = affected::turning_sign(after, value);
+    let turned = effect.turned(value);
+    let mut next = end;
+    for atom in turned {
+        let own = Literal {
+            atom: *atom,
+            positive: sign,
+        };
+        let standing = occurs.standing(own);
+        next = first_from(standing.places, from, next);
+    }
+    next
+}
+
+// The first of rising numbers from this one on, if it is below the end, and else the end.
+fn first_from(places: &[usize], from: usize, end: usize) -> usize
+    requires rises { IsStrictlyIncreasing places.now }
+    requires from { from ≤ end }
+    ensures from { from ≤ result }
+    ensures end { result ≤ end }
+    ensures before { (n : ℕ) → Contains places.now n → from ≤ n → n < result → ⊥ }
+{
+    let at = place_from(places, from);
+    if at >= places.len() {
+        return end;
+    }
+    end.min(places[at])
+}
+
+// Where rising numbers begin to be at least this one.
+fn place_from(places: &[usize], from: usize) -> usize
+    requires { IsStrictlyIncreasing places.now }
+    ensures { IsFirstFrom places.now from result }
+{
+    match places.binary_search(&from) {
+        Ok(place) => place,
+        Err(place) => place,
     }
 }
 

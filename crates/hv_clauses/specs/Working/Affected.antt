@@ -1,16 +1,16 @@
 -- The clauses of the one negative operand, where its set is a positive operand at the other time.
-use Rattle.std.specs.Prelude.{◌≡◌, ℕ, Bool, true, List, Some}
+use Rattle.std.specs.Prelude.{◌≡◌, ℕ, Bool, true, List, Some, false, not}
 use Rattle.std.specs.List.{Contains}
 use Rattle.hv_sets.specs.declared.literal.Literal.{Literal}
-use Rattle.hv_sets.specs.declared.operand.Which.TheVariants as W
 use Rattle.hv_clauses.specs.declared.affected.Affected.{Affected}
 use Rattle.hv_clauses.specs.Clausal.{AreClauses}
 use Rattle.hv_clauses.specs.Marks.{known}
 use Rattle.hv_clauses.specs.Units.{value_of}
 use Rattle.hv_clauses.specs.Working.Found.{IsAskedTwice}
-use Rattle.hv_clauses.specs.Working.Occurrences.{IsIndexOf}
+use Rattle.hv_indexes.specs.Occurrences.{IsIndexOf}
 use Rattle.hv_clauses.specs.Working.Posed.{ProblemState, formulas, width}
-use Rattle.hv_clauses.specs.Working.Signed.{StandsAs}
+use Rattle.hv_indexes.specs.Signed.{StandsAs}
+use Rattle.hv_sets.specs.declared.operand.Which.TheVariants as W
 
 -- the operand is framed by the query, it is the set of this number, these are its clauses, which
 -- speak of the atoms of the task, and the lists tell where their literals stand
@@ -32,3 +32,10 @@ pub record IsTurnedBy (effect : List ℕ) (value sign : Bool) (clauses : List (L
   pub atom : ℕ
   pub made : known effect atom ≡ Some value
   pub stands : StandsAs sign clauses atom number
+
+-- the sign of the literals that are turned against an operand where their atoms are made this
+-- value: those that become false, where the operand is asked about after the action, and those that
+-- become true, where it is asked about before
+abbrev pub turning_sign : Bool → Bool → Bool
+turning_sign true value = not value
+turning_sign false value = value

@@ -4,7 +4,7 @@ use Rattle.std.specs.Prelude.{◌≡◌, ◌<◌, ◌++◌, ℕ, Bool, false, Li
 use Rattle.std.specs.List.{Contains}
 use Rattle.hv_sets.specs.declared.literal.Literal.{Literal}
 use Rattle.hv_sets.specs.Cubes.{opposite}
-use Rattle.hv_clauses.specs.Clausal.{clause_at}
+use Rattle.hv_indexes.specs.Places.{clause_at}
 use Rattle.hv_clauses.specs.Working.Marks.{Agrees, KeepsKnown}
 use Rattle.hv_clauses.specs.Working.Trail.{Knowledge, marks_of}
 use Rattle.hv_clauses.specs.Units.{IsSettled}

@@ -8,7 +8,7 @@ use Rattle.hv_sets.specs.Truth.{in_clause}
 use Rattle.hv_clauses.specs.Working.Clausal.{clauses_in, late}
 use Rattle.hv_clauses.specs.Marks.{over}
 use Rattle.hv_clauses.specs.Working.Units.{AreFalse}
-use Rattle.hv_clauses.specs.Clausal.{clause_at}
+use Rattle.hv_indexes.specs.Places.{clause_at}
 
 -- the state, seen through the effect where that is meant, is in none of the clauses that the number
 -- chooses

@@ -6,7 +6,7 @@ use Rattle.hv_sets.specs.Cubes.{SpeakBelow, atoms_of}
 use Rattle.hv_sets.specs.Truth.{in_clauses}
 use Rattle.hv_clauses.specs.declared.closure.Closure.{Closure}
 use Rattle.hv_clauses.specs.Working.Marks.{Agrees}
-use Rattle.hv_clauses.specs.Working.Occurrences.{IsIndexOf}
+use Rattle.hv_indexes.specs.Occurrences.{IsIndexOf}
 use Rattle.hv_clauses.specs.Working.Trail.{marked}
 use Rattle.hv_clauses.specs.Working.Units.{AreSettled}
 

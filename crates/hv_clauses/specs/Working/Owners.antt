@@ -8,10 +8,10 @@ use Rattle.hv_sets.specs.declared.operand.Operand.{Operand}
 use Rattle.hv_sets.specs.declared.operand.Which.TheVariants as W
 use Rattle.hv_clauses.specs.declared.literal_owners.ClauseOwners.{ClauseOwners}
 use Rattle.hv_clauses.specs.declared.literal_owners.SignedOwners.{SignedOwners}
-use Rattle.hv_clauses.specs.declared.rows.RowHead.{RowHead}
+use Rattle.hv_indexes.specs.declared.rows.RowHead.{RowHead}
 use Rattle.hv_clauses.specs.Working.Posed.{ProblemState, formulas}
-use Rattle.hv_clauses.specs.Working.Rows.{AreHeads, code, place_of_code}
-use Rattle.hv_clauses.specs.Working.Signed.{StandsAs}
+use Rattle.hv_indexes.specs.Rows.{AreHeads, code, place_of_code}
+use Rattle.hv_indexes.specs.Signed.{StandsAs}
 
 -- the operand is a set of the store, and some clause of it has the literal
 pub record HasLiteral (p : ProblemState) (operand : Operand) (literal : Literal) : Type 0 where

@@ -2,7 +2,7 @@
 use Rattle.std.specs.Prelude.{◌≡◌, ◌<◌, ℕ, Bool, false, List, [], ◌∷◌, Option, None, Some, length}
 use Rattle.std.specs.List.{All}
 use Rattle.hv_sets.specs.declared.literal.Literal.{Literal}
-use Rattle.hv_clauses.specs.Clausal.{clause_at}
+use Rattle.hv_indexes.specs.Places.{clause_at}
 use Rattle.hv_clauses.specs.Marks.{known}
 use Rattle.hv_clauses.specs.Units.{IsSettled, value_of}
 

@@ -1,10 +1,11 @@
 -- A trail: what was found out about atoms, in order, as literals that are true, on top of what was
 -- known before.
-use Rattle.std.specs.Prelude.{◌≡◌, ◌<◌, ◌≤◌, ◌==◌, ◌/◌, ◌%◌, ◌++◌, ℕ, List, [], ◌∷◌, None, length}
-use Rattle.std.specs.Prelude.{replicate, map, take, slice_set, slice_index_or}
+use Rattle.std.specs.Prelude.{◌≡◌, ◌<◌, ◌≤◌, ◌/◌, ◌++◌, ℕ, List, [], ◌∷◌, None, length, replicate}
+use Rattle.std.specs.Prelude.{map, take, slice_set, slice_index_or}
 use Rattle.hv_sets.specs.declared.literal.Literal.{Literal}
 use Rattle.hv_clauses.specs.Marks.{known}
 use Rattle.hv_clauses.specs.Working.Marks.{KeepsKnown, mark_for}
+use Rattle.hv_indexes.specs.Occurrences.{literal_of}
 
 -- what was known before, as marks by atom, and the literals that were found true since, oldest
 -- first
@@ -30,10 +31,6 @@ pub record Grows (old new : Knowledge) : Type 0 where
   pub roots : new.roots ≡ old.roots
   pub more : (more : List Literal) × (new.trail ≡ old.trail ++ more)
   pub grows : KeepsKnown (marks_of old) (marks_of new)
-
--- an entry of the queue denotes a literal: twice the atom, and one more if it is positive
-abbrev pub literal_of : ℕ → Literal
-literal_of entry = record { atom = entry / 2; positive = entry % 2 == 1 }
 
 -- the literals that the first so many entries denote
 abbrev pub trail_of : List ℕ → ℕ → List Literal

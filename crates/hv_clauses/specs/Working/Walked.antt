@@ -2,7 +2,7 @@
 use Rattle.std.specs.Prelude.{ℕ, false, List, map, slice_index_or}
 use Rattle.hv_sets.specs.declared.literal.Literal.{Literal}
 use Rattle.hv_sets.specs.Cubes.{opposite}
-use Rattle.hv_clauses.specs.Walked.{place_in}
+use Rattle.hv_indexes.specs.Orders.{place_in}
 
 -- the opposite of the literal at the place for which the code stands
 abbrev pub denial_for : List Literal → ℕ → Literal

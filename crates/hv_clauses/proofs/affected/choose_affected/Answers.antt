@@ -1,6 +1,6 @@
 use Rattle.std.proofs.Common.{◌∙◌, subst}
 use Rattle.hv_clauses.specs.Clausal.{AreClauses}
-use Rattle.hv_clauses.specs.Working.Occurrences.{IsIndexOf}
+use Rattle.hv_indexes.specs.Occurrences.{IsIndexOf}
 use Rattle.hv_clauses.specs.Working.Posed.{formulas}
 use Rattle.hv_clauses.proofs.AffectedChoices.{met_from_touched}
 use Rattle.hv_clauses.proofs.affected.choose_affected.Goals as goal

@@ -4,7 +4,7 @@ use Rattle.hv_clauses.specs.Working.Found.{AreFollowedRoots}
 use Rattle.hv_clauses.specs.Working.Problem.{FitsChoice}
 use Rattle.hv_clauses.specs.Working.Posed.{formulas, width}
 use Rattle.hv_clauses.specs.Working.Trail.{Knowledge}
-use Rattle.hv_clauses.proofs.Standings.{inside_at}
+use Rattle.hv_indexes.proofs.Standings.{inside_at}
 use Rattle.hv_clauses.proofs.AffectedChoices.{choices_are}
 use Rattle.std.proofs.lemmas.List.{get_or_default}
 use Rattle.hv_clauses.proofs.affected.try_listed.Goals as goal

@@ -1,6 +1,6 @@
 use Rattle.std.proofs.Common.{◌≡◌, ℕ, ◌<◌, Bool, List, length, get_or}
 use Rattle.hv_clauses.specs.Working.Problem.{FitsChoice}
-use Rattle.hv_clauses.specs.Working.Signed.{StandsAs}
+use Rattle.hv_indexes.specs.Signed.{StandsAs}
 use Rattle.hv_clauses.specs.Working.Posed.{formulas, width}
 use Rattle.hv_clauses.proofs.affected.try_value.Given as goal
 

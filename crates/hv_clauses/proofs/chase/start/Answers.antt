@@ -1,6 +1,6 @@
 use Rattle.std.proofs.Common.{◌≡◌, ℕ, ◌<◌, length, refl, ap, arith, below_more}
 use Rattle.hv_clauses.specs.Working.Chase.{IsKept}
-use Rattle.hv_clauses.specs.Clausal.{clause_at}
+use Rattle.hv_indexes.specs.Places.{clause_at}
 use Rattle.hv_clauses.proofs.Chasing.{clause_below, clause_followed, clause_kept, kept_on, longer}
 use Rattle.hv_clauses.proofs.chase.start.Goals as goal
 

@@ -3,13 +3,24 @@ use Rattle.std.proofs.lemmas.Option.{get_or_from_slice_get}
 use Rattle.std.proofs.Math.Bool.{beq}
 use Rattle.std.specs.Option.{option_eq}
 use Rattle.hv_sets.specs.declared.literal.Literal.{Literal}
-use Rattle.hv_clauses.specs.Rows.{IsRow}
-use Rattle.hv_clauses.specs.Working.Signed.{StandsAs}
-use Rattle.hv_clauses.specs.Clausal.{clause_at}
+use Rattle.hv_indexes.specs.Rows.{IsRow}
+use Rattle.hv_indexes.specs.Signed.{StandsAs}
+use Rattle.hv_indexes.specs.Places.{clause_at}
 use Rattle.hv_clauses.proofs.PartnerEntries.{kept_sooner, kept_true}
-use Rattle.hv_clauses.proofs.Chasing.{grown_by, kept_grown, kept_next, longer, read_on}
+use Rattle.hv_clauses.proofs.Chasing.{grown_by, kept_beyond, kept_grown, kept_next, longer, read_on}
 use Rattle.hv_clauses.proofs.Rounds.{never}
 use Rattle.hv_clauses.proofs.chase.visit.Goals as goal
+
+pub returns-then-stands_nowhere-clause-kept : goal.returns-then-stands_nowhere-clause-kept
+returns-then-stands_nowhere-clause-kept c = λ is.
+    let clauses = c.args.clauses.now in
+    let m = c.args.marks.now in
+    let literal = c.get-literal.result in
+    kept_beyond c.args.effect.now clauses m c.args.from literal c.requires.from
+    (get_or_from_slice_get m.trail c.args.from literal literal c.get-literal.ensures.here)
+    c.requires.kept
+    (λ place less has. absurd (c.stands_nowhere.ensures c.if-stands_nowhere.true clauses
+    c.requires.index literal.atom place (record { among = less; has = has })))
 
 pub returns-then-ne-clause-kept : goal.returns-then-ne-clause-kept
 returns-then-ne-clause-kept c = λ is.

@@ -3,7 +3,8 @@ use Rattle.std.proofs.Common.{below_more, subst}
 use Rattle.hv_sets.specs.Truth.{in_clauses}
 use Rattle.std.proofs.lemmas.List.{get_or_default}
 use Rattle.hv_clauses.specs.Working.Chase.{IsKept}
-use Rattle.hv_clauses.specs.Clausal.{clause_at, AreClauses}
+use Rattle.hv_indexes.specs.Places.{clause_at}
+use Rattle.hv_clauses.specs.Clausal.{AreClauses}
 use Rattle.hv_clauses.specs.Marks.{over}
 use Rattle.hv_clauses.specs.Working.Trail.{marks_of}
 use Rattle.hv_clauses.proofs.Chasing.{followed_then, kept_on, longer}

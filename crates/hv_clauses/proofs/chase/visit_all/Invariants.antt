@@ -1,7 +1,7 @@
 use Rattle.std.proofs.Common.{◌≡◌, ℕ, ◌<◌, true, length, get_or}
 use Rattle.hv_sets.specs.Truth.{in_clauses}
 use Rattle.hv_clauses.specs.Working.Chase.{IsFollowed, IsKept}
-use Rattle.hv_clauses.specs.Clausal.{clause_at}
+use Rattle.hv_indexes.specs.Places.{clause_at}
 use Rattle.hv_clauses.specs.Marks.{over}
 use Rattle.hv_clauses.proofs.chase.visit_all.Given as goal
 

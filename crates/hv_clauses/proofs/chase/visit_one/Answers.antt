@@ -5,12 +5,12 @@ use Rattle.hv_sets.specs.declared.literal.Literal.{Literal}
 use Rattle.hv_sets.specs.Cubes.{SpeakBelow}
 use Rattle.hv_sets.specs.Truth.{in_clause}
 use Rattle.hv_clauses.specs.Working.Chase.{IsFollowed}
-use Rattle.hv_clauses.specs.Clausal.{clause_at}
+use Rattle.hv_indexes.specs.Places.{clause_at}
 use Rattle.hv_clauses.specs.Marks.{over}
 use Rattle.hv_clauses.specs.Working.Trail.{marks_of}
 use Rattle.hv_clauses.specs.Units.{IsSettled}
 use Rattle.hv_clauses.proofs.PartnerEntries.{one_followed, pair_followed, pair_settled}
-use Rattle.hv_clauses.proofs.Standings.{inside_at, pair_at}
+use Rattle.hv_indexes.proofs.Standings.{inside_at, pair_at}
 use Rattle.hv_clauses.proofs.chase.visit_one.Goals as goal
 
 pub force-requires : goal.force-requires

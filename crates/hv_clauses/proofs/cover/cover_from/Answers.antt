@@ -3,7 +3,7 @@ use Rattle.std.proofs.Common.{subst}
 use Rattle.std.proofs.lemmas.List.{get_or_default}
 use Rattle.std.proofs.lemmas.Option.{get_or_from_slice_get}
 use Rattle.hv_sets.specs.Truth.{in_clause}
-use Rattle.hv_clauses.specs.Clausal.{clause_at}
+use Rattle.hv_indexes.specs.Places.{clause_at}
 use Rattle.hv_clauses.specs.Working.Marks.{Agrees, KeepsKnown}
 use Rattle.hv_clauses.specs.Working.Trail.{Knowledge, marks_of}
 use Rattle.hv_clauses.proofs.Chasing.{clause_below}

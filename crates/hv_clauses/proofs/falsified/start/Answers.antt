@@ -2,7 +2,8 @@ use Rattle.std.proofs.Common.{◌≡◌, ◌∙◌, Bool, true, length, refl, sy
 use Rattle.hv_sets.specs.Truth.{in_clauses}
 use Rattle.hv_clauses.specs.Working.Roots.{AreSettledBut}
 use Rattle.hv_clauses.specs.Working.Closure.{AreForced}
-use Rattle.hv_clauses.specs.Clausal.{clause_at, AreClauses}
+use Rattle.hv_indexes.specs.Places.{clause_at}
+use Rattle.hv_clauses.specs.Clausal.{AreClauses}
 use Rattle.hv_clauses.specs.Marks.{over}
 use Rattle.hv_clauses.proofs.Chasing.{followed_then, kept_on}
 use Rattle.hv_clauses.proofs.Untouched.{kept_either, turned_kept}

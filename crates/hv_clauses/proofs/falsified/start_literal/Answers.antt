@@ -1,9 +1,9 @@
 use Rattle.std.proofs.Common.{◌≡◌, ◌<◌, [], Some, false, length, get_or, sym, arith, subst}
 use Rattle.std.proofs.lemmas.List.Elements.{All-contains, Contains-get_or}
 use Rattle.hv_sets.specs.declared.literal.Literal.{Literal}
-use Rattle.hv_clauses.specs.Clausal.{clause_at}
+use Rattle.hv_indexes.specs.Places.{clause_at}
 use Rattle.hv_clauses.specs.Marks.{known}
-use Rattle.hv_clauses.specs.Working.Signed.{StandsAs}
+use Rattle.hv_indexes.specs.Signed.{StandsAs}
 use Rattle.hv_clauses.specs.Working.Trail.{marked, marks_of}
 use Rattle.hv_clauses.specs.Units.{value_of}
 use Rattle.hv_clauses.proofs.PartnerEntries.{kept_sooner}

@@ -5,9 +5,10 @@ use Rattle.std.proofs.lemmas.List.{get_or_default}
 use Rattle.hv_sets.specs.Truth.{in_clauses}
 use Rattle.hv_clauses.specs.Working.Chase.{IsKept}
 use Rattle.hv_clauses.specs.Working.Closure.{AreForced}
-use Rattle.hv_clauses.specs.Clausal.{clause_at, AreClauses}
+use Rattle.hv_indexes.specs.Places.{clause_at}
+use Rattle.hv_clauses.specs.Clausal.{AreClauses}
 use Rattle.hv_clauses.specs.Marks.{known, over}
-use Rattle.hv_clauses.specs.Working.Signed.{StandsAs}
+use Rattle.hv_indexes.specs.Signed.{StandsAs}
 use Rattle.hv_clauses.proofs.Chasing.{followed_then, kept_on}
 use Rattle.hv_clauses.proofs.falsified.start_value.Goals as goal
 

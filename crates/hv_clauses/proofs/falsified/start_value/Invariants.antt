@@ -1,8 +1,8 @@
 use Rattle.std.proofs.Common.{◌≡◌, ℕ, ◌<◌, Some, true, not, get_or}
 use Rattle.hv_sets.specs.Truth.{in_clauses}
 use Rattle.hv_clauses.specs.Working.Chase.{IsFollowed, IsKept}
-use Rattle.hv_clauses.specs.Clausal.{clause_at}
-use Rattle.hv_clauses.specs.Working.Signed.{StandsAs}
+use Rattle.hv_indexes.specs.Places.{clause_at}
+use Rattle.hv_indexes.specs.Signed.{StandsAs}
 use Rattle.hv_clauses.specs.Marks.{known, over}
 use Rattle.hv_clauses.proofs.falsified.start_value.Given as goal
 

@@ -1,8 +1,8 @@
 use Rattle.std.proofs.Common.{◌≡◌, ◌∙◌, ◌<◌, true, arith, get_or, length, subst, sym}
 use Rattle.std.proofs.lemmas.List.{get_or_default}
 use Rattle.hv_sets.specs.Truth.{in_clause}
-use Rattle.hv_clauses.specs.Clausal.{clause_at}
-use Rattle.hv_clauses.proofs.Standings.{inside_at}
+use Rattle.hv_indexes.specs.Places.{clause_at}
+use Rattle.hv_indexes.proofs.Standings.{inside_at}
 use Rattle.hv_clauses.proofs.first_states.are_true_at.Goals as goal
 
 pub returns-then-not-is_true_at : goal.returns-then-not-is_true_at

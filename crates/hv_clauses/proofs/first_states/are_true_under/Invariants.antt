@@ -1,7 +1,7 @@
 use Rattle.std.proofs.Common.{◌≡◌, ◌<◌, ℕ, true, false, get_or}
 use Rattle.hv_sets.specs.Truth.{in_clause}
-use Rattle.hv_clauses.specs.Clausal.{clause_at}
-use Rattle.hv_clauses.specs.Working.Signed.{StandsAs}
+use Rattle.hv_indexes.specs.Places.{clause_at}
+use Rattle.hv_indexes.specs.Signed.{StandsAs}
 use Rattle.hv_clauses.proofs.first_states.are_true_under.Given as goal
 
 abbrev pub invariant-loop-at : goal.invariant-loop-at

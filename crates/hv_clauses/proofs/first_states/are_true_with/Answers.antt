@@ -1,7 +1,7 @@
 use Rattle.std.proofs.Common.{subst}
 use Rattle.hv_sets.specs.declared.literal.Literal.{Literal}
-use Rattle.hv_clauses.specs.Rows.{IsRow}
-use Rattle.hv_clauses.specs.Working.Signed.{StandsAs}
+use Rattle.hv_indexes.specs.Rows.{IsRow}
+use Rattle.hv_indexes.specs.Signed.{StandsAs}
 use Rattle.hv_clauses.proofs.FirstTried.{row_tried}
 use Rattle.hv_clauses.proofs.first_states.are_true_with.Goals as goal
 

@@ -2,7 +2,7 @@ use Rattle.std.proofs.Common.{◌∙◌, [], ap, get_or, length, subst, sym}
 use Rattle.std.proofs.lemmas.Option.{get_or_from_slice_get}
 use Rattle.hv_sets.specs.Cubes.{SpeakBelow}
 use Rattle.hv_sets.specs.Truth.{in_clause}
-use Rattle.hv_clauses.proofs.Standings.{inside_at}
+use Rattle.hv_indexes.proofs.Standings.{inside_at}
 use Rattle.hv_clauses.proofs.first_states.is_true_at.Goals as goal
 
 pub get-requires : goal.get-requires

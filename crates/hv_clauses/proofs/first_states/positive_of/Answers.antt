@@ -1,5 +1,5 @@
 use Rattle.std.proofs.Common.{arith, subst}
-use Rattle.hv_clauses.specs.Mates.{ArePositive}
+use Rattle.hv_clauses.specs.Positive.{ArePositive}
 use Rattle.hv_clauses.proofs.first_states.positive_of.Goals as goal
 
 pub returns : goal.returns

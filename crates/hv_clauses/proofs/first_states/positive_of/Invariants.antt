@@ -1,4 +1,4 @@
-use Rattle.hv_clauses.specs.Mates.{ArePositive}
+use Rattle.hv_clauses.specs.Positive.{ArePositive}
 use Rattle.hv_clauses.proofs.first_states.positive_of.Given as goal
 
 abbrev pub invariant-loop-place : goal.invariant-loop-place

@@ -1,7 +1,7 @@
 use Rattle.std.proofs.Common.{[], refl, subst, sym}
 use Rattle.std.proofs.lemmas.Option.{get_or_from_slice_get}
 use Rattle.std.specs.List.{Contains}
-use Rattle.hv_clauses.specs.Mates.{ArePositive}
+use Rattle.hv_clauses.specs.Positive.{ArePositive}
 use Rattle.hv_clauses.proofs.FirstTried.{positive_pass, positive_put}
 use Rattle.hv_clauses.proofs.first_states.put_positive.Goals as goal
 

@@ -4,8 +4,8 @@ use Rattle.std.proofs.lemmas.Bool.{cases_lt}
 use Rattle.std.proofs.lemmas.List.{get_or_default}
 use Rattle.std.proofs.lemmas.List.Elements.{Contains-append_left, Contains-push}
 use Rattle.std.specs.List.{Contains}
-use Rattle.hv_clauses.specs.declared.rows.RowHead.{RowHead}
-use Rattle.hv_clauses.specs.Working.Rows.{code}
+use Rattle.hv_indexes.specs.declared.rows.RowHead.{RowHead}
+use Rattle.hv_indexes.specs.Rows.{code}
 use Rattle.hv_clauses.proofs.literal_owners.put_heads.Goals as goal
 
 -- one code more, where each head before has its own

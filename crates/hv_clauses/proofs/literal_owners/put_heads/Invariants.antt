@@ -1,7 +1,7 @@
 use Rattle.std.proofs.Common.{ℕ, ◌<◌, get_or}
 use Rattle.std.specs.List.{Contains}
-use Rattle.hv_clauses.specs.declared.rows.RowHead.{RowHead}
-use Rattle.hv_clauses.specs.Working.Rows.{code}
+use Rattle.hv_indexes.specs.declared.rows.RowHead.{RowHead}
+use Rattle.hv_indexes.specs.Rows.{code}
 use Rattle.hv_clauses.proofs.literal_owners.put_heads.Given as goal
 
 abbrev pub invariant-loop-index : goal.invariant-loop-index

@@ -1,5 +1,5 @@
 use Rattle.std.proofs.Common.{subst, sym}
-use Rattle.hv_clauses.specs.Working.Occurrences.{AreOccurrences}
+use Rattle.hv_indexes.specs.Occurrences.{AreOccurrences}
 use Rattle.hv_clauses.proofs.Owned.{puts_owner}
 use Rattle.hv_clauses.proofs.literal_owners.put_operand.Goals as goal
 

@@ -5,7 +5,7 @@ use Rattle.hv_clauses.specs.Marks.{over}
 use Rattle.hv_clauses.specs.Working.Roots.{AreSettledBut}
 use Rattle.hv_clauses.specs.Working.Chase.{AreKept, IsFollowed}
 use Rattle.hv_clauses.specs.Working.Closure.{AreForced}
-use Rattle.hv_clauses.specs.Working.Occurrences.{IsIndexOf}
+use Rattle.hv_indexes.specs.Occurrences.{IsIndexOf}
 use Rattle.hv_clauses.proofs.Untouched.{followed_never}
 use Rattle.hv_clauses.proofs.problem.start_turned.Goals as goal
 

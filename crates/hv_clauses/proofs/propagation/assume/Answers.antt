@@ -1,27 +1,11 @@
-use Rattle.std.proofs.Common.{◌≡◌, ◌∙◌, ◌<◌, ◌++◌, [], ◌∷◌, ℕ, None, false, length, take, sym, ap}
-use Rattle.std.proofs.Common.{arith, refl, subst}
-use Rattle.hv_sets.specs.declared.literal.Literal.{Literal}
-use Rattle.hv_clauses.specs.Marks.{known}
+use Rattle.std.proofs.Common.{◌≡◌, ◌∙◌, false, length, sym, ap, arith, refl, subst}
 use Rattle.hv_clauses.specs.Working.Completion.{IsAssumed}
 use Rattle.hv_clauses.specs.Working.Trail.{Grows, Knowledge, marks_of}
-use Rattle.hv_clauses.proofs.Chasing.{grown_by, grown_more, grows_same, grows_then, marked_more}
-use Rattle.hv_clauses.proofs.Chasing.{undone_same}
+use Rattle.hv_clauses.proofs.Assuming.{grown_by_one, marked_by, taken_back}
+use Rattle.hv_clauses.proofs.Chasing.{grown_by, grows_same, grows_then}
 use Rattle.hv_clauses.proofs.Completing.{assumed_broken, assumed_closed}
-use Rattle.hv_clauses.proofs.Steps.{IsMarked}
 use Rattle.hv_clauses.proofs.Trailed.{length-marks}
 use Rattle.hv_clauses.proofs.propagation.assume.Goals as goal
-
--- what is known after one literal more
-module _ (k new : Knowledge) (l : Literal)
-    (is : new ≡ record { roots = k.roots; trail = k.trail ++ l ∷ [] }) (less : l.atom < length
-    k.roots)
-  where
-    marked_by : IsMarked l (marks_of k) (marks_of new)
-    marked_by = subst (λ (n : Knowledge). IsMarked l (marks_of k) (marks_of n)) (sym is)
-        (marked_more k l less)
-
-    grown_by_one : known (marks_of k) l.atom ≡ None → Grows k new
-    grown_by_one none = subst (λ (n : Knowledge). Grows k n) (sym is) (grown_more k l less none)
 
 pub close-requires-clause-left : goal.close-requires-clause-left
 close-requires-clause-left g c =
@@ -49,13 +33,6 @@ returns-then-close-clause-assumed g c =
     ∙ sym (length-marks c.write.new.self)))
     c.if-close.ensures.followed.grows (c.if-close.ensures.settled refl)
 
-undone : (point : ℕ) (k new mid last : Knowledge) (l : Literal) → point ≡ length k.trail
-    → Grows k mid
-    → last ≡ record { roots = mid.roots; trail = take point mid.trail } → last ≡ k
-undone point k new mid last l at grown is =
-    undone_same k mid last grown (is ∙ ap (λ n. let z : Knowledge = record
-    { roots = mid.roots; trail = take n mid.trail } in z) at)
-
 pub returns-clause-assumed : goal.returns-clause-assumed
 returns-clause-assumed g c =
     let k = c.args.marks.now in
@@ -65,8 +42,8 @@ returns-clause-assumed g c =
     let grown = grows_then _ _ _ (grown_by_one k c.write.new.self c.args.literal c.write.ensures
     c.requires.atom c.requires.open)
     (grown_by _ _ _ _ c.if-close.ensures.followed) in
-    let same : c.undo.new.self ≡ k = undone c.len-point.result k c.write.new.self c.close.new.marks
-    c.undo.new.self c.args.literal c.len-point.ensures.len grown c.undo.ensures in
+    let same : c.undo.new.self ≡ k = taken_back c.len-point.result k c.close.new.marks
+    c.undo.new.self c.len-point.ensures.len grown c.undo.ensures in
     subst (λ (n : Knowledge). IsAssumed P S c.args.literal.atom c.args.literal.positive (marks_of k)
     (marks_of n) false) (sym same)
     (assumed_broken P S c.args.literal.atom c.args.literal.positive
@@ -82,8 +59,8 @@ returns-clause-grown g c =
     let grown = grows_then _ _ _ (grown_by_one k c.write.new.self c.args.literal c.write.ensures
     c.requires.atom c.requires.open)
     (grown_by _ _ _ _ c.if-close.ensures.followed) in
-    let same : c.undo.new.self ≡ k = undone c.len-point.result k c.write.new.self c.close.new.marks
-    c.undo.new.self c.args.literal c.len-point.ensures.len grown c.undo.ensures in
+    let same : c.undo.new.self ≡ k = taken_back c.len-point.result k c.close.new.marks
+    c.undo.new.self c.len-point.ensures.len grown c.undo.ensures in
     subst (λ (n : Knowledge). Grows k n) (sym same) (grows_same k)
 
 pub returns-clause-left : goal.returns-clause-left
@@ -92,7 +69,7 @@ returns-clause-left g c =
     let grown = grows_then _ _ _ (grown_by_one k c.write.new.self c.args.literal c.write.ensures
     c.requires.atom c.requires.open)
     (grown_by _ _ _ _ c.if-close.ensures.followed) in
-    let same : c.undo.new.self ≡ k = undone c.len-point.result k c.write.new.self c.close.new.marks
-    c.undo.new.self c.args.literal c.len-point.ensures.len grown c.undo.ensures in
+    let same : c.undo.new.self ≡ k = taken_back c.len-point.result k c.close.new.marks
+    c.undo.new.self c.len-point.ensures.len grown c.undo.ensures in
     subst (λ (n : Knowledge). g.C.Constraint.left c.args.constraint.now n (length n.trail))
     (sym same) c.requires.left

@@ -2,8 +2,9 @@ use Rattle.std.proofs.Common.{◌≡◌, ◌<◌, ◌∙◌, [], arith, length, 
 use Rattle.std.proofs.lemmas.Option.{get_or_from_slice_get}
 use Rattle.hv_sets.specs.Cubes.{SpeakBelow}
 use Rattle.hv_sets.specs.Truth.{in_cube}
-use Rattle.hv_clauses.specs.Clausal.{clause_at}
-use Rattle.hv_clauses.specs.Walked.{OrdersUpto, opposed, place_in}
+use Rattle.hv_indexes.specs.Places.{clause_at}
+use Rattle.hv_indexes.specs.Orders.{OrdersUpto, place_in}
+use Rattle.hv_clauses.specs.Walked.{opposed}
 use Rattle.hv_clauses.proofs.Walked.{denied_along_is, denied_below, size_denied}
 use Rattle.hv_clauses.proofs.Ordering.{ordered_next}
 use Rattle.hv_clauses.proofs.clause_walk.ClauseWalkWalker.advance.Goals as goal

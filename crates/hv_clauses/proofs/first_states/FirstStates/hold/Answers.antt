@@ -1,8 +1,8 @@
 use Rattle.std.proofs.Common.{true, subst, sym}
 use Rattle.std.specs.List.{Contains}
-use Rattle.hv_clauses.specs.Working.Mates.{AreTried}
+use Rattle.hv_indexes.specs.Mates.{AreTried}
 use Rattle.hv_clauses.proofs.FirstTried.{first_decided}
-use Rattle.hv_clauses.proofs.Truths.{one_false}
+use Rattle.hv_indexes.proofs.Truths.{one_false}
 use Rattle.hv_clauses.proofs.first_states.FirstStates.hold.Goals as goal
 
 pub returns-then-not-are_true-clause-holds : goal.returns-then-not-are_true-clause-holds

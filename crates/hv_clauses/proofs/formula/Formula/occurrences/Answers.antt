@@ -2,9 +2,9 @@ use Rattle.std.proofs.Common.{ap, subst}
 use Rattle.hv_sets.specs.declared.literal.Literal.{Literal}
 use Rattle.hv_clauses.specs.Clausal.{FormulaState}
 use Rattle.hv_clauses.specs.Negative.{StandsNegatively}
-use Rattle.hv_clauses.specs.Rows.{IsRow}
-use Rattle.hv_clauses.specs.Working.Signed.{StandsAs}
-use Rattle.hv_clauses.proofs.Standings.{negative_row}
+use Rattle.hv_indexes.specs.Rows.{IsRow}
+use Rattle.hv_indexes.specs.Signed.{StandsAs}
+use Rattle.hv_clauses.proofs.NegativeRows.{negative_row}
 use Rattle.hv_clauses.proofs.formula.Formula.occurrences.Goals as goal
 
 pub standing-requires : goal.standing-requires

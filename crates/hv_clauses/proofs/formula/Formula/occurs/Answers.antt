@@ -1,6 +1,6 @@
 use Rattle.std.proofs.Common.{ap, subst}
 use Rattle.hv_clauses.specs.Clausal.{FormulaState}
-use Rattle.hv_clauses.specs.Working.Occurrences.{IsIndexOf}
+use Rattle.hv_indexes.specs.Occurrences.{IsIndexOf}
 use Rattle.hv_clauses.proofs.formula.Formula.occurs.Goals as goal
 
 pub returns : goal.returns

@@ -2,7 +2,8 @@ use Rattle.std.proofs.Common.{◌≡◌, ◌∙◌, [], true, length, sym, ap, a
 use Rattle.std.proofs.lemmas.List.Folds.{list_all_at}
 use Rattle.std.proofs.lemmas.Option.{get_or_from_slice_get}
 use Rattle.hv_sets.specs.Truth.{in_clause, in_clauses}
-use Rattle.hv_clauses.specs.Clausal.{FormulaState, clause_at}
+use Rattle.hv_clauses.specs.Clausal.{FormulaState}
+use Rattle.hv_indexes.specs.Places.{clause_at}
 use Rattle.hv_clauses.proofs.Effects.{list_all_from}
 use Rattle.std.proofs.lemmas.List.{get_or_default}
 use Rattle.hv_clauses.proofs.formula.FormulaStateSet.holds.Goals as goal

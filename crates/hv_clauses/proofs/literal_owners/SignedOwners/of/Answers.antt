@@ -1,5 +1,5 @@
 use Rattle.std.proofs.Common.{◌∙◌, map, ap, subst}
-use Rattle.hv_clauses.specs.Working.Rows.{AreHeads, code, place_of_code}
+use Rattle.hv_indexes.specs.Rows.{AreHeads, code, place_of_code}
 use Rattle.hv_clauses.proofs.literal_owners.SignedOwners.of.Goals as goal
 
 pub returns : goal.returns

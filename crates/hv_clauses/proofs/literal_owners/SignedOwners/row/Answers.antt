@@ -3,7 +3,7 @@ use Rattle.std.proofs.lemmas.List.{length-map}
 use Rattle.hv_clauses.specs.declared.literal_owners.SignedOwners.{SignedOwners}
 use Rattle.hv_clauses.specs.Working.Owners.{AreSignedOwners}
 use Rattle.hv_clauses.specs.Working.Posed.{ProblemState}
-use Rattle.hv_clauses.specs.Working.Rows.{AreHeads, IsPartOf, place_of_code}
+use Rattle.hv_indexes.specs.Rows.{AreHeads, IsPartOf, place_of_code}
 use Rattle.hv_clauses.proofs.Owned.{row_has}
 use Rattle.hv_clauses.proofs.literal_owners.SignedOwners.row.Goals as goal
 

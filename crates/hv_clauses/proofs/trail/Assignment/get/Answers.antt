@@ -2,7 +2,8 @@ use Rattle.std.proofs.Common.{◌∙◌, ◌/◌, Some, length, slice_get, ap, s
 use Rattle.std.proofs.lemmas.Option.{slice_get-get_or}
 use Rattle.hv_sets.specs.declared.literal.Literal.{Literal}
 use Rattle.hv_clauses.specs.Working.Buffers.{queue_in}
-use Rattle.hv_clauses.specs.Working.Trail.{Knowledge, literal_of, trail_of}
+use Rattle.hv_clauses.specs.Working.Trail.{Knowledge, trail_of}
+use Rattle.hv_indexes.specs.Occurrences.{literal_of}
 use Rattle.hv_clauses.proofs.Trailed.{length-trail, trail_at}
 use Rattle.hv_clauses.proofs.trail.Assignment.get.Goals as goal
 

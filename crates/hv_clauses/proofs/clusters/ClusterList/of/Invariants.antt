@@ -1,5 +1,0 @@
-use Rattle.hv_clauses.specs.Working.Mates.{AreClustersUpto}
-use Rattle.hv_clauses.proofs.clusters.ClusterList.of.Given as goal
-
-abbrev pub invariant-loop-at : goal.invariant-loop-at
-invariant-loop-at l = AreClustersUpto l.clauses l.heads l.places l.at l.list

@@ -1,8 +1,0 @@
-use Rattle.hv_clauses.proofs.ImpliedRows.{signed_all}
-use Rattle.hv_clauses.proofs.implied.codes_of.Goals as goal
-
-pub returns : goal.returns
-returns c =
-    signed_all c.args.clauses.now c.new-codes.result.items c.put_signed.new.codes.items
-    c.put_signed-2.new.codes.items c.new-codes.ensures.items c.in_ok-put_signed.ensures
-    c.in_ok-put_signed-2.ensures

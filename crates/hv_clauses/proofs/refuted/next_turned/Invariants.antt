@@ -1,0 +1,14 @@
+use Rattle.std.proofs.Common.{ℕ, ◌<◌, ◌≤◌, List, get_or}
+use Rattle.hv_sets.specs.declared.literal.Literal.{Literal}
+use Rattle.hv_indexes.specs.Occurrences.{IsIndexOf}
+use Rattle.hv_indexes.specs.Signed.{StandsAs}
+use Rattle.hv_clauses.proofs.refuted.next_turned.Given as goal
+
+abbrev pub invariant-loop-atom : goal.invariant-loop-atom
+invariant-loop-atom l = record {
+  from : l.from ≤ l.next;
+  end : l.next ≤ l.end;
+  apart : (clauses : List (List Literal)) → IsIndexOf clauses l.occurs → (k : ℕ)
+      → k < l.atom-index → (place : ℕ) → l.from ≤ place → place < l.next
+      → StandsAs l.sign clauses (get_or l.turned k 0) place → ⊥;
+}

@@ -1,5 +1,0 @@
-use Rattle.hv_clauses.specs.Working.Rows.{AreHeadsOf}
-use Rattle.hv_clauses.proofs.rows.heads_of.Given as goal
-
-abbrev pub invariant-loop-start : goal.invariant-loop-start
-invariant-loop-start l = AreHeadsOf l.codes l.start l.heads.items

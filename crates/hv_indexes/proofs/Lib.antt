@@ -1,0 +1,10 @@
+pub mod Truths
+pub mod Orders
+pub mod Keyed
+pub mod Heads
+pub mod Scattered
+pub mod Gathered
+pub mod Standings
+pub mod Implying
+pub mod ImpliedRows
+pub mod Mated

@@ -1,0 +1,46 @@
+use Rattle.std.proofs.Common.{◌+◌, ap, arith, refl, subst}
+use Rattle.std.proofs.lemmas.List.{get_or_default}
+use Rattle.hv_indexes.specs.declared.rows.RowHead.{RowHead}
+use Rattle.hv_indexes.specs.Working.Mates.{AreClustersUpto}
+use Rattle.hv_indexes.specs.Rows.{IsEndBefore}
+use Rattle.hv_indexes.proofs.Keyed.{headed_ends, headed_upto}
+use Rattle.hv_indexes.proofs.Mated.{puts_cluster}
+use Rattle.hv_indexes.proofs.clusters.ClusterList.of.Goals as goal
+
+pub slice_bounds-part-count : goal.slice_bounds-part-count
+slice_bounds-part-count c =
+    headed_upto c.args.heads.now _ _ c.part_of-range.result.from c.part_of-range.result.upto
+    c.part_of-range.ensures.from c.part_of-range.ensures.upto c.requires.heads
+
+pub slice_bounds-part-start : goal.slice_bounds-part-start
+slice_bounds-part-start c =
+    headed_upto c.args.heads.now _ _ c.part_of-range.result.from c.part_of-range.result.upto
+    c.part_of-range.ensures.from c.part_of-range.ensures.upto c.requires.heads
+
+pub loop-at-preserved : goal.loop-at-preserved
+loop-at-preserved c =
+    let range = c.part_of-range.result in
+    let starts = headed_upto c.args.heads.now _ _ range.from range.upto
+    c.part_of-range.ensures.from c.part_of-range.ensures.upto c.requires.heads in
+    let ends = headed_ends c.args.heads.now _ _ range.from range.upto
+    c.part_of-range.ensures.from c.part_of-range.ensures.upto c.requires.heads in
+    puts_cluster c.args.clauses.now c.args.heads.now c.args.places.now c.loop-at.at
+    c.loop-at.list c.put.new.self c.loop-at.invariant range c.in_ok-screen.screen
+    c.in_ok-put.ensures starts ends c.in_ok-screen.ensures
+    (λ codes are size d.
+    let same = ap (λ (h : RowHead). h.key)
+    (get_or_default c.args.heads.now c.loop-at.at _ d c.loop-at-test.true) in (
+      range.from,
+      range.upto,
+      subst (λ key. IsEndBefore key codes range.from) same
+          (c.part_of-range.ensures.from codes are size),
+      subst (λ key. IsEndBefore (key + 1) codes range.upto) same
+          (c.part_of-range.ensures.upto codes are size),
+      refl,
+    ))
+
+pub returns : goal.returns
+returns c =
+    subst (λ n. AreClustersUpto c.args.clauses.now c.args.heads.now c.args.places.now n
+    c.loop-at.list) (omega (arith, c.loop-at-test.false, c.loop-at.auto.at-end))
+    c.loop-at.invariant

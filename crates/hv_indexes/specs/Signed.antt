@@ -1,0 +1,9 @@
+-- Where the literals of one sign stand.
+use Rattle.std.specs.Prelude.{◌<◌, ℕ, Bool, List, [], length, slice_index_or}
+use Rattle.std.specs.List.{Contains}
+use Rattle.hv_sets.specs.declared.literal.Literal.{Literal}
+
+-- in the clause of this number the atom stands with this sign
+pub record StandsAs (sign : Bool) (clauses : List (List Literal)) (atom number : ℕ) : Type 0 where
+  pub among : number < length clauses
+  pub has : Contains (slice_index_or clauses number []) (record { atom = atom; positive = sign })
