@@ -6,7 +6,6 @@ use Rattle.std.proofs.lemmas.List.Elements.{All-contains}
 use Rattle.std.proofs.lemmas.Option.{get_or_from_slice_get, slice_get-get_or, slice_get-map}
 use Rattle.std.proofs.lemmas.Option.{slice_get_within}
 use Rattle.std.specs.List.{All, Contains}
-use Rattle.std.specs.List.Sorted.{IsStrictlyIncreasing}
 use Rattle.std.specs.Global.{Vec}
 use Rattle.hv_task.specs.declared.action.Action.{Action}
 use Rattle.hv_task.specs.State.{applicable, has_all, has_atom, state_of}
@@ -49,15 +48,14 @@ held_all n held action state same applies =
 
 -- what was found in the rows of the atoms of these states, and in the last row
 pub found_in : (task : Strips) (rows : List (Vec ℕ)) (states : List (List ℕ)) (listed : List ℕ)
-    → AreActionRows task rows → IsStrictlyIncreasing listed
+    → AreActionRows task rows
     → ((k : ℕ) → Contains listed k → k < length task.actions)
     → (0 < length task.actions → Contains listed 0)
     → ((k : ℕ) → IsInRow rows (atoms task) k → k < length task.actions → Contains listed k)
     → ((held : List ℕ) (p k : ℕ) → Contains states held → Contains held p → IsInRow rows p k
     → k < length task.actions → Contains listed k)
     → AreFound task states listed
-found_in task rows states listed are rises below first past has = record {
-  rises = rises;
+found_in task rows states listed are below first past has = record {
   below = all_from (λ k. k < length task.actions) listed below;
   first = first;
   each = λ number action held at among within.
@@ -78,7 +76,6 @@ pub candidates_in : (task : Strips) (sets : ℕ → List Bool → Bool) (which :
     → (held : List ℕ) × Contains states held × (state_of (atoms task) held ≡ state))
     → AreFound task states listed → AreCandidates task sets which listed
 candidates_in task sets which states listed only found = record {
-  rises = found.rises;
   below = found.below;
   first = found.first;
   each = λ number action state at size inside applies.

@@ -143,7 +143,6 @@ module _ (into : Bool) (action : Action) (state : List Bool) where
 pub crossing_from : (task : Strips) (clauses : List (List Literal)) (into : Bool) (listed : List ℕ)
     → AreTurning task clauses into listed → AreCrossing task (in_clauses clauses) into listed
 crossing_from task clauses into listed are = record {
-  rises = are.rises;
   below = are.below;
   first = are.first;
   each = λ number action state at size held out.
@@ -183,7 +182,6 @@ pub clashes_crossing : (task : Strips) (sets : ℕ → List Bool → Bool) (quer
     (into : Bool) (listed : List ℕ) → IsFramed query.positive query.negative number into
     → AreCrossing task (sets number) into listed → HaveAllClashes task sets query listed
 clashes_crossing task sets query number into listed framed are = record {
-  rises = are.rises;
   below = are.below;
   first = are.first;
   each = λ n state less size yes.

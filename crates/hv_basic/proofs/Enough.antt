@@ -9,6 +9,7 @@ use Rattle.std.proofs.lemmas.List.{get_or_default, length-append, length-map}
 use Rattle.std.proofs.lemmas.List.Elements.{All-contains}
 use Rattle.std.proofs.lemmas.Option.{same_Some, slice_get-get_or, slice_get-map, slice_get_within}
 use Rattle.std.specs.List.{Contains, list_all}
+use Rattle.std.specs.List.Sorted.{IsStrictlyIncreasing}
 use Rattle.std.specs.Option.{option_map}
 use Rattle.hv_task.specs.declared.action.Action.{Action}
 use Rattle.hv_task.specs.State.{names_atom}
@@ -98,7 +99,6 @@ pub clashes_in_set : (task : Strips) (sets : ℕ → List Bool → Bool) (query 
     (listed : List ℕ) → IsAskedBefore query.positive which → AreCandidates task sets which listed
     → HaveAllClashes task sets query listed
 clashes_in_set task sets query which listed before are = record {
-  rises = are.rises;
   below = are.below;
   first = are.first;
   each = λ n state less size yes.
@@ -221,8 +221,9 @@ module _ (setting : Setting) (lines : List Line) (q : QuestionState) (query : Qu
       (ap (λ x. slice_get (asked_actions setting.task lines x) w.0) every.1
       ∙ all_at lines every.0 every.2 count w.0 less))
 
-  pub few_enough : AreEnough setting lines q query (map (λ (n : ℕ). Some n) listed)
-  few_enough V.True decided = λ place e at.
+  pub few_enough : IsStrictlyIncreasing listed
+      → AreEnough setting lines q query (map (λ (n : ℕ). Some n) listed)
+  few_enough rises V.True decided = λ place e at.
       let w = whole_only place e at in
       let has : Contains listed 0 = are.first (let h = w.0 in omega (arith, h)) in
       let free = (decided 0 (for_action (get_or listed 0 0)) (few_at 0 (none_of listed 0 has))).0 in
@@ -230,7 +231,7 @@ module _ (setting : Setting) (lines : List Line) (q : QuestionState) (query : Qu
       (settled (length listed) place (get_or listed 0 0) free
       (λ i _ less. decided i (for_action (get_or listed i 0)) (few_at i less)) (λ i less _. less)
       w.0)
-  few_enough (V.False found) decided =
+  few_enough rises (V.False found) decided =
       let d = decided.1 in
       let w = few_only d.0 decided.0 d.1 in
       let a = get_or listed d.0 0 in
@@ -248,7 +249,7 @@ module _ (setting : Setting) (lines : List Line) (q : QuestionState) (query : Qu
               (λ i within here. elim (cases_lt i d.0) [
                 | inl sooner ↦ sooner
                 | inr upto ↦
-                    let h = rises_upto listed d.0 i are.rises upto within in
+                    let h = rises_upto listed d.0 i rises upto within in
                     absurd (omega (arith, h, here, less))
               ])
               v.0),
@@ -256,7 +257,7 @@ module _ (setting : Setting) (lines : List Line) (q : QuestionState) (query : Qu
         decided.2,
         decided.3,
       )
-  few_enough V.Over decided =
+  few_enough rises V.Over decided =
       let d = decided.1 in
       let w = few_only d.0 decided.0 d.1 in
       let a = get_or listed d.0 0 in
@@ -270,4 +271,4 @@ module _ (setting : Setting) (lines : List Line) (q : QuestionState) (query : Qu
         same_cost setting lines query q.family other (Some a) (Some 0)
             (subst Passes (sym w.1) decided.2),
       )
-  few_enough V.NotOffered decided = absurd decided
+  few_enough rises V.NotOffered decided = absurd decided

@@ -29,6 +29,7 @@ acts_grow (L.Known id st w ps) older = omega arith
 pub flagged_more : (line : Line) (older : List Line) (kept : FlaggedActs) → MayFollow older line
     → AreItsFlags older kept → AreItsFlags (line ∷ older) kept
 flagged_more line older kept next is = record {
+  table = (next, is.table);
   below = omega (arith, is.below, acts_grow line older);
   true_for = λ number within.
       is.true_for number within
@@ -68,31 +69,33 @@ all_within lines table second number says =
     ap (λ f. f number) (acts_law lines second A.All table says)
 
 -- the flags of an action set and of a further list are those of their union
-pub flagged_with : (lines : List Line) (table : IsTable lines) (old new : FlaggedActs)
-    (acts part : ℕ) (listed : List ℕ) → acts < acts_count lines → AreItsFlags lines old
+pub flagged_with : (lines : List Line) (old new : FlaggedActs) (acts part : ℕ)
+    (listed : List ℕ) → acts < acts_count lines → AreItsFlags lines old
     → IsActsBeside lines old.acts acts part → acts_at lines part ≡ Some (A.List listed)
     → new.acts ≡ acts
     → length new.flags.items ≡ length old.flags.items
     → ((number : ℕ) → number < length old.flags.items → flag_or_false new.flags.items number
     ≡ (flag_or_false old.flags.items number || list_any (λ n. eqb n number) listed))
     → AreTakenFlags lines acts (length old.flags.items) new
-flagged_with lines table old new acts part listed below is (_, both) says same size set = record {
+flagged_with lines old new acts part listed below is (_, both) says same size set = record {
   is = same;
   each = size;
   flagged = record {
+    table = is.table;
     below = subst (λ a. a < acts_count lines) (sym same) below;
     true_for = λ number within.
         let inside : number < length old.flags.items = omega (arith, within, size) in
         let joined : (acts_of lines old.acts number || acts_of lines part number)
         ≡ acts_of lines acts number =
         elim both [
-          | inl at ↦ sym (ap (λ f. f number) (acts_law lines acts (A.Both old.acts part) table at))
+          | inl at ↦
+              sym (ap (λ f. f number) (acts_law lines acts (A.Both old.acts part) is.table at))
           | inr at ↦ or_turned (acts_of lines old.acts number) (acts_of lines part number)
-              ∙ sym (ap (λ f. f number) (acts_law lines acts (A.Both part old.acts) table at))
+              ∙ sym (ap (λ f. f number) (acts_law lines acts (A.Both part old.acts) is.table at))
         ] in
         set number inside
         ∙ (ap₂ (λ a b. a || b) (is.true_for number inside)
-        (sym (ap (λ f. f number) (acts_law lines part (A.List listed) table says)))
+        (sym (ap (λ f. f number) (acts_law lines part (A.List listed) is.table says)))
         ∙ (joined ∙ ap (λ a. acts_of lines a number) (sym same)));
   };
 }
@@ -116,14 +119,14 @@ module _ (task : Strips) (lines : List Line) (first second : ℕ) (seconds : Fla
       absurd (cc (both))
 
   -- a list that rises is gone through: of the actions before a place each has its flag
-  module _ (table : IsTable lines) (listed : List ℕ) (rises : IsStrictlyIncreasing listed)
+  module _ (listed : List ℕ) (rises : IsStrictlyIncreasing listed)
       (says : acts_at lines first ≡ Some (A.List listed)) where
     abbrev pub AreFlaggedTo : ℕ → Type 0
     AreFlaggedTo i = (j : ℕ) → j < i → get_or listed j 0 < length task.actions
         → flag_or_false seconds.flags.items (get_or listed j 0) ≡ true
 
     meaning : acts_of lines first ≡ (λ number. list_any (λ n. eqb n number) listed)
-    meaning = acts_law lines first (A.List listed) table says
+    meaning = acts_law lines first (A.List listed) are.flagged.table says
 
     at_list : (number : ℕ) → acts_of lines first number ≡ true → Contains listed number
     at_list number has = listed_at lines first listed rises meaning (length task.actions) number has

@@ -6,18 +6,34 @@ use Rattle.std.proofs.lemmas.List.Elements.{Contains-append_left, Contains-push}
 use Rattle.std.proofs.lemmas.List.Elements.{Contains-push_cases}
 use Rattle.std.proofs.lemmas.List.{get_or-map, take_all}
 use Rattle.std.specs.List.{All, Contains}
-use Rattle.std.specs.Option.{MatchOption}
+use Rattle.std.proofs.lemmas.Option.{same_Some}
+use Rattle.std.specs.Option.{IfSome, MatchOption}
 use Rattle.hv_lines.specs.Literals.{IsLiteral}
-use Rattle.hv_lines.specs.Shapes.{IsLiteralOf}
+use Rattle.hv_lines.specs.Numbering.{expr_at}
+use Rattle.hv_lines.specs.Shapes.{IsLiteralOf, family_of}
+use Rattle.hv_lines.specs.declared.formula_family.FormulaFamily.{FormulaFamily}
 use Rattle.hv_lines.specs.declared.line.Line.{Line}
 use Rattle.hv_lines.proofs.Shaped.{literal_from, literal_once}
 use Rattle.hv_basic.specs.Working.Gathered.{AreGathered, AreOthers, IsGiven, IsThe, sign_on}
-use Rattle.hv_basic.specs.Leaves.{IsLeafRead, places}
+use Rattle.hv_basic.specs.Leaves.{IsItsFamily, IsLeafRead, places}
 use Rattle.hv_basic.specs.declared.signed_sets.Asking.{Asking}
 use Rattle.hv_basic.specs.declared.signed_sets.Leaf.{Leaf}
 use Rattle.hv_basic.specs.declared.signed_sets.SignedSet.{SignedSet}
 use Rattle.hv_basic.specs.declared.signed_sets.Others.{Others}
 use Rattle.hv_basic.specs.declared.signed_sets.Others.TheVariants as O
+
+-- a literal's formula or constant has one family
+pub its_family : (lines : List Line) (leaf set : ℕ) (sign : Bool)
+    → IsLiteralOf lines leaf set sign
+    → (family : Option FormulaFamily) × IsItsFamily lines set family
+its_family lines leaf set true is = (family_of is.1.0, (is.1.0, is.1.1, refl))
+its_family lines leaf set false is = (family_of is.1.0, (is.1.0, is.1.1, refl))
+
+family_once : (lines : List Line) (set other : ℕ) (first second : Option FormulaFamily)
+    → set ≡ other → IsItsFamily lines set first → IsItsFamily lines other second → first ≡ second
+family_once lines set other first second same (x, at, is) (y, there, also) =
+    let one : x ≡ y = same_Some x y (sym at ∙ (ap (λ s. expr_at lines s) same ∙ there)) in
+    is ∙ (ap family_of one ∙ sym also)
 
 -- what was read of leaves stays so in a list that is the same
 pub read_there : (lines : List Line) (xs ys : List Leaf) → xs ≡ ys → All (IsLeafRead lines) ys
@@ -43,6 +59,12 @@ module _ (lines : List Line) (leaves : List Leaf) (i : ℕ) (d : Leaf) (within :
   literal_at literal is =
       subst (λ leaf. IsThe lines leaf literal) (sym (place_at leaves i d within))
       (read_at (Some literal) is)
+
+  pub family_at : (literal : SignedSet) → (get_or leaves i d).literal ≡ Some literal
+      → IsItsFamily lines literal.set (get_or leaves i d).family
+  family_at literal is =
+      subst (λ o. IfSome o (λ (l : SignedSet). IsItsFamily lines l.set (get_or leaves i d).family))
+      is (read i d within).family
 
   pub other_at : (get_or leaves i d).literal ≡ None
       → IsLiteral lines (get_or (places leaves) i 0) → ⊥
@@ -90,21 +112,23 @@ module _ (lines : List Line) (leaves : List ℕ) (i : ℕ) (within : i < length 
         (Contains-append_left (take i leaves) (get_or leaves i 0 ∷ []) given.0 given.1),
     given.2,
     given.3,
+    given.4,
   )
 
   -- what was given is given by an earlier leaf, or by this one
   given_cases : (asking : Asking) → IsGiven lines (take (i + 1) leaves) on_left after asking
       → IsGiven lines (take i leaves) on_left after asking
       ⊎ (IsLiteralOf lines (get_or leaves i 0) asking.set (sign_on on_left asking.positive)
-      × (asking.after ≡ after))
+      × (asking.after ≡ after) × IsItsFamily lines asking.set asking.family)
   given_cases asking given =
       elim (Contains-push_cases (take i leaves) (get_or leaves i 0) given.0
       (subst (λ ls. Contains ls given.0) one_more given.1)) [
-        | inl earlier ↦ inl (given.0, earlier, given.2, given.3)
+        | inl earlier ↦ inl (given.0, earlier, given.2, given.3, given.4)
         | inr same ↦ inr (
           subst (λ leaf. IsLiteralOf lines leaf asking.set
               (sign_on on_left asking.positive)) (sym same) given.2,
           given.3,
+          given.4,
         )
       ]
 
@@ -127,12 +151,22 @@ module _ (lines : List Line) (leaves : List ℕ) (i : ℕ) (within : i < length 
   )
 
   -- a literal asks about its formula or constant
-  pub gathered_more : (literal : SignedSet) (positive : Bool)
-      → IsThe lines (get_or leaves i 0) literal → positive ≡ sign_on on_left literal.is_plain
-      → AreGathered lines (take (i + 1) leaves) on_left after old
-      (mid ++ record { set = literal.set; after = after; positive = positive } ∷ [])
-  gathered_more literal positive is sign asking =
-      let new : Asking = record { set = literal.set; after = after; positive = positive } in
+  pub gathered_more : (literal : SignedSet) (family : Option FormulaFamily) (positive : Bool)
+      → IsThe lines (get_or leaves i 0) literal → IsItsFamily lines literal.set family
+      → positive ≡ sign_on on_left literal.is_plain
+      → AreGathered lines (take (i + 1) leaves) on_left after old (mid ++ record {
+        set = literal.set;
+        after = after;
+        positive = positive;
+        family = family;
+      } ∷ [])
+  gathered_more literal family positive is own sign asking =
+      let new : Asking = record {
+        set = literal.set;
+        after = after;
+        positive = positive;
+        family = family;
+      } in
       let plain : sign_on on_left positive ≡ literal.is_plain = ap (sign_on on_left) sign
       ∙ sign_twice on_left literal.is_plain in
       let here : IsGiven lines (take (i + 1) leaves) on_left after new = (
@@ -141,6 +175,7 @@ module _ (lines : List Line) (leaves : List ℕ) (i : ℕ) (within : i < length 
             (Contains-push (take i leaves) (get_or leaves i 0)),
         subst (IsLiteralOf lines (get_or leaves i 0) literal.set) (sym plain) is,
         refl,
+        own,
       ) in (
         λ c. elim (Contains-push_cases mid new asking c) [
           | inl was ↦ elim ((before asking).0 was)
@@ -157,8 +192,15 @@ module _ (lines : List Line) (leaves : List ℕ) (i : ℕ) (within : i < length 
                 literal.is_plain (sign_on on_left asking.positive) is now.0 in
                 let signs : positive ≡ asking.positive = sign
                 ∙ (ap (sign_on on_left) one.1 ∙ sign_twice on_left asking.positive) in
-                let same : new ≡ asking = let late : after ≡ asking.after = sym now.1 in
-                λ k. record { set = one.0 k; after = late k; positive = signs k } in
+                let late : after ≡ asking.after = sym now.1 in
+                let alike : family ≡ asking.family =
+                family_once lines literal.set asking.set family asking.family one.0 own now.2 in
+                let same : new ≡ asking = λ k. record {
+                  set = one.0 k;
+                  after = late k;
+                  positive = signs k;
+                  family = alike k;
+                } in
                 subst (Contains (mid ++ new ∷ [])) same (Contains-push mid new)
           ]
         ],

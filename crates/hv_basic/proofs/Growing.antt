@@ -170,13 +170,3 @@ stands_beside task lines old new rows changes is same made changed =
       rows = made;
       changes = changed;
     }
-
--- stores with other rows of the one kind, and then with others of the other
-pub beside_both : (old middle new : StoreState)
-    → middle ≡ with_rows old middle.rows old.changes
-    → new ≡ with_rows middle middle.rows new.changes
-    → new ≡ with_rows old new.rows new.changes
-beside_both old middle new first second =
-    second
-    ∙ (ap (λ s. with_rows s middle.rows new.changes) first
-    ∙ ap (λ rows. with_rows old rows new.changes) (sym (ap (λ (s : StoreState). s.rows) second)))

@@ -148,16 +148,6 @@ leaf_put leaves i leaf p = (
   ],
 )
 
-pub leaf_there : (leaves : List ℕ) (place : ℕ) → Contains leaves place
-    → AreLeavesWith leaves (place ∷ []) leaves
-leaf_there leaves place there p = (
-  λ c. inl c,
-  elim [
-    | inl c ↦ c
-    | inr here ↦ of_one (Contains leaves) place there p here
-  ],
-)
-
 pub read_put : (lines : List Line) (leaves : List Leaf) (i : ℕ) (leaf : Leaf)
     → All (IsLeafRead lines) leaves → IsLeafRead lines leaf
     → All (IsLeafRead lines) (insert leaves i leaf)

@@ -1,8 +1,8 @@
 -- What a left side asks, and the question that it asks together with a right side that is kept.
-use Rattle.std.proofs.Common.{◌≡◌, ℕ, ◌<◌, ◌+◌, ◌≤◌, ◌∙◌, ◌↔◌, Bool, true, false, List, [], Option}
+use Rattle.std.proofs.Common.{◌≡◌, ℕ, ◌+◌, ◌≤◌, ◌∙◌, ◌↔◌, Bool, true, false, List, [], Option}
 use Rattle.std.proofs.Common.{Some, None, get_or, length, refl, sym, subst, inl, inr, arith}
 use Rattle.std.proofs.lemmas.List.Elements.{Contains-get_or}
-use Rattle.std.specs.List.{All, Contains}
+use Rattle.std.specs.List.{Contains}
 use Rattle.hv_lines.specs.Literals.{IsPlainSet}
 use Rattle.hv_lines.specs.Setting.{Setting}
 use Rattle.hv_lines.specs.Verdicts.{IsVerdict}
@@ -17,18 +17,19 @@ use Rattle.hv_lines.specs.declared.formula_family.FormulaFamily.{FormulaFamily}
 use Rattle.hv_lines.specs.declared.line.Line.{Line}
 use Rattle.hv_lines.specs.declared.line.Word.{Word}
 use Rattle.hv_lines.specs.declared.line.Word.TheVariants as W
-use Rattle.hv_lines.specs.Numbering.{IsTable, expr_count}
 use Rattle.hv_lines.proofs.Questions.{alone_no_step}
 use Rattle.hv_lines.proofs.Shaped.{literal_once, step_no_literal, step_once}
-use Rattle.hv_basic.specs.Working.Asked.{AreChosen}
-use Rattle.hv_basic.specs.Working.Gathered.{AreGathered, AreLeftAskings, AreOthers, IsGiven}
-use Rattle.hv_basic.specs.Working.Gathered.{IsLeftRead, IsLeftSide, IsLiteralStep, IsStepAdded}
+use Rattle.hv_basic.specs.Leaves.{IsItsFamily}
+use Rattle.hv_basic.specs.Working.Asked.{AreChosen, IsAskedWith}
+use Rattle.hv_basic.specs.Working.Gathered.{AreGathered, AreLeftAskings, AreOthers}
+use Rattle.hv_basic.specs.Working.Gathered.{HaveTheirFamilies, IsGiven, IsLeftSide}
+use Rattle.hv_basic.specs.Working.Gathered.{IsLiteralStep, IsStepAdded}
 use Rattle.hv_basic.specs.Sharing.{ArePlain, IsTheFamily}
 use Rattle.hv_basic.specs.Working.Sharing.{IsFamilyBeside, IsVerdictOfSub}
 use Rattle.hv_basic.specs.declared.signed_sets.Asking.{Asking}
 use Rattle.hv_basic.specs.declared.signed_sets.Others.TheVariants as O
-use Rattle.hv_basic.specs.declared.sides.Sides.{Sides}
-use Rattle.hv_basic.proofs.Siding.{both_sides, literal_below}
+use Rattle.hv_basic.proofs.Gathering.{its_family}
+use Rattle.hv_basic.proofs.Siding.{both_sides}
 
 module _ (lines : List Line) (word : Word) (left : ℕ) (lefts : List ℕ)
     (are_lefts : (leaf : ℕ) → Contains lefts leaf ↔ IsAndLeaf lines left leaf) where
@@ -84,11 +85,16 @@ module _ (lines : List Line) (word : Word) (left : ℕ) (lefts : List ℕ)
       first) where
     from_first : (a : Asking) → Contains first a
         → (leaf : ℕ) × IsLeftLeaf lines word left leaf a.after
-        × IsLiteralOf lines leaf a.set a.positive
+        × IsLiteralOf lines leaf a.set a.positive × IsItsFamily lines a.set a.family
     from_first a c =
         elim ((gathered a).0 c) [
           | inl none ↦ absurd (omega (arith, none.1))
-          | inr given ↦ (given.0, inl ((are_lefts given.0).0 given.1, given.3), given.2)
+          | inr given ↦ (
+            given.0,
+            inl ((are_lefts given.0).0 given.1, given.3),
+            given.2,
+            given.4,
+          )
         ]
 
     to_first : (a : Asking) → IsGiven lines lefts true (asks_sides_after word) a → Contains first a
@@ -99,10 +105,11 @@ module _ (lines : List Line) (word : Word) (left : ℕ) (lefts : List ℕ)
     askings_alone b1 a = (from_first a, back)
       where
         back : (leaf : ℕ) × IsLeftLeaf lines word left leaf a.after
-            × IsLiteralOf lines leaf a.set a.positive → Contains first a
-        back (leaf, inl (of, after), literal) = to_first a
-            (leaf, (are_lefts leaf).1 of, literal, after)
-        back (leaf, inr (step, set, acts, of, is_step, leaf_of, after), literal) =
+            × IsLiteralOf lines leaf a.set a.positive × IsItsFamily lines a.set a.family
+            → Contains first a
+        back (leaf, inl (of, after), literal, family) = to_first a
+            (leaf, (are_lefts leaf).1 of, literal, after, family)
+        back (leaf, inr (step, set, acts, of, is_step, leaf_of, after), literal, family) =
             absurd (alone_no_step lines word left left step set acts b1 is_step)
 
     pub askings_step : (other acts : ℕ) (third : List Asking)
@@ -123,16 +130,18 @@ module _ (lines : List Line) (word : Word) (left : ℕ) (lefts : List ℕ)
             given.3,
           ),
           given.2,
+          given.4,
         )
       ],
       back,
     )
       where
         back : (leaf : ℕ) × IsLeftLeaf lines word left leaf a.after
-            × IsLiteralOf lines leaf a.set a.positive → Contains third a
-        back (leaf, inl (of, after), literal) = (added.gathered a).1
-            (inl (to_first a (leaf, (are_lefts leaf).1 of, literal, after)))
-        back (leaf, inr (step, set, by, of, is_step, leaf_of, after), literal) =
+            × IsLiteralOf lines leaf a.set a.positive × IsItsFamily lines a.set a.family
+            → Contains third a
+        back (leaf, inl (of, after), literal, family) = (added.gathered a).1
+            (inl (to_first a (leaf, (are_lefts leaf).1 of, literal, after, family)))
+        back (leaf, inr (step, set, by, of, is_step, leaf_of, after), literal, family) =
             elim (found.2 step ((are_lefts step).1 of)) [
               | inl plain ↦ absurd (step_no_literal lines word step set by is_step plain)
               | inr same ↦
@@ -143,6 +152,7 @@ module _ (lines : List Line) (word : Word) (left : ℕ) (lefts : List ℕ)
                     (added.leaves leaf).1 (subst (λ s. IsAndLeaf lines s leaf) one leaf_of),
                     literal,
                     after,
+                    family,
                   ))
             ]
 
@@ -157,15 +167,18 @@ module _ (lines : List Line) (word : Word) (left right : ℕ) (askings : List As
   right_plain leaf of = (are.plain (leaf, after) ((leaves leaf).1 of)).0
 
   -- what is asked about with the sign of the left side's formulas
-  plus_out : (a : ℕ × Bool) → Contains askings (record { set = a.0; after = a.1; positive = true })
-      → IsAsked lines word left right true a
-  plus_out a c = let h = (asks (record { set = a.0; after = a.1; positive = true })).0 c in
+  plus_out : (a : ℕ × Bool) → IsAskedWith askings true a → IsAsked lines word left right true a
+  plus_out a (family, c) =
+      let h = (asks (record { set = a.0; after = a.1; positive = true; family = family })).0 c in
       (h.0, inl (h.1, h.2))
 
-  plus_in : (a : ℕ × Bool) → IsAsked lines word left right true a
-      → Contains askings (record { set = a.0; after = a.1; positive = true })
+  plus_in : (a : ℕ × Bool) → IsAsked lines word left right true a → IsAskedWith askings true a
   plus_in a (leaf, inl (side, literal)) =
-      (asks (record { set = a.0; after = a.1; positive = true })).1 (leaf, side, literal)
+      let f = its_family lines leaf a.0 true literal in (
+        f.0,
+        (asks (record { set = a.0; after = a.1; positive = true; family = f.0 })).1
+            (leaf, side, literal, f.1),
+      )
   plus_in a (leaf, inr ((of, is), literal)) =
       let both : true ≡ false = (literal_once lines leaf leaf a.0 true false
       (refl, right_plain leaf of) literal).1 in absurd (cc (both))
@@ -179,8 +192,11 @@ module _ (lines : List Line) (word : Word) (left right : ℕ) (askings : List As
 
   minus_in : (a : ℕ × Bool) → IsAsked lines word left right false a → Contains asked a
   minus_in a (leaf, inl (side, literal)) =
-      let both : false ≡ true = plus (record { set = a.0; after = a.1; positive = false })
-      ((asks (record { set = a.0; after = a.1; positive = false })).1 (leaf, side, literal)) in
+      let f = its_family lines leaf a.0 false literal in
+      let both : false ≡ true =
+      plus (record { set = a.0; after = a.1; positive = false; family = f.0 })
+      ((asks (record { set = a.0; after = a.1; positive = false; family = f.0 })).1
+      (leaf, side, literal, f.1)) in
       absurd (cc (both))
   minus_in a (leaf, inr ((of, is), literal)) =
       subst (λ x. Contains asked (x, a.1)) literal.0
@@ -194,13 +210,21 @@ module _ (lines : List Line) (word : Word) (left right : ℕ) (askings : List As
     some = elim is.some [
       | inl horn ↦ inl horn
       | inr (a, has, of) ↦
-          let a_true : a ≡ record { set = a.set; after = a.after; positive = true } =
-          λ i. record { set = a.set; after = a.after; positive = plus a has i } in
+          let a_true : a ≡ record {
+            set = a.set;
+            after = a.after;
+            positive = true;
+            family = a.family;
+          } = λ i. record {
+            set = a.set;
+            after = a.after;
+            positive = plus a has i;
+            family = a.family;
+          } in
           inr (
             true,
             (a.set, a.after),
-            plus_out (a.set, a.after)
-                (subst (Contains askings) a_true has),
+            plus_out (a.set, a.after) (a.family, subst (Contains askings) a_true has),
             of,
           )
     ];
@@ -208,8 +232,9 @@ module _ (lines : List Line) (word : Word) (left right : ℕ) (askings : List As
     where
       within : (sign : Bool) (a : ℕ × Bool) → IsAsked lines word left right sign a
           → IsWithinFamily lines family a.0
-      within true a of = is.within (record { set = a.0; after = a.1; positive = true })
-          (plus_in a of)
+      within true a of =
+          let c = plus_in a of in
+          is.within (record { set = a.0; after = a.1; positive = true; family = c.0 }) c.1
       within false a of = let no = none a (minus_in a of) in (no.0, no.1, inl no.2)
 
   family_some : (family first : FormulaFamily) → IsTheFamily lines asked (Some first)
@@ -228,7 +253,9 @@ module _ (lines : List Line) (word : Word) (left right : ℕ) (askings : List As
     where
       within : (sign : Bool) (a : ℕ × Bool) → IsAsked lines word left right sign a
           → IsWithinFamily lines family a.0
-      within true a of_a = is (record { set = a.0; after = a.1; positive = true }) (plus_in a of_a)
+      within true a of_a =
+          let c = plus_in a of_a in
+          is (record { set = a.0; after = a.1; positive = true; family = c.0 }) c.1
       within false a of_a = subst (λ f. IsWithinFamily lines f a.0) (sym same)
           (all a (minus_in a of_a))
 
@@ -256,24 +283,11 @@ module _ (lines : List Line) (word : Word) (left right : ℕ) (askings : List As
     family = family_with kept family are.one_family beside;
   }
 
--- what the left side asks about has a line
-left_below : (lines : List Line) (word : Word) (left : ℕ) (askings : List Asking)
-    → IsTable lines
-    → AreLeftAskings lines word left askings → All (λ asking. asking.set < expr_count lines) askings
-left_below lines word left askings table asks k d within =
-    let a : Asking = get_or askings k d in
-    let said = (asks a).0 (Contains-get_or askings k d within) in
-    literal_below lines said.0 a.set a.positive table said.2
-
--- what was read of the left side
-pub left_read : (lines : List Line) (word : Word) (left : ℕ) (sides : Sides) → IsTable lines
-    → IsLeftSide lines word left sides.acts
-    → AreLeftAskings lines word left sides.askings.items → IsLeftRead lines word left sides
-left_read lines word left sides table side asks = record {
-  side = side;
-  askings = asks;
-  below = left_below lines word left sides.askings.items table asks;
-}
+-- what the left side asks about has its families
+pub left_families : (lines : List Line) (word : Word) (left : ℕ) (askings : List Asking)
+    → AreLeftAskings lines word left askings → HaveTheirFamilies lines askings
+left_families lines word left askings asks k d within =
+    ((asks (get_or askings k d)).0 (Contains-get_or askings k d within)).3
 
 -- the verdict on the question is that of the statement
 pub verdict_shared : (setting : Setting) (lines : List Line) (statement : Statement) (word : Word)

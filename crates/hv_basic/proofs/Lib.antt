@@ -23,3 +23,4 @@ pub mod Sharing
 pub mod KeptLeaves
 pub mod LeftSides
 pub mod Within
+pub mod Literals

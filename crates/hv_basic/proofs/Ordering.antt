@@ -1,6 +1,6 @@
 -- What is asked about, put in order.
 use Rattle.std.proofs.Common.{◌≡◌, ℕ, suc, ◌<◌, ◌+◌, ◌∙◌, ◌++◌, Bool, true, false, List, [], ◌∷◌}
-use Rattle.std.proofs.Common.{◌≤◌, ◌-◌, Some, drop}
+use Rattle.std.proofs.Common.{◌≤◌, ◌-◌, Option, Some, drop}
 use Rattle.std.proofs.Common.{length, get_or, take, refl, sym, ap, ap₂, subst, inl, inr, arith}
 use Rattle.std.proofs.lemmas.List.{get_or_default, length-append}
 use Rattle.std.proofs.lemmas.Bool.{cases_lt, cond-true, cond-false}
@@ -19,7 +19,9 @@ use Rattle.std.specs.List.Sorted.{IsStrictlySortedBy}
 use Rattle.std.specs.Ordering.{bool_cmp, nat_cmp, ordering_then}
 use Rattle.std.specs.declared.cmp.Ordering.TheVariants.{Less, Equal, Greater}
 use Rattle.hv_lines.specs.Shapes.{AskedBefore, Askings, AskingsRise}
-use Rattle.hv_basic.specs.Working.Asked.{AreChosen, AreKeys, order}
+use Rattle.hv_lines.specs.declared.formula_family.FormulaFamily.{FormulaFamily}
+use Rattle.hv_basic.specs.Sharing.{order}
+use Rattle.hv_basic.specs.Working.Asked.{AreChosen, AreKeys, IsAskedWith}
 use Rattle.hv_basic.specs.declared.signed_sets.Asking.{Asking}
 use Rattle.hv_lines.proofs.Elements.{cons_cases, got_in, head_in, last_cases, tail_in}
 use Rattle.hv_basic.proofs.Gathering.{take_more}
@@ -41,7 +43,7 @@ bool_less true true e = absurd (cc (e))
 order_exact : (p q : ℕ × Bool) → order p q ≡ Equal → p ≡ q
 order_exact = exact_pairs nat_cmp bool_cmp exact_unsigned bool_exact
 
-at_same : (p q : ℕ × Bool) → is_at (order p) q ≡ true → p ≡ q
+pub at_same : (p q : ℕ × Bool) → is_at (order p) q ≡ true → p ≡ q
 at_same p q e = tells_apart order_exact p q e
 
 order_less : (p q : ℕ × Bool) → order p q ≡ Less → AskedBefore p q
@@ -81,27 +83,36 @@ chosen_of askings positive keys are asked =
 module _ (askings : List Asking) (positive : Bool) (i : ℕ) (within : i < length askings)
     (keys new : BTreeSet (ℕ × Bool)) (d : Asking)
     (before : AreKeys (take i askings) positive keys) where
-  seen : ℕ × Bool → Asking
-  seen asked = record { set = asked.0; after = asked.1; positive = positive }
-
   next : take (i + 1) askings ≡ take i askings ++ get_or askings i d ∷ []
   next = let more : i + 1 ≡ suc i = omega arith in
       ap (λ n. take n askings) more ∙ take_more askings i d within
 
+  abbrev seen : ℕ × Bool → Option FormulaFamily → Asking
+  seen asked family = record {
+    set = asked.0;
+    after = asked.1;
+    positive = positive;
+    family = family;
+  }
+
   -- what has the other sign changes nothing
   pub keys_kept : ((get_or askings i d).positive ≡ positive → ⊥)
       → AreKeys (take (i + 1) askings) positive keys
-  keys_kept other asked =
-      let a : Asking = record { set = asked.0; after = asked.1; positive = positive } in (
-        λ c. subst (λ xs. Contains xs a) (sym next)
-            (Contains-append_left (take i askings) (get_or askings i d ∷ []) a
-            ((before asked).0 c)),
-        λ c. elim (Contains-push_cases (take i askings) (get_or askings i d) a
-            (subst (λ xs. Contains xs a) next c)) [
-              | inl earlier ↦ (before asked).1 earlier
-              | inr same ↦ absurd (other (ap (λ (x : Asking). x.positive) same))
-            ],
-      )
+  keys_kept other asked = (
+    λ has.
+        let was = (before asked).0 has in (
+          was.0,
+          subst (λ xs. Contains xs (seen asked was.0)) (sym next)
+              (Contains-append_left (take i askings) (get_or askings i d ∷ []) (seen asked was.0)
+              was.1),
+        ),
+    λ given.
+        elim (Contains-push_cases (take i askings) (get_or askings i d) (seen asked given.0)
+        (subst (λ xs. Contains xs (seen asked given.0)) next given.1)) [
+          | inl earlier ↦ (before asked).1 (given.0, earlier)
+          | inr same ↦ absurd (other (ap (λ (x : Asking). x.positive) same))
+        ],
+  )
 
   -- what has the sign is put in
   module _ (sign : (get_or askings i d).positive ≡ positive) (key : ℕ × Bool)
@@ -109,24 +120,29 @@ module _ (askings : List Asking) (positive : Bool) (i : ℕ) (within : i < lengt
       (after : key.1 ≡ (get_or askings i d).after) (updates : Updates order keys new key true) where
     there : (asked : ℕ × Bool) (b : Bool) → is_at (order key) asked ≡ b
         → contains order new asked ≡ true
-        → Contains (take i askings ++ get_or askings i d ∷ [])
-        (record { set = asked.0; after = asked.1; positive = positive })
+        → IsAskedWith (take i askings ++ get_or askings i d ∷ []) positive asked
     there asked true at has =
         let same : key ≡ asked = at_same key asked at in
         let ids : (get_or askings i d).set ≡ asked.0 = sym set ∙ ap (λ p. p.0) same in
         let late : (get_or askings i d).after ≡ asked.1 = sym after ∙ ap (λ p. p.1) same in
-        let is : get_or askings i d ≡ record { set = asked.0; after = asked.1; positive = positive }
-        =
-        λ k. record { set = ids k; after = late k; positive = sign k } in
-        subst (Contains (take i askings ++ get_or askings i d ∷ [])) is
-        (Contains-push (take i askings) (get_or askings i d))
+        let is : get_or askings i d ≡ seen asked (get_or askings i d).family = λ k. record {
+          set = ids k;
+          after = late k;
+          positive = sign k;
+          family = (get_or askings i d).family;
+        } in (
+          (get_or askings i d).family,
+          subst (Contains (take i askings ++ get_or askings i d ∷ [])) is
+              (Contains-push (take i askings) (get_or askings i d)),
+        )
     there asked false at has =
         let old : contains order keys asked ≡ true =
         sym (cond-false (is_at (order key) asked) true (contains order keys asked) at)
         ∙ (sym (updates.0 asked) ∙ has) in
-        Contains-append_left (take i askings) (get_or askings i d ∷ [])
-        (record { set = asked.0; after = asked.1; positive = positive })
-        ((before asked).0 old)
+        let was = (before asked).0 old in (
+          was.0,
+          Contains-append_left (take i askings) (get_or askings i d ∷ []) (seen asked was.0) was.1,
+        )
 
     kept : (asked : ℕ × Bool) (b : Bool) → is_at (order key) asked ≡ b
         → contains order keys asked ≡ true → contains order new asked ≡ true
@@ -136,20 +152,21 @@ module _ (askings : List Asking) (positive : Bool) (i : ℕ) (within : i < lengt
         ∙ (cond-false (is_at (order key) asked) true (contains order keys asked) at ∙ has)
 
     pub keys_more : AreKeys (take (i + 1) askings) positive new
-    keys_more asked =
-        let a : Asking = record { set = asked.0; after = asked.1; positive = positive } in (
-          λ has. subst (λ xs. Contains xs a) (sym next)
-              (there asked (is_at (order key) asked) refl has),
-          λ c. elim (Contains-push_cases (take i askings) (get_or askings i d) a
-              (subst (λ xs. Contains xs a) next c)) [
-                | inl earlier ↦ kept asked (is_at (order key) asked) refl ((before asked).1 earlier)
-                | inr same ↦
-                    let ids : key.0 ≡ asked.0 = set ∙ ap (λ (x : Asking). x.set) same in
-                    let late : key.1 ≡ asked.1 = after ∙ ap (λ (x : Asking). x.after) same in
-                    let one : key ≡ asked = λ k. (ids k, late k) in
-                    subst (λ p. contains order new p ≡ true) one updates.1
-              ],
-        )
+    keys_more asked = (
+      λ has. subst (λ xs. IsAskedWith xs positive asked) (sym next)
+          (there asked (is_at (order key) asked) refl has),
+      λ given.
+          elim (Contains-push_cases (take i askings) (get_or askings i d) (seen asked given.0)
+          (subst (λ xs. Contains xs (seen asked given.0)) next given.1)) [
+            | inl earlier ↦ kept asked (is_at (order key) asked) refl
+                ((before asked).1 (given.0, earlier))
+            | inr same ↦
+                let ids : key.0 ≡ asked.0 = set ∙ ap (λ (x : Asking). x.set) same in
+                let late : key.1 ≡ asked.1 = after ∙ ap (λ (x : Asking). x.after) same in
+                let one : key ≡ asked = λ k. (ids k, late k) in
+                subst (λ p. contains order new p ≡ true) one updates.1
+          ],
+    )
 
 -- a list from the last to the first
 
@@ -217,49 +234,66 @@ module _ (askings : List Asking) (positive : Bool) (count : ℕ) (d : Asking)
       ∙ (drop_at askings (length askings - 1 - count) d (omega (arith, within))
       ∙ ap (λ k. this ∷ drop k askings) to)
 
+  abbrev with_family : ℕ × Bool → Option FormulaFamily → Asking
+  with_family asked family = record {
+    set = asked.0;
+    after = asked.1;
+    positive = positive;
+    family = family;
+  }
+
   pub chosen_kept : (this.positive ≡ positive → ⊥)
       → AreChosen (drop (length askings - (count + 1)) askings) positive old
-  chosen_kept other asked =
-      let a : Asking = record { set = asked.0; after = asked.1; positive = positive } in (
-        λ c. subst (λ xs. Contains xs a) (sym one_before) (tail_in this rest a ((before asked).0 c)),
-        λ c. elim (cons_cases this rest a (subst (λ xs. Contains xs a) one_before c)) [
+  chosen_kept other asked = (
+    λ c.
+        let was = (before asked).0 c in (
+          was.0,
+          subst (λ xs. Contains xs (with_family asked was.0)) (sym one_before)
+              (tail_in this rest (with_family asked was.0) was.1),
+        ),
+    λ given.
+        elim (cons_cases this rest (with_family asked given.0)
+        (subst (λ xs. Contains xs (with_family asked given.0)) one_before given.1)) [
           | inl same ↦ absurd (other (ap (λ (x : Asking). x.positive) same))
-          | inr there ↦ (before asked).1 there
+          | inr there ↦ (before asked).1 (given.0, there)
         ],
-      )
+  )
 
   pub chosen_more : (new : Askings) → this.positive ≡ positive
       → new ≡ old ++ (this.set, this.after) ∷ []
       → AreChosen (drop (length askings - (count + 1)) askings) positive new
-  chosen_more new sign is asked =
-      let a : Asking = record { set = asked.0; after = asked.1; positive = positive } in (
-        λ c. subst (λ xs. Contains xs a) (sym one_before)
-            (elim (Contains-push_cases old (this.set, this.after) asked
-            (subst (λ xs. Contains xs asked) is c)) [
-              | inl was ↦ tail_in this rest a ((before asked).0 was)
-              | inr same ↦
-                  let ids : this.set ≡ asked.0 = ap (λ (p : ℕ × Bool). p.0) same in
-                  let late : this.after ≡ asked.1 = ap (λ (p : ℕ × Bool). p.1) same in
-                  let one : this ≡ a = λ k. record {
-                    set = ids k;
-                    after = late k;
-                    positive = sign k;
-                  } in
-                  subst (Contains (this ∷ rest)) one (head_in this rest)
-            ]),
-        λ c. subst (λ xs. Contains xs asked) (sym is)
-            (elim (cons_cases this rest a (subst (λ xs. Contains xs a) one_before c)) [
-              | inl same ↦
-                  let ids : this.set ≡ asked.0 = ap (λ (x : Asking). x.set) same in
-                  let late : this.after ≡ asked.1 = ap (λ (x : Asking). x.after) same in
-                  let one : (this.set, this.after) ≡ asked = λ k. (ids k, late k) in
-                  subst (Contains (old ++ (this.set, this.after) ∷ [])) one
-                  (Contains-push old (this.set, this.after))
-              | inr there ↦
-                  Contains-append_left old ((this.set, this.after) ∷ []) asked
-                  ((before asked).1 there)
-            ]),
-      )
+  chosen_more new sign is asked = (
+    λ c. subst (λ xs. IsAskedWith xs positive asked) (sym one_before)
+        (elim (Contains-push_cases old (this.set, this.after) asked
+        (subst (λ xs. Contains xs asked) is c)) [
+          | inl was ↦
+              let earlier = (before asked).0 was in
+              (earlier.0, tail_in this rest (with_family asked earlier.0) earlier.1)
+          | inr same ↦
+              let ids : this.set ≡ asked.0 = ap (λ (p : ℕ × Bool). p.0) same in
+              let late : this.after ≡ asked.1 = ap (λ (p : ℕ × Bool). p.1) same in
+              let one : this ≡ with_family asked this.family = λ k. record {
+                set = ids k;
+                after = late k;
+                positive = sign k;
+                family = this.family;
+              } in
+              (this.family, subst (Contains (this ∷ rest)) one (head_in this rest))
+        ]),
+    λ given. subst (λ xs. Contains xs asked) (sym is)
+        (elim (cons_cases this rest (with_family asked given.0)
+        (subst (λ xs. Contains xs (with_family asked given.0)) one_before given.1)) [
+          | inl same ↦
+              let ids : this.set ≡ asked.0 = ap (λ (x : Asking). x.set) same in
+              let late : this.after ≡ asked.1 = ap (λ (x : Asking). x.after) same in
+              let one : (this.set, this.after) ≡ asked = λ k. (ids k, late k) in
+              subst (Contains (old ++ (this.set, this.after) ∷ [])) one
+              (Contains-push old (this.set, this.after))
+          | inr there ↦
+              Contains-append_left old ((this.set, this.after) ∷ []) asked
+              ((before asked).1 (given.0, there))
+        ]),
+  )
 
 pub chosen_whole : (askings : List Asking) (positive : Bool) (count : ℕ) (chosen : Askings)
     → length askings ≤ count → AreChosen (drop (length askings - count) askings) positive chosen

@@ -11,7 +11,9 @@ use Rattle.std.proofs.lemmas.List.Edits.{insert_end, length-insert}
 use Rattle.std.proofs.lemmas.List.Sorted.{Contains-permutation, IsPermutation-insert}
 use Rattle.std.proofs.lemmas.List.Sorted.{IsPermutation-sym}
 use Rattle.std.proofs.lemmas.Option.{get_or_from_slice_get, slice_get-get_or, slice_get_within}
+use Rattle.std.specs.BTreeSet.{BTreeSet}
 use Rattle.std.specs.List.{All, Contains, insert, remove, slice_get}
+use Rattle.hv_sets.specs.declared.literal.Literal.{Literal}
 use Rattle.std.specs.List.Sorted.{IsNonDecreasingBy, IsPartitionPoint}
 use Rattle.std.specs.Option.{IfSome, MatchOption}
 use Rattle.hv_sets.specs.declared.query.Query.{Query}
@@ -29,8 +31,9 @@ use Rattle.hv_lines.specs.declared.line.Line.TheVariants as L
 use Rattle.hv_lines.proofs.Laws.{expr_at_more, expr_below, exprs_grow, refers_below}
 use Rattle.hv_lines.proofs.Truth.{and_is, or_is}
 use Rattle.hv_lines.proofs.Elements.{cons_cases, head_in, tail_in}
-use Rattle.hv_basic.specs.Sharing.{ArePlain, AreWays, HasToChoose, IsKeptFor, IsNoFormula}
-use Rattle.hv_basic.specs.Sharing.{IsPlainSide, IsRightSide, IsTheFamily}
+use Rattle.hv_basic.specs.Sharing.{AreEnoughFor, ArePlain, AreWays, HasToChoose, IsEnoughFor}
+use Rattle.hv_basic.specs.Sharing.{IsKeptFor, IsNoFormula, IsPlainSide, IsRightSide, IsTheFamily}
+use Rattle.hv_basic.specs.Sharing.{NamesLiteral}
 use Rattle.hv_basic.specs.Working.Gathered.{IsThe}
 use Rattle.hv_basic.specs.Leaves.{IsLeafRead, places}
 use Rattle.hv_basic.specs.Working.Sharing.{AreAddedTo, AreWaysWith, IsAddedTo, IsFamilyWith}
@@ -222,6 +225,20 @@ module _ (line : Line) (older : List Line) (next : MayFollow older line) where
       of_right set left right leaf x was has
       (leaf_before parts earlier right leaf (earlier set left right x was has).1 of)
 
+  enough_more : (after : Bool) (asked : Askings) (literals : BTreeSet (ℕ × Bool)) → IsTable older
+      → AreEnoughFor older after asked literals → AreEnoughFor (line ∷ older) after asked literals
+  enough_more after asked literals table are literal has =
+      let w = are literal has in
+      let expr = w.2.0 in (
+        w.0,
+        w.1,
+        (
+          expr,
+          expr_at_more line older w.0 next (expr_below older w.0 expr table w.2.1) ∙ w.2.1,
+          w.2.2,
+        ),
+      )
+
 which_at_more : (line : Line) (older : List Line) (e : ℕ) → MayFollow older line
     → e < expr_count older
     → which_at (line ∷ older) e ≡ which_at older e
@@ -261,6 +278,8 @@ side_more line older kept next is = record {
         is.plain.one_family;
   };
   ways = told_more line older next kept.question.negative.items kept.ways is.plain.table is.ways;
+  enough = enough_more line older next kept.after kept.question.negative.items kept.enough
+      is.plain.table is.enough;
   named = λ yes.
       is.named yes
       ∙ operands_more line older kept.question.negative.items next
@@ -408,11 +427,13 @@ pub side_put : (lines : List Line) (old new : Kept) (leaf place : ℕ)
     → new.question.negative.items ≡ insert old.question.negative.items place (leaf, old.after)
     → new.after ≡ old.after
     → (other : Expr) × (expr_at lines leaf ≡ Some other) × AreWaysWith old.ways other new.ways
+    → ((literal : Literal) → NamesLiteral new.enough literal
+    → NamesLiteral old.enough literal ⊎ IsEnoughFor lines leaf literal)
     → (new.named ≡ true → (old.named ≡ true) × (place ≡ length old.question.negative.items)
     × (new.query.negative ≡ old.query.negative ++ operand_of lines (leaf, old.after) ∷ []))
     → IsPlainSide lines (record new { family = both })
 side_put lines old new leaf place both expr side plain at with is put same (other, other_at, ways)
-    named =
+    enough named =
     let asked = old.question.negative.items in
     record {
       plain = subst (ArePlain lines new.after both) (sym put)
@@ -422,6 +443,14 @@ side_put lines old new leaf place both expr side plain at with is put same (othe
       ways = subst (λ xs. IfSome new.ways (AreWays lines xs)) (sym put)
           (told_put lines asked place leaf old.after old.ways new.ways other side.ways other_at
           ways);
+      enough = subst (λ xs. AreEnoughFor lines new.after xs new.enough) (sym put)
+          (subst (λ b. AreEnoughFor lines b (insert asked place (leaf, old.after)) new.enough)
+          (sym same) (λ literal has. elim (enough literal has) [
+            | inl was ↦
+                let w = side.enough literal was in
+                (w.0, insert_in asked place (leaf, old.after) (w.0, old.after) w.1, w.2)
+            | inr own ↦ (leaf, inserted asked place (leaf, old.after), own)
+          ]));
       named = λ yes.
           let h = named yes in
           let last : new.question.negative.items ≡ asked ++ (leaf, old.after) ∷ [] =
@@ -572,7 +601,12 @@ made_twice lines kept root part below shared same beside =
     let is : IsKeptFor lines kept part = subst (λ r. IfSome r (IsKeptFor lines kept)) same shared in
     let made = made_of lines kept root part shared beside in record {
       below = below;
-      side = record { plain = is.side.plain; ways = is.side.ways; named = is.side.named };
+      side = record {
+        plain = is.side.plain;
+        ways = is.side.ways;
+        enough = is.side.enough;
+        named = is.side.named;
+      };
       leaves = λ leaf. (
         λ c. (made leaf).1 (inl c),
         λ of. elim ((made leaf).0 of) [
@@ -688,6 +722,11 @@ shared_asked lines kept query named same shared = asked kept.root shared
     asked None right = right
     asked (Some root) right = record {
       below = right.below;
-      side = record { plain = right.side.plain; ways = right.side.ways; named = same };
+      side = record {
+        plain = right.side.plain;
+        ways = right.side.ways;
+        enough = right.side.enough;
+        named = same;
+      };
       leaves = right.leaves;
     }

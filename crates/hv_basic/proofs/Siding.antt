@@ -1,26 +1,26 @@
 -- The two sides of a statement, from its left side and the leaves of its right one.
-use Rattle.std.proofs.Common.{◌≡◌, ℕ, ◌<◌, ◌+◌, ◌≤◌, ◌↔◌, Bool, true, false, List, Option, Some}
+use Rattle.std.proofs.Common.{◌≡◌, ℕ, ◌<◌, ◌+◌, ◌≤◌, ◌↔◌, Bool, true, false, not, List, Option, Some}
 use Rattle.std.proofs.Common.{None}
 use Rattle.std.proofs.Common.{get_or, length, ap, inl, inr, arith}
 use Rattle.std.proofs.lemmas.List.Elements.{Contains-get_or}
-use Rattle.std.specs.List.{All, Contains}
+use Rattle.std.specs.List.{Contains}
 use Rattle.hv_lines.specs.Literals.{IsLiteral}
-use Rattle.hv_lines.specs.Numbering.{IsTable, expr_count}
-use Rattle.hv_lines.proofs.Laws.{expr_below}
 use Rattle.hv_basic.specs.Faults.{IsShapeFault}
 use Rattle.hv_basic.specs.declared.shapes.ShapeFault.{ShapeFault}
 use Rattle.hv_basic.specs.declared.shapes.ShapeFault.TheVariants as F
-use Rattle.hv_lines.specs.Shapes.{Askings, AskingsRise, HasSides, IsAsked, IsFamilyOf, IsLiteralOf}
+use Rattle.hv_lines.specs.Shapes.{Askings, AskingsRise, HasSides, IsAsked, IsFamilyOf}
 use Rattle.hv_lines.specs.Shapes.{IsOrLeaf, IsQuestion, QuestionState, asks_sides_after}
 use Rattle.hv_lines.specs.Shapes.{most_operands}
 use Rattle.hv_lines.specs.declared.formula_family.FormulaFamily.{FormulaFamily}
 use Rattle.hv_lines.specs.declared.line.Line.{Line}
 use Rattle.hv_lines.specs.declared.line.Word.{Word}
 use Rattle.hv_lines.proofs.Rising.{rising_once}
-use Rattle.hv_basic.specs.Working.Asked.{AreChosen}
-use Rattle.hv_basic.specs.Working.Gathered.{AreAskings, AreGathered, AreLeftAskings, IsFamilyIn}
-use Rattle.hv_basic.specs.Working.Gathered.{IsLeftSide}
+use Rattle.hv_basic.specs.Leaves.{IsItsFamily}
+use Rattle.hv_basic.specs.Working.Asked.{AreChosen, IsAskedWith}
+use Rattle.hv_basic.specs.Working.Gathered.{AreAskings, AreGathered, AreLeftAskings}
+use Rattle.hv_basic.specs.Working.Gathered.{HaveTheirFamilies, IsFamilyIn, IsLeftSide}
 use Rattle.hv_basic.specs.declared.signed_sets.Asking.{Asking}
+use Rattle.hv_basic.proofs.Gathering.{its_family}
 
 module _ (lines : List Line) (word : Word) (left right : ℕ) where
   -- a left side with the shape, beside a right one
@@ -59,35 +59,63 @@ module _ (lines : List Line) (word : Word) (left right : ℕ) where
         → AreAskings lines word left right second
     askings_from first second asks gathered a = (
       λ c. elim ((gathered a).0 c) [
-        | inl was ↦ let h = (asks a).0 was in (h.0, inl (h.1, h.2))
-        | inr given ↦ (given.0, inr (((are_rights given.0).0 given.1, given.3), given.2))
+        | inl was ↦ let h = (asks a).0 was in ((h.0, inl (h.1, h.2)), h.3)
+        | inr given ↦ (
+          (given.0, inr (((are_rights given.0).0 given.1, given.3), given.2)),
+          given.4,
+        )
       ],
       back,
     )
       where
-        back : IsAsked lines word left right a.positive (a.set, a.after) → Contains second a
-        back (leaf, inl (side, literal)) = (gathered a).1
-            (inl ((asks a).1 (leaf, side, literal)))
-        back (leaf, inr ((of, after), literal)) = (gathered a).1
-            (inr (leaf, (are_rights leaf).1 of, literal, after))
+        back : IsAsked lines word left right a.positive (a.set, a.after)
+            × IsItsFamily lines a.set a.family → Contains second a
+        back ((leaf, inl (side, literal)), family) = (gathered a).1
+            (inl ((asks a).1 (leaf, side, literal, family)))
+        back ((leaf, inr ((of, after), literal)), family) = (gathered a).1
+            (inr (leaf, (are_rights leaf).1 of, literal, after, family))
+
+  -- what is asked about has one family
+  asked_family : (sign : Bool) (asked : ℕ × Bool) → IsAsked lines word left right sign asked
+      → (family : Option FormulaFamily) × IsItsFamily lines asked.0 family
+  asked_family sign asked (leaf, inl (side, literal)) =
+      its_family lines leaf asked.0 sign literal
+  asked_family sign asked (leaf, inr (side, literal)) =
+      its_family lines leaf asked.0 (not sign) literal
 
 module _ (lines : List Line) (word : Word) (left right : ℕ) (askings : List Asking)
     (are : AreAskings lines word left right askings) where
-  asking_of : Bool → ℕ × Bool → Asking
-  asking_of sign asked = record { set = asked.0; after = asked.1; positive = sign }
+  asked_in : (sign : Bool) (asked : ℕ × Bool) → IsAsked lines word left right sign asked
+      → IsAskedWith askings sign asked
+  asked_in sign asked asks =
+      let f = asked_family lines word left right sign asked asks in (
+        f.0,
+        (are (record { set = asked.0; after = asked.1; positive = sign; family = f.0 })).1
+            (asks, f.1),
+      )
+
+  asked_out : (sign : Bool) (asked : ℕ × Bool) → IsAskedWith askings sign asked
+      → IsAsked lines word left right sign asked
+  asked_out sign asked (family, c) =
+      ((are (record { set = asked.0; after = asked.1; positive = sign; family = family })).0 c).0
+
+  -- each is of its family
+  pub all_of_their : HaveTheirFamilies lines askings
+  all_of_their k d within =
+      ((are (get_or askings k d)).0 (Contains-get_or askings k d within)).1
 
   family_of_all : (family : FormulaFamily) → IsFamilyIn lines askings family
       → IsFamilyOf lines word left right family
   family_of_all family is = record {
     within = λ sign asked asks.
-        is.within (record { set = asked.0; after = asked.1; positive = sign })
-        ((are (record { set = asked.0; after = asked.1; positive = sign })).1 asks);
+        let c = asked_in sign asked asks in
+        is.within (record { set = asked.0; after = asked.1; positive = sign; family = c.0 }) c.1;
     some = elim is.some [
       | inl horn ↦ inl horn
       | inr found ↦ inr (
         found.0.positive,
         (found.0.set, found.0.after),
-        (are found.0).0 found.1,
+        ((are found.0).0 found.1).0,
         found.2,
       )
     ];
@@ -96,13 +124,14 @@ module _ (lines : List Line) (word : Word) (left right : ℕ) (askings : List As
   family_in_all : (family : FormulaFamily) → IsFamilyOf lines word left right family
       → IsFamilyIn lines askings family
   family_in_all family is = record {
-    within = λ a c. is.within a.positive (a.set, a.after) ((are a).0 c);
+    within = λ a c. is.within a.positive (a.set, a.after) ((are a).0 c).0;
     some = elim is.some [
       | inl horn ↦ inl horn
       | inr (sign, asked, asks, of) ↦
+          let c = asked_in sign asked asks in
           inr (
-            record { set = asked.0; after = asked.1; positive = sign },
-            (are (record { set = asked.0; after = asked.1; positive = sign })).1 asks,
+            record { set = asked.0; after = asked.1; positive = sign; family = c.0 },
+            c.1,
             of,
           )
     ];
@@ -111,9 +140,10 @@ module _ (lines : List Line) (word : Word) (left right : ℕ) (askings : List As
   chosen_asked : (sign : Bool) (chosen : Askings) → AreChosen askings sign chosen
       → (asked : ℕ × Bool)
       → Contains chosen asked ↔ IsAsked lines word left right sign asked
-  chosen_asked sign chosen is asked =
-      let a : Asking = record { set = asked.0; after = asked.1; positive = sign } in
-      (λ c. (are a).0 ((is asked).0 c), λ asks. (is asked).1 ((are a).1 asks))
+  chosen_asked sign chosen is asked = (
+    λ c. asked_out sign asked ((is asked).0 c),
+    λ asks. (is asked).1 (asked_in sign asked asks),
+  )
 
   pub question_from : (acts : Option ℕ) (family : FormulaFamily) (positive negative : Askings)
       → HasSides lines word left right acts
@@ -157,26 +187,6 @@ module _ (lines : List Line) (word : Word) (left right : ℕ) (askings : List As
       let p : length q.positive ≡ length positive = ap length same in
       let n : length q.negative ≡ length negative = ap length also in
       omega (arith, many, is.few, p, n)
-
--- what is asked about has a line
-
-pub literal_below : (lines : List Line) (leaf set : ℕ) (sign : Bool) → IsTable lines
-    → IsLiteralOf lines leaf set sign → set < expr_count lines
-literal_below lines leaf set true table is = expr_below lines set is.1.0 table is.1.1
-literal_below lines leaf set false table is = expr_below lines set is.1.0 table is.1.1
-
-pub asked_lines : (lines : List Line) (word : Word) (left right : ℕ) (askings : List Asking)
-    → IsTable lines
-    → AreAskings lines word left right askings
-    → All (λ asking. asking.set < expr_count lines) askings
-asked_lines lines word left right askings table are k d within =
-    let a : Asking = get_or askings k d in
-    below a ((are a).0 (Contains-get_or askings k d within))
-  where
-    below : (a : Asking) → IsAsked lines word left right a.positive (a.set, a.after)
-        → a.set < expr_count lines
-    below a (leaf, inl (side, literal)) = literal_below lines leaf a.set _ table literal
-    below a (leaf, inr (side, literal)) = literal_below lines leaf a.set _ table literal
 
 -- a reason that there is no shape
 pub fault_of : (P Q : Type 0) → (P → Q) → (fault : ShapeFault) → IsShapeFault P fault

@@ -89,7 +89,7 @@ module _ (task : Strips) (lines : List Line) (family : FormulaFamily) where
       (same_Some other expr (sym other_at ∙ at)) of)
 
   -- the ways to choose clauses are the cost
-  ways_are : (asked : Askings) (ways : ℕ) → AreWays lines asked ways
+  pub ways_are : (asked : Askings) (ways : ℕ) → AreWays lines asked ways
       → ((a : ℕ × Bool) → Contains asked a → IsWithinFamily lines family a.0)
       → choices_of task (sizes_in lines family) (map (λ a. operand_of lines a) asked) ≡ ways
   ways_are [] ways are within = sym are
@@ -98,7 +98,7 @@ module _ (task : Strips) (lines : List Line) (family : FormulaFamily) where
       (ways_are asked rest are (λ b c. within b (tail_in a asked b c)))
       ∙ sym product
 
-passes_out : (setting : Setting) (lines : List Line) (query : Query) (ways : ℕ)
+pub passes_out : (setting : Setting) (lines : List Line) (query : Query) (ways : ℕ)
     (family : FormulaFamily) → IsInClauses family
     → choices_of setting.task (sizes_in lines family) query.negative ≡ ways
     → ways ≤ setting.budget → PassesBudget setting lines family query → ⊥
@@ -108,7 +108,7 @@ passes_out setting lines query ways F.Two in_clauses is few passes = omega (arit
 passes_out setting lines query ways F.States in_clauses is few passes = in_clauses
 passes_out setting lines query ways F.Node in_clauses is few passes = in_clauses
 
-offered : (lines : List Line) (q : QuestionState) (family : FormulaFamily) → IsInClauses family
+pub offered : (lines : List Line) (q : QuestionState) (family : FormulaFamily) → IsInClauses family
     → IsOfferedIn lines q family
 offered lines q F.Horn in_clauses = tt
 offered lines q F.Dual in_clauses = tt
@@ -269,3 +269,11 @@ negative_below lines table q over k d below =
     let a : ℕ × Bool = get_or q.negative k d in
     asked_exprs lines table over.word over.left over.right q over.is a
     (inr (Contains-get_or q.negative k d below))
+
+-- and so has what its left side asks for
+pub positive_below : (lines : List Line) → IsTable lines → (q : QuestionState)
+    → IsQuestionOver lines q → All (λ a. a.0 < expr_count lines) q.positive
+positive_below lines table q over k d below =
+    let a : ℕ × Bool = get_or q.positive k d in
+    asked_exprs lines table over.word over.left over.right q over.is a
+    (inl (Contains-get_or q.positive k d below))

@@ -1,7 +1,11 @@
 -- What is kept of right sides, left sides and action sets for the statements after them.
 use Rattle.std.specs.Prelude.{◌≡◌, ◌<◌, ◌↔◌, ◌*◌, ℕ, Bool, true, false, List, [], ◌∷◌, Option, None}
 use Rattle.std.specs.Prelude.{Some, IfSome, length, map, slice_index_or}
+use Rattle.std.specs.BTreeSet.{BTreeSet, contains}
 use Rattle.std.specs.List.{All, Contains}
+use Rattle.std.specs.Ordering.{bool_cmp, nat_cmp, ordering_then}
+use Rattle.std.specs.declared.cmp.Ordering.{Ordering}
+use Rattle.hv_sets.specs.declared.literal.Literal.{Literal}
 use Rattle.hv_lines.specs.Literals.{IsPlainSet}
 use Rattle.hv_lines.specs.Meaning.{acts_of}
 use Rattle.hv_lines.specs.Numbering.{IsTable, acts_count, expr_at, expr_count}
@@ -67,11 +71,54 @@ AreWays lines (a ∷ asked) ways =
     (count : ℕ) × (rest : ℕ) × HasToChoose lines a.0 count × AreWays lines asked rest
     × (ways ≡ count * rest)
 
--- what is kept are formulas and constants, with the number of ways, where it is told, and the
--- operands that ask about them, where they are named
+-- the clauses of a formula in clauses
+abbrev pub own_clauses : Expr → Option (List (List Literal))
+own_clauses (E.Horn clauses) = Some clauses
+own_clauses (E.Dual clauses) = Some clauses
+own_clauses (E.Two clauses) = Some clauses
+own_clauses (E.Constant constant) = None
+own_clauses (E.States states) = None
+own_clauses (E.Node node) = None
+own_clauses (E.Not set) = None
+own_clauses (E.And left right) = None
+own_clauses (E.Or left right) = None
+own_clauses (E.After set acts) = None
+own_clauses (E.Before set acts) = None
+
+-- there is one clause, which has the literal
+abbrev pub IsLoneFor : List (List Literal) → Literal → Type 0
+IsLoneFor clauses literal =
+    (clause : List Literal) × (clauses ≡ clause ∷ []) × Contains clause literal
+
+-- a state in which the literal is true is in the set: this has one clause, which has the literal
+abbrev pub IsEnoughFor : List Line → ℕ → Literal → Type 0
+IsEnoughFor lines set literal =
+    (expr : Expr) × (expr_at lines set ≡ Some expr)
+    × ((clauses : List (List Literal)) × (own_clauses expr ≡ Some clauses)
+    × IsLoneFor clauses literal)
+
+-- how pairs are put in order: by their number, and of one number first what has no flag (of what is
+-- asked about that before the action, of literals the negative one)
+abbrev pub order : ℕ × Bool → ℕ × Bool → Ordering
+order first second = ordering_then (nat_cmp first.0 second.0) (bool_cmp first.1 second.1)
+
+-- the literal is among these
+abbrev pub NamesLiteral : BTreeSet (ℕ × Bool) → Literal → Type 0
+NamesLiteral literals literal =
+    contains order literals (literal.atom, literal.positive) ≡ true
+
+-- each of the literals is enough for one of the sets that are asked about
+abbrev pub AreEnoughFor : List Line → Bool → Askings → BTreeSet (ℕ × Bool) → Type 0
+AreEnoughFor lines after asked literals =
+    (literal : Literal) → NamesLiteral literals literal
+    → (set : ℕ) × Contains asked (set, after) × IsEnoughFor lines set literal
+
+-- what is kept are formulas and constants, with the number of ways, where it is told, literals that
+-- are enough for one of them, and the operands that ask about them, where they are named
 pub record IsPlainSide (lines : List Line) (kept : Kept) : Type 0 where
   pub plain : ArePlain lines kept.after kept.family kept.question.negative.items
   pub ways : IfSome kept.ways (AreWays lines kept.question.negative.items)
+  pub enough : AreEnoughFor lines kept.after kept.question.negative.items kept.enough
   pub named : kept.named ≡ true → kept.query.negative
       ≡ map (λ a. operand_of lines a) kept.question.negative.items
 
@@ -88,6 +135,7 @@ IsRightSide lines kept = IfSome kept.root (IsKeptFor lines kept)
 
 -- the flags that are kept say which actions are in their action set
 pub record AreItsFlags (lines : List Line) (kept : FlaggedActs) : Type 0 where
+  pub table : IsTable lines
   pub below : kept.acts < acts_count lines
   pub true_for : (number : ℕ) → number < length kept.flags.items
       → slice_index_or kept.flags.items number false ≡ acts_of lines kept.acts number

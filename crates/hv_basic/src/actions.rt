@@ -86,6 +86,7 @@ fn listed_actions(
     requires rises { IsStrictlyIncreasing listed.now }
     ensures { IfOk result (λ asked. asked.items ≡ actions_below table.now.lines acts actions) }
 {
+    // For its contract alone: the lines are those of a table.
     let _count = table.acts_count();
     let mut asked = Vec::with_capacity(alloc, listed.len())?;
     for action in listed {

@@ -2,7 +2,7 @@
 
 ghost use Rattle.std.specs.Prelude.{◌≡◌, ◌<◌, ◌||◌, ℕ, length, nat_eq, IfOk};
 ghost use Rattle.std.specs.List.{list_any};
-ghost use Rattle.hv_lines.specs.Numbering.{ActsReferBelow, acts_at, acts_count};
+ghost use Rattle.hv_lines.specs.Numbering.{ActsReferBelow, IsTable, acts_at, acts_count};
 ghost use Rattle.hv_basic.specs.Working.Flags.{AreFlagsOf, Marks, flag_or_false};
 
 use hv_lines::{Acts, Table};
@@ -17,8 +17,10 @@ pub(crate) fn flags_of(
     actions: u32,
 ) -> Result<Vec<bool>, AllocError>
     requires { acts < acts_count table.now.lines }
-    ensures { IfOk result (λ flags. AreFlagsOf table.now.lines acts actions flags.items) }
+    ensures flags { IfOk result (λ flags. AreFlagsOf table.now.lines acts actions flags.items) }
+    ensures table { IsTable table.now.lines }
 {
+    // For its contract alone: the lines are those of a table.
     let _count = table.acts_count();
     let mut flags = vec![in alloc; false; actions as usize]?;
     let mut wanted = vec![in alloc; false; acts + 1]?;

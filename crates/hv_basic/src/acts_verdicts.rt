@@ -48,6 +48,7 @@ fn is_part(table: &Table, first: usize, second: usize) -> bool
     ensures { result ≡ true → (number : ℕ) → acts_of table.now.lines first number ≡ true
         → acts_of table.now.lines second number ≡ true }
 {
+    // For its contract alone: the lines are those of a table.
     let _count = table.acts_count();
     if first == second {
         return true;
@@ -103,7 +104,6 @@ fn verdict_by_list(
     ensures { IsVerdictOfActs case.now.task.now (lines_in case.now) first second result }
 {
     let _ = (first, second);
-    let _count = case.table.acts_count();
     let actions = case.task.actions();
     for action in listed {
         if *action < actions && !seconds.flags[*action as usize] {

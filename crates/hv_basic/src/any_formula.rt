@@ -64,6 +64,7 @@ pub(crate) fn formula_of<'a>(case: &Case<'a>, set: usize) -> AnyFormula<'a>
     ensures over { IsFormulaOn case.now result }
 {
     let store = case.store;
+    // For its contract alone: the lines are those of a table.
     let _count = case.table.expr_count();
     match case.table.expr(set) {
         Expr::Horn(_) => AnyFormula::Horn(store.horns().get(number_of(store, set))),

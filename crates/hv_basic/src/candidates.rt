@@ -5,6 +5,7 @@
 ghost use Rattle.std.specs.Prelude.{◌≡◌, ◌<◌, ◌⊎◌, ◌↔◌, ℕ, Option, Some, false, length, map};
 ghost use Rattle.std.specs.Prelude.{IfOk, IfSome, IsTrue, OnOk};
 ghost use Rattle.std.specs.List.{Contains};
+ghost use Rattle.std.specs.List.Sorted.{IsStrictlyIncreasing};
 ghost use Rattle.hv_task.specs.State.{AreBelow};
 ghost use Rattle.hv_task.specs.Strips.{atoms};
 ghost use Rattle.hv_explicit.specs.ListedStates.{AreStates};
@@ -73,8 +74,9 @@ fn few_actions(
         → Contains (map (λ n. Some n) numbers) action
         → Contains (asked_actions case.now.task.now (lines_in case.now) question.now.acts)
         action)) }
-    ensures enough { IfOk result (λ few. IfSome few (λ numbers. AreEnough (setting_in case.now)
-        (lines_in case.now) (question_of question.now) query.now (map (λ n. Some n) numbers))) }
+    ensures enough { IfOk result (λ few. IfSome few (λ numbers. IsStrictlyIncreasing numbers
+        → AreEnough (setting_in case.now) (lines_in case.now) (question_of question.now) query.now
+        (map (λ n. Some n) numbers))) }
 {
     if is_node(question.family) {
         return Ok(None);
@@ -139,6 +141,7 @@ fn is_over_all(table: &Table, acts: Option<usize>) -> bool
     let Some(acts) = acts else {
         return false;
     };
+    // For its contract alone: the lines are those of a table.
     let _count = table.acts_count();
     match table.acts(acts) {
         Acts::All => true,
@@ -261,7 +264,6 @@ fn applicable_by(
         put_rows(rows, states.get(place), task.actions(), &mut found)?;
     }
     let numbers = found.take(alloc)?;
-    let _count = numbers.len();
     Ok(Some(numbers))
 }
 

@@ -1,11 +1,12 @@
 //! The family of a statement.
 
-ghost use Rattle.std.specs.Prelude.{◌≡◌, ◌<◌, ◌↔◌, IsTrue, MatchOption};
-ghost use Rattle.std.specs.List.{All};
+ghost use Rattle.std.specs.Prelude.{◌≡◌, ◌<◌, ◌↔◌, List, IsTrue, MatchOption};
 ghost use Rattle.hv_lines.specs.Literals.{IsPlainExpr};
 ghost use Rattle.hv_lines.specs.Numbering.{expr_count};
 ghost use Rattle.hv_lines.specs.Shapes.{AreOfTwoFamilies, family_of};
 ghost use Rattle.hv_lines.specs.declared.formula_family.FormulaFamily.{FormulaFamily};
+ghost use Rattle.hv_lines.specs.declared.line.Line.{Line};
+ghost use Rattle.hv_basic.specs.Working.Gathered.{HaveTheirFamilies};
 ghost use Rattle.hv_basic.specs.Working.Sharing.{AreOtherFamilies, IsFamilyBeside, IsFamilyWith};
 
 use crate::signed_sets::Asking;
@@ -13,19 +14,15 @@ use hv_lines::{Expr, FormulaFamily, Table};
 
 /// The one family of all formulas that are asked about, where those that stood there before are of
 /// this family, if there were some; it is Horn where there is none.
-pub(crate) fn one_family(
-    table: &Table,
-    askings: &[Asking],
-    before: Option<FormulaFamily>,
-) -> Option<FormulaFamily>
-    requires { All (λ asking. asking.set < expr_count table.now.lines) askings.now }
-    ensures { MatchOption result ((family : FormulaFamily)
-        → IsFamilyBeside table.now.lines askings.now before family → ⊥)
-        (IsFamilyBeside table.now.lines askings.now before) }
+pub(crate) fn one_family(askings: &[Asking], before: Option<FormulaFamily>) -> Option<FormulaFamily>
+    ensures { (lines : List Line) → HaveTheirFamilies lines askings.now
+        → MatchOption result ((family : FormulaFamily)
+        → IsFamilyBeside lines askings.now before family → ⊥)
+        (IsFamilyBeside lines askings.now before) }
 {
     let mut family = before;
     for asking in askings {
-        match family_with(family, family_of(table.expr(asking.set))) {
+        match family_with(family, asking.family) {
             Some(both) => family = both,
             None => return None,
         }

@@ -102,7 +102,6 @@ fn add_part(table: &Table, flagged: &mut FlaggedActs, acts: usize, part: usize) 
     ensures { result ≡ true
         → AreTakenFlags table.now.lines acts (length flagged.old.flags.items) flagged.new }
 {
-    let _count = table.acts_count();
     match table.acts(part) {
         Acts::List(listed) => {
             set_listed(&mut flagged.flags, listed.as_slice());
@@ -138,7 +137,7 @@ pub(crate) fn put_flags(kept: &mut Vec<FlaggedActs>, flagged: FlaggedActs) -> Re
         → AreItsFlags lines flagged → All (AreItsFlags lines) kept.new.items }
 {
     if kept.len() >= MOST_FLAGGED {
-        let _first = kept.remove(0);
+        kept.remove(0);
     }
     kept.push(flagged)?;
     Ok(())

@@ -67,6 +67,7 @@ fn taken_apart(alloc: Global, table: &Table, root: usize) -> Result<KeptLeaves, 
     requires { root < expr_count table.now.lines }
     ensures { IfOk result (AreTakenLeaves table.now.lines root) }
 {
+    // For its contract alone: the lines are those of a table.
     let _count = table.expr_count();
     let leaves = leaves(alloc, table, Half::Left, root)?;
     Ok(KeptLeaves { root, leaves })
@@ -227,7 +228,7 @@ fn make_room(kept: &mut Vec<KeptLeaves>)
     if kept.len() < MOST_LEFTS {
         return;
     }
-    let _first = kept.remove(0);
+    kept.remove(0);
 }
 
 /// Whether the set is its own leaf.

@@ -32,7 +32,6 @@ pub(crate) fn left_of(
         → IsLeftSide table.now.lines word left acts → ⊥)) }
     ensures kept { All (AreItsLeaves table.now.lines) kept.new.items }
 {
-    let _count = table.expr_count();
     let lefts = take_leaves(alloc, table, kept, left)?;
     let mut askings = Vec::new(alloc);
     let others = gather(&lefts.leaves, true, asks_sides_after(word), &mut askings)?;

@@ -52,7 +52,12 @@
 //! in a set and outside of it. For that the cost has to be known to be within the budget: over
 //! formulas in clauses that is the number of ways to choose one clause of each, which is kept with
 //! the right side (nothing is known of it where the initial state or the goal is among the sets);
-//! over listed states the length of the one list that the left side asks about.
+//! over listed states the length of the one list that the left side asks about. Nor is one asked
+//! where the left side asks for a formula, at the time of the right side, with a clause each of
+//! whose literals is in the only clause of some set of the right one: a state in which the clause
+//! is true is in such a set. The literals of the sets whose only clause has at most four are kept
+//! with the right side; on the left at most eight sets are looked at, each with at most eight
+//! clauses.
 //!
 //! An action set is looked at from its newest part to its oldest, each part once, so a union that
 //! shares its parts costs its number of lines and not of paths. A list of actions that rises is

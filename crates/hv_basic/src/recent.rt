@@ -93,7 +93,7 @@ fn give_up(sides: &mut Vec<Kept>)
     let Some(place) = to_give_up(sides) else {
         return;
     };
-    let _side = sides.remove(place);
+    sides.remove(place);
 }
 
 /// The place of a side of which nothing is kept; or the first one, where there are many.

@@ -1,15 +1,17 @@
 //! Keeping what a right side asks: where it is the union of what is kept and a further set, only
 //! that set is looked at.
 
-ghost use Rattle.std.specs.Prelude.{◌≡◌, ◌<◌, ◌≤◌, ◌++◌, ◌∷◌, Bool, true, [], None, Some, IfOk};
+ghost use Rattle.std.specs.Prelude.{◌≡◌, ◌<◌, ◌≤◌, ◌⊎◌, ◌++◌, ◌∷◌, Bool, true, [], None, Some, IfOk};
 ghost use Rattle.std.specs.Prelude.{IfSome, MatchOption, OnOk, length};
 ghost use Rattle.std.specs.List.{All, Contains, insert};
+ghost use Rattle.hv_sets.specs.declared.literal.Literal.{Literal};
 ghost use Rattle.hv_lines.specs.Numbering.{expr_at, expr_count};
 ghost use Rattle.hv_lines.specs.Queries.{operand_of};
 ghost use Rattle.hv_lines.specs.Shapes.{AskingsRise};
 ghost use Rattle.hv_lines.specs.declared.line.Expr.{Expr};
 ghost use Rattle.hv_basic.specs.Cases.{lines_in};
-ghost use Rattle.hv_basic.specs.Sharing.{IsPlainSide, IsRightSide, clauses_to_choose};
+ghost use Rattle.hv_basic.specs.Sharing.{IsEnoughFor, IsLoneFor, IsPlainSide, IsRightSide};
+ghost use Rattle.hv_basic.specs.Sharing.{NamesLiteral, clauses_to_choose, own_clauses};
 ghost use Rattle.hv_basic.specs.Leaves.{IsLeafRead, places};
 ghost use Rattle.hv_basic.specs.Working.Sharing.{AreAddedTo, AreWaysWith, IsAddedTo};
 ghost use Rattle.hv_basic.specs.Working.Sharing.{IsSplitAt, IsMadeOf, IsPartBeside};
@@ -21,8 +23,12 @@ use crate::leaves::{Half, leaves};
 use crate::shared::Kept;
 use crate::signed_sets::Leaf;
 use hv_lines::{Constant, Expr, Table};
-use hv_sets::{Operand, Operands};
+use hv_sets::{Clauses, Literal, Operand, Operands};
 use std::alloc::{AllocError, Global};
+use std::collections::BTreeSet;
+
+/// A clause with more literals isn't short.
+const MOST_SHORT: usize = 4;
 
 /// Has the right side kept, asked about after the action (true) or before it, if it is a union of
 /// formulas and constants of one family: whether it is kept.
@@ -99,6 +105,7 @@ fn renew(
     ensures root { IfOk result (λ yes. yes ≡ true → kept.new.root ≡ Some root) }
     ensures after { IfOk result (λ yes. yes ≡ true → kept.new.after ≡ after) }
 {
+    // For its contract alone: the lines are those of a table.
     let _count = case.table.expr_count();
     if !is_union(case.table.expr(root)) {
         return Ok(false);
@@ -120,6 +127,7 @@ fn clear(alloc: Global, kept: &mut Kept, after: bool)
     ensures after { kept.new.after ≡ after }
     ensures family { kept.new.family ≡ None }
     ensures ways { kept.new.ways ≡ Some 1 }
+    ensures enough { (literal : Literal) → NamesLiteral kept.new.enough literal → ⊥ }
     ensures asked { kept.new.question.negative.items ≡ [] }
     ensures operands { kept.new.query.negative ≡ [] }
 {
@@ -127,6 +135,7 @@ fn clear(alloc: Global, kept: &mut Kept, after: bool)
     kept.after = after;
     kept.family = None;
     kept.ways = Some(1);
+    kept.enough = BTreeSet::new(alloc);
     kept.question.negative = Vec::new(alloc);
     kept.query.negative = Operands::new(alloc);
     kept.named = true;
@@ -230,6 +239,8 @@ fn put_in(case: &Case<'_>, kept: &mut Kept, set: usize, place: usize) -> Result<
         ≡ insert kept.old.question.negative.items place (set, kept.old.after)) }
     ensures ways { OnOk result ((expr : Expr) × (expr_at (lines_in case.now) set ≡ Some expr)
         × AreWaysWith kept.old.ways expr kept.new.ways) }
+    ensures enough { OnOk result ((literal : Literal) → NamesLiteral kept.new.enough literal
+        → NamesLiteral kept.old.enough literal ⊎ IsEnoughFor (lines_in case.now) set literal) }
     ensures named { OnOk result (kept.new.named ≡ true → (kept.old.named ≡ true)
         × (place ≡ length kept.old.question.negative.items) × (kept.new.query.negative
         ≡ kept.old.query.negative ++ operand_of (lines_in case.now) (set, kept.old.after) ∷ [])) }
@@ -237,11 +248,11 @@ fn put_in(case: &Case<'_>, kept: &mut Kept, set: usize, place: usize) -> Result<
     ensures after { kept.new.after ≡ kept.old.after }
     ensures family { kept.new.family ≡ kept.old.family }
 {
-    let _count = case.table.expr_count();
     let is_last = is_behind(kept, place);
     name_last(case, &mut kept.query.negative, (set, kept.after), is_last)?;
     kept.named = is_last;
     kept.ways = ways_with(kept.ways, case.table.expr(set));
+    put_enough(&mut kept.enough, case.table, set)?;
     kept.question.negative.insert(place, (set, kept.after))?;
     Ok(())
 }
@@ -298,6 +309,70 @@ fn clauses_to_choose(expr: &Expr) -> Option<u64>
         Expr::Two(clauses) => Some(clauses.len() as u64),
         Expr::Constant(Constant::Start) | Expr::Constant(Constant::Goal) => None,
         Expr::States(_) | Expr::Node(_) | Expr::Not(_) => None,
+        Expr::And(..) | Expr::Or(..) | Expr::After(..) | Expr::Before(..) => None,
+    }
+}
+
+/// Puts in the literals of a set that has one short clause: a state in which one of them is true
+/// is in the set.
+fn put_enough(
+    enough: &mut BTreeSet<(u32, bool)>,
+    table: &Table,
+    set: usize,
+) -> Result<(), AllocError>
+    requires { set < expr_count table.now.lines }
+    ensures { OnOk result ((literal : Literal) → NamesLiteral enough.new literal
+        → NamesLiteral enough.old literal ⊎ IsEnoughFor table.now.lines set literal) }
+{
+    match own_clauses(table.expr(set)) {
+        None => Ok(()),
+        Some(clauses) => put_lone(enough, clauses),
+    }
+}
+
+/// The same of these clauses.
+fn put_lone(enough: &mut BTreeSet<(u32, bool)>, clauses: &Clauses) -> Result<(), AllocError>
+    ensures { OnOk result ((literal : Literal) → NamesLiteral enough.new literal
+        → NamesLiteral enough.old literal ⊎ IsLoneFor clauses.now literal) }
+{
+    if clauses.len() != 1 {
+        return Ok(());
+    }
+    put_short(enough, clauses.get(0))
+}
+
+/// Puts in the literals of the clause, if it is short.
+fn put_short(enough: &mut BTreeSet<(u32, bool)>, clause: &[Literal]) -> Result<(), AllocError>
+    ensures { OnOk result ((literal : Literal) → NamesLiteral enough.new literal
+        → NamesLiteral enough.old literal ⊎ Contains clause.now literal) }
+{
+    if clause.len() > MOST_SHORT {
+        return Ok(());
+    }
+    for literal in clause {
+        put_literal(enough, *literal)?;
+    }
+    Ok(())
+}
+
+fn put_literal(enough: &mut BTreeSet<(u32, bool)>, literal: Literal) -> Result<(), AllocError>
+    ensures { OnOk result ((other : Literal) → NamesLiteral enough.new other
+        → NamesLiteral enough.old other ⊎ (literal ≡ other)) }
+{
+    enough.insert((literal.atom, literal.positive))?;
+    Ok(())
+}
+
+/// The clauses of a formula in clauses.
+pub(crate) fn own_clauses(expr: &Expr) -> Option<&Clauses>
+    ensures { MatchOption result (own_clauses expr.now ≡ None)
+        (λ clauses. own_clauses expr.now ≡ Some clauses.now) }
+{
+    match expr {
+        Expr::Horn(clauses) => Some(clauses),
+        Expr::Dual(clauses) => Some(clauses),
+        Expr::Two(clauses) => Some(clauses),
+        Expr::Constant(_) | Expr::States(_) | Expr::Node(_) | Expr::Not(_) => None,
         Expr::And(..) | Expr::Or(..) | Expr::After(..) | Expr::Before(..) => None,
     }
 }

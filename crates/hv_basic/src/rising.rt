@@ -4,7 +4,8 @@ ghost use Rattle.std.specs.Prelude.{◌≡◌, ◌↔◌, ℕ, Bool, true, IfOk,
 ghost use Rattle.std.specs.BTreeSet.{IsOrdered};
 ghost use Rattle.std.specs.List.{Contains};
 ghost use Rattle.hv_lines.specs.Shapes.{AskedBefore, AskingsRise};
-ghost use Rattle.hv_basic.specs.Working.Asked.{AreChosen, AreKeys, order};
+ghost use Rattle.hv_basic.specs.Sharing.{order};
+ghost use Rattle.hv_basic.specs.Working.Asked.{AreChosen, AreKeys};
 
 use crate::signed_sets::Asking;
 use std::alloc::{AllocError, Global};
@@ -76,7 +77,6 @@ fn list_of(alloc: Global, keys: &BTreeSet<(usize, bool)>) -> Result<Vec<(usize, 
     ensures list { IfOk result (λ list. list.items ≡ keys.now.keys) }
     ensures ordered { IsOrdered order keys.now }
 {
-    let _count = keys.len();
     keys.iter().copied().collect(alloc)
 }
 

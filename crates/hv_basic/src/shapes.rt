@@ -1,7 +1,6 @@
 //! Whether a statement has the shape of its word, and what it asks then.
 
 ghost use Rattle.std.specs.Prelude.{◌≡◌, ◌<◌, ℕ, Bool, IfOk, IfErr, MatchOption};
-ghost use Rattle.std.specs.List.{All};
 ghost use Rattle.hv_lines.specs.Numbering.{SpeaksBelow, acts_count, expr_count};
 ghost use Rattle.hv_lines.specs.Shapes.{AreTwo, HasShape, HasSides, IsQuestion, IsShaped};
 ghost use Rattle.hv_lines.specs.Shapes.{QuestionState as AskedQuestion};
@@ -152,15 +151,15 @@ fn question_from(
     requires sides { HasSides table.now.lines claim.word claim.left claim.right sides.acts }
     requires askings { AreAskings table.now.lines claim.word claim.left claim.right
         sides.askings.items }
-    requires below { All (λ asking. asking.set < expr_count table.now.lines) sides.askings.items }
     ensures ok { IfOk result (λ question.
         IsQuestion table.now.lines claim.word claim.left claim.right (question_of question)) }
     ensures over { IfOk result (λ question. IsQuestionOver table.now.lines (question_of question)) }
     ensures err { IfErr result (IsShapeFault ((question : AskedQuestion)
         → IsQuestion table.now.lines claim.word claim.left claim.right question → ⊥)) }
 {
+    let _ = table;
     let _ = claim;
-    let Some(family) = one_family(table, &sides.askings, None) else {
+    let Some(family) = one_family(&sides.askings, None) else {
         return Err(ShapeFault::Shape);
     };
     let positive = in_order(alloc, &sides.askings, true)?;

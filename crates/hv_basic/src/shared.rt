@@ -8,6 +8,7 @@ use crate::signed_sets::Leaf;
 use hv_lines::FormulaFamily;
 use hv_sets::{Operands, Query, Scratch};
 use std::alloc::{AllocError, Global};
+use std::collections::BTreeSet;
 use std::marker::Model;
 
 /// What is handed from statement to statement: what right sides of earlier ones ask, where these
@@ -32,6 +33,9 @@ pub(crate) struct Kept {
     pub family: Option<FormulaFamily>,
     /// How many ways there are to choose one clause of each of its sets; none where that isn't told.
     pub ways: Option<u64>,
+    /// Literals each of which puts a state into one of its sets: those of sets with one short
+    /// clause.
+    pub enough: BTreeSet<(u32, bool)>,
     pub question: Question,
     pub query: Query,
     /// Whether the query has the operands of the question.
@@ -99,6 +103,7 @@ pub(crate) fn no_side(alloc: Global) -> Kept
         after: false,
         family: None,
         ways: None,
+        enough: BTreeSet::new(alloc),
         question: Question {
             family: FormulaFamily::Horn,
             positive: Vec::new(alloc),

@@ -2,7 +2,8 @@
 
 ghost use Rattle.std.specs.Prelude.{◌≡◌, ◌<◌, ◌≤◌, ℕ, Bool, true, false, List, [], ◌∷◌, IfOk};
 ghost use Rattle.std.specs.Prelude.{IfErr, IfSome, OnOk, length};
-ghost use Rattle.hv_lines.specs.Numbering.{SpeaksBelow, acts_count, expr_count};
+ghost use Rattle.hv_sets.specs.declared.literal.Literal.{Literal};
+ghost use Rattle.hv_lines.specs.Numbering.{IsTable, SpeaksBelow, acts_count, expr_count};
 ghost use Rattle.hv_lines.specs.Shapes.{AskingsRise, HasShape, IsQuestion, asks_sides_after};
 ghost use Rattle.hv_lines.specs.Shapes.{QuestionState as AskedQuestion};
 ghost use Rattle.hv_lines.specs.Verdicts.{IsVerdict, IsVerdictOfSets};
@@ -10,11 +11,13 @@ ghost use Rattle.std.specs.List.{All, Contains};
 ghost use Rattle.hv_basic.specs.Deciding.{IsQuestionOver};
 ghost use Rattle.hv_basic.specs.Faults.{IsShapeFault};
 ghost use Rattle.hv_basic.specs.Cases.{lines_in, setting_in};
-ghost use Rattle.hv_basic.specs.Sharing.{AreWays, IsKeptFor, IsRightSide, IsShared};
+ghost use Rattle.hv_basic.specs.Sharing.{AreEnoughFor, AreWays, IsKeptFor, IsRightSide};
+ghost use Rattle.hv_basic.specs.Sharing.{IsShared, NamesLiteral};
 ghost use Rattle.hv_basic.specs.Working.Asked.{AreOperands};
 ghost use Rattle.hv_basic.specs.Working.Gathered.{IsLeftRead};
 ghost use Rattle.hv_basic.specs.Working.Sharing.{AreNamed, IsAskedBy, IsInClauses, IsVerdictOfSub};
-ghost use Rattle.hv_basic.specs.Working.Sharing.{IsListWithinIts, IsWithinIts};
+ghost use Rattle.hv_basic.specs.Working.Sharing.{HasEnough, IsEnoughWithin, IsListWithinIts};
+ghost use Rattle.hv_basic.specs.Working.Sharing.{IsWithinIts, IsWithinWays};
 ghost use Rattle.hv_lines.specs.declared.line.Expr.TheVariants as E;
 ghost use Rattle.hv_basic.specs.declared.signed_sets.Asking.{Asking};
 ghost use Rattle.hv_basic.specs.Working.Views.{question_of};
@@ -24,7 +27,7 @@ use crate::case::Case;
 use crate::families::one_family;
 use crate::lefts::{asks_sides_after, left_of};
 use crate::recent::bring;
-use crate::rights::{is_union, keep_right, lesser_before};
+use crate::rights::{is_union, keep_right, lesser_before, own_clauses};
 use crate::rising::in_order;
 use crate::shapes::{MOST_OPERANDS, ShapeFault, question_beside, shape};
 use crate::shared::{Kept, Shared};
@@ -32,8 +35,12 @@ use crate::sides::{Inclusion, Sides};
 use crate::signed_sets::Asking;
 use crate::verdicts::{decide_on, decide_sets, decide_whole, operands_of};
 use hv_lines::{Expr, FormulaFamily, Statement, Table, Verdict, Word};
-use hv_sets::Scratch;
+use hv_sets::{Literal, Scratch};
 use std::alloc::{AllocError, Global};
+use std::collections::BTreeSet;
+
+/// Of a left side with more sets, and of a set with more clauses, no clause is looked at.
+const MOST_FEW: usize = 8;
 
 /// The verdict of a basic statement with its word, as `shape` and `decide` give it. What right sides
 /// ask, the leaves of left sides, and which actions are in action sets, is kept for the statements
@@ -267,11 +274,12 @@ fn ask(
     ensures asked { IfOk result (λ yes. yes ≡ true
         → IsAskedBy table.now.lines claim.word claim.left claim.right kept.new) }
 {
+    let _ = table;
     let _ = claim;
     if !are_positive(&sides.askings) {
         return Ok(false);
     }
-    let Some(family) = one_family(table, &sides.askings, kept.family) else {
+    let Some(family) = one_family(&sides.askings, kept.family) else {
         return Ok(false);
     };
     let positive = in_order(alloc, &sides.askings, true)?;
@@ -305,17 +313,22 @@ fn decide_kept(
     kept: &mut Kept,
     scratch: &mut Scratch,
 ) -> Result<Verdict, AllocError>
+    requires table { IsTable (lines_in case.now) }
     requires question { IsQuestionOver (lines_in case.now) (question_of kept.old.question) }
     requires named { AreNamed (lines_in case.now) kept.old }
     requires ways { IfSome kept.old.ways (AreWays (lines_in case.now)
         kept.old.question.negative.items) }
+    requires enough { AreEnoughFor (lines_in case.now) kept.old.after
+        kept.old.question.negative.items kept.old.enough }
     ensures answer { IfOk result (IsVerdictOfSets (setting_in case.now) (lines_in case.now)
         (question_of kept.old.question)) }
     ensures kept { IsRightSide (lines_in case.now) kept.old
         → IsRightSide (lines_in case.now) kept.new }
 {
-    let _count = case.table.expr_count();
     if is_within_its(kept, case.budget) {
+        return Ok(Verdict::True);
+    }
+    if is_enough_within(case, kept) {
         return Ok(Verdict::True);
     }
     if is_list_within_its(case, kept) {
@@ -362,6 +375,74 @@ fn is_within_its(kept: &Kept, budget: u64) -> bool
         return false;
     }
     have_common(&kept.question.positive, &kept.question.negative)
+}
+
+/// Whether the left side asks for a set at the time of the right one that has a clause each of
+/// whose literals puts a state into a set of the right one, and the cost is known to be within the
+/// budget.
+fn is_enough_within(case: &Case<'_>, kept: &Kept) -> bool
+    requires { All (λ a. a.0 < expr_count (lines_in case.now)) kept.now.question.positive.items }
+    ensures { result ≡ true → IsEnoughWithin (lines_in case.now) kept.now case.now.budget }
+{
+    if !is_within_ways(kept, case.budget) {
+        return false;
+    }
+    if kept.question.positive.len() > MOST_FEW {
+        return false;
+    }
+    for asked in &kept.question.positive {
+        if asked.1 == kept.after {
+            if has_enough(case.table, asked.0, &kept.enough) {
+                return true;
+            }
+        }
+    }
+    false
+}
+
+/// Whether the ways to choose clauses are the cost, and known to be within the budget.
+fn is_within_ways(kept: &Kept, budget: u64) -> bool
+    ensures { result ≡ true → IsWithinWays kept.now budget }
+{
+    if !is_in_clauses(kept.question.family) {
+        return false;
+    }
+    match kept.ways {
+        None => false,
+        Some(ways) => ways <= budget,
+    }
+}
+
+/// Whether the set has few clauses, and one whose literals are all among these.
+fn has_enough(table: &Table, set: usize, enough: &BTreeSet<(u32, bool)>) -> bool
+    requires { set < expr_count table.now.lines }
+    ensures { result ≡ true → HasEnough table.now.lines set enough.now }
+{
+    let Some(clauses) = own_clauses(table.expr(set)) else {
+        return false;
+    };
+    if clauses.len() > MOST_FEW {
+        return false;
+    }
+    for place in 0..clauses.len() {
+        if are_among(clauses.get(place), enough) {
+            return true;
+        }
+    }
+    false
+}
+
+/// Whether each literal of the clause is among these.
+fn are_among(clause: &[Literal], enough: &BTreeSet<(u32, bool)>) -> bool
+    ensures { result ≡ true → (literal : Literal) → Contains clause.now literal
+        → NamesLiteral enough.now literal }
+{
+    for literal in clause {
+        if !enough.contains(&(literal.atom, literal.positive)) {
+            return false;
+        }
+    }
+    true
 }
 
 /// Whether the ways to choose clauses are the cost over formulas of the family.

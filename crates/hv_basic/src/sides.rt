@@ -1,7 +1,6 @@
 //! The two sides of a statement: whether they have the shape of its word, and what they ask about.
 
 ghost use Rattle.std.specs.Prelude.{◌<◌, ℕ, Option, IfOk, IfErr};
-ghost use Rattle.std.specs.List.{All};
 ghost use Rattle.hv_lines.specs.Numbering.{expr_count};
 ghost use Rattle.hv_lines.specs.Shapes.{HasSides};
 ghost use Rattle.hv_basic.specs.Faults.{IsShapeFault};
@@ -43,12 +42,9 @@ pub(crate) fn with_right(
         HasSides table.now.lines claim.word claim.left claim.right sides.acts) }
     ensures askings { IfOk result (λ sides.
         AreAskings table.now.lines claim.word claim.left claim.right sides.askings.items) }
-    ensures below { IfOk result (λ sides.
-        All (λ asking. asking.set < expr_count table.now.lines) sides.askings.items) }
     ensures err { IfErr result (IsShapeFault ((acts : Option ℕ)
         → HasSides table.now.lines claim.word claim.left claim.right acts → ⊥)) }
 {
-    let _count = table.expr_count();
     let acts = sides.acts;
     let mut askings = sides.askings;
     let rights = leaves(alloc, table, Half::Right, claim.right)?;

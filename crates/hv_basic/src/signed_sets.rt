@@ -29,12 +29,14 @@ pub(crate) struct Leaf {
     pub family: Option<FormulaFamily>,
 }
 
-/// What is asked about: a formula or constant, with its sign, before the action or after it.
+/// What is asked about: a formula or constant, with its sign and family, before the action or after
+/// it.
 #[derive(Clone, Copy)]
 pub(crate) struct Asking {
     pub set: usize,
     pub after: bool,
     pub positive: bool,
+    pub family: Option<FormulaFamily>,
 }
 
 /// The leaves that are no literals: none, this one alone, or more.
@@ -121,6 +123,7 @@ pub(crate) fn gather(
                     set: literal.set,
                     after,
                     positive: sign_on(on_left, literal.is_plain),
+                    family: leaf.family,
                 })?;
             }
             None => others = with_other(others, leaf.place),

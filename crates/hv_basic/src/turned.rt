@@ -86,7 +86,6 @@ fn turning_in_rows(
         )?;
     }
     let numbers = found.take(alloc)?;
-    let _count = numbers.len();
     Ok(Some(numbers))
 }
 

@@ -32,7 +32,6 @@ pub(crate) fn turning_by_look(
         put_changing(task, number, &added, &deleted, &mut found)?;
     }
     let numbers = found.take(alloc)?;
-    let _count = numbers.len();
     Ok(numbers)
 }
 

@@ -7,7 +7,7 @@ ghost use Rattle.hv_sets.specs.Query.{CanAnchor, HasAnchor};
 ghost use Rattle.hv_sets.specs.Room.{KeepsLengths};
 ghost use Rattle.hv_sets.specs.declared.literal.Literal.{Literal};
 ghost use Rattle.hv_clauses.specs.Store.{AreOver};
-ghost use Rattle.hv_lines.specs.Numbering.{expr_count};
+ghost use Rattle.hv_lines.specs.Numbering.{IsTable, expr_count};
 ghost use Rattle.hv_bdd.specs.Nodes.{node_count};
 ghost use Rattle.hv_lines.specs.Queries.{NamesNodes, count_of};
 ghost use Rattle.hv_lines.specs.Setting.{most_budget, setting_of};
@@ -105,6 +105,7 @@ pub(crate) fn decide_whole(
         (question_of question.now)) }
     ensures lengths { KeepsLengths scratch.old scratch.new }
 {
+    // For its contract alone: the lines are those of a table.
     let _count = case.table.expr_count();
     let negative = operands_of(alloc, case, &question.negative)?;
     let mut query = Query {
@@ -124,6 +125,7 @@ pub(crate) fn decide_sets(
     query: &mut Query,
     scratch: &mut Scratch,
 ) -> Result<Verdict, AllocError>
+    requires table { IsTable (lines_in case.now) }
     requires question { IsQuestionOver (lines_in case.now) (question_of question.now) }
     requires negative { AreOperands (lines_in case.now) question.now.negative.items
         query.old.negative }
@@ -132,7 +134,6 @@ pub(crate) fn decide_sets(
     ensures lengths { KeepsLengths scratch.old scratch.new }
     ensures kept { query.new.negative ≡ query.old.negative }
 {
-    let _count = case.table.expr_count();
     query.positive = operands_of(alloc, case, &question.positive)?;
     let actions = actions_to_ask(alloc, case, question, query)?;
     let verdict = decide_queries(alloc, case, question, query, &actions, scratch)?;

@@ -3,7 +3,6 @@ use Rattle.std.specs.Prelude.{◌≡◌, ◌<◌, ℕ, Bool, true, false, List, 
 use Rattle.std.specs.Prelude.{slice_get}
 use Rattle.std.specs.Global.{Vec}
 use Rattle.std.specs.List.{All, Contains}
-use Rattle.std.specs.List.Sorted.{IsStrictlyIncreasing}
 use Rattle.hv_task.specs.declared.action.Action.{Action}
 use Rattle.hv_task.specs.State.{AreBelow, applicable}
 use Rattle.hv_task.specs.Strips.{Strips, atoms}
@@ -31,10 +30,9 @@ IsAskedBefore positive which =
     (operand : Operand) × Contains positive operand × (operand.after ≡ false)
     × (operand.which ≡ which)
 
--- the list rises and is of actions of the task, of which it has the first, and each one whose whole
+-- the list is of actions of the task, of which it has the first, and each one whose whole
 -- precondition is in one of the states
 pub record AreFound (task : Strips) (states : List (List ℕ)) (listed : List ℕ) : Type 0 where
-  pub rises : IsStrictlyIncreasing listed
   pub below : AreBelow (length task.actions) listed
   pub first : 0 < length task.actions → Contains listed 0
   pub each : (number : ℕ) (action : Action) (held : List ℕ)
@@ -45,7 +43,6 @@ pub record AreFound (task : Strips) (states : List (List ℕ)) (listed : List �
 pub record AreCandidates (task : Strips) (sets : ℕ → List Bool → Bool) (which : Which)
     (listed : List ℕ) : Type 0
   where
-    pub rises : IsStrictlyIncreasing listed
     pub below : AreBelow (length task.actions) listed
     pub first : 0 < length task.actions → Contains listed 0
     pub each : (number : ℕ) (action : Action) (state : List Bool)
@@ -53,12 +50,11 @@ pub record AreCandidates (task : Strips) (sets : ℕ → List Bool → Bool) (wh
         → in_which task sets which state ≡ true → applicable action state ≡ true
         → Contains listed number
 
--- the list rises and is of actions of the task, of which it has the first, and each one for which
--- the query has a counterexample
+-- the list is of actions of the task, of which it has the first, and each one for which the query
+-- has a counterexample
 pub record HaveAllClashes (task : Strips) (sets : ℕ → List Bool → Bool) (query : Query)
     (listed : List ℕ) : Type 0
   where
-    pub rises : IsStrictlyIncreasing listed
     pub below : AreBelow (length task.actions) listed
     pub first : 0 < length task.actions → Contains listed 0
     pub each : (number : ℕ) (state : List Bool) → number < length task.actions

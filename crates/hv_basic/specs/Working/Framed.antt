@@ -2,7 +2,6 @@
 use Rattle.std.specs.Prelude.{◌≡◌, ◌<◌, ◌⊎◌, ℕ, Bool, true, false, not, List, Some, length}
 use Rattle.std.specs.Prelude.{slice_get}
 use Rattle.std.specs.List.{All, Contains}
-use Rattle.std.specs.List.Sorted.{IsStrictlyIncreasing}
 use Rattle.hv_task.specs.declared.action.Action.{Action}
 use Rattle.hv_task.specs.State.{AreBelow}
 use Rattle.hv_task.specs.Strips.{Strips, atoms}
@@ -32,12 +31,11 @@ abbrev pub CanTurn : Bool → Literal → Action → Type 0
 CanTurn value literal action =
     Contains (changed_to (sign_to value literal.positive) action) literal.atom
 
--- the list rises and is of actions of the task, of which it has the first, and each one that can
--- make a literal of the clauses true, or false
+-- the list is of actions of the task, of which it has the first, and each one that can make a
+-- literal of the clauses true, or false
 pub record AreTurning (task : Strips) (clauses : List (List Literal)) (value : Bool)
     (listed : List ℕ) : Type 0
   where
-    pub rises : IsStrictlyIncreasing listed
     pub below : AreBelow (length task.actions) listed
     pub first : 0 < length task.actions → Contains listed 0
     pub each : (number : ℕ) (action : Action) (clause : List Literal) (literal : Literal)
@@ -48,7 +46,6 @@ pub record AreTurning (task : Strips) (clauses : List (List Literal)) (value : B
 pub record AreCrossing (task : Strips) (has : List Bool → Bool) (into : Bool) (listed : List ℕ)
     : Type 0
   where
-    pub rises : IsStrictlyIncreasing listed
     pub below : AreBelow (length task.actions) listed
     pub first : 0 < length task.actions → Contains listed 0
     pub each : (number : ℕ) (action : Action) (state : List Bool)

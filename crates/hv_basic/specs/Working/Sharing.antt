@@ -1,8 +1,10 @@
 -- Working definitions beside those of `Sharing`: for private contracts and proofs.
 use Rattle.std.specs.Prelude.{◌≡◌, ◌<◌, ◌≤◌, ◌⊎◌, ◌↔◌, ◌*◌, ℕ, Bool, true, false, List, []}
 use Rattle.std.specs.Prelude.{◌∷◌, Option, None, Some, IfSome, length, slice_index_or}
+use Rattle.std.specs.BTreeSet.{BTreeSet}
 use Rattle.std.specs.List.{Contains}
-use Rattle.hv_lines.specs.Numbering.{expr_at, expr_count}
+use Rattle.hv_sets.specs.declared.literal.Literal.{Literal}
+use Rattle.hv_lines.specs.Numbering.{IsTable, expr_at, expr_count}
 use Rattle.hv_lines.specs.Shapes.{Askings, IsOrLeaf, IsQuestion}
 use Rattle.hv_lines.specs.Shapes.{IsWithinFamily, QuestionState}
 use Rattle.hv_lines.specs.declared.formula_family.FormulaFamily.{FormulaFamily}
@@ -14,7 +16,8 @@ use Rattle.hv_lines.specs.declared.line.Word.{Word}
 use Rattle.hv_lines.specs.Setting.{Setting}
 use Rattle.hv_lines.specs.Verdicts.{IsVerdictOfSets}
 use Rattle.hv_lines.specs.declared.verdict.Verdict.{Verdict}
-use Rattle.hv_basic.specs.Sharing.{AreItsLeaves, AreWays, clauses_to_choose}
+use Rattle.hv_basic.specs.Sharing.{AreEnoughFor, AreItsLeaves, AreWays, NamesLiteral}
+use Rattle.hv_basic.specs.Sharing.{clauses_to_choose, own_clauses}
 use Rattle.hv_basic.specs.Working.Asked.{AreOperands}
 use Rattle.hv_basic.specs.Working.Gathered.{IsFamilyIn}
 use Rattle.hv_basic.specs.Working.Views.{question_of}
@@ -102,9 +105,11 @@ AreNamed lines kept =
 -- beside what is kept stands the question of the statement that the left set is within the right
 -- one
 pub record IsAskedBy (lines : List Line) (word : Word) (left right : ℕ) (kept : Kept) : Type 0 where
+  pub table : IsTable lines
   pub is : IsQuestion lines word left right (question_of kept.question)
   pub named : AreNamed lines kept
   pub ways : IfSome kept.ways (AreWays lines kept.question.negative.items)
+  pub enough : AreEnoughFor lines kept.after kept.question.negative.items kept.enough
 
 -- over formulas of the family the ways to choose clauses are the cost
 abbrev pub IsInClauses : FormulaFamily → Type 0
@@ -124,6 +129,31 @@ pub record IsWithinIts (kept : Kept) (budget : ℕ) : Type 0 where
   pub own : ℕ × Bool
   pub asked_for : Contains kept.question.positive.items own
   pub has : Contains kept.question.negative.items own
+
+-- the ways to choose clauses are the cost, and within the budget
+pub record IsWithinWays (kept : Kept) (budget : ℕ) : Type 0 where
+  pub family : IsInClauses kept.question.family
+  pub ways : ℕ
+  pub told : kept.ways ≡ Some ways
+  pub few : ways ≤ budget
+
+-- some clause of the set has only literals that are enough
+pub record HasEnough (lines : List Line) (set : ℕ) (literals : BTreeSet (ℕ × Bool)) : Type 0 where
+  pub expr : Expr
+  pub at : expr_at lines set ≡ Some expr
+  pub clauses : List (List Literal)
+  pub of : own_clauses expr ≡ Some clauses
+  pub clause : List Literal
+  pub among : Contains clauses clause
+  pub enough : (literal : Literal) → Contains clause literal → NamesLiteral literals literal
+
+-- the left side asks for a set at the time of the right side that has a clause whose literals are
+-- each enough for a set of the right side, and the cost is within the budget
+pub record IsEnoughWithin (lines : List Line) (kept : Kept) (budget : ℕ) : Type 0 where
+  pub within : IsWithinWays kept budget
+  pub own : ℕ
+  pub asked_for : Contains kept.question.positive.items (own, kept.after)
+  pub has : HasEnough lines own kept.enough
 
 -- the verdict is that of the statement that the left set is within the right one, which has the
 -- shape of the word

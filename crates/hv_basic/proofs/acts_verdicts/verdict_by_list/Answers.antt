@@ -24,19 +24,19 @@ returns-then-not-index c =
       (
         below,
         has_it task lines c.args.first c.args.second c.args.seconds.now c.requires.seconds
-            c.acts_count-count.ensures.table c.args.listed.now c.requires.rises c.requires.lists
+            c.args.listed.now c.requires.rises c.requires.lists
             c.loop-action.action-index number c.loop-action-test.true refl,
         sym (flag_is task lines c.args.first c.args.second c.args.seconds.now c.requires.seconds
             number below) ∙ flag,
       ),
       none_lower task lines c.args.first c.args.second c.args.seconds.now c.requires.seconds
-          c.acts_count-count.ensures.table c.args.listed.now c.requires.rises c.requires.lists
+          c.args.listed.now c.requires.rises c.requires.lists
           c.loop-action.action-index number c.loop-action.invariant c.loop-action-test.true refl,
     )
 
 pub returns : goal.returns
 returns c =
     all_flagged c.args.case.now.task.now (lines_in c.args.case.now) c.args.first c.args.second
-    c.args.seconds.now c.requires.seconds c.acts_count-count.ensures.table c.args.listed.now
+    c.args.seconds.now c.requires.seconds c.args.listed.now
     c.requires.rises c.requires.lists c.loop-action.action-index c.loop-action-test.false
     c.loop-action.invariant

@@ -2,7 +2,6 @@ use Rattle.std.proofs.Common.{◌≡◌, ◌∙◌, [], arith, get_or, inl, inr,
 use Rattle.std.proofs.lemmas.List.{get_or_default}
 use Rattle.std.proofs.lemmas.Option.{get_or_from_slice_get}
 use Rattle.std.specs.List.{Contains}
-use Rattle.std.specs.List.Sorted.{IsStrictlyIncreasing}
 use Rattle.hv_task.specs.State.{AreBelow}
 use Rattle.hv_task.specs.Strips.{atoms}
 use Rattle.hv_lines.proofs.Elements.{nothing_in}
@@ -71,8 +70,7 @@ returns c =
     let same = c.in_ok-numbers.ensures.list in
     subst (AreFound c.args.task.now c.args.states.now) (sym same)
     (found_in c.args.task.now c.args.rows.now c.args.states.now c.loop-place.found
-    c.requires.rows (subst IsStrictlyIncreasing same c.len-count.ensures.rises) i.below i.first
-    i.past
+    c.requires.rows i.below i.first i.past
     (λ held p k among has inside less.
     let at : get_or c.args.states.now among.0 [] ≡ held =
     get_or_default c.args.states.now among.0 [] held among.1 ∙ among.2 in

@@ -5,7 +5,7 @@ use Rattle.hv_basic.proofs.kept_flags.add_part.Goals as goal
 
 pub returns-in-List : goal.returns-in-List
 returns-in-List c = λ _.
-    flagged_with c.args.table.now.lines c.acts_count-count.ensures.table c.args.flagged.now
+    flagged_with c.args.table.now.lines c.args.flagged.now
     (record { acts = c.args.acts; flags = c.set_listed.new.flags }) c.args.acts c.args.part
     c.as_slice.result.now c.requires.acts c.requires.flagged c.requires.part
     (c.acts.ensures.says

@@ -6,5 +6,5 @@ use Rattle.hv_basic.proofs.kept_leaves.make_room.Goals as goal
 
 pub returns : goal.returns
 returns c = λ lines are.
-    subst (All (AreItsLeaves lines)) (sym c.remove-first.ensures.items)
+    subst (All (AreItsLeaves lines)) (sym c.remove.ensures.items)
     (lefts_without lines c.args.kept.now.items 0 are)

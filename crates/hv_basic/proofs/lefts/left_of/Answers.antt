@@ -7,7 +7,7 @@ use Rattle.hv_basic.specs.declared.signed_sets.Others.TheVariants as O
 use Rattle.hv_basic.proofs.Gathering.{read_there}
 use Rattle.hv_basic.proofs.KeptLeaves.{taken}
 use Rattle.hv_basic.proofs.LeftSides.{alone_fails, askings_alone, askings_step, left_alone}
-use Rattle.hv_basic.proofs.LeftSides.{left_read, left_step, more_fails, step_fails}
+use Rattle.hv_basic.proofs.LeftSides.{left_step, more_fails, step_fails}
 use Rattle.hv_basic.proofs.Siding.{fault_of}
 use Rattle.hv_basic.proofs.lefts.left_of.Goals as goal
 
@@ -20,7 +20,7 @@ add_step-requires-clause-leaf c =
     (subst (AreOthers lines (places c.deref.result.now)) c.in-One.is
     (c.in_ok-others.ensures.others lines
     (read_there lines _ _ c.deref.ensures.value c.in_ok-lefts.ensures.leaves.1.read))) in
-    leaf_below lines and_parts c.args.left c.in-One.leaf c.expr_count-count.ensures.table
+    leaf_below lines and_parts c.args.left c.in-One.leaf c.in_ok-lefts.ensures.leaves.1.table
     ((taken lines c.args.left own c.in_ok-lefts.ensures.leaves c.in-One.leaf).0 one.0)
 
 pub returns-in-B1-clause-ok : goal.returns-in-B1-clause-ok
@@ -43,10 +43,12 @@ returns-in-B1-clause-ok c =
     (subst (λ b. AreGathered lines (places c.deref.result.now) true b
     c.new-askings.result.items c.gather.new.into.items) c.asks_sides_after.ensures
     (c.in_ok-others.ensures.gathered lines read))) in
-    left_read lines c.args.word c.args.left _ c.expr_count-count.ensures.table
-    (left_alone lines c.args.word c.args.left lefts are all c.in-B1.is)
-    (askings_alone lines c.args.word c.args.left lefts are c.gather.new.into.items gathered
-    c.in-B1.is)
+    record {
+      side = left_alone lines c.args.word c.args.left lefts are all c.in-B1.is;
+      askings =
+          askings_alone lines c.args.word c.args.left lefts are c.gather.new.into.items gathered
+          c.in-B1.is;
+    }
 
 pub returns-in_default : goal.returns-in_default
 returns-in_default c =
@@ -86,11 +88,14 @@ returns-in-Ok-clause-ok c =
     (subst (λ b. AreGathered lines (places c.deref.result.now) true b
     c.new-askings.result.items c.gather.new.into.items) c.asks_sides_after.ensures
     (c.in_ok-others.ensures.gathered lines read))) in
-    left_read lines c.args.word c.args.left _ c.expr_count-count.ensures.table
-    (left_step lines c.args.word c.args.left lefts are c.in-One.leaf one c.in-Ok.acts
-    c.gather.new.into.items c.add_step.new.into.items c.in-Ok.ensures.ok)
-    (askings_step lines c.args.word c.args.left lefts are c.gather.new.into.items gathered
-    c.in-One.leaf c.in-Ok.acts c.add_step.new.into.items one c.in-Ok.ensures.ok)
+    record {
+      side =
+          left_step lines c.args.word c.args.left lefts are c.in-One.leaf one c.in-Ok.acts
+          c.gather.new.into.items c.add_step.new.into.items c.in-Ok.ensures.ok;
+      askings =
+          askings_step lines c.args.word c.args.left lefts are c.gather.new.into.items gathered
+          c.in-One.leaf c.in-Ok.acts c.add_step.new.into.items one c.in-Ok.ensures.ok;
+    }
 
 pub returns-in-Err-clause-err : goal.returns-in-Err-clause-err
 returns-in-Err-clause-err c =

@@ -6,5 +6,5 @@ use Rattle.hv_basic.proofs.recent.give_up.Goals as goal
 
 pub returns : goal.returns
 returns c = λ lines are.
-    subst (All (IsRightSide lines)) (sym c.remove-side.ensures.items)
+    subst (All (IsRightSide lines)) (sym c.remove.ensures.items)
     (sides_without lines c.args.sides.now.items c.in-Some.place are)

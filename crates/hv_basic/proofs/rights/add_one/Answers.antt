@@ -29,7 +29,7 @@ returns-clause-side c = λ _.
     (subst (λ (xs : Askings). IsPlaceFor xs c.args.leaf.place c.in-Some-place_for.place)
     c.deref.ensures.value c.in-Some-place_for.ensures)
     c.in_ok-put_in.ensures.asked c.in_ok-put_in.ensures.after c.in_ok-put_in.ensures.ways
-    c.in_ok-put_in.ensures.named
+    c.in_ok-put_in.ensures.enough c.in_ok-put_in.ensures.named
 
 pub returns-clause-added : goal.returns-clause-added
 returns-clause-added c = λ _.

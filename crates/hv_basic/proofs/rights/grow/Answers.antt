@@ -11,7 +11,12 @@ pub returns-clause-kept : goal.returns-clause-kept
 returns-clause-kept c = record {
   below = c.requires.root;
   side = let side = c.in_ok-add_all.ensures.side c.if-not-branch.false in
-      record { plain = side.plain; ways = side.ways; named = side.named };
+      record {
+        plain = side.plain;
+        ways = side.ways;
+        enough = side.enough;
+        named = side.named;
+      };
   leaves =
       subst (λ b. (leaf : ℕ)
       → Contains c.add_all.new.kept.question.negative.items (leaf, b)

@@ -4,7 +4,7 @@ use Rattle.hv_basic.specs.Working.Gathered.{AreGathered, AreOthers}
 use Rattle.hv_basic.specs.Leaves.{places}
 use Rattle.hv_basic.specs.declared.signed_sets.Others.TheVariants as O
 use Rattle.hv_basic.proofs.Gathering.{read_there}
-use Rattle.hv_basic.proofs.Siding.{asked_lines, askings_from, right_fails, sides_from}
+use Rattle.hv_basic.proofs.Siding.{askings_from, right_fails, sides_from}
 use Rattle.hv_basic.proofs.sides.with_right.Goals as goal
 
 pub returns-in-None-clause-sides : goal.returns-in-None-clause-sides
@@ -28,20 +28,6 @@ returns-in-None-clause-askings c =
     c.args.sides.askings.items c.gather.new.into.items) c.asks_sides_after.ensures
     (c.in_ok-gather.ensures.gathered c.args.table.now.lines
     (read_there c.args.table.now.lines _ _ c.deref.ensures.value c.in_ok-rights.ensures.read))))
-
-pub returns-in-None-clause-below : goal.returns-in-None-clause-below
-returns-in-None-clause-below c =
-    asked_lines c.args.table.now.lines c.args.claim.word c.args.claim.left c.args.claim.right
-    c.gather.new.into.items c.expr_count-count.ensures.table
-    (askings_from c.args.table.now.lines c.args.claim.word c.args.claim.left c.args.claim.right
-    (places c.in_ok-rights.rights.items) c.in_ok-rights.ensures.leaves c.args.sides.askings.items
-    c.gather.new.into.items c.requires.left.askings
-    (subst (λ xs. AreGathered c.args.table.now.lines (places xs) false (asks_sides_after c.args.claim.word)
-    c.args.sides.askings.items c.gather.new.into.items) c.deref.ensures.value
-    (subst (λ b. AreGathered c.args.table.now.lines (places c.deref.result.now) false b
-    c.args.sides.askings.items c.gather.new.into.items) c.asks_sides_after.ensures
-    (c.in_ok-gather.ensures.gathered c.args.table.now.lines
-    (read_there c.args.table.now.lines _ _ c.deref.ensures.value c.in_ok-rights.ensures.read)))))
 
 pub returns-in-One-clause-err : goal.returns-in-One-clause-err
 returns-in-One-clause-err c =

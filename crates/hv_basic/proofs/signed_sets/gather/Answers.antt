@@ -4,7 +4,7 @@ use Rattle.hv_lines.proofs.Shaped.{literal_from}
 use Rattle.hv_basic.specs.Working.Gathered.{AreGathered, AreOthers}
 use Rattle.hv_basic.specs.Leaves.{places}
 use Rattle.hv_basic.specs.declared.signed_sets.Asking.{Asking}
-use Rattle.hv_basic.proofs.Gathering.{gathered_more, gathered_other, gathered_whole, others_at}
+use Rattle.hv_basic.proofs.Gathering.{family_at, gathered_more, gathered_other, gathered_whole, others_at}
 use Rattle.hv_basic.proofs.Gathering.{literal_at, other_at, others_same, others_whole, others_with}
 use Rattle.hv_basic.proofs.signed_sets.gather.Goals as goal
 use Rattle.hv_basic.proofs.signed_sets.gather.Goals.{in-Some+in_ok-push-in-Some, in-None}
@@ -25,8 +25,9 @@ loop-leaf-preserved c =
             (sym w.in_ok-push-in-Some.ensures.items)
             (gathered_more lines (places leaves) i within c.args.on_left c.args.after
             c.args.into.now.items c.loop-leaf.into.items
-            (c.loop-leaf.invariant.gathered lines read) w.in-Some.literal w.sign_on.result
+            (c.loop-leaf.invariant.gathered lines read) w.in-Some.literal _ w.sign_on.result
             (literal_at lines leaves i _ c.loop-leaf-test.true read w.in-Some.literal w.in-Some.is)
+            (family_at lines leaves i _ c.loop-leaf-test.true read w.in-Some.literal w.in-Some.is)
             w.sign_on.ensures));
         others = λ lines read.
             subst (AreOthers lines (take (i + 1) (places leaves))) (sym w.others-is)

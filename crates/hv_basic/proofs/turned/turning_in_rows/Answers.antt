@@ -3,7 +3,6 @@ use Rattle.std.proofs.lemmas.Bool.{cases_lt}
 use Rattle.std.proofs.lemmas.List.{get_or_default}
 use Rattle.std.proofs.lemmas.Option.{get_or_from_slice_get, slice_get_within}
 use Rattle.std.specs.List.{Contains}
-use Rattle.std.specs.List.Sorted.{IsStrictlyIncreasing}
 use Rattle.hv_lines.proofs.Elements.{all_from, nothing_in}
 use Rattle.hv_basic.specs.Working.Framed.{AreTurning}
 use Rattle.hv_basic.proofs.turned.turning_in_rows.Goals as goal
@@ -54,7 +53,6 @@ returns c =
     let clauses = c.args.clauses.now in
     subst (AreTurning c.args.task.now clauses c.args.value) (sym same)
     record {
-      rises = subst IsStrictlyIncreasing same c.len-count.ensures.rises;
       below = all_from (λ k. k < length c.args.task.now.actions) c.loop-place.found i.below;
       first = i.first;
       each = λ number action clause literal at among inside turns.

@@ -2,7 +2,6 @@ use Rattle.std.proofs.Common.{◌≡◌, ◌<◌, true, false, Some, arith, inl,
 use Rattle.std.proofs.lemmas.Bool.{cases_lt}
 use Rattle.std.proofs.lemmas.Option.{slice_get_within}
 use Rattle.std.specs.List.{Contains}
-use Rattle.std.specs.List.Sorted.{IsStrictlyIncreasing}
 use Rattle.hv_lines.proofs.Elements.{all_from, nothing_in}
 use Rattle.hv_task.specs.Strips.{atoms}
 use Rattle.hv_basic.specs.Working.Framed.{AreFlagsFor, AreTurning, ChangesOne}
@@ -57,7 +56,6 @@ returns c =
     let deleted = c.in_ok-deleted.deleted.items in
     subst (AreTurning task clauses c.args.value) (sym same)
     record {
-      rises = subst IsStrictlyIncreasing same c.len-count.ensures.rises;
       below = all_from (λ k. k < length task.actions) c.loop-number.found i.below;
       first = i.first;
       each = λ number action clause literal at among inside turns.

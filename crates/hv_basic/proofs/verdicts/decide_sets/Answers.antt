@@ -18,7 +18,7 @@ operands_of-requires c =
     (sym c.deref.ensures.value)
     (λ k d below.
     let a : ℕ × Bool = get_or c.args.question.now.positive.items k d in
-    asked_exprs (lines_in c.args.case.now) c.expr_count-count.ensures.table
+    asked_exprs (lines_in c.args.case.now) c.requires.table
     c.requires.question.word c.requires.question.left c.requires.question.right
     (question_of c.args.question.now) c.requires.question.is a
     (inl (Contains-get_or c.args.question.now.positive.items k d below))
@@ -26,10 +26,10 @@ operands_of-requires c =
 
 pub actions_to_ask-requires : goal.actions_to_ask-requires
 actions_to_ask-requires c = record {
-  acts = acts_below_of (lines_in c.args.case.now) c.expr_count-count.ensures.table
+  acts = acts_below_of (lines_in c.args.case.now) c.requires.table
       c.requires.question.word c.requires.question.left c.requires.question.right
       _ c.requires.question.is _ c.requires.question.is.sides;
-  query = query_is (lines_in c.args.case.now) c.expr_count-count.ensures.table
+  query = query_is (lines_in c.args.case.now) c.requires.table
       c.requires.question.word c.requires.question.left c.requires.question.right
       (question_of c.args.question.now) c.requires.question.is
       (node_count c.args.case.now.diagrams.now) c.args.case.now.nodes
@@ -45,7 +45,7 @@ actions_to_ask-requires c = record {
 
 pub decide_queries-requires : goal.decide_queries-requires
 decide_queries-requires c = record {
-  query = asks_question (lines_in c.args.case.now) c.expr_count-count.ensures.table
+  query = asks_question (lines_in c.args.case.now) c.requires.table
       c.requires.question.word c.requires.question.left c.requires.question.right
       (question_of c.args.question.now) c.requires.question.is
       (node_count c.args.case.now.diagrams.now) c.args.case.now.nodes _
