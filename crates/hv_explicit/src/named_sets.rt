@@ -97,6 +97,9 @@ fn put_flags(flags: &mut State, operands: &[Operand], after: bool)
     requires { (p : ℕ) → has_atom flags.old p ≡ false }
     ensures { AreFlagged operands.now after flags.new }
 {
+    if flags.atoms() == 0 {
+        return;
+    }
     for operand in operands {
         put_flag(flags, *operand, after);
     }
