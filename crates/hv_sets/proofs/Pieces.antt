@@ -1,11 +1,9 @@
 -- Lists of lists that are kept as one.
 use Rattle.std.proofs.Common.{◌≡◌, ℕ, zero, suc, ◌+◌, ◌-◌, ◌<◌, ◌≤◌, ◌∙◌, List, [], ◌∷◌, ◌++◌}
 use Rattle.std.proofs.Common.{length, get_or, take, drop, Some, refl, sym, ap, ap₂, arith}
-use Rattle.std.proofs.Common.{length-append, append-nil}
+use Rattle.std.proofs.Common.{length-append}
 use Rattle.std.proofs.lemmas.List.{drop-append-le, length-drop, take-append-le, take_all, drop_all}
-use Rattle.std.proofs.Math.Seq.{drop-append_seam, take-length}
 use Rattle.std.specs.Prelude.{slice_get, slice_range}
-use Rattle.hv_sets.specs.Gathered.{Gathered}
 use Rattle.hv_sets.specs.Working.Pieces.{EndWithin, gathered, last_end, pieces, start_of}
 
 -- the pieces end within the items

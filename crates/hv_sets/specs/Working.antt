@@ -2,4 +2,4 @@
 pub mod Cubes
 pub mod Names
 pub mod Pieces
-pub mod SharedValue
+pub mod SharedPieces

@@ -9,8 +9,10 @@
 //!
 //! A reader hands on a list that has been shared (`share`), and the store's copy of such a list is
 //! a further owner of it, so a formula's clauses occur once, and a store keeps only an index beside
-//! them. A list that is put to after it was shared becomes one of its own first, so no owner sees
-//! what another does.
+//! them. Of at most three clauses of at most four literals in all each owner has its own, which
+//! takes no block of memory: the value has the space anyhow, and the blocks of a formula of one
+//! clause would take twice as much. A list that is put to after it was shared becomes one of its own
+//! first, so no owner sees what another does.
 
 ghost use Rattle.std.specs.Prelude.{◌≡◌, ◌<◌, [], ◌∷◌, ◌++◌, ◌==◌, length, slice_get, IfOk, Some};
 ghost use Rattle.std.specs.Prelude.{OnOk, OnErr};
@@ -18,28 +20,30 @@ ghost use Rattle.std.specs.Prelude.{OnOk, OnErr};
 use crate::clause::Clause;
 use crate::flat::Flat;
 use crate::literal::Literal;
-use crate::shared_value::SharedValue;
+use crate::shared_pieces::SharedPieces;
 use std::alloc::{AllocError, Global};
 use std::marker::Model;
-use std::rc::Rc;
+
+/// A shared list of clauses has at most so many literals in the value itself.
+const FEW_LITERALS: usize = 4;
 
 /// A list of clauses: it is true in a state where each of its clauses is. The empty list is true.
 #[derive(Drop)]
 pub struct Clauses {
     alloc: Global,
-    pieces: SharedValue<Flat<Literal>>,
+    pieces: SharedPieces<Literal, FEW_LITERALS>,
 }
 
 impl Model for Clauses {
     ghost use Rattle.std.specs.Prelude.{◌≡◌, [], List};
     ghost use Rattle.hv_sets.specs.declared.literal.Literal.{Literal};
-    ghost use Rattle.hv_sets.specs.Working.SharedValue.{held_value};
+    ghost use Rattle.hv_sets.specs.Working.SharedPieces.{held_pieces};
 
     ghost Value = { List (List Literal) };
 
-    ghost view = { λ c. (held_value c.pieces).whole };
+    ghost view = { λ c. (held_pieces c.pieces).whole };
 
-    ghost invariant = { λ c. (held_value c.pieces).begun ≡ [] };
+    ghost invariant = { λ c. (held_pieces c.pieces).begun ≡ [] };
 }
 
 impl Clauses {
@@ -49,7 +53,7 @@ impl Clauses {
     {
         Clauses {
             alloc,
-            pieces: SharedValue::Alone(Flat::new(alloc)),
+            pieces: SharedPieces::Alone(Flat::new(alloc)),
         }
     }
 
@@ -58,11 +62,10 @@ impl Clauses {
         ensures { IfOk result (λ shared. shared ≡ self) }
     {
         let Clauses { alloc, pieces } = self;
-        let pieces = match pieces {
-            SharedValue::Alone(pieces) => SharedValue::Together(Rc::new(alloc, pieces)?),
-            SharedValue::Together(shared) => SharedValue::Together(shared),
-        };
-        Ok(Clauses { alloc, pieces })
+        Ok(Clauses {
+            alloc,
+            pieces: pieces.share(alloc)?,
+        })
     }
 
     /// The same list once more: together with this one where it is shared, and otherwise in as much
@@ -70,11 +73,10 @@ impl Clauses {
     pub fn copy(&self, alloc: Global) -> Result<Clauses, AllocError>
         ensures { IfOk result (λ copy. copy ≡ self.now) }
     {
-        let pieces = match &self.pieces {
-            SharedValue::Alone(pieces) => SharedValue::Alone(pieces.copy(alloc)?),
-            SharedValue::Together(shared) => SharedValue::Together(shared.clone()?),
-        };
-        Ok(Clauses { alloc, pieces })
+        Ok(Clauses {
+            alloc,
+            pieces: self.pieces.copy(alloc)?,
+        })
     }
 
     /// Puts the item last. More than 4,294,967,295 literals in all are answered as want
@@ -93,22 +95,14 @@ impl Clauses {
         ensures ok { OnOk result (self.new ≡ self.old ++ literals.now ∷ []) }
         ensures err { OnErr result (self.new ≡ self.old) }
     {
-        match &mut self.pieces {
-            SharedValue::Alone(pieces) => pieces.push(literals),
-            SharedValue::Together(shared) => {
-                let mut own = shared.copy(self.alloc)?;
-                own.push(literals)?;
-                self.pieces = SharedValue::Alone(own);
-                Ok(())
-            }
-        }
+        self.pieces.push(self.alloc, literals)
     }
 
     /// How many clauses there are.
     pub fn len(&self) -> usize
         ensures { result ≡ length self.now }
     {
-        self.pieces.get().len()
+        self.pieces.len()
     }
 
     /// Whether there is none.
@@ -123,7 +117,7 @@ impl Clauses {
         requires { place < length self.now }
         ensures { slice_get self.now place ≡ Some result.now }
     {
-        self.pieces.get().get(place)
+        self.pieces.get(place)
     }
 }
 
@@ -196,7 +190,7 @@ impl ClausesBuilder {
         let ClausesBuilder { alloc, pieces } = self;
         Clauses {
             alloc,
-            pieces: SharedValue::Alone(pieces),
+            pieces: SharedPieces::Alone(pieces),
         }
     }
 }

@@ -6,10 +6,19 @@
 
 ghost use Rattle.std.specs.Prelude.{◌≡◌, ◌<◌, ◌≤◌, ◌+◌, [], ◌∷◌, ◌++◌, length, slice_get};
 ghost use Rattle.std.specs.Prelude.{slice_range, IfOk, IfSome, Some, OnOk, OnErr};
-ghost use Rattle.hv_sets.specs.Working.Pieces.{EndWithin, last_end, pieces, start_of};
+ghost use Rattle.hv_sets.specs.Working.Pieces.{EndWithin, gathered, last_end, pieces, start_of};
 
 use std::alloc::{AllocError, Global};
 use std::marker::Model;
+
+/// What lists of lists in one list are, wherever they lie.
+#[derive(Clone, Copy, Drop)]
+pub(crate) struct Parts<'a, T> {
+    /// The items of all pieces, one after the other, and then those of one that is begun.
+    pub items: &'a [T],
+    /// Where each piece ends among them.
+    pub ends: &'a [u32],
+}
 
 /// Pieces, one after the other, and the items of one that is begun.
 #[derive(Drop)]
@@ -41,15 +50,28 @@ impl<T: Copy> Flat<T> {
         }
     }
 
-    /// The same pieces and items once more, in as much memory as they need.
-    pub(crate) fn copy(&self, alloc: Global) -> Result<Flat<T>, AllocError>
-        ensures { IfOk result (λ copy. copy ≡ self.now) }
+    /// The pieces of these items with these ends, in as much memory as they need.
+    pub(crate) fn of(alloc: Global, parts: Parts<'_, T>) -> Result<Flat<T>, AllocError>
+        requires { EndWithin parts.items.now 0 parts.ends.now }
+        ensures { IfOk result (λ flat.
+            flat ≡ gathered parts.entry.items.now parts.entry.ends.now) }
     {
-        let mut items = Vec::with_capacity(alloc, self.items.len())?;
-        items.extend_from_slice(&self.items)?;
-        let mut ends = Vec::with_capacity(alloc, self.ends.len())?;
-        ends.extend_from_slice(&self.ends)?;
+        let mut items = Vec::with_capacity(alloc, parts.items.len())?;
+        items.extend_from_slice(parts.items)?;
+        let mut ends = Vec::with_capacity(alloc, parts.ends.len())?;
+        ends.extend_from_slice(parts.ends)?;
         Ok(Flat { items, ends })
+    }
+
+    /// Its items, and where its pieces end.
+    pub(crate) fn parts(&self) -> Parts<'_, T>
+        ensures ended { EndWithin result.items.now 0 result.ends.now }
+        ensures are { self.now ≡ gathered result.items.now result.ends.now }
+    {
+        Parts {
+            items: &self.items,
+            ends: &self.ends,
+        }
     }
 
     /// Puts an item last in the piece that is begun.
@@ -114,14 +136,6 @@ impl<T: Copy> Flat<T> {
     {
         self.items.len() - end_of_last(&self.ends)
     }
-
-    /// The items of the piece at a place from 0.
-    pub(crate) fn get(&self, place: usize) -> &[T]
-        requires { place < length self.now.whole }
-        ensures { slice_get self.now.whole place ≡ Some result.now }
-    {
-        piece_at(&self.items, &self.ends, place)
-    }
 }
 
 // Where so many more items after so many end, if there is room.
@@ -134,8 +148,8 @@ fn end_after(len: usize, more: usize) -> Option<u32>
     }
 }
 
-// The piece at a place.
-fn piece_at<'a, T>(items: &'a [T], ends: &[u32], place: usize) -> &'a [T]
+/// The items of the piece at a place from 0.
+pub(crate) fn piece_at<'a, T>(items: &'a [T], ends: &[u32], place: usize) -> &'a [T]
     requires ended { EndWithin items.now 0 ends.now }
     requires place { place < length ends.now }
     ensures { slice_get (pieces items.now 0 ends.now) place ≡ Some result.now }

@@ -7,6 +7,7 @@ pub mod clauses;
 pub mod cube;
 pub mod cursor;
 pub mod family;
+mod few;
 pub mod finding;
 mod flat;
 pub mod literal;
@@ -14,7 +15,7 @@ pub mod operand;
 pub mod operands;
 pub mod query;
 pub mod scratch;
-mod shared_value;
+mod shared_pieces;
 pub mod state_list;
 pub mod state_set;
 

@@ -6,7 +6,8 @@
 //! not an `AtomList`, which stays the type in which one state is put together. The readers put
 //! atoms last one by one (`StateListBuilder`, as literals by `ClausesBuilder`), so a line of two
 //! million states takes no memory a state but its atoms and its end, and nothing is moved once it
-//! is read. Lists are shared as those of clauses are.
+//! is read. Lists are shared as those of clauses are: of at most three states of at most eight atoms
+//! in all each owner has its own.
 
 ghost use Rattle.std.specs.Prelude.{◌≡◌, ◌<◌, [], ◌∷◌, ◌++◌, ◌==◌, length, slice_get, IfOk, Some};
 ghost use Rattle.std.specs.Prelude.{OnOk, OnErr};
@@ -15,31 +16,33 @@ ghost use Rattle.std.specs.List.Sorted.{IsStrictlyIncreasing};
 ghost use Rattle.hv_task.specs.State.{AreBelow};
 
 use crate::flat::Flat;
-use crate::shared_value::SharedValue;
+use crate::shared_pieces::SharedPieces;
 use hv_task::AtomList;
 use std::alloc::{AllocError, Global};
 use std::marker::Model;
-use std::rc::Rc;
+
+/// A shared list of states has at most so many atoms in the value itself.
+const FEW_ATOMS: usize = 8;
 
 /// A list of states, each by the atoms that it holds, which rise.
 #[derive(Drop)]
 pub struct StateList {
     alloc: Global,
-    pieces: SharedValue<Flat<u32>>,
+    pieces: SharedPieces<u32, FEW_ATOMS>,
 }
 
 impl Model for StateList {
     ghost use Rattle.std.specs.Prelude.{◌≡◌, ℕ, List, []};
     ghost use Rattle.std.specs.List.{All};
     ghost use Rattle.std.specs.List.Sorted.{IsStrictlyIncreasing};
-    ghost use Rattle.hv_sets.specs.Working.SharedValue.{held_value};
+    ghost use Rattle.hv_sets.specs.Working.SharedPieces.{held_pieces};
 
     ghost Value = { List (List ℕ) };
 
-    ghost view = { λ l. (held_value l.pieces).whole };
+    ghost view = { λ l. (held_pieces l.pieces).whole };
 
-    ghost invariant = { λ l. ((held_value l.pieces).begun ≡ [])
-        × All IsStrictlyIncreasing (held_value l.pieces).whole };
+    ghost invariant = { λ l. ((held_pieces l.pieces).begun ≡ [])
+        × All IsStrictlyIncreasing (held_pieces l.pieces).whole };
 }
 
 impl StateList {
@@ -49,7 +52,7 @@ impl StateList {
     {
         StateList {
             alloc,
-            pieces: SharedValue::Alone(Flat::new(alloc)),
+            pieces: SharedPieces::Alone(Flat::new(alloc)),
         }
     }
 
@@ -58,11 +61,10 @@ impl StateList {
         ensures { IfOk result (λ shared. shared ≡ self) }
     {
         let StateList { alloc, pieces } = self;
-        let pieces = match pieces {
-            SharedValue::Alone(pieces) => SharedValue::Together(Rc::new(alloc, pieces)?),
-            SharedValue::Together(shared) => SharedValue::Together(shared),
-        };
-        Ok(StateList { alloc, pieces })
+        Ok(StateList {
+            alloc,
+            pieces: pieces.share(alloc)?,
+        })
     }
 
     /// The same list once more: together with this one where it is shared, and otherwise in as much
@@ -70,11 +72,10 @@ impl StateList {
     pub fn copy(&self, alloc: Global) -> Result<StateList, AllocError>
         ensures { IfOk result (λ copy. copy ≡ self.now) }
     {
-        let pieces = match &self.pieces {
-            SharedValue::Alone(pieces) => SharedValue::Alone(pieces.copy(alloc)?),
-            SharedValue::Together(shared) => SharedValue::Together(shared.clone()?),
-        };
-        Ok(StateList { alloc, pieces })
+        Ok(StateList {
+            alloc,
+            pieces: self.pieces.copy(alloc)?,
+        })
     }
 
     /// Puts the item last. More than 4,294,967,295 atoms in all are answered as want
@@ -94,15 +95,7 @@ impl StateList {
         ensures ok { OnOk result (self.new ≡ self.old ++ atoms.now ∷ []) }
         ensures err { OnErr result (self.new ≡ self.old) }
     {
-        match &mut self.pieces {
-            SharedValue::Alone(pieces) => pieces.push(atoms),
-            SharedValue::Together(shared) => {
-                let mut own = shared.copy(self.alloc)?;
-                own.push(atoms)?;
-                self.pieces = SharedValue::Alone(own);
-                Ok(())
-            }
-        }
+        self.pieces.push(self.alloc, atoms)
     }
 
     /// How many states there are.
@@ -110,7 +103,7 @@ impl StateList {
         ensures len { result ≡ length self.now }
         ensures rise { All IsStrictlyIncreasing self.now }
     {
-        self.pieces.get().len()
+        self.pieces.len()
     }
 
     /// Whether there is none.
@@ -126,7 +119,7 @@ impl StateList {
         ensures state { slice_get self.now place ≡ Some result.now }
         ensures rises { IsStrictlyIncreasing result.now }
     {
-        self.pieces.get().get(place)
+        self.pieces.get(place)
     }
 }
 
@@ -213,7 +206,7 @@ impl StateListBuilder {
         let StateListBuilder { alloc, pieces } = self;
         StateList {
             alloc,
-            pieces: SharedValue::Alone(pieces),
+            pieces: SharedPieces::Alone(pieces),
         }
     }
 }

@@ -1,5 +1,4 @@
-use Rattle.std.proofs.Common.{ap, length, arith, ◌+◌, ◌≡◌}
-use Rattle.std.proofs.lemmas.List.{length-drop}
+use Rattle.std.proofs.Common.{ap, arith}
 use Rattle.hv_sets.specs.Working.Pieces.{last_end}
 use Rattle.hv_sets.proofs.Pieces.{last_within}
 use Rattle.hv_sets.proofs.flat.Flat.begun.Goals as goal

@@ -1,4 +1,4 @@
-use Rattle.std.proofs.Common.{◌≡◌, ◌+◌, ◌++◌, ◌∷◌, [], ◌∙◌, sym, ap, ap₂, subst, length}
+use Rattle.std.proofs.Common.{◌+◌, ◌++◌, ◌∷◌, [], ◌∙◌, sym, ap, ap₂, subst, length}
 use Rattle.hv_sets.specs.Working.Pieces.{EndWithin, gathered}
 use Rattle.hv_sets.proofs.Pieces.{ends-push, gathered-push}
 use Rattle.hv_sets.proofs.flat.Flat.push.Goals as goal
