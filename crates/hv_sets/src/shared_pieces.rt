@@ -11,12 +11,13 @@ use std::alloc::{AllocError, Global};
 use std::rc::Rc;
 
 /// Pieces that are held alone, or together with others who only read them. Of those that are
-/// shared, few lie in the value itself: to copy them takes no block of memory either.
+/// shared, few lie in the value itself: to copy them takes no block of memory either. Long lists
+/// that are read are held together, so that form comes first: a look at it costs one test.
 #[derive(Drop)]
 pub(crate) enum SharedPieces<T, const N: usize> {
-    Few(Few<T, N>),
-    Alone(Flat<T>),
     Together(Rc<Flat<T>, Global>),
+    Alone(Flat<T>),
+    Few(Few<T, N>),
 }
 
 impl<T: Copy, const N: usize> SharedPieces<T, N> {
