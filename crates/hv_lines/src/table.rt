@@ -2,8 +2,11 @@
 //!
 //! A table can take its memory first (`reserve`): a `push` where there is capacity succeeds. So a
 //! store beside the table can reserve, add and push, and the two never come apart.
+//!
+//! Places among the lines are numbers of 32 bits: for more than 4,294,967,296 lines there is no
+//! capacity, and they are answered as out of memory.
 
-ghost use Rattle.std.specs.Prelude.{◌≡◌, ◌<◌, ◌≤◌, ◌+◌, ◌^◌, min, ◌↔◌, ◌++◌, [], ◌∷◌, length};
+ghost use Rattle.std.specs.Prelude.{◌≡◌, ◌<◌, ◌≤◌, ◌+◌, ◌-◌, ◌^◌, min, ◌↔◌, ◌++◌, [], ◌∷◌, length};
 ghost use Rattle.std.specs.Prelude.{reverse, slice_get, vec_len, Some, IsTrue, OnOk, OnErr};
 ghost use Rattle.hv_lines.specs.Literals.{IsFormula, IsConstantExpr, IsPlainExpr, IsLiteral};
 ghost use Rattle.hv_lines.specs.Numbering.{acts_count, expr_count, known_count, acts_at, expr_at};
@@ -17,20 +20,23 @@ use crate::premises::Premises;
 use std::alloc::{AllocError, Global};
 use std::marker::Model;
 
+/// So many places are numbers of 32 bits.
+const MOST_PLACES: usize = 4_294_967_296;
+
 /// The lines of a proof, found by their identifiers and by their places.
 #[derive(Drop)]
 pub struct Table {
     lines: Vec<Line>,
     /// Where the `a` line of each identifier is among the lines.
-    acts: Vec<usize>,
+    acts: Vec<u32>,
     /// Where the `e` line of each identifier is among the lines.
-    exprs: Vec<usize>,
+    exprs: Vec<u32>,
     /// Where the `k` line of each identifier is among the lines.
-    knowns: Vec<usize>,
+    knowns: Vec<u32>,
 }
 
 impl Model for Table {
-    ghost use Rattle.std.specs.Prelude.{◌-◌, min, reverse, vec_len, vec_capacity};
+    ghost use Rattle.std.specs.Prelude.{◌-◌, ◌^◌, min, reverse, vec_len, vec_capacity};
     ghost use Rattle.hv_lines.specs.TableState.{TableState};
     ghost use Rattle.hv_lines.specs.Working.TableState.{IsIndexed, room_of};
 
@@ -39,7 +45,8 @@ impl Model for Table {
     ghost view = { λ t. record {
       lines = reverse t.lines.items;
       room = min (room_of t.lines)
-          (min (room_of t.acts) (min (room_of t.exprs) (room_of t.knowns)));
+          (min (room_of t.acts) (min (room_of t.exprs)
+          (min (room_of t.knowns) (2 ^ 32 - vec_len t.lines))));
     } };
 
     ghost invariant = { λ t.
@@ -59,12 +66,16 @@ impl Table {
         }
     }
 
-    /// Takes the memory for so many further lines.
+    /// Takes the memory for so many further lines. There is none for more than 4,294,967,296 in all.
     pub fn reserve(&mut self, lines: usize) -> Result<(), AllocError>
         ensures room { OnOk result (lines ≤ self.new.room) }
         ensures more { self.old.room ≤ self.new.room }
         ensures lines { self.new.lines ≡ self.old.lines }
     {
+        match self.lines.len().checked_add(lines) {
+            Some(all) if all <= MOST_PLACES => {}
+            _ => return Err(AllocError),
+        }
         self.lines.reserve(lines)?;
         self.acts.reserve(lines)?;
         self.exprs.reserve(lines)?;
@@ -156,7 +167,7 @@ impl Table {
         ensures before { ActsReferBelow id result.now }
         ensures below { ActsReferBelow (acts_count self.now.lines) result.now }
     {
-        match &self.lines[self.acts[id]] {
+        match &self.lines[self.acts[id] as usize] {
             Line::Acts { acts, .. } => acts,
             _ => unreachable!(),
         }
@@ -170,7 +181,7 @@ impl Table {
         ensures below { ExprRefersBelow (acts_count self.now.lines)
             (expr_count self.now.lines) result.now }
     {
-        match &self.lines[self.exprs[id]] {
+        match &self.lines[self.exprs[id] as usize] {
             Line::Expr { expr, .. } => expr,
             _ => unreachable!(),
         }
@@ -213,7 +224,7 @@ impl Table {
             (expr_count self.now.lines) result.statement.now }
         ensures before { AreBelow id result.premises.now }
     {
-        match &self.lines[self.knowns[id]] {
+        match &self.lines[self.knowns[id] as usize] {
             Line::Known {
                 statement,
                 word,
@@ -251,16 +262,20 @@ struct Known<'a> {
 /// Puts the line last, and its place last among the places of its letter. It is inlined, so that
 /// the line is written once, where it stays.
 #[inline(always)]
-fn push_both(lines: &mut Vec<Line>, places: &mut Vec<usize>, line: Line) -> Result<(), AllocError>
+fn push_both(lines: &mut Vec<Line>, places: &mut Vec<u32>, line: Line) -> Result<(), AllocError>
     ensures ok_line { OnOk result (lines.new.items ≡ lines.old.items ++ line ∷ []) }
     ensures ok_place { OnOk result (places.new.items ≡ places.old.items ++ vec_len lines.old ∷ []) }
     ensures err_line { OnErr result (lines.new.items ≡ lines.old.items) }
     ensures err_place { OnErr result (places.new.items ≡ places.old.items) }
-    ensures full { OnErr result (min (room_of lines.old) (room_of places.old) ≡ 0) }
+    ensures full { OnErr result (min (min (room_of lines.old) (room_of places.old))
+        (2 ^ 32 - vec_len lines.old) ≡ 0) }
     ensures room_lines { room_of lines.old ≤ room_of lines.new + 1 }
     ensures room_places { room_of places.old ≤ room_of places.new + 1 }
 {
-    places.push(lines.len())?;
+    let Ok(place) = u32::try_from(lines.len()) else {
+        return Err(AllocError);
+    };
+    places.push(place)?;
     match lines.push(line) {
         Ok(()) => Ok(()),
         Err(_) => {
