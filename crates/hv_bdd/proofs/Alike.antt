@@ -99,7 +99,7 @@ module _ (list : NodeList) (start goal : List Bool) where
     root_same W.Goal = refl
     root_same (W.Set number) = refl
 
-    roots_same : (os : List Asked) → roots (by_marks n c) os ≡ roots (by_marks n' c') os
+    pub roots_same : (os : List Asked) → roots (by_marks n c) os ≡ roots (by_marks n' c') os
     roots_same [] = refl
     roots_same (o ∷ os) = ap₂ (λ i ts. i ∷ ts) (root_same o.which) (roots_same os)
 
@@ -116,7 +116,7 @@ module _ (list : NodeList) (start goal : List Bool) where
     child_same W.Goal i b = refl
     child_same (W.Set number) i b = refl
 
-    least_same : (os : List Asked) (ts : List ℕ) → least m os ts ≡ least m' os ts
+    pub least_same : (os : List Asked) (ts : List ℕ) → least m os ts ≡ least m' os ts
     least_same [] ts = refl
     least_same (o ∷ os) [] = refl
     least_same (o ∷ os) (i ∷ ts) = ap₂ min (top_same o.which i) (least_same os ts)
@@ -127,7 +127,7 @@ module _ (list : NodeList) (start goal : List Bool) where
     live_same (o ∷ os) (i ∷ ts) =
         ap (λ b. not (nat_eq i (cond o.positive 0 1)) && b) (live_same os ts)
 
-    if_live_same : (os : List Asked) (ts : List ℕ) → if_live m os ts ≡ if_live m' os ts
+    pub if_live_same : (os : List Asked) (ts : List ℕ) → if_live m os ts ≡ if_live m' os ts
     if_live_same os ts = ap (λ b. cond b (Some ts) None) (live_same os ts)
 
     module _ (v : ℕ) (needs : bit_mark_of n (atom_at list v) ≡ bit_mark_of n' (atom_at list v))
@@ -153,7 +153,7 @@ module _ (list : NodeList) (start goal : List Bool) where
           ∙ ap (λ o. cond (m'.allows v b) o None) (if_live_same os (move_all m' v b os ts))
 
     -- the moves are the same where the marks are at the place for which the tuple asks
-    next_same : (os : List Asked) (ts : List ℕ) (b : Bool)
+    pub next_same : (os : List Asked) (ts : List ℕ) (b : Bool)
         → (least m os ts < list.atoms
         → bit_mark_of n (atom_at list (least m os ts))
         ≡ bit_mark_of n' (atom_at list (least m os ts)))
@@ -175,7 +175,7 @@ module _ (list : NodeList) (start goal : List Bool) where
             move_same (least m os ts) (needs less) (changes less) b os ts
         by false e = refl
 
-    askable_same : (w : Which) → IsAskable (by_marks n c) w → IsAskable (by_marks n' c') w
+    pub askable_same : (w : Which) → IsAskable (by_marks n c) w → IsAskable (by_marks n' c') w
     askable_same W.Empty a = a
     askable_same W.Start a = a
     askable_same W.Goal a = a
@@ -288,7 +288,7 @@ fruitless list start goal asked needed changed budget state (Some k) same known 
         same (nothing needed changed budget state size sizes found.0 found.1 found.2)
 
 -- a place more
-kept_flag : (places : List Bool) (p q : ℕ) → p < length places → has_atom places q ≡ true
+pub kept_flag : (places : List Bool) (p q : ℕ) → p < length places → has_atom places q ≡ true
     → has_atom (set places p true) q ≡ true
 kept_flag places p q less here =
     elim (cases_eq q p) [

@@ -6,7 +6,7 @@ use Rattle.std.proofs.lemmas.Bool.{cases_lt, false_from_ne_true}
 use Rattle.std.proofs.lemmas.Bool.Decides.{Decides-eqb}
 use Rattle.std.proofs.lemmas.List.{get_or-map, get_or-take, get_or_append_left, get_or_at}
 use Rattle.std.proofs.lemmas.List.{get_or_default, length-append, length-map, length-take-le}
-use Rattle.std.proofs.lemmas.List.{map_push}
+use Rattle.std.proofs.lemmas.List.{map_push, take_more}
 use Rattle.std.proofs.lemmas.List.Elements.{All-cons, All-contains, All-get_or, All-head, All-nil}
 use Rattle.std.proofs.lemmas.List.Elements.{All-push, All-tail, All-take, Contains-append_left}
 use Rattle.std.proofs.lemmas.List.Elements.{Contains-get_or, Contains-push}
@@ -21,6 +21,7 @@ use Rattle.std.specs.List.{All, Contains, list_any}
 use Rattle.smallvec.specs.SmallVec.{SmallVec}
 use Rattle.hv_bdd.specs.declared.tuple_search.Link.{Link}
 use Rattle.hv_bdd.specs.Working.Search.{IsExplored, IsPut, IsPutSome, link_at, tuple_at}
+use Rattle.hv_bdd.specs.Working.Sweeping.{IsTupleAdded}
 use Rattle.hv_bdd.specs.Tuples.{IsReached, Moves, TuplesPass, next}
 use Rattle.hv_bdd.proofs.Moved.{reached_in, reached_next}
 
@@ -46,6 +47,23 @@ pub item_at : (keys : List (SmallVec ℕ)) (k : ℕ) (v : SmallVec ℕ) → k < 
     → get_or keys k v ≡ v → tuple_at (items keys) k ≡ v.items
 item_at keys k v within is = get_or-map (λ (v : SmallVec ℕ). v.items) keys k v [] within
     ∙ ap (λ (v : SmallVec ℕ). v.items) is
+
+-- what holds of all tuples holds of their lists of nodes
+pub all_items : (P : List ℕ → Type 0) (keys : List (SmallVec ℕ)) → All P (items keys)
+    → All (λ (v : SmallVec ℕ). P v.items) keys
+all_items P keys all = λ k d less.
+    let size = length-map keys (λ (v : SmallVec ℕ). v.items) in
+    subst P (item_at keys k (get_or keys k d) less (get_or_default keys k (get_or keys k d) d less))
+    (all k [] (omega arith))
+
+-- one tuple more
+pub taken_more : (keys : List (SmallVec ℕ)) (k : ℕ) (v : SmallVec ℕ) (t : List ℕ)
+    → k < length keys → get_or keys k v ≡ v → t ≡ v.items
+    → take (k + 1) (items keys) ≡ take k (items keys) ++ t ∷ []
+taken_more keys k v t within is same =
+    let size = length-map keys (λ (v : SmallVec ℕ). v.items) in
+    take_more (items keys) k [] (omega arith)
+    ∙ ap (λ (x : List ℕ). take k (items keys) ++ x ∷ []) (item_at keys k v within is ∙ sym same)
 
 -- an insert puts the tuple last, or it is there
 module _ (keys : List (SmallVec ℕ)) (v : SmallVec ℕ) where
@@ -89,6 +107,16 @@ module _ (keys : List (SmallVec ℕ)) (v : SmallVec ℕ) where
             ∙ map_push (λ (k : SmallVec ℕ). k.items) keys v,
         pushed a,
       )
+
+  -- the same where no link is put
+  pub added_is : (keys' : List (SmallVec ℕ)) → keys' ≡ (if finds then keys else keys ++ v ∷ [])
+      → IsTupleAdded (items keys) (Some v.items) (items keys')
+  added_is keys' new = by finds refl new
+    where
+      by : (b : Bool) → finds ≡ b → keys' ≡ (if b then keys else keys ++ v ∷ [])
+          → IsTupleAdded (items keys) (Some v.items) (items keys')
+      by true e n = inl (there e, ap items n)
+      by false e n = inr (absent e, ap items n ∙ map_push (λ (k : SmallVec ℕ). k.items) keys v)
 
 -- what one list of tuples keeps of another
 pub record ExploredGrows (old new : List (List ℕ)) : Type 0 where
@@ -285,10 +313,11 @@ module _ {O : Type 0} (m : Moves O) (os : List O) (root : List ℕ) where
       (ap (λ x. next m os x b) (get_or_default ts c.0 [] n c.1 ∙ c.2) ∙ e))
       reached
 
-  pub within_budget : (done budget : ℕ) (ts : List (List ℕ)) (ls : List Link) → Known done ts ls
-      → length ts ≤ done → length ts ≤ budget
+  -- where all that are reached are among no more tuples than the budget, they don't pass it
+  pub few_hold : (budget : ℕ) (ts : List (List ℕ))
+      → ((u : List ℕ) → IsReached m os root u → Contains ts u) → length ts ≤ budget
       → TuplesPass m os root budget → ⊥
-  within_budget done budget ts ls known past few passes =
+  few_hold budget ts there few passes =
       let fewer = length-le_from_is_member nat_list_eq_equiv passes.0 ts
       (IsDistinct-from_apart same passes.0
       (λ i j d less within.
@@ -297,11 +326,16 @@ module _ {O : Type 0} (m : Moves O) (os : List O) (root : List ℕ) where
       ∙ (e ∙ get_or_default passes.0 j d [] within)))))
       (λ q found.
       let c = Contains-from_any {eq = same} (λ x y. (same_Decides x y).0) q passes.0 found in
-      let there = all_there done ts ls known past q
-      (All-contains (IsReached m os root) passes.0 q passes.2 c) in
-      list_any_at (same q) ts there.0 q there.1
-      ((same_Decides q (get_or ts there.0 q)).1 (sym there.2))) in
+      let here = there q (All-contains (IsReached m os root) passes.0 q passes.2 c) in
+      list_any_at (same q) ts here.0 q here.1
+      ((same_Decides q (get_or ts here.0 q)).1 (sym here.2))) in
       let size = passes.1 in omega arith
     where
       differ : (a b : List ℕ) → (a ≡ b → ⊥) → same a b ≡ false
       differ a b f = false_from_ne_true (same a b) (λ e. f ((same_Decides a b).0 e))
+
+  pub within_budget : (done budget : ℕ) (ts : List (List ℕ)) (ls : List Link) → Known done ts ls
+      → length ts ≤ done → length ts ≤ budget
+      → TuplesPass m os root budget → ⊥
+  within_budget done budget ts ls known past few passes =
+      few_hold budget ts (all_there done ts ls known past) few passes

@@ -9,6 +9,8 @@ pub mod Steps
 pub mod Tupled
 pub mod Explored
 pub mod Found
+pub mod Swept
+pub mod Gone
 pub mod Fronted
 pub mod Idle
 pub mod Queried

@@ -1,5 +1,5 @@
 -- Tuples place by place, and as lists side by side.
-use Rattle.std.proofs.Common.{◌≡◌, ℕ, zero, suc, ◌<◌, Bool, true, List, [], ◌∷◌, length, get_or}
+use Rattle.std.proofs.Common.{◌≡◌, ℕ, zero, suc, ◌<◌, Bool, true, List, [], ◌∷◌, length, get_or, Some}
 use Rattle.std.proofs.Common.{refl, sym, ap, arith, subst}
 use Rattle.std.specs.List.{All}
 use Rattle.std.proofs.lemmas.List.Elements.{All-head, All-tail}
@@ -9,10 +9,10 @@ use Rattle.hv_bdd.specs.declared.asked.Asked.{Asked}
 use Rattle.hv_bdd.specs.Working.Graphs.{AreNodes, in_asked, limit}
 use Rattle.hv_bdd.specs.Live.{asks_goal, moves, root, roots}
 use Rattle.hv_bdd.specs.Working.Search.{IsAskable, IsTupleSearch, IsTuple, TupleSearch}
-use Rattle.hv_bdd.specs.Tuples.{IsReached, is_live, move_all}
+use Rattle.hv_bdd.specs.Tuples.{IsReached, is_live, least, next}
 use Rattle.hv_bdd.proofs.Chained.{first_within}
 use Rattle.hv_bdd.proofs.Graphs.{is_true_to}
-use Rattle.hv_bdd.proofs.Moved.{IsTrueTo, moved_nodes, reached_nodes}
+use Rattle.hv_bdd.proofs.Moved.{IsTrueTo, next_is, reached_nodes, rises}
 use Rattle.hv_bdd.specs.Order.{atom_at}
 
 -- so many nodes, each of its operand
@@ -62,13 +62,15 @@ module _ (s : TupleSearch) where
     pub truths : IsTrueTo Asked (moves s.setting) lim (in_asked s.setting)
     truths = is_true_to s.setting search.reduced
 
-    pub moved_tuple : (v : ℕ) (b : Bool) (ts xs : List ℕ) → v < s.setting.list.atoms → IsTuple s ts
-        → xs ≡ move_all (moves s.setting) v b s.asked ts → IsTuple s xs
-    moved_tuple v b ts xs less t is =
-        subst (IsTuple s) (sym is)
-        (tuple_of (move_all (moves s.setting) v b s.asked ts)
-        (moved_nodes (moves s.setting) lim (in_asked s.setting) truths v b s.asked ts less
-        (nodes_of ts t)))
+    -- a move leads to a tuple that asks for a later place
+    pub next_rises : (ts u : List ℕ) (b : Bool) → IsTuple s ts
+        → next (moves s.setting) s.asked ts b ≡ Some u
+        → least (moves s.setting) s.asked ts < least (moves s.setting) s.asked u
+    next_rises ts u b t e =
+        let says = next_is (moves s.setting) lim (in_asked s.setting) truths s.asked ts u b e in
+        subst (λ x. least (moves s.setting) s.asked ts < least (moves s.setting) s.asked x) says.3
+        (rises (moves s.setting) lim (in_asked s.setting) truths
+        (least (moves s.setting) s.asked ts) b s.asked ts says.0 (nodes_of ts t) (omega arith))
 
     -- the roots are nodes
     root_within : (w : Which) → IsAskable s.setting w → root s.setting w < limit s.setting w

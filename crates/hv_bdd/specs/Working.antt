@@ -3,6 +3,7 @@ pub mod Graphs
 pub mod Sets
 pub mod Marked
 pub mod Search
+pub mod Sweeping
 pub mod Building
 pub mod Chains
 pub mod Paths

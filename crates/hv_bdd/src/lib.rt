@@ -21,9 +21,11 @@
 //!
 //! A tuple's places are the positive operands of a query and then the negative ones: the order of
 //! the places doesn't change the number of tuples. An operand that says that a state isn't in the
-//! empty set has no place: with it there are as many tuples. A link from each tuple to the one
-//! before it gives the counterexample backwards, so no bits are stored. One search serves queries,
-//! `meets` and `covers`.
+//! empty set has no place: with it there are as many tuples. The tuples of a query are swept place
+//! by place, and are given back once they have moved (`place_sweep.rt`). Where one ends, the search
+//! that keeps all of them follows, with a link from each tuple to the one before it, which gives the
+//! counterexample backwards, so no bits are stored (`reach.rt`). That search alone serves `meets`
+//! and `covers`.
 #![tactic(auto)]
 
 pub mod asked;
@@ -47,6 +49,7 @@ mod node_queries;
 mod numbers;
 mod path_walk;
 mod paths;
+mod place_sweep;
 mod reach;
 pub mod read;
 pub mod set;

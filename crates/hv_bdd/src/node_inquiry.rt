@@ -14,6 +14,7 @@ use crate::atom_bits::ListedState;
 use crate::diagrams::Diagrams;
 use crate::goal::{Goal, GoalPlaces, is_asked};
 use crate::node_queries::{active_operands, changed_by, needed_by};
+use crate::place_sweep::WaitingTuples;
 use crate::tuple_search::Search;
 use crate::untouched::{Untouched, is_fruitless, known_for};
 use hv_sets::{Finding, Query, Scratch};
@@ -23,14 +24,16 @@ use std::marker::Model;
 use std::mem;
 
 /// Asks diagrams queries about one task, one after the other. What serves all of them is kept: the
-/// places of the goal's atoms, where the diagrams list an order; and what is known of the actions
-/// that touch no place of the operands, so that few of these are searched for.
+/// places of the goal's atoms, where the diagrams list an order; the room for tuples; and what is
+/// known of the actions that touch no place of the operands, so that few of these are searched for.
 #[derive(Drop)]
 pub struct NodeInquiry<'a> {
     nodes: &'a Diagrams,
     task: &'a Task,
     places: GoalPlaces,
     known: Option<Untouched>,
+    // Room for the tuples of a query.
+    waiting: Option<WaitingTuples>,
     // Whether a query was asked before.
     again: bool,
 }
@@ -69,6 +72,7 @@ impl<'a> NodeInquiry<'a> {
             task,
             places,
             known: None,
+            waiting: None,
             again: false,
         }
     }
@@ -112,9 +116,27 @@ impl<'a> NodeInquiry<'a> {
         let mut search = Search::new(self.nodes, start, goal, needed, changed, operands);
         search.count_root(alloc, self.again)?;
         self.again = true;
-        let found = search.answer(alloc, task, query, budget, &mut scratch.state, &mut known)?;
+        let mut waiting = room(alloc, mem::replace(&mut self.waiting, None));
+        let found = search.answer(
+            alloc,
+            task,
+            query,
+            budget,
+            &mut scratch.state,
+            &mut known,
+            &mut waiting,
+        )?;
         self.places = search.places();
         self.known = known;
+        self.waiting = Some(waiting);
         Ok(found)
+    }
+}
+
+// Room for the tuples of a query: that of the query before, if there was one.
+fn room(alloc: Global, kept: Option<WaitingTuples>) -> WaitingTuples {
+    match kept {
+        Some(waiting) => waiting,
+        None => WaitingTuples::none(alloc),
     }
 }

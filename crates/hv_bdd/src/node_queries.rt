@@ -12,6 +12,7 @@ use crate::asked::Asked;
 use crate::atom_bits::AtomBits;
 use crate::diagrams::Diagrams;
 use crate::node_inquiry::NodeInquiry;
+use crate::place_sweep::WaitingTuples;
 use crate::tuple_search::Search;
 use crate::untouched::Untouched;
 use hv_sets::{Family, Finding, Operand, Query, Scratch, Which};
@@ -55,6 +56,7 @@ impl Search<'_> {
         budget: u64,
         state: &mut State,
         known: &mut Option<Untouched>,
+        waiting: &mut WaitingTuples,
     ) -> Result<Finding, AllocError>
         requires ready { IsReady (node_count self.old.setting.list) query.now }
         requires query { self.old ≡ search_for self.old.setting.list task.now query.now }
@@ -69,7 +71,7 @@ impl Search<'_> {
         ensures same { self.new ≡ self.old }
         ensures known { OnOk result (IsKeptTrulyFor self.old known.new) }
     {
-        self.find_and_keep(alloc, budget, state, known)
+        self.find_and_keep(alloc, budget, state, known, waiting)
     }
 }
 

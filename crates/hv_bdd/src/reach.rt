@@ -104,7 +104,7 @@ impl Search<'_> {
     }
 
     // The tuple of the roots, if it is live.
-    fn live_root(&self, alloc: Global) -> Result<Option<Tuple>, AllocError>
+    pub(crate) fn live_root(&self, alloc: Global) -> Result<Option<Tuple>, AllocError>
         ensures root { IfOk result (λ root.
             option_map (λ t. t.items) root
             ≡ if_live (moves self.now.setting) self.now.asked

@@ -12,7 +12,7 @@ ghost use Rattle.hv_bdd.specs.Live.{asks_goal, first_asked, graph_child, graph_t
 ghost use Rattle.hv_bdd.specs.Live.{bit_mark_of, moves, bit_or, root, roots};
 ghost use Rattle.hv_bdd.specs.Nodes.{node_count};
 ghost use Rattle.hv_bdd.specs.Order.{atom_at};
-ghost use Rattle.hv_bdd.specs.Tuples.{is_live, least, move_all, move_one, next};
+ghost use Rattle.hv_bdd.specs.Tuples.{if_live, is_live, least, move_all, move_one, next};
 
 use crate::asked::Asked;
 use crate::atom_bits::{AtomBits, ListedState, first_from};
@@ -430,26 +430,32 @@ impl Search<'_> {
         true
     }
 
-    // The tuple to which a bit at a place leads.
+    // The tuple to which a bit at a place leads, if it is live.
     fn move_all(
         &self,
         alloc: Global,
         tuple: &[u32],
         marks: &PlaceMarks,
         bit: bool,
-    ) -> Result<Tuple, AllocError>
+    ) -> Result<Option<Tuple>, AllocError>
         requires tuple { IsTuple self.now tuple.now }
         requires place { marks.now.place < self.now.setting.list.atoms }
         requires marks { AreMarksOf self.now.setting marks.now }
-        ensures { IfOk result (λ moved.
-            moved.items
-            ≡ move_all (moves self.now.setting) marks.now.place bit self.now.asked tuple.now) }
+        ensures { IfOk result (λ to.
+            option_map (λ t. t.items) to
+            ≡ if_live (moves self.now.setting) self.now.asked
+            (move_all (moves self.now.setting) marks.now.place bit self.now.asked tuple.now)) }
     {
         let mut moved = SmallVec::new(alloc);
         for (k, node) in tuple.iter().enumerate() {
-            moved.push(self.move_one(self.operand(k), *node, marks, bit))?;
+            let asked = self.operand(k);
+            let to = self.move_one(asked, *node, marks, bit);
+            if to == ruled_out(asked.positive) {
+                return Ok(None);
+            }
+            moved.push(to)?;
         }
-        Ok(moved)
+        Ok(Some(moved))
     }
 
     // The node to which a bit at a place leads.
@@ -516,11 +522,7 @@ impl Search<'_> {
         if !self.allows(marks, bit) {
             return Ok(None);
         }
-        let moved = self.move_all(alloc, tuple, marks, bit)?;
-        if !self.is_live(moved.as_slice()) {
-            return Ok(None);
-        }
-        Ok(Some(moved))
+        self.move_all(alloc, tuple, marks, bit)
     }
 
     // The tuple of the roots.

@@ -4,9 +4,9 @@
 //! nowhere else. So where it marks none of them, each other action that marks none of them leads to
 //! the same tuples; and where none of these ends, no state suits the operands by any such action.
 
-ghost use Rattle.std.specs.Prelude.{◌≡◌, ◌≤◌, ℕ, None, length, true, IfOk, IfSome, OnOk};
+ghost use Rattle.std.specs.Prelude.{◌≡◌, ◌<◌, ◌≤◌, ℕ, [], None, length, true, IfOk, IfSome, OnOk};
 ghost use Rattle.std.specs.List.{All};
-ghost use Rattle.hv_task.specs.State.{state_of};
+ghost use Rattle.hv_task.specs.State.{has_atom, state_of};
 ghost use Rattle.hv_task.specs.Strips.{atoms, start_state};
 ghost use Rattle.hv_bdd.specs.Reduced.{IsReduced};
 ghost use Rattle.hv_bdd.specs.Working.Graphs.{IsLiveAnswer};
@@ -15,6 +15,7 @@ ghost use Rattle.hv_bdd.specs.Working.Untouched.{IsFruitless, IsKeptTruly};
 use crate::asked::Asked;
 use crate::atom_bits::AtomBits;
 use crate::diagrams::Diagrams;
+use crate::place_sweep::{Swept, WaitingTuples};
 use crate::reach::Reached;
 use crate::tuple_search::Search;
 use hv_sets::Finding;
@@ -136,12 +137,55 @@ fn most_for(tuples: usize) -> usize {
     tuples.saturating_mul(16).saturating_add(16)
 }
 
+// Puts in the listed places.
+fn note_places(list: &[u32], places: &mut State)
+    requires { All (λ v. v < length places.old) list.now }
+    ensures size { length places.new ≡ length places.old }
+    ensures noted { All (λ v. has_atom places.new v ≡ true) list.now }
+{
+    for v in list {
+        places.set(*v, true);
+    }
+}
+
 impl Search<'_> {
     ghost use Rattle.hv_bdd.specs.Working.Search.{Explored, IsDone, IsTupleSearch};
+    ghost use Rattle.hv_bdd.specs.Working.Sweeping.{SweptSoFar};
     ghost use Rattle.hv_bdd.specs.Working.Untouched.{AsksAmong, IsKeptTrulyFor};
 
     /// Looks for a state that suits the operands; and keeps what is so known of other actions.
     pub(crate) fn find_and_keep(
+        &mut self,
+        alloc: Global,
+        budget: u64,
+        state: &mut State,
+        known: &mut Option<Untouched>,
+        waiting: &mut WaitingTuples,
+    ) -> Result<Finding, AllocError>
+        requires state { length state.old ≡ self.old.setting.list.atoms }
+        requires known { IsKeptTrulyFor self.old known.old }
+        ensures answer { IfOk result (λ found.
+            IsLiveAnswer found self.old.setting self.old.asked budget state.new) }
+        ensures search { IsTupleSearch self.old }
+        ensures same { self.new ≡ self.old }
+        ensures known { OnOk result (IsKeptTrulyFor self.old known.new) }
+    {
+        let _atoms = self.atoms();
+        match self.sweep(alloc, budget, waiting)? {
+            Swept::Over => Ok(Finding::Over),
+            Swept::Nothing(count) => {
+                self.keep_swept(count, waiting.places.as_slice(), known);
+                Ok(Finding::Empty)
+            }
+            Swept::Open => {
+                *waiting = WaitingTuples::none(alloc);
+                self.find_among_all(alloc, budget, state, known)
+            }
+        }
+    }
+
+    // The same by the search through all tuples.
+    fn find_among_all(
         &mut self,
         alloc: Global,
         budget: u64,
@@ -152,13 +196,44 @@ impl Search<'_> {
         requires known { IsKeptTrulyFor self.old known.old }
         ensures answer { IfOk result (λ found.
             IsLiveAnswer found self.old.setting self.old.asked budget state.new) }
-        ensures search { IsTupleSearch self.old }
         ensures same { self.new ≡ self.old }
         ensures known { OnOk result (IsKeptTrulyFor self.old known.new) }
     {
         let reached = self.reach(alloc, budget)?;
         self.keep(budget, &reached, known);
         Ok(self.conclude(budget, &reached, state))
+    }
+
+    // Keeps what a sweep found, which reached so many tuples and passed these places.
+    fn keep_swept(&self, count: usize, places: &[u32], known: &mut Option<Untouched>)
+        requires swept { SweptSoFar self.now count places.now [] }
+        requires known { IsKeptTrulyFor self.now known.old }
+        ensures { IsKeptTrulyFor self.now known.new }
+    {
+        match known {
+            None => {}
+            Some(known) => self.keep_places(count, places, known),
+        }
+    }
+
+    // Keeps it, where the action marks no place that was asked for so far, and none of these.
+    fn keep_places(&self, count: usize, places: &[u32], known: &mut Untouched)
+        requires swept { SweptSoFar self.now count places.now [] }
+        requires asked { known.old.asked.items ≡ self.now.asked }
+        requires known { IsKeptTruly self.now.setting.list self.now.setting.start
+            self.now.setting.goal known.old }
+        ensures asked { known.new.asked.items ≡ self.now.asked }
+        ensures known { IsKeptTruly self.now.setting.list self.now.setting.start
+            self.now.setting.goal known.new }
+    {
+        let most = most_for(count);
+        if known.count.is_some() || !self.marks_none(&known.places, most) {
+            return;
+        }
+        note_places(places, &mut known.places);
+        if self.marks_none(&known.places, most) {
+            known.count = Some(count);
+        }
     }
 
     // Keeps it, where all tuples were reached.

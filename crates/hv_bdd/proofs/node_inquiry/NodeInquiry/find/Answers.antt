@@ -1,4 +1,5 @@
-use Rattle.std.proofs.Common.{◌∙◌, Ok, Result, ap, ap₂, arith, length, refl, subst, sym}
+use Rattle.std.proofs.Common.{◌∙◌, Bool, List, Ok, Result, ap, ap₂, arith, length, refl, subst, sym}
+use Rattle.std.specs.Prelude.{IfSome}
 use Rattle.std.specs.declared.alloc.AllocError.{AllocError}
 use Rattle.hv_task.specs.State.{state_of}
 use Rattle.hv_task.specs.Strips.{atoms, start_state}
@@ -9,8 +10,9 @@ use Rattle.hv_sets.specs.declared.finding.Finding.{Finding}
 use Rattle.hv_sets.specs.declared.finding.Finding.TheVariants as F
 use Rattle.hv_bdd.specs.Live.{LivePass, NodeTask, TupleSetting}
 use Rattle.hv_bdd.specs.Nodes.{NodeList, in_node, node_count}
-use Rattle.hv_bdd.specs.Working.Search.{TupleSearch}
+use Rattle.hv_bdd.specs.Working.Search.{ListsPlaces, TupleSearch}
 use Rattle.hv_bdd.proofs.Alike.{by_marks, fruitless}
+use Rattle.hv_bdd.proofs.Gone.{kept_of}
 use Rattle.hv_bdd.proofs.Marked.{length-changed_by, length-needed_by}
 use Rattle.hv_bdd.proofs.Queried.{answer_is, can_search, parts_are}
 use Rattle.hv_bdd.proofs.node_inquiry.NodeInquiry.find.Goals as goal
@@ -38,6 +40,36 @@ new-search-requires-clause-tuples c =
     c.known_for.ensures.reduced
     (subst (λ (i : NodeTask). IsReady (node_count i.list) c.args.query.now) (sym c.self.view_is)
     c.requires.ready)
+
+pub invariant_of-self-2 : goal.invariant_of-self-2
+invariant_of-self-2 c =
+    let list = c.self.inside.nodes.now in
+    let task = c.self.inside.task.now in
+    let made = c.new-search.ensures.setting in
+    let same = c.answer.ensures.same ∙ c.count_root.ensures in
+    let is_start = c.new-start.ensures ∙ ap₂ state_of c.atoms-atoms.ensures.atoms
+    c.start.ensures.start in
+    let is_goal = c.new.ensures ∙ ap₂ state_of c.atoms-atoms.ensures.atoms c.goal.ensures.goal in
+    let listed = c.places.result.listed in (
+      c.self.invariant.0,
+      subst (λ (held : List Bool). IfSome listed (λ places.
+          ListsPlaces list held places.items))
+          (ap (λ (s : TupleSearch). s.setting.goal) same
+          ∙ (ap (λ (s : TupleSetting). s.goal) made ∙ is_goal))
+          (subst (λ (l : NodeList). IfSome listed (λ places.
+          ListsPlaces l c.answer.new.self.setting.goal places.items))
+          (ap (λ (s : TupleSearch). s.setting.list) same
+          ∙ ap (λ (s : TupleSetting). s.list) made) c.places.ensures),
+      kept_of c.count_root.new.self list (start_state task) (state_of (atoms task) task.goal)
+          c.answer.new.known
+          (ap (λ (s : TupleSearch). s.setting.list) c.count_root.ensures
+          ∙ ap (λ (s : TupleSetting). s.list) made)
+          (ap (λ (s : TupleSearch). s.setting.start) c.count_root.ensures
+          ∙ (ap (λ (s : TupleSetting). s.start) made ∙ is_start))
+          (ap (λ (s : TupleSearch). s.setting.goal) c.count_root.ensures
+          ∙ (ap (λ (s : TupleSetting). s.goal) made ∙ is_goal))
+          c.in_ok-found.ensures.known,
+    )
 
 pub returns-clause-answer : goal.returns-clause-answer
 returns-clause-answer c =

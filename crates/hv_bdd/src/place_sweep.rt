@@ -1,0 +1,285 @@
+//! The sweep through live tuples, place by place. Those that ask for the least place move, and are
+//! gone then: a move leads to a later place, so none of them is reached again. At the end it is
+//! known how many there were, for which places they asked, and that none of them ends; most queries
+//! are answered so, and only the tuples of a few places take room at a time.
+//!
+//! Where one ends, a state is asked for, so the search through all of them is made (`reach.rt`); and
+//! so it is where too many wait for later places while others move.
+
+ghost use Rattle.std.specs.Prelude.{◌≡◌, ◌<◌, ◌≤◌, ◌+◌, ◌++◌, ◌∷◌, ℕ, List, [], length, map, true};
+ghost use Rattle.std.specs.Prelude.{option_map, filter, nat_eq, IfOk, IfSome, OnOk};
+ghost use Rattle.std.specs.List.{All};
+ghost use Rattle.hv_bdd.specs.Live.{moves, roots};
+ghost use Rattle.hv_bdd.specs.Tuples.{IsReached, least};
+ghost use Rattle.hv_bdd.specs.Working.Search.{tuples_of};
+ghost use Rattle.hv_bdd.specs.Working.Sweeping.{IsTupleAdded};
+
+use crate::tuple_search::{PlaceMarks, Search, Tuple};
+use indexmap::IndexSet;
+use smallvec::SmallVec;
+use std::alloc::{AllocError, Global};
+use std::mem;
+
+/// What a sweep finds out.
+pub(crate) enum Swept {
+    /// More tuples than the budget are reached.
+    Over,
+    /// So many are reached, and none of them ends.
+    Nothing(usize),
+    /// Nothing.
+    Open,
+}
+
+/// The tuples that wait to move, and the places for which those asked that are gone.
+#[derive(Drop)]
+pub(crate) struct WaitingTuples {
+    pub here: IndexSet<Tuple>,
+    /// Those that wait once these have moved.
+    pub later: IndexSet<Tuple>,
+    /// The places for which the tuples ask.
+    pub tops: Vec<u32>,
+    pub places: Vec<u32>,
+}
+
+impl WaitingTuples {
+    /// None.
+    pub(crate) fn none(alloc: Global) -> WaitingTuples {
+        WaitingTuples {
+            here: IndexSet::new(alloc),
+            later: IndexSet::new(alloc),
+            tops: Vec::new(alloc),
+            places: Vec::new(alloc),
+        }
+    }
+}
+
+impl Search<'_> {
+    ghost use Rattle.hv_bdd.specs.Working.Search.{AreMarksOf, IsTuple, IsTupleSearch};
+    ghost use Rattle.hv_bdd.specs.Working.Sweeping.{IsSweepAnswer, IsSweptPlace, SweptSoFar};
+
+    /// Goes through the live tuples place by place.
+    pub(crate) fn sweep(
+        &mut self,
+        alloc: Global,
+        budget: u64,
+        waiting: &mut WaitingTuples,
+    ) -> Result<Swept, AllocError>
+        ensures swept { IfOk result (λ swept.
+            IsSweepAnswer self.old budget waiting.new.places.items swept) }
+        ensures same { self.new ≡ self.old }
+    {
+        self.begin(alloc, waiting)?;
+        let mut left = budget;
+        let mut credit = 4096;
+        for _ in 0..u64::from(self.atoms()) + 1 {
+            if waiting.here.len() as u64 > left {
+                return Ok(Swept::Over);
+            }
+            if waiting.here.len() == 0 {
+                return Ok(Swept::Nothing((budget - left) as usize));
+            }
+            let Some(moved) = self.pass_place(alloc, left, waiting, &mut credit)? else {
+                return Ok(Swept::Open);
+            };
+            left -= moved as u64;
+        }
+        Ok(Swept::Open)
+    }
+
+    // Lets the tuple of the roots wait, if it is live, and no other.
+    fn begin(&self, alloc: Global, waiting: &mut WaitingTuples) -> Result<(), AllocError>
+        ensures { OnOk result (SweptSoFar self.now 0 waiting.new.places.items
+            (tuples_of waiting.new.here)) }
+    {
+        empty(alloc, &mut waiting.here, 0);
+        waiting.places.clear();
+        let root = self.live_root(alloc)?;
+        add(&mut waiting.here, root)?;
+        Ok(())
+    }
+
+    // Lets the tuples move that ask for the least place. The answer is how many these are, or none
+    // where they end, or too many others wait, or more are reached than are left of the budget.
+    fn pass_place(
+        &mut self,
+        alloc: Global,
+        left: u64,
+        waiting: &mut WaitingTuples,
+        credit: &mut usize,
+    ) -> Result<Option<usize>, AllocError>
+        requires swept { (count : ℕ) × SweptSoFar self.old count waiting.old.places.items
+            (tuples_of waiting.old.here) }
+        ensures swept { IfOk result (λ moved. IfSome moved (λ n. (count : ℕ)
+            → SweptSoFar self.old count waiting.old.places.items (tuples_of waiting.old.here)
+            → SweptSoFar self.old (count + n) waiting.new.places.items
+            (tuples_of waiting.new.here))) }
+        ensures few { IfOk result (λ moved. IfSome moved (λ n. n ≤ length waiting.old.here.keys)) }
+        ensures same { self.new ≡ self.old }
+    {
+        let place = self.read_tops(waiting.here.as_slice(), &mut waiting.tops)?;
+        let moved = count_of(waiting.tops.as_slice(), place);
+        if place >= self.atoms() || !may_wait(credit, moved, waiting.tops.len()) {
+            return Ok(None);
+        }
+        self.count_all(alloc, place, moved)?;
+        empty(alloc, &mut waiting.later, moved);
+        let here = waiting.here.as_slice();
+        let tops = waiting.tops.as_slice();
+        if !self.pass(alloc, left, place, here, tops, &mut waiting.later)? {
+            return Ok(None);
+        }
+        mem::swap(&mut waiting.here, &mut waiting.later);
+        waiting.places.push(place)?;
+        Ok(Some(moved))
+    }
+
+    // Writes the places for which the tuples ask. The answer is the least of them.
+    fn read_tops(&self, tuples: &[Tuple], tops: &mut Vec<u32>) -> Result<u32, AllocError>
+        requires { All (λ t. IsTuple self.now t.items) tuples.now }
+        ensures tops { OnOk result (tops.new.items
+            ≡ map (λ t. least (moves self.now.setting) self.now.asked t.items) tuples.now) }
+        ensures least { IfOk result (λ place. All (λ v. place ≤ v) tops.new.items) }
+        ensures great { IfOk result (λ place. (w : ℕ) → w ≤ self.now.setting.list.atoms
+            → All (λ v. w ≤ v) tops.new.items → w ≤ place) }
+    {
+        tops.clear();
+        let mut least = self.atoms();
+        for tuple in tuples {
+            let top = self.least(tuple.as_slice());
+            tops.push(top)?;
+            least = least.min(top);
+        }
+        Ok(least)
+    }
+
+    // Counts what the moves cost of so many tuples that ask for this place, as long as the goal's
+    // places may come to be listed.
+    fn count_all(&mut self, alloc: Global, place: u32, tuples: usize) -> Result<(), AllocError>
+        ensures { self.new ≡ self.old }
+    {
+        for _ in 0..tuples {
+            if !self.may_list() {
+                return Ok(());
+            }
+            self.count_moves(alloc, place)?;
+        }
+        Ok(())
+    }
+
+    // Lets the tuples move that ask for the place, and the others wait on. The answer is whether all
+    // are passed: it ends where more than so many wait.
+    fn pass(
+        &self,
+        alloc: Global,
+        most: u64,
+        place: u32,
+        tuples: &[Tuple],
+        tops: &[u32],
+        later: &mut IndexSet<Tuple>,
+    ) -> Result<bool, AllocError>
+        requires place { place < self.now.setting.list.atoms }
+        requires reached { All (λ t. IsReached (moves self.now.setting) self.now.asked
+            (roots self.now.setting self.now.asked) t.items) tuples.now }
+        requires tops { tops.now
+            ≡ map (λ t. least (moves self.now.setting) self.now.asked t.items) tuples.now }
+        requires least { All (λ v. place ≤ v) tops.now }
+        requires none { later.old.keys ≡ [] }
+        ensures { IfOk result (λ all. all ≡ true
+            → IsSweptPlace (moves self.now.setting) self.now.asked
+            (roots self.now.setting self.now.asked) place (map (λ t. t.items) tuples.now)
+            (tuples_of later.new)) }
+    {
+        let marks = self.marks_at(place, PlaceMarks::none(self.atoms()));
+        for k in 0..tuples.len() {
+            if later.len() as u64 > most {
+                return Ok(false);
+            }
+            self.pass_on(alloc, tuples[k].as_slice(), tops[k] == place, &marks, later)?;
+        }
+        Ok(true)
+    }
+
+    // Lets a tuple move, if it asks for the place of these marks, or else wait on.
+    fn pass_on(
+        &self,
+        alloc: Global,
+        tuple: &[u32],
+        asks: bool,
+        marks: &PlaceMarks,
+        later: &mut IndexSet<Tuple>,
+    ) -> Result<(), AllocError>
+        requires reached { IsReached (moves self.now.setting) self.now.asked
+            (roots self.now.setting self.now.asked) tuple.now }
+        requires place { marks.now.place < self.now.setting.list.atoms }
+        requires upto { marks.now.place ≤ least (moves self.now.setting) self.now.asked tuple.now }
+        requires asks { asks
+            ≡ nat_eq (least (moves self.now.setting) self.now.asked tuple.now) marks.now.place }
+        requires marks { AreMarksOf self.now.setting marks.now }
+        requires search { IsTupleSearch self.now }
+        ensures { OnOk result ((tuples : List (List ℕ))
+            → IsSweptPlace (moves self.now.setting) self.now.asked
+            (roots self.now.setting self.now.asked) marks.now.place tuples (tuples_of later.old)
+            → IsSweptPlace (moves self.now.setting) self.now.asked
+            (roots self.now.setting self.now.asked) marks.now.place (tuples ++ tuple.now ∷ [])
+            (tuples_of later.new)) }
+    {
+        if !asks {
+            let copy = SmallVec::from_slice(alloc, tuple)?;
+            add(later, Some(copy))?;
+            return Ok(());
+        }
+        let low = self.next(alloc, tuple, marks, false)?;
+        add(later, low)?;
+        let high = self.next(alloc, tuple, marks, true)?;
+        add(later, high)?;
+        Ok(())
+    }
+}
+
+// Takes all out of a set. Its room is kept, but where it is much more than what so many take: to
+// clear it takes as long as it is large.
+fn empty(alloc: Global, set: &mut IndexSet<Tuple>, many: usize)
+    ensures { set.new.keys ≡ [] }
+{
+    if set.capacity() / 8 > many.saturating_add(32) {
+        *set = IndexSet::new(alloc);
+    } else {
+        set.clear();
+    }
+}
+
+// Puts the tuple last, if there is one and it isn't there.
+fn add(set: &mut IndexSet<Tuple>, tuple: Option<Tuple>) -> Result<(), AllocError>
+    ensures { OnOk result (IsTupleAdded (tuples_of set.old)
+        (option_map (λ t. t.items) tuple) (tuples_of set.new)) }
+{
+    if let Some(tuple) = tuple {
+        set.insert(tuple)?;
+    }
+    Ok(())
+}
+
+// How many of the places are this one.
+fn count_of(places: &[u32], place: u32) -> usize
+    ensures { result ≡ length (filter (λ v. nat_eq v place) places.now) }
+{
+    let mut count = 0;
+    for v in places {
+        if *v == place {
+            count += 1;
+        }
+    }
+    count
+}
+
+// Whether those that wait aren't too many, beside all that moved so far: each that moves gives credit
+// for two. Only how long a query takes hangs on it.
+fn may_wait(credit: &mut usize, moved: usize, all: usize) -> bool {
+    *credit = credit.saturating_add(moved).saturating_add(moved);
+    let waiting = all.saturating_sub(moved);
+    if waiting > *credit {
+        return false;
+    }
+    *credit -= waiting;
+    true
+}
