@@ -135,7 +135,7 @@ bit_code f p less =
     ap (λ c. eqb (bit_at c p) 1) e ∙ bit_total f 64 p (omega arith) less
 
 -- a number of 64 bits that has just the bits of a set is its code
-code_from_bits : (f : ℕ → Bool) (code : ℕ) → code < 2 ^ 64
+pub code_from_bits : (f : ℕ → Bool) (code : ℕ) → code < 2 ^ 64
     → ((p : ℕ) → p < 64 → eqb (bit_at code p) 1 ≡ f p) → code ≡ code_sum 0 f 64
 code_from_bits f code fits bits =
     same_from_bits_below 64 code (code_sum 0 f 64) fits (omega arith)

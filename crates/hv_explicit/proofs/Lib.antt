@@ -1,6 +1,7 @@
 pub mod Coded
 pub mod Totals
 pub mod Bits
+pub mod Packed
 pub mod Linked
 pub mod Listing
 pub mod LookUp

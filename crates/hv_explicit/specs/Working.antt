@@ -1,5 +1,7 @@
 -- Definitions that no public contract cites: those of private contracts and of proofs.
 pub mod Codes
+pub mod Words
+pub mod SomeStates
 pub mod Coding
 pub mod Places
 pub mod Listing

@@ -1,17 +1,18 @@
-//! Actions of a task with at most 64 atoms. The code of a state has a bit for each of its atoms
-//! there, so the precondition is one test, and the code of the result takes two steps.
+//! Actions of a task with at most 64 atoms. A state is a word there, with a bit for each of its
+//! atoms, so the precondition is one test, and the word of the result takes two steps.
 
 ghost use Rattle.std.specs.Prelude.{◌≡◌, ◌≤◌, ◌<◌, ◌↔◌, ◌==◌, ◌&&◌, ◌||◌, not, ℕ, IsTrue, IfSome};
-ghost use Rattle.std.specs.Prelude.{Some, length, bit_and};
+ghost use Rattle.std.specs.Prelude.{MatchOption, None, Some, length, bit_and};
 ghost use Rattle.std.specs.Int.{bit_at};
 ghost use Rattle.std.specs.List.{All, Contains};
-ghost use Rattle.hv_task.specs.State.{AreBelow};
+ghost use Rattle.hv_task.specs.Atoms.{is_after};
 ghost use Rattle.hv_task.specs.Strips.{IsOver, atoms};
 ghost use Rattle.hv_sets.specs.Query.{action_of};
-ghost use Rattle.hv_explicit.specs.Working.Codes.{IsListCode};
+ghost use Rattle.hv_explicit.specs.Working.Codes.{IsListCode, IsSame};
+ghost use Rattle.hv_explicit.specs.Working.Words.{word_atoms};
 
 use crate::codes::{BITS, list_code};
-use crate::sought::{ActionResult, Coded};
+use crate::state_word::StateWord;
 use hv_task::{Action, Task};
 
 /// An action of a task with at most 64 atoms, with the codes of its lists.
@@ -30,12 +31,16 @@ pub(crate) struct ActionBits<'a> {
 /// The action of this number, where there is one and the task has at most 64 atoms.
 pub(crate) fn bits_of(task: &Task, number: Option<u32>) -> Option<ActionBits<'_>>
     requires { IfSome number (λ a. a < length task.now.actions) }
-    ensures { IfSome result (λ bits. (action_of task.now number ≡ Some bits.action.now)
-        × (atoms task.now ≤ 64)) }
+    ensures { MatchOption result (atoms task.now ≤ 64 → action_of task.now number ≡ None)
+        (λ bits. (action_of task.now number ≡ Some bits.action.now)
+        × IsOver (atoms task.now) bits.action.now) }
 {
+    if task.atoms() > 64 {
+        return None;
+    }
     match number {
-        Some(number) if task.atoms() <= 64 => Some(ActionBits::of(task.action(number))),
-        _ => None,
+        Some(number) => Some(ActionBits::of(task.action(number))),
+        None => None,
     }
 }
 
@@ -54,29 +59,20 @@ impl<'a> ActionBits<'a> {
     }
 
     /// Whether the precondition holds in the state.
-    pub(crate) fn is_enabled(&self, state: Coded<'_>) -> bool
-        requires bits { state.key ≡ 0 }
-        requires below { AreBelow 64 state.atoms.now }
+    pub(crate) fn is_enabled(&self, state: StateWord) -> bool
         ensures { IsTrue result
-            ↔ All (λ p. Contains state.entry.atoms.now p) self.now.action.now.pre }
+            ↔ All (λ p. Contains (word_atoms state.bits) p) self.now.action.now.pre }
     {
-        has_bits(state.code, self.pre)
+        has_bits(state.bits, self.pre)
     }
 
     /// What the action makes of the state.
-    pub(crate) fn result_in(&self, state: Coded<'a>) -> ActionResult<'a>
-        requires bits { state.key ≡ 0 }
-        requires below { AreBelow 64 state.atoms.now }
-        ensures held { result.held.now ≡ state.entry.atoms.now }
-        ensures action { result.action.now ≡ self.now.action.now }
+    pub(crate) fn result_in(&self, state: StateWord) -> StateWord
+        ensures { IsSame (is_after self.now.action.now (word_atoms state.bits))
+            (word_atoms result.bits) }
     {
-        let code = bits_after(state.code, self.add, self.del);
-        ActionResult {
-            held: state.atoms,
-            action: self.action,
-            key: state.key,
-            code,
-        }
+        let bits = bits_after(state.bits, self.add, self.del);
+        StateWord { bits }
     }
 }
 

@@ -9,6 +9,7 @@ ghost use Rattle.std.specs.Prelude.{ℕ, Bool};
 ghost use Rattle.hv_explicit.specs.Codes.{IsBelow};
 ghost use Rattle.hv_explicit.specs.Working.Coding.{IsCodeBy};
 
+use crate::codes::is_exact;
 use crate::sought::Sought;
 
 /// How sets of atoms are coded. Sums are quick, but many states can be made to have one sum. For
@@ -37,5 +38,14 @@ pub(crate) fn tells_apart(coding: Coding, key: u64) -> bool {
     match coding {
         Coding::Sums(plain) => plain == key,
         Coding::Sips => true,
+    }
+}
+
+/// Whether two states of a task with so many atoms that have one code by the coding are to be
+/// compared: sums can be made to agree where they aren't exact, and SipHashes can't.
+pub(crate) fn can_meet(coding: Coding, atoms: u32) -> bool {
+    match coding {
+        Coding::Sums(key) => !is_exact(key, atoms),
+        Coding::Sips => false,
     }
 }

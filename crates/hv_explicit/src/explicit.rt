@@ -22,12 +22,12 @@ ghost use Rattle.hv_explicit.specs.ListedStates.{in_listing};
 ghost use Rattle.hv_explicit.specs.Working.Codes.{IsSame};
 ghost use Rattle.hv_explicit.specs.Working.Listing.{AreFirsts};
 ghost use Rattle.hv_explicit.specs.Working.Holders.{AreHolders, listed_places};
+ghost use Rattle.hv_explicit.specs.Working.SomeStates.{IsOfFew, state_atoms};
 ghost use Rattle.hv_explicit.specs.Working.Laws as laws;
 
-use crate::firsts::is_at;
 use crate::holders::SomePlaces;
-use crate::sought::{ActionResult, Coded, ReadInOrder, Sought, is_state};
-use crate::state_index::{StateIndex, firsts_in, held_in, index_of, lists_in, state_in};
+use crate::sought::{ActionResult, Coded, ReadInOrder, SomeState, Sought};
+use crate::state_index::{StateIndex, firsts_in, held_in, index_of, is_in, lists_in, state_in};
 use hv_sets::{Cube, Cursor, Inside, Literal, Scratch, StateList, StateSet, Step};
 use hv_task::{Action, Atoms, State, Task, names_atom};
 use std::alloc::{AllocError, Global};
@@ -158,14 +158,6 @@ impl Explicit {
     }
 
     /// Whether the state at this place has just these atoms.
-    pub(crate) fn has_at<A: Sought>(&self, place: usize, held: &A) -> bool
-        ensures { IsTrue result ↔ ((place < length self.now.states)
-            × IsSame (A.has held.now) (slice_index_or self.now.states place [])) }
-    {
-        place < self.states.len() && is_at(&self.states, place, held)
-    }
-
-    /// The same of a set of atoms of the task.
     pub(crate) fn has_state_at<A: Sought>(&self, place: usize, held: &A) -> bool
         requires { IsBelow self.now.atoms (A.has held.now) }
         ensures { IsTrue result ↔ ((place < length self.now.states)
@@ -174,14 +166,24 @@ impl Explicit {
         if place >= self.states.len() {
             return false;
         }
-        is_state(self.at(place), held, self.atoms)
+        is_in(&self.index, &self.states, place, held, self.atoms)
     }
 
-    /// The state at this place, with its code.
-    pub(crate) fn at(&self, place: usize) -> Coded<'_>
+    /// The atoms of the state at this place, rising.
+    pub(crate) fn atoms_at(&self, place: usize) -> &[u32]
         requires { place < length self.now.states }
-        ensures atoms { result.atoms.now ≡ slice_index_or self.now.states place [] }
-        ensures below { AreBelow self.now.atoms result.atoms.now }
+        ensures atoms { result.now ≡ slice_index_or self.now.states place [] }
+        ensures below { AreBelow self.now.atoms result.now }
+    {
+        self.states.get(place)
+    }
+
+    /// The state at this place.
+    pub(crate) fn at(&self, place: usize) -> SomeState<'_>
+        requires { place < length self.now.states }
+        ensures atoms { state_atoms result ≡ slice_index_or self.now.states place [] }
+        ensures below { AreBelow self.now.atoms (state_atoms result) }
+        ensures few { IsOfFew self.now.atoms result }
     {
         state_in(&self.index, &self.states, place, self.atoms)
     }

@@ -3,13 +3,15 @@
 ghost use Rattle.std.specs.Prelude.{◌≡◌, ◌<◌, ◌+◌, ◌-◌, ◌^◌, ◌↔◌, ℕ, true, false, [], length};
 ghost use Rattle.std.specs.Prelude.{slice_index, slice_index_or, IsTrue, IfOk, IfSome, OnOk};
 ghost use Rattle.hv_explicit.specs.ListedStates.{AreRising, AreStates};
-ghost use Rattle.hv_explicit.specs.Working.Codes.{AreExact, IsCode, IsSame};
+ghost use Rattle.hv_explicit.specs.Working.Codes.{IsCode, IsSame};
 ghost use Rattle.hv_explicit.specs.Working.Listing.{AreFirsts, ArePlacesOf, IsEnteredState};
 ghost use Rattle.hv_explicit.specs.Working.Listing.{IsIndex};
+ghost use Rattle.hv_explicit.specs.Working.Words.{word_atoms};
 
 use crate::codes::BITS;
 use crate::places::Places;
 use crate::sought::{Coded, Sought};
+use crate::state_word::word_of_list;
 use hv_sets::StateList;
 use std::alloc::{AllocError, Global};
 use std::hash::{DefaultHasher, Hasher};
@@ -126,7 +128,7 @@ fn enter(
     ensures whole { hasty ≡ false → IfOk result (λ done. done ≡ true) }
 {
     let held = Coded::new(firsts.key, states.get(place));
-    if look_up(states, firsts, held.code, &held, false) {
+    if look_up(states, firsts, held.code, &held) {
         return Ok(true);
     }
     if hasty && firsts.codes.last(held.code) > 0 {
@@ -137,28 +139,17 @@ fn enter(
     Ok(true)
 }
 
-/// Whether the state at some entry has just these atoms, of which this is the code. Where codes are
-/// exact, a state that has the code isn't compared.
-pub(crate) fn look_up<A: Sought>(
-    states: &StateList,
-    firsts: &Firsts,
-    code: u64,
-    held: &A,
-    exact: bool,
-) -> bool
+/// Whether the state at some entry has just these atoms, of which this is the code.
+pub(crate) fn look_up<A: Sought>(states: &StateList, firsts: &Firsts, code: u64, held: &A) -> bool
     requires code { IsCode firsts.now.key (A.has held.now) code }
     requires below { AreStates (2 ^ 32 - 1) states.now }
     requires rise { AreRising states.now }
     requires firsts { ArePlacesOf states.now firsts.now.places.items }
     requires index { IsIndex firsts.now.key firsts.now.codes firsts.now.places.items states.now }
-    requires exact { exact ≡ true → AreExact firsts.now.key (A.has held.now) states.now }
     ensures { IsTrue result ↔ IsEnteredState (A.has held.now) states.now firsts.now.places.items }
 {
     let mut end = firsts.codes.last(code);
     while end > 0 {
-        if exact {
-            return true;
-        }
         let entry = end - 1;
         if is_at(states, firsts.places[entry] as usize, held) {
             return true;
@@ -192,6 +183,21 @@ pub(crate) fn coded_state<'a>(states: &'a StateList, firsts: &Firsts, place: usi
         atoms,
         key: firsts.key,
         code: firsts.codes.get(entry),
+    }
+}
+
+/// The word of the state at a place, where codes are words.
+pub(crate) fn word_of_state(states: &StateList, firsts: &Firsts, place: usize) -> u64
+    requires place { place < length states.now }
+    requires below { AreStates 64 states.now }
+    requires rise { AreRising states.now }
+    requires bits { firsts.now.key ≡ 0 }
+    requires index { IsIndex firsts.now.key firsts.now.codes firsts.now.places.items states.now }
+    ensures { word_atoms result ≡ slice_index_or states.now place [] }
+{
+    match entry_of(firsts.places.as_slice(), place) {
+        Some(entry) => firsts.codes.get(entry),
+        None => word_of_list(states.get(place)),
     }
 }
 

@@ -24,6 +24,7 @@ mod sought;
 mod state_index;
 mod state_owners;
 pub mod state_walk;
+mod state_word;
 
 pub use explicit::Explicit;
 pub use explicits::Explicits;

@@ -6,10 +6,11 @@
 //! the rarest atom, less what isn't in the columns of the others or in rows that aren't much
 //! longer. Each of these costs the search for the precondition's atoms in its list, and then a
 //! look-up for each operand: the code of a result costs the effect, and a hit is compared atom by
-//! atom. With at most 64 atoms all but the look-up are some steps on words (`action_bits`). The
+//! atom. With at most 64 atoms states are words, and all but the look-up are some steps on these
+//! (`action_bits`). The
 //! counterexample alone is written as a state.
 
-ghost use Rattle.std.specs.Prelude.{◌≡◌, ◌<◌, ◌↔◌, ◌∷◌, ℕ, Bool, List, [], length, slice_index_or};
+ghost use Rattle.std.specs.Prelude.{◌≡◌, ◌<◌, ◌≤◌, ◌↔◌, ◌∷◌, ℕ, Bool, List, [], length, slice_index_or};
 ghost use Rattle.std.specs.Prelude.{slice_get, None, Some, false, true, IsTrue, IfOk, IfSome};
 ghost use Rattle.std.specs.Prelude.{MatchOption};
 ghost use Rattle.std.specs.List.{All, Contains, list_all};
@@ -25,6 +26,8 @@ ghost use Rattle.hv_explicit.specs.Codes.{IsBelow};
 ghost use Rattle.hv_explicit.specs.Working.Codes.{IsSame};
 ghost use Rattle.hv_explicit.specs.Working.Holders.{AreAllBut, listed_places};
 ghost use Rattle.hv_explicit.specs.Working.Owners.{IsOwned};
+ghost use Rattle.hv_explicit.specs.Working.SomeStates.{IsOfFew, state_atoms};
+ghost use Rattle.hv_explicit.specs.Working.Words.{word_atoms};
 ghost use Rattle.hv_explicit.specs.ListedStates.{AreRising, AreStates, states_listed};
 ghost use Rattle.hv_explicit.specs.Working.Listing.{AreFirsts};
 ghost use Rattle.hv_explicit.specs.Working.Search.{IsFoundListed, IsHit, IsHitBy, HasJust};
@@ -33,7 +36,6 @@ ghost use Rattle.hv_explicit.specs.Working.Search.{clashes_in, in_either, in_nam
 ghost use Rattle.hv_explicit.specs.Working.Search.{is_in_none};
 
 use crate::action_bits::{ActionBits, bits_of};
-use crate::codes::is_exact;
 use crate::explicit::Explicit;
 use crate::explicits::Explicits;
 use crate::firsts::PLAIN;
@@ -41,7 +43,8 @@ use crate::holders::SomePlaces;
 use crate::named_sets::{FEW, NamedSets};
 use crate::near::names_each;
 use crate::results::is_left;
-use crate::sought::{ActionResult, Coded, Sought};
+use crate::sought::{ActionResult, Coded, SomeState, Sought};
+use crate::state_word::StateWord;
 use hv_sets::{Finding, Operand, Query, Which};
 use hv_task::{Action, State, Task};
 use std::alloc::{AllocError, Global};
@@ -135,18 +138,14 @@ impl<'a> SetsQuery<'a> {
         }
     }
 
-    // The action by bits, where the state's code has a bit for each atom.
-    fn bits_for(&self, held: Coded<'_>) -> Option<ActionBits<'a>>
-        requires { AreBelow (atoms self.now.task) held.atoms.now }
-        ensures action { IfSome result (λ bits.
-            action_of self.now.task self.now.query.action ≡ Some bits.action.now) }
-        ensures bits { IfSome result (λ _. held.entry.key ≡ 0) }
-        ensures below { IfSome result (λ _. AreBelow 64 held.entry.atoms.now) }
+    // The action by bits, in a task with at most 64 atoms.
+    fn bits(&self) -> Option<&ActionBits<'a>>
+        ensures { MatchOption result (atoms self.now.task ≤ 64
+            → action_of self.now.task self.now.query.action ≡ None)
+            (λ bits. (action_of self.now.task self.now.query.action ≡ Some bits.now.action.now)
+            × IsOver (atoms self.now.task) bits.now.action.now) }
     {
-        if !is_exact(held.key, self.task.atoms()) {
-            return None;
-        }
-        self.bits
+        self.bits.as_ref()
     }
 
     // Whether there is an action, without which nothing is asked about after it.
@@ -310,12 +309,59 @@ impl SetsQuery<'_> {
         }
         for place in places {
             let held = set.at(*place as usize);
-            if self.clashes(anchor, held) {
-                state.hold(held.atoms);
+            if self.some_clashes(anchor, held) {
+                state.hold(set.atoms_at(*place as usize));
                 return Finding::Clash;
             }
         }
         Finding::Empty
+    }
+
+    // Whether the state, which is in what the anchor names, is a counterexample, however it is
+    // kept.
+    fn some_clashes(&self, anchor: Which, held: SomeState<'_>) -> bool
+        requires anchor { in_named self.now anchor
+            (state_of (atoms self.now.task) (state_atoms held)) ≡ true }
+        requires held { AreBelow (atoms self.now.task) (state_atoms held) }
+        requires few { IsOfFew (atoms self.now.task) held }
+        ensures { result ≡ clashes_at self.now (state_atoms held.entry) }
+    {
+        match held {
+            SomeState::Listed(held) => self.clashes(anchor, held),
+            SomeState::Word(held) => self.word_clashes(anchor, held),
+        }
+    }
+
+    // The same of a word.
+    fn word_clashes(&self, anchor: Which, held: StateWord) -> bool
+        requires anchor { in_named self.now anchor
+            (state_of (atoms self.now.task) (word_atoms held.bits)) ≡ true }
+        requires held { AreBelow (atoms self.now.task) (word_atoms held.bits) }
+        requires few { atoms self.now.task ≤ 64 }
+        ensures { result ≡ clashes_at self.now (word_atoms held.bits) }
+    {
+        match self.bits() {
+            None => self.fits(anchor, &held, &held),
+            Some(bits) => bits.is_enabled(held) && self.word_fits_after(anchor, held, bits),
+        }
+    }
+
+    // Whether the word and the result of the action fit. Where the action leaves the state as it
+    // is, and the anchor is a negative operand that is asked about after it, they don't.
+    fn word_fits_after(&self, anchor: Which, held: StateWord, bits: &ActionBits<'_>) -> bool
+        requires anchor { in_named self.now anchor
+            (state_of (atoms self.now.task) (word_atoms held.bits)) ≡ true }
+        requires held { AreBelow (atoms self.now.task) (word_atoms held.bits) }
+        requires over { IsOver (atoms self.now.task) bits.now.action.now }
+        ensures { (b a : List Bool) → HasJust self.now.task (names_atom (word_atoms held.bits)) b
+            → HasJust self.now.task (is_after bits.now.action.now (word_atoms held.bits)) a
+            → result ≡ is_fit self.now b a }
+    {
+        let after = bits.result_in(held);
+        if after.bits == held.bits && self.denies(anchor, true) {
+            return false;
+        }
+        self.fits(anchor, &held, &after)
     }
 
     // Whether the state, which is in what the anchor names, is a counterexample.
@@ -327,34 +373,7 @@ impl SetsQuery<'_> {
     {
         match self.action() {
             None => self.fits(anchor, &held, &held),
-            Some(action) => {
-                self.is_enabled(held, action) && self.fits_after(anchor, held, action)
-            }
-        }
-    }
-
-    // Whether the action's precondition holds in the state.
-    fn is_enabled(&self, held: Coded<'_>, action: &Action) -> bool
-        requires held { AreBelow (atoms self.now.task) held.atoms.now }
-        requires action { action_of self.now.task self.now.query.action ≡ Some action.now }
-        ensures { IsTrue result ↔ All (λ p. Contains held.entry.atoms.now p) action.now.pre }
-    {
-        match self.bits_for(held) {
-            Some(bits) => bits.is_enabled(held),
-            None => names_each(held.atoms, action.pre.as_slice()),
-        }
-    }
-
-    // What the action makes of the state.
-    fn result_in<'b>(&'b self, held: Coded<'b>, action: &'b Action) -> ActionResult<'b>
-        requires held { AreBelow (atoms self.now.task) held.atoms.now }
-        requires action { action_of self.now.task self.now.query.action ≡ Some action.now }
-        ensures held { result.held.now ≡ held.entry.atoms.now }
-        ensures action { result.action.now ≡ action.now }
-    {
-        match self.bits_for(held) {
-            Some(bits) => bits.result_in(held),
-            None => ActionResult::of(held, action),
+            Some(action) => { is_enabled(held, action) && self.fits_after(anchor, held, action) }
         }
     }
 
@@ -365,12 +384,11 @@ impl SetsQuery<'_> {
             (state_of (atoms self.now.task) held.atoms.now) ≡ true }
         requires held { AreBelow (atoms self.now.task) held.atoms.now }
         requires over { IsOver (atoms self.now.task) action.now }
-        requires action { action_of self.now.task self.now.query.action ≡ Some action.now }
         ensures { (b a : List Bool) → HasJust self.now.task (names_atom held.entry.atoms.now) b
             → HasJust self.now.task (is_after action.now held.entry.atoms.now) a
             → result ≡ is_fit self.now b a }
     {
-        let after = self.result_in(held, action);
+        let after = ActionResult::of(held, action);
         if after.code == held.code && self.stays(anchor, held.atoms, action) {
             return false;
         }
@@ -518,6 +536,13 @@ impl SetsQuery<'_> {
             Which::Set(number) => self.set(number).has(held),
         }
     }
+}
+
+// Whether the action's precondition holds in the state.
+fn is_enabled(held: Coded<'_>, action: &Action) -> bool
+    ensures { IsTrue result ↔ All (λ p. Contains held.entry.atoms.now p) action.now.pre }
+{
+    names_each(held.atoms, action.pre.as_slice())
 }
 
 fn is_start<A: Sought>(task: &Task, held: &A) -> bool

@@ -9,8 +9,9 @@ ghost use Rattle.hv_task.specs.Atoms.{is_after};
 ghost use Rattle.hv_explicit.specs.Codes.{IsBelow};
 ghost use Rattle.hv_explicit.specs.Working.Codes.{IsAfterCode, IsCode, IsListCode, IsSame, IsSip};
 
-use crate::codes::{code_after, code_of, is_exact, list_code, list_sip, sip_code};
+use crate::codes::{code_after, code_of, list_code, list_sip, sip_code};
 use crate::results::{is_result, is_same, named};
+use crate::state_word::StateWord;
 use hv_task::{Action, After, Atoms, Hint};
 
 /// A set of atoms of a task that is looked for among listed states.
@@ -61,31 +62,13 @@ impl<'a> Coded<'a> {
     }
 }
 
-/// Whether the state is the set; both are of a task with so many atoms. Exact codes tell it.
-pub(crate) fn is_state<A: Sought>(state: Coded<'_>, held: &A, atoms: u32) -> bool
-    requires state { AreBelow atoms state.atoms.now }
-    requires held { IsBelow atoms (A.has held.now) }
-    ensures { IsTrue result ↔ IsSame (A.has held.now) state.entry.atoms.now }
-{
-    if is_exact(state.key, atoms) {
-        return has_code(state, held, atoms);
-    }
-    held.is(state.atoms)
-}
-
-// Whether the set has the state's code, which is exact.
-fn has_code<A: Sought>(state: Coded<'_>, held: &A, atoms: u32) -> bool
-    requires bits { state.key ≡ 0 }
-    requires few { atoms ≤ 64 }
-    requires state { AreBelow atoms state.atoms.now }
-    requires held { IsBelow atoms (A.has held.now) }
-    ensures { IsTrue result ↔ IsSame (A.has held.now) state.entry.atoms.now }
-{
-    let code = held.code(state.key, atoms);
-    if code != state.code {
-        return false;
-    }
-    true
+/// A state of a set: by its atoms or, in a task with at most 64 atoms, by a bit for each of them.
+#[derive(Clone, Copy)]
+pub(crate) enum SomeState<'a> {
+    /// By its atoms.
+    Listed(Coded<'a>),
+    /// By its word.
+    Word(StateWord),
 }
 
 impl Sought for Coded<'_> {

@@ -2,19 +2,22 @@
 //! lies in a block of memory of its own: to go through two is no dearer than to look one up, and a
 //! proof can have hundreds of thousands of such sets.
 
-ghost use Rattle.std.specs.Prelude.{◌≡◌, ◌<◌, ◌-◌, ◌^◌, ◌↔◌, ℕ, [], length, slice_index_or};
+ghost use Rattle.std.specs.Prelude.{◌≡◌, ◌<◌, ◌≤◌, ◌-◌, ◌^◌, ◌↔◌, ℕ, [], length, slice_index_or};
 ghost use Rattle.std.specs.Prelude.{IsTrue, IfOk, IfSome, OnOk};
 ghost use Rattle.hv_explicit.specs.ListedStates.{AreRising, AreStates};
 ghost use Rattle.hv_explicit.specs.Codes.{IsBelow};
-ghost use Rattle.hv_explicit.specs.Working.Codes.{HasListed};
+ghost use Rattle.hv_explicit.specs.Working.Codes.{HasListed, IsCode, IsSame};
 ghost use Rattle.hv_explicit.specs.Working.Listing.{AreFirsts, ArePlacesOf};
 ghost use Rattle.hv_explicit.specs.Working.Holders.{AreHolders, IsHolderIndex, IsManyIndex};
 ghost use Rattle.hv_explicit.specs.Working.Holders.{IsStateIndex, listed_places};
+ghost use Rattle.hv_explicit.specs.Working.SomeStates.{IsOfFew, state_atoms};
+ghost use Rattle.hv_explicit.specs.Working.Words.{word_atoms};
 
-use crate::codes::is_exact;
-use crate::firsts::{Firsts, coded_state, first_key, firsts_of, is_at, look_up};
+use crate::codes::{BITS, is_exact};
+use crate::firsts::{Firsts, coded_state, first_key, firsts_of, is_at, look_up, word_of_state};
 use crate::holders::{Holders, SomePlaces, holders_of, holding_all};
-use crate::sought::{Coded, Sought};
+use crate::sought::{Coded, SomeState, Sought};
+use crate::state_word::{StateWord, is_word, word_of_list};
 use hv_sets::StateList;
 use std::alloc::{AllocError, Global};
 
@@ -169,8 +172,36 @@ fn has_in_many<A: Sought>(many: &ManyIndex, states: &StateList, held: &A, atoms:
     ensures { IsTrue result ↔ HasListed (A.has held.now) states.now }
 {
     let code = held.code(many.firsts.key, atoms);
-    let exact = is_exact(many.firsts.key, atoms);
-    look_up(states, &many.firsts, code, held, exact)
+    if is_exact(many.firsts.key, atoms) {
+        return has_code(many, states, held, code, atoms);
+    }
+    look_up(states, &many.firsts, code, held)
+}
+
+// The same where codes are exact, by the set's code.
+fn has_code<A: Sought>(
+    many: &ManyIndex,
+    states: &StateList,
+    held: &A,
+    code: u64,
+    atoms: u32,
+) -> bool
+    requires bits { many.now.firsts.key ≡ 0 }
+    requires few { atoms ≤ 64 }
+    requires code { IsCode many.now.firsts.key (A.has held.now) code }
+    requires of_task { AreStates atoms states.now }
+    requires index { IsManyIndex states.now many.now }
+    requires fits { IsBelow atoms (A.has held.now) }
+    ensures { IsTrue result ↔ HasListed (A.has held.now) states.now }
+{
+    let _ = states;
+    let _ = held;
+    let _ = atoms;
+    let end = many.firsts.codes.last(code);
+    if end == 0 {
+        return false;
+    }
+    true
 }
 
 // The same by going through the states.
@@ -186,13 +217,67 @@ fn has_among<A: Sought>(states: &StateList, held: &A) -> bool
     false
 }
 
-/// The state at this place, with its code; the task has so many atoms.
+/// Whether the state at this place is the set; the task has so many atoms.
+pub(crate) fn is_in<A: Sought>(
+    index: &StateIndex,
+    states: &StateList,
+    place: usize,
+    held: &A,
+    atoms: u32,
+) -> bool
+    requires place { place < length states.now }
+    requires below { AreStates (2 ^ 32 - 1) states.now }
+    requires rise { AreRising states.now }
+    requires of_task { AreStates atoms states.now }
+    requires index { IsStateIndex states.now index.now }
+    requires fits { IsBelow atoms (A.has held.now) }
+    ensures { IsTrue result ↔ IsSame (A.has held.now) (slice_index_or states.now place []) }
+{
+    if atoms > 64 {
+        return is_at(states, place, held);
+    }
+    is_word(word_in(index, states, place), held, atoms)
+}
+
+/// The state at this place; the task has so many atoms.
 pub(crate) fn state_in<'a>(
     index: &StateIndex,
     states: &'a StateList,
     place: usize,
     atoms: u32,
-) -> Coded<'a>
+) -> SomeState<'a>
+    requires place { place < length states.now }
+    requires of_task { AreStates atoms states.now }
+    requires rise { AreRising states.now }
+    requires index { IsStateIndex states.now index.now }
+    ensures atoms { state_atoms result ≡ slice_index_or states.now place [] }
+    ensures few { IsOfFew atoms result }
+{
+    if atoms > 64 {
+        return SomeState::Listed(coded_in(index, states, place, atoms));
+    }
+    let bits = word_in(index, states, place);
+    SomeState::Word(StateWord { bits })
+}
+
+// The word of the state at this place.
+fn word_in(index: &StateIndex, states: &StateList, place: usize) -> u64
+    requires place { place < length states.now }
+    requires below { AreStates 64 states.now }
+    requires rise { AreRising states.now }
+    requires index { IsStateIndex states.now index.now }
+    ensures { word_atoms result ≡ slice_index_or states.now place [] }
+{
+    match index {
+        StateIndex::Many(many) if many.firsts.key == BITS => {
+            word_of_state(states, &many.firsts, place)
+        }
+        _ => word_of_list(states.get(place)),
+    }
+}
+
+// The state at this place, with its code.
+fn coded_in<'a>(index: &StateIndex, states: &'a StateList, place: usize, atoms: u32) -> Coded<'a>
     requires place { place < length states.now }
     requires index { IsStateIndex states.now index.now }
     ensures { result.atoms.now ≡ slice_index_or states.now place [] }

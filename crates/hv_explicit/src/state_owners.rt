@@ -11,17 +11,18 @@
 ghost use Rattle.std.specs.Prelude.{◌≡◌, ◌<◌, ◌≤◌, ◌^◌, ◌++◌, ◌∷◌, ◌↔◌, ℕ, Bool, List, [], length};
 ghost use Rattle.std.specs.Prelude.{slice_index_or, true, IsTrue, IfOk, IfSome, OnOk, OnErr};
 ghost use Rattle.std.specs.List.{All};
-ghost use Rattle.hv_task.specs.State.{AreBelow};
+ghost use Rattle.hv_task.specs.State.{AreBelow, names_atom};
 ghost use Rattle.hv_explicit.specs.Codes.{IsBelow, IsSetOf};
 ghost use Rattle.hv_explicit.specs.ListedStates.{AreListsOver};
 ghost use Rattle.hv_explicit.specs.Working.Owners.{AreListings, IsEntered, IsOwned, IsOwner};
 ghost use Rattle.hv_explicit.specs.Working.Owners.{IsOwnerIndex, KeepsEntries};
+ghost use Rattle.hv_explicit.specs.Working.SomeStates.{state_atoms};
 
-use crate::coding::{Coding, code_by, tells_apart};
+use crate::coding::{Coding, can_meet, code_by, tells_apart};
 use crate::explicit::Explicit;
 use crate::named_sets::NamedSets;
 use crate::places::Places;
-use crate::sought::{Coded, Sought};
+use crate::sought::{SomeState, Sought};
 use std::alloc::{AllocError, Global};
 
 // With so few sets none of their states is entered: to go through the sets is no dearer.
@@ -154,34 +155,57 @@ fn enter_set(
             set: number,
             place: *place,
         };
-        let state = set.at(*place as usize);
-        if !enter(owners, sets, entry, &state, set.atoms())? {
+        if !enter_some(owners, sets, entry, set.at(*place as usize), set.atoms())? {
             return Ok(false);
         }
     }
     Ok(true)
 }
 
-// Enters a state, unless another one has its sum, or there is no room.
-fn enter(
+// Enters a state of a set, however it is kept, unless another one has its sum, or there is no room.
+fn enter_some(
     owners: &mut StateOwners,
     sets: &[Explicit],
     entry: ListedAt,
-    state: &Coded<'_>,
+    state: SomeState<'_>,
     atoms: u32,
 ) -> Result<bool, AllocError>
     requires size { length owners.old.codes ≤ length owners.old.entries.items }
-    requires below { AreBelow atoms state.now.atoms.now }
+    requires below { AreBelow atoms (state_atoms state) }
     ensures known { owners.new.known ≡ owners.old.known }
     ensures keeps { KeepsEntries owners.old owners.new }
     ensures size { length owners.new.codes ≤ length owners.new.entries.items }
     ensures ok { IfOk result (λ done. done ≡ true
         → (states : List (List ℕ)) → entry.place < length states
-        → state.now.atoms.now ≡ slice_index_or states entry.place []
+        → names_atom (state_atoms state.entry) ≡ names_atom (slice_index_or states entry.place [])
+        → IsEntered owners.new entry.set states (slice_index_or states entry.place [])) }
+{
+    match state {
+        SomeState::Listed(state) => enter(owners, sets, entry, &state, atoms),
+        SomeState::Word(state) => enter(owners, sets, entry, &state, atoms),
+    }
+}
+
+// Enters a state, unless another one has its sum, or there is no room.
+fn enter<A: Sought>(
+    owners: &mut StateOwners,
+    sets: &[Explicit],
+    entry: ListedAt,
+    state: &A,
+    atoms: u32,
+) -> Result<bool, AllocError>
+    requires size { length owners.old.codes ≤ length owners.old.entries.items }
+    requires below { IsBelow atoms (A.has state.now) }
+    ensures known { owners.new.known ≡ owners.old.known }
+    ensures keeps { KeepsEntries owners.old owners.new }
+    ensures size { length owners.new.codes ≤ length owners.new.entries.items }
+    ensures ok { IfOk result (λ done. done ≡ true
+        → (states : List (List ℕ)) → entry.place < length states
+        → A.has state.now ≡ names_atom (slice_index_or states entry.place [])
         → IsEntered owners.new entry.set states (slice_index_or states entry.place [])) }
 {
     let code = code_by(owners.coding, state, atoms);
-    if owners.codes.len() >= u32::MAX as usize || meets_other(owners, sets, code, state) {
+    if owners.codes.len() >= u32::MAX as usize || meets_other(owners, sets, code, state, atoms) {
         return Ok(false);
     }
     owners.entries.truncate(owners.codes.len());
@@ -191,8 +215,16 @@ fn enter(
 }
 
 // Whether the sums are to be given up: the last entry of the code is of another state.
-fn meets_other(owners: &StateOwners, sets: &[Explicit], code: u64, state: &Coded<'_>) -> bool {
-    if matches!(owners.coding, Coding::Sips) {
+fn meets_other<A: Sought>(
+    owners: &StateOwners,
+    sets: &[Explicit],
+    code: u64,
+    state: &A,
+    atoms: u32,
+) -> bool
+    requires { IsBelow atoms (A.has state.now) }
+{
+    if !can_meet(owners.coding, atoms) {
         return false;
     }
     let end = owners.codes.last(code);
@@ -201,7 +233,11 @@ fn meets_other(owners: &StateOwners, sets: &[Explicit], code: u64, state: &Coded
     }
     let entry = owners.entries[end - 1];
     let number = entry.set as usize;
-    number < sets.len() && !sets[number].has_at(entry.place as usize, state)
+    if number >= sets.len() {
+        return false;
+    }
+    let set = &sets[number];
+    set.atoms() == atoms && !set.has_state_at(entry.place as usize, state)
 }
 
 /// Whether one of the operands, asked about after the action (true) or before it, is a set that

@@ -1,9 +1,9 @@
 -- The search through listed states for a counterexample to a query.
 use Rattle.std.specs.Prelude.{◌≡◌, ◌<◌, ◌≤◌, ◌&&◌, ℕ, Bool, true, false, not, List, length}
-use Rattle.std.specs.Prelude.{if◌then◌else◌, IfSome, Option, Some}
+use Rattle.std.specs.Prelude.{if◌then◌else◌, IfSome, MatchOption, None, Option, Some}
 use Rattle.std.specs.List.{All, Contains, list_all}
 use Rattle.hv_task.specs.State.{state_of}
-use Rattle.hv_task.specs.Strips.{IsState, Strips, atoms}
+use Rattle.hv_task.specs.Strips.{IsOver, IsState, Strips, atoms}
 use Rattle.hv_sets.specs.declared.finding.Finding.{Finding}
 use Rattle.hv_sets.specs.declared.finding.Finding.TheVariants as F
 use Rattle.hv_sets.specs.declared.operand.Operand.{Operand}
@@ -30,15 +30,16 @@ pub record IsListedSearch (s : ListedSearch) : Type 0 where
   pub action : IfSome s.query.action (λ a. a < length s.task.actions)
 
 -- the same of a search with what is made once of its query: a flag without which no negative
--- operand is asked about before the action, the negative operands by flags, and the action by bits
--- where the task has few atoms
+-- operand is asked about before the action, the negative operands by flags, and the action by bits,
+-- if there is one, where the task has few atoms
 pub record IsPreparedSearch (s : ListedSearch) (asks_before : Bool) (named : List Operand)
     (bits : Option ActionBits) : Type 0 where
   pub search : IsListedSearch s
   pub asks : asks_before ≡ false → All (λ o. o.after ≡ true) s.query.negative
   pub names : named ≡ s.query.negative
-  pub acts : IfSome bits (λ b. (action_of s.task s.query.action ≡ Some b.action.now)
-      × (atoms s.task ≤ 64))
+  pub acts : MatchOption bits (atoms s.task ≤ 64 → action_of s.task s.query.action ≡ None)
+      (λ b. (action_of s.task s.query.action ≡ Some b.action.now)
+      × IsOver (atoms s.task) b.action.now)
 
 -- the state is in what is named
 abbrev pub in_named : ListedSearch → Which → List Bool → Bool

@@ -1,5 +1,6 @@
-use Rattle.std.proofs.Common.{◌≡◌, ◌∙◌, arith, inl, inr, subst}
+use Rattle.std.proofs.Common.{◌≡◌, ◌∙◌, ap, arith, inl, inr, subst}
 use Rattle.std.proofs.lemmas.Bool.{cases_lt}
+use Rattle.hv_task.specs.State.{names_atom}
 use Rattle.hv_explicit.specs.Working.Listing.{first_at}
 use Rattle.hv_explicit.specs.Working.Owners.{IsEntered}
 use Rattle.hv_explicit.proofs.Owned.{all_entered}
@@ -9,12 +10,12 @@ pub loop-place-preserved : goal.loop-place-preserved
 loop-place-preserved c =
     let within = c.firsts-place-items.ensures.within c.loop-place.place-index
     c.loop-place-test.true in
-    let kept = c.enter.ensures.keeps in
+    let kept = c.enter_some.ensures.keeps in
     record {
-      known = c.enter.ensures.known ∙ c.loop-place.invariant.known;
+      known = c.enter_some.ensures.known ∙ c.loop-place.invariant.known;
       keeps = λ number states held i. kept number states held
           (c.loop-place.invariant.keeps number states held i);
-      size = c.enter.ensures.size;
+      size = c.enter_some.ensures.size;
       entered = λ e less.
           elim (cases_lt e c.loop-place.place-index) [
             | inl old ↦
@@ -23,10 +24,10 @@ loop-place-preserved c =
                 (c.loop-place.invariant.entered e old)
             | inr last ↦
                 let same : c.loop-place.place-index ≡ e = omega arith in
-                subst (λ d. IsEntered c.enter.new.owners c.args.number c.args.set.now.states
+                subst (λ d. IsEntered c.enter_some.new.owners c.args.number c.args.set.now.states
                 (first_at c.args.set.now.states c.firsts-place-items.result.now d)) same
-                (c.in_ok-enter.ensures.ok c.if-not-branch.false c.args.set.now.states within
-                c.at-state.ensures.atoms)
+                (c.in_ok-enter_some.ensures.ok c.if-not-branch.false c.args.set.now.states within
+                (ap names_atom c.at.ensures.atoms))
           ];
     }
 

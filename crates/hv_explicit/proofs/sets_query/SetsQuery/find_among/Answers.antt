@@ -3,22 +3,22 @@ use Rattle.std.proofs.Common.{below_more}
 use Rattle.hv_task.specs.State.{AreBelow, state_of}
 use Rattle.hv_task.specs.Strips.{atoms}
 use Rattle.hv_explicit.specs.Working.Listing.{first_at}
+use Rattle.hv_explicit.specs.Working.SomeStates.{IsOfFew, state_atoms}
 use Rattle.hv_explicit.specs.Working.Search.{clashes_at, clashes_in, in_named}
 use Rattle.hv_explicit.proofs.Holding.{all_fail}
 use Rattle.hv_explicit.proofs.sets_query.SetsQuery.find_among.Goals as goal
 
-pub hold-requires : goal.hold-requires
-hold-requires c =
-    subst (λ (n : ℕ). AreBelow n c.at-held.result.atoms.now)
-    (c.requires.atoms ∙ sym c.loop-place.invariant.state) c.at-held.ensures.below
-
-pub clashes-requires-clause-held : goal.clashes-requires-clause-held
-clashes-requires-clause-held c =
-    subst (λ (n : ℕ). AreBelow n c.at-held.result.atoms.now) c.requires.atoms
+pub some_clashes-requires-clause-held : goal.some_clashes-requires-clause-held
+some_clashes-requires-clause-held c =
+    subst (λ (n : ℕ). AreBelow n (state_atoms c.at-held.result)) c.requires.atoms
     c.at-held.ensures.below
 
-pub clashes-requires-clause-anchor : goal.clashes-requires-clause-anchor
-clashes-requires-clause-anchor c =
+pub some_clashes-requires-clause-few : goal.some_clashes-requires-clause-few
+some_clashes-requires-clause-few c =
+    subst (λ (n : ℕ). IsOfFew n c.at-held.result) c.requires.atoms c.at-held.ensures.few
+
+pub some_clashes-requires-clause-anchor : goal.some_clashes-requires-clause-anchor
+some_clashes-requires-clause-anchor c =
     let task = c.args.self.now.task in
     let place = get_or c.args.places.now c.loop-place.place-index 0 in
     subst (λ held. in_named c.args.self.now c.args.anchor
@@ -26,14 +26,21 @@ clashes-requires-clause-anchor c =
     (c.requires.anchor place []
     (c.requires.places.within c.loop-place.place-index c.loop-place-test.true))
 
-pub returns-then-clashes : goal.returns-then-clashes
-returns-then-clashes c = (
+pub hold-requires : goal.hold-requires
+hold-requires c =
+    subst (λ (n : ℕ). AreBelow n c.atoms_at.result.now)
+    (c.requires.atoms ∙ sym c.loop-place.invariant.state) c.atoms_at.ensures.below
+
+pub returns-then-some_clashes : goal.returns-then-some_clashes
+returns-then-some_clashes c = (
   (let len = c.len.ensures in omega (arith, c.if-len-budget.false)),
   c.hold.ensures.atoms ∙ c.loop-place.invariant.state,
   ap (clashes_in c.args.self.now)
-      (c.hold.ensures.held ∙ ap (λ m. state_of m c.at-held.result.atoms.now)
-      c.loop-place.invariant.state)
-      ∙ (sym c.clashes.ensures ∙ c.if-clashes.true),
+      (c.hold.ensures.held ∙ ap (λ m. state_of m c.atoms_at.result.now)
+      c.loop-place.invariant.state
+      ∙ ap (state_of (atoms c.args.self.now.task))
+      (c.atoms_at.ensures.atoms ∙ sym c.at-held.ensures.atoms))
+      ∙ (sym c.some_clashes.ensures ∙ c.if-some_clashes.true),
 )
 
 pub loop-place-preserved : goal.loop-place-preserved
@@ -45,7 +52,7 @@ loop-place-preserved c =
           ≡ false)
           c.loop-place.place-index c.loop-place.invariant.none
           (subst (λ held. clashes_at s held ≡ false) c.at-held.ensures.atoms
-          (sym c.clashes.ensures ∙ c.if-clashes.false));
+          (sym c.some_clashes.ensures ∙ c.if-some_clashes.false));
     }
 
 pub returns : goal.returns

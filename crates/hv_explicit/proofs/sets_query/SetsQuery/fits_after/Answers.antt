@@ -14,10 +14,10 @@ fits-requires-clause-before c = below_list (atoms c.args.self.now.task)
 pub fits-requires-clause-after : goal.fits-requires-clause-after
 fits-requires-clause-after c =
     let task = c.args.self.now.task in
-    subst (λ xs. IsBelow (atoms task) (is_after c.result_in-after.result.action.now xs))
-    (sym c.result_in-after.ensures.held)
+    subst (λ xs. IsBelow (atoms task) (is_after c.of-after.result.action.now xs))
+    (sym c.of-after.ensures.held)
     (subst (λ a. IsBelow (atoms task) (is_after a c.args.held.atoms.now))
-    (sym c.result_in-after.ensures.action)
+    (sym c.of-after.ensures.action)
     (below_after (atoms task) c.args.action.now c.args.held.atoms.now c.requires.held
     c.requires.over))
 
@@ -36,7 +36,7 @@ pub returns : goal.returns
 returns c = λ b a just_b just_a.
     let task = c.args.self.now.task in
     c.fits.ensures b a just_b
-    (subst (λ xs. HasJust task (is_after c.result_in-after.result.action.now xs) a)
-    (sym c.result_in-after.ensures.held)
+    (subst (λ xs. HasJust task (is_after c.of-after.result.action.now xs) a)
+    (sym c.of-after.ensures.held)
     (subst (λ act. HasJust task (is_after act c.args.held.atoms.now) a)
-    (sym c.result_in-after.ensures.action) just_a))
+    (sym c.of-after.ensures.action) just_a))
