@@ -1,8 +1,8 @@
 -- Working definitions beside those of `Codes`: for private contracts and proofs.
-use Rattle.std.specs.Prelude.{◌≡◌, ◌==◌, ◌<◌, ◌≤◌, ◌+◌, ◌*◌, ◌%◌, ◌/◌, ◌-◌, ◌^◌, ◌&&◌, ◌||◌, ◌↔◌}
+use Rattle.std.specs.Prelude.{◌≡◌, ◌==◌, ◌<◌, ◌+◌, ◌*◌, ◌%◌, ◌/◌, ◌-◌, ◌^◌, ◌&&◌, ◌||◌, ◌↔◌}
 use Rattle.std.specs.Prelude.{◌∷◌, not, ℕ, zero, suc, Bool, true, List, [], length, cond}
 use Rattle.std.specs.Prelude.{slice_index_or, bit_and, bit_xor}
-use Rattle.std.specs.List.{All, Contains, fold}
+use Rattle.std.specs.List.{Contains, fold}
 use Rattle.std.specs.List.Sorted.{IsStrictlyIncreasing}
 use Rattle.std.specs.Hash as fed
 use Rattle.std.specs.Hash.DefaultHasher as sip
@@ -53,14 +53,6 @@ abbrev pub IsAfterCode : ℕ → Action → List ℕ → ℕ → Type 0
 IsAfterCode key action held code =
     (bound : ℕ) → AreBelow bound held → IsOver bound action
     → code ≡ code_sum key (is_after action held) bound
-
--- the set and the states are of so few atoms that codes by the key have a bit for each
-pub record AreExact (key : ℕ) (set : ℕ → Bool) (states : List (List ℕ)) : Type 0 where
-  pub atoms : ℕ
-  pub few : atoms ≤ 64
-  pub bits : key ≡ 0
-  pub set_below : IsBelow atoms set
-  pub states_below : All (λ held. AreBelow atoms held) states
 
 -- the atoms that are left where some of those to be deleted, and not added, were taken out
 abbrev pub without : List ℕ → List ℕ → List ℕ → ℕ → Bool
