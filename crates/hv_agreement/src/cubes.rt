@@ -10,7 +10,7 @@ use crate::three::{
     bit_if, explicit_of, formula_of, has_bit, is_dual_code, is_found, is_horn_code, is_two_code,
     state_from, states_denied, states_of_clauses, states_of_list, task_of,
 };
-use hv_clauses::{ClauseKind, Formula};
+use hv_formula::{ClauseKind, Formula};
 use hv_horn::{DualHornKind, HornKind};
 use hv_sets::{Covering, Cube, Cursor, Inside, Literal, Outside, Scratch, StateSet, Step};
 use hv_task::Task;

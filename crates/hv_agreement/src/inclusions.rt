@@ -8,8 +8,8 @@ use crate::three::{
     ALL, explicit_of, fits, formula_of, is_dual_code, is_horn_code, is_two_code, states_of_clauses,
     states_of_list, task_of,
 };
-use hv_clauses::{ClauseKind, Formula};
 use hv_explicit::Explicit;
+use hv_formula::{ClauseKind, Formula};
 use hv_horn::{DualHornKind, HornKind};
 use hv_mixed::{apart, together, within, within_states};
 use hv_paths::{InsideAsked, InsideWalked, OutsideAsked, OutsideWalked};

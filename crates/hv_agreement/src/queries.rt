@@ -7,8 +7,7 @@ ghost use Rattle.hv_sets.specs.Cost.{clauses_of};
 ghost use Rattle.hv_sets.specs.Query.{HasAnchor, IsNamed, IsReady};
 ghost use Rattle.hv_sets.specs.Room.{HasRoom};
 ghost use Rattle.hv_sets.specs.declared.operand.Which.TheVariants as W;
-ghost use Rattle.hv_clauses.specs.Clausal.{sizes_of};
-ghost use Rattle.hv_clauses.specs.Store.{AreOver, formula_at};
+ghost use Rattle.hv_clauses.specs.Store.{sizes_of, AreOver, formula_at};
 ghost use Rattle.hv_explicit.specs.ListedStates as listing;
 ghost use Rattle.hv_agreement.specs.declared.queries.Measure.TheVariants as M;
 
@@ -18,8 +17,9 @@ use crate::three::{
     is_horn_code, is_two_code, leading_to, states_of_clauses, states_of_list, task_of,
 };
 use crate::tuples::{Fronts, live_tuples};
-use hv_clauses::{ClauseKind, Formulas};
+use hv_clauses::Formulas;
 use hv_explicit::Explicits;
+use hv_formula::ClauseKind;
 use hv_horn::{DualHornKind, HornKind};
 use hv_sets::{Family, Finding, Operands, Query, Scratch, Which};
 use hv_task::Task;

@@ -7,11 +7,12 @@ ghost use Rattle.hv_sets.specs.Cubes.{SpeakBelow};
 ghost use Rattle.hv_sets.specs.Query.{HasAnchor, IsReady};
 ghost use Rattle.hv_sets.specs.Room.{HasRoom};
 ghost use Rattle.hv_sets.specs.declared.operand.Which.TheVariants as W;
-ghost use Rattle.hv_clauses.specs.Clausal.{AreClauses, sizes_of};
-ghost use Rattle.hv_clauses.specs.Store.{AreOver, formula_at};
+ghost use Rattle.hv_propagation.specs.Clauses.{AreClauses};
+ghost use Rattle.hv_clauses.specs.Store.{sizes_of, AreOver, formula_at};
 
 use crate::operands::one_operand;
-use hv_clauses::{ClauseKind, Formula, Formulas};
+use hv_clauses::Formulas;
+use hv_formula::{ClauseKind, Formula};
 use hv_horn::{DualHorn, DualHornFault, DualHornKind, Horn, HornFault, HornKind};
 use hv_sets::{Clause, Clauses, Family, Finding, Literal, Query, Scratch, Which};
 use hv_task::{Name, State, Task};

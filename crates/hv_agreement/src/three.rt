@@ -9,11 +9,11 @@ ghost use Rattle.std.specs.Prelude.{◌≡◌, ◌<◌, ◌+◌, [], IfOk, OnOk,
 ghost use Rattle.hv_task.specs.State.{AreBelow};
 ghost use Rattle.hv_task.specs.Strips.{IsOver, atoms};
 ghost use Rattle.hv_sets.specs.Cubes.{SpeakBelow};
-ghost use Rattle.hv_clauses.specs.Clausal.{AreClauses};
+ghost use Rattle.hv_propagation.specs.Clauses.{AreClauses};
 ghost use Rattle.hv_explicit.specs.ListedStates.{AreStates};
 
-use hv_clauses::{ClauseKind, Formula};
 use hv_explicit::Explicit;
+use hv_formula::{ClauseKind, Formula};
 use hv_sets::{Clause, Clauses, Finding, Literal, StateList};
 use hv_task::{Action, AtomList, Name, State, Task};
 use std::alloc::{AllocError, Global};

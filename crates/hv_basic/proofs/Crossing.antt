@@ -23,8 +23,8 @@ use Rattle.hv_sets.specs.declared.literal.Literal.{Literal}
 use Rattle.hv_sets.specs.declared.operand.Operand.{Operand}
 use Rattle.hv_sets.specs.declared.operand.Which.TheVariants as W
 use Rattle.hv_sets.specs.declared.query.Query.{Query}
-use Rattle.hv_clauses.specs.Clausal.{FormulaState}
-use Rattle.hv_clauses.proofs.Effects.{list_all_from}
+use Rattle.hv_formula.specs.Clausal.{FormulaState}
+use Rattle.hv_propagation.proofs.Effects.{list_all_from}
 use Rattle.hv_explicit.proofs.Anchored.{passes_at}
 use Rattle.hv_lines.proofs.Elements.{got_mapped, of_one, slice_get_some}
 use Rattle.hv_basic.specs.ActionRows.{StandsInRow, changed_to, in_found_row}

@@ -11,8 +11,8 @@ use Rattle.hv_sets.specs.Query.{is_clash}
 use Rattle.hv_sets.specs.Truth.{in_clauses, in_states}
 use Rattle.hv_sets.specs.declared.literal.Literal.{Literal}
 use Rattle.hv_sets.specs.declared.query.Query.{Query}
-use Rattle.hv_clauses.specs.Clausal.{FormulaState, tests_of, sizes_of}
-use Rattle.hv_clauses.specs.Store.{AreOver, clauses_found, formula_at}
+use Rattle.hv_formula.specs.Clausal.{FormulaState}
+use Rattle.hv_clauses.specs.Store.{tests_of, sizes_of, AreOver, clauses_found, formula_at}
 use Rattle.hv_explicit.specs.ListedStates.{ListedStates, count_found, in_found, in_set}
 use Rattle.hv_explicit.specs.ListedStates.{states_listed}
 use Rattle.hv_explicit.specs.ListedStates.{AreListsOver as AreListedOver}

@@ -7,7 +7,7 @@ use Rattle.hv_task.specs.Strips.{Strips, atoms}
 use Rattle.hv_sets.specs.Cubes.{cube_of}
 use Rattle.hv_sets.specs.Truth.{in_states}
 use Rattle.hv_sets.specs.declared.finding.Finding.{Finding}
-use Rattle.hv_clauses.specs.Denial.{denial_step}
+use Rattle.hv_formula.specs.Denial.{denial_step}
 use Rattle.hv_bdd.specs.Nodes.{NodeList, in_node}
 use Rattle.hv_bdd.specs.Paths.{paths}
 use Rattle.hv_mixed.specs.Inclusion.{complement, difference}

@@ -7,7 +7,8 @@ use Rattle.hv_task.specs.Strips.{Strips, atoms}
 use Rattle.hv_sets.specs.Kinds.{IsDualHornClause, IsHornClause, IsTwoClause}
 use Rattle.hv_sets.specs.declared.literal.Literal.{Literal}
 use Rattle.hv_sets.specs.declared.operand.Which.{Which}
-use Rattle.hv_clauses.specs.Clausal.{AreClauses, FormulaState}
+use Rattle.hv_propagation.specs.Clauses.{AreClauses}
+use Rattle.hv_formula.specs.Clausal.{FormulaState}
 use Rattle.hv_explicit.specs.ListedStates.{AreStates, ListedStates}
 use Rattle.hv_lines.specs.Numbering.{expr_count}
 use Rattle.hv_lines.specs.Queries.{dual_in, horn_in, two_in, listed_in, duals_of, horns_of}

@@ -14,7 +14,8 @@ ghost use Rattle.hv_basic.specs.Working.Framed.{AreCrossing, AreTurning, IsFrame
 
 use crate::case::Case;
 use crate::turned::{cost_of, most_for, turning};
-use hv_clauses::{ClauseKind, Formulas};
+use hv_clauses::Formulas;
+use hv_formula::ClauseKind;
 use hv_lines::FormulaFamily;
 use hv_sets::{Operand, Query, Which};
 use hv_task::AtomList;

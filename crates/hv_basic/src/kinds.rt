@@ -8,7 +8,7 @@ ghost use Rattle.std.specs.Prelude.{◌↔◌, IsTrue};
 ghost use Rattle.std.specs.List.{All};
 ghost use Rattle.hv_lines.specs.Good.{IsOfItsFamily};
 
-use hv_clauses::ClauseKind;
+use hv_formula::ClauseKind;
 use hv_horn::{DualHornKind, HornKind};
 use hv_lines::Expr;
 use hv_sets::{Clauses, Literal};

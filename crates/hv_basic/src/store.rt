@@ -7,7 +7,7 @@ ghost use Rattle.std.specs.Prelude.{◌≡◌, ◌<◌, ◌++◌, ℕ, List, [],
 ghost use Rattle.std.specs.Prelude.{OnErr, OnOk, length, slice_get};
 ghost use Rattle.std.specs.List.{All};
 ghost use Rattle.hv_task.specs.Strips.{Strips, atoms};
-ghost use Rattle.hv_clauses.specs.Clausal.{AreClauses};
+ghost use Rattle.hv_propagation.specs.Clauses.{AreClauses};
 ghost use Rattle.hv_explicit.specs.ListedStates.{AreStates};
 ghost use Rattle.hv_lines.specs.Numbering.{IsNumbered, expr_count};
 ghost use Rattle.hv_lines.specs.Queries.{named_by};
@@ -23,8 +23,9 @@ ghost use Rattle.hv_basic.specs.Working.Stores.{IsUnstored};
 
 use crate::action_rows::action_rows;
 use crate::change_rows::{ChangeRows, change_rows};
-use hv_clauses::{ClauseKind, Formula, Formulas};
+use hv_clauses::Formulas;
 use hv_explicit::{Explicit, Explicits};
+use hv_formula::{ClauseKind, Formula};
 use hv_horn::{DualHorns, Horns};
 use hv_lines::{Constant, Expr, Line};
 use hv_sets::{Clauses, StateList, Which};

@@ -1,13 +1,11 @@
 -- Why the choices of which the effect turns a literal are enough, where the set is a positive
 -- operand at the other time.
-use Rattle.std.proofs.Common.{◌≡◌, ℕ, zero, suc, ◌*◌, ◌/◌, ◌%◌, ◌<◌, ◌≤◌, ◌∙◌, ◌⊎◌, Bool, true}
-use Rattle.std.proofs.Common.{false}
-use Rattle.std.proofs.Common.{not, cond, List, [], ◌∷◌, Option, None, Some, length, slice_get, refl}
-use Rattle.std.proofs.Common.{ap, arith, get_or, inl, inr, subst}
+use Rattle.std.proofs.Common.{◌≡◌, ℕ, zero, suc, ◌*◌, ◌/◌, ◌%◌, ◌<◌, ◌≤◌, ◌∙◌, Bool, true, false}
+use Rattle.std.proofs.Common.{not, cond, List, [], ◌∷◌, Some, length, slice_get, refl, ap, arith}
+use Rattle.std.proofs.Common.{get_or, inl, inr, subst}
 use Rattle.std.proofs.Math.Nat.{mod-eq_of_lt}
 use Rattle.std.proofs.lemmas.Bool.{cases_lt}
 use Rattle.std.proofs.lemmas.List.{get_or_default}
-use Rattle.std.proofs.lemmas.List.Elements.{All-cons, All-nil}
 use Rattle.std.proofs.lemmas.Option.{slice_get_within}
 use Rattle.std.specs.List.{All, Contains}
 use Rattle.std.specs.List.Sorted.{IsStrictlyIncreasing}
@@ -22,56 +20,26 @@ use Rattle.hv_sets.specs.Cubes.{SpeakBelow}
 use Rattle.hv_sets.specs.Names.{AsksAbout}
 use Rattle.hv_sets.specs.Truth.{in_clause}
 use Rattle.hv_indexes.specs.Places.{clause_at}
-use Rattle.hv_clauses.specs.Clausal.{sizes_of}
+use Rattle.hv_clauses.specs.Store.{sizes_of}
 use Rattle.hv_clauses.specs.Working.Choices.{Breaks}
-use Rattle.hv_clauses.specs.Working.Clausal.{clauses_in, late}
+use Rattle.hv_clauses.specs.Working.Operands.{clauses_in}
+use Rattle.hv_propagation.specs.Effect.{late}
 use Rattle.hv_clauses.specs.Working.Found.{IsAskedTwice, IsMetAmong, IsMetBelow}
-use Rattle.hv_clauses.specs.Marks.{known, over}
-use Rattle.hv_clauses.specs.Working.Marks.{Agrees}
+use Rattle.hv_propagation.specs.Marks.{known, over, Agrees}
 use Rattle.hv_clauses.specs.Working.Affected.{turning_sign, IsTurnedBy}
 use Rattle.hv_clauses.specs.Working.Posed.{ProblemState, choices, formulas, sizes, width}
 use Rattle.hv_clauses.specs.Working.Problem.{FitsChoice}
-use Rattle.hv_clauses.specs.Units.{value_of}
+use Rattle.hv_propagation.specs.Units.{value_of}
 use Rattle.hv_clauses.proofs.RefutedChoices.{framed_true, known_true}
-use Rattle.hv_clauses.proofs.Marked.{known_past, through_some, value_some}
-
--- the effect turns no literal of a clause, or it turns one
-is_or : (o : Option Bool) (v : Bool) → (o ≡ Some v) ⊎ (o ≡ Some v → ⊥)
-is_or None v = inr (λ e. absurd cc)
-is_or (Some true) true = inl refl
-is_or (Some false) false = inl refl
-is_or (Some true) false = inr (λ e. absurd cc)
-is_or (Some false) true = inr (λ e. absurd cc)
-
-pub turned_or : (effect : List ℕ) (v : Bool) (clause : List Literal)
-    → All (λ l. value_of effect [] l ≡ Some v → ⊥) clause
-    ⊎ ((l : Literal) × Contains clause l × (value_of effect [] l ≡ Some v))
-turned_or effect v [] = inl (All-nil (λ (l : Literal). value_of effect [] l ≡ Some v → ⊥))
-turned_or effect v (l ∷ ls) =
-    elim (is_or (value_of effect [] l) v) [
-      | inl is ↦ inr (l, (0, omega arith, refl), is)
-      | inr other ↦
-          elim (turned_or effect v ls) [
-            | inl all ↦ inl (All-cons (λ (l : Literal). value_of effect [] l ≡ Some v → ⊥) l ls
-                other all)
-            | inr found ↦ inr (
-              found.0,
-              (suc found.1.0, omega (arith, found.1.1), found.1.2),
-              found.2,
-            )
-          ]
-    ]
+use Rattle.hv_propagation.proofs.Untouched.{made_value, turned_or}
 
 -- what an atom of a turned literal is made, and the sign of the literal
 pub turned_by : (effect : List ℕ) (after : Bool) (l : Literal)
     → value_of effect [] l ≡ Some (not after)
     → (v : Bool) × (known effect l.atom ≡ Some v) × (l.positive ≡ turning_sign after v)
 turned_by effect after l h =
-    let parts = value_some effect [] l (not after) h in
-    elim (through_some effect [] l.atom parts.0 parts.1) [
-      | inl at ↦ (parts.0, at, sign after parts.0 l.positive parts.2)
-      | inr both ↦ let none = known_past [] l.atom (omega arith) in absurd cc
-    ]
+    let made = made_value effect l (not after) h in
+    (made.0, made.1, sign after made.0 l.positive made.2)
   where
     sign : (after v positive : Bool) → cond positive v (not v) ≡ not after
         → positive ≡ turning_sign after v

@@ -18,15 +18,14 @@ use Rattle.hv_sets.specs.Cost.{choices_of, clauses_of}
 use Rattle.hv_sets.specs.Query.{in_which}
 use Rattle.hv_sets.specs.Truth.{in_clause, in_clauses, in_literal}
 use Rattle.hv_indexes.specs.Places.{clause_at}
-use Rattle.hv_clauses.specs.Clausal.{tests_of, sizes_of}
+use Rattle.hv_clauses.specs.Store.{tests_of, sizes_of}
 use Rattle.hv_clauses.specs.Working.Choices.{AreChosenFalse, Breaks}
-use Rattle.hv_clauses.specs.Working.Clausal.{clauses_in, late}
-use Rattle.hv_clauses.specs.Marks.{over}
-use Rattle.hv_clauses.specs.Working.Marks.{Agrees, KeepsKnown}
-use Rattle.hv_clauses.specs.Units.{value_of}
-use Rattle.hv_clauses.specs.Working.Units.{AreFalse}
-use Rattle.hv_clauses.proofs.Marked.{AreFalse_extends, known_within, length-over, through_some}
-use Rattle.hv_clauses.proofs.Marked.{value_false, value_some}
+use Rattle.hv_clauses.specs.Working.Operands.{clauses_in}
+use Rattle.hv_propagation.specs.Effect.{late}
+use Rattle.hv_propagation.specs.Marks.{over, Agrees, KeepsKnown}
+use Rattle.hv_propagation.specs.Units.{value_of, AreFalse}
+use Rattle.hv_propagation.proofs.Marked.{AreFalse_extends, known_within, length-over, through_some}
+use Rattle.hv_propagation.proofs.Marked.{value_false, value_some}
 use Rattle.hv_clauses.proofs.OperandClauses.{clauses_in_is, clauses_of_is}
 
 -- a clause that is false

@@ -14,20 +14,19 @@ use Rattle.hv_sets.specs.declared.operand.Which.{Which}
 use Rattle.hv_sets.specs.declared.operand.Which.TheVariants as W
 use Rattle.hv_sets.specs.Query.{IsNamed}
 use Rattle.hv_clauses.specs.Store.{clauses_found}
-use Rattle.hv_clauses.specs.declared.completion.Completion.{Completion}
-use Rattle.hv_clauses.specs.Kinded.{CompletesClauses, IsShort}
-use Rattle.hv_clauses.specs.Working.Clausal.{Completes}
-use Rattle.hv_clauses.specs.Working.Completion.{IsCompleted}
+use Rattle.hv_propagation.specs.declared.completion.Completion.{Completion}
+use Rattle.hv_formula.specs.Kinded.{CompletesClauses, IsShort}
+use Rattle.hv_propagation.specs.Completion.{Completes, IsCompleted}
 use Rattle.hv_clauses.specs.Working.Found.{AreRoots, IsMet}
-use Rattle.hv_clauses.specs.Working.Marks.{Agrees}
-use Rattle.hv_clauses.specs.Working.Kinded.{IsKinded}
+use Rattle.hv_propagation.specs.Marks.{Agrees}
+use Rattle.hv_formula.specs.Working.Kinded.{IsKinded}
 use Rattle.hv_clauses.specs.Working.Posed.{InEach, IsPosed, ProblemState, choices, formulas}
 use Rattle.hv_clauses.specs.Working.Posed.{size_in, sizes, width}
 use Rattle.hv_clauses.specs.Working.Problem.{AreEachSettled, AreMissed, FitsChoice, MissesAll}
-use Rattle.hv_clauses.specs.Working.Units.{IsConcluded}
+use Rattle.hv_propagation.specs.Units.{IsConcluded}
 use Rattle.hv_clauses.proofs.Choosing.{breaks_known, chosen_false_extends, some_from_choices}
-use Rattle.hv_clauses.proofs.Kinded.{operands_complete}
-use Rattle.hv_clauses.proofs.Marked.{agrees_extends, extends_then}
+use Rattle.hv_clauses.proofs.KindedOperands.{operands_complete}
+use Rattle.hv_propagation.proofs.Marked.{agrees_extends, extends_then}
 use Rattle.hv_clauses.proofs.OperandClauses.{clauses_in_is}
 use Rattle.hv_clauses.proofs.Stored.{stored_below, stored_kind}
 

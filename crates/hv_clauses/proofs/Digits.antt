@@ -12,26 +12,26 @@ use Rattle.hv_task.specs.Strips.{Strips}
 use Rattle.hv_sets.specs.declared.literal.Literal.{Literal}
 use Rattle.hv_sets.specs.declared.operand.Operand.{Operand}
 use Rattle.hv_sets.specs.Cost.{choices_of, clauses_of}
-use Rattle.hv_clauses.specs.Clausal.{sizes_of}
+use Rattle.hv_clauses.specs.Store.{sizes_of}
 use Rattle.hv_clauses.specs.Working.Choices.{AreChosenFalse, Breaks}
-use Rattle.hv_clauses.specs.Working.Clausal.{clauses_in}
-use Rattle.hv_clauses.specs.Working.Completion.{IsCompleted}
+use Rattle.hv_clauses.specs.Working.Operands.{clauses_in}
+use Rattle.hv_propagation.specs.Completion.{IsCompleted}
 use Rattle.hv_clauses.specs.Working.Found.{AreFollowedRoots, IsMet}
 use Rattle.hv_clauses.specs.Working.Front.{AreRefuted, FitsFrom, IsAdvanced, IsFront, IsNever}
 use Rattle.hv_clauses.specs.Working.Front.{block_end, block_length}
-use Rattle.hv_clauses.specs.Working.Marks.{Agrees}
-use Rattle.hv_clauses.specs.Working.Posed.{InEach, ProblemState, choices, formulas, size_in}
-use Rattle.hv_clauses.specs.Working.Posed.{sizes, width}
+use Rattle.hv_propagation.specs.Marks.{Agrees}
+use Rattle.hv_clauses.specs.Working.Posed.{InEach, ProblemState, choices, formulas, size_in, sizes}
+use Rattle.hv_clauses.specs.Working.Posed.{width}
 use Rattle.hv_clauses.specs.Working.Problem.{AreLeft, FitsChoice, IsMissed, MissesClause}
-use Rattle.hv_clauses.specs.Working.Trail.{Grows, Knowledge, marks_of}
+use Rattle.hv_propagation.specs.Trail.{Grows, Knowledge, marks_of}
 use Rattle.hv_clauses.proofs.Blocks.{below_end, div_parts, end_few, end_less, end_within, front_is}
 use Rattle.hv_clauses.proofs.Blocks.{mod_more, rest_front, rest_less}
 use Rattle.hv_clauses.proofs.Choosing.{breaks_known, choices_append, choices_more}
 use Rattle.hv_clauses.proofs.Choosing.{chosen_false_extends, some_from_choices}
-use Rattle.hv_clauses.proofs.Marked.{agrees_extends}
+use Rattle.hv_propagation.proofs.Marked.{agrees_extends}
 use Rattle.hv_clauses.proofs.OperandClauses.{clauses_of_is}
 use Rattle.hv_clauses.proofs.OperandRounds.{breaks_parts, left_after}
-use Rattle.hv_clauses.proofs.Trailed.{length-marks}
+use Rattle.hv_propagation.proofs.Trailed.{length-marks}
 
 drop_here : (os : List Operand) (place : ℕ) (o : Operand) → slice_get os place ≡ Some o
     → drop place os ≡ o ∷ drop (place + 1) os

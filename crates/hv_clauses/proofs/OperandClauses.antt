@@ -23,10 +23,11 @@ use Rattle.hv_sets.specs.Cubes.{SpeakBelow}
 use Rattle.hv_sets.specs.Query.{in_which}
 use Rattle.hv_sets.specs.Truth.{in_clause, in_clauses, is_same}
 use Rattle.hv_indexes.specs.Places.{clause_at}
-use Rattle.hv_clauses.specs.Clausal.{AreClauses, tests_of, sizes_of}
-use Rattle.hv_clauses.specs.Working.Clausal.{clauses_in, clauses_of_state, unit}
-use Rattle.hv_clauses.specs.Marks.{over}
-use Rattle.hv_clauses.proofs.Marked.{length-over}
+use Rattle.hv_propagation.specs.Clauses.{AreClauses}
+use Rattle.hv_clauses.specs.Store.{tests_of, sizes_of}
+use Rattle.hv_clauses.specs.Working.Operands.{clauses_in, clauses_of_state, unit}
+use Rattle.hv_propagation.specs.Marks.{over}
+use Rattle.hv_propagation.proofs.Marked.{length-over}
 
 -- whether a literal of an atom is true tells the flag of the atom
 same_from_literal : (named flag : Bool) → cond named flag (not flag) ≡ true → named ≡ flag

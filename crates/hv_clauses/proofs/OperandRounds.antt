@@ -8,12 +8,13 @@ use Rattle.hv_sets.specs.declared.operand.Operand.{Operand}
 use Rattle.hv_sets.specs.Cost.{clauses_of}
 use Rattle.hv_sets.specs.Truth.{in_clause}
 use Rattle.hv_indexes.specs.Places.{clause_at}
-use Rattle.hv_clauses.specs.Clausal.{sizes_of}
+use Rattle.hv_clauses.specs.Store.{sizes_of}
 use Rattle.hv_clauses.specs.Working.Choices.{AreChosenFalse, Breaks}
-use Rattle.hv_clauses.specs.Working.Clausal.{clauses_in, late}
-use Rattle.hv_clauses.specs.Marks.{over}
-use Rattle.hv_clauses.specs.Working.Units.{AreFalse, IsConcluded}
-use Rattle.hv_clauses.proofs.Rounds.{conclude_stop, conclude_then}
+use Rattle.hv_clauses.specs.Working.Operands.{clauses_in}
+use Rattle.hv_propagation.specs.Effect.{late}
+use Rattle.hv_propagation.specs.Marks.{over}
+use Rattle.hv_propagation.specs.Units.{AreFalse, IsConcluded}
+use Rattle.hv_propagation.proofs.Rounds.{conclude_stop, conclude_then}
 use Rattle.hv_clauses.proofs.Choosing.{chosen_false_extends}
 use Rattle.hv_clauses.proofs.OperandClauses.{clauses_of_is}
 

@@ -14,7 +14,7 @@ use Rattle.hv_sets.specs.Cubes.{opposite}
 use Rattle.hv_indexes.specs.declared.occurrences.SignedOccurrences.{SignedOccurrences}
 use Rattle.hv_clauses.specs.declared.literal_owners.SignedOwners.{SignedOwners}
 use Rattle.hv_indexes.specs.declared.rows.RowHead.{RowHead}
-use Rattle.hv_clauses.specs.Working.Clausal.{late}
+use Rattle.hv_propagation.specs.Effect.{late}
 use Rattle.hv_indexes.specs.Occurrences.{AreOccurrences}
 use Rattle.hv_clauses.specs.Working.Owners.{AreSignedOwners, Gains, HasLiteral, IsCodeOfHead}
 use Rattle.hv_clauses.specs.Working.Owners.{ListsUpto, Owns, PutsOwner}
@@ -22,8 +22,8 @@ use Rattle.hv_clauses.specs.Working.Posed.{ProblemState, formulas}
 use Rattle.hv_clauses.specs.Working.Problem.{AreLeft, IsLeft, IsLeftOf}
 use Rattle.hv_indexes.specs.Rows.{AreCoded, IsPartOf, code, key_of, place_of_code}
 use Rattle.hv_indexes.specs.Signed.{StandsAs}
-use Rattle.hv_clauses.specs.Working.Trail.{Knowledge}
-use Rattle.hv_clauses.proofs.Chasing.{kept_beyond}
+use Rattle.hv_propagation.specs.Trail.{Knowledge}
+use Rattle.hv_propagation.proofs.Chasing.{kept_beyond}
 use Rattle.hv_indexes.proofs.Keyed.{code_is, key_of-code, row_from}
 
 -- each atom that stands somewhere with this sign has a head

@@ -1,9 +1,9 @@
 -- The positive operands of a query, one after the other.
 use Rattle.std.proofs.Common.{◌≡◌, ℕ, ◌+◌, ◌<◌, ◌≤◌, ◌-◌, ◌∙◌, ◌||◌, Bool, true, false, List, []}
-use Rattle.std.proofs.Common.{◌∷◌, Some, length, get_or, drop, refl, sym, ap, arith, below_more}
-use Rattle.std.proofs.Common.{inl, inr, subst}
-use Rattle.std.proofs.lemmas.List.{append-nil, get_or_default, get_or-drop, length-drop}
-use Rattle.std.specs.List.{All, Contains}
+use Rattle.std.proofs.Common.{◌∷◌, Some, length, get_or, refl, sym, ap, arith, below_more, inl, inr}
+use Rattle.std.proofs.Common.{subst}
+use Rattle.std.proofs.lemmas.List.{append-nil, get_or_default}
+use Rattle.std.specs.List.{All}
 use Rattle.hv_task.specs.State.{names_atom, state_of}
 use Rattle.hv_task.specs.Strips.{Strips}
 use Rattle.hv_sets.specs.declared.literal.Literal.{Literal}
@@ -12,24 +12,23 @@ use Rattle.hv_sets.specs.declared.operand.Which.{Which}
 use Rattle.hv_sets.specs.declared.operand.Which.TheVariants as W
 use Rattle.hv_sets.specs.Query.{in_which}
 use Rattle.hv_sets.specs.Truth.{in_clause, in_literal, is_same}
-use Rattle.hv_clauses.specs.Working.Chase.{AreKept, IsFollowed}
+use Rattle.hv_propagation.specs.Chase.{IsFollowed}
 use Rattle.hv_indexes.specs.Places.{clause_at}
-use Rattle.hv_clauses.specs.Clausal.{tests_of}
-use Rattle.hv_clauses.specs.Working.Clausal.{clauses_in, clauses_of_state, late}
-use Rattle.hv_clauses.specs.Kinded.{IsShort}
-use Rattle.hv_clauses.specs.Marks.{over}
-use Rattle.hv_clauses.specs.Working.Marks.{KeepsKnown}
+use Rattle.hv_clauses.specs.Store.{tests_of}
+use Rattle.hv_clauses.specs.Working.Operands.{clauses_in, clauses_of_state}
+use Rattle.hv_propagation.specs.Effect.{late}
+use Rattle.hv_formula.specs.Kinded.{IsShort}
+use Rattle.hv_propagation.specs.Marks.{over, KeepsKnown}
 use Rattle.hv_clauses.specs.Working.Posed.{InEach, ProblemState, formulas}
 use Rattle.hv_clauses.specs.Working.Problem.{AreEachSettled, AreLeft, InOne, IsLeft, IsLeftOf}
-use Rattle.hv_clauses.specs.Working.Trail.{Grows, Knowledge, marks_of}
-use Rattle.hv_clauses.specs.Units.{IsSettled, value_of}
-use Rattle.hv_clauses.specs.Working.Units.{AreSettled, IsConcluded}
-use Rattle.hv_clauses.proofs.Chasing.{followed_then, kept_grown, settled_end, true_at}
-use Rattle.hv_clauses.proofs.Kinded.{constants_kind}
-use Rattle.hv_clauses.proofs.Marked.{extends_same, value_extends}
+use Rattle.hv_propagation.specs.Trail.{Grows, Knowledge, marks_of}
+use Rattle.hv_propagation.specs.Units.{IsSettled, value_of, AreSettled, IsConcluded}
+use Rattle.hv_propagation.proofs.Chasing.{followed_then, kept_grown, settled_end, true_at}
+use Rattle.hv_clauses.proofs.KindedOperands.{constants_kind}
+use Rattle.hv_propagation.proofs.Marked.{extends_same, value_extends}
 use Rattle.hv_clauses.proofs.OperandClauses.{clause_of_state_at, length-clauses_of_state}
 use Rattle.hv_clauses.proofs.OperandClauses.{start_holds}
-use Rattle.hv_clauses.proofs.Trailed.{length-marks}
+use Rattle.hv_propagation.proofs.Trailed.{length-marks}
 
 -- a settled clause of one literal at most has a true one, which stays true
 settled_short : (e m k : List ℕ) (clause : List Literal) → IsShort clause → KeepsKnown m k
@@ -78,25 +77,6 @@ module _ (task : Strips) (formulas : ℕ → List (List Literal)) (e : List ℕ)
       (constant_short W.Goal (λ n is. absurd cc)) grown.grows left
   left_grown (W.Set number) old new from grown h left = kept_grown e (formulas number) old new from
       grown h left
-
--- what comes from a later place on comes from an earlier one on
-pub kept_earlier : (e : List ℕ) (clauses : List (List Literal)) (k : Knowledge) (from later : ℕ)
-    → from ≤ later → later ≤ length k.trail
-    → AreKept e clauses k later → AreKept e clauses k from
-kept_earlier e clauses k from later h within kept = λ place less apart. kept place less
-    (λ x has at. apart x (drop_earlier x has) at)
-  where
-    drop_earlier : (x : Literal) → Contains (drop later k.trail) x → Contains (drop from k.trail) x
-    drop_earlier x has =
-        let a = length-drop later k.trail in
-        let b = length-drop from k.trail in
-        let at : from + (later - from + has.0) ≡ later + has.0 = omega arith in (
-          later - from + has.0,
-          omega (arith, has.1),
-          get_or-drop from k.trail (later - from + has.0) x
-              ∙ (ap (λ j. get_or k.trail j x) at
-              ∙ (sym (get_or-drop later k.trail has.0 x) ∙ has.2)),
-        )
 
 pub followed_from : (P : List Bool → Type 0) (D : List ℕ → Type 0) (a b : Knowledge) (r : Bool)
     → IsConcluded P D (marks_of a) (marks_of b) r → Grows a b

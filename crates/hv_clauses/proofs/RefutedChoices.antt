@@ -21,15 +21,16 @@ use Rattle.hv_sets.specs.Names.{AsksAbout}
 use Rattle.hv_sets.specs.Query.{in_which}
 use Rattle.hv_sets.specs.Truth.{in_clause, in_clauses, in_literal}
 use Rattle.hv_indexes.specs.Places.{clause_at}
-use Rattle.hv_clauses.specs.Clausal.{AreClauses, tests_of, sizes_of}
+use Rattle.hv_propagation.specs.Clauses.{AreClauses}
+use Rattle.hv_clauses.specs.Store.{tests_of, sizes_of}
 use Rattle.hv_clauses.specs.Working.Choices.{Breaks}
-use Rattle.hv_clauses.specs.Working.Clausal.{InAll, clauses_in, late}
-use Rattle.hv_clauses.specs.Marks.{known, over}
-use Rattle.hv_clauses.specs.Working.Marks.{Agrees}
-use Rattle.hv_clauses.specs.Units.{first_of, value_of}
-use Rattle.hv_clauses.proofs.Effects.{list_all_get}
-use Rattle.hv_clauses.proofs.Marked.{has_atom-over_none, has_atom-over_some, length-over, over-nil}
-use Rattle.hv_clauses.proofs.Marked.{value_true}
+use Rattle.hv_clauses.specs.Working.Operands.{InAll, clauses_in}
+use Rattle.hv_propagation.specs.Effect.{late}
+use Rattle.hv_propagation.specs.Marks.{known, over, Agrees}
+use Rattle.hv_propagation.specs.Units.{first_of, value_of}
+use Rattle.hv_propagation.proofs.Effects.{list_all_get}
+use Rattle.hv_propagation.proofs.Marked.{has_atom-over_none, has_atom-over_some, length-over}
+use Rattle.hv_propagation.proofs.Marked.{over-nil, value_true}
 use Rattle.hv_clauses.proofs.OperandRounds.{left_after}
 
 -- a true literal makes its clause true

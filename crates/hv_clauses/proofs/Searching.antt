@@ -7,16 +7,16 @@ use Rattle.std.specs.List.{list_all}
 use Rattle.hv_task.specs.declared.action.Action.{Action}
 use Rattle.hv_sets.specs.declared.operand.Operand.{Operand}
 use Rattle.hv_sets.specs.Query.{action_of, asked, in_operand, in_which, is_clash}
-use Rattle.hv_clauses.specs.Clausal.{tests_of}
-use Rattle.hv_clauses.specs.Working.Clausal.{late}
+use Rattle.hv_clauses.specs.Store.{tests_of}
+use Rattle.hv_propagation.specs.Effect.{late}
 use Rattle.hv_clauses.specs.Working.Found.{IsFound, IsMetBelow}
-use Rattle.hv_clauses.specs.Marks.{over}
+use Rattle.hv_propagation.specs.Marks.{over}
 use Rattle.hv_clauses.specs.Working.Posed.{IsPosed, ProblemState, choices, formulas, sizes, width}
 use Rattle.hv_clauses.specs.Working.Problem.{FitsChoice}
 use Rattle.std.proofs.lemmas.Bool.{and_from, and_parts}
 use Rattle.hv_clauses.proofs.Choosing.{choose, chosen, some_from_choices}
-use Rattle.hv_clauses.proofs.Effects.{list_all_from}
-use Rattle.hv_clauses.proofs.Marked.{over-nil}
+use Rattle.hv_propagation.proofs.Effects.{list_all_from}
+use Rattle.hv_propagation.proofs.Marked.{over-nil}
 
 -- a test that is one with another at each element
 all_same : {X : Type 0} (p q : X → Bool) (xs : List X) → ((x : X) → p x ≡ q x)

@@ -8,15 +8,15 @@ use Rattle.hv_sets.specs.declared.operand.Which.TheVariants as W
 use Rattle.hv_sets.specs.Query.{in_which}
 use Rattle.hv_sets.specs.Truth.{in_clauses}
 use Rattle.hv_clauses.specs.Working.Posed.{InEach, ProblemState, formulas, width}
-use Rattle.hv_clauses.specs.Working.Roots.{AreSettledBut, untouched}
-use Rattle.hv_clauses.specs.Clausal.{tests_of}
-use Rattle.hv_clauses.specs.Working.Clausal.{late}
-use Rattle.hv_clauses.specs.Working.Closure.{AreForced}
-use Rattle.hv_clauses.specs.Marks.{over}
+use Rattle.hv_propagation.specs.Roots.{AreSettledBut, untouched}
+use Rattle.hv_clauses.specs.Store.{tests_of}
+use Rattle.hv_propagation.specs.Effect.{late}
+use Rattle.hv_propagation.specs.Forced.{AreForced}
+use Rattle.hv_propagation.specs.Marks.{over}
 use Rattle.hv_clauses.specs.Working.Start.{IsStart}
-use Rattle.hv_clauses.specs.Working.Trail.{marked}
-use Rattle.hv_clauses.proofs.Marked.{length-over}
-use Rattle.hv_clauses.proofs.Untouched.{agrees_beside, settled_but}
+use Rattle.hv_propagation.specs.Trail.{marked}
+use Rattle.hv_propagation.proofs.Marked.{length-over}
+use Rattle.hv_propagation.proofs.Untouched.{agrees_beside, settled_but}
 
 module _ (p : ProblemState) (operand : Operand) (number : ℕ)
     (among : Contains p.query.positive operand) (is : operand.which ≡ W.Set number) where

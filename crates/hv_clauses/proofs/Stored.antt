@@ -3,8 +3,9 @@ use Rattle.std.proofs.Common.{◌≡◌, ◌<◌, ℕ, List, length, get_or, Som
 use Rattle.std.specs.List.{All}
 use Rattle.std.proofs.lemmas.Option.{slice_get-get_or}
 use Rattle.hv_sets.specs.declared.literal.Literal.{Literal}
-use Rattle.hv_clauses.specs.Clausal.{AreClauses, FormulaState}
-use Rattle.hv_clauses.specs.Working.Kinded.{IsKinded}
+use Rattle.hv_propagation.specs.Clauses.{AreClauses}
+use Rattle.hv_formula.specs.Clausal.{FormulaState}
+use Rattle.hv_formula.specs.Working.Kinded.{IsKinded}
 use Rattle.hv_clauses.specs.Store.{AreOver, clauses_found, formula_at}
 
 module _ (IsOf : List Literal → Type 0) (formulas : List FormulaState)

@@ -1,11 +1,2 @@
-pub mod Clausal
-pub mod Denial
-pub mod Kinded
-pub mod Marks
-pub mod Negative
-pub mod Positive
-pub mod Rest
 pub mod Store
-pub mod Units
-pub mod Walked
 pub mod Working

@@ -1,8 +1,19 @@
--- A store of formulas, as the list of its formulas, by number.
-use Rattle.std.specs.Prelude.{◌≡◌, ℕ, List, [], Option, None, Some, slice_get}
+-- Stores of formulas, as the list of the formulas, by number.
+use Rattle.std.specs.Prelude.{ℕ, Bool, List, length, ◌≡◌, [], Option, None, Some, slice_get}
 use Rattle.std.specs.List.{All}
 use Rattle.hv_sets.specs.declared.literal.Literal.{Literal}
-use Rattle.hv_clauses.specs.Clausal.{FormulaState}
+use Rattle.hv_sets.specs.Truth.{in_clauses}
+use Rattle.hv_formula.specs.Clausal.{FormulaState}
+
+-- A store is given by its formulas: the list of the clauses of each of its sets, by number.
+
+-- the test of each set of the store, by number
+abbrev pub tests_of : (ℕ → List (List Literal)) → ℕ → List Bool → Bool
+tests_of formulas number state = in_clauses (formulas number) state
+
+-- how many clauses each set of the store has, by number
+abbrev pub sizes_of : (ℕ → List (List Literal)) → ℕ → ℕ
+sizes_of formulas number = length (formulas number)
 
 -- the clauses of a formula, if there is one
 abbrev pub clauses_found : Option FormulaState → List (List Literal)

@@ -23,15 +23,14 @@ ghost use Rattle.hv_clauses.specs.Working.Affected.{turning_sign, HasTrue, IsAff
 ghost use Rattle.hv_clauses.specs.Working.Posed.{choices, formulas, width};
 ghost use Rattle.hv_clauses.specs.Working.Problem.{FitsChoice};
 ghost use Rattle.hv_indexes.specs.Places.{clause_at};
-ghost use Rattle.hv_clauses.specs.Working.Trail.{marks_of};
-ghost use Rattle.hv_clauses.specs.Units.{value_of};
+ghost use Rattle.hv_propagation.specs.Trail.{marks_of};
+ghost use Rattle.hv_propagation.specs.Units.{value_of};
 
-use crate::clause_kind::ClauseKind;
-use crate::effect::ActionEffect;
+use crate::find;
 use crate::problem::Problem;
-use crate::trail::Assignment;
-use crate::{find, literals};
+use hv_formula::ClauseKind;
 use hv_indexes::{Occurrences, Standing, partners};
+use hv_propagation::{ActionEffect, Assignment, literals};
 use hv_sets::{Clauses, Literal, Operand, Which};
 use hv_task::State;
 

@@ -4,13 +4,12 @@ ghost use Rattle.std.specs.Prelude.{◌≡◌, ◌<◌, ◌≤◌, ◌*◌, Matc
 ghost use Rattle.std.specs.List.{All};
 ghost use Rattle.hv_clauses.specs.Working.Posed.{choices, size_in, width};
 ghost use Rattle.hv_clauses.specs.Working.Problem.{AreMissed, IsMissed, MissesAll, MissesClause};
-ghost use Rattle.hv_clauses.specs.Working.Trail.{Grows, marks_of};
-ghost use Rattle.hv_clauses.specs.Working.Units.{IsConcluded};
+ghost use Rattle.hv_propagation.specs.Trail.{Grows, marks_of};
+ghost use Rattle.hv_propagation.specs.Units.{IsConcluded};
 
-use crate::clause_kind::ClauseKind;
-use crate::literals;
 use crate::problem::Problem;
-use crate::trail::Assignment;
+use hv_formula::ClauseKind;
+use hv_propagation::{Assignment, literals};
 use hv_sets::{Literal, Operand, Which};
 use std::slice;
 

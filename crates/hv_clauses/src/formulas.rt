@@ -11,14 +11,12 @@ ghost use Rattle.hv_task.specs.Strips.{atoms};
 ghost use Rattle.hv_sets.specs.Cost.{ClausesPass, IsAnswer, clauses_among};
 ghost use Rattle.hv_sets.specs.Query.{IsNamed, IsReady, is_clash};
 ghost use Rattle.hv_sets.specs.Room.{HasRoom, KeepsLengths};
-ghost use Rattle.hv_clauses.specs.Clausal.{tests_of, sizes_of};
-ghost use Rattle.hv_clauses.specs.Working.Kinded.{IsKinded};
-ghost use Rattle.hv_clauses.specs.Store.{AreOver, formula_at};
+ghost use Rattle.hv_clauses.specs.Store.{tests_of, sizes_of, AreOver, formula_at};
+ghost use Rattle.hv_formula.specs.Working.Kinded.{IsKinded};
 
-use crate::clause_kind::ClauseKind;
-use crate::completion::Completion;
 use crate::find;
-use crate::formula::Formula;
+use hv_formula::{ClauseKind, Formula};
+use hv_propagation::Completion;
 use hv_sets::{Family, Finding, Operand, Query, Scratch, Which};
 use hv_task::Task;
 use std::alloc::{AllocError, Global};
@@ -33,8 +31,8 @@ pub struct Formulas<K: ClauseKind> {
 impl<K: ClauseKind> Model for Formulas<K> {
     ghost use Rattle.std.specs.Prelude.{List};
     ghost use Rattle.std.specs.List.{All};
-    ghost use Rattle.hv_clauses.specs.Clausal.{FormulaState};
-    ghost use Rattle.hv_clauses.specs.Working.Kinded.{IsKinded};
+    ghost use Rattle.hv_formula.specs.Clausal.{FormulaState};
+    ghost use Rattle.hv_formula.specs.Working.Kinded.{IsKinded};
 
     ghost Value = { List FormulaState };
 

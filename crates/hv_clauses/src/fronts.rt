@@ -25,16 +25,15 @@ ghost use Rattle.std.specs.Prelude.{MatchOption, false, true, length, slice_get}
 ghost use Rattle.hv_clauses.specs.Working.Found.{AreFollowedRoots, IsMet, IsMetBelow};
 ghost use Rattle.hv_clauses.specs.Working.Front.{AreRefuted, IsAdvanced, IsFront, IsNever};
 ghost use Rattle.hv_clauses.specs.Working.Front.{block_end, block_length};
-ghost use Rattle.hv_clauses.specs.Working.Marks.{Agrees};
+ghost use Rattle.hv_propagation.specs.Marks.{Agrees};
 ghost use Rattle.hv_clauses.specs.Working.Posed.{InEach, choices, size_in, width};
 ghost use Rattle.hv_clauses.specs.Working.Problem.{AreLeft, FitsChoice, IsMissed, MissesClause};
-ghost use Rattle.hv_clauses.specs.Working.Trail.{Grows, marks_of};
+ghost use Rattle.hv_propagation.specs.Trail.{Grows, marks_of};
 
-use crate::clause_kind::ClauseKind;
-use crate::constraint::Constraint;
 use crate::problem::Problem;
-use crate::trail::Assignment;
-use crate::{choices, propagation, refuted};
+use crate::{choices, refuted};
+use hv_formula::ClauseKind;
+use hv_propagation::{Assignment, Constraint, propagation};
 use hv_sets::Operand;
 use hv_task::State;
 

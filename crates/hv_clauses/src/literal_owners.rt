@@ -1,5 +1,13 @@
 //! Which positive operands of a query have a literal, where there are many of them: so only these
 //! are gone through when the literal is found false.
+//!
+//! From 16 operands on it is counted how many literals they have, each once in each. Once all
+//! operands were gone through for half as many literals of the trail as an operand has on average,
+//! or for one, which costs what the lists do, or where there are so many choices that this is to be
+//! expected, the places of the operands that have each literal are listed for this query, by rising
+//! atoms; so a query costs no more than some multiple of what its operands have. The lists may have
+//! places too many, and are read as such. `find` takes memory for them, some 30 bytes a literal at
+//! most; where there is none, and in `find_in`, all operands are gone through.
 
 ghost use Rattle.std.specs.Prelude.{◌≡◌, ◌≤◌, ℕ, Bool, IfOk, IfSome, OnOk, length};
 ghost use Rattle.std.specs.List.{Contains};
@@ -8,8 +16,8 @@ ghost use Rattle.hv_clauses.specs.Working.Owners.{AreOwners, AreSignedOwners, Li
 ghost use Rattle.hv_clauses.specs.Working.Owners.{Gains, IsCodeOfHead, PutsOwner, signed_owners};
 ghost use Rattle.hv_clauses.specs.Working.Posed.{ProblemState as ProblemOf};
 
-use crate::clause_kind::ClauseKind;
 use crate::problem::Problem;
+use hv_formula::ClauseKind;
 use hv_indexes::{RowHead, SignedOccurrences, rows};
 use hv_sets::{Literal, Operand, Which};
 use std::alloc::{AllocError, Global};

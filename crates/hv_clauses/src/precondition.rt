@@ -3,16 +3,14 @@
 ghost use Rattle.std.specs.Prelude.{◌≡◌, true, length};
 ghost use Rattle.hv_task.specs.State.{AreBelow, has_all};
 ghost use Rattle.hv_sets.specs.Query.{action_of};
-ghost use Rattle.hv_clauses.specs.Working.Effect.{AreMarkedIn, IsEnabled};
+ghost use Rattle.hv_clauses.specs.Working.Enabling.{AreMarkedIn, IsEnabled};
 ghost use Rattle.hv_clauses.specs.Working.Posed.{Applies, width};
-ghost use Rattle.hv_clauses.specs.Working.Trail.{Grows, marks_of};
-ghost use Rattle.hv_clauses.specs.Working.Units.{IsConcluded};
+ghost use Rattle.hv_propagation.specs.Trail.{Grows, marks_of};
+ghost use Rattle.hv_propagation.specs.Units.{IsConcluded};
 
-use crate::clause_kind::ClauseKind;
-use crate::effect::ActionEffect;
-use crate::literals;
 use crate::problem::Problem;
-use crate::trail::Assignment;
+use hv_formula::ClauseKind;
+use hv_propagation::{ActionEffect, Assignment, literals};
 use hv_sets::Literal;
 
 // Marks what the action asks for. The answer is false if it is applicable in no state that agrees

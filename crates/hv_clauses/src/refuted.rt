@@ -8,24 +8,22 @@ ghost use Rattle.std.specs.List.{All, Contains};
 ghost use Rattle.std.specs.List.Sorted.{IsStrictlyIncreasing};
 ghost use Rattle.hv_task.specs.Working.AtomList.{IsFirstFrom};
 ghost use Rattle.hv_sets.specs.declared.literal.Literal.{Literal as LiteralOf};
-ghost use Rattle.hv_clauses.specs.Working.Affected.{IsTurnedBy};
+ghost use Rattle.hv_clauses.specs.Working.Affected.{IsTurnedBy, turning_sign};
 ghost use Rattle.hv_indexes.specs.Occurrences.{IsIndexOf};
-ghost use Rattle.hv_clauses.specs.Working.Affected.{turning_sign};
 ghost use Rattle.hv_sets.specs.declared.operand.Operand.{Operand as OperandOf};
 ghost use Rattle.hv_sets.specs.declared.operand.Which.TheVariants as W;
 ghost use Rattle.hv_clauses.specs.Working.Found.{IsSole, IsAskedTwice};
-ghost use Rattle.hv_clauses.specs.Working.Marks.{Agrees};
+ghost use Rattle.hv_propagation.specs.Marks.{Agrees};
 ghost use Rattle.hv_clauses.specs.Working.Posed.{InEach, choices, size_in, width};
 ghost use Rattle.hv_clauses.specs.Working.Problem.{MissesAll, MissesClause};
-ghost use Rattle.hv_clauses.specs.Working.Trail.{marks_of};
-ghost use Rattle.hv_clauses.specs.Units.{value_of};
+ghost use Rattle.hv_propagation.specs.Trail.{marks_of};
+ghost use Rattle.hv_propagation.specs.Units.{value_of};
 
-use crate::clause_kind::ClauseKind;
-use crate::effect::ActionEffect;
+use crate::affected;
 use crate::problem::Problem;
-use crate::trail::Assignment;
-use crate::{affected, literals};
+use hv_formula::ClauseKind;
 use hv_indexes::Occurrences;
+use hv_propagation::{ActionEffect, Assignment, literals};
 use hv_sets::{Literal, Operand, Which};
 
 // To look for where a literal stands costs as much as to look into so many clauses.

@@ -13,10 +13,10 @@ ghost use Rattle.hv_sets.specs.Query.{IsNamed};
 ghost use Rattle.hv_clauses.specs.Working.Posed.{InEach, width};
 ghost use Rattle.hv_clauses.specs.Working.Start.{IsSetAmong, IsStart};
 
-use crate::clause_kind::ClauseKind;
 use crate::formulas::Formulas;
 use crate::problem::Problem;
-use crate::roots::Roots;
+use hv_formula::ClauseKind;
+use hv_propagation::Roots;
 use hv_sets::{Operand, Which};
 
 /// A positive operand on which all is based, if there is one, and what is known before the search

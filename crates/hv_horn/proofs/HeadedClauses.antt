@@ -8,7 +8,7 @@ use Rattle.std.specs.List.{Contains, list_all}
 use Rattle.std.proofs.lemmas.List.Sums.{AllPass-from_list_all}
 use Rattle.hv_sets.specs.declared.literal.Literal.{Literal}
 use Rattle.hv_sets.specs.Kinds.{IsHeaded}
-use Rattle.hv_clauses.proofs.Effects.{list_all_from}
+use Rattle.hv_propagation.proofs.Effects.{list_all_from}
 
 -- whether the two signs differ
 abbrev pub differs : Bool → Bool → Bool

@@ -2,14 +2,16 @@
 
 ghost use Rattle.std.specs.Prelude.{◌≡◌, true, false};
 ghost use Rattle.hv_sets.specs.Kinds.{IsHornClause};
-ghost use Rattle.hv_clauses.specs.declared.completion.Completion.TheVariants as C;
-ghost use Rattle.hv_clauses.specs.declared.kept_lists.KeptLists.TheVariants as L;
+ghost use Rattle.hv_propagation.specs.declared.completion.Completion.TheVariants as C;
+ghost use Rattle.hv_formula.specs.declared.kept_lists.KeptLists.TheVariants as L;
 ghost use Rattle.hv_horn.specs.Fault.{IsHornFault, memory_is_fault};
 ghost use Rattle.hv_horn.specs.Working.Laws as laws;
 ghost use Rattle.hv_horn.specs.declared.horn.HornFault.TheVariants as F;
 
 use crate::headed::is_headed;
-use hv_clauses::{ClauseKind, Completion, Formula, Formulas, KeptLists};
+use hv_clauses::Formulas;
+use hv_formula::{ClauseKind, Formula, KeptLists};
+use hv_propagation::Completion;
 use hv_sets::Literal;
 use std::alloc::AllocError;
 use thiserror::Error;

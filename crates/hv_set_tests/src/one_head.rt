@@ -4,10 +4,11 @@
 ghost use Rattle.std.specs.Prelude.{◌≡◌, ◌<◌, IfOk};
 ghost use Rattle.hv_task.specs.Strips.{atoms};
 ghost use Rattle.hv_sets.specs.Cubes.{SpeakBelow};
-ghost use Rattle.hv_clauses.specs.Clausal.{AreClauses};
+ghost use Rattle.hv_propagation.specs.Clauses.{AreClauses};
 
 use crate::three_atoms::task_of_three;
-use hv_clauses::{ClauseKind, Formula, Formulas};
+use hv_clauses::Formulas;
+use hv_formula::{ClauseKind, Formula};
 use hv_sets::{Clause, Clauses, Literal, StateSet};
 use hv_task::{State, Task};
 use std::alloc::{AllocError, Global};

@@ -15,7 +15,7 @@ use Rattle.hv_task.specs.Strips.{IsOver, Strips, atoms}
 use Rattle.hv_task.proofs.Lists.{take_next}
 use Rattle.hv_sets.specs.Truth.{in_clause, in_clauses, in_cube}
 use Rattle.hv_sets.specs.declared.literal.Literal.{Literal}
-use Rattle.hv_clauses.specs.Clausal.{AreClauses}
+use Rattle.hv_propagation.specs.Clauses.{AreClauses}
 use Rattle.hv_trap.specs.Conjunctions.{conjunctions, denials, denies_one, is_short}
 use Rattle.hv_trap.specs.Trap.{AreTrapClauses, InGreatestTrap, IsTrap, Stays, is_candidate}
 use Rattle.hv_trap.specs.Working.Trap.{Enclose, EncloseTrap, Escapes}

@@ -11,7 +11,7 @@ use Rattle.hv_task.specs.Strips.{Strips, atoms, is_goal}
 use Rattle.hv_sets.specs.Kinds.{IsTwoClause}
 use Rattle.hv_sets.specs.Truth.{in_clauses}
 use Rattle.hv_sets.specs.declared.literal.Literal.{Literal}
-use Rattle.hv_clauses.specs.Clausal.{AreClauses}
+use Rattle.hv_propagation.specs.Clauses.{AreClauses}
 use Rattle.hv_lines.specs.Spelling.{FitsLiteral}
 use Rattle.hv_lines.proofs.Lengths.{IsSmall}
 use Rattle.hv_lines.proofs.Elements.{cons_cases, nothing_in}

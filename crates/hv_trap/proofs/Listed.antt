@@ -15,7 +15,7 @@ use Rattle.hv_task.proofs.Places.{names_atom-Decides}
 use Rattle.hv_sets.specs.Cubes.{SpeakBelow, opposite}
 use Rattle.hv_sets.specs.Truth.{in_clause, in_clauses, in_cube, in_literal}
 use Rattle.hv_sets.specs.declared.literal.Literal.{Literal}
-use Rattle.hv_clauses.specs.Clausal.{AreClauses}
+use Rattle.hv_propagation.specs.Clauses.{AreClauses}
 use Rattle.hv_lines.proofs.Lists.{All-below, All-flat_map, All-range, in_range, pieces_more}
 use Rattle.hv_trap.specs.Conjunctions.{conjunctions, denying_clause, denial_in, denials_of, denies}
 use Rattle.hv_trap.specs.Conjunctions.{denies_one, affirms, is_short, over_greater, over_one}

@@ -9,7 +9,7 @@ use Rattle.hv_lines.specs.Judged.{Concludes}
 use Rattle.hv_lines.specs.declared.line.Line.{Line}
 use Rattle.hv_sets.specs.Truth.{in_clauses}
 use Rattle.hv_sets.specs.declared.literal.Literal.{Literal}
-use Rattle.hv_clauses.specs.Clausal.{AreClauses}
+use Rattle.hv_propagation.specs.Clauses.{AreClauses}
 use Rattle.hv_trap.specs.Trap.{AreTrapClauses, IsSatisfied}
 use Rattle.hv_trap.specs.Written.{IsModestTrap, IsTrapProof, trap_proof}
 use Rattle.hv_trap.proofs.Block.{good_trap_proof, lines_brief, trap_concludes, within_budget}

@@ -5,7 +5,7 @@ use Rattle.std.specs.Option.{SomeIff}
 use Rattle.hv_task.specs.Strips.{Strips, IsState, atoms}
 use Rattle.hv_sets.specs.Truth.{in_clauses}
 use Rattle.hv_sets.specs.declared.literal.Literal.{Literal}
-use Rattle.hv_clauses.specs.Clausal.{AreClauses}
+use Rattle.hv_propagation.specs.Clauses.{AreClauses}
 use Rattle.hv_lines.specs.Drafts.{DraftState, IsGoodTable, most_lines, onto}
 use Rattle.hv_lines.specs.Numbering.{IsTable, expr_at, expr_count, known_count}
 use Rattle.hv_lines.specs.Pruning.{BeginsAsDraft, IsNoted, NoneNoted, states_in}

@@ -11,7 +11,7 @@ ghost use Rattle.std.specs.Prelude.{◌<◌};
 ghost use Rattle.hv_task.specs.State.{AreBelow};
 ghost use Rattle.hv_task.specs.Strips.{IsOver};
 ghost use Rattle.hv_sets.specs.Cubes.{SpeakBelow};
-ghost use Rattle.hv_clauses.specs.Clausal.{AreClauses};
+ghost use Rattle.hv_propagation.specs.Clauses.{AreClauses};
 
 use crate::conjunctions::{denies, holds, opposite};
 use crate::literal_mask::{Mask, has_bit, word_of};

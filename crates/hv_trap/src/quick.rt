@@ -9,7 +9,7 @@ ghost use Rattle.std.specs.List.{list_all};
 ghost use Rattle.hv_sets.specs.Cubes.{SpeakBelow};
 ghost use Rattle.hv_sets.specs.Truth.{in_clause, in_clauses};
 ghost use Rattle.hv_sets.specs.declared.literal.Literal.{Literal};
-ghost use Rattle.hv_clauses.specs.Clausal.{AreClauses};
+ghost use Rattle.hv_propagation.specs.Clauses.{AreClauses};
 ghost use Rattle.hv_trap.specs.declared.quick.LiteralPair.{LiteralPair};
 ghost use Rattle.hv_trap.specs.Working.Quick.{ArePairs, AreTruths, IsPlacedPair};
 ghost use Rattle.hv_trap.specs.Working.Quick.{is_true_by, truth_place};

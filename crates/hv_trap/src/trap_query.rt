@@ -10,7 +10,7 @@ ghost use Rattle.std.specs.List.{filter};
 ghost use Rattle.hv_task.specs.Strips.{atoms};
 ghost use Rattle.hv_sets.specs.Cubes.{SpeakBelow};
 ghost use Rattle.hv_sets.specs.Truth.{in_clause, in_clauses};
-ghost use Rattle.hv_clauses.specs.Clausal.{AreClauses};
+ghost use Rattle.hv_propagation.specs.Clauses.{AreClauses};
 ghost use Rattle.hv_trap.specs.Working.Asking.{IsAsking, clauses_asked, formula_asked};
 ghost use Rattle.hv_trap.specs.Trap.{Stays};
 ghost use Rattle.hv_trap.specs.Working.Trap.{EncloseTrap, Escapes};

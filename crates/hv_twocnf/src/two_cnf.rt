@@ -3,14 +3,16 @@
 ghost use Rattle.std.specs.Prelude.{◌≡◌, ◌↔◌, IsTrue};
 ghost use Rattle.std.specs.List.{All};
 ghost use Rattle.hv_sets.specs.Kinds.{IsTwoClause};
-ghost use Rattle.hv_clauses.specs.declared.completion.Completion.TheVariants as C;
-ghost use Rattle.hv_clauses.specs.declared.kept_lists.KeptLists.TheVariants as L;
+ghost use Rattle.hv_propagation.specs.declared.completion.Completion.TheVariants as C;
+ghost use Rattle.hv_formula.specs.declared.kept_lists.KeptLists.TheVariants as L;
 ghost use Rattle.hv_twocnf.specs.Working.Either.{IsOneOfTwo};
 ghost use Rattle.hv_twocnf.specs.Fault.{IsTwoCnfFault, memory_is_fault};
 ghost use Rattle.hv_twocnf.specs.Working.Laws as laws;
 ghost use Rattle.hv_twocnf.specs.declared.two_cnf.TwoCnfFault.TheVariants as F;
 
-use hv_clauses::{ClauseKind, Completion, Formula, Formulas, KeptLists};
+use hv_clauses::Formulas;
+use hv_formula::{ClauseKind, Formula, KeptLists};
+use hv_propagation::Completion;
 use hv_sets::Literal;
 use std::alloc::AllocError;
 use thiserror::Error;

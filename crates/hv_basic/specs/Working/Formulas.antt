@@ -2,8 +2,8 @@
 use Rattle.std.specs.Prelude.{◌≡◌, ◌<◌, ℕ, Bool, List, Option, None, Some, length}
 use Rattle.hv_sets.specs.Cost.{IsAnswer}
 use Rattle.hv_sets.specs.declared.finding.Finding.{Finding}
-use Rattle.hv_clauses.specs.Clausal.{in_formula}
-use Rattle.hv_clauses.specs.Denial.{steps_of}
+use Rattle.hv_formula.specs.Clausal.{in_formula}
+use Rattle.hv_formula.specs.Denial.{steps_of}
 use Rattle.hv_explicit.specs.ListedStates.{full_cubes, in_listing}
 use Rattle.hv_bdd.specs.Nodes.{NodeList, in_node}
 use Rattle.hv_bdd.specs.Paths.{path_cubes}

@@ -3,9 +3,9 @@ use Rattle.std.specs.Prelude.{◌≡◌, ℕ, Bool, true, List, Some, false, not
 use Rattle.std.specs.List.{Contains}
 use Rattle.hv_sets.specs.declared.literal.Literal.{Literal}
 use Rattle.hv_clauses.specs.declared.affected.Affected.{Affected}
-use Rattle.hv_clauses.specs.Clausal.{AreClauses}
-use Rattle.hv_clauses.specs.Marks.{known}
-use Rattle.hv_clauses.specs.Units.{value_of}
+use Rattle.hv_propagation.specs.Clauses.{AreClauses}
+use Rattle.hv_propagation.specs.Marks.{known}
+use Rattle.hv_propagation.specs.Units.{value_of}
 use Rattle.hv_clauses.specs.Working.Found.{IsAskedTwice}
 use Rattle.hv_indexes.specs.Occurrences.{IsIndexOf}
 use Rattle.hv_clauses.specs.Working.Posed.{ProblemState, formulas, width}

@@ -5,9 +5,10 @@ use Rattle.hv_task.specs.Strips.{Strips}
 use Rattle.hv_sets.specs.declared.literal.Literal.{Literal}
 use Rattle.hv_sets.specs.declared.operand.Operand.{Operand}
 use Rattle.hv_sets.specs.Truth.{in_clause}
-use Rattle.hv_clauses.specs.Working.Clausal.{clauses_in, late}
-use Rattle.hv_clauses.specs.Marks.{over}
-use Rattle.hv_clauses.specs.Working.Units.{AreFalse}
+use Rattle.hv_clauses.specs.Working.Operands.{clauses_in}
+use Rattle.hv_propagation.specs.Effect.{late}
+use Rattle.hv_propagation.specs.Marks.{over}
+use Rattle.hv_propagation.specs.Units.{AreFalse}
 use Rattle.hv_indexes.specs.Places.{clause_at}
 
 -- the state, seen through the effect where that is meant, is in none of the clauses that the number

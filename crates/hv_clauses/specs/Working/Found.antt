@@ -2,14 +2,14 @@
 use Rattle.std.specs.Prelude.{◌≡◌, ◌<◌, ◌≤◌, ℕ, Bool, true, false, not, List, Some, length}
 use Rattle.std.specs.Prelude.{slice_get}
 use Rattle.hv_sets.specs.declared.operand.Operand.{Operand}
-use Rattle.hv_sets.specs.declared.operand.Which.TheVariants as W
 use Rattle.hv_sets.specs.Names.{AsksAbout}
 use Rattle.hv_sets.specs.Query.{IsNamed, action_of}
-use Rattle.hv_clauses.specs.Working.Effect.{IsEnabled}
-use Rattle.hv_clauses.specs.Working.Marks.{Agrees}
+use Rattle.hv_clauses.specs.Working.Enabling.{IsEnabled}
+use Rattle.hv_propagation.specs.Marks.{Agrees}
 use Rattle.hv_clauses.specs.Working.Posed.{Applies, InEach, ProblemState, width}
 use Rattle.hv_clauses.specs.Working.Problem.{AreLeft}
-use Rattle.hv_clauses.specs.Working.Trail.{Knowledge, marks_of}
+use Rattle.hv_propagation.specs.Trail.{Knowledge, marks_of}
+use Rattle.hv_sets.specs.declared.operand.Which.TheVariants as W
 
 -- this state of a task with so many atoms passes the test; or no state does
 abbrev pub IsFound : Bool → ℕ → (List Bool → Bool) → List Bool → Type 0

@@ -3,12 +3,12 @@ use Rattle.std.specs.Prelude.{◌≡◌, ◌<◌, ◌≤◌, ◌+◌, ◌*◌, �
 use Rattle.hv_sets.specs.Cost.{choices_of}
 use Rattle.hv_sets.specs.Query.{action_of}
 use Rattle.hv_clauses.specs.Working.Choices.{AreChosenFalse, Breaks}
-use Rattle.hv_clauses.specs.Working.Effect.{IsEnabled}
-use Rattle.hv_clauses.specs.Working.Marks.{Agrees}
+use Rattle.hv_clauses.specs.Working.Enabling.{IsEnabled}
+use Rattle.hv_propagation.specs.Marks.{Agrees}
 use Rattle.hv_clauses.specs.Working.Posed.{Applies, InEach, ProblemState, choices, formulas, sizes}
 use Rattle.hv_clauses.specs.Working.Posed.{width}
 use Rattle.hv_clauses.specs.Working.Problem.{AreLeft, FitsChoice}
-use Rattle.hv_clauses.specs.Working.Trail.{Knowledge, marks_of}
+use Rattle.hv_propagation.specs.Trail.{Knowledge, marks_of}
 
 -- the action is applicable in the state, which is in each positive operand, and is in none of the
 -- clauses that the number chooses of the negative operands from a place on

@@ -5,13 +5,13 @@ use Rattle.std.specs.List.{Contains}
 use Rattle.std.specs.List.Sorted.{IsStrictlyIncreasing}
 use Rattle.hv_sets.specs.declared.literal.Literal.{Literal}
 use Rattle.hv_sets.specs.declared.operand.Operand.{Operand}
-use Rattle.hv_sets.specs.declared.operand.Which.TheVariants as W
 use Rattle.hv_clauses.specs.declared.literal_owners.ClauseOwners.{ClauseOwners}
 use Rattle.hv_clauses.specs.declared.literal_owners.SignedOwners.{SignedOwners}
 use Rattle.hv_indexes.specs.declared.rows.RowHead.{RowHead}
 use Rattle.hv_clauses.specs.Working.Posed.{ProblemState, formulas}
 use Rattle.hv_indexes.specs.Rows.{AreHeads, code, place_of_code}
 use Rattle.hv_indexes.specs.Signed.{StandsAs}
+use Rattle.hv_sets.specs.declared.operand.Which.TheVariants as W
 
 -- the operand is a set of the store, and some clause of it has the literal
 pub record HasLiteral (p : ProblemState) (operand : Operand) (literal : Literal) : Type 0 where

@@ -7,10 +7,10 @@ use Rattle.hv_sets.specs.declared.operand.Which.{Which}
 use Rattle.hv_sets.specs.declared.query.Query.{Query}
 use Rattle.hv_sets.specs.Cost.{choices_of, clauses_of}
 use Rattle.hv_sets.specs.Query.{IsReady, action_of, may_apply}
-use Rattle.hv_clauses.specs.Clausal.{FormulaState, sizes_of}
-use Rattle.hv_clauses.specs.Store.{AreOver, formula_at}
-use Rattle.hv_clauses.specs.Working.Clausal.{InAll}
-use Rattle.hv_clauses.specs.Working.Effect.{IsEffect}
+use Rattle.hv_formula.specs.Clausal.{FormulaState}
+use Rattle.hv_clauses.specs.Store.{sizes_of, AreOver, formula_at}
+use Rattle.hv_clauses.specs.Working.Operands.{InAll}
+use Rattle.hv_propagation.specs.Effect.{IsEffect}
 
 -- a query, the task and the store of which it is asked, and the effect of its action
 pub record ProblemState : Type 0 where

@@ -6,18 +6,19 @@ use Rattle.hv_task.specs.Strips.{Strips}
 use Rattle.hv_sets.specs.declared.literal.Literal.{Literal}
 use Rattle.hv_sets.specs.declared.operand.Operand.{Operand}
 use Rattle.hv_sets.specs.declared.operand.Which.{Which}
-use Rattle.hv_sets.specs.declared.operand.Which.TheVariants as W
 use Rattle.hv_sets.specs.Query.{in_which}
 use Rattle.hv_sets.specs.Truth.{in_clause}
 use Rattle.hv_indexes.specs.Places.{clause_at}
-use Rattle.hv_clauses.specs.Clausal.{tests_of}
-use Rattle.hv_clauses.specs.Marks.{over}
-use Rattle.hv_clauses.specs.Working.Chase.{AreKept}
+use Rattle.hv_clauses.specs.Store.{tests_of}
+use Rattle.hv_propagation.specs.Marks.{over}
+use Rattle.hv_propagation.specs.Chase.{AreKept}
 use Rattle.hv_clauses.specs.Working.Choices.{AreChosenFalse, Breaks}
-use Rattle.hv_clauses.specs.Working.Clausal.{clauses_in, late}
+use Rattle.hv_clauses.specs.Working.Operands.{clauses_in}
+use Rattle.hv_propagation.specs.Effect.{late}
 use Rattle.hv_clauses.specs.Working.Posed.{Applies, InEach, ProblemState, formulas}
-use Rattle.hv_clauses.specs.Working.Trail.{Knowledge, marks_of}
-use Rattle.hv_clauses.specs.Working.Units.{AreFalse, AreSettled}
+use Rattle.hv_propagation.specs.Trail.{Knowledge, marks_of}
+use Rattle.hv_propagation.specs.Units.{AreFalse, AreSettled}
+use Rattle.hv_sets.specs.declared.operand.Which.TheVariants as W
 
 -- the clauses of an operand, seen through this effect, tell nothing more than what comes from the
 -- trail from a place on

@@ -2,13 +2,13 @@
 use Rattle.std.specs.Prelude.{◌≡◌, ℕ, Bool, List, Option, None, Some, length, ⊤}
 use Rattle.std.specs.List.{Contains}
 use Rattle.hv_sets.specs.declared.operand.Operand.{Operand}
-use Rattle.hv_sets.specs.declared.operand.Which.TheVariants as W
 use Rattle.hv_clauses.specs.declared.start.Start.{Start}
-use Rattle.hv_clauses.specs.Working.Roots.{AreSettledBut}
-use Rattle.hv_clauses.specs.Working.Clausal.{late}
-use Rattle.hv_clauses.specs.Working.Marks.{Agrees}
+use Rattle.hv_propagation.specs.Roots.{AreSettledBut}
+use Rattle.hv_propagation.specs.Effect.{late}
+use Rattle.hv_propagation.specs.Marks.{Agrees}
 use Rattle.hv_clauses.specs.Working.Posed.{InEach, ProblemState, formulas, width}
-use Rattle.hv_clauses.specs.Working.Trail.{marked}
+use Rattle.hv_propagation.specs.Trail.{marked}
+use Rattle.hv_sets.specs.declared.operand.Which.TheVariants as W
 
 -- beside what was known before, only those clauses of the operand, if there is one, tell more of
 -- which the effect makes a literal false

@@ -9,10 +9,10 @@ use Rattle.hv_sets.specs.declared.literal.Literal.{Literal}
 use Rattle.hv_sets.specs.Cubes.{SpeakBelow}
 use Rattle.hv_sets.specs.Kinds.{IsHeaded}
 use Rattle.hv_sets.specs.Truth.{in_clause}
-use Rattle.hv_clauses.specs.Kinded.{IsShort}
-use Rattle.hv_clauses.specs.Marks.{filled, over}
-use Rattle.hv_clauses.specs.Units.{IsSettled, value_of}
-use Rattle.hv_clauses.proofs.Kinded.{below, clause_true, known_filled, open_filled}
+use Rattle.hv_formula.specs.Kinded.{IsShort}
+use Rattle.hv_propagation.specs.Marks.{filled, over}
+use Rattle.hv_propagation.specs.Units.{IsSettled, value_of}
+use Rattle.hv_formula.proofs.Kinded.{below, clause_true, known_filled, open_filled}
 
 pub short_are_headed : (sign : Bool) (clause : List Literal) → IsShort clause
     → IsHeaded sign clause

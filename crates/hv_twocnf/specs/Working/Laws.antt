@@ -9,10 +9,10 @@ use Rattle.hv_sets.specs.declared.literal.Literal.{Literal}
 use Rattle.hv_sets.specs.Cubes.{SpeakBelow}
 use Rattle.hv_sets.specs.Kinds.{IsTwoClause}
 use Rattle.hv_sets.specs.Truth.{in_clause, in_literal}
-use Rattle.hv_clauses.specs.Kinded.{IsShort}
-use Rattle.hv_clauses.specs.Marks.{over}
-use Rattle.hv_clauses.specs.Units.{IsSettled, value_of}
-use Rattle.hv_clauses.proofs.Kinded.{below, clause_true, known_true, open_over}
+use Rattle.hv_formula.specs.Kinded.{IsShort}
+use Rattle.hv_propagation.specs.Marks.{over}
+use Rattle.hv_propagation.specs.Units.{IsSettled, value_of}
+use Rattle.hv_formula.proofs.Kinded.{below, clause_true, known_true, open_over}
 
 pub short_are_two : (clause : List Literal) → IsShort clause → IsTwoClause clause
 short_are_two clause short l k m cl ck cm = inl (short l k cl ck)

@@ -1,5 +1,5 @@
 use Rattle.std.proofs.Common.{◌∙◌, Some, ap, sym}
-use Rattle.hv_clauses.specs.Clausal.{FormulaState}
+use Rattle.hv_formula.specs.Clausal.{FormulaState}
 use Rattle.hv_explicit.specs.ListedStates.{ListedStates}
 use Rattle.hv_lines.proofs.Laws.{expr_below}
 use Rattle.hv_lines.specs.declared.line.Expr.TheVariants as E

@@ -2,7 +2,7 @@ use Rattle.std.proofs.Common.{◌<◌, Some, length, refl, subst, sym}
 use Rattle.std.proofs.lemmas.List.{length-map}
 use Rattle.hv_bdd.specs.Nodes.{in_node}
 use Rattle.hv_bdd.specs.Paths.{path_cubes}
-use Rattle.hv_clauses.specs.Denial.{steps_of}
+use Rattle.hv_formula.specs.Denial.{steps_of}
 use Rattle.hv_sets.specs.Cost.{IsAnswer}
 use Rattle.hv_mixed.specs.Inclusion.{difference}
 use Rattle.hv_basic.specs.Working.Formulas.{IsFoundInclusion, formula_atoms, formula_has}

@@ -1,5 +1,5 @@
 use Rattle.std.proofs.Common.{◌∙◌, subst}
-use Rattle.hv_clauses.specs.Clausal.{AreClauses}
+use Rattle.hv_propagation.specs.Clauses.{AreClauses}
 use Rattle.hv_indexes.specs.Occurrences.{IsIndexOf}
 use Rattle.hv_clauses.specs.Working.Posed.{formulas}
 use Rattle.hv_clauses.proofs.AffectedChoices.{met_from_touched}

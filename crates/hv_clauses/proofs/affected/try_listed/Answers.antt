@@ -3,7 +3,7 @@ use Rattle.std.proofs.Common.{subst}
 use Rattle.hv_clauses.specs.Working.Found.{AreFollowedRoots}
 use Rattle.hv_clauses.specs.Working.Problem.{FitsChoice}
 use Rattle.hv_clauses.specs.Working.Posed.{formulas, width}
-use Rattle.hv_clauses.specs.Working.Trail.{Knowledge}
+use Rattle.hv_propagation.specs.Trail.{Knowledge}
 use Rattle.hv_indexes.proofs.Standings.{inside_at}
 use Rattle.hv_clauses.proofs.AffectedChoices.{choices_are}
 use Rattle.std.proofs.lemmas.List.{get_or_default}

@@ -4,14 +4,14 @@ use Rattle.hv_sets.specs.declared.literal.Literal.{Literal}
 use Rattle.hv_sets.specs.Cubes.{SpeakBelow}
 use Rattle.hv_indexes.specs.Places.{clause_at}
 use Rattle.hv_clauses.specs.Working.Affected.{HasTrue}
-use Rattle.hv_clauses.specs.Working.Clausal.{late}
+use Rattle.hv_propagation.specs.Effect.{late}
 use Rattle.hv_indexes.specs.Occurrences.{IsIndexOf, entry_or_none, literal_of}
 use Rattle.hv_clauses.specs.Working.Posed.{choices, formulas}
-use Rattle.hv_clauses.specs.Working.Trail.{marks_of}
-use Rattle.hv_clauses.specs.Units.{value_of}
+use Rattle.hv_propagation.specs.Trail.{marks_of}
+use Rattle.hv_propagation.specs.Units.{value_of}
 use Rattle.hv_indexes.proofs.Standings.{inside_at}
 use Rattle.hv_clauses.proofs.AffectedChoices.{choices_are, known_none}
-use Rattle.hv_clauses.proofs.Trailed.{length-marks}
+use Rattle.hv_propagation.proofs.Trailed.{length-marks}
 use Rattle.hv_clauses.proofs.affected.try_one.Goals as goal
 
 pub returns-then-is_true-clause-met : goal.returns-then-is_true-clause-met

@@ -2,13 +2,13 @@ use Rattle.std.proofs.Common.{◌≡◌, ◌<◌, ◌∙◌, ℕ, Bool, List, le
 use Rattle.std.proofs.Common.{ap, subst}
 use Rattle.std.proofs.lemmas.List.{get_or_default}
 use Rattle.hv_sets.specs.declared.literal.Literal.{Literal}
-use Rattle.hv_clauses.specs.Marks.{known}
+use Rattle.hv_propagation.specs.Marks.{known}
 use Rattle.hv_clauses.specs.Working.Found.{AreFollowedRoots}
 use Rattle.hv_clauses.specs.Working.Affected.{turning_sign}
 use Rattle.hv_indexes.specs.Signed.{StandsAs}
 use Rattle.hv_clauses.specs.Working.Problem.{FitsChoice}
 use Rattle.hv_clauses.specs.Working.Posed.{formulas, width}
-use Rattle.hv_clauses.specs.Working.Trail.{Knowledge}
+use Rattle.hv_propagation.specs.Trail.{Knowledge}
 use Rattle.hv_clauses.proofs.affected.try_value.Goals as goal
 
 pub standing-standing-requires : goal.standing-standing-requires

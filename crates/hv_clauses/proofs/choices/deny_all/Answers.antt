@@ -1,9 +1,9 @@
 use Rattle.std.proofs.Common.{◌<◌, ◌%◌, false, subst, sym}
 use Rattle.hv_clauses.specs.Working.Posed.{formulas}
-use Rattle.hv_clauses.specs.Working.Trail.{marks_of}
+use Rattle.hv_propagation.specs.Trail.{marks_of}
 use Rattle.hv_clauses.proofs.Deciding.{digit_below, some_here}
 use Rattle.hv_clauses.proofs.OperandRounds.{AreDenied, deny_broken, deny_more, digit_is, rest_is}
-use Rattle.hv_clauses.proofs.Chasing.{grows_then}
+use Rattle.hv_propagation.proofs.Chasing.{grows_then}
 use Rattle.hv_clauses.proofs.choices.deny_all.Goals as goal
 
 pub nonzero_rem-rest : goal.nonzero_rem-rest

@@ -1,7 +1,7 @@
 use Rattle.std.proofs.Common.{◌≡◌, true, take}
 use Rattle.hv_clauses.proofs.OperandRounds.{AreDenied, left_after}
 use Rattle.hv_clauses.specs.Working.Posed.{formulas}
-use Rattle.hv_clauses.specs.Working.Trail.{Grows, marks_of}
+use Rattle.hv_propagation.specs.Trail.{Grows, marks_of}
 use Rattle.hv_clauses.proofs.choices.deny_all.Given as goal
 
 abbrev pub invariant-loop-operand : goal.invariant-loop-operand

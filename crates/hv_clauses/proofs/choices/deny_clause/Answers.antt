@@ -8,7 +8,7 @@ use Rattle.hv_sets.specs.declared.literal.Literal.{Literal}
 use Rattle.hv_sets.specs.declared.operand.Which.{Which}
 use Rattle.hv_sets.specs.declared.operand.Which.TheVariants as W
 use Rattle.hv_indexes.specs.Places.{clause_at}
-use Rattle.hv_clauses.specs.Working.Clausal.{clauses_in}
+use Rattle.hv_clauses.specs.Working.Operands.{clauses_in}
 use Rattle.hv_clauses.proofs.Deciding.{set_within}
 use Rattle.hv_clauses.proofs.OperandClauses.{made_goal, made_start, one_below}
 use Rattle.hv_clauses.proofs.OperandRounds.{denied_same}

@@ -1,7 +1,7 @@
 use Rattle.std.proofs.Common.{◌∙◌, take, refl, sym, ap}
-use Rattle.hv_clauses.specs.Working.Trail.{Knowledge}
-use Rattle.hv_clauses.proofs.Chasing.{undone_same}
-use Rattle.hv_clauses.proofs.Trailed.{length-marks}
+use Rattle.hv_propagation.specs.Trail.{Knowledge}
+use Rattle.hv_propagation.proofs.Chasing.{undone_same}
+use Rattle.hv_propagation.proofs.Trailed.{length-marks}
 use Rattle.hv_clauses.proofs.find.decide.Goals as goal
 
 pub returns-then-is_refuted-clause-met : goal.returns-then-is_refuted-clause-met

@@ -1,6 +1,6 @@
 use Rattle.std.proofs.Common.{◌∙◌, arith, length, sym, ap, subst}
 use Rattle.hv_clauses.specs.Working.Problem.{AreLeft}
-use Rattle.hv_clauses.proofs.Chasing.{grown_by, grows_then}
+use Rattle.hv_propagation.proofs.Chasing.{grown_by, grows_then}
 use Rattle.hv_clauses.proofs.find.follow_first.Goals as goal
 
 pub close_upto-requires-clause-over : goal.close_upto-requires-clause-over

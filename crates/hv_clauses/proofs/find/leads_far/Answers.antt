@@ -1,6 +1,6 @@
 use Rattle.std.proofs.Common.{◌∙◌, take, ap}
-use Rattle.hv_clauses.specs.Working.Trail.{Knowledge}
-use Rattle.hv_clauses.proofs.Chasing.{undone_same}
+use Rattle.hv_propagation.specs.Trail.{Knowledge}
+use Rattle.hv_propagation.proofs.Chasing.{undone_same}
 use Rattle.hv_clauses.proofs.find.leads_far.Goals as goal
 
 pub returns : goal.returns

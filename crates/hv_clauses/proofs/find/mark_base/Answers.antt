@@ -5,9 +5,9 @@ use Rattle.std.specs.Prelude.{is_some}
 use Rattle.hv_clauses.specs.Working.Found.{IsSearchBegun}
 use Rattle.hv_clauses.specs.Working.Problem.{AreLeft}
 use Rattle.hv_clauses.specs.Working.Start.{IsBasedOn}
-use Rattle.hv_clauses.specs.Working.Trail.{marks_of}
-use Rattle.hv_clauses.proofs.Marked.{agrees_extends, extends_then}
-use Rattle.hv_clauses.proofs.Trailed.{length-marks}
+use Rattle.hv_propagation.specs.Trail.{marks_of}
+use Rattle.hv_propagation.proofs.Marked.{agrees_extends, extends_then}
+use Rattle.hv_propagation.proofs.Trailed.{length-marks}
 use Rattle.hv_clauses.proofs.find.mark_base.Goals as goal
 
 -- what holds of a place, if there is one, and else

@@ -1,9 +1,9 @@
 use Rattle.std.proofs.Common.{◌≡◌, ◌∙◌, Option, None, false, length, ap, subst}
 use Rattle.std.specs.Option.{MatchOption}
 use Rattle.hv_clauses.specs.declared.start.Start.{Start}
-use Rattle.hv_clauses.specs.Working.Trail.{Knowledge}
+use Rattle.hv_propagation.specs.Trail.{Knowledge}
 use Rattle.hv_clauses.proofs.Searching.{found_from_met}
-use Rattle.hv_clauses.proofs.Trailed.{length-marked}
+use Rattle.hv_propagation.proofs.Trailed.{length-marked}
 use Rattle.hv_clauses.proofs.find.search.Goals as goal
 
 none_of : (r : Option Start) (N : Type 0) (P : Start → Type 0) → MatchOption r N P → r ≡ None → N

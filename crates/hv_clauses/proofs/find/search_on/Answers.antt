@@ -1,7 +1,7 @@
 use Rattle.std.proofs.Common.{◌∙◌, length, refl, sym, ap}
-use Rattle.hv_clauses.specs.Working.Trail.{marks_of}
-use Rattle.hv_clauses.proofs.Marked.{agrees_extends}
-use Rattle.hv_clauses.proofs.Trailed.{length-marks}
+use Rattle.hv_propagation.specs.Trail.{marks_of}
+use Rattle.hv_propagation.proofs.Marked.{agrees_extends}
+use Rattle.hv_propagation.proofs.Trailed.{length-marks}
 use Rattle.hv_clauses.proofs.find.search_on.Goals as goal
 
 pub returns-then-not-close-clause-met : goal.returns-then-not-close-clause-met

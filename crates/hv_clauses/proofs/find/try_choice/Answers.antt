@@ -1,14 +1,14 @@
 use Rattle.std.proofs.Common.{◌≡◌, ◌∙◌, true, false, Bool, List, ℕ, length, refl, sym, ap, arith}
 use Rattle.std.proofs.Common.{subst}
-use Rattle.hv_clauses.specs.Working.Chase.{IsFollowed}
-use Rattle.hv_clauses.specs.Working.Clausal.{Completes}
+use Rattle.hv_propagation.specs.Chase.{IsFollowed}
+use Rattle.hv_propagation.specs.Completion.{Completes}
 use Rattle.hv_clauses.specs.Working.Posed.{InEach}
 use Rattle.hv_clauses.specs.Working.Problem.{AreEachSettled, AreLeft}
-use Rattle.hv_clauses.specs.Working.Trail.{Knowledge, marks_of}
-use Rattle.hv_clauses.specs.Working.Units.{IsConcluded}
-use Rattle.hv_clauses.proofs.Chasing.{grown_by, grows_then}
+use Rattle.hv_propagation.specs.Trail.{Knowledge, marks_of}
+use Rattle.hv_propagation.specs.Units.{IsConcluded}
+use Rattle.hv_propagation.proofs.Chasing.{grown_by, grows_then}
 use Rattle.hv_clauses.proofs.Deciding.{completed, not_closed, not_denied}
-use Rattle.hv_clauses.proofs.Trailed.{length-marks}
+use Rattle.hv_propagation.proofs.Trailed.{length-marks}
 use Rattle.hv_clauses.proofs.find.try_choice.Goals as goal
 
 -- what was followed up, as a conclusion

@@ -1,9 +1,9 @@
 use Rattle.std.proofs.Common.{◌∙◌, length, refl, sym, ap, arith, subst}
 use Rattle.hv_clauses.specs.Working.Problem.{AreLeft}
-use Rattle.hv_clauses.specs.Working.Trail.{marks_of}
-use Rattle.hv_clauses.proofs.Chasing.{grown_by, grows_then}
-use Rattle.hv_clauses.proofs.Marked.{AreFalse_extends}
-use Rattle.hv_clauses.proofs.Trailed.{length-marks}
+use Rattle.hv_propagation.specs.Trail.{marks_of}
+use Rattle.hv_propagation.proofs.Chasing.{grown_by, grows_then}
+use Rattle.hv_propagation.proofs.Marked.{AreFalse_extends}
+use Rattle.hv_propagation.proofs.Trailed.{length-marks}
 use Rattle.hv_clauses.proofs.fronts.deny.Goals as goal
 
 pub close-requires-clause-over : goal.close-requires-clause-over

@@ -1,6 +1,6 @@
 use Rattle.std.proofs.Common.{◌∙◌, take, ap}
-use Rattle.hv_clauses.specs.Working.Trail.{Knowledge}
-use Rattle.hv_clauses.proofs.Chasing.{undone_same}
+use Rattle.hv_propagation.specs.Trail.{Knowledge}
+use Rattle.hv_propagation.proofs.Chasing.{undone_same}
 use Rattle.hv_clauses.proofs.fronts.explore.Goals as goal
 
 pub returns-clause-same : goal.returns-clause-same

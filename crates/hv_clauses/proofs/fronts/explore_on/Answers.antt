@@ -5,7 +5,7 @@ use Rattle.hv_sets.specs.declared.operand.Operand.{Operand}
 use Rattle.hv_clauses.specs.Working.Front.{AreRefuted, IsAdvanced, block_end, block_length}
 use Rattle.hv_clauses.specs.Working.Posed.{sizes}
 use Rattle.hv_clauses.proofs.Blocks.{below_end}
-use Rattle.hv_clauses.proofs.Chasing.{grows_same, grows_then}
+use Rattle.hv_propagation.proofs.Chasing.{grows_same, grows_then}
 use Rattle.hv_clauses.proofs.Digits.{advanced_start, advanced_then, block_some, block_whole}
 use Rattle.hv_clauses.proofs.Digits.{block_within, count_some, part_is, refuted_then}
 use Rattle.hv_clauses.proofs.fronts.explore_on.Goals as goal

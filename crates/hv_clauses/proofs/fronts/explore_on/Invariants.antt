@@ -1,6 +1,6 @@
 use Rattle.std.proofs.Common.{◌≡◌, ◌-◌}
 use Rattle.hv_clauses.specs.Working.Front.{IsAdvanced, block_length}
-use Rattle.hv_clauses.specs.Working.Trail.{Grows}
+use Rattle.hv_propagation.specs.Trail.{Grows}
 use Rattle.hv_clauses.proofs.fronts.explore_on.Given as goal
 
 abbrev pub invariant-loop-fixed : goal.invariant-loop-fixed

@@ -1,5 +1,5 @@
 use Rattle.std.proofs.Common.{◌∙◌, sym, subst}
-use Rattle.hv_clauses.specs.Working.Clausal.{Completes}
+use Rattle.hv_propagation.specs.Completion.{Completes}
 use Rattle.hv_clauses.specs.Working.Posed.{InEach}
 use Rattle.hv_clauses.specs.Working.Problem.{AreEachSettled}
 use Rattle.hv_clauses.proofs.Digits.{front_completed}

@@ -2,7 +2,7 @@ use Rattle.std.proofs.Common.{◌∙◌, ◌+◌, ◌<◌, ◌/◌, ◌%◌, ref
 use Rattle.std.proofs.lemmas.Nat.{mod_below}
 use Rattle.hv_clauses.specs.Working.Front.{IsFront}
 use Rattle.hv_clauses.specs.Working.Posed.{size_in, sizes}
-use Rattle.hv_clauses.specs.Working.Trail.{Knowledge}
+use Rattle.hv_propagation.specs.Trail.{Knowledge}
 use Rattle.hv_clauses.proofs.Deciding.{named_some}
 use Rattle.hv_clauses.proofs.Digits.{count_some, held_within, open_advanced, open_count, open_few}
 use Rattle.hv_clauses.proofs.Digits.{open_front, open_held, open_less, open_more, open_part}

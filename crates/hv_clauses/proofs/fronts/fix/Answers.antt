@@ -1,8 +1,8 @@
 use Rattle.std.proofs.Common.{◌<◌, ◌∙◌, ◌%◌, take, refl, sym, ap, subst}
 use Rattle.std.proofs.lemmas.Nat.{mod_below}
 use Rattle.hv_clauses.specs.Working.Posed.{size_in}
-use Rattle.hv_clauses.specs.Working.Trail.{Knowledge}
-use Rattle.hv_clauses.proofs.Chasing.{undone_same}
+use Rattle.hv_propagation.specs.Trail.{Knowledge}
+use Rattle.hv_propagation.proofs.Chasing.{undone_same}
 use Rattle.hv_clauses.proofs.Deciding.{named_some}
 use Rattle.hv_clauses.proofs.Digits.{front_more, never_more}
 use Rattle.hv_clauses.proofs.fronts.fix.Goals as goal

@@ -1,7 +1,7 @@
 use Rattle.std.proofs.Common.{arith, get_or}
-use Rattle.hv_clauses.proofs.Effects.{forced_plain, lit, in_all, in_broken, in_more}
-use Rattle.hv_clauses.specs.Working.Trail.{marks_of}
-use Rattle.hv_clauses.proofs.Chasing.{grows_then}
+use Rattle.hv_clauses.proofs.Enabling.{forced_plain, lit, in_all, in_broken, in_more}
+use Rattle.hv_propagation.specs.Trail.{marks_of}
+use Rattle.hv_propagation.proofs.Chasing.{grows_then}
 use Rattle.hv_clauses.proofs.precondition.force_in.Goals as goal
 
 pub returns-then-not-force-clause-marked : goal.returns-then-not-force-clause-marked

@@ -1,8 +1,8 @@
 use Rattle.std.proofs.Common.{◌≡◌, ℕ, ◌<◌, Some, true, get_or}
 use Rattle.hv_task.specs.State.{has_atom}
-use Rattle.hv_clauses.specs.Marks.{known}
-use Rattle.hv_clauses.specs.Working.Units.{IsConcluded}
-use Rattle.hv_clauses.specs.Working.Trail.{Grows, marks_of}
+use Rattle.hv_propagation.specs.Marks.{known}
+use Rattle.hv_propagation.specs.Units.{IsConcluded}
+use Rattle.hv_propagation.specs.Trail.{Grows, marks_of}
 use Rattle.hv_clauses.proofs.precondition.force_in.Given as goal
 
 abbrev pub invariant-loop-atom : goal.invariant-loop-atom

@@ -1,5 +1,5 @@
-use Rattle.hv_clauses.proofs.Effects.{enabled_by}
-use Rattle.hv_clauses.specs.Working.Trail.{marks_of}
+use Rattle.hv_clauses.proofs.Enabling.{enabled_by}
+use Rattle.hv_propagation.specs.Trail.{marks_of}
 use Rattle.hv_clauses.proofs.precondition.mark_pre.Goals as goal
 
 pub returns-in-Some-clause-marked : goal.returns-in-Some-clause-marked

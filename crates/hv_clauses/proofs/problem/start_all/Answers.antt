@@ -1,7 +1,7 @@
 use Rattle.std.proofs.Common.{◌∙◌, true, false, length, refl, sym, ap, arith, subst}
 use Rattle.hv_clauses.specs.Working.Posed.{InEach}
 use Rattle.hv_clauses.specs.Working.Start.{IsBasedOn}
-use Rattle.hv_clauses.proofs.Chasing.{followed_none, grown_by}
+use Rattle.hv_propagation.proofs.Chasing.{followed_none, grown_by}
 use Rattle.hv_clauses.proofs.Problems.{all_seen, operand_followed, operand_seen}
 use Rattle.hv_clauses.proofs.problem.start_all.Goals as goal
 

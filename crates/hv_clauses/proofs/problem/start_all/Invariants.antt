@@ -1,6 +1,6 @@
 use Rattle.std.proofs.Common.{ℕ, ◌<◌, true, get_or}
 use Rattle.hv_sets.specs.declared.operand.Operand.{Operand}
-use Rattle.hv_clauses.specs.Working.Chase.{IsFollowed}
+use Rattle.hv_propagation.specs.Chase.{IsFollowed}
 use Rattle.hv_clauses.specs.Working.Posed.{InEach}
 use Rattle.hv_clauses.specs.Working.Problem.{IsLeftOf}
 use Rattle.hv_clauses.proofs.problem.start_all.Given as goal

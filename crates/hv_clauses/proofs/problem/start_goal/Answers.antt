@@ -5,13 +5,13 @@ use Rattle.hv_task.specs.State.{AreBelow, has_atom}
 use Rattle.hv_task.specs.Strips.{atoms}
 use Rattle.hv_sets.specs.declared.literal.Literal.{Literal}
 use Rattle.hv_sets.specs.Truth.{in_literal}
-use Rattle.hv_clauses.specs.Working.Clausal.{unit}
-use Rattle.hv_clauses.specs.Marks.{over}
-use Rattle.hv_clauses.specs.Working.Trail.{marks_of}
-use Rattle.hv_clauses.specs.Units.{value_of}
-use Rattle.hv_clauses.proofs.Chasing.{followed_then}
-use Rattle.hv_clauses.proofs.Effects.{list_all_get}
-use Rattle.hv_clauses.proofs.Marked.{value_extends}
+use Rattle.hv_clauses.specs.Working.Operands.{unit}
+use Rattle.hv_propagation.specs.Marks.{over}
+use Rattle.hv_propagation.specs.Trail.{marks_of}
+use Rattle.hv_propagation.specs.Units.{value_of}
+use Rattle.hv_propagation.proofs.Chasing.{followed_then}
+use Rattle.hv_propagation.proofs.Effects.{list_all_get}
+use Rattle.hv_propagation.proofs.Marked.{value_extends}
 use Rattle.hv_clauses.proofs.OperandClauses.{clause_of_goal_at, clauses_of_goal}
 use Rattle.hv_clauses.proofs.Problems.{followed_from, units_settled}
 use Rattle.hv_clauses.proofs.problem.start_goal.Goals as goal

@@ -1,9 +1,9 @@
 use Rattle.std.proofs.Common.{◌≡◌, ℕ, ◌<◌, Some, true, get_or}
 use Rattle.hv_task.specs.Strips.{is_goal}
-use Rattle.hv_clauses.specs.Working.Chase.{IsFollowed}
-use Rattle.hv_clauses.specs.Marks.{over}
-use Rattle.hv_clauses.specs.Working.Trail.{marks_of}
-use Rattle.hv_clauses.specs.Units.{value_of}
+use Rattle.hv_propagation.specs.Chase.{IsFollowed}
+use Rattle.hv_propagation.specs.Marks.{over}
+use Rattle.hv_propagation.specs.Trail.{marks_of}
+use Rattle.hv_propagation.specs.Units.{value_of}
 use Rattle.hv_clauses.proofs.problem.start_goal.Given as goal
 
 abbrev pub invariant-loop-atom : goal.invariant-loop-atom

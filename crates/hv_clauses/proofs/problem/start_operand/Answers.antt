@@ -1,13 +1,13 @@
 use Rattle.std.proofs.Common.{◌≡◌, ◌∙◌, true, false, length, sym, ap, arith, subst}
 use Rattle.hv_sets.specs.Truth.{in_clauses}
-use Rattle.hv_clauses.specs.Marks.{over}
-use Rattle.hv_clauses.specs.Working.Roots.{AreSettledBut}
-use Rattle.hv_clauses.specs.Working.Chase.{AreKept, IsFollowed}
-use Rattle.hv_clauses.specs.Working.Clausal.{late}
+use Rattle.hv_propagation.specs.Marks.{over}
+use Rattle.hv_propagation.specs.Roots.{AreSettledBut}
+use Rattle.hv_propagation.specs.Chase.{AreKept, IsFollowed}
+use Rattle.hv_propagation.specs.Effect.{late}
 use Rattle.hv_clauses.specs.Working.Posed.{formulas}
 use Rattle.hv_clauses.specs.Working.Start.{IsBasedOn}
-use Rattle.hv_clauses.proofs.Chasing.{longer}
-use Rattle.hv_clauses.proofs.Problems.{followed_empty, followed_in, kept_earlier, left_in}
+use Rattle.hv_propagation.proofs.Chasing.{longer, kept_earlier}
+use Rattle.hv_clauses.proofs.Problems.{followed_empty, followed_in, left_in}
 use Rattle.hv_clauses.proofs.problem.start_operand.Goals as goal
 
 pub returns-in-Empty-clause-followed : goal.returns-in-Empty-clause-followed

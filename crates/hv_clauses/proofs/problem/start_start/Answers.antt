@@ -3,12 +3,12 @@ use Rattle.hv_task.specs.State.{names_atom}
 use Rattle.hv_task.specs.Strips.{atoms}
 use Rattle.hv_sets.specs.declared.literal.Literal.{Literal}
 use Rattle.hv_sets.specs.Truth.{in_literal}
-use Rattle.hv_clauses.specs.Working.Clausal.{clauses_of_state}
-use Rattle.hv_clauses.specs.Marks.{over}
-use Rattle.hv_clauses.specs.Working.Trail.{marks_of}
-use Rattle.hv_clauses.specs.Units.{value_of}
-use Rattle.hv_clauses.proofs.Chasing.{followed_then}
-use Rattle.hv_clauses.proofs.Marked.{value_extends}
+use Rattle.hv_clauses.specs.Working.Operands.{clauses_of_state}
+use Rattle.hv_propagation.specs.Marks.{over}
+use Rattle.hv_propagation.specs.Trail.{marks_of}
+use Rattle.hv_propagation.specs.Units.{value_of}
+use Rattle.hv_propagation.proofs.Chasing.{followed_then}
+use Rattle.hv_propagation.proofs.Marked.{value_extends}
 use Rattle.hv_clauses.proofs.OperandClauses.{clause_of_state_at, length-clauses_of_state}
 use Rattle.hv_clauses.proofs.Problems.{followed_from, start_literal_in, units_settled}
 use Rattle.hv_clauses.proofs.problem.start_start.Goals as goal

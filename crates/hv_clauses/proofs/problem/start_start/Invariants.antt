@@ -2,10 +2,10 @@ use Rattle.std.proofs.Common.{◌≡◌, ℕ, ◌<◌, Some, true}
 use Rattle.hv_task.specs.State.{names_atom}
 use Rattle.hv_task.specs.Strips.{start_state}
 use Rattle.hv_sets.specs.Truth.{is_same}
-use Rattle.hv_clauses.specs.Working.Chase.{IsFollowed}
-use Rattle.hv_clauses.specs.Marks.{over}
-use Rattle.hv_clauses.specs.Working.Trail.{marks_of}
-use Rattle.hv_clauses.specs.Units.{value_of}
+use Rattle.hv_propagation.specs.Chase.{IsFollowed}
+use Rattle.hv_propagation.specs.Marks.{over}
+use Rattle.hv_propagation.specs.Trail.{marks_of}
+use Rattle.hv_propagation.specs.Units.{value_of}
 use Rattle.hv_clauses.proofs.problem.start_start.Given as goal
 
 abbrev pub invariant-loop-atom : goal.invariant-loop-atom

@@ -1,12 +1,12 @@
 use Rattle.std.proofs.Common.{◌≡◌, Option, None, MatchOption, true, sym, subst}
 use Rattle.hv_sets.specs.Truth.{in_clauses}
-use Rattle.hv_clauses.specs.Clausal.{AreClauses}
-use Rattle.hv_clauses.specs.Marks.{over}
-use Rattle.hv_clauses.specs.Working.Roots.{AreSettledBut}
-use Rattle.hv_clauses.specs.Working.Chase.{AreKept, IsFollowed}
-use Rattle.hv_clauses.specs.Working.Closure.{AreForced}
+use Rattle.hv_propagation.specs.Clauses.{AreClauses}
+use Rattle.hv_propagation.specs.Marks.{over}
+use Rattle.hv_propagation.specs.Roots.{AreSettledBut}
+use Rattle.hv_propagation.specs.Chase.{AreKept, IsFollowed}
+use Rattle.hv_propagation.specs.Forced.{AreForced}
 use Rattle.hv_indexes.specs.Occurrences.{IsIndexOf}
-use Rattle.hv_clauses.proofs.Untouched.{followed_never}
+use Rattle.hv_propagation.proofs.Untouched.{followed_never}
 use Rattle.hv_clauses.proofs.problem.start_turned.Goals as goal
 
 none_of : {A : Type 0} (r : Option A) (N : Type 0) (P : A → Type 0) → MatchOption r N P

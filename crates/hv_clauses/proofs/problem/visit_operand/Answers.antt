@@ -1,7 +1,7 @@
 use Rattle.std.proofs.Common.{◌≡◌, ◌∙◌, ◌+◌, true, sym, subst}
 use Rattle.hv_sets.specs.Truth.{in_clauses}
-use Rattle.hv_clauses.specs.Marks.{over}
-use Rattle.hv_clauses.specs.Working.Chase.{AreKept, IsFollowed}
+use Rattle.hv_propagation.specs.Marks.{over}
+use Rattle.hv_propagation.specs.Chase.{AreKept, IsFollowed}
 use Rattle.hv_indexes.specs.Occurrences.{IsIndexOf}
 use Rattle.hv_clauses.proofs.Problems.{followed_in, left_from, left_in}
 use Rattle.hv_clauses.proofs.problem.visit_operand.Goals as goal

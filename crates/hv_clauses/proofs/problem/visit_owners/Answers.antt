@@ -1,10 +1,10 @@
 use Rattle.std.proofs.Common.{◌≡◌, ◌+◌, ◌∙◌, Some, true, false, length, get_or, slice_get}
 use Rattle.std.proofs.Common.{refl, ap, arith, below_more}
 use Rattle.hv_sets.specs.declared.operand.Operand.{Operand}
-use Rattle.hv_clauses.specs.Working.Clausal.{late}
+use Rattle.hv_propagation.specs.Effect.{late}
 use Rattle.hv_clauses.specs.Working.Posed.{InEach, formulas}
 use Rattle.hv_clauses.specs.Working.Problem.{IsLeftOf}
-use Rattle.hv_clauses.proofs.Chasing.{followed_none, followed_then, grown_by, longer, read_on}
+use Rattle.hv_propagation.proofs.Chasing.{followed_none, followed_then, grown_by, longer, read_on}
 use Rattle.hv_clauses.proofs.Owned.{owners_left}
 use Rattle.hv_clauses.proofs.Problems.{all_stay, left_grown}
 use Rattle.hv_clauses.proofs.problem.visit_owners.Goals as goal

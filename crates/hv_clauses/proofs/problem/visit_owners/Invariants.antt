@@ -1,6 +1,6 @@
 use Rattle.std.proofs.Common.{◌≡◌, ℕ, ◌+◌, ◌<◌, Some, true, get_or, slice_get}
 use Rattle.hv_sets.specs.declared.operand.Operand.{Operand}
-use Rattle.hv_clauses.specs.Working.Chase.{IsFollowed}
+use Rattle.hv_propagation.specs.Chase.{IsFollowed}
 use Rattle.hv_clauses.specs.Working.Posed.{InEach}
 use Rattle.hv_clauses.specs.Working.Problem.{AreLeft, IsLeftOf}
 use Rattle.hv_clauses.proofs.problem.visit_owners.Given as goal

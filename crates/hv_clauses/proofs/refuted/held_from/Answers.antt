@@ -5,11 +5,11 @@ use Rattle.hv_sets.specs.Truth.{in_clause}
 use Rattle.hv_sets.specs.declared.operand.Which.{Which}
 use Rattle.hv_sets.specs.declared.operand.Which.TheVariants as W
 use Rattle.hv_indexes.specs.Places.{clause_at}
-use Rattle.hv_clauses.specs.Marks.{over}
-use Rattle.hv_clauses.specs.Working.Affected.{IsTurnedBy}
-use Rattle.hv_clauses.specs.Working.Clausal.{clauses_in, late}
+use Rattle.hv_propagation.specs.Marks.{over}
+use Rattle.hv_clauses.specs.Working.Affected.{IsTurnedBy, turning_sign}
+use Rattle.hv_clauses.specs.Working.Operands.{clauses_in}
+use Rattle.hv_propagation.specs.Effect.{late}
 use Rattle.hv_indexes.specs.Occurrences.{IsIndexOf}
-use Rattle.hv_clauses.specs.Working.Affected.{turning_sign}
 use Rattle.hv_clauses.specs.Working.Posed.{ProblemState, formulas, size_in}
 use Rattle.hv_clauses.proofs.AffectedChoices.{all_held}
 use Rattle.hv_clauses.proofs.Deciding.{set_within}

@@ -1,9 +1,9 @@
 use Rattle.std.proofs.Common.{◌≡◌, [], Some, not, refl, subst, sym}
 use Rattle.std.proofs.lemmas.Option.{get_or_from_slice_get}
 use Rattle.std.specs.List.{All}
-use Rattle.hv_clauses.specs.Units.{value_of}
+use Rattle.hv_propagation.specs.Units.{value_of}
 use Rattle.hv_clauses.specs.Working.Posed.{formulas}
-use Rattle.hv_clauses.specs.Working.Trail.{marks_of}
+use Rattle.hv_propagation.specs.Trail.{marks_of}
 use Rattle.hv_clauses.proofs.Deciding.{set_within}
 use Rattle.hv_clauses.proofs.RefutedChoices.{refuted_framed, refuted_known}
 use Rattle.hv_clauses.proofs.refuted.is_clause_true.Goals as goal

@@ -1,9 +1,9 @@
 use Rattle.std.proofs.Common.{◌∙◌, subst}
-use Rattle.hv_clauses.specs.Working.Clausal.{late}
-use Rattle.hv_clauses.specs.Working.Closure.{AreForced, AreNever}
-use Rattle.hv_clauses.specs.Marks.{over}
+use Rattle.hv_propagation.specs.Effect.{late}
+use Rattle.hv_propagation.specs.Forced.{AreForced, AreNever}
+use Rattle.hv_propagation.specs.Marks.{over}
 use Rattle.hv_clauses.specs.Working.Posed.{formulas, width}
-use Rattle.hv_clauses.proofs.Marked.{length-over}
+use Rattle.hv_propagation.proofs.Marked.{length-over}
 use Rattle.hv_clauses.proofs.Starting.{inside_after, start_of_forced}
 use Rattle.hv_clauses.proofs.start.start_at.Goals as goal
 

@@ -3,7 +3,7 @@ use Rattle.std.proofs.lemmas.List.{get_or_default}
 use Rattle.std.proofs.lemmas.List.Folds.{list_all_at}
 use Rattle.std.proofs.lemmas.Option.{get_or_from_slice_get}
 use Rattle.hv_sets.specs.Truth.{in_clause}
-use Rattle.hv_clauses.proofs.Effects.{list_all_from}
+use Rattle.hv_propagation.proofs.Effects.{list_all_from}
 use Rattle.hv_trap.proofs.trap_query.are_true_in.Goals as goal
 
 pub loop-place-preserved : goal.loop-place-preserved

@@ -1,8 +1,8 @@
 use Rattle.std.proofs.Common.{subst}
 use Rattle.std.specs.List.{All}
 use Rattle.std.proofs.lemmas.List.Elements.{All-push}
-use Rattle.hv_clauses.specs.Clausal.{AreClauses}
-use Rattle.hv_clauses.specs.Working.Kinded.{IsKinded}
+use Rattle.hv_propagation.specs.Clauses.{AreClauses}
+use Rattle.hv_formula.specs.Working.Kinded.{IsKinded}
 use Rattle.hv_clauses.proofs.formulas.Formulas.add.Goals as goal
 
 pub invariant_of-self : goal.invariant_of-self

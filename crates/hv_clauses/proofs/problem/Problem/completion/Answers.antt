@@ -1,6 +1,6 @@
 use Rattle.std.proofs.Common.{sym, subst}
-use Rattle.hv_clauses.specs.Kinded.{CompletesClauses}
-use Rattle.hv_clauses.specs.Working.Clausal.{Completes}
+use Rattle.hv_formula.specs.Kinded.{CompletesClauses}
+use Rattle.hv_propagation.specs.Completion.{Completes}
 use Rattle.hv_clauses.specs.Working.Posed.{InEach, ProblemState, width}
 use Rattle.hv_clauses.specs.Working.Problem.{AreEachSettled}
 use Rattle.hv_clauses.proofs.Deciding.{positive_completes}

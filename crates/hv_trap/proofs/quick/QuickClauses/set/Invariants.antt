@@ -1,5 +1,5 @@
 use Rattle.std.proofs.Common.{ℕ, take}
-use Rattle.hv_clauses.specs.Clausal.{AreClauses}
+use Rattle.hv_propagation.specs.Clauses.{AreClauses}
 use Rattle.hv_trap.specs.Working.Quick.{ArePairs}
 use Rattle.hv_trap.proofs.quick.QuickClauses.set.Given as goal
 

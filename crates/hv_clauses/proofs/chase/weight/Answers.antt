@@ -1,4 +1,0 @@
-use Rattle.hv_clauses.proofs.chase.weight.Goals as goal
-
-pub standing-requires : goal.standing-requires
-standing-requires c = c.requires

@@ -1,6 +1,0 @@
-use Rattle.std.proofs.Common.{◌≡◌, take}
-use Rattle.hv_clauses.specs.Working.Walked.{denied_along}
-use Rattle.hv_clauses.proofs.clause_walk.common.Given as goal
-
-abbrev pub invariant-loop-place : goal.invariant-loop-place
-invariant-loop-place l = take l.place l.literals ≡ take l.place (denied_along l.clause l.codes)

@@ -1,9 +1,0 @@
-use Rattle.std.proofs.Common.{◌∙◌, ◌++◌, ◌∷◌, [], ap₂}
-use Rattle.hv_clauses.proofs.Walked.{take_denied}
-use Rattle.hv_clauses.proofs.clause_walk.put_rest.Goals as goal
-
-pub loop-place-preserved : goal.loop-place-preserved
-loop-place-preserved c =
-    c.in_ok-push.ensures.items
-    ∙ (ap₂ (λ xs x. xs ++ x ∷ []) c.loop-place.invariant c.denial_at.ensures
-    ∙ take_denied c.args.clause.now c.args.codes.now c.loop-place.place c.loop-place-test.true)

@@ -1,4 +1,0 @@
-use Rattle.hv_clauses.proofs.constraint.BareClausesConstraint.weight.Goals as goal
-
-pub weight-requires : goal.weight-requires
-weight-requires c = (c.args.self.now.clauses.now, c.requires.1.1)

@@ -1,5 +1,0 @@
-use Rattle.hv_clauses.proofs.Outside.{IsDenied}
-use Rattle.hv_clauses.proofs.denial.fill.Given as goal
-
-abbrev pub invariant-loop-literal : goal.invariant-loop-literal
-invariant-loop-literal l = IsDenied l.literal-index l.clause l.cube

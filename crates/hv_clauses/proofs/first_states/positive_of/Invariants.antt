@@ -1,5 +1,0 @@
-use Rattle.hv_clauses.specs.Positive.{ArePositive}
-use Rattle.hv_clauses.proofs.first_states.positive_of.Given as goal
-
-abbrev pub invariant-loop-place : goal.invariant-loop-place
-invariant-loop-place l = ArePositive l.clauses l.place l.places.items

@@ -1,9 +1,0 @@
-use Rattle.std.proofs.Common.{◌∙◌, length, sym, ap}
-use Rattle.hv_clauses.specs.Working.Trail.{Knowledge}
-use Rattle.hv_clauses.proofs.Trailed.{length-marked}
-use Rattle.hv_clauses.proofs.trail.Assignment.atoms.Goals as goal
-
-pub returns-clause-atoms : goal.returns-clause-atoms
-returns-clause-atoms c =
-    let s = c.self.inside in
-    sym (length-marked s.atoms s.roots) ∙ ap (λ (k : Knowledge). length k.roots) c.self.view_is

@@ -1,5 +1,0 @@
-use Rattle.hv_clauses.specs.Working.UnitRounds.{IsAround}
-use Rattle.hv_clauses.proofs.unit_rounds.run.Given as goal
-
-abbrev pub invariant-loop : goal.invariant-loop
-invariant-loop l = IsAround l.atoms l.clauses l.cube

@@ -1,0 +1,117 @@
+-- Literals that are listed by rising atoms say what was known.
+use Rattle.std.proofs.Common.{◌≡◌, ℕ, ◌+◌, ◌<◌, ◌≤◌, ◌∙◌, Bool, true, not, cond, List, [], ◌∷◌}
+use Rattle.std.proofs.Common.{◌++◌, Some, None, length, replicate, get_or, sym, ap, arith, inl, inr}
+use Rattle.std.proofs.Common.{subst}
+use Rattle.std.proofs.lemmas.Bool.{cases_lt}
+use Rattle.std.proofs.lemmas.List.{length-map}
+use Rattle.std.proofs.lemmas.List.{map-append}
+use Rattle.std.proofs.lemmas.List.Elements.{All-push, All-weaker}
+use Rattle.std.specs.List.Sorted.{IsStrictlyIncreasing}
+use Rattle.std.specs.Option.{option_map}
+use Rattle.hv_sets.specs.declared.literal.Literal.{Literal}
+use Rattle.hv_sets.specs.Cubes.{atoms_of}
+use Rattle.hv_sets.specs.Truth.{in_clauses}
+use Rattle.hv_sets.proofs.Cubes.{atom_at}
+use Rattle.hv_propagation.specs.Forced.{AreForced}
+use Rattle.hv_formula.specs.Working.Closure.{ListsBelow}
+use Rattle.hv_propagation.specs.Marks.{known, Agrees}
+use Rattle.hv_propagation.specs.Trail.{Knowledge, marked, marks_of}
+use Rattle.hv_propagation.specs.Units.{IsSettled, first_of, value_of, AreSettled}
+use Rattle.hv_task.proofs.Listing.{rises-push}
+use Rattle.hv_propagation.proofs.Marked.{known_past}
+use Rattle.hv_propagation.proofs.Trailed.{known-replicate, known-set_other, known-set_same}
+use Rattle.hv_propagation.proofs.Trailed.{length-marked, length-marks, written-push, written_none}
+
+module _ (ls : List Literal) (bound : ℕ) (listed : ListsBelow bound ls) where
+  -- nothing is said of the atoms from the bound on
+  pub none_from : (n p : ℕ) → bound ≤ p → known (marked n ls) p ≡ None
+  none_from n p h =
+      written_none ls (replicate n 0) p (λ k d less same. let low = listed.below k d less in
+      omega arith) ∙ known-replicate n p
+
+  module _ (l : Literal) (at : l.atom ≡ bound) where
+    pub listed_more : ListsBelow (bound + 1) (ls ++ l ∷ [])
+    listed_more =
+        let size = length-map ls (λ (x : Literal). x.atom) in
+        record {
+          rises = subst IsStrictlyIncreasing (sym
+              (map-append (λ (x : Literal). x.atom) ls (l ∷ [])))
+              (rises-push (atoms_of ls) l.atom listed.rises
+              (λ k within. let low = listed.below k l (omega arith) in
+              let here = atom_at ls k l (omega arith) in omega arith));
+          below = All-push (λ (x : Literal). x.atom < bound + 1) ls l
+              (All-weaker (λ (x : Literal). x.atom < bound) (λ (x : Literal). x.atom < bound + 1)
+              (λ x less. omega arith) ls listed.below) (omega arith);
+        }
+
+    pub said_more : (n : ℕ) → bound < n → known (marked n (ls ++ l ∷ [])) bound ≡ Some l.positive
+    said_more n less =
+        let wide = length-marked n ls in
+        ap (λ m. known m bound) (written-push ls l (replicate n 0))
+        ∙ (ap (known _) (sym at) ∙ known-set_same (marked n ls) l.atom l.positive (omega arith))
+
+    pub said_others : (n p : ℕ) → (p ≡ bound → ⊥)
+        → known (marked n (ls ++ l ∷ [])) p ≡ known (marked n ls) p
+    said_others n p other =
+        ap (λ m. known m p) (written-push ls l (replicate n 0))
+        ∙ known-set_other (marked n ls) l.atom p l.positive (λ e. other (e ∙ at))
+
+-- what is said of each atom of the task is said of each number
+pub said_everywhere : (k : Knowledge) (ls : List Literal) (n : ℕ) → n ≡ length k.roots
+    → ((p : ℕ) → p < n → known (marked n ls) p ≡ known (marks_of k) p) → (p : ℕ)
+    → known (marked n ls) p ≡ known (marks_of k) p
+said_everywhere k ls n wide same p =
+    let a = length-marked n ls in
+    let b = length-marks k in
+    elim (cases_lt p n) [
+      | inl less ↦ same p less
+      | inr past ↦ known_past (marked n ls) p (omega arith)
+          ∙ sym (known_past (marks_of k) p (omega arith))
+    ]
+
+-- where the same is known, the same is settled
+module _ (m k : List ℕ) (same : (p : ℕ) → known k p ≡ known m p) where
+  value_same : (e : List ℕ) (l : Literal) → value_of e k l ≡ value_of e m l
+  value_same e l = ap (λ o. option_map (λ value. cond l.positive value (not value))
+      (first_of (known e l.atom) o)) (same l.atom)
+
+  one_settled : (e : List ℕ) (clause : List Literal) → IsSettled e m clause → IsSettled e k clause
+  one_settled e clause settled =
+      elim settled [
+        | inl at ↦ inl (at.0, at.1, value_same e at.0 ∙ at.2)
+        | inr two ↦ inr (
+          two.0,
+          two.1,
+          two.2,
+          two.3,
+          two.4,
+          value_same e two.0
+              ∙ two.5,
+          value_same e two.1 ∙ two.6,
+        )
+      ]
+
+  pub all_settled : (e : List ℕ) (clauses : List (List Literal)) → AreSettled e clauses m
+      → AreSettled e clauses k
+  all_settled e clauses settled = λ j d less. one_settled e (get_or clauses j d) (settled j d less)
+
+  pub agrees_same : (state : List Bool) → Agrees m state → Agrees k state
+  agrees_same state agrees = λ p b h. agrees p b (sym (same p) ∙ h)
+
+pub forced_from : (atoms : ℕ) (clauses : List (List Literal)) (k : Knowledge) (ls : List Literal)
+    → length k.roots ≡ atoms
+    → IsStrictlyIncreasing (atoms_of ls) →
+    ((p : ℕ) → known (marked (length k.roots) ls) p ≡ known (marks_of k) p)
+    → AreSettled [] clauses (marks_of k)
+    → ((state : List Bool) → length state ≡ atoms → in_clauses clauses state ≡ true
+    → Agrees (marks_of k) state)
+    → AreForced atoms clauses ls
+forced_from atoms clauses k ls wide rises same settled follows =
+    let equal : (p : ℕ) → known (marked atoms ls) p ≡ known (marks_of k) p = subst
+    (λ n. (p : ℕ) → known (marked n ls) p ≡ known (marks_of k) p) wide same in
+    record {
+      rises = rises;
+      settled = all_settled (marks_of k) (marked atoms ls) equal [] clauses settled;
+      follows = λ state size holds. agrees_same (marks_of k) (marked atoms ls) equal state
+          (follows state size holds);
+    }

@@ -1,0 +1,10 @@
+pub mod Kinded
+pub mod Forced
+pub mod Outside
+pub mod NegativeRows
+pub mod Meeting
+pub mod Asking
+pub mod FirstTried
+pub mod Walked
+pub mod Ordering
+pub mod Rest

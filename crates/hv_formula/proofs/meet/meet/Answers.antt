@@ -1,0 +1,35 @@
+use Rattle.std.proofs.Common.{◌∙◌, [], length, sym, ap, subst}
+use Rattle.hv_propagation.specs.Forced.{AreForced}
+use Rattle.hv_propagation.specs.Marks.{Agrees}
+use Rattle.hv_propagation.specs.Trail.{Knowledge, marks_of}
+use Rattle.hv_propagation.specs.Units.{AreSettled}
+use Rattle.hv_propagation.proofs.Trailed.{length-marked}
+use Rattle.hv_formula.proofs.meet.meet.Goals as goal
+
+pub meet_from-requires-clause-marks : goal.meet_from-requires-clause-marks
+meet_from-requires-clause-marks g c =
+    ap (λ (k : Knowledge). length k.roots) c.over-marks.ensures
+    ∙ (length-marked c.atoms-atoms.result c.in-Some.forced.now
+    ∙ (c.atoms-atoms.ensures ∙ sym c.requires.atoms))
+
+pub meet_from-requires-clause-settled : goal.meet_from-requires-clause-settled
+meet_from-requires-clause-settled g c =
+    let forced = c.in-Some.forced.now in
+    let clauses = c.bare-bare.result.clauses.now in
+    let at = subst (λ n. AreForced n clauses forced) (sym c.atoms-atoms.ensures)
+    (subst (λ cs. AreForced c.args.set.now.atoms cs forced) (sym c.bare-bare.ensures.clauses)
+    c.in-Some.ensures) in
+    subst (λ (k : Knowledge). AreSettled [] clauses (marks_of k)) (sym c.over-marks.ensures)
+    at.settled
+
+pub meet_from-requires-clause-follows : goal.meet_from-requires-clause-follows
+meet_from-requires-clause-follows g c = λ state size holds.
+    let forced = c.in-Some.forced.now in
+    let clauses = c.bare-bare.result.clauses.now in
+    let at = subst (λ n. AreForced n clauses forced) (sym c.atoms-atoms.ensures)
+    (subst (λ cs. AreForced c.args.set.now.atoms cs forced) (sym c.bare-bare.ensures.clauses)
+    c.in-Some.ensures) in
+    let wide = ap (λ (k : Knowledge). length k.roots) c.over-marks.ensures
+    ∙ length-marked c.atoms-atoms.result forced in
+    subst (λ (k : Knowledge). Agrees (marks_of k) state) (sym c.over-marks.ensures)
+    (at.follows state (size ∙ wide) holds)

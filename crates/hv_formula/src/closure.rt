@@ -1,0 +1,307 @@
+//! What follows from clauses alone, worked out once: that no state is in them, or the literals that
+//! they force.
+//!
+//! These are kept as literals by rising atoms, and not as a mark an atom, so that many small
+//! formulas over many atoms take memory by their size. What `unit_rounds` of hv_propagation don't
+//! come to the end of is found out along a trail.
+//!
+//! Where values have to be tried to find a state, propagation doesn't show that there is none. This
+//! is found out here too, once for a formula, unless it has fewer clauses than a sixteenth of the
+//! atoms: each query about it would have to, and there may be one for each action.
+
+ghost use Rattle.std.specs.Prelude.{◌≡◌, ◌<◌, ◌≤◌, ◌+◌, ◌^◌, ℕ, IfOk, None, true, false, length};
+ghost use Rattle.std.specs.Prelude.{[], List, Bool};
+ghost use Rattle.std.specs.List.{All};
+ghost use Rattle.std.specs.List.Sorted.{IsStrictlyIncreasing};
+ghost use Rattle.hv_sets.specs.Cubes.{atoms_of};
+ghost use Rattle.hv_sets.specs.Truth.{in_clauses};
+ghost use Rattle.hv_propagation.specs.Clauses.{AreClauses};
+ghost use Rattle.hv_propagation.specs.Chase.{AreKept};
+ghost use Rattle.hv_propagation.specs.declared.completion.Completion.TheVariants as Ways;
+ghost use Rattle.hv_propagation.specs.Forced.{AreForced, AreNever};
+ghost use Rattle.hv_formula.specs.Working.Closure.{IsClosure, ListsBelow};
+ghost use Rattle.hv_propagation.specs.Marks.{known, Agrees};
+ghost use Rattle.hv_indexes.specs.Occurrences.{IsIndexOf};
+ghost use Rattle.hv_propagation.specs.Trail.{marked, marks_of};
+ghost use Rattle.hv_propagation.specs.Units.{AreSettled};
+
+use crate::clause_kind::ClauseKind;
+use hv_indexes::Occurrences;
+use hv_propagation::{
+    ActionEffect, Assignment, BareClauses, Completion, RoundsEnd, chase, propagation, unit_rounds,
+};
+use hv_sets::{Clauses, Cube, Literal};
+use std::alloc::{AllocError, Global};
+
+// Of fewer clauses than the atoms divided by this number no values are tried beforehand.
+const FEW: usize = 16;
+
+/// Where the literals of clauses stand, and what follows from the clauses alone: that they are true
+/// in no state, or literals that are true in each state in which they are, by rising atoms.
+#[derive(Drop)]
+pub(crate) struct Closure {
+    pub occurs: Occurrences,
+    pub broken: bool,
+    pub forced: Vec<Literal>,
+    /// How many entries the places take that looks into these clauses remember.
+    pub watches: usize,
+}
+
+impl Closure {
+    /// What follows from these clauses, which speak of so many atoms. More than 2^32 clauses are
+    /// taken as out of memory. No line has so many: a clause takes two bytes at least, its space
+    /// among them, and so does a literal, so a line of 16,777,216 bytes has fewer than 8,388,608.
+    pub(crate) fn of<K: ClauseKind>(
+        alloc: Global,
+        atoms: usize,
+        clauses: &Clauses,
+    ) -> Result<Closure, AllocError>
+        requires few { atoms ≤ 2 ^ 31 }
+        requires clauses { AreClauses atoms clauses.now }
+        requires kind { All K.is_of clauses.now }
+        ensures { IfOk result (IsClosure atoms clauses.now) }
+    {
+        if clauses.len() > 1 << 32 {
+            return Err(AllocError);
+        }
+        let occurs = Occurrences::new(alloc, clauses)?;
+        let watches = watches_of(clauses);
+        let mut forced = Vec::new(alloc);
+        let broken = !find_out::<K>(alloc, atoms, clauses, &occurs, watches, &mut forced)?;
+        Ok(Closure {
+            occurs,
+            broken,
+            forced,
+            watches,
+        })
+    }
+}
+
+// How many entries the places take that looks into these clauses remember: two for each, up to the
+// last one of more than two literals.
+fn watches_of(clauses: &Clauses) -> usize {
+    let mut count = 0;
+    for place in 0..clauses.len() {
+        if clauses.get(place).len() > 2 {
+            count = place + 1;
+        }
+    }
+    count.saturating_mul(2)
+}
+
+// Lists what follows from the clauses, and tries values where only that may tell that they are true
+// in no state. The answer is false only if they are.
+fn find_out<K: ClauseKind>(
+    alloc: Global,
+    atoms: usize,
+    clauses: &Clauses,
+    occurs: &Occurrences,
+    watches: usize,
+    forced: &mut Vec<Literal>,
+) -> Result<bool, AllocError>
+    requires few { atoms ≤ 2 ^ 31 }
+    requires clauses { AreClauses atoms clauses.now }
+    requires kind { All K.is_of clauses.now }
+    requires index { IsIndexOf clauses.now occurs.now }
+    requires none { forced.old.items ≡ [] }
+    ensures forced { IfOk result (λ r. r ≡ true → AreForced atoms clauses.now forced.new.items) }
+    ensures never { IfOk result (λ r. r ≡ false → AreNever atoms clauses.now) }
+{
+    if !force(alloc, atoms, clauses, occurs, watches, forced)? {
+        return Ok(false);
+    }
+    if !is_in_doubt::<K>(atoms, clauses) {
+        return Ok(true);
+    }
+    try_values::<K>(alloc, atoms, clauses, occurs, watches, forced)
+}
+
+// Lists what follows from the clauses. The answer is false only if they are true in no state. Of
+// clauses that are few beside the atoms it is found out without rows.
+fn force(
+    alloc: Global,
+    atoms: usize,
+    clauses: &Clauses,
+    occurs: &Occurrences,
+    watches: usize,
+    forced: &mut Vec<Literal>,
+) -> Result<bool, AllocError>
+    requires few { atoms ≤ 2 ^ 31 }
+    requires clauses { AreClauses atoms clauses.now }
+    requires index { IsIndexOf clauses.now occurs.now }
+    requires none { forced.old.items ≡ [] }
+    ensures forced { IfOk result (λ r. r ≡ true → AreForced atoms clauses.now forced.new.items) }
+    ensures never { IfOk result (λ r. r ≡ false → AreNever atoms clauses.now) }
+{
+    let mut cube = Cube::new(alloc);
+    match unit_rounds::run(clauses, atoms, &mut cube)? {
+        RoundsEnd::Settled => {
+            forced.extend_from_slice(cube.as_slice())?;
+            Ok(true)
+        }
+        RoundsEnd::Broken => Ok(false),
+        RoundsEnd::Open => force_in_rows(alloc, atoms, clauses, occurs, watches, forced),
+    }
+}
+
+// The same in rows as long as there are atoms.
+fn force_in_rows(
+    alloc: Global,
+    atoms: usize,
+    clauses: &Clauses,
+    occurs: &Occurrences,
+    watches: usize,
+    forced: &mut Vec<Literal>,
+) -> Result<bool, AllocError>
+    requires few { atoms ≤ 2 ^ 31 }
+    requires clauses { AreClauses atoms clauses.now }
+    requires index { IsIndexOf clauses.now occurs.now }
+    requires none { forced.old.items ≡ [] }
+    ensures forced { IfOk result (λ r. r ≡ true → AreForced atoms clauses.now forced.new.items) }
+    ensures never { IfOk result (λ r. r ≡ false → AreNever atoms clauses.now) }
+{
+    let mut places = Vec::new(alloc);
+    places.resize(atoms, 0)?;
+    let mut queue = Vec::new(alloc);
+    queue.resize(atoms, 0)?;
+    let mut places_watched = Vec::new(alloc);
+    places_watched.resize(watches, 0)?;
+    let places = places.as_mut_slice();
+    let queue = queue.as_mut_slice();
+    let watched = places_watched.as_mut_slice();
+    let mut marks = Assignment::over(atoms, &[], places, queue, watched);
+    if !conclude(clauses, occurs, &mut marks) {
+        return Ok(false);
+    }
+    list(&marks, forced)?;
+    Ok(true)
+}
+
+// Marks what follows from the clauses. The answer is false only if they are true in no state.
+fn conclude(clauses: &Clauses, occurs: &Occurrences, marks: &mut Assignment<'_>) -> bool
+    requires clauses { AreClauses (length marks.old.roots) clauses.now }
+    requires index { IsIndexOf clauses.now occurs.now }
+    requires none { marks.old.trail ≡ [] }
+    requires unknown { (p : ℕ) → known marks.old.roots p ≡ None }
+    ensures settled { result ≡ true → AreSettled [] clauses.now (marks_of marks.new) }
+    ensures follows { result ≡ true → (state : List Bool) → length state ≡ length marks.old.roots →
+        in_clauses clauses.now state ≡ true → Agrees (marks_of marks.new) state }
+    ensures never { result ≡ false → AreNever (length marks.old.roots) clauses.now }
+    ensures size { length marks.new.roots ≡ length marks.old.roots }
+{
+    let none = ActionEffect::none();
+    if !chase::start(clauses, &none, marks) {
+        return false;
+    }
+    let bare = BareClauses { clauses, occurs };
+    propagation::close(&bare, marks, 0)
+}
+
+// Whether values have to be tried to find a state in the clauses, and these are enough for rows as
+// long as there are atoms. Where each clause has a negative literal, or each a positive one, all
+// that is open can take one value.
+fn is_in_doubt<K: ClauseKind>(atoms: usize, clauses: &Clauses) -> bool
+    ensures { result ≡ true → K.completed_by ≡ Ways.Try }
+{
+    match K::completion() {
+        Completion::Fill(_) => false,
+        Completion::Try => {
+            clauses.len() >= atoms / FEW && has_of(clauses, false) && has_of(clauses, true)
+        }
+    }
+}
+
+// Whether all literals of some clause are of this sign.
+fn has_of(clauses: &Clauses, sign: bool) -> bool {
+    for place in 0..clauses.len() {
+        let clause = clauses.get(place);
+        if clause.iter().all(|literal| literal.positive == sign) {
+            return true;
+        }
+    }
+    false
+}
+
+// Tries values beside what the clauses force. The answer is false only if the clauses are true in
+// no state.
+fn try_values<K: ClauseKind>(
+    alloc: Global,
+    atoms: usize,
+    clauses: &Clauses,
+    occurs: &Occurrences,
+    watches: usize,
+    forced: &[Literal],
+) -> Result<bool, AllocError>
+    requires few { atoms ≤ 2 ^ 31 }
+    requires clauses { AreClauses atoms clauses.now }
+    requires kind { All K.is_of clauses.now }
+    requires by_trials { K.completed_by ≡ Ways.Try }
+    requires index { IsIndexOf clauses.now occurs.now }
+    requires forced { AreForced atoms clauses.now forced.now }
+    ensures { IfOk result (λ r. r ≡ false → AreNever atoms clauses.now) }
+{
+    let mut places = Vec::new(alloc);
+    places.resize(atoms, 0)?;
+    let mut queue = Vec::new(alloc);
+    queue.resize(atoms, 0)?;
+    let mut places_watched = Vec::new(alloc);
+    places_watched.resize(watches, 0)?;
+    let places = places.as_mut_slice();
+    let queue = queue.as_mut_slice();
+    let watched = places_watched.as_mut_slice();
+    let mut marks = Assignment::over(atoms, forced, places, queue, watched);
+    let bare = BareClauses { clauses, occurs };
+    Ok(try_each::<K>(&bare, &mut marks))
+}
+
+// Tries values for the atoms that are somewhere positive. With these the clauses are true once each
+// other open atom is out.
+fn try_each<K: ClauseKind>(bare: &BareClauses<'_>, marks: &mut Assignment<'_>) -> bool
+    requires clauses { AreClauses (length marks.old.roots) bare.now.clauses.now }
+    requires kind { All K.is_of bare.now.clauses.now }
+    requires by_trials { K.completed_by ≡ Ways.Try }
+    requires index { IsIndexOf bare.now.clauses.now bare.now.occurs.now }
+    requires left { AreKept [] bare.now.clauses.now marks.old (length marks.old.trail) }
+    ensures { result ≡ false → AreNever (length marks.old.roots) bare.now.clauses.now }
+{
+    let heads = bare.occurs.signed(true).heads.as_slice();
+    for index in 0..heads.len() {
+        let atom = heads[index].key;
+        if atom as usize >= marks.atoms() {
+            continue;
+        }
+        if !propagation::settle(bare, marks, atom) {
+            return false;
+        }
+    }
+    true
+}
+
+// Lists what is known, by rising atoms.
+fn list(marks: &Assignment<'_>, forced: &mut Vec<Literal>) -> Result<(), AllocError>
+    requires none { forced.old.items ≡ [] }
+    ensures rises { IfOk result (λ _. IsStrictlyIncreasing (atoms_of forced.new.items)) }
+    ensures same { IfOk result (λ _. (p : ℕ) → known (marked (length marks.now.roots)
+        forced.new.items) p ≡ known (marks_of marks.now) p) }
+{
+    for atom in 0..marks.atoms() as u32 {
+        put(atom, marks.read(atom), forced)?;
+    }
+    Ok(())
+}
+
+// Puts the literal of an atom that is above all before last, if something is known of the atom.
+fn put(atom: u32, value: Option<bool>, forced: &mut Vec<Literal>) -> Result<(), AllocError>
+    requires { ListsBelow atom forced.old.items }
+    ensures below { IfOk result (λ _. ListsBelow (atom + 1) forced.new.items) }
+    ensures here { IfOk result (λ _. (n : ℕ) → atom < n → known (marked n forced.new.items) atom ≡
+        value) }
+    ensures others { IfOk result (λ _. (n p : ℕ) → (p ≡ atom → ⊥) → known
+        (marked n forced.new.items) p ≡ known (marked n forced.old.items) p) }
+{
+    let Some(positive) = value else {
+        return Ok(());
+    };
+    forced.push(Literal { atom, positive })?;
+    Ok(())
+}

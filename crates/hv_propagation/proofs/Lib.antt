@@ -1,0 +1,14 @@
+pub mod Holding
+pub mod Marked
+pub mod Rounds
+pub mod Steps
+pub mod Effects
+pub mod Changes
+pub mod Trailed
+pub mod Chasing
+pub mod PartnerEntries
+pub mod Covered
+pub mod Completing
+pub mod Assuming
+pub mod Untouched
+pub mod Around

@@ -1,0 +1,59 @@
+use Rattle.std.proofs.Common.{◌≡◌, ◌<◌, ◌∙◌, true, false, length, get_or, refl, sym, ap, arith}
+use Rattle.std.proofs.Common.{below_more, subst}
+use Rattle.hv_sets.specs.Truth.{in_clauses}
+use Rattle.std.proofs.lemmas.List.{get_or_default}
+use Rattle.hv_propagation.specs.Chase.{IsKept}
+use Rattle.hv_indexes.specs.Places.{clause_at}
+use Rattle.hv_propagation.specs.Clauses.{AreClauses}
+use Rattle.hv_propagation.specs.Marks.{over}
+use Rattle.hv_propagation.specs.Trail.{marks_of}
+use Rattle.hv_propagation.proofs.Chasing.{followed_then, kept_on, longer}
+use Rattle.hv_propagation.proofs.Marked.{value_extends}
+use Rattle.hv_propagation.proofs.chase.visit_all.Goals as goal
+
+pub visit_one-requires-clause-clauses : goal.visit_one-requires-clause-clauses
+visit_one-requires-clause-clauses c =
+    subst (λ n. AreClauses n c.args.clauses.now)
+    (sym (ap length c.loop-index.invariant.followed.roots)) c.requires.clauses
+
+pub visit_one-requires-clause-out : goal.visit_one-requires-clause-out
+visit_one-requires-clause-out c =
+    value_extends c.args.effect.now (marks_of c.args.marks.now) (marks_of c.loop-index.marks)
+    c.args.standing.now.literal false c.loop-index.invariant.followed.grows c.requires.out
+
+pub returns-then-not-visit_one-clause-followed : goal.returns-then-not-visit_one-clause-followed
+returns-then-not-visit_one-clause-followed c =
+    followed_then (λ s. in_clauses c.args.clauses.now (over c.args.effect.now s) ≡ true)
+    (λ s. in_clauses c.args.clauses.now (over c.args.effect.now s) ≡ true)
+    _ _ _ _ (λ state size holds. holds) c.loop-index.invariant.followed
+    c.if-not-visit_one.ensures.followed
+
+pub loop-index-preserved : goal.loop-index-preserved
+loop-index-preserved c =
+    let e = c.args.effect.now in
+    let clauses = c.args.clauses.now in
+    let places = c.args.standing.now.places.now in
+    let index = c.loop-index.index in
+    let old = c.loop-index.marks in
+    let new = c.visit_one.new.marks in
+    let from = length c.args.marks.now.trail in
+    let step = c.if-not-visit_one.ensures.followed in
+    record {
+      followed = followed_then (λ s. in_clauses clauses (over e s) ≡ true)
+          (λ s. in_clauses clauses (over e s) ≡ true)
+          _ _ _ _ (λ state size holds. holds) c.loop-index.invariant.followed step;
+      seen = below_more (λ k. IsKept e (clause_at clauses (get_or places k 0)) new from) index
+          (λ k less. kept_on e (clause_at clauses (get_or places k 0)) old new from
+          step.roots step.more (longer _ _ _ _ c.loop-index.invariant.followed)
+          (c.loop-index.invariant.seen k less))
+          (λ apart. c.if-not-visit_one.ensures.settled refl);
+    }
+
+pub returns-clause-kept : goal.returns-clause-kept
+returns-clause-kept c = λ is place has.
+    let end = c.loop-index-test.false in
+    let within : has.0 < length c.args.standing.now.places.now = has.1 in
+    subst (λ x. IsKept c.args.effect.now (clause_at c.args.clauses.now x) c.loop-index.marks
+    (length c.args.marks.now.trail))
+    (get_or_default c.args.standing.now.places.now has.0 0 place within ∙ has.2)
+    (c.loop-index.invariant.seen has.0 (omega arith))

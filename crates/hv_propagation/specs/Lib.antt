@@ -1,0 +1,11 @@
+pub mod Clauses
+pub mod Marks
+pub mod Units
+pub mod Trail
+pub mod Effect
+pub mod Roots
+pub mod Chase
+pub mod Completion
+pub mod Forced
+pub mod UnitRounds
+pub mod Working

@@ -1,0 +1,8 @@
+-- Definitions that no public contract cites: those of private contracts and of proofs.
+pub mod Marks
+pub mod Trail
+pub mod Effect
+pub mod Scan
+pub mod Completion
+pub mod Buffers
+pub mod UnitRounds

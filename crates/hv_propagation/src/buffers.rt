@@ -1,0 +1,111 @@
+//! Buffers for a trail.
+
+ghost use Rattle.std.specs.Prelude.{◌≡◌, ◌<◌, ◌≤◌, length, slice_index, slice_set, IfOk};
+ghost use Rattle.hv_propagation.specs.Working.Buffers.{places_in, queue_in};
+
+use std::alloc::{AllocError, Global};
+
+// A row of places and a row of entries: its own, or else those that others lend.
+#[derive(Drop)]
+pub(crate) struct Buffers<'a> {
+    places: &'a mut [u32],
+    queue: &'a mut [u32],
+    own: Option<OwnBuffers>,
+}
+
+// Rows that are owned.
+#[derive(Drop)]
+pub(crate) struct OwnBuffers {
+    places: Vec<u32>,
+    queue: Vec<u32>,
+}
+
+impl<'a> Buffers<'a> {
+    // These rows.
+    pub(crate) fn lent(places: &'a mut [u32], queue: &'a mut [u32]) -> Buffers<'a>
+        ensures places { places_in result ≡ places.old }
+        ensures queue { queue_in result ≡ queue.old }
+    {
+        Buffers {
+            places,
+            queue,
+            own: None,
+        }
+    }
+
+    // Rows of its own, of this length.
+    pub(crate) fn owned(alloc: Global, len: usize) -> Result<Buffers<'a>, AllocError>
+        ensures places { IfOk result (λ buffers. len ≤ length (places_in buffers)) }
+        ensures queue { IfOk result (λ buffers. len ≤ length (queue_in buffers)) }
+    {
+        let mut places = Vec::new(alloc);
+        places.resize(len, 0)?;
+        let mut queue = Vec::new(alloc);
+        queue.resize(len, 0)?;
+        Ok(Buffers {
+            places: &mut [],
+            queue: &mut [],
+            own: Some(OwnBuffers { places, queue }),
+        })
+    }
+
+    // The place that is here.
+    pub(crate) fn place(&self, at: usize) -> u32
+        requires { at < length (places_in self.now) }
+        ensures { result ≡ slice_index (places_in self.now) at }
+    {
+        match &self.own {
+            None => read(self.places, at),
+            Some(rows) => read(&rows.places, at),
+        }
+    }
+
+    // The entry that is here.
+    pub(crate) fn entry(&self, at: usize) -> u32
+        requires { at < length (queue_in self.now) }
+        ensures { result ≡ slice_index (queue_in self.now) at }
+    {
+        match &self.own {
+            None => read(self.queue, at),
+            Some(rows) => read(&rows.queue, at),
+        }
+    }
+
+    // Writes a place.
+    pub(crate) fn set_place(&mut self, at: usize, place: u32)
+        requires { at < length (places_in self.old) }
+        ensures places { places_in self.new ≡ slice_set (places_in self.old) at place }
+        ensures queue { queue_in self.new ≡ queue_in self.old }
+    {
+        match &mut self.own {
+            None => write(self.places, at, place),
+            Some(rows) => write(&mut rows.places, at, place),
+        }
+    }
+
+    // Writes an entry.
+    pub(crate) fn set_entry(&mut self, at: usize, entry: u32)
+        requires { at < length (queue_in self.old) }
+        ensures queue { queue_in self.new ≡ slice_set (queue_in self.old) at entry }
+        ensures places { places_in self.new ≡ places_in self.old }
+    {
+        match &mut self.own {
+            None => write(self.queue, at, entry),
+            Some(rows) => write(&mut rows.queue, at, entry),
+        }
+    }
+}
+
+fn read(row: &[u32], at: usize) -> u32
+    requires { at < length row.now }
+    ensures { result ≡ slice_index row.now at }
+{
+    row[at]
+}
+
+fn write(row: &mut [u32], at: usize, value: u32)
+    requires { at < length row.old }
+    ensures { row.new ≡ slice_set row.old at value }
+{
+    row[at] = value;
+}

@@ -1,0 +1,174 @@
+//! Unit propagation that is driven by the trail, over clauses that are seen through an effect.
+//!
+//! A literal that was found true makes its opposite false, so only the clauses with that opposite
+//! are looked at again: one whose other literals are all false forces its last, and one whose
+//! literals are all false says that there is no state. Where an effect makes the opposite true,
+//! none of its clauses is looked at. The invariant: a clause that has the opposite of no literal
+//! that the trail has from the present place on is settled, that is, it is satisfied or has two
+//! unassigned literals. When the place has reached the end of the trail, all clauses are settled.
+
+ghost use Rattle.std.specs.Prelude.{◌≡◌, ◌<◌, ◌+◌, ℕ, List, Some, false, true, length};
+ghost use Rattle.std.specs.Prelude.{slice_index};
+ghost use Rattle.std.specs.List.{Contains};
+ghost use Rattle.hv_sets.specs.declared.literal.Literal.{Literal as LiteralOf};
+ghost use Rattle.hv_sets.specs.Cubes.{SpeakBelow};
+ghost use Rattle.hv_sets.specs.Truth.{in_clause, in_clauses};
+ghost use Rattle.hv_propagation.specs.Chase.{AreKept, IsFollowed, IsKept};
+ghost use Rattle.hv_indexes.specs.Places.{clause_at};
+ghost use Rattle.hv_propagation.specs.Clauses.{AreClauses};
+ghost use Rattle.hv_propagation.specs.Marks.{over};
+ghost use Rattle.hv_indexes.specs.Occurrences.{AreStanding, IsIndexOf};
+ghost use Rattle.hv_indexes.specs.Signed.{StandsAs};
+ghost use Rattle.hv_propagation.specs.Trail.{marks_of};
+ghost use Rattle.hv_propagation.specs.Units.{IsSettled, value_of};
+
+use crate::effect::ActionEffect;
+use crate::trail::Assignment;
+use crate::watched::Scan;
+use crate::{literals, watched};
+use hv_indexes::{Occurrences, Standing, partners};
+use hv_sets::{Clauses, Literal};
+
+// Puts on the trail what the clause at this place says next. The answer is false if the clause is
+// broken.
+pub(crate) fn step(
+    clause: &[Literal],
+    place: usize,
+    effect: &ActionEffect<'_>,
+    marks: &mut Assignment<'_>,
+) -> bool
+    requires { SpeakBelow (length marks.old.roots) clause.now }
+    ensures followed { IsFollowed (λ state. in_clause clause.now (over effect.now state) ≡ true)
+        marks.old marks.new result }
+    ensures settled { result ≡ true → IsSettled effect.now (marks_of marks.new) clause.now }
+{
+    let found = watched::scan_clause(clause, marks.watch(place), effect, marks);
+    marks.remember(place, found.watch);
+    match found.scan {
+        Scan::Settled => true,
+        Scan::Broken => false,
+        Scan::Unit(literal) => {
+            marks.write(literal);
+            true
+        }
+    }
+}
+
+/// Looks at each clause once.
+pub fn start(clauses: &Clauses, effect: &ActionEffect<'_>, marks: &mut Assignment<'_>) -> bool
+    requires { AreClauses (length marks.old.roots) clauses.now }
+    ensures followed { IsFollowed (λ state. in_clauses clauses.now (over effect.now state) ≡ true)
+        marks.old marks.new result }
+    ensures kept { result ≡ true
+        → AreKept effect.now clauses.now marks.new (length marks.old.trail) }
+{
+    for place in 0..clauses.len() {
+        if !step(clauses.get(place), place, effect, marks) {
+            return false;
+        }
+    }
+    true
+}
+
+/// Looks again at each clause that has the opposite of the literal at this place of the trail.
+#[inline(always)]
+pub fn visit(
+    clauses: &Clauses,
+    occurs: &Occurrences,
+    effect: &ActionEffect<'_>,
+    marks: &mut Assignment<'_>,
+    from: usize,
+) -> bool
+    requires clauses { AreClauses (length marks.old.roots) clauses.now }
+    requires index { IsIndexOf clauses.now occurs.now }
+    requires from { from < length marks.old.trail }
+    requires kept { AreKept effect.now clauses.now marks.old from }
+    ensures followed { IsFollowed (λ state. in_clauses clauses.now (over effect.now state) ≡ true)
+        marks.old marks.new result }
+    ensures kept { result ≡ true → AreKept effect.now clauses.now marks.new (from + 1) }
+{
+    let literal = marks.get(from);
+    let own = Literal {
+        atom: literal.atom,
+        positive: !literal.positive,
+    };
+    if stands_nowhere(occurs, own.positive) {
+        return true;
+    }
+    // Something is known of its atom. Where the effect makes it true, so are its clauses.
+    if literals::value(effect, marks, own) != Some(false) {
+        return true;
+    }
+    let standing = occurs.standing(own);
+    visit_all(clauses, &standing, effect, marks)
+}
+
+// Whether no clause has a literal of this sign, as no clause of exclusions has a positive one.
+#[inline(always)]
+fn stands_nowhere(occurs: &Occurrences, sign: bool) -> bool
+    ensures { result ≡ true → (clauses : List (List LiteralOf)) → IsIndexOf clauses occurs.now
+        → (atom number : ℕ) → StandsAs sign clauses atom number → ⊥ }
+{
+    occurs.signed(sign).places.is_empty()
+}
+
+/// How many clauses are looked at where this literal is followed up, and one more.
+pub fn weight(occurs: &Occurrences, literal: Literal) -> usize
+    requires { (clauses : List (List LiteralOf)) × IsIndexOf clauses occurs.now }
+{
+    let own = Literal {
+        atom: literal.atom,
+        positive: !literal.positive,
+    };
+    occurs.standing(own).places.len().saturating_add(1)
+}
+
+// Looks again at each clause that has a literal that was found false.
+pub(crate) fn visit_all(
+    clauses: &Clauses,
+    standing: &Standing<'_>,
+    effect: &ActionEffect<'_>,
+    marks: &mut Assignment<'_>,
+) -> bool
+    requires clauses { AreClauses (length marks.old.roots) clauses.now }
+    requires standing { AreStanding clauses.now standing.now }
+    requires out { value_of effect.now (marks_of marks.old) standing.now.literal ≡ Some false }
+    ensures followed { IsFollowed (λ state. in_clauses clauses.now (over effect.now state) ≡ true)
+        marks.old marks.new result }
+    ensures kept { result ≡ true → (place : ℕ) → Contains standing.now.places.now place
+        → IsKept effect.now (clause_at clauses.now place) marks.new (length marks.old.trail) }
+{
+    for index in 0..standing.places.len() {
+        if !visit_one(clauses, standing, index, effect, marks) {
+            return false;
+        }
+    }
+    true
+}
+
+// Looks again at one of these clauses. Of two literals, the other one is true: what that is tells
+// the list, without a look into the clause.
+fn visit_one(
+    clauses: &Clauses,
+    standing: &Standing<'_>,
+    index: usize,
+    effect: &ActionEffect<'_>,
+    marks: &mut Assignment<'_>,
+) -> bool
+    requires clauses { AreClauses (length marks.old.roots) clauses.now }
+    requires standing { AreStanding clauses.now standing.now }
+    requires index { index < length standing.now.places.now }
+    requires out { value_of effect.now (marks_of marks.old) standing.now.literal ≡ Some false }
+    ensures followed { IsFollowed (λ state. in_clauses clauses.now (over effect.now state) ≡ true)
+        marks.old marks.new result }
+    ensures settled { result ≡ true → IsSettled effect.now (marks_of marks.new)
+        (clause_at clauses.now (slice_index standing.now.places.now index)) }
+{
+    match partners::literal_at(standing.entries, index) {
+        Some(other) => literals::force(other, effect, marks),
+        None => {
+            let place = standing.places[index];
+            step(clauses.get(place), place, effect, marks)
+        }
+    }
+}
