@@ -76,7 +76,7 @@ asked_before (Some action) true state e = let f : true ≡ false = e in absurd c
 asked_before (Some action) false state e = refl
 
 -- in a counterexample the action is applicable, and it is in each set that is asked about before
-clash_in : (task : Strips) (sets : ℕ → List Bool → Bool) (query : Query) (o : Operand)
+pub clash_in : (task : Strips) (sets : ℕ → List Bool → Bool) (query : Query) (o : Operand)
     (state : List Bool)
     → Contains query.positive o → o.after ≡ false → is_clash task sets query state ≡ true
     → (may_apply (action_of task query.action) state ≡ true)

@@ -1,6 +1,6 @@
 -- The leaves that are kept of left sides stay right, and grow with the intersection.
-use Rattle.std.proofs.Common.{◌≡◌, ℕ, suc, ◌<◌, ◌≤◌, ◌+◌, ◌∙◌, ◌⊎◌, ◌↔◌, ◌++◌, Bool, true, false}
-use Rattle.std.proofs.Common.{List, [], ◌∷◌, Option, Some, None, length, get_or, drop, take}
+use Rattle.std.proofs.Common.{◌≡◌, ℕ, suc, ◌<◌, ◌≤◌, ◌+◌, ◌∙◌, ◌⊎◌, ◌↔◌, ◌++◌}
+use Rattle.std.proofs.Common.{List, [], ◌∷◌, length, get_or, drop, take}
 use Rattle.std.proofs.Common.{refl, sym, ap, subst, inl, inr, arith}
 use Rattle.std.proofs.lemmas.List.{take_all}
 use Rattle.std.proofs.lemmas.List.Elements.{All-append, All-contains, All-drop}
@@ -8,85 +8,28 @@ use Rattle.std.proofs.lemmas.List.Elements.{All-take, All-weaker, Contains-appen
 use Rattle.std.proofs.lemmas.List.Elements.{Contains-get_or, Contains-push, Contains-push_cases}
 use Rattle.std.specs.Global.{Vec}
 use Rattle.std.specs.List.{All, Contains, insert, remove}
-use Rattle.std.specs.Option.{IfSome, MatchOption}
-use Rattle.hv_lines.specs.Literals.{IsLiteral}
-use Rattle.hv_lines.specs.Numbering.{MayFollow, IsTable, expr_at, expr_count}
-use Rattle.hv_lines.specs.Shapes.{IsAndLeaf, IsLiteralOf, and_parts, family_of, of_left, of_right}
-use Rattle.hv_lines.specs.declared.formula_family.FormulaFamily.{FormulaFamily}
-use Rattle.hv_lines.specs.declared.line.Expr.{Expr}
+use Rattle.hv_lines.specs.Numbering.{MayFollow, expr_count}
+use Rattle.hv_lines.specs.Shapes.{IsAndLeaf, and_parts, of_left, of_right}
 use Rattle.hv_lines.specs.declared.line.Expr.TheVariants as E
 use Rattle.hv_lines.specs.declared.line.Line.{Line}
 use Rattle.hv_lines.proofs.Elements.{all_from, head_in, in_mapped, of_one}
-use Rattle.hv_lines.proofs.Laws.{expr_at_more, expr_below, exprs_grow, refers_below}
+use Rattle.hv_lines.proofs.Laws.{exprs_grow}
 use Rattle.hv_lines.proofs.Shaped.{leaf_below}
 use Rattle.hv_basic.specs.Leaves.{IsLeafRead, places}
 use Rattle.hv_basic.specs.Sharing.{AreItsFlags, AreItsLeaves, IsRightSide, IsShared, SharedState}
 use Rattle.hv_basic.specs.Working.Sharing.{AreLeavesWith, AreTakenLeaves, IsAndBeside}
 use Rattle.hv_basic.specs.declared.shared.KeptLeaves.{KeptLeaves}
 use Rattle.hv_basic.specs.declared.signed_sets.Leaf.{Leaf}
-use Rattle.hv_basic.specs.declared.signed_sets.SignedSet.{SignedSet}
 use Rattle.hv_basic.proofs.Flagging.{flagged_more}
 use Rattle.hv_basic.proofs.Gathering.{take_more}
 use Rattle.hv_basic.proofs.Leafing.{leaf_parts}
 use Rattle.hv_basic.proofs.Sharing.{and_earlier, insert_cases, insert_in, inserted, leaf_before}
-use Rattle.hv_basic.proofs.Sharing.{leaf_more, plain_more, side_stays}
+use Rattle.hv_basic.proofs.Sharing.{leaf_more, read_more, side_stays}
 use Rattle.hv_basic.proofs.Within.{map_has}
 
 -- the identifier of a leaf
 abbrev place_of : Leaf → ℕ
 place_of leaf = leaf.place
-
--- a further line changes nothing of what was read of a leaf
-
-module _ (line : Line) (older : List Line) (next : MayFollow older line) (table : IsTable older) where
-  literal_more : (leaf set : ℕ) (plain : Bool) → IsLiteralOf older leaf set plain
-      → IsLiteralOf (line ∷ older) leaf set plain
-  literal_more leaf set true is = (is.0, plain_more line older next set table is.1)
-  literal_more leaf set false is = (
-    expr_at_more line older leaf next (expr_below older leaf (E.Not set) table is.0) ∙ is.0,
-    plain_more line older next set table is.1,
-  )
-
-  literal_before : (leaf : ℕ) → leaf < expr_count older → IsLiteral (line ∷ older) leaf
-      → IsLiteral older leaf
-  literal_before leaf below (inl (expr, at, plain)) =
-      inl (expr, sym (expr_at_more line older leaf next below) ∙ at, plain)
-  literal_before leaf below (inr (inner, at, (expr, inner_at, plain))) =
-      let was : expr_at older leaf ≡ Some (E.Not inner) =
-      sym (expr_at_more line older leaf next below) ∙ at in
-      let earlier = refers_below older leaf (E.Not inner) table was in
-      inr (inner, was, (expr, sym (expr_at_more line older inner next earlier) ∙ inner_at, plain))
-
-  is_more : (place : ℕ) (found : Option SignedSet) → place < expr_count older
-      → MatchOption found (IsLiteral older place → ⊥)
-      (λ (l : SignedSet). IsLiteralOf older place l.set l.is_plain)
-      → MatchOption found (IsLiteral (line ∷ older) place → ⊥)
-      (λ (l : SignedSet). IsLiteralOf (line ∷ older) place l.set l.is_plain)
-  is_more place None below none = λ yes. none (literal_before place below yes)
-  is_more place (Some l) below is = literal_more place l.set l.is_plain is
-
-  family_more : (found : Option SignedSet) (family : Option FormulaFamily)
-      → IfSome found (λ (l : SignedSet). (expr : Expr)
-      × (expr_at older l.set ≡ Some expr) × (family ≡ family_of expr))
-      → IfSome found (λ (l : SignedSet). (expr : Expr)
-      × (expr_at (line ∷ older) l.set ≡ Some expr) × (family ≡ family_of expr))
-  family_more None family is = tt
-  family_more (Some l) family (expr, at, is) =
-      (expr, expr_at_more line older l.set next (expr_below older l.set expr table at) ∙ at, is)
-
-  below_more : (found : Option SignedSet)
-      → IfSome found (λ (l : SignedSet). l.set < expr_count older)
-      → IfSome found (λ (l : SignedSet). l.set < expr_count (line ∷ older))
-  below_more None is = tt
-  below_more (Some l) is = omega (arith, is, exprs_grow line older)
-
-  read_more : (leaf : Leaf) → leaf.place < expr_count older → IsLeafRead older leaf
-      → IsLeafRead (line ∷ older) leaf
-  read_more leaf below read = record {
-    is = is_more leaf.place leaf.literal below read.is;
-    family = family_more leaf.literal leaf.family read.family;
-    below = below_more leaf.literal read.below;
-  }
 
 -- what is kept of a left side stays right when a line is added
 leaves_more : (line : Line) (older : List Line) (kept : KeptLeaves) → MayFollow older line

@@ -1,9 +1,9 @@
 -- What a left side asks, and the question that it asks together with a right side that is kept.
-use Rattle.std.proofs.Common.{◌≡◌, ℕ, ◌+◌, ◌≤◌, ◌∙◌, ◌↔◌, Bool, true, false, List, [], Option}
+use Rattle.std.proofs.Common.{◌≡◌, ℕ, ◌+◌, ◌≤◌, ◌∙◌, ◌↔◌, ◌⊎◌, Bool, true, false, List, [], Option}
 use Rattle.std.proofs.Common.{Some, None, get_or, length, refl, sym, subst, inl, inr, arith}
 use Rattle.std.proofs.lemmas.List.Elements.{Contains-get_or}
 use Rattle.std.specs.List.{Contains}
-use Rattle.hv_lines.specs.Literals.{IsPlainSet}
+use Rattle.hv_lines.specs.Literals.{IsLiteral, IsNegatedSet}
 use Rattle.hv_lines.specs.Setting.{Setting}
 use Rattle.hv_lines.specs.Verdicts.{IsVerdict}
 use Rattle.hv_lines.specs.declared.line.Statement.{Statement}
@@ -156,51 +156,79 @@ module _ (lines : List Line) (word : Word) (left : ℕ) (lefts : List ℕ)
                   ))
             ]
 
-module _ (lines : List Line) (word : Word) (left right : ℕ) (askings : List Asking) (after : Bool)
-    (kept : Option FormulaFamily)
-    (asked : Askings) (are : ArePlain lines after kept asked)
-    (leaves : (leaf : ℕ) → Contains asked (leaf, after) ↔ IsOrLeaf lines right leaf)
+module _ (lines : List Line) (word : Word) (left right : ℕ) (first askings : List Asking)
+    (after : Bool) (kept : Option FormulaFamily)
+    (asked : Askings) (negated : List ℕ) (are : ArePlain lines after kept asked)
+    (negations : (leaf : ℕ) → Contains negated leaf → IsNegatedSet lines leaf)
+    (leaves : (leaf : ℕ) → (Contains asked (leaf, after) ⊎ Contains negated leaf)
+    ↔ IsOrLeaf lines right leaf)
     (late : after ≡ asks_sides_after word)
-    (asks : AreLeftAskings lines word left askings)
+    (asks : AreLeftAskings lines word left first)
+    (beside : AreGathered lines negated false after first askings)
     (plus : (a : Asking) → Contains askings a → a.positive ≡ true) where
-  right_plain : (leaf : ℕ) → IsOrLeaf lines right leaf → IsPlainSet lines leaf
-  right_plain leaf of = (are.plain (leaf, after) ((leaves leaf).1 of)).0
+  right_literal : (leaf : ℕ) → IsOrLeaf lines right leaf → IsLiteral lines leaf
+  right_literal leaf of = elim ((leaves leaf).1 of) [
+    | inl has ↦ inl (are.plain (leaf, after) has).0
+    | inr other ↦ inr (negations leaf other)
+  ]
 
   -- what is asked about with the sign of the left side's formulas
   plus_out : (a : ℕ × Bool) → IsAskedWith askings true a → IsAsked lines word left right true a
   plus_out a (family, c) =
-      let h = (asks (record { set = a.0; after = a.1; positive = true; family = family })).0 c in
-      (h.0, inl (h.1, h.2))
+      let asking : Asking = record { set = a.0; after = a.1; positive = true; family = family } in
+      elim ((beside asking).0 c) [
+        | inl own ↦ let h = (asks asking).0 own in (h.0, inl (h.1, h.2))
+        | inr given ↦ (
+          given.0,
+          inr (((leaves given.0).0 (inr given.1), given.3 ∙ late), given.2),
+        )
+      ]
 
   plus_in : (a : ℕ × Bool) → IsAsked lines word left right true a → IsAskedWith askings true a
   plus_in a (leaf, inl (side, literal)) =
-      let f = its_family lines leaf a.0 true literal in (
-        f.0,
-        (asks (record { set = a.0; after = a.1; positive = true; family = f.0 })).1
-            (leaf, side, literal, f.1),
-      )
+      let f = its_family lines leaf a.0 true literal in
+      let asking : Asking = record { set = a.0; after = a.1; positive = true; family = f.0 } in
+      (f.0, (beside asking).1 (inl ((asks asking).1 (leaf, side, literal, f.1))))
   plus_in a (leaf, inr ((of, is), literal)) =
-      let both : true ≡ false = (literal_once lines leaf leaf a.0 true false
-      (refl, right_plain leaf of) literal).1 in absurd (cc (both))
+      elim ((leaves leaf).1 of) [
+        | inl has ↦
+            let both : true ≡ false = (literal_once lines leaf leaf a.0 true false
+            (refl, (are.plain (leaf, after) has).0) literal).1 in absurd (cc (both))
+        | inr other ↦
+            let f = its_family lines leaf a.0 false literal in
+            let asking : Asking = record {
+              set = a.0;
+              after = a.1;
+              positive = true;
+              family = f.0;
+            } in
+            (f.0, (beside asking).1 (inr (leaf, other, literal, is ∙ sym late, f.1)))
+      ]
 
   -- what is asked about with the other sign
   minus_out : (a : ℕ × Bool) → Contains asked a → IsAsked lines word left right false a
   minus_out a c =
       let plain = are.plain a c in
       let has : Contains asked (a.0, after) = subst (λ b. Contains asked (a.0, b)) plain.1 c in
-      (a.0, inr (((leaves a.0).0 has, plain.1 ∙ late), (refl, plain.0)))
+      (a.0, inr (((leaves a.0).0 (inl has), plain.1 ∙ late), (refl, plain.0)))
 
   minus_in : (a : ℕ × Bool) → IsAsked lines word left right false a → Contains asked a
   minus_in a (leaf, inl (side, literal)) =
       let f = its_family lines leaf a.0 false literal in
+      let asking : Asking = record { set = a.0; after = a.1; positive = false; family = f.0 } in
       let both : false ≡ true =
-      plus (record { set = a.0; after = a.1; positive = false; family = f.0 })
-      ((asks (record { set = a.0; after = a.1; positive = false; family = f.0 })).1
-      (leaf, side, literal, f.1)) in
+      plus asking ((beside asking).1 (inl ((asks asking).1 (leaf, side, literal, f.1)))) in
       absurd (cc (both))
   minus_in a (leaf, inr ((of, is), literal)) =
-      subst (λ x. Contains asked (x, a.1)) literal.0
-      (subst (λ b. Contains asked (leaf, b)) (late ∙ sym is) ((leaves leaf).1 of))
+      elim ((leaves leaf).1 of) [
+        | inl has ↦ subst (λ x. Contains asked (x, a.1)) literal.0
+            (subst (λ b. Contains asked (leaf, b)) (late ∙ sym is) has)
+        | inr other ↦
+            let n = negations leaf other in
+            let both : true ≡ false =
+            (literal_once lines leaf a.0 n.0 true false literal (n.1, n.2)).1 in
+            absurd (cc (both))
+      ]
 
   family_none : (family : FormulaFamily) → IsTheFamily lines asked None
       → IsFamilyBeside lines askings None family
@@ -274,7 +302,7 @@ module _ (lines : List Line) (word : Word) (left right : ℕ) (askings : List As
       → IsQuestion lines word left right (record
       { family = family; positive = positive; negative = asked; acts = acts })
   question_by acts family positive side beside rises chosen few = record {
-    sides = both_sides lines word left right acts side (λ leaf of. inl (right_plain leaf of));
+    sides = both_sides lines word left right acts side right_literal;
     positive = λ a. (λ c. plus_out a ((chosen a).0 c), λ of. (chosen a).1 (plus_in a of));
     negative = λ a. (minus_out a, minus_in a);
     positive_rises = rises;
@@ -283,11 +311,16 @@ module _ (lines : List Line) (word : Word) (left right : ℕ) (askings : List As
     family = family_with kept family are.one_family beside;
   }
 
--- what the left side asks about has its families
-pub left_families : (lines : List Line) (word : Word) (left : ℕ) (askings : List Asking)
-    → AreLeftAskings lines word left askings → HaveTheirFamilies lines askings
-left_families lines word left askings asks k d within =
-    ((asks (get_or askings k d)).0 (Contains-get_or askings k d within)).3
+-- what the left side and the negations on the right ask about has its families
+pub beside_families : (lines : List Line) (word : Word) (left : ℕ) (first askings : List Asking)
+    (negated : List ℕ) (after : Bool) → AreLeftAskings lines word left first
+    → AreGathered lines negated false after first askings → HaveTheirFamilies lines askings
+beside_families lines word left first askings negated after asks beside k d within =
+    let asking = get_or askings k d in
+    elim ((beside asking).0 (Contains-get_or askings k d within)) [
+      | inl own ↦ ((asks asking).0 own).3
+      | inr given ↦ given.4
+    ]
 
 -- the verdict on the question is that of the statement
 pub verdict_shared : (setting : Setting) (lines : List Line) (statement : Statement) (word : Word)

@@ -24,3 +24,5 @@ pub mod KeptLeaves
 pub mod LeftSides
 pub mod Within
 pub mod Literals
+pub mod Denying
+pub mod Negations

@@ -1,7 +1,7 @@
 -- Where a set of the left side has a clause each of whose literals puts a state into a set of the
 -- right side, the left side is within the right one.
-use Rattle.std.proofs.Common.{◌≡◌, ℕ, ◌<◌, ◌≤◌, ◌∙◌, ◌⊎◌, Bool, true, false, not, List, [], ◌∷◌}
-use Rattle.std.proofs.Common.{Option, Some, None, length, map, get_or, slice_get, refl, sym, ap}
+use Rattle.std.proofs.Common.{◌≡◌, ℕ, ◌∙◌, ◌⊎◌, Bool, true, false, not, List, [], ◌∷◌}
+use Rattle.std.proofs.Common.{Option, Some, None, length, slice_get, refl, sym, ap}
 use Rattle.std.proofs.Common.{subst, inl, inr, arith, Result, Ok, Err, OnOk}
 use Rattle.std.proofs.lemmas.Bool.{and_from, and_parts, cond-false, false_from_ne_true}
 use Rattle.std.proofs.lemmas.List.Folds.{Any-from_list_any, list_any_at}
@@ -10,7 +10,6 @@ use Rattle.std.specs.BTreeMap.{is_at}
 use Rattle.std.specs.BTreeSet.{BTreeSet, Updates, contains}
 use Rattle.std.specs.List.{Contains, list_all}
 use Rattle.std.specs.Option.{IfSome}
-use Rattle.hv_task.specs.declared.action.Action.{Action}
 use Rattle.hv_task.specs.Strips.{Strips, atoms}
 use Rattle.hv_sets.specs.Query.{action_of, asked, in_operand, in_which, is_clash, may_apply}
 use Rattle.hv_sets.specs.Truth.{in_clause, in_clauses, in_literal}
@@ -30,10 +29,10 @@ use Rattle.hv_lines.specs.declared.line.Expr.{Expr}
 use Rattle.hv_lines.specs.declared.line.Expr.TheVariants as E
 use Rattle.hv_lines.specs.declared.line.Line.{Line}
 use Rattle.hv_lines.specs.declared.verdict.Verdict.TheVariants as V
-use Rattle.hv_lines.proofs.Elements.{got_mapped, head_in}
+use Rattle.hv_lines.proofs.Elements.{got_mapped}
 use Rattle.hv_lines.proofs.Named.{counts_before, family_is, found_number, which_is}
 use Rattle.hv_basic.specs.Deciding.{IsQuestionOver}
-use Rattle.hv_basic.specs.Sharing.{AreEnoughFor, AreWays, IsEnoughFor, IsLoneFor, NamesLiteral}
+use Rattle.hv_basic.specs.Sharing.{AreEnoughFor, AreWays, IsEnoughFor, NamesLiteral}
 use Rattle.hv_basic.specs.Sharing.{order, own_clauses}
 use Rattle.hv_basic.specs.Working.Sharing.{HasEnough, IsEnoughWithin}
 use Rattle.hv_basic.specs.Working.Views.{question_of}

@@ -12,12 +12,13 @@ use Rattle.std.proofs.lemmas.List.Sorted.{Contains-permutation, IsPermutation-in
 use Rattle.std.proofs.lemmas.List.Sorted.{IsPermutation-sym}
 use Rattle.std.proofs.lemmas.Option.{get_or_from_slice_get, slice_get-get_or, slice_get_within}
 use Rattle.std.specs.BTreeSet.{BTreeSet}
+use Rattle.std.specs.Global.{Vec}
 use Rattle.std.specs.List.{All, Contains, insert, remove, slice_get}
 use Rattle.hv_sets.specs.declared.literal.Literal.{Literal}
 use Rattle.std.specs.List.Sorted.{IsNonDecreasingBy, IsPartitionPoint}
 use Rattle.std.specs.Option.{IfSome, MatchOption}
 use Rattle.hv_sets.specs.declared.query.Query.{Query}
-use Rattle.hv_lines.specs.Literals.{IsLiteral, IsPlainSet}
+use Rattle.hv_lines.specs.Literals.{IsLiteral, IsNegatedSet, IsPlainSet}
 use Rattle.hv_lines.specs.Numbering.{MayFollow, IsTable, expr_at, expr_count}
 use Rattle.hv_lines.specs.Queries.{count_of, named_by, operand_of, which_at}
 use Rattle.hv_lines.specs.Shapes.{Askings, AskingsRise, IsLiteralOf, IsOfFamily, IsOrLeaf, IsWithinFamily}
@@ -31,7 +32,8 @@ use Rattle.hv_lines.specs.declared.line.Line.TheVariants as L
 use Rattle.hv_lines.proofs.Laws.{expr_at_more, expr_below, exprs_grow, refers_below}
 use Rattle.hv_lines.proofs.Truth.{and_is, or_is}
 use Rattle.hv_lines.proofs.Elements.{cons_cases, head_in, tail_in}
-use Rattle.hv_basic.specs.Sharing.{AreEnoughFor, ArePlain, AreWays, HasToChoose, IsEnoughFor}
+use Rattle.hv_basic.specs.Sharing.{AreEnoughFor, AreNegations, ArePlain, AreWays, HasLeaf}
+use Rattle.hv_basic.specs.Sharing.{HasToChoose, IsEnoughFor}
 use Rattle.hv_basic.specs.Sharing.{IsKeptFor, IsNoFormula, IsPlainSide, IsRightSide, IsTheFamily}
 use Rattle.hv_basic.specs.Sharing.{NamesLiteral}
 use Rattle.hv_basic.specs.Working.Gathered.{IsThe}
@@ -264,6 +266,73 @@ pub asked_below : (lines : List Line) (after : Bool) (family : Option FormulaFam
 asked_below lines after family asked are a c =
     let plain = (are.plain a c).0 in expr_below lines a.0 plain.0 are.table plain.1
 
+-- a further line changes nothing of what was read of a leaf
+
+module _ (line : Line) (older : List Line) (next : MayFollow older line) (table : IsTable older) where
+  literal_more : (leaf set : ℕ) (plain : Bool) → IsLiteralOf older leaf set plain
+      → IsLiteralOf (line ∷ older) leaf set plain
+  literal_more leaf set true is = (is.0, plain_more line older next set table is.1)
+  literal_more leaf set false is = (
+    expr_at_more line older leaf next (expr_below older leaf (E.Not set) table is.0) ∙ is.0,
+    plain_more line older next set table is.1,
+  )
+
+  literal_before : (leaf : ℕ) → leaf < expr_count older → IsLiteral (line ∷ older) leaf
+      → IsLiteral older leaf
+  literal_before leaf below (inl (expr, at, plain)) =
+      inl (expr, sym (expr_at_more line older leaf next below) ∙ at, plain)
+  literal_before leaf below (inr (inner, at, (expr, inner_at, plain))) =
+      let was : expr_at older leaf ≡ Some (E.Not inner) =
+      sym (expr_at_more line older leaf next below) ∙ at in
+      let earlier = refers_below older leaf (E.Not inner) table was in
+      inr (inner, was, (expr, sym (expr_at_more line older inner next earlier) ∙ inner_at, plain))
+
+  is_more : (place : ℕ) (found : Option SignedSet) → place < expr_count older
+      → MatchOption found (IsLiteral older place → ⊥)
+      (λ (l : SignedSet). IsLiteralOf older place l.set l.is_plain)
+      → MatchOption found (IsLiteral (line ∷ older) place → ⊥)
+      (λ (l : SignedSet). IsLiteralOf (line ∷ older) place l.set l.is_plain)
+  is_more place None below none = λ yes. none (literal_before place below yes)
+  is_more place (Some l) below is = literal_more place l.set l.is_plain is
+
+  literal_family_more : (found : Option SignedSet) (family : Option FormulaFamily)
+      → IfSome found (λ (l : SignedSet). (expr : Expr)
+      × (expr_at older l.set ≡ Some expr) × (family ≡ family_of expr))
+      → IfSome found (λ (l : SignedSet). (expr : Expr)
+      × (expr_at (line ∷ older) l.set ≡ Some expr) × (family ≡ family_of expr))
+  literal_family_more None family is = tt
+  literal_family_more (Some l) family (expr, at, is) =
+      (expr, expr_at_more line older l.set next (expr_below older l.set expr table at) ∙ at, is)
+
+  below_more : (found : Option SignedSet)
+      → IfSome found (λ (l : SignedSet). l.set < expr_count older)
+      → IfSome found (λ (l : SignedSet). l.set < expr_count (line ∷ older))
+  below_more None is = tt
+  below_more (Some l) is = omega (arith, is, exprs_grow line older)
+
+  pub read_more : (leaf : Leaf) → leaf.place < expr_count older → IsLeafRead older leaf
+      → IsLeafRead (line ∷ older) leaf
+  read_more leaf below read = record {
+    is = is_more leaf.place leaf.literal below read.is;
+    family = literal_family_more leaf.literal leaf.family read.family;
+    below = below_more leaf.literal read.below;
+  }
+
+  negated_more : (set : ℕ) → IsNegatedSet older set → IsNegatedSet (line ∷ older) set
+  negated_more set (inner, at, plain) = (
+    inner,
+    expr_at_more line older set next (expr_below older set (E.Not inner) table at) ∙ at,
+    plain_more line older next inner table plain,
+  )
+
+  negations_more : (leaves : List Leaf) → AreNegations older leaves
+      → AreNegations (line ∷ older) leaves
+  negations_more leaves are leaf c =
+      let is = are leaf c in (
+        negated_more leaf.place is.0,
+        read_more leaf (expr_below older leaf.place (E.Not is.0.0) table is.0.1) is.1,
+      )
+
 side_more : (line : Line) (older : List Line) (kept : Kept) → MayFollow older line
     → IsPlainSide older kept → IsPlainSide (line ∷ older) kept
 side_more line older kept next is = record {
@@ -280,6 +349,7 @@ side_more line older kept next is = record {
   ways = told_more line older next kept.question.negative.items kept.ways is.plain.table is.ways;
   enough = enough_more line older next kept.after kept.question.negative.items kept.enough
       is.plain.table is.enough;
+  negations = negations_more line older next is.plain.table kept.negations.items is.negations;
   named = λ yes.
       is.named yes
       ∙ operands_more line older kept.question.negative.items next
@@ -431,9 +501,9 @@ pub side_put : (lines : List Line) (old new : Kept) (leaf place : ℕ)
     → NamesLiteral old.enough literal ⊎ IsEnoughFor lines leaf literal)
     → (new.named ≡ true → (old.named ≡ true) × (place ≡ length old.question.negative.items)
     × (new.query.negative ≡ old.query.negative ++ operand_of lines (leaf, old.after) ∷ []))
-    → IsPlainSide lines (record new { family = both })
+    → new.negations ≡ old.negations → IsPlainSide lines (record new { family = both })
 side_put lines old new leaf place both expr side plain at with is put same (other, other_at, ways)
-    enough named =
+    enough named negations =
     let asked = old.question.negative.items in
     record {
       plain = subst (ArePlain lines new.after both) (sym put)
@@ -451,6 +521,8 @@ side_put lines old new leaf place both expr side plain at with is put same (othe
                 (w.0, insert_in asked place (leaf, old.after) (w.0, old.after) w.1, w.2)
             | inr own ↦ (leaf, inserted asked place (leaf, old.after), own)
           ]));
+      negations = subst (λ (v : Vec Leaf). AreNegations lines v.items) (sym negations)
+          side.negations;
       named = λ yes.
           let h = named yes in
           let last : new.question.negative.items ≡ asked ++ (leaf, old.after) ∷ [] =
@@ -462,9 +534,10 @@ side_put lines old new leaf place both expr side plain at with is put same (othe
           ∙ ap (map (λ a. operand_of lines a)) (sym last)));
     }
 
-pub one_put : (after : Bool) (leaf place : ℕ) (old new : Askings)
-    → new ≡ insert old place (leaf, after) → IsAddedTo after leaf old new
-one_put after leaf place old new put other = (
+asked_put : (after : Bool) (leaf place : ℕ) (old new : Askings)
+    → new ≡ insert old place (leaf, after) → (other : ℕ)
+    → Contains new (other, after) ↔ (Contains old (other, after) ⊎ (leaf ≡ other))
+asked_put after leaf place old new put other = (
   λ c. elim (insert_cases old place (leaf, after) (other, after)
       (subst (λ xs. Contains xs (other, after)) put c)) [
         | inl was ↦ inl was
@@ -479,27 +552,52 @@ one_put after leaf place old new put other = (
   ],
 )
 
+pub one_put : (leaf place : ℕ) (old new : Kept)
+    → new.question.negative.items ≡ insert old.question.negative.items place (leaf, old.after)
+    → new.after ≡ old.after → new.negations ≡ old.negations → IsAddedTo leaf old new
+one_put leaf place old new put after same other =
+    let one = asked_put old.after leaf place old.question.negative.items
+    new.question.negative.items put other in (
+      elim [
+        | inl has ↦
+            elim (one.0 (subst (λ b. Contains new.question.negative.items (other, b)) after has)) [
+              | inl was ↦ inl (inl was)
+              | inr own ↦ inr own
+            ]
+        | inr negated ↦
+            inl (inr (subst (λ (v : Vec Leaf). Contains (places v.items) other) same negated))
+      ],
+      elim [
+        | inl (inl was) ↦ inl (subst (λ b. Contains new.question.negative.items (other, b))
+            (sym after) (one.1 (inl was)))
+        | inl (inr negated) ↦
+            inr (subst (λ (v : Vec Leaf). Contains (places v.items) other) (sym same) negated)
+        | inr own ↦ inl (subst (λ b. Contains new.question.negative.items (other, b))
+            (sym after) (one.1 (inr own)))
+      ],
+    )
+
 -- a set that is there already
-pub one_there : (lines : List Line) (after also : Bool) (family : Option FormulaFamily) (leaf : ℕ)
-    (asked : Askings) → ArePlain lines after family asked → Contains asked (leaf, also)
-    → IsAddedTo after leaf asked asked
-one_there lines after also family leaf asked are has other = (
+pub one_there : (lines : List Line) (kept : Kept) (also : Bool) (leaf : ℕ)
+    → ArePlain lines kept.after kept.family kept.question.negative.items
+    → Contains kept.question.negative.items (leaf, also) → IsAddedTo leaf kept kept
+one_there lines kept also leaf are has other = (
   λ c. inl c,
   elim [
     | inl was ↦ was
-    | inr same ↦ subst (λ x. Contains asked (x, after)) same
-        (subst (λ b. Contains asked (leaf, b)) (are.plain (leaf, also) has).1 has)
+    | inr same ↦ inl (subst (λ x. Contains kept.question.negative.items (x, kept.after)) same
+        (subst (λ b. Contains kept.question.negative.items (leaf, b))
+        (are.plain (leaf, also) has).1 has))
   ],
 )
 
 -- leaves that are added from the last to the first
 
-added_more : (after : Bool) (leaves : List ℕ) (i next leaf : ℕ) (old mid new : Askings)
+added_more : (leaves : List ℕ) (i next leaf : ℕ) (old mid new : Kept)
     → i < length leaves → next ≡ suc i
-    → leaf ≡ get_or leaves i 0 → AreAddedTo after (drop next leaves) old mid
-    → IsAddedTo after leaf mid new
-    → AreAddedTo after (drop i leaves) old new
-added_more after leaves i next leaf old mid new below follows is added put other =
+    → leaf ≡ get_or leaves i 0 → AreAddedTo (drop next leaves) old mid → IsAddedTo leaf mid new
+    → AreAddedTo (drop i leaves) old new
+added_more leaves i next leaf old mid new below follows is added put other =
     let all : drop i leaves ≡ leaf ∷ drop next leaves =
     drop_at leaves i 0 below ∙ ap₂ (λ x xs. x ∷ xs) (sym is)
     (ap (λ k. drop k leaves) (sym follows)) in (
@@ -524,33 +622,29 @@ added_more after leaves i next leaf old mid new below follows is added put other
     )
 
 -- one more of the leaves, of which the oldest is the last
-pub added_at : (after also : Bool) (leaves : List Leaf) (count : ℕ) (d : Leaf)
-    (old mid new : Askings) → count < length leaves → also ≡ after
-    → AreAddedTo after (drop (length (places leaves) - count) (places leaves)) old mid
-    → IsAddedTo also (get_or leaves (length leaves - 1 - count) d).place mid new
-    → AreAddedTo after (drop (length (places leaves) - (count + 1)) (places leaves)) old new
-added_at after also leaves count d old mid new more same added put =
+pub added_at : (leaves : List Leaf) (count : ℕ) (d : Leaf) (old mid new : Kept)
+    → count < length leaves
+    → AreAddedTo (drop (length (places leaves) - count) (places leaves)) old mid
+    → IsAddedTo (get_or leaves (length leaves - 1 - count) d).place mid new
+    → AreAddedTo (drop (length (places leaves) - (count + 1)) (places leaves)) old new
+added_at leaves count d old mid new more added put =
     let size = length-map leaves (λ (leaf : Leaf). leaf.place) in
     let last : length leaves - 1 - count ≡ length (places leaves) - (count + 1) =
     omega (arith, size) in
     let within : length leaves - 1 - count < length leaves = omega (arith, more) in
-    added_more after (places leaves) (length (places leaves) - (count + 1))
+    added_more (places leaves) (length (places leaves) - (count + 1))
     (length (places leaves) - count) (get_or leaves (length leaves - 1 - count) d).place old mid new
     (omega (arith, size, more)) (omega (arith, size, more))
     (sym (get_or-map (λ (leaf : Leaf). leaf.place) leaves (length leaves - 1 - count) d 0 within)
     ∙ ap (λ k. get_or (places leaves) k 0) last)
-    added
-    (subst (λ b. IsAddedTo b (get_or leaves (length leaves - 1 - count) d).place mid new) same put)
+    added put
 
 -- what is kept becomes the union's
-pub kept_for : (lines : List Line) (root part : ℕ) (after : Bool) (leaves : List ℕ)
-    (old new : Askings)
-    → ((leaf : ℕ) → IsOrLeaf lines root leaf
-    ↔ (Contains old (leaf, after) ⊎ IsOrLeaf lines part leaf))
+pub kept_for : (lines : List Line) (root part : ℕ) (leaves : List ℕ) (old new : Kept)
+    → IsMadeOf lines old root part
     → ((leaf : ℕ) → Contains leaves leaf ↔ IsOrLeaf lines part leaf)
-    → AreAddedTo after leaves old new
-    → (leaf : ℕ) → Contains new (leaf, after) ↔ IsOrLeaf lines root leaf
-kept_for lines root part after leaves old new made are added leaf = (
+    → AreAddedTo leaves old new → (leaf : ℕ) → HasLeaf new leaf ↔ IsOrLeaf lines root leaf
+kept_for lines root part leaves old new made are added leaf = (
   λ c. elim ((added leaf).0 c) [
     | inl was ↦ (made leaf).1 (inl was)
     | inr more ↦ (made leaf).1 (inr ((are leaf).0 more))
@@ -605,6 +699,7 @@ made_twice lines kept root part below shared same beside =
         plain = is.side.plain;
         ways = is.side.ways;
         enough = is.side.enough;
+        negations = is.side.negations;
         named = is.side.named;
       };
       leaves = λ leaf. (
@@ -726,6 +821,7 @@ shared_asked lines kept query named same shared = asked kept.root shared
         plain = right.side.plain;
         ways = right.side.ways;
         enough = right.side.enough;
+        negations = right.side.negations;
         named = same;
       };
       leaves = right.leaves;

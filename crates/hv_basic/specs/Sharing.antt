@@ -1,12 +1,12 @@
 -- What is kept of right sides, left sides and action sets for the statements after them.
-use Rattle.std.specs.Prelude.{◌≡◌, ◌<◌, ◌↔◌, ◌*◌, ℕ, Bool, true, false, List, [], ◌∷◌, Option, None}
+use Rattle.std.specs.Prelude.{◌≡◌, ◌<◌, ◌↔◌, ◌⊎◌, ◌*◌, ℕ, Bool, true, false, List, [], ◌∷◌, Option, None}
 use Rattle.std.specs.Prelude.{Some, IfSome, length, map, slice_index_or}
 use Rattle.std.specs.BTreeSet.{BTreeSet, contains}
 use Rattle.std.specs.List.{All, Contains}
 use Rattle.std.specs.Ordering.{bool_cmp, nat_cmp, ordering_then}
 use Rattle.std.specs.declared.cmp.Ordering.{Ordering}
 use Rattle.hv_sets.specs.declared.literal.Literal.{Literal}
-use Rattle.hv_lines.specs.Literals.{IsPlainSet}
+use Rattle.hv_lines.specs.Literals.{IsNegatedSet, IsPlainSet}
 use Rattle.hv_lines.specs.Meaning.{acts_of}
 use Rattle.hv_lines.specs.Numbering.{IsTable, acts_count, expr_at, expr_count}
 use Rattle.hv_lines.specs.Queries.{operand_of}
@@ -21,6 +21,7 @@ use Rattle.hv_basic.specs.Leaves.{IsLeafRead, places}
 use Rattle.hv_basic.specs.declared.shared.FlaggedActs.{FlaggedActs}
 use Rattle.hv_basic.specs.declared.shared.Kept.{Kept}
 use Rattle.hv_basic.specs.declared.shared.KeptLeaves.{KeptLeaves}
+use Rattle.hv_basic.specs.declared.signed_sets.Leaf.{Leaf}
 
 -- the set is no formula
 abbrev pub IsNoFormula : List Line → ℕ → Type 0
@@ -113,12 +114,25 @@ AreEnoughFor lines after asked literals =
     (literal : Literal) → NamesLiteral literals literal
     → (set : ℕ) × Contains asked (set, after) × IsEnoughFor lines set literal
 
+-- the leaves are negations, with what was read of each
+abbrev pub AreNegations : List Line → List Leaf → Type 0
+AreNegations lines leaves = (leaf : Leaf) → Contains leaves leaf
+    → IsNegatedSet lines leaf.place × IsLeafRead lines leaf
+
+-- the leaf is kept, among the formulas and constants or among the negations
+abbrev pub HasLeaf : Kept → ℕ → Type 0
+HasLeaf kept leaf =
+    Contains kept.question.negative.items (leaf, kept.after)
+    ⊎ Contains (places kept.negations.items) leaf
+
 -- what is kept are formulas and constants, with the number of ways, where it is told, literals that
--- are enough for one of them, and the operands that ask about them, where they are named
+-- are enough for one of them, and the operands that ask about them, where they are named; and
+-- negations
 pub record IsPlainSide (lines : List Line) (kept : Kept) : Type 0 where
   pub plain : ArePlain lines kept.after kept.family kept.question.negative.items
   pub ways : IfSome kept.ways (AreWays lines kept.question.negative.items)
   pub enough : AreEnoughFor lines kept.after kept.question.negative.items kept.enough
+  pub negations : AreNegations lines kept.negations.items
   pub named : kept.named ≡ true → kept.query.negative
       ≡ map (λ a. operand_of lines a) kept.question.negative.items
 
@@ -126,8 +140,7 @@ pub record IsPlainSide (lines : List Line) (kept : Kept) : Type 0 where
 pub record IsKeptFor (lines : List Line) (kept : Kept) (root : ℕ) : Type 0 where
   pub below : root < expr_count lines
   pub side : IsPlainSide lines kept
-  pub leaves : (leaf : ℕ)
-      → Contains kept.question.negative.items (leaf, kept.after) ↔ IsOrLeaf lines root leaf
+  pub leaves : (leaf : ℕ) → HasLeaf kept leaf ↔ IsOrLeaf lines root leaf
 
 -- what is kept is right for these lines, if something is kept
 abbrev pub IsRightSide : List Line → Kept → Type 0

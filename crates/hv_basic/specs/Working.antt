@@ -7,6 +7,7 @@ pub mod Stores
 pub mod Asked
 pub mod Deciding
 pub mod Candidates
+pub mod Denied
 pub mod Framed
 pub mod Formulas
 pub mod Sharing

@@ -24,7 +24,8 @@ use crate::action_rows::action_rows;
 use crate::actions::asked_actions;
 use crate::basic::Question;
 use crate::case::Case;
-use crate::framed::crossing;
+use crate::denied::clashes_in_open;
+use crate::framed::{crossing, most_literals};
 use crate::picked::{put, put_row};
 use hv_lines::{Acts, FormulaFamily, Table};
 use hv_sets::{Operand, Query, StateList, Which};
@@ -104,7 +105,14 @@ fn all_clashes(
     if let Some(numbers) = clashes_in_few(alloc, case, family, query)? {
         return Ok(Some(numbers));
     }
-    let numbers = crossing(alloc, case, family, query)?;
+    if let Some(numbers) = crossing(alloc, case, family, query, None)? {
+        return Ok(Some(numbers));
+    }
+    if let Some(numbers) = clashes_in_open(alloc, case, family, query)? {
+        return Ok(Some(numbers));
+    }
+    let most = most_literals(case.task, query.positive.as_slice());
+    let numbers = crossing(alloc, case, family, query, Some(most))?;
     Ok(numbers)
 }
 

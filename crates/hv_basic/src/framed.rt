@@ -18,7 +18,7 @@ use hv_clauses::Formulas;
 use hv_formula::ClauseKind;
 use hv_lines::FormulaFamily;
 use hv_sets::{Operand, Query, Which};
-use hv_task::AtomList;
+use hv_task::{AtomList, Task};
 use std::alloc::{AllocError, Global};
 
 /// A set of the store that is asked about positively at one time, and negatively at the other.
@@ -30,12 +30,14 @@ pub(crate) struct Frame {
 }
 
 /// The first action and those for which the query can have a counterexample, if it asks about a
-/// formula at both times, and there is a way to find the actions that can turn a literal of it.
+/// formula at both times, and there is a way to find the actions that can turn a literal of it: by a
+/// look at each action, if it has at most so many literals (look), or by rows of actions.
 pub(crate) fn crossing(
     alloc: Global,
     case: &Case<'_>,
     family: FormulaFamily,
     query: &Query,
+    look: Option<usize>,
 ) -> Result<Option<AtomList>, AllocError>
     ensures { IfOk result (λ found. IfSome found (HaveAllClashes case.now.task.now
         (has_of (setting_in case.now) (lines_in case.now) family) query.now)) }
@@ -44,10 +46,39 @@ pub(crate) fn crossing(
     let Some(frame) = frame_of(case, family, positive, query.negative.as_slice()) else {
         return Ok(None);
     };
-    let Some(numbers) = crossing_at(alloc, case, family, frame)? else {
+    let Some(numbers) = crossing_at(alloc, case, family, frame, look)? else {
         return Ok(None);
     };
     Ok(Some(numbers))
+}
+
+/// How many literals may be looked at before each action is. Where several sets are asked about
+/// positively they are more: all but one of these are gone through anew for each action.
+pub(crate) fn most_literals(task: &Task, positive: &[Operand]) -> usize {
+    let actions = task.actions() as usize;
+    if has_several_sets(positive) {
+        actions.saturating_mul(4)
+    } else {
+        most_for(task)
+    }
+}
+
+/// Whether at least two of the operands are sets of a store.
+fn has_several_sets(operands: &[Operand]) -> bool {
+    let mut has_one = false;
+    for operand in operands {
+        if is_set(operand) {
+            if has_one {
+                return true;
+            }
+            has_one = true;
+        }
+    }
+    false
+}
+
+fn is_set(operand: &Operand) -> bool {
+    matches!(operand.which, Which::Set(_))
 }
 
 /// Of the sets that are asked about at both times the one whose literals the fewest actions can
@@ -169,6 +200,7 @@ fn crossing_at(
     case: &Case<'_>,
     family: FormulaFamily,
     frame: Frame,
+    look: Option<usize>,
 ) -> Result<Option<AtomList>, AllocError>
     ensures { IfOk result (λ found. IfSome found (AreCrossing case.now.task.now
         (has_of (setting_in case.now) (lines_in case.now) family frame.number) frame.into)) }
@@ -176,17 +208,17 @@ fn crossing_at(
     match family {
         FormulaFamily::Horn => {
             let sets = case.store.horns();
-            let numbers = turning_in(alloc, case, sets, frame)?;
+            let numbers = turning_in(alloc, case, sets, frame, look)?;
             Ok(numbers)
         }
         FormulaFamily::Dual => {
             let sets = case.store.duals();
-            let numbers = turning_in(alloc, case, sets, frame)?;
+            let numbers = turning_in(alloc, case, sets, frame, look)?;
             Ok(numbers)
         }
         FormulaFamily::Two => {
             let sets = case.store.twos();
-            let numbers = turning_in(alloc, case, sets, frame)?;
+            let numbers = turning_in(alloc, case, sets, frame, look)?;
             Ok(numbers)
         }
         FormulaFamily::States | FormulaFamily::Node => Ok(None),
@@ -199,6 +231,7 @@ fn turning_in<K: ClauseKind>(
     case: &Case<'_>,
     sets: &Formulas<K>,
     frame: Frame,
+    look: Option<usize>,
 ) -> Result<Option<AtomList>, AllocError>
     ensures { IfOk result (λ found. IfSome found (λ numbers. (lists : List (List (List Literal)))
         → sets.now ≡ map (formula (atoms case.now.task.now)) lists
@@ -209,7 +242,7 @@ fn turning_in<K: ClauseKind>(
         return Ok(None);
     }
     let clauses = sets.get(frame.number).clauses();
-    let Some(numbers) = turning(alloc, case, clauses, frame.into)? else {
+    let Some(numbers) = turning(alloc, case, clauses, frame.into, look)? else {
         return Ok(None);
     };
     Ok(Some(numbers))

@@ -11,8 +11,8 @@
 //!   an intersection, `signed_sets` gathers what the literals ask about, and the set of the
 //!   progression is read like it.
 //! - `recent` brings what is kept of the right side, if that is a union, or of a part of it, and
-//!   `rights` keeps it, if its leaves are formulas and constants: where it is what is kept and a
-//!   further set, only the leaves of that set are looked up.
+//!   `rights` keeps it, if its leaves are literals: where it is what is kept and a further set, only
+//!   the leaves of that set are looked up.
 //! - Where what is kept serves, and all that the left side asks about is positive, the question
 //!   is there already: `families` says whose family it is, and `rising` puts the left part in order.
 //! - Else `shapes::question_beside` makes the question: `sides` reads the leaves of the right side
@@ -22,10 +22,12 @@
 //!   and few states are asked about before the action, for those that can be applicable there, by
 //!   the `action_rows` that the `store` keeps; where one formula is asked about at both times
 //!   (`framed`), for those that can turn a literal of it (`turned`), by the `change_rows` that the
-//!   `store` keeps, or by a look at each action. Else `actions` lists the actions of the
-//!   progression: those of a list that rises as they are there, else by the flags of `acts`. For
-//!   each of them `query_walk` asks the query of the store of the family, and `node_walk` asks it
-//!   of the diagrams; the first query that exceeds the budget or has a counterexample decides.
+//!   `store` keeps, or by a look at each action; where formulas before the action deny atoms
+//!   (`denied`), for those that need none of these, by the `action_rows` too. Else `actions` lists
+//!   the actions of the progression: those of a list that rises as they are there, else by the flags
+//!   of `acts`. For each of them `query_walk` asks the query of the store of the family, and
+//!   `node_walk` asks it of the diagrams; the first query that exceeds the budget or has a
+//!   counterexample decides.
 //!
 //! Statements with `b1` and `b3` go the same way, without a step or with a regression. Those with
 //! `b4`, of two families, are decided in `mixed`, over the formulas that `any_formula` finds, and
@@ -41,12 +43,13 @@
 //! do four such rows of unions that are asked about by turns. Every other union on the right is
 //! looked at anew and kept in place of the one that wasn't asked about for longest. The leaves of
 //! the four intersections that were on the left last are kept in the same way, and what they ask is
-//! gathered for each statement. Where a negation is among the leaves on the
-//! right, or gives the left side something that is asked about with the sign of the right one, the
-//! statement is decided as if nothing were kept. What is kept is the negative half of a question
-//! and of its query; the invariant says that it is right for the lines so far, and a further line
-//! changes nothing of it. The operands of a right side whose sets didn't come in order are made
-//! once a query is asked.
+//! gathered for each statement. Negations among the leaves on the right are kept beside: what they
+//! ask about has the sign of the left side, and is gathered with what that asks. Where a negation on
+//! the left gives it something that is asked about with the sign of the right one, the statement is
+//! decided as if nothing were kept. What is kept is the negative half of a question and of its
+//! query; the invariant says that it is right for the lines so far, and a further line changes
+//! nothing of it. The operands of a right side whose sets didn't come in order are made once a query
+//! is asked.
 //!
 //! Where the left side asks for a set that the right one has, no query is asked, since no state is
 //! in a set and outside of it. For that the cost has to be known to be within the budget: over
@@ -85,8 +88,16 @@
 //! these atoms, which the store makes with the ninth formula in clauses. Before that, and where the
 //! literals and the actions in their rows are together more than a quarter as many as the task's
 //! actions, each action is looked at, and the atoms have flags. All actions are asked about where
-//! the literals are that many themselves, with a sixteenth of the atoms for the flags. Of several
-//! formulas that are asked about at both times the one is taken for which the least is looked at.
+//! the literals are that many themselves, with a sixteenth of the atoms for the flags; or, where
+//! several formulas are asked about positively, where they are sixteen times as many, since all but
+//! one of these formulas are gone through anew for each action. Of several formulas that are asked
+//! about at both times the one is taken for which the least is looked at.
+//!
+//! Where formulas in clauses are asked about before the action, an atom that one of their clauses
+//! denies, as its only literal, is in no state there, and no action that needs it is applicable. So
+//! before each action is looked at, a statement over all actions is asked about those alone that
+//! aren't in the row of such an atom, by their preconditions, and about the first one: if these rows
+//! are there, and the other rows have at most a quarter of the actions.
 #![tactic(auto)]
 
 mod action_rows;
@@ -98,6 +109,7 @@ pub mod basic;
 mod candidates;
 pub mod case;
 mod change_rows;
+mod denied;
 mod families;
 mod framed;
 mod kept_flags;

@@ -31,7 +31,7 @@ use std::collections::BTreeSet;
 const MOST_SHORT: usize = 4;
 
 /// Has the right side kept, asked about after the action (true) or before it, if it is a union of
-/// formulas and constants of one family: whether it is kept.
+/// literals whose formulas, where they aren't negated, are of one family: whether it is kept.
 pub(crate) fn keep_right(
     alloc: Global,
     case: &Case<'_>,
@@ -128,6 +128,7 @@ fn clear(alloc: Global, kept: &mut Kept, after: bool)
     ensures family { kept.new.family ≡ None }
     ensures ways { kept.new.ways ≡ Some 1 }
     ensures enough { (literal : Literal) → NamesLiteral kept.new.enough literal → ⊥ }
+    ensures negations { kept.new.negations.items ≡ [] }
     ensures asked { kept.new.question.negative.items ≡ [] }
     ensures operands { kept.new.query.negative ≡ [] }
 {
@@ -136,6 +137,7 @@ fn clear(alloc: Global, kept: &mut Kept, after: bool)
     kept.family = None;
     kept.ways = Some(1);
     kept.enough = BTreeSet::new(alloc);
+    kept.negations = Vec::new(alloc);
     kept.question.negative = Vec::new(alloc);
     kept.query.negative = Operands::new(alloc);
     kept.named = true;
@@ -190,8 +192,8 @@ fn add_all(case: &Case<'_>, kept: &mut Kept, leaves: &[Leaf]) -> Result<bool, Al
     requires read { All (IsLeafRead (lines_in case.now)) leaves.now }
     requires side { IsPlainSide (lines_in case.now) kept.old }
     ensures side { IfOk result (λ yes. yes ≡ true → IsPlainSide (lines_in case.now) kept.new) }
-    ensures added { IfOk result (λ yes. yes ≡ true → AreAddedTo kept.old.after
-        (places leaves.now) kept.old.question.negative.items kept.new.question.negative.items) }
+    ensures added { IfOk result (λ yes. yes ≡ true
+        → AreAddedTo (places leaves.now) kept.old kept.new) }
     ensures root { kept.new.root ≡ kept.old.root }
     ensures after { kept.new.after ≡ kept.old.after }
 {
@@ -204,13 +206,12 @@ fn add_all(case: &Case<'_>, kept: &mut Kept, leaves: &[Leaf]) -> Result<bool, Al
     Ok(true)
 }
 
-/// Adds the leaf, if it is a formula or constant, and no other family comes in by it.
+/// Adds the leaf, if it is a negation, or a formula or constant by which no other family comes in.
 fn add_one(case: &Case<'_>, kept: &mut Kept, leaf: Leaf) -> Result<bool, AllocError>
     requires read { IsLeafRead (lines_in case.now) leaf }
     requires side { IsPlainSide (lines_in case.now) kept.old }
     ensures side { IfOk result (λ yes. yes ≡ true → IsPlainSide (lines_in case.now) kept.new) }
-    ensures added { IfOk result (λ yes. yes ≡ true → IsAddedTo kept.old.after leaf.place
-        kept.old.question.negative.items kept.new.question.negative.items) }
+    ensures added { IfOk result (λ yes. yes ≡ true → IsAddedTo leaf.place kept.old kept.new) }
     ensures root { kept.new.root ≡ kept.old.root }
     ensures after { kept.new.after ≡ kept.old.after }
 {
@@ -218,7 +219,8 @@ fn add_one(case: &Case<'_>, kept: &mut Kept, leaf: Leaf) -> Result<bool, AllocEr
         return Ok(false);
     };
     if !literal.is_plain {
-        return Ok(false);
+        kept.negations.push(leaf)?;
+        return Ok(true);
     }
     let Some(both) = family_with(kept.family, leaf.family) else {
         return Ok(false);
@@ -244,6 +246,7 @@ fn put_in(case: &Case<'_>, kept: &mut Kept, set: usize, place: usize) -> Result<
     ensures named { OnOk result (kept.new.named ≡ true → (kept.old.named ≡ true)
         × (place ≡ length kept.old.question.negative.items) × (kept.new.query.negative
         ≡ kept.old.query.negative ++ operand_of (lines_in case.now) (set, kept.old.after) ∷ [])) }
+    ensures negations { kept.new.negations ≡ kept.old.negations }
     ensures root { kept.new.root ≡ kept.old.root }
     ensures after { kept.new.after ≡ kept.old.after }
     ensures family { kept.new.family ≡ kept.old.family }

@@ -12,7 +12,7 @@ use std::collections::BTreeSet;
 use std::marker::Model;
 
 /// What is handed from statement to statement: what right sides of earlier ones ask, where these
-/// were unions of formulas and constants, the leaves of intersections on their left, the flags of
+/// were unions of literals, the leaves of intersections on their left, the flags of
 /// action sets, and space for the work of queries. What was asked about last is the last.
 #[derive(Drop)]
 pub struct Shared {
@@ -22,7 +22,8 @@ pub struct Shared {
     pub(crate) scratch: Scratch,
 }
 
-/// A right side, with a question and its query of which it is the negative part.
+/// A right side, with a question and its query, whose negative part is what its leaves ask that are
+/// formulas or constants.
 #[derive(Drop)]
 pub(crate) struct Kept {
     /// The right side; none where nothing is kept.
@@ -36,6 +37,8 @@ pub(crate) struct Kept {
     /// Literals each of which puts a state into one of its sets: those of sets with one short
     /// clause.
     pub enough: BTreeSet<(u32, bool)>,
+    /// The negations among its leaves, which ask about their sets with the sign of the left side.
+    pub negations: Vec<Leaf>,
     pub question: Question,
     pub query: Query,
     /// Whether the query has the operands of the question.
@@ -104,6 +107,7 @@ pub(crate) fn no_side(alloc: Global) -> Kept
         family: None,
         ways: None,
         enough: BTreeSet::new(alloc),
+        negations: Vec::new(alloc),
         question: Question {
             family: FormulaFamily::Horn,
             positive: Vec::new(alloc),

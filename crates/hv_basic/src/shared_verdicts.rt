@@ -11,10 +11,12 @@ ghost use Rattle.std.specs.List.{All, Contains};
 ghost use Rattle.hv_basic.specs.Deciding.{IsQuestionOver};
 ghost use Rattle.hv_basic.specs.Faults.{IsShapeFault};
 ghost use Rattle.hv_basic.specs.Cases.{lines_in, setting_in};
-ghost use Rattle.hv_basic.specs.Sharing.{AreEnoughFor, AreWays, IsKeptFor, IsRightSide};
-ghost use Rattle.hv_basic.specs.Sharing.{IsShared, NamesLiteral};
+ghost use Rattle.hv_basic.specs.Sharing.{AreEnoughFor, AreNegations, AreWays, IsKeptFor};
+ghost use Rattle.hv_basic.specs.Sharing.{IsRightSide, IsShared, NamesLiteral};
 ghost use Rattle.hv_basic.specs.Working.Asked.{AreOperands};
 ghost use Rattle.hv_basic.specs.Working.Gathered.{IsLeftRead};
+ghost use Rattle.hv_lines.specs.declared.line.Line.{Line};
+ghost use Rattle.hv_basic.specs.Working.Sharing.{AreAskedBeside};
 ghost use Rattle.hv_basic.specs.Working.Sharing.{AreNamed, IsAskedBy, IsInClauses, IsVerdictOfSub};
 ghost use Rattle.hv_basic.specs.Working.Sharing.{HasEnough, IsEnoughWithin, IsListWithinIts};
 ghost use Rattle.hv_basic.specs.Working.Sharing.{IsWithinIts, IsWithinWays};
@@ -32,7 +34,7 @@ use crate::rising::in_order;
 use crate::shapes::{MOST_OPERANDS, ShapeFault, question_beside, shape};
 use crate::shared::{Kept, Shared};
 use crate::sides::{Inclusion, Sides};
-use crate::signed_sets::Asking;
+use crate::signed_sets::{Asking, gather};
 use crate::verdicts::{decide_on, decide_sets, decide_whole, operands_of};
 use hv_lines::{Expr, FormulaFamily, Statement, Table, Verdict, Word};
 use hv_sets::{Literal, Scratch};
@@ -236,8 +238,8 @@ fn verdict_by_kept(
     verdict_by_leaves(alloc, case, scratch, claim, sides)
 }
 
-/// Puts what the inclusion asks beside what is kept, if its right side can be kept and all that its
-/// left side asks about is positive: whether it is there.
+/// Puts what the inclusion asks beside what is kept, if its right side can be kept and no negation on
+/// the left asks anything: whether it is there.
 fn ask_by_kept(
     alloc: Global,
     case: &Case<'_>,
@@ -274,15 +276,52 @@ fn ask(
     ensures asked { IfOk result (λ yes. yes ≡ true
         → IsAskedBy table.now.lines claim.word claim.left claim.right kept.new) }
 {
+    if kept.negations.is_empty() {
+        return ask_together(alloc, table, kept, claim, sides, &sides.askings);
+    }
+    let askings = askings_beside(alloc, kept, sides)?;
+    ask_together(alloc, table, kept, claim, sides, &askings)
+}
+
+/// What the left side asks, and what the negations on the right ask besides.
+fn askings_beside(alloc: Global, kept: &Kept, sides: &Sides) -> Result<Vec<Asking>, AllocError>
+    ensures { IfOk result (λ askings. (lines : List Line)
+        → AreNegations lines kept.now.negations.items → AreAskedBeside lines kept.now
+        sides.now.askings.items askings.items) }
+{
+    let mut askings = Vec::from_slice(alloc, &sides.askings)?;
+    gather(&kept.negations, false, kept.after, &mut askings)?;
+    Ok(askings)
+}
+
+/// Puts these beside what is kept of the right side: what the left side asks, and what the negations
+/// on the right ask.
+fn ask_together(
+    alloc: Global,
+    table: &Table,
+    kept: &mut Kept,
+    claim: Inclusion,
+    sides: &Sides,
+    askings: &[Asking],
+) -> Result<bool, AllocError>
+    requires right { IsKeptFor table.now.lines kept.old claim.right }
+    requires after { kept.old.after ≡ asks_sides_after claim.word }
+    requires left { IsLeftRead table.now.lines claim.word claim.left sides.now }
+    requires beside { AreAskedBeside table.now.lines kept.old sides.now.askings.items askings.now }
+    ensures kept { IsKeptFor table.now.lines kept.new claim.right }
+    ensures root { kept.new.root ≡ kept.old.root }
+    ensures asked { IfOk result (λ yes. yes ≡ true
+        → IsAskedBy table.now.lines claim.word claim.left claim.right kept.new) }
+{
     let _ = table;
     let _ = claim;
-    if !are_positive(&sides.askings) {
+    if !are_positive(askings) {
         return Ok(false);
     }
-    let Some(family) = one_family(&sides.askings, kept.family) else {
+    let Some(family) = one_family(askings, kept.family) else {
         return Ok(false);
     };
-    let positive = in_order(alloc, &sides.askings, true)?;
+    let positive = in_order(alloc, askings, true)?;
     if positive.len() + kept.question.negative.len() > MOST_OPERANDS {
         return Ok(false);
     }

@@ -16,30 +16,44 @@ use hv_sets::{Clauses, Literal};
 use hv_task::{AtomList, AtomSet, Task};
 use std::alloc::{AllocError, Global};
 
-/// The first action and those that can make a literal of the clauses true, or false: by the rows of
-/// the literals, else by a look at each action, if one of these takes less than to ask about each.
+/// The first action and those that can make a literal of the clauses true, or false: by a look at
+/// each action, if there are at most so many literals (look), or by the rows of the literals, if that
+/// takes less than to ask about each action.
 pub(crate) fn turning(
     alloc: Global,
     case: &Case<'_>,
     clauses: &Clauses,
     value: bool,
+    look: Option<usize>,
 ) -> Result<Option<AtomList>, AllocError>
     ensures { IfOk result (λ found. IfSome found
         (AreTurning case.now.task.now clauses.now value)) }
 {
-    if let Some(numbers) = turning_by_rows(alloc, case, clauses, value)? {
-        return Ok(Some(numbers));
+    match look {
+        Some(most) => turning_of_few(alloc, case.task, clauses, value, most),
+        None => turning_by_rows(alloc, case, clauses, value),
     }
-    if !is_worth_a_look(case.task, clauses, value) {
+}
+
+/// The same by a look at each action, if the literals and the flags of the atoms are at most so many.
+fn turning_of_few(
+    alloc: Global,
+    task: &Task,
+    clauses: &Clauses,
+    value: bool,
+    most: usize,
+) -> Result<Option<AtomList>, AllocError>
+    ensures { IfOk result (λ found. IfSome found (AreTurning task.now clauses.now value)) }
+{
+    if !is_worth_a_look(task, clauses, value, most) {
         return Ok(None);
     }
-    let numbers = turning_by_look(alloc, case.task, clauses, value)?;
+    let numbers = turning_by_look(alloc, task, clauses, value)?;
     Ok(Some(numbers))
 }
 
-/// Whether the clauses and the flags of the atoms are little beside the actions.
-fn is_worth_a_look(task: &Task, clauses: &Clauses, value: bool) -> bool {
-    let most = most_for(task);
+/// Whether the literals of the clauses and the flags of the atoms are at most so many.
+fn is_worth_a_look(task: &Task, clauses: &Clauses, value: bool, most: usize) -> bool {
     let flags = task.atoms() as usize / 16;
     flags <= most && cost_of(clauses, value, None, most - flags) <= most - flags
 }

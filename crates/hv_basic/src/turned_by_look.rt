@@ -89,11 +89,13 @@ fn flag_clause(clause: &[Literal], value: bool, adds: bool, flags: &mut Vec<bool
 }
 
 /// Sets the flag of the atom, if it has one.
-fn set_flag(flags: &mut Vec<bool>, atom: u32)
+pub(crate) fn set_flag(flags: &mut Vec<bool>, atom: u32)
     ensures size { length flags.new.items ≡ length flags.old.items }
     ensures kept { (other : ℕ) → flag_or_false flags.old.items other ≡ true
         → flag_or_false flags.new.items other ≡ true }
     ensures has { atom < length flags.old.items → flag_or_false flags.new.items atom ≡ true }
+    ensures only { (other : ℕ) → flag_or_false flags.new.items other ≡ true
+        → (flag_or_false flags.old.items other ≡ true) ⊎ (other ≡ atom) }
 {
     let place = atom as usize;
     if place < flags.len() {
@@ -113,7 +115,7 @@ fn has_flag(flags: &[bool], atoms: &[u32]) -> bool
     ensures { HaveFlag flags.now atoms.now → IsTrue result }
 {
     for atom in atoms {
-        if flag_at(flags, *atom) {
+        if flag_at(flags, *atom as usize) {
             return true;
         }
     }
@@ -121,10 +123,10 @@ fn has_flag(flags: &[bool], atoms: &[u32]) -> bool
 }
 
 /// The flag of the atom, if it has one.
-fn flag_at(flags: &[bool], atom: u32) -> bool
+pub(crate) fn flag_at(flags: &[bool], atom: usize) -> bool
     ensures { result ≡ flag_or_false flags.now atom }
 {
-    match flags.get(atom as usize) {
+    match flags.get(atom) {
         Some(flag) => *flag,
         None => false,
     }

@@ -16,10 +16,11 @@ use Rattle.hv_lines.specs.declared.line.Word.{Word}
 use Rattle.hv_lines.specs.Setting.{Setting}
 use Rattle.hv_lines.specs.Verdicts.{IsVerdictOfSets}
 use Rattle.hv_lines.specs.declared.verdict.Verdict.{Verdict}
-use Rattle.hv_basic.specs.Sharing.{AreEnoughFor, AreItsLeaves, AreWays, NamesLiteral}
+use Rattle.hv_basic.specs.Leaves.{places}
+use Rattle.hv_basic.specs.Sharing.{AreEnoughFor, AreItsLeaves, AreWays, HasLeaf, NamesLiteral}
 use Rattle.hv_basic.specs.Sharing.{clauses_to_choose, own_clauses}
 use Rattle.hv_basic.specs.Working.Asked.{AreOperands}
-use Rattle.hv_basic.specs.Working.Gathered.{IsFamilyIn}
+use Rattle.hv_basic.specs.Working.Gathered.{AreGathered, IsFamilyIn}
 use Rattle.hv_basic.specs.Working.Views.{question_of}
 use Rattle.hv_basic.specs.declared.signed_sets.Asking.{Asking}
 use Rattle.hv_basic.specs.declared.shared.Kept.{Kept}
@@ -49,25 +50,25 @@ IsPlaceFor asked set place =
     (place ≤ length asked) × ((k : ℕ) (d : ℕ × Bool) → k < place → (slice_index_or asked k d).0 < set)
     × ((k : ℕ) (d : ℕ × Bool) → place ≤ k → k < length asked → set < (slice_index_or asked k d).0)
 
--- the set was added to what is asked about
-abbrev pub IsAddedTo : Bool → ℕ → Askings → Askings → Type 0
-IsAddedTo after set old new =
-    (other : ℕ) → Contains new (other, after) ↔ (Contains old (other, after) ⊎ (set ≡ other))
+-- the leaf was added to what is kept
+abbrev pub IsAddedTo : ℕ → Kept → Kept → Type 0
+IsAddedTo leaf old new =
+    (other : ℕ) → HasLeaf new other ↔ (HasLeaf old other ⊎ (leaf ≡ other))
 
 -- the ways that there are with one more set, where they are told
 abbrev pub AreWaysWith : Option ℕ → Expr → Option ℕ → Type 0
 AreWaysWith before expr ways = IfSome ways (λ new. (old : ℕ) × (count : ℕ) × (before ≡ Some old)
     × (clauses_to_choose expr ≡ Some count) × (new ≡ count * old))
 
--- the leaves were added to what is asked about
-abbrev pub AreAddedTo : Bool → List ℕ → Askings → Askings → Type 0
-AreAddedTo after leaves old new =
-    (leaf : ℕ) → Contains new (leaf, after) ↔ (Contains old (leaf, after) ⊎ Contains leaves leaf)
+-- the leaves were added to what is kept
+abbrev pub AreAddedTo : List ℕ → Kept → Kept → Type 0
+AreAddedTo leaves old new =
+    (leaf : ℕ) → HasLeaf new leaf ↔ (HasLeaf old leaf ⊎ Contains leaves leaf)
 
 -- the union's leaves are those that are kept and those of the part
 abbrev pub IsMadeOf : List Line → Kept → ℕ → ℕ → Type 0
 IsMadeOf lines kept root part = (leaf : ℕ) → IsOrLeaf lines root leaf
-    ↔ (Contains kept.question.negative.items (leaf, kept.after) ⊎ IsOrLeaf lines part leaf)
+    ↔ (HasLeaf kept leaf ⊎ IsOrLeaf lines part leaf)
 
 -- the set is the union of what is kept and this part
 abbrev pub IsPartBeside : List Line → Option ℕ → ℕ → ℕ → Type 0
@@ -96,6 +97,11 @@ IsFamilyBeside lines askings None family = IsFamilyIn lines askings family
 IsFamilyBeside lines askings (Some kept) family =
     (family ≡ kept)
     × ((asking : Asking) → Contains askings asking → IsWithinFamily lines family asking.set)
+
+-- these are asked about by the left side, or by the negations that are kept
+abbrev pub AreAskedBeside : List Line → Kept → List Asking → List Asking → Type 0
+AreAskedBeside lines kept asked all =
+    AreGathered lines (places kept.negations.items) false kept.after asked all
 
 -- the operands ask about the right side, where they are named
 abbrev pub AreNamed : List Line → Kept → Type 0

@@ -8,8 +8,7 @@ use Rattle.hv_basic.proofs.rights.add_all.Given as goal
 abbrev pub invariant-loop-count : goal.invariant-loop-count
 invariant-loop-count l = record {
   side : IsPlainSide (lines_in l.case) l.kept;
-  added : AreAddedTo l.fn.kept.after (drop (length (places l.leaves) - l.count) (places l.leaves))
-      l.fn.kept.question.negative.items l.kept.question.negative.items;
+  added : AreAddedTo (drop (length (places l.leaves) - l.count) (places l.leaves)) l.fn.kept l.kept;
   root : l.kept.root ≡ l.fn.kept.root;
   after : l.kept.after ≡ l.fn.kept.after;
 }

@@ -1,6 +1,4 @@
-use Rattle.std.proofs.Common.{◌↔◌, ℕ, subst, sym}
-use Rattle.std.specs.List.{Contains}
-use Rattle.hv_lines.specs.Shapes.{IsOrLeaf}
+use Rattle.std.proofs.Common.{subst}
 use Rattle.hv_basic.specs.Cases.{lines_in}
 use Rattle.hv_basic.specs.Leaves.{places}
 use Rattle.hv_basic.specs.Working.Sharing.{AreAddedTo}
@@ -15,16 +13,13 @@ returns-clause-kept c = record {
         plain = side.plain;
         ways = side.ways;
         enough = side.enough;
+        negations = side.negations;
         named = side.named;
       };
   leaves =
-      subst (λ b. (leaf : ℕ)
-      → Contains c.add_all.new.kept.question.negative.items (leaf, b)
-      ↔ IsOrLeaf (lines_in c.args.case.now) c.args.root leaf) (sym c.add_all.ensures.after)
-      (kept_for (lines_in c.args.case.now) c.args.root c.args.part c.args.kept.now.after
-      (places c.in_ok-leaves.leaves.items) c.args.kept.now.question.negative.items
-      c.add_all.new.kept.question.negative.items c.requires.made c.in_ok-leaves.ensures.leaves
-      (subst (λ ls. AreAddedTo c.args.kept.now.after (places ls) c.args.kept.now.question.negative.items
-      c.add_all.new.kept.question.negative.items) c.deref.ensures.value
-      (c.in_ok-add_all.ensures.added c.if-not-branch.false)));
+      kept_for (lines_in c.args.case.now) c.args.root c.args.part
+      (places c.in_ok-leaves.leaves.items) c.args.kept.now c.add_all.new.kept c.requires.made
+      c.in_ok-leaves.ensures.leaves
+      (subst (λ ls. AreAddedTo (places ls) c.args.kept.now c.add_all.new.kept)
+      c.deref.ensures.value (c.in_ok-add_all.ensures.added c.if-not-branch.false));
 }
