@@ -27,7 +27,7 @@ use hv_task::Task;
 use std::alloc::{AllocError, Global};
 use std::marker::Model;
 
-/// The most lines that a draft has, the spare ones included.
+/// A bound on the lines of a draft, the spare ones included. A table has room for fewer.
 const MOST_LINES: usize = 576460752303423488;
 
 /// A proof that is written line by line: each line is good after those before it, without a node
@@ -65,8 +65,8 @@ impl Draft {
         Ok(Draft { table, spare: 0 })
     }
 
-    /// Takes the memory for so many further lines. Where the lines and these would be more than
-    /// 2^59, it answers out of memory.
+    /// Takes the memory for so many further lines. Where the table has no room for that many in all,
+    /// it answers out of memory.
     pub fn reserve(&mut self, lines: usize) -> Result<(), AllocError>
         ensures spare { OnOk result (lines ≤ self.new.spare) }
         ensures more { self.old.spare ≤ self.new.spare }

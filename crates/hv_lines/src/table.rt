@@ -66,7 +66,8 @@ impl Table {
         }
     }
 
-    /// Takes the memory for so many further lines. There is none for more than 4,294,967,296 in all.
+    /// Takes the memory for so many further lines. There is none for more than 4,294,967,296 in
+    /// all.
     pub fn reserve(&mut self, lines: usize) -> Result<(), AllocError>
         ensures room { OnOk result (lines ≤ self.new.room) }
         ensures more { self.old.room ≤ self.new.room }
