@@ -16,10 +16,11 @@ use Rattle.hv_task.specs.State.{has_atom}
 use Rattle.hv_sets.specs.declared.finding.Finding.TheVariants as F
 use Rattle.hv_bdd.specs.Live.{moves, roots}
 use Rattle.hv_bdd.specs.Nodes.{NodeList}
-use Rattle.hv_bdd.specs.Tuples.{IsReached, if_live, least, next}
+use Rattle.hv_bdd.specs.Tuples.{IsReached, TuplesPass, if_live, least, next}
 use Rattle.hv_bdd.specs.Working.Graphs.{IsLiveAnswer, Suits, in_asked}
 use Rattle.hv_bdd.specs.Working.Search.{IsTupleSearch, TupleSearch}
-use Rattle.hv_bdd.specs.Working.Sweeping.{IsSweptPlace, IsTupleAdded, SweptSoFar, asking_for}
+use Rattle.hv_bdd.specs.Working.Sweeping.{AreMany, IsSweptPlace, IsTupleAdded, SweptSoFar}
+use Rattle.hv_bdd.specs.Working.Sweeping.{asking_for}
 use Rattle.hv_bdd.specs.Working.Untouched.{FindNothing, IsKeptTruly, IsKeptTrulyFor, MarksNone}
 use Rattle.hv_bdd.specs.declared.untouched.Untouched.{Untouched}
 use Rattle.hv_bdd.proofs.Alike.{askable_same, by_marks, if_live_same, least_same, next_same}
@@ -27,7 +28,7 @@ use Rattle.hv_bdd.proofs.Alike.{roots_same}
 use Rattle.hv_bdd.proofs.Explored.{few_hold, items}
 use Rattle.hv_bdd.proofs.Moved.{complete_from, reached_in}
 use Rattle.hv_bdd.proofs.Swept.{added_all, added_differ, added_new, all_gone, count_asking}
-use Rattle.hv_bdd.proofs.Swept.{map_items, place_passed}
+use Rattle.hv_bdd.proofs.Swept.{map_items, place_over, place_passed}
 use Rattle.hv_bdd.proofs.Tupled.{lim, roots_nodes, truths}
 
 -- where all that are reached are among tuples of which none ends, no state suits the operands
@@ -132,6 +133,23 @@ place_done s count places places' keys later tops v n so within read upto great 
     (All-map (λ x. w ≤ x) at (items keys) all)))
     passed pushed
     (is ∙ (ap (λ l. length (filter (λ x. eqb x v) l)) tops_are ∙ count_asking at v (items keys)))
+
+-- more are reached than are left
+pub place_many : (s : TupleSearch) (count left : ℕ) (places : List ℕ) (keys : List (SmallVec ℕ))
+    (later : List (List ℕ)) (tops : List ℕ) (v : ℕ) → SweptSoFar s count places (items keys)
+    → tops ≡ map (λ (t : SmallVec ℕ). least (moves s.setting) s.asked t.items) keys
+    → ((w : ℕ) → w ≤ s.setting.list.atoms → All (λ x. w ≤ x) tops → w ≤ v)
+    → AreMany (moves s.setting) s.asked (roots s.setting s.asked) v left later
+    → TuplesPass (moves s.setting) s.asked (roots s.setting s.asked) (count + left)
+place_many s count left places keys later tops v so read great are =
+    let at : List ℕ → ℕ = least (moves s.setting) s.asked in
+    let root = roots s.setting s.asked in
+    let past = great so.from so.upto (subst (All (λ x. so.from ≤ x))
+    (sym (read ∙ map_items at keys))
+    (All-map (λ x. so.from ≤ x) at (items keys) so.swept.upto)) in
+    subst (λ n. TuplesPass (moves s.setting) s.asked root (n + left)) so.size
+    (place_over (moves s.setting) s.asked root so.from so.gone (items keys) so.swept v left later
+    past are)
 
 -- no more of them than wait
 pub few_ask : (s : TupleSearch) (keys : List (SmallVec ℕ)) (tops : List ℕ) (v n : ℕ)

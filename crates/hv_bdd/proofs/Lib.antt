@@ -35,3 +35,4 @@ pub mod Advanced
 pub mod Along
 pub mod Jumped
 pub mod Alike
+pub mod Moving

@@ -16,7 +16,8 @@ use Rattle.std.specs.List.{All, Contains, filter}
 use Rattle.smallvec.specs.SmallVec.{SmallVec}
 use Rattle.hv_bdd.specs.Tuples.{IsReached, Moves, TuplesPass, least, next}
 use Rattle.hv_bdd.specs.Working.Search.{tuple_at}
-use Rattle.hv_bdd.specs.Working.Sweeping.{IsSwept, IsSweptPlace, IsTupleAdded, TuplesDiffer}
+use Rattle.hv_bdd.specs.Working.Sweeping.{AreMany, IsSwept, IsSweptPlace, IsTupleAdded}
+use Rattle.hv_bdd.specs.Working.Sweeping.{TuplesDiffer}
 use Rattle.hv_bdd.specs.Working.Sweeping.{asking_for}
 use Rattle.hv_bdd.proofs.Moved.{reached_in, reached_next}
 
@@ -300,30 +301,48 @@ module _ {O : Type 0} (m : Moves O) (os : List O) (root : List ℕ) where
             ];
       }
 
-    apart : (t : List ℕ) → Contains gone t → Contains waiting t → ⊥
-    apart t old new =
+    before_later : (v : ℕ) (later : List (List ℕ)) → from ≤ v → All (λ t. v ≤ at t) later
+        → (t : List ℕ) → Contains gone t → Contains later t → ⊥
+    before_later v later past upto t old new =
         let before = All-contains (λ x. at x < from) gone t swept.before old in
-        let upto = All-contains (λ x. from ≤ at x) waiting t swept.upto new in
+        let less = All-contains (λ x. v ≤ at x) later t upto new in
         absurd (omega arith)
+
+    -- more than the budget are gone or ask for no place before one
+    over_by : (v : ℕ) (later : List (List ℕ)) → from ≤ v → All Reached later → TuplesDiffer later
+        → All (λ t. v ≤ at t) later → (budget : ℕ) → budget < length gone + length later
+        → TuplesPass m os root budget
+    over_by v later past reached differ upto budget over =
+        let all = gone ++ later in
+        let count = length-append gone later in
+        let size = length-take-le (budget + 1) all (omega arith) in (
+          take (budget + 1) all,
+          size,
+          All-take Reached (budget + 1) all
+              (All-append Reached gone later swept.gone_reached reached),
+          λ i j less within same.
+              differ_at all
+              (differ_append gone later swept.gone_differ differ (before_later v later past upto))
+              i j less (omega arith)
+              (sym (get_or-take (budget + 1) all i [] (omega arith))
+              ∙ (same ∙ get_or-take (budget + 1) all j [] (omega arith))),
+        )
 
     -- more than the budget are gone or wait
     pub sweep_over : (budget : ℕ) → budget < length gone + length waiting
         → TuplesPass m os root budget
     sweep_over budget over =
-        let all = gone ++ waiting in
-        let count = length-append gone waiting in
-        let size = length-take-le (budget + 1) all (omega arith) in (
-          take (budget + 1) all,
-          size,
-          All-take Reached (budget + 1) all
-              (All-append Reached gone waiting swept.gone_reached swept.waiting_reached),
-          λ i j less within same.
-              differ_at all
-              (differ_append gone waiting swept.gone_differ swept.waiting_differ apart) i j less
-              (omega arith)
-              (sym (get_or-take (budget + 1) all i [] (omega arith))
-              ∙ (same ∙ get_or-take (budget + 1) all j [] (omega arith))),
-        )
+        over_by from waiting (omega arith) swept.waiting_reached swept.waiting_differ swept.upto
+        budget over
+
+    -- more than the budget are gone or wait for later places
+    pub place_over : (v most : ℕ) (later : List (List ℕ)) → from ≤ v
+        → AreMany m os root v most later → TuplesPass m os root (length gone + most)
+    place_over v most later past are =
+        let many = are.many in
+        over_by v later past are.reached are.differ
+        (All-weaker (λ t. v < at t) (λ t. v ≤ at t) (λ t less. omega arith) later are.after)
+        (length gone + most) (omega arith)
 
   -- where none waits, all that are reached are gone
   pub all_gone : (from : ℕ) (gone : List (List ℕ)) → IsSwept m os root from gone []

@@ -6,6 +6,7 @@ ghost use Rattle.hv_sets.specs.Cost.{IsAnswer};
 ghost use Rattle.hv_sets.specs.Query.{IsReady, action_of, is_clash};
 ghost use Rattle.hv_bdd.specs.Nodes.{in_node, node_count};
 ghost use Rattle.hv_bdd.specs.Live.{LivePass, asked_of, changed_by, needed_by, operands_of};
+ghost use Rattle.hv_bdd.specs.Reduced.{IsReduced};
 ghost use Rattle.hv_bdd.specs.Working.Search.{active, is_idle};
 
 use crate::asked::Asked;
@@ -61,6 +62,7 @@ impl Search<'_> {
         requires ready { IsReady (node_count self.old.setting.list) query.now }
         requires query { self.old ≡ search_for self.old.setting.list task.now query.now }
         requires is_task { IsTask task.now }
+        requires reduced { IsReduced self.old.setting.list }
         requires task { self.old.setting.list.atoms ≡ atoms task.now }
         requires state { length state.old ≡ atoms task.now }
         requires known { IsKeptTrulyFor self.old known.old }

@@ -4,10 +4,11 @@
 //! are answered so, and only the tuples of a few places take room at a time.
 //!
 //! Where one ends, a state is asked for, so the search through all of them is made (`reach.rt`); and
-//! so it is where too many wait for later places while others move.
+//! so it is where too many wait for later places while others move. The next searches for the same
+//! operands begin with it then.
 
 ghost use Rattle.std.specs.Prelude.{◌≡◌, ◌<◌, ◌≤◌, ◌+◌, ◌++◌, ◌∷◌, ℕ, List, [], length, map, true};
-ghost use Rattle.std.specs.Prelude.{option_map, filter, nat_eq, IfOk, IfSome, OnOk};
+ghost use Rattle.std.specs.Prelude.{option_map, filter, nat_eq, false, IfOk, OnOk};
 ghost use Rattle.std.specs.List.{All};
 ghost use Rattle.hv_bdd.specs.Live.{moves, roots};
 ghost use Rattle.hv_bdd.specs.Tuples.{IsReached, least};
@@ -25,9 +26,19 @@ pub(crate) enum Swept {
     /// More tuples than the budget are reached.
     Over,
     /// So many are reached, and none of them ends.
-    Nothing(usize),
-    /// Nothing.
-    Open,
+    NoneEnds(usize),
+    /// It isn't found out: one ends, or too many wait.
+    Unsettled,
+}
+
+/// What the sweep comes to at one place.
+pub(crate) enum PlacePass {
+    /// So many tuples moved.
+    Moved(usize),
+    /// More are reached than are left of the budget.
+    Over,
+    /// It isn't found out: one ends, or too many wait.
+    Unsettled,
 }
 
 /// The tuples that wait to move, and the places for which those asked that are gone.
@@ -39,6 +50,10 @@ pub(crate) struct WaitingTuples {
     /// The places for which the tuples ask.
     pub tops: Vec<u32>,
     pub places: Vec<u32>,
+    /// How many moved in the last sweep. Only how long a query takes hangs on it.
+    pub moved: usize,
+    /// Whether too many waited in it.
+    pub crowded: bool,
 }
 
 impl WaitingTuples {
@@ -49,13 +64,16 @@ impl WaitingTuples {
             later: IndexSet::new(alloc),
             tops: Vec::new(alloc),
             places: Vec::new(alloc),
+            moved: 0,
+            crowded: false,
         }
     }
 }
 
 impl Search<'_> {
     ghost use Rattle.hv_bdd.specs.Working.Search.{AreMarksOf, IsTuple, IsTupleSearch};
-    ghost use Rattle.hv_bdd.specs.Working.Sweeping.{IsSweepAnswer, IsSweptPlace, SweptSoFar};
+    ghost use Rattle.hv_bdd.specs.Working.Sweeping.{AreMany, IsPlacePass, IsSweepAnswer, IsSweptPlace};
+    ghost use Rattle.hv_bdd.specs.Working.Sweeping.{SweptSoFar};
 
     /// Goes through the live tuples place by place.
     pub(crate) fn sweep(
@@ -70,20 +88,22 @@ impl Search<'_> {
     {
         self.begin(alloc, waiting)?;
         let mut left = budget;
-        let mut credit = 4096;
+        let mut credit = 1024;
+        // Each place is later than the one before, so there are no more of them.
         for _ in 0..u64::from(self.atoms()) + 1 {
             if waiting.here.len() as u64 > left {
                 return Ok(Swept::Over);
             }
             if waiting.here.len() == 0 {
-                return Ok(Swept::Nothing((budget - left) as usize));
+                return Ok(Swept::NoneEnds((budget - left) as usize));
             }
-            let Some(moved) = self.pass_place(alloc, left, waiting, &mut credit)? else {
-                return Ok(Swept::Open);
-            };
-            left -= moved as u64;
+            match self.pass_place(alloc, left, waiting, &mut credit)? {
+                PlacePass::Moved(moved) => left -= moved as u64,
+                PlacePass::Over => return Ok(Swept::Over),
+                PlacePass::Unsettled => return Ok(Swept::Unsettled),
+            }
         }
-        Ok(Swept::Open)
+        Ok(Swept::Unsettled)
     }
 
     // Lets the tuple of the roots wait, if it is live, and no other.
@@ -91,46 +111,50 @@ impl Search<'_> {
         ensures { OnOk result (SweptSoFar self.now 0 waiting.new.places.items
             (tuples_of waiting.new.here)) }
     {
-        empty(alloc, &mut waiting.here, 0);
+        empty(alloc, &mut waiting.here, waiting.moved);
         waiting.places.clear();
+        waiting.moved = 0;
+        waiting.crowded = false;
         let root = self.live_root(alloc)?;
         add(&mut waiting.here, root)?;
         Ok(())
     }
 
-    // Lets the tuples move that ask for the least place. The answer is how many these are, or none
-    // where they end, or too many others wait, or more are reached than are left of the budget.
+    // Lets the tuples move that ask for the least place.
     fn pass_place(
         &mut self,
         alloc: Global,
         left: u64,
         waiting: &mut WaitingTuples,
         credit: &mut usize,
-    ) -> Result<Option<usize>, AllocError>
+    ) -> Result<PlacePass, AllocError>
         requires swept { (count : ℕ) × SweptSoFar self.old count waiting.old.places.items
             (tuples_of waiting.old.here) }
-        ensures swept { IfOk result (λ moved. IfSome moved (λ n. (count : ℕ)
-            → SweptSoFar self.old count waiting.old.places.items (tuples_of waiting.old.here)
-            → SweptSoFar self.old (count + n) waiting.new.places.items
-            (tuples_of waiting.new.here))) }
-        ensures few { IfOk result (λ moved. IfSome moved (λ n. n ≤ length waiting.old.here.keys)) }
+        ensures passed { IfOk result (IsPlacePass self.old left waiting.old.places.items
+            (tuples_of waiting.old.here) waiting.new.places.items (tuples_of waiting.new.here)) }
         ensures same { self.new ≡ self.old }
     {
         let place = self.read_tops(waiting.here.as_slice(), &mut waiting.tops)?;
         let moved = count_of(waiting.tops.as_slice(), place);
-        if place >= self.atoms() || !may_wait(credit, moved, waiting.tops.len()) {
-            return Ok(None);
+        if place >= self.atoms() {
+            return Ok(PlacePass::Unsettled);
+        }
+        let all = waiting.tops.len();
+        waiting.moved = waiting.moved.saturating_add(moved);
+        waiting.crowded = !may_wait(credit, self.operands(), moved, all);
+        if waiting.crowded {
+            return Ok(PlacePass::Unsettled);
         }
         self.count_all(alloc, place, moved)?;
-        empty(alloc, &mut waiting.later, moved);
+        empty(alloc, &mut waiting.later, all);
         let here = waiting.here.as_slice();
         let tops = waiting.tops.as_slice();
         if !self.pass(alloc, left, place, here, tops, &mut waiting.later)? {
-            return Ok(None);
+            return Ok(PlacePass::Over);
         }
         mem::swap(&mut waiting.here, &mut waiting.later);
         waiting.places.push(place)?;
-        Ok(Some(moved))
+        Ok(PlacePass::Moved(moved))
     }
 
     // Writes the places for which the tuples ask. The answer is the least of them.
@@ -184,10 +208,13 @@ impl Search<'_> {
             ≡ map (λ t. least (moves self.now.setting) self.now.asked t.items) tuples.now }
         requires least { All (λ v. place ≤ v) tops.now }
         requires none { later.old.keys ≡ [] }
-        ensures { IfOk result (λ all. all ≡ true
+        ensures all { IfOk result (λ all. all ≡ true
             → IsSweptPlace (moves self.now.setting) self.now.asked
             (roots self.now.setting self.now.asked) place (map (λ t. t.items) tuples.now)
             (tuples_of later.new)) }
+        ensures many { IfOk result (λ all. all ≡ false
+            → AreMany (moves self.now.setting) self.now.asked
+            (roots self.now.setting self.now.asked) place most (tuples_of later.new)) }
     {
         let marks = self.marks_at(place, PlaceMarks::none(self.atoms()));
         for k in 0..tuples.len() {
@@ -272,11 +299,12 @@ fn count_of(places: &[u32], place: u32) -> usize
     count
 }
 
-// Whether those that wait aren't too many, beside all that moved so far: each that moves gives credit
-// for two. Only how long a query takes hangs on it.
-fn may_wait(credit: &mut usize, moved: usize, all: usize) -> bool {
-    *credit = credit.saturating_add(moved).saturating_add(moved);
-    let waiting = all.saturating_sub(moved);
+// Whether those that wait aren't too many, beside all that moved so far, each by the nodes that it
+// has: each that moves gives credit for two. Only how long a query takes hangs on it.
+fn may_wait(credit: &mut usize, nodes: usize, moved: usize, all: usize) -> bool {
+    let given = moved.saturating_mul(nodes).saturating_mul(2);
+    *credit = credit.saturating_add(given);
+    let waiting = all.saturating_sub(moved).saturating_mul(nodes);
     if waiting > *credit {
         return false;
     }

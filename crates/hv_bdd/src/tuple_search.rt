@@ -165,6 +165,11 @@ impl<'a> Search<'a> {
         self.nodes.count()
     }
 
+    /// How many operands are asked, each of which has a node in a tuple.
+    pub(crate) fn operands(&self) -> usize {
+        self.asked.len()
+    }
+
     /// The atom at a place.
     pub(crate) fn atom_at(&self, place: u32) -> u32
         requires { place < self.now.setting.list.atoms }
@@ -446,6 +451,9 @@ impl Search<'_> {
             ≡ if_live (moves self.now.setting) self.now.asked
             (move_all (moves self.now.setting) marks.now.place bit self.now.asked tuple.now)) }
     {
+        if tuple.len() > 8 {
+            return self.move_many(alloc, tuple, marks, bit);
+        }
         let mut moved = SmallVec::new(alloc);
         for (k, node) in tuple.iter().enumerate() {
             let asked = self.operand(k);
@@ -458,7 +466,64 @@ impl Search<'_> {
         Ok(Some(moved))
     }
 
+    // The same for a tuple of many operands: it takes room only where it leads to a live one.
+    fn move_many(
+        &self,
+        alloc: Global,
+        tuple: &[u32],
+        marks: &PlaceMarks,
+        bit: bool,
+    ) -> Result<Option<Tuple>, AllocError>
+        requires tuple { IsTuple self.now tuple.now }
+        requires place { marks.now.place < self.now.setting.list.atoms }
+        requires marks { AreMarksOf self.now.setting marks.now }
+        ensures { IfOk result (λ to.
+            option_map (λ t. t.items) to
+            ≡ if_live (moves self.now.setting) self.now.asked
+            (move_all (moves self.now.setting) marks.now.place bit self.now.asked tuple.now)) }
+    {
+        if !self.stays_live(tuple, marks, bit) {
+            return Ok(None);
+        }
+        let mut moved = SmallVec::from_slice(alloc, tuple)?;
+        self.move_each(moved.as_mut_slice(), marks, bit);
+        Ok(Some(moved))
+    }
+
+    // Whether the tuple to which a bit at a place leads is live.
+    fn stays_live(&self, tuple: &[u32], marks: &PlaceMarks, bit: bool) -> bool
+        requires tuple { IsTuple self.now tuple.now }
+        requires place { marks.now.place < self.now.setting.list.atoms }
+        requires marks { AreMarksOf self.now.setting marks.now }
+        ensures { result
+            ≡ is_live (moves self.now.setting) self.now.asked
+            (move_all (moves self.now.setting) marks.now.place bit self.now.asked tuple.now) }
+    {
+        for (k, node) in tuple.iter().enumerate() {
+            let asked = self.operand(k);
+            if self.move_one(asked, *node, marks, bit) == ruled_out(asked.positive) {
+                return false;
+            }
+        }
+        true
+    }
+
+    // Moves each node of a tuple by a bit at a place.
+    #[tactic(auto, using(crate::proofs::Moving::moved_more))]
+    fn move_each(&self, tuple: &mut [u32], marks: &PlaceMarks, bit: bool)
+        requires tuple { IsTuple self.now tuple.old }
+        requires place { marks.now.place < self.now.setting.list.atoms }
+        requires marks { AreMarksOf self.now.setting marks.now }
+        ensures { tuple.new
+            ≡ move_all (moves self.now.setting) marks.now.place bit self.now.asked tuple.old }
+    {
+        for k in 0..tuple.len() {
+            tuple[k] = self.move_one(self.operand(k), tuple[k], marks, bit);
+        }
+    }
+
     // The node to which a bit at a place leads.
+    #[tactic(auto, using(crate::proofs::Graphs::graph_outer))]
     fn move_one(&self, asked: &Asked, node: u32, marks: &PlaceMarks, bit: bool) -> u32
         requires askable { IsAskable self.now.setting asked.now.which }
         requires node { node < limit self.now.setting asked.now.which }
@@ -466,6 +531,9 @@ impl Search<'_> {
         requires marks { AreMarksOf self.now.setting marks.now }
         ensures { result ≡ move_one (moves self.now.setting) marks.now.place bit asked.now node }
     {
+        if node < 2 {
+            return node;
+        }
         let seen = self.seen(marks, asked.after, bit);
         match asked.which {
             Which::Set(_) => self.nodes.moved(node, marks.place, seen),
@@ -474,6 +542,7 @@ impl Search<'_> {
     }
 
     // The same in a graph that is a chain, with the bit that the operand sees.
+    #[inline(never)]
     fn move_chain(&self, which: Which, node: u32, place: u32, bit: bool) -> u32
         requires askable { IsAskable self.now.setting which }
         requires node { node < limit self.now.setting which }

@@ -29,6 +29,9 @@ pub(crate) struct Untouched {
     pub places: State,
     /// How many tuples each of them reaches, where it is known that no state suits the operands.
     pub count: Option<usize>,
+    /// Whether too many tuples waited in a sweep, so that the next search makes none. Only how long
+    /// a query takes hangs on it.
+    pub crowded: bool,
 }
 
 impl Untouched {
@@ -45,6 +48,7 @@ impl Untouched {
             asked: own,
             places,
             count: None,
+            crowded: false,
         })
     }
 
@@ -132,6 +136,14 @@ pub(crate) fn is_fruitless(
     }
 }
 
+// Whether too many tuples waited in a sweep for these operands.
+fn is_crowded(known: &Option<Untouched>) -> bool {
+    match known {
+        None => false,
+        Some(known) => known.crowded,
+    }
+}
+
 // How many marks of an action are looked at in the place of a search that reaches so many tuples.
 fn most_for(tuples: usize) -> usize {
     tuples.saturating_mul(16).saturating_add(16)
@@ -149,7 +161,7 @@ fn note_places(list: &[u32], places: &mut State)
 }
 
 impl Search<'_> {
-    ghost use Rattle.hv_bdd.specs.Working.Search.{Explored, IsDone, IsTupleSearch};
+    ghost use Rattle.hv_bdd.specs.Working.Search.{Explored, IsDone};
     ghost use Rattle.hv_bdd.specs.Working.Sweeping.{SweptSoFar};
     ghost use Rattle.hv_bdd.specs.Working.Untouched.{AsksAmong, IsKeptTrulyFor};
 
@@ -166,21 +178,34 @@ impl Search<'_> {
         requires known { IsKeptTrulyFor self.old known.old }
         ensures answer { IfOk result (λ found.
             IsLiveAnswer found self.old.setting self.old.asked budget state.new) }
-        ensures search { IsTupleSearch self.old }
         ensures same { self.new ≡ self.old }
         ensures known { OnOk result (IsKeptTrulyFor self.old known.new) }
     {
-        let _atoms = self.atoms();
+        if is_crowded(known) {
+            return self.find_among_all(alloc, budget, state, known);
+        }
         match self.sweep(alloc, budget, waiting)? {
             Swept::Over => Ok(Finding::Over),
-            Swept::Nothing(count) => {
+            Swept::NoneEnds(count) => {
                 self.keep_swept(count, waiting.places.as_slice(), known);
                 Ok(Finding::Empty)
             }
-            Swept::Open => {
+            Swept::Unsettled => {
+                self.keep_crowded(waiting.crowded, known);
                 *waiting = WaitingTuples::none(alloc);
                 self.find_among_all(alloc, budget, state, known)
             }
+        }
+    }
+
+    // Keeps whether too many waited.
+    fn keep_crowded(&self, crowded: bool, known: &mut Option<Untouched>)
+        requires { IsKeptTrulyFor self.now known.old }
+        ensures { IsKeptTrulyFor self.now known.new }
+    {
+        match known {
+            None => {}
+            Some(known) => known.crowded = crowded,
         }
     }
 

@@ -1,7 +1,10 @@
 -- The sweep through live tuples, place by place.
-use Rattle.std.specs.Prelude.{◌≡◌, ◌<◌, ◌≤◌, ◌++◌, ◌⊎◌, ℕ, Bool, List, [], ◌∷◌, Option, None}
+use Rattle.std.specs.Prelude.{◌≡◌, ◌<◌, ◌≤◌, ◌+◌, ◌++◌, ◌⊎◌, ℕ, Bool, List, [], ◌∷◌, Option}
+use Rattle.std.specs.Prelude.{None}
 use Rattle.std.specs.Prelude.{Some, length, ⊤, filter, nat_eq}
 use Rattle.std.specs.List.{All, Contains}
+use Rattle.hv_bdd.specs.declared.place_sweep.PlacePass.{PlacePass}
+use Rattle.hv_bdd.specs.declared.place_sweep.PlacePass.TheVariants as P
 use Rattle.hv_bdd.specs.declared.place_sweep.Swept.{Swept}
 use Rattle.hv_bdd.specs.declared.place_sweep.Swept.TheVariants as S
 use Rattle.hv_bdd.specs.Live.{moves, roots}
@@ -48,6 +51,13 @@ module _ {O : Type 0} (m : Moves O) (os : List O) (root : List ℕ) where
         → next m os t bit ≡ Some u → Contains later u
     pub kept : (t : List ℕ) → Contains tuples t → v < least m os t → Contains later t
 
+  -- these tuples, which are more than so many, are reached and ask for later places than this one
+  pub record AreMany (v most : ℕ) (later : List (List ℕ)) : Type 0 where
+    pub reached : All (IsReached m os root) later
+    pub differ : TuplesDiffer later
+    pub after : All (λ t. v < least m os t) later
+    pub many : most < length later
+
 -- so many tuples are gone, which asked for these places, and these ones wait
 pub record SweptSoFar (s : TupleSearch) (count : ℕ) (places : List ℕ) (waiting : List (List ℕ)) :
     Type 0 where
@@ -60,11 +70,23 @@ pub record SweptSoFar (s : TupleSearch) (count : ℕ) (places : List ℕ) (waiti
   pub asked_for : All (λ t. Contains places (least (moves s.setting) s.asked t)) gone
   pub within : All (λ v. v < s.setting.list.atoms) places
 
+-- what a sweep comes to at one place, where so many tuples may still be reached: so many have moved,
+-- or more are reached, or it isn't found out
+abbrev pub IsPlacePass : TupleSearch → ℕ → List ℕ → List (List ℕ) → List ℕ → List (List ℕ) → PlacePass
+    → Type 0
+IsPlacePass s left places here places' here' (P.Moved n) =
+    (n ≤ length here) × ((count : ℕ) → SweptSoFar s count places here
+    → SweptSoFar s (count + n) places' here')
+IsPlacePass s left places here places' here' P.Over =
+    (count : ℕ) → SweptSoFar s count places here
+    → TuplesPass (moves s.setting) s.asked (roots s.setting s.asked) (count + left)
+IsPlacePass s left places here places' here' P.Unsettled = ⊤
+
 -- what a sweep finds out: more tuples than the budget are reached; or no more of them than so many,
--- none of which ends; or nothing
+-- none of which ends; or it isn't found out
 abbrev pub IsSweepAnswer : TupleSearch → ℕ → List ℕ → Swept → Type 0
 IsSweepAnswer s budget places S.Over =
     TuplesPass (moves s.setting) s.asked (roots s.setting s.asked) budget
-IsSweepAnswer s budget places (S.Nothing count) =
+IsSweepAnswer s budget places (S.NoneEnds count) =
     SweptSoFar s count places [] × (count ≤ budget)
-IsSweepAnswer s budget places S.Open = ⊤
+IsSweepAnswer s budget places S.Unsettled = ⊤

@@ -5,5 +5,5 @@ pub returns-clause-answer : goal.returns-clause-answer
 returns-clause-answer c =
     answer_is c.args.self.now.setting.list c.args.task.now c.args.query.now
     c.requires.is_task c.requires.task c.args.self.now c.requires.query
-    c.find_and_keep.ensures.search.reduced c.requires.ready
+    c.requires.reduced c.requires.ready
     c.find_and_keep.result c.args.budget c.find_and_keep.new.state c.find_and_keep.ensures.answer

@@ -1,4 +1,5 @@
-use Rattle.std.proofs.Common.{◌++◌, ◌∷◌, [], ◌∙◌, List, ℕ, ap, subst, sym, take}
+use Rattle.std.proofs.Common.{◌++◌, ◌∷◌, [], ◌∙◌, List, ℕ, ap, arith, subst, sym, take}
+use Rattle.std.proofs.lemmas.List.{length-map}
 use Rattle.smallvec.specs.SmallVec.{SmallVec}
 use Rattle.hv_bdd.specs.Live.{moves, roots}
 use Rattle.hv_bdd.specs.Tuples.{IsReached}
@@ -30,3 +31,16 @@ loop-k-preserved c =
     (c.in_ok-pass_on.ensures (take k ts)
     (subst (λ (v : ℕ). IsSweptPlace (moves s.setting) s.asked (roots s.setting s.asked) v
     (take k ts) (tuples_of c.loop-k.later)) (sym is) c.loop-k.invariant)))
+
+pub returns-then-len-most-clause-many : goal.returns-then-len-most-clause-many
+returns-then-len-most-clause-many c = λ all.
+    let passed = c.loop-k.invariant in
+    let len = c.len.ensures.len in
+    let size = length-map c.loop-k.later.keys (λ (v : SmallVec ℕ). v.items) in
+    let more = c.if-len-most.true in
+    record {
+      reached = passed.reached;
+      differ = passed.differ;
+      after = passed.after;
+      many = omega arith;
+    }
