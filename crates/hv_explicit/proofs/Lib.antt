@@ -12,4 +12,5 @@ pub mod Clashes
 pub mod Wider
 pub mod Holding
 pub mod Walked
+pub mod NoneApplies
 pub mod Merging

@@ -10,6 +10,7 @@ ghost use Rattle.hv_explicit.specs.ListedStates.{AreListsOver, in_set, states_li
 ghost use Rattle.hv_explicit.specs.Working.Owners.{IsOwned};
 
 use crate::explicit::Explicit;
+use crate::idle::is_idle;
 use crate::named_sets::NamedSets;
 use crate::sets_query::SetsQuery;
 use crate::sought::Sought;
@@ -123,6 +124,9 @@ impl Family for Explicits {
         budget: u64,
         scratch: &mut Scratch,
     ) -> Result<Finding, AllocError> {
+        if is_idle(task, self, query, budget) {
+            return Ok(Finding::Empty);
+        }
         scratch.reserve(task.atoms(), 0, 0)?;
         let search = SetsQuery::new(alloc, task, self, query)?;
         search.answer(alloc, budget, &mut scratch.state)

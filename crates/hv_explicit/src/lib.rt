@@ -14,6 +14,7 @@ pub mod explicit;
 pub mod explicits;
 mod firsts;
 mod holders;
+mod idle;
 mod named_sets;
 mod near;
 mod paths;

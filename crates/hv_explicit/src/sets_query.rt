@@ -7,8 +7,7 @@
 //! longer. Each of these costs the search for the precondition's atoms in its list, and then a
 //! look-up for each operand: the code of a result costs the effect, and a hit is compared atom by
 //! atom. With at most 64 atoms states are words, and all but the look-up are some steps on these
-//! (`action_bits`). The
-//! counterexample alone is written as a state.
+//! (`action_bits`). The counterexample alone is written as a state.
 
 ghost use Rattle.std.specs.Prelude.{◌≡◌, ◌<◌, ◌≤◌, ◌↔◌, ◌∷◌, ℕ, Bool, List, [], length, slice_index_or};
 ghost use Rattle.std.specs.Prelude.{slice_get, None, Some, false, true, IsTrue, IfOk, IfSome};
@@ -599,8 +598,9 @@ fn ask_before(operands: &[Operand]) -> bool
     false
 }
 
-// The first operand that can be the anchor, which has the least identifier, since identifiers rise.
-fn anchor_of(operands: &[Operand]) -> Option<Operand>
+/// The first operand that can be the anchor, which has the least identifier, since identifiers
+/// rise.
+pub(crate) fn anchor_of(operands: &[Operand]) -> Option<Operand>
     requires { Rises operands.now }
     ensures { MatchOption result ((o : Operand) → Contains operands.now o → CanAnchor o → ⊥)
         (λ o. IsAnchor operands.now o) }

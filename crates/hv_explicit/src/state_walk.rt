@@ -1,14 +1,20 @@
 //! The walk over listed states. It is at each as a state, and writes no cube.
 
 ghost use Rattle.std.specs.Prelude.{◌≡◌, ◌≤◌, ◌<◌, Bool, List, [], IfOk, drop, length};
+ghost use Rattle.std.specs.Prelude.{slice_index_or};
+ghost use Rattle.hv_task.specs.State.{AreBelow, put_all, state_of};
 ghost use Rattle.hv_sets.specs.Walks.{IsStateOf, in_cubes};
-ghost use Rattle.hv_explicit.specs.ListedStates.{full_cubes, in_listing};
-ghost use Rattle.hv_explicit.specs.Walked.{StandsAfter, path_at};
+ghost use Rattle.hv_explicit.specs.ListedStates.{AreStates, full_cubes, in_listing};
+ghost use Rattle.hv_explicit.specs.Walked.{StandsAfter, last_atoms, path_at};
 
 use crate::explicit::Explicit;
 use hv_paths::{WalkStop, Walker};
+use hv_sets::StateList;
 use hv_task::State;
 use std::alloc::{AllocError, Global};
+
+// With fewer atoms a state is written anew for each step.
+const WIDE: u32 = 1024;
 
 /// The walk over the states of an explicit set, in order.
 #[derive(Drop)]
@@ -51,7 +57,7 @@ impl<'a> Walker for StateWalk<'a> {
         if self.taken >= states.len() {
             return Ok(None);
         }
-        self.state.hold(states.get(self.taken));
+        stand_at(&mut self.state, states, self.taken);
         self.taken += 1;
         Ok(Some(0))
     }
@@ -62,5 +68,61 @@ impl<'a> Walker for StateWalk<'a> {
             return WalkStop::Cube(&[]);
         }
         WalkStop::State(states.get(self.taken - 1), &self.state)
+    }
+}
+
+// Makes the state that of the place, from that of the place before it.
+fn stand_at(state: &mut State, states: &StateList, place: usize)
+    requires place { place < length states.now }
+    requires below { AreStates (length state.old) states.now }
+    requires is { state.old ≡ state_of (length state.old) (last_atoms states.now place) }
+    ensures held { state.new ≡ state_of (length state.old)
+        (slice_index_or states.now place []) }
+    ensures atoms { length state.new ≡ length state.old }
+{
+    let after = states.get(place);
+    if state.atoms() < WIDE {
+        state.hold(after);
+        return;
+    }
+    change(state, last_of(states, place), after);
+}
+
+// The atoms of the state that was taken last, where so many were taken; none before the first.
+fn last_of(states: &StateList, taken: usize) -> &[u32]
+    requires { taken ≤ length states.now }
+    ensures { result.now ≡ last_atoms states.now taken }
+{
+    if taken == 0 {
+        return &[];
+    }
+    states.get(taken - 1)
+}
+
+// Makes the state of the one list that of the other; where the first has no more atoms than the
+// state has words, by the atoms of the two alone.
+fn change(state: &mut State, before: &[u32], after: &[u32])
+    requires before { AreBelow (length state.old) before.now }
+    requires after { AreBelow (length state.old) after.now }
+    requires is { state.old ≡ state_of (length state.old) before.now }
+    ensures held { state.new ≡ state_of (length state.old) after.now }
+    ensures atoms { length state.new ≡ length state.old }
+{
+    if before.len() > state.words().len() {
+        state.hold(after);
+        return;
+    }
+    put_all(state, before, false);
+    put_all(state, after, true);
+}
+
+// Puts these atoms in (true) or takes them out (false).
+fn put_all(state: &mut State, atoms: &[u32], value: bool)
+    requires { AreBelow (length state.old) atoms.now }
+    ensures put { state.new ≡ put_all value atoms.now state.old }
+    ensures atoms { length state.new ≡ length state.old }
+{
+    for atom in atoms {
+        state.set(*atom, value);
     }
 }
