@@ -21,7 +21,7 @@ use Rattle.hv_clauses.specs.Store.{tests_of}
 use Rattle.hv_propagation.specs.Completion.{Completes}
 use Rattle.hv_clauses.specs.Working.Operands.{InAll, clauses_in, clauses_of_state, unit}
 use Rattle.hv_propagation.specs.Effect.{late}
-use Rattle.hv_propagation.specs.Marks.{filled, known, over, low}
+use Rattle.hv_propagation.specs.Marks.{filled, over, low}
 use Rattle.hv_propagation.specs.Units.{AreSettled}
 use Rattle.hv_propagation.proofs.Marked.{length-filled, length-low, length-over}
 use Rattle.hv_clauses.proofs.OperandClauses.{clauses_in_below}

@@ -9,7 +9,6 @@ use Rattle.std.proofs.lemmas.List.Folds.{list_any_at}
 use Rattle.std.specs.List.{All, Contains}
 use Rattle.hv_task.specs.State.{has_atom}
 use Rattle.hv_sets.specs.declared.literal.Literal.{Literal}
-use Rattle.hv_sets.specs.declared.operand.Which.TheVariants as W
 use Rattle.hv_sets.specs.Cubes.{SpeakBelow}
 use Rattle.hv_formula.specs.Kinded.{CompletesClauses}
 use Rattle.hv_sets.specs.Truth.{in_clause, in_clauses, in_literal}
