@@ -28,6 +28,12 @@ pub untouched_nil : (ls : List Literal) → untouched [] ls ≡ ls
 untouched_nil [] = refl
 untouched_nil (l ∷ ls) = ap (λ xs. l ∷ xs) (untouched_nil ls)
 
+-- no literals say nothing
+pub none_untouched : (e : List ℕ) (ls : List Literal) (atoms p : ℕ) → length ls ≡ 0
+    → known (marked atoms (untouched e ls)) p ≡ None
+none_untouched e [] atoms p h = known-replicate atoms p
+none_untouched e (l ∷ ls) atoms p h = absurd (omega arith)
+
 -- nothing is said of what the effect touches
 written_touched : (e : List ℕ) (ls : List Literal) (m : List ℕ) (p : ℕ) (b : Bool)
     → known e p ≡ Some b

@@ -1,7 +1,6 @@
 -- Clauses over the atoms of a task.
 use Rattle.std.specs.Prelude.{ℕ, List}
 use Rattle.std.specs.List.{All}
-use Rattle.hv_task.specs.Strips.{atoms}
 use Rattle.hv_sets.specs.declared.literal.Literal.{Literal}
 use Rattle.hv_sets.specs.Cubes.{SpeakBelow}
 

@@ -1,6 +1,5 @@
 -- What it means to try values for open atoms, and to complete marks to a state.
 use Rattle.std.specs.Prelude.{◌≡◌, ℕ, Bool, true, List, length, false}
-use Rattle.hv_task.specs.Strips.{atoms}
 use Rattle.hv_propagation.specs.declared.completion.Completion.{Completion}
 use Rattle.hv_propagation.specs.Marks.{filled, over, AllKnown, low, Agrees, KeepsKnown}
 use Rattle.hv_propagation.specs.declared.completion.Completion.TheVariants as C

@@ -50,6 +50,7 @@ impl<'a> Buffers<'a> {
     }
 
     // The place that is here.
+    #[inline(always)]
     pub(crate) fn place(&self, at: usize) -> u32
         requires { at < length (places_in self.now) }
         ensures { result ≡ slice_index (places_in self.now) at }
@@ -61,6 +62,7 @@ impl<'a> Buffers<'a> {
     }
 
     // The entry that is here.
+    #[inline(always)]
     pub(crate) fn entry(&self, at: usize) -> u32
         requires { at < length (queue_in self.now) }
         ensures { result ≡ slice_index (queue_in self.now) at }
@@ -72,6 +74,7 @@ impl<'a> Buffers<'a> {
     }
 
     // Writes a place.
+    #[inline(always)]
     pub(crate) fn set_place(&mut self, at: usize, place: u32)
         requires { at < length (places_in self.old) }
         ensures places { places_in self.new ≡ slice_set (places_in self.old) at place }
@@ -84,6 +87,7 @@ impl<'a> Buffers<'a> {
     }
 
     // Writes an entry.
+    #[inline(always)]
     pub(crate) fn set_entry(&mut self, at: usize, entry: u32)
         requires { at < length (queue_in self.old) }
         ensures queue { queue_in self.new ≡ slice_set (queue_in self.old) at entry }
@@ -96,6 +100,7 @@ impl<'a> Buffers<'a> {
     }
 }
 
+#[inline(always)]
 fn read(row: &[u32], at: usize) -> u32
     requires { at < length row.now }
     ensures { result ≡ slice_index row.now at }
@@ -103,6 +108,7 @@ fn read(row: &[u32], at: usize) -> u32
     row[at]
 }
 
+#[inline(always)]
 fn write(row: &mut [u32], at: usize, value: u32)
     requires { at < length row.old }
     ensures { row.new ≡ slice_set row.old at value }

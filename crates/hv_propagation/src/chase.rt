@@ -148,6 +148,7 @@ pub(crate) fn visit_all(
 
 // Looks again at one of these clauses. Of two literals, the other one is true: what that is tells
 // the list, without a look into the clause.
+#[inline(always)]
 fn visit_one(
     clauses: &Clauses,
     standing: &Standing<'_>,

@@ -41,6 +41,7 @@ impl<'a> Model for ActionEffect<'a> {
 
 impl<'a> ActionEffect<'a> {
     /// No effect.
+    #[inline(always)]
     pub fn none() -> ActionEffect<'a>
         ensures { result ≡ [] }
     {
@@ -76,6 +77,7 @@ impl<'a> ActionEffect<'a> {
     }
 
     /// The same effect, or none.
+    #[inline(always)]
     pub fn late(&self, after: bool) -> ActionEffect<'a>
         ensures { result ≡ late self.now after }
     {
@@ -91,6 +93,7 @@ impl<'a> ActionEffect<'a> {
     }
 
     /// What an atom is made, if that is known.
+    #[inline(always)]
     pub fn read(&self, atom: u32) -> Option<bool>
         ensures { result ≡ known self.now atom }
     {
@@ -104,6 +107,7 @@ impl<'a> ActionEffect<'a> {
     }
 
     /// Atoms among which are all that are put in (true) or out (false).
+    #[inline(always)]
     pub fn turned(&self, value: bool) -> &[u32]
         ensures { (p : ℕ) → known self.now p ≡ Some value → Contains result.now p }
     {
@@ -111,6 +115,7 @@ impl<'a> ActionEffect<'a> {
     }
 }
 
+#[inline(always)]
 fn is_among(atoms: &[u32], atom: u32) -> bool
     requires { IsStrictlyIncreasing atoms.now }
     ensures { IsTrue result ↔ Contains atoms.now atom }
@@ -118,6 +123,7 @@ fn is_among(atoms: &[u32], atom: u32) -> bool
     place_of(atoms, atom).is_ok()
 }
 
+#[inline(always)]
 fn place_of(atoms: &[u32], atom: u32) -> Result<usize, usize>
     requires { IsStrictlyIncreasing atoms.now }
     ensures { IsPlaceOf atoms.now atom result }

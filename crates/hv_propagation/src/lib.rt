@@ -16,7 +16,7 @@
 //! - `unit_rounds` finds out what follows from few clauses without rows as long as there are atoms,
 //!   and `cover` whether clauses are true in each state of a cube.
 //!
-//! Nothing here knows of formulas, their kinds or queries.
+//! No contract here speaks of formulas, their kinds or queries.
 #![tactic(auto)]
 
 mod buffers;

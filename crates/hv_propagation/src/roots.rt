@@ -55,7 +55,20 @@ impl<'a> Roots<'a> {
     }
 
     /// What they say of an atom of a task with so many.
+    #[inline(always)]
     pub(crate) fn read(&self, atoms: usize, atom: u32) -> Option<bool>
+        requires { atom < atoms }
+        ensures { result ≡ known (marked atoms self.now) atom }
+    {
+        if self.literals.is_empty() {
+            return None;
+        }
+        self.read_some(atoms, atom)
+    }
+
+    // The same, where there are some.
+    #[inline(never)]
+    fn read_some(&self, atoms: usize, atom: u32) -> Option<bool>
         requires { atom < atoms }
         ensures { result ≡ known (marked atoms self.now) atom }
     {

@@ -112,6 +112,7 @@ impl<'a> Assignment<'a> {
     }
 
     /// How many atoms the task has.
+    #[inline(always)]
     pub fn atoms(&self) -> usize
         ensures atoms { result ≡ length self.now.roots }
         ensures few { result ≤ 2 ^ 31 }
@@ -120,6 +121,7 @@ impl<'a> Assignment<'a> {
     }
 
     /// How long the trail is.
+    #[inline(always)]
     pub fn len(&self) -> usize
         ensures len { result ≡ length self.now.trail }
         ensures few { result ≤ length self.now.roots }
@@ -128,6 +130,7 @@ impl<'a> Assignment<'a> {
     }
 
     /// Forgets all but the first so many literals of the trail.
+    #[inline(always)]
     pub fn undo(&mut self, len: usize)
         requires { len ≤ length self.old.trail }
         ensures { self.new ≡ record { roots = self.old.roots; trail = take len self.old.trail } }
@@ -136,6 +139,7 @@ impl<'a> Assignment<'a> {
     }
 
     /// What is known of an atom.
+    #[inline(always)]
     pub fn read(&self, atom: u32) -> Option<bool>
         ensures { result ≡ known (marks_of self.now) atom }
     {
@@ -155,6 +159,7 @@ impl<'a> Assignment<'a> {
     }
 
     /// Puts a literal on the trail, of whose atom nothing is known.
+    #[inline(always)]
     pub fn write(&mut self, literal: Literal)
         requires atom { literal.atom < length self.old.roots }
         requires unknown { known (marks_of self.old) literal.atom ≡ None }
@@ -169,6 +174,7 @@ impl<'a> Assignment<'a> {
     }
 
     /// The literal at this place of the trail.
+    #[inline(always)]
     pub fn get(&self, place: usize) -> Literal
         requires { place < length self.now.trail }
         ensures here { slice_get self.now.trail place ≡ Some result }
@@ -182,6 +188,7 @@ impl<'a> Assignment<'a> {
     }
 
     /// The places at which the last look into the clause at this place ended, or any others.
+    #[inline(always)]
     pub(crate) fn watch(&self, clause: usize) -> Watch {
         let watches = &*self.watches;
         if clause >= watches.len() / 2 {
@@ -197,6 +204,7 @@ impl<'a> Assignment<'a> {
     }
 
     /// Remembers at which places a look into the clause at this place ended, if there is room.
+    #[inline(always)]
     pub(crate) fn remember(&mut self, clause: usize, watch: Watch)
         ensures { self.new ≡ self.old }
     {
@@ -219,6 +227,7 @@ impl<'a> Assignment<'a> {
 }
 
 // A place as an entry. One that is too large becomes another one.
+#[inline(always)]
 fn entry_of(place: usize) -> u32 {
     place.min(u32::MAX as usize) as u32
 }

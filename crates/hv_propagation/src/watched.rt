@@ -111,6 +111,7 @@ fn scan_two(one: Literal, two: Literal, effect: &ActionEffect<'_>, marks: &Assig
 }
 
 // Reads the literal at a place, unless that is past the end.
+#[inline(always)]
 fn read_at(
     clause: &[Literal],
     place: usize,
@@ -128,6 +129,7 @@ fn read_at(
 }
 
 // Reads the literal at a place, beside others that left this one open.
+#[inline(always)]
 fn read(
     clause: &[Literal],
     place: usize,
@@ -166,6 +168,7 @@ fn read(
 }
 
 // Reads the literals from a place on, and then those at the front.
+#[inline]
 fn search(
     clause: &[Literal],
     from: usize,
@@ -209,6 +212,7 @@ fn search(
 }
 
 // The place so many steps after another one, where the first comes after the last.
+#[inline(always)]
 fn place_after(from: usize, step: usize, len: usize) -> usize
     requires from { from ≤ len }
     requires step { step < len }

@@ -1,20 +1,13 @@
 use Rattle.std.proofs.Common.{◌∙◌, sym, ap}
+use Rattle.std.proofs.lemmas.Bool.{eqb-true}
 use Rattle.hv_propagation.specs.Marks.{known}
 use Rattle.hv_propagation.specs.Trail.{marked}
-use Rattle.hv_propagation.proofs.Untouched.{said_beside, unsaid}
+use Rattle.hv_propagation.proofs.Untouched.{none_untouched}
 use Rattle.hv_propagation.proofs.roots.Roots.read.Goals as goal
 
-pub returns-in-None : goal.returns-in-None
-returns-in-None c =
+pub returns-then-is_empty : goal.returns-then-is_empty
+returns-then-is_empty c =
     let s = c.self.inside in
-    c.said.ensures
-    ∙ (sym (said_beside s.effect c.args.atoms s.literals.now c.args.atom
-    (sym c.read.ensures ∙ c.in-None.is))
-    ∙ ap (λ ls. known (marked c.args.atoms ls) c.args.atom) c.self.view_is)
-
-pub returns-in-Some : goal.returns-in-Some
-returns-in-Some c =
-    let s = c.self.inside in
-    sym (unsaid s.effect c.args.atoms s.literals.now c.args.atom c.in-Some.field-0
-    (sym c.read.ensures ∙ c.in-Some.is))
+    sym (none_untouched s.effect s.literals.now c.args.atoms c.args.atom
+    (eqb-true _ 0 (sym c.is_empty.ensures ∙ c.if-is_empty.true)))
     ∙ ap (λ ls. known (marked c.args.atoms ls) c.args.atom) c.self.view_is
