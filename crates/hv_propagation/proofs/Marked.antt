@@ -3,6 +3,7 @@
 use Rattle.std.proofs.Common.{◌≡◌, ℕ, zero, suc, ◌<◌, ◌≤◌, ◌∙◌, ◌⊎◌, Bool, true, false, not, cond}
 use Rattle.std.proofs.Common.{List, [], ◌∷◌, length, replicate, Option, None, Some, refl, sym, ap}
 use Rattle.std.proofs.Common.{arith, inl, inr}
+use Rattle.std.proofs.Math.Bool.{beq}
 use Rattle.std.proofs.lemmas.Bool.{cases_eq, cases_lt}
 use Rattle.std.proofs.lemmas.List.{get_or_past, get_or-replicate, length-replicate}
 use Rattle.std.proofs.lemmas.List.Elements.{All-weaker}
@@ -266,3 +267,26 @@ has_atom-literal l s h = by l.positive (has_atom s l.atom) h
     by true flag e = e
     by false true e = absurd (cc)
     by false false e = refl
+
+-- the opposite of a literal that is known to be true is as the effect makes it, or else false
+pub behind_none : (e m : List ℕ) (l : Literal) → known e l.atom ≡ None
+    → known m l.atom ≡ Some l.positive → value_of e m (opposite l) ≡ Some false
+behind_none e m l none some =
+    let turn = option_map (λ value. cond (not l.positive) value (not value)) in
+    ap (λ o. turn (first_of o (known m l.atom))) none ∙ (ap turn some ∙ ap Some (out l.positive))
+  where
+    out : (sign : Bool) → cond (not sign) sign (not sign) ≡ false
+    out true = refl
+    out false = refl
+
+pub behind_some : (e m : List ℕ) (l : Literal) (value : Bool) → known e l.atom ≡ Some value
+    → value_of e m (opposite l) ≡ Some (not (beq value l.positive))
+behind_some e m l value some =
+    ap (λ o. option_map (λ v. cond (not l.positive) v (not v)) (first_of o (known m l.atom))) some
+    ∙ ap Some (by l.positive value)
+  where
+    by : (sign v : Bool) → cond (not sign) v (not v) ≡ not (beq v sign)
+    by true true = refl
+    by true false = refl
+    by false true = refl
+    by false false = refl

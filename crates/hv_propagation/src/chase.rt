@@ -8,10 +8,10 @@
 //! unassigned literals. When the place has reached the end of the trail, all clauses are settled.
 
 ghost use Rattle.std.specs.Prelude.{◌≡◌, ◌<◌, ◌+◌, ℕ, List, Some, false, true, length};
-ghost use Rattle.std.specs.Prelude.{slice_index};
+ghost use Rattle.std.specs.Prelude.{slice_get, slice_index};
 ghost use Rattle.std.specs.List.{Contains};
 ghost use Rattle.hv_sets.specs.declared.literal.Literal.{Literal as LiteralOf};
-ghost use Rattle.hv_sets.specs.Cubes.{SpeakBelow};
+ghost use Rattle.hv_sets.specs.Cubes.{SpeakBelow, opposite};
 ghost use Rattle.hv_sets.specs.Truth.{in_clause, in_clauses};
 ghost use Rattle.hv_propagation.specs.Chase.{AreKept, IsFollowed, IsKept};
 ghost use Rattle.hv_indexes.specs.Places.{clause_at};
@@ -95,12 +95,27 @@ pub fn visit(
     if stands_nowhere(occurs, own.positive) {
         return true;
     }
-    // Something is known of its atom. Where the effect makes it true, so are its clauses.
-    if literals::value(effect, marks, own) != Some(false) {
+    // Where the effect makes it true, so are its clauses.
+    if value_behind(effect, marks, from) != Some(false) {
         return true;
     }
     let standing = occurs.standing(own);
     visit_all(clauses, &standing, effect, marks)
+}
+
+// The value of the opposite of the literal at this place of the trail: as the effect makes it, or
+// else false.
+#[inline(always)]
+fn value_behind(effect: &ActionEffect<'_>, marks: &Assignment<'_>, from: usize) -> Option<bool>
+    requires { from < length marks.now.trail }
+    ensures { (l : LiteralOf) → slice_get marks.now.trail from ≡ Some l
+        → result ≡ value_of effect.now (marks_of marks.now) (opposite l) }
+{
+    let literal = marks.get_known(from);
+    match effect.read(literal.atom) {
+        None => Some(false),
+        Some(value) => Some(value != literal.positive),
+    }
 }
 
 // Whether no clause has a literal of this sign, as no clause of exclusions has a positive one.

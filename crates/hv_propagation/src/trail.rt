@@ -180,6 +180,17 @@ impl<'a> Assignment<'a> {
         ensures here { slice_get self.now.trail place ≡ Some result }
         ensures below { result.atom < length self.now.roots }
     {
+        self.get_known(place)
+    }
+
+    // The same, with what is known of its atom: that it is true.
+    #[inline(always)]
+    pub(crate) fn get_known(&self, place: usize) -> Literal
+        requires { place < length self.now.trail }
+        ensures here { slice_get self.now.trail place ≡ Some result }
+        ensures below { result.atom < length self.now.roots }
+        ensures known { known (marks_of self.now) result.atom ≡ Some result.positive }
+    {
         let entry = self.buffers.entry(place);
         Literal {
             atom: entry / 2,

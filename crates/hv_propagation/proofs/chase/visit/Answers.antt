@@ -1,4 +1,5 @@
-use Rattle.std.proofs.Common.{◌+◌, ◌∙◌, Some, false, not, length, ap, arith, sym, subst}
+use Rattle.std.proofs.Common.{◌≡◌, ◌+◌, ◌∙◌, Bool, Option, None, Some, true, false, not, length, ap}
+use Rattle.std.proofs.Common.{arith, sym, subst, refl}
 use Rattle.std.proofs.lemmas.Option.{get_or_from_slice_get}
 use Rattle.std.proofs.Math.Bool.{beq}
 use Rattle.std.specs.Option.{option_eq}
@@ -6,6 +7,8 @@ use Rattle.hv_sets.specs.declared.literal.Literal.{Literal}
 use Rattle.hv_indexes.specs.Rows.{IsRow}
 use Rattle.hv_indexes.specs.Signed.{StandsAs}
 use Rattle.hv_indexes.specs.Places.{clause_at}
+use Rattle.hv_propagation.specs.Trail.{marks_of}
+use Rattle.hv_propagation.specs.Units.{value_of}
 use Rattle.hv_propagation.proofs.PartnerEntries.{kept_sooner, kept_true}
 use Rattle.hv_propagation.proofs.Chasing.{grown_by, kept_beyond, kept_grown, kept_next, longer}
 use Rattle.hv_propagation.proofs.Chasing.{read_on}
@@ -31,8 +34,21 @@ returns-then-ne-clause-kept c = λ is.
     (get_or_from_slice_get m.trail c.args.from literal literal c.get-literal.ensures.here)
     c.get-literal.ensures.below c.requires.kept
     (λ out.
-    let value = c.value.ensures ∙ out in
+    let value = c.value_behind.ensures literal c.get-literal.ensures.here ∙ out in
     never (sym c.if-ne.true ∙ (c.ne.ensures ∙ ap (λ v. not (option_eq beq v (Some false))) value)))
+
+-- an answer that isn't another one
+is_false : (o : Option Bool) → not (option_eq beq o (Some false)) ≡ false → o ≡ Some false
+is_false None h = absurd cc
+is_false (Some true) h = absurd cc
+is_false (Some false) h = refl
+
+pub visit_all-requires-clause-out : goal.visit_all-requires-clause-out
+visit_all-requires-clause-out c =
+    let literal = c.get-literal.result in
+    ap (value_of c.args.effect.now (marks_of c.args.marks.now)) c.standing-standing.ensures.literal
+    ∙ (sym (c.value_behind.ensures literal c.get-literal.ensures.here)
+    ∙ is_false _ (sym c.ne.ensures ∙ c.if-ne.false))
 
 pub standing-standing-requires : goal.standing-standing-requires
 standing-standing-requires c = (c.args.clauses.now, c.requires.index)

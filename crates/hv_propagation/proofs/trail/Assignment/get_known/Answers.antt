@@ -1,12 +1,13 @@
-use Rattle.std.proofs.Common.{◌∙◌, ◌/◌, Some, length, slice_get, ap, sym, arith}
+use Rattle.std.proofs.Common.{◌∙◌, ◌==◌, ◌/◌, ◌%◌, Some, length, get_or, slice_get, ap, sym, arith}
 use Rattle.std.proofs.lemmas.Option.{slice_get-get_or}
 use Rattle.hv_sets.specs.declared.literal.Literal.{Literal}
-use Rattle.hv_propagation.specs.Working.Buffers.{queue_in}
-use Rattle.hv_propagation.specs.Trail.{Knowledge}
+use Rattle.hv_propagation.specs.Marks.{known}
+use Rattle.hv_propagation.specs.Working.Buffers.{places_in, queue_in}
+use Rattle.hv_propagation.specs.Trail.{Knowledge, marked, marks_of}
 use Rattle.hv_propagation.specs.Working.Trail.{trail_of}
 use Rattle.hv_indexes.specs.Occurrences.{literal_of}
-use Rattle.hv_propagation.proofs.Trailed.{length-trail, trail_at}
-use Rattle.hv_propagation.proofs.trail.Assignment.get.Goals as goal
+use Rattle.hv_propagation.proofs.Trailed.{length-trail, read_some, trail_at}
+use Rattle.hv_propagation.proofs.trail.Assignment.get_known.Goals as goal
 
 pub entry-entry-requires : goal.entry-entry-requires
 entry-entry-requires c =
@@ -43,3 +44,18 @@ returns-clause-below c =
     let low = joined.below c.args.place (omega arith) in
     let at = ap (λ n. n / 2) c.entry-entry.ensures in
     omega arith
+
+pub returns-clause-known : goal.returns-clause-known
+returns-clause-known c =
+    let s = c.self.inside in
+    let joined = c.self.invariant.1 in
+    let queue = queue_in s.buffers in
+    let size = length-trail queue s.len joined.within in
+    let is = ap (λ (k : Knowledge). length k.trail) c.self.view_is in
+    let h = c.requires in
+    ap (λ n. known (marks_of c.args.self.now) (n / 2)) c.entry-entry.ensures
+    ∙ (ap (λ (m : Knowledge). known (marks_of m) (get_or queue c.args.place 0 / 2))
+    (sym c.self.view_is)
+    ∙ (read_some (marked s.atoms s.roots) (places_in s.buffers) queue s.len c.args.place joined
+    (omega arith)
+    ∙ ap (λ n. Some (n % 2 == 1)) (sym c.entry-entry.ensures)))
