@@ -29,12 +29,7 @@ pub starts_with_steps : (formula : FormulaState) (cursor : Cursor) → IsNew cur
     → drop cursor.place (steps_of formula) ≡ steps_of formula
 starts_with_steps formula cursor new = ap (λ k. drop k (steps_of formula)) new.0
 
--- whether a clause has a literal
-pub names_literal-Decides : (clause : List Literal) (atom : ℕ) (positive : Bool)
-    → Decides (names_literal clause atom positive)
-    (Contains {X = Literal} clause (record { atom = atom; positive = positive }))
-names_literal-Decides clause atom positive = has_literal-Decides clause atom positive
-
+-- the opposite of the opposite is the literal itself
 pub opposite_twice : (l : Literal) → opposite (opposite l) ≡ l
 opposite_twice l = let sign = not-not l.positive in λ i. record { atom = l.atom; positive = sign i }
 
@@ -47,7 +42,7 @@ tautology_has clause e =
     in (
       found.1,
       (found.0, found.2, found.3),
-      (names_literal-Decides clause found.1.atom
+      (has_literal-Decides clause found.1.atom
           (not found.1.positive)).0 found.4,
     )
 
@@ -57,7 +52,7 @@ pub tautology_from : (clause : List Literal) (l : Literal) → Contains clause l
 tautology_from clause l c other =
     list_any_at (λ (l : Literal). names_literal clause l.atom (not l.positive)) clause c.0 l c.1
     (ap (λ (k : Literal). names_literal clause k.atom (not k.positive)) c.2
-    ∙ (names_literal-Decides clause l.atom (not l.positive)).1 other)
+    ∙ (has_literal-Decides clause l.atom (not l.positive)).1 other)
 
 -- the opposites of the literals of an atom, by whether a positive one and a negative one are there
 abbrev pub opposites : Bool → Bool → ℕ → List Literal
@@ -92,7 +87,7 @@ module _ (clause : List Literal) where
         | inl front ↦ let rest = below_has n a front in (omega (arith, rest.0), rest.1)
         | inr last ↦
             let here = at_has (names_literal clause n true) (names_literal clause n false) n a
-            (names_literal-Decides clause n true).0 (names_literal-Decides clause n false).0 last in
+            (has_literal-Decides clause n true).0 (has_literal-Decides clause n false).0 last in
             (omega (arith, here.0), here.1)
       ]
 
@@ -116,14 +111,14 @@ module _ (clause : List Literal) where
         subst (λ m. Contains (denial_at m clause) (opposite l)) e
         (at_named (names_literal clause l.atom true)
         (names_literal clause l.atom false) l.positive l.atom
-        (λ sign. (names_literal-Decides clause l.atom true).1 (has sign))
+        (λ sign. (has_literal-Decides clause l.atom true).1 (has sign))
         (λ sign. (
           false_from_ne_true (names_literal clause l.atom true)
               (λ so. both_signs l c
               (subst (λ s. Contains {X = Literal} clause
               (record { atom = l.atom; positive = not s })) (sym sign)
-              ((names_literal-Decides clause l.atom true).0 so))),
-          (names_literal-Decides clause l.atom false).1 (has sign),
+              ((has_literal-Decides clause l.atom true).0 so))),
+          (has_literal-Decides clause l.atom false).1 (has sign),
         )))
       where
         has : {s : Bool} → l.positive ≡ s
