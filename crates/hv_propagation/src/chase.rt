@@ -139,6 +139,7 @@ pub fn weight(occurs: &Occurrences, literal: Literal) -> usize
 }
 
 // Looks again at each clause that has a literal that was found false.
+#[inline(always)]
 pub(crate) fn visit_all(
     clauses: &Clauses,
     standing: &Standing<'_>,
