@@ -1,8 +1,8 @@
 //! Stores of formulas of one kind of clauses, and exact answers to queries about them by unit
 //! propagation.
 //!
-//! One crate serves all kinds of clauses: the effect of actions, choices, costs and stores are
-//! proved once, over the formulas of hv_formula and the propagation of hv_propagation.
+//! One crate serves all kinds of clauses: choices, costs and stores are proved once, over the
+//! formulas of hv_formula and the propagation of hv_propagation.
 //!
 //! The way of a query, whether some state has all clauses of some sets true and is a counterexample
 //! to others:

@@ -26,6 +26,9 @@ use hv_indexes::Occurrences;
 use hv_propagation::{ActionEffect, Assignment, literals};
 use hv_sets::{Literal, Operand, Which};
 
+// A clause of at most so many literals is short.
+const SHORT: usize = 16;
+
 // To look for where a literal stands costs as much as to look into so many clauses.
 const DEAR: usize = 4;
 
@@ -59,7 +62,8 @@ pub(crate) fn is_refuted<K: ClauseKind>(
 
 // The same for the clause at a place of an operand: a literal of it is known to be true, or its set
 // is a positive operand at the other time and the effect turns no literal of it against the
-// operand.
+// operand. A long clause of a set that isn't asked about at the other time is not read here: it is
+// marked as false next, and that finds a true literal, too.
 pub(crate) fn is_clause_true<K: ClauseKind>(
     problem: &Problem<'_, K>,
     operand: Operand,
@@ -76,10 +80,30 @@ pub(crate) fn is_clause_true<K: ClauseKind>(
     };
     let clause = problem.set(number).clauses().get(place as usize);
     let seen = problem.seen(operand.after);
-    if literals::has_true(clause, &seen, marks) {
+    if has_true_if(false, clause, &seen, marks) {
         return true;
     }
-    problem.names(operand.which, !operand.after) && is_held(clause, problem.effect(), operand.after)
+    if !problem.names(operand.which, !operand.after) {
+        return false;
+    }
+    if has_true_if(true, clause, &seen, marks) {
+        return true;
+    }
+    is_held(clause, problem.effect(), operand.after)
+}
+
+// Whether the clause is long (true) or short, and a literal of it is known to be true.
+#[inline(always)]
+fn has_true_if(
+    long: bool,
+    clause: &[Literal],
+    effect: &ActionEffect<'_>,
+    marks: &Assignment<'_>,
+) -> bool
+    ensures { result ≡ true → (l : LiteralOf) × Contains clause.now l
+        × (value_of effect.now (marks_of marks.now) l ≡ Some true) }
+{
+    (clause.len() > SHORT) == long && literals::has_true(clause, effect, marks)
 }
 
 // Whether the effect turns no literal of the clause: none is made false by it where the clause is

@@ -12,8 +12,8 @@ pub set-requires : goal.set-requires
 set-requires g c =
     set_within c.args.problem.now c.args.operand.which _ c.args.place c.in-Set.is c.requires
 
-pub returns-then-has_true : goal.returns-then-has_true
-returns-then-has_true g c = λ _ state size agrees inside broken.
+pub returns-then-has_true_if : goal.returns-then-has_true_if
+returns-then-has_true_if g c = λ _ state size agrees inside broken.
     let p = c.args.problem.now in
     refuted_known p.task (formulas p) p.effect c.args.operand.which
     c.in-Set.number c.args.place c.in-Set.is
@@ -23,10 +23,23 @@ returns-then-has_true g c = λ _ state size agrees inside broken.
     c.get-clause.result.now c.get-clause.ensures)) refl
     c.requires c.args.operand.after c.seen-seen.result (marks_of c.args.marks.now) _ _ state
     c.seen-seen.ensures c.clauses.ensures.below c.set.ensures.atoms size
-    (c.has_true.ensures c.if-has_true.true) agrees broken
+    (c.has_true_if.ensures c.if-has_true_if.true) agrees broken
 
-pub returns-then-names : goal.returns-then-names
-returns-then-names g c = λ e state size agrees inside broken.
+pub returns-then-has_true_if-2 : goal.returns-then-has_true_if-2
+returns-then-has_true_if-2 g c = λ _ state size agrees inside broken.
+    let p = c.args.problem.now in
+    refuted_known p.task (formulas p) p.effect c.args.operand.which
+    c.in-Set.number c.args.place c.in-Set.is
+    _ c.clauses.result.now c.get-clause.result.now c.get-clause.result.now c.set.ensures.clauses
+    c.clauses.ensures.clauses
+    (sym (get_or_from_slice_get c.clauses.result.now c.args.place c.get-clause.result.now
+    c.get-clause.result.now c.get-clause.ensures)) refl
+    c.requires c.args.operand.after c.seen-seen.result (marks_of c.args.marks.now) _ _ state
+    c.seen-seen.ensures c.clauses.ensures.below c.set.ensures.atoms size
+    (c.has_true_if-2.ensures c.if-has_true_if-2.true) agrees broken
+
+pub returns : goal.returns
+returns g c = λ e state size agrees inside broken.
     let p = c.args.problem.now in
     refuted_framed p.task (formulas p) p.effect c.args.operand.which
     c.in-Set.number c.args.place c.in-Set.is
@@ -34,6 +47,6 @@ returns-then-names g c = λ e state size agrees inside broken.
     c.clauses.ensures.clauses
     (sym (get_or_from_slice_get c.clauses.result.now c.args.place c.get-clause.result.now
     c.get-clause.result.now c.get-clause.ensures)) refl
-    c.requires c.args.operand.after p.query.positive state (c.if-names.ensures.0 refl)
+    c.requires c.args.operand.after p.query.positive state (c.if-not-names.ensures.0 refl)
     (subst (λ e. All (λ l. value_of e [] l ≡ Some (not c.args.operand.after) → ⊥)
     c.get-clause.result.now) c.effect.ensures (c.is_held.ensures e)) inside broken
