@@ -73,10 +73,10 @@ unnamed xs p out =
     false_from_ne_true (names_atom xs p) (λ yes. out ((names_atom-Decides xs p).0 yes))
 
 -- what a literal of this sign and atom says of a state
-abbrev says : Bool → List Bool → ℕ → Bool
+abbrev pub says : Bool → List Bool → ℕ → Bool
 says positive state p = cond positive (has_atom state p) (not (has_atom state p))
 
-flag_kept : (into positive : Bool) (action : Action) (state : List Bool) (p : ℕ)
+pub flag_kept : (into positive : Bool) (action : Action) (state : List Bool) (p : ℕ)
     → (Contains (changed_to (sign_to into positive) action) p → ⊥)
     → says positive (asked (Some action) into state) p ≡ true
     → says positive (asked (Some action) (not into) state) p ≡ true
@@ -145,7 +145,7 @@ pub crossing_from : (task : Strips) (clauses : List (List Literal)) (into : Bool
 crossing_from task clauses into listed are = record {
   below = are.below;
   first = are.first;
-  each = λ number action state at size held out.
+  each = λ number action state at size applies held out.
       by number action state at held out (names_atom listed number) refl;
 }
   where
@@ -195,7 +195,7 @@ clashes_crossing task sets query number into listed framed are = record {
       let out = not_true (in_operand task sets action state framed.1.0)
       (passes_at (λ p. not (in_operand task sets action state p)) query.negative framed.1.0 sides.1
       framed.1.1) in
-      are.each n a.0 state a.1 size
+      are.each n a.0 state a.1 size (subst (λ f. may_apply f state ≡ true) a.1 parts.0)
       (at_time task sets action a.0 state framed.0.0 number into true a.1 framed.0.2 framed.0.3 held)
       (at_time task sets action a.0 state framed.1.0 number (not into) false a.1 framed.1.2 framed.1.3 out);
 }
@@ -215,11 +215,10 @@ pub some_crossing : (task : Strips) (sets : List FormulaState) (xs : List (List 
     (number : ℕ) (into : Bool) (found : Option (List ℕ)) → sets ≡ map (formula (atoms task)) xs
     → IfSome found (λ listed. (lists : List (List (List Literal)))
     → sets ≡ map (formula (atoms task)) lists
-    → AreTurning task (get_or lists number []) into listed)
+    → AreCrossing task (in_clauses (get_or lists number [])) into listed)
     → IfSome found (AreCrossing task (in_clauses (get_or xs number [])) into)
 some_crossing task sets xs number into None is some = some
-some_crossing task sets xs number into (Some listed) is some =
-    crossing_from task (get_or xs number []) into listed (some xs is)
+some_crossing task sets xs number into (Some listed) is some = some xs is
 
 -- what one positive operand and the negative ones ask about is asked about
 framed_within : (operand : Operand) (positive negative : List Operand) (number : ℕ)

@@ -26,3 +26,4 @@ pub mod Within
 pub mod Literals
 pub mod Denying
 pub mod Negations
+pub mod Excluding

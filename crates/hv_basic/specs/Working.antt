@@ -9,5 +9,6 @@ pub mod Deciding
 pub mod Candidates
 pub mod Denied
 pub mod Framed
+pub mod Excluded
 pub mod Formulas
 pub mod Sharing

@@ -38,7 +38,7 @@ fn rows_to(alloc: Global, task: &Task, adds: bool) -> Result<Vec<Vec<u32>>, Allo
 }
 
 /// The atoms that the action adds, or those that it deletes.
-fn changed_to(action: &Action, adds: bool) -> &[u32]
+pub(crate) fn changed_to(action: &Action, adds: bool) -> &[u32]
     ensures { result.now ≡ changed_to adds action.now }
 {
     if adds {

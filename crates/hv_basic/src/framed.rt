@@ -5,14 +5,16 @@
 ghost use Rattle.std.specs.Prelude.{◌≡◌, ◌⊎◌, ◌∷◌, [], List, map, not, slice_index_or, IfOk};
 ghost use Rattle.std.specs.Prelude.{IfSome, IsTrue};
 ghost use Rattle.hv_task.specs.Strips.{atoms};
+ghost use Rattle.hv_sets.specs.Truth.{in_clauses};
 ghost use Rattle.hv_sets.specs.declared.literal.Literal.{Literal};
 ghost use Rattle.hv_lines.specs.Queries.{has_of};
 ghost use Rattle.hv_basic.specs.Cases.{lines_in, setting_in};
 ghost use Rattle.hv_basic.specs.Stores.{formula};
 ghost use Rattle.hv_basic.specs.Working.Candidates.{HaveAllClashes};
-ghost use Rattle.hv_basic.specs.Working.Framed.{AreCrossing, AreTurning, IsFramed};
+ghost use Rattle.hv_basic.specs.Working.Framed.{AreCrossing, IsFramed};
 
 use crate::case::Case;
+use crate::leading::leading;
 use crate::turned::{cost_of, most_for, turning};
 use hv_clauses::Formulas;
 use hv_formula::ClauseKind;
@@ -208,25 +210,26 @@ fn crossing_at(
     match family {
         FormulaFamily::Horn => {
             let sets = case.store.horns();
-            let numbers = turning_in(alloc, case, sets, frame, look)?;
+            let numbers = crossing_in(alloc, case, sets, frame, look)?;
             Ok(numbers)
         }
         FormulaFamily::Dual => {
             let sets = case.store.duals();
-            let numbers = turning_in(alloc, case, sets, frame, look)?;
+            let numbers = crossing_in(alloc, case, sets, frame, look)?;
             Ok(numbers)
         }
         FormulaFamily::Two => {
             let sets = case.store.twos();
-            let numbers = turning_in(alloc, case, sets, frame, look)?;
+            let numbers = crossing_in(alloc, case, sets, frame, look)?;
             Ok(numbers)
         }
         FormulaFamily::States | FormulaFamily::Node => Ok(None),
     }
 }
 
-/// The first action and those that can turn a literal of the formula.
-fn turning_in<K: ClauseKind>(
+/// The first action and those that can lead into the formula, or out of it: as its exclusions say,
+/// or since they can turn a literal of it.
+fn crossing_in<K: ClauseKind>(
     alloc: Global,
     case: &Case<'_>,
     sets: &Formulas<K>,
@@ -235,13 +238,16 @@ fn turning_in<K: ClauseKind>(
 ) -> Result<Option<AtomList>, AllocError>
     ensures { IfOk result (λ found. IfSome found (λ numbers. (lists : List (List (List Literal)))
         → sets.now ≡ map (formula (atoms case.now.task.now)) lists
-        → AreTurning case.now.task.now (slice_index_or lists frame.number []) frame.into
-        numbers)) }
+        → AreCrossing case.now.task.now (in_clauses (slice_index_or lists frame.number []))
+        frame.into numbers)) }
 {
     if frame.number >= sets.len() {
         return Ok(None);
     }
     let clauses = sets.get(frame.number).clauses();
+    if let Some(numbers) = leading(alloc, case.task, clauses, frame.into)? {
+        return Ok(Some(numbers));
+    }
     let Some(numbers) = turning(alloc, case, clauses, frame.into, look)? else {
         return Ok(None);
     };

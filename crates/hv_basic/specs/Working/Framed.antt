@@ -3,7 +3,7 @@ use Rattle.std.specs.Prelude.{◌≡◌, ◌<◌, ◌⊎◌, ℕ, Bool, true, fa
 use Rattle.std.specs.Prelude.{slice_get}
 use Rattle.std.specs.List.{All, Contains}
 use Rattle.hv_task.specs.declared.action.Action.{Action}
-use Rattle.hv_task.specs.State.{AreBelow}
+use Rattle.hv_task.specs.State.{AreBelow, applicable}
 use Rattle.hv_task.specs.Strips.{Strips, atoms}
 use Rattle.hv_sets.specs.Query.{asked}
 use Rattle.hv_sets.specs.declared.literal.Literal.{Literal}
@@ -42,7 +42,8 @@ pub record AreTurning (task : Strips) (clauses : List (List Literal)) (value : B
         → slice_get task.actions number ≡ Some action → Contains clauses clause
         → Contains clause literal → CanTurn value literal action → Contains listed number
 
--- the same, with each one that leads from a state into the set, or out of it
+-- the same, with each one that leads from a state in which it is applicable into the set, or out of
+-- it
 pub record AreCrossing (task : Strips) (has : List Bool → Bool) (into : Bool) (listed : List ℕ)
     : Type 0
   where
@@ -50,7 +51,7 @@ pub record AreCrossing (task : Strips) (has : List Bool → Bool) (into : Bool) 
     pub first : 0 < length task.actions → Contains listed 0
     pub each : (number : ℕ) (action : Action) (state : List Bool)
         → slice_get task.actions number ≡ Some action → length state ≡ atoms task
-        → has (asked (Some action) into state) ≡ true
+        → applicable action state ≡ true → has (asked (Some action) into state) ≡ true
         → has (asked (Some action) (not into) state) ≡ false → Contains listed number
 
 -- the literal's atom has a flag, if the literal becomes true (value), or false, where the atom is
