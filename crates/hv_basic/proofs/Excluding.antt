@@ -22,7 +22,7 @@ use Rattle.hv_propagation.proofs.Effects.{list_all_from}
 use Rattle.hv_explicit.proofs.Anchored.{passes_at}
 use Rattle.hv_lines.proofs.Elements.{cons_cases, nothing_in}
 use Rattle.hv_basic.specs.ActionRows.{changed_to}
-use Rattle.hv_basic.specs.Working.Excluded.{AreAbleAt, AreApart, AreCompanions, AreLeading, AreSquare}
+use Rattle.hv_basic.specs.Working.Excluded.{AreAbleAt, HaveStrangers, AreCompanions, AreLeading, AreSquare}
 use Rattle.hv_basic.specs.Working.Excluded.{IsAgainst, IsFixed, IsOfTwo, KeepsFormula, fixed_first}
 use Rattle.hv_basic.specs.Working.Excluded.{fixed_later, goes_with, has_value, parted, turned_atoms}
 use Rattle.hv_basic.specs.Working.Framed.{AreCrossing, sign_to}
@@ -182,7 +182,7 @@ module _ (rows : List (List Bool)) (clause : List Literal) (d e : Literal) (squa
         parted_kept once last.atom first.atom once_last in_last a b
         (parted_kept rows first.atom last.atom first_in_rows in_first a b off)
 
-    pub twice_apart : AreApart twice clause
+    pub twice_apart : HaveStrangers twice clause
     twice_apart l among =
         elim (ends clause d e few l among) [
           | inl same ↦ (

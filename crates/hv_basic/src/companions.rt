@@ -5,7 +5,7 @@
 ghost use Rattle.std.specs.Prelude.{◌≡◌, ◌<◌, ◌≤◌, ◌⊎◌, ℕ, false, length, IfOk, IfSome, IsTrue};
 ghost use Rattle.std.specs.List.{All, Contains};
 ghost use Rattle.hv_sets.specs.declared.literal.Literal.{Literal};
-ghost use Rattle.hv_basic.specs.Working.Excluded.{AreApart, AreCompanions, AreSquare};
+ghost use Rattle.hv_basic.specs.Working.Excluded.{HaveStrangers, AreCompanions, AreSquare};
 ghost use Rattle.hv_basic.specs.Working.Excluded.{IsAgainst, IsExclusion, IsFull, IsOfTwo};
 ghost use Rattle.hv_basic.specs.Working.Excluded.{goes_with, parted};
 
@@ -131,7 +131,7 @@ fn part_all(rows: &mut Vec<State>, clause: &[Literal])
     ensures square { AreSquare rows.new.items }
     ensures kept { (p q : ℕ) → goes_with rows.old.items p q ≡ false
         → goes_with rows.new.items p q ≡ false }
-    ensures apart { AreApart rows.new.items clause.now }
+    ensures apart { HaveStrangers rows.new.items clause.now }
     ensures only { (p q : ℕ) → goes_with rows.new.items p q ≡ false
         → (goes_with rows.old.items p q ≡ false) ⊎ IsOfTwo clause.now p q }
 {

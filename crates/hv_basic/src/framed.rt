@@ -14,7 +14,7 @@ ghost use Rattle.hv_basic.specs.Working.Candidates.{HaveAllClashes};
 ghost use Rattle.hv_basic.specs.Working.Framed.{AreCrossing, IsFramed};
 
 use crate::case::Case;
-use crate::leading::leading;
+use crate::exclusions::leading;
 use crate::turned::{cost_of, most_for, turning};
 use hv_clauses::Formulas;
 use hv_formula::ClauseKind;
@@ -245,7 +245,7 @@ fn crossing_in<K: ClauseKind>(
         return Ok(None);
     }
     let clauses = sets.get(frame.number).clauses();
-    if let Some(numbers) = leading(alloc, case.task, clauses, frame.into)? {
+    if let Some(numbers) = leading(alloc, case.task, clauses, frame.into, look)? {
         return Ok(Some(numbers));
     }
     let Some(numbers) = turning(alloc, case, clauses, frame.into, look)? else {

@@ -22,7 +22,9 @@
 //!   and few states are asked about before the action, for those that can be applicable there, by
 //!   the `action_rows` that the `store` keeps; where one formula is asked about at both times
 //!   (`framed`), for those that can turn a literal of it (`turned`), by the `change_rows` that the
-//!   `store` keeps, or by a look at each action; where formulas before the action deny atoms
+//!   `store` keeps, or by a look at each action; where that formula says of pairs of atoms that they
+//!   exclude each other, for those that its `companions` don't tell to stay in it (`exclusions`); where
+//!   formulas before the action deny atoms
 //!   (`denied`), for those that need none of these, by the `action_rows` too. Else `actions` lists
 //!   the actions of the progression: those of a list that rises as they are there, else by the flags
 //!   of `acts`. For each of them `query_walk` asks the query of the store of the family, and
@@ -93,6 +95,15 @@
 //! one of these formulas are gone through anew for each action. Of several formulas that are asked
 //! about at both times the one is taken for which the least is looked at.
 //!
+//! Where that formula's clauses have one or two literals, all negative or all positive, and are many
+//! beside the atoms, as where they say which pairs of atoms are never reached, a word has what 64
+//! atoms say: for each atom those that can be true beside it, or false, are kept for the statement. An
+//! action that leads out of the formula turns an atom of some clause whose other atom has the value
+//! too, afterwards. So it is left out if each atom that is no companion of one that it turns is known
+//! not to have the value: by the action's own lists, or since it is no companion of an atom that the
+//! precondition needs, and isn't turned. All this takes some words an atom of the action's lists, and
+//! not the clauses of these atoms.
+//!
 //! Where formulas in clauses are asked about before the action, an atom that one of their clauses
 //! denies, as its only literal, is in no state there, and no action that needs it is applicable. So
 //! before each action is looked at, a statement over all actions is asked about those alone that
@@ -111,13 +122,13 @@ pub mod case;
 mod change_rows;
 mod companions;
 mod denied;
+mod exclusions;
 mod families;
 mod framed;
 mod kept_flags;
 mod kept_leaves;
 pub mod kinds;
 pub mod laws;
-mod leading;
 mod leaves;
 mod lefts;
 mod mixed;

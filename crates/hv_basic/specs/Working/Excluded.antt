@@ -44,8 +44,8 @@ abbrev pub AreSquare : List (List Bool) → Type 0
 AreSquare rows = (p : ℕ) → p < length rows → length (slice_index_or rows p []) ≡ length rows
 
 -- each literal of the clause has one whose atom isn't in its atom's row
-abbrev pub AreApart : List (List Bool) → List Literal → Type 0
-AreApart rows clause =
+abbrev pub HaveStrangers : List (List Bool) → List Literal → Type 0
+HaveStrangers rows clause =
     (literal : Literal) → Contains clause literal
     → (other : Literal) × Contains clause other × (goes_with rows literal.atom other.atom ≡ false)
 
@@ -64,7 +64,7 @@ pub record AreCompanions (count : ℕ) (clauses : List (List Literal)) (companio
     pub against : (clause : List Literal) → Contains clauses clause
         → All (IsAgainst count companions.value) clause
     pub apart : (clause : List Literal) → Contains clauses clause
-        → AreApart companions.rows.items clause
+        → HaveStrangers companions.rows.items clause
     pub only : (p q : ℕ) → p < count → q < count → goes_with companions.rows.items p q ≡ false
         → (clause : List Literal) × Contains clauses clause × IsOfTwo clause p q
 

@@ -4,7 +4,7 @@ use Rattle.std.proofs.lemmas.List.{get_or_default}
 use Rattle.std.proofs.lemmas.List.Elements.{All-contains}
 use Rattle.std.proofs.lemmas.Option.{get_or_from_slice_get}
 use Rattle.hv_lines.proofs.Elements.{got_in}
-use Rattle.hv_basic.specs.Working.Excluded.{AreApart, IsExclusion}
+use Rattle.hv_basic.specs.Working.Excluded.{HaveStrangers, IsExclusion}
 use Rattle.hv_basic.proofs.companions.companions_of.Goals as goal
 
 pub loop-place-preserved : goal.loop-place-preserved
@@ -23,7 +23,7 @@ loop-place-preserved c =
             let same : k ≡ c.loop-place.place = omega (arith, less, upto) in
             let is = ap (λ n. get_or clauses n []) same
             ∙ get_or_from_slice_get clauses c.loop-place.place c.get.result.now [] c.get.ensures in
-            subst (AreApart c.part_all.new.rows.items) (sym is) e.apart
+            subst (HaveStrangers c.part_all.new.rows.items) (sym is) e.apart
       ];
       only = λ p q p_in q_in off. elim (e.only p q off) [
         | inl old ↦ i.only p q p_in q_in old
@@ -47,7 +47,7 @@ returns-clause-are c =
           (All-contains (IsExclusion c.args.atoms c.args.value) clauses clause c.requires among).1;
       apart = λ clause among.
           let within = among.1 in
-          subst (AreApart c.loop-place.rows.items)
+          subst (HaveStrangers c.loop-place.rows.items)
           (get_or_default clauses among.0 [] clause among.1 ∙ among.2)
           (i.apart among.0
           (omega (arith, within, c.loop-place-test.false, c.len-place-end.ensures)));

@@ -1,7 +1,7 @@
 use Rattle.std.proofs.Common.{arith, inl, inr, subst, sym}
 use Rattle.hv_task.specs.Strips.{IsOver}
 use Rattle.hv_basic.specs.Working.Excluded.{AreCompanions}
-use Rattle.hv_basic.proofs.leading.put_leading.Goals as goal
+use Rattle.hv_basic.proofs.exclusions.put_leading.Goals as goal
 
 pub can_lead-requires-clause-over : goal.can_lead-requires-clause-over
 can_lead-requires-clause-over c =

@@ -5,7 +5,7 @@ use Rattle.hv_basic.specs.Working.Excluded.{AreAbleAt, fixed_later, turned_atoms
 use Rattle.hv_basic.specs.Working.Framed.{sign_to}
 use Rattle.hv_basic.proofs.Crossing.{changed_below}
 use Rattle.hv_basic.proofs.Excluding.{able_after}
-use Rattle.hv_basic.proofs.leading.able_later.Goals as goal
+use Rattle.hv_basic.proofs.exclusions.able_later.Goals as goal
 
 pub put_atoms-requires-2 : goal.put_atoms-requires-2
 put_atoms-requires-2 c =

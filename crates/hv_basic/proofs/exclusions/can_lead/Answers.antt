@@ -6,7 +6,7 @@ use Rattle.hv_basic.specs.Working.Excluded.{AreAbleAt, KeepsFormula, goes_with}
 use Rattle.hv_basic.specs.Working.Framed.{sign_to}
 use Rattle.hv_basic.proofs.Crossing.{changed_below}
 use Rattle.hv_basic.proofs.Excluding.{keeps_by, keeps_unturned, no_atoms, rows_long}
-use Rattle.hv_basic.proofs.leading.can_lead.Goals as goal
+use Rattle.hv_basic.proofs.exclusions.can_lead.Goals as goal
 
 pub returns-then-is_empty-clause-keeps : goal.returns-then-is_empty-clause-keeps
 returns-then-is_empty-clause-keeps c = λ _.

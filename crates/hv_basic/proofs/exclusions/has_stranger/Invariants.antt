@@ -1,7 +1,7 @@
 use Rattle.std.proofs.Common.{◌≡◌, ◌<◌, ℕ, get_or, true}
 use Rattle.hv_task.specs.State.{has_atom}
 use Rattle.hv_basic.specs.Working.Excluded.{goes_with}
-use Rattle.hv_basic.proofs.leading.has_stranger.Given as goal
+use Rattle.hv_basic.proofs.exclusions.has_stranger.Given as goal
 
 abbrev pub invariant-loop-atom : goal.invariant-loop-atom
 invariant-loop-atom l =

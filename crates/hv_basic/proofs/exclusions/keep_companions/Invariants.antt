@@ -1,6 +1,6 @@
 use Rattle.std.proofs.Common.{◌≡◌, length}
 use Rattle.hv_basic.specs.Working.Excluded.{AreAbleAt}
-use Rattle.hv_basic.proofs.leading.keep_companions.Given as goal
+use Rattle.hv_basic.proofs.exclusions.keep_companions.Given as goal
 
 abbrev pub invariant-loop-atom : goal.invariant-loop-atom
 invariant-loop-atom l = record {

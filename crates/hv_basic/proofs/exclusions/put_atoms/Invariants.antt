@@ -1,6 +1,6 @@
 use Rattle.std.proofs.Common.{◌≡◌, length, drop}
 use Rattle.hv_task.specs.State.{put_all}
-use Rattle.hv_basic.proofs.leading.put_atoms.Given as goal
+use Rattle.hv_basic.proofs.exclusions.put_atoms.Given as goal
 
 abbrev pub invariant-loop-atom : goal.invariant-loop-atom
 invariant-loop-atom l = record {

@@ -6,7 +6,7 @@ use Rattle.hv_lines.proofs.Elements.{all_from, nothing_in}
 use Rattle.hv_task.proofs.Places.{length-state_of}
 use Rattle.hv_task.specs.Strips.{atoms}
 use Rattle.hv_basic.specs.Working.Excluded.{AreLeading, KeepsFormula}
-use Rattle.hv_basic.proofs.leading.leading_by.Goals as goal
+use Rattle.hv_basic.proofs.exclusions.leading_by.Goals as goal
 
 pub loop-number-init : goal.loop-number-init
 loop-number-init c =

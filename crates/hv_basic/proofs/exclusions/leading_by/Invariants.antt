@@ -3,7 +3,7 @@ use Rattle.std.specs.List.{Contains}
 use Rattle.hv_task.specs.Strips.{atoms}
 use Rattle.hv_task.specs.declared.action.Action.{Action}
 use Rattle.hv_basic.specs.Working.Excluded.{KeepsFormula}
-use Rattle.hv_basic.proofs.leading.leading_by.Given as goal
+use Rattle.hv_basic.proofs.exclusions.leading_by.Given as goal
 
 abbrev pub invariant-loop-number : goal.invariant-loop-number
 invariant-loop-number l = record {

@@ -3,7 +3,7 @@ use Rattle.std.proofs.lemmas.List.Elements.{Contains-get_or}
 use Rattle.std.specs.List.{Contains}
 use Rattle.hv_task.specs.State.{AreBelow}
 use Rattle.hv_basic.proofs.Excluding.{first_below}
-use Rattle.hv_basic.proofs.leading.keep_companions.Goals as goal
+use Rattle.hv_basic.proofs.exclusions.keep_companions.Goals as goal
 
 pub keep_beside-requires-clause-atom : goal.keep_beside-requires-clause-atom
 keep_beside-requires-clause-atom c =

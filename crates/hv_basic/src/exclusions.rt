@@ -22,16 +22,17 @@ use hv_task::{Action, AtomList, AtomSet, State, Task};
 use std::alloc::{AllocError, Global};
 
 /// The first action and those that can lead out of the formula, or into it, if it is one of
-/// exclusions, and to make the companions is little beside the actions.
+/// exclusions, each action may be looked at (look), and to make the companions is little beside that.
 pub(crate) fn leading(
     alloc: Global,
     task: &Task,
     clauses: &Clauses,
     into: bool,
+    look: Option<usize>,
 ) -> Result<Option<AtomList>, AllocError>
     ensures { IfOk result (λ found. IfSome found (AreLeading task.now clauses.now into)) }
 {
-    if !are_worth_companions(task, clauses) {
+    if !are_worth_companions(task, clauses, look) {
         return Ok(None);
     }
     let Some(value) = excluded_value(task.atoms(), clauses) else {
@@ -42,12 +43,16 @@ pub(crate) fn leading(
     Ok(Some(numbers))
 }
 
-/// Whether the clauses are many beside the words of the companions, and few beside the actions.
-fn are_worth_companions(task: &Task, clauses: &Clauses) -> bool {
+/// Whether each action may be looked at (look), and the clauses are many beside the atoms and the words
+/// of the companions, and few beside the actions.
+fn are_worth_companions(task: &Task, clauses: &Clauses, look: Option<usize>) -> bool {
     let atoms = task.atoms() as usize;
     let words = atoms / 64 + 1;
     let actions = task.actions() as usize;
-    clauses.len() / words >= atoms / 8 && clauses.len() / 32 <= actions
+    look.is_some()
+        && clauses.len() / 2 >= atoms
+        && clauses.len() / words >= atoms / 8
+        && clauses.len() / 32 <= actions
 }
 
 /// The first action and those that can lead out of the formula, or into it.
@@ -65,7 +70,9 @@ fn leading_by(
     let mut found = AtomSet::new(alloc);
     put(0, task.actions(), &mut found)?;
     for number in 0..task.actions() {
-        put_leading(task, clauses, number, companions, into, &mut able, &mut found)?;
+        put_leading(
+            task, clauses, number, companions, into, &mut able, &mut found,
+        )?;
     }
     let numbers = found.take(alloc)?;
     Ok(numbers)

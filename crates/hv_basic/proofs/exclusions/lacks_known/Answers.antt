@@ -3,7 +3,7 @@ use Rattle.std.proofs.lemmas.List.Elements.{Contains-get_or}
 use Rattle.std.specs.List.{Contains}
 use Rattle.hv_task.specs.State.{AreBelow}
 use Rattle.hv_basic.proofs.Excluding.{first_below, lacks_none}
-use Rattle.hv_basic.proofs.leading.lacks_known.Goals as goal
+use Rattle.hv_basic.proofs.exclusions.lacks_known.Goals as goal
 
 pub returns-then-is_missing : goal.returns-then-is_missing
 returns-then-is_missing c = λ _ able.

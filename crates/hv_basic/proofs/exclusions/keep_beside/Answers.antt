@@ -2,7 +2,7 @@ use Rattle.std.proofs.Common.{◌∙◌, ◌&&◌, ap, length}
 use Rattle.hv_task.specs.State.{has_atom}
 use Rattle.hv_basic.specs.Working.Excluded.{goes_with}
 use Rattle.hv_basic.proofs.Excluding.{able_beside}
-use Rattle.hv_basic.proofs.leading.keep_beside.Goals as goal
+use Rattle.hv_basic.proofs.exclusions.keep_beside.Goals as goal
 
 pub returns-then-is_fixed-clause-able : goal.returns-then-is_fixed-clause-able
 returns-then-is_fixed-clause-able c =
