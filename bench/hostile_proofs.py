@@ -164,6 +164,17 @@ def falling_union(kind, negation=False):
     return row
 
 
+def negated_union(folder, percent):
+    """A union that grows by negations, and a set that is within the first of them."""
+    count, lines = 20 * percent, Lines()
+    parts = [lines.set("h 1 -%d 0" % (n % 20 + 1)) for n in range(count)]
+    left, union = lines.set("h 1 1 0"), lines.set("n %d", parts[0])
+    for part in parts[1:]:
+        union = lines.set("u %d %d", union, lines.set("n %d", part))
+        lines.know("s %d %d b1", left, union)
+    return count, checked(folder, task(folder, 21, [0], [1]), lines.text)
+
+
 def growing_left(folder, percent):
     """An intersection that grows, and is within each of its parts."""
     count, lines = 5 * percent, Lines()

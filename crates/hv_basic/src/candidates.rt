@@ -1,6 +1,7 @@
 //! For which actions a statement over all actions is asked about: where few states are asked about
 //! before the action, for those that can be applicable in one of them; where one formula is asked
-//! about before the action and after it, for those that can lead into it, or out of it.
+//! about before the action and after it, for those that can lead into it, or out of it; where clauses
+//! before the action deny atoms, for those that don't stand in the row of one.
 
 ghost use Rattle.std.specs.Prelude.{◌≡◌, ◌<◌, ◌⊎◌, ◌↔◌, ℕ, Option, Some, false, length, map};
 ghost use Rattle.std.specs.Prelude.{IfOk, IfSome, IsTrue, OnOk};
@@ -111,7 +112,7 @@ fn all_clashes(
     if let Some(numbers) = clashes_in_open(alloc, case, family, query)? {
         return Ok(Some(numbers));
     }
-    let most = most_literals(case.task, query.positive.as_slice());
+    let most = most_literals(case, family, query.positive.as_slice());
     let numbers = crossing(alloc, case, family, query, Some(most))?;
     Ok(numbers)
 }

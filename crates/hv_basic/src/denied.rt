@@ -26,8 +26,9 @@ use hv_sets::{Clauses, Literal, Operand, Query, Which};
 use hv_task::{AtomList, AtomSet, Task};
 use std::alloc::{AllocError, Global};
 
-/// The first action and those that need no atom that is denied before the action, by the rows of the
-/// store, if there are some and it takes less than to ask about each.
+/// The first action and those that don't stand in the row of an atom that is denied before the action,
+/// by the rows of the store, if there are some and it takes less than to ask about each. An action
+/// stands in one row, that of an atom that it needs.
 pub(crate) fn clashes_in_open(
     alloc: Global,
     case: &Case<'_>,
@@ -48,9 +49,12 @@ pub(crate) fn clashes_in_open(
     Ok(Some(numbers))
 }
 
-/// Whether formulas in clauses are asked about before the action, and their clauses and the flags of
-/// the atoms are little beside the actions.
+/// Whether the store has rows of actions, formulas in clauses are asked about before the action, and
+/// their clauses and the flags of the atoms are little beside the actions.
 fn are_worth_flags(case: &Case<'_>, family: FormulaFamily, positive: &[Operand]) -> bool {
+    if case.store.rows().is_none() {
+        return false;
+    }
     let most = most_for(case.task);
     let flags = case.task.atoms() as usize / 16;
     let clauses = clauses_before(case, family, positive);
@@ -69,7 +73,7 @@ fn clauses_before(case: &Case<'_>, family: FormulaFamily, positive: &[Operand]) 
 }
 
 /// How many clauses the set has, if it is a formula in clauses.
-fn clauses_of(case: &Case<'_>, family: FormulaFamily, which: Which) -> usize {
+pub(crate) fn clauses_of(case: &Case<'_>, family: FormulaFamily, which: Which) -> usize {
     let Which::Set(number) = which else {
         return 0;
     };
@@ -178,7 +182,8 @@ fn denied_by(clause: &[Literal]) -> Option<u32>
     Some(literal.atom)
 }
 
-/// The first action and those that need no atom with a flag, by the rows of the store.
+/// The first action and those that don't stand in the row of an atom with a flag, by the rows of the
+/// store.
 fn open_actions(
     alloc: Global,
     case: &Case<'_>,

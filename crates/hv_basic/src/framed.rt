@@ -14,13 +14,14 @@ ghost use Rattle.hv_basic.specs.Working.Candidates.{HaveAllClashes};
 ghost use Rattle.hv_basic.specs.Working.Framed.{AreCrossing, IsFramed};
 
 use crate::case::Case;
+use crate::denied::clauses_of;
 use crate::exclusions::leading;
 use crate::turned::{cost_of, most_for, turning};
 use hv_clauses::Formulas;
 use hv_formula::ClauseKind;
 use hv_lines::FormulaFamily;
 use hv_sets::{Operand, Query, Which};
-use hv_task::{AtomList, Task};
+use hv_task::AtomList;
 use std::alloc::{AllocError, Global};
 
 /// A set of the store that is asked about positively at one time, and negatively at the other.
@@ -33,7 +34,8 @@ pub(crate) struct Frame {
 
 /// The first action and those for which the query can have a counterexample, if it asks about a
 /// formula at both times, and there is a way to find the actions that can turn a literal of it: by a
-/// look at each action, if it has at most so many literals (look), or by rows of actions.
+/// look at each action, if its clauses and literals, with a sixteenth of the atoms, are at most so
+/// many (look), or by rows of actions.
 pub(crate) fn crossing(
     alloc: Global,
     case: &Case<'_>,
@@ -54,29 +56,32 @@ pub(crate) fn crossing(
     Ok(Some(numbers))
 }
 
-/// How many literals may be looked at before each action is. Where several sets are asked about
-/// positively they are more: all but one of these are gone through anew for each action.
-pub(crate) fn most_literals(task: &Task, positive: &[Operand]) -> usize {
-    let actions = task.actions() as usize;
-    if has_several_sets(positive) {
-        actions.saturating_mul(4)
-    } else {
-        most_for(task)
+/// How many literals may be looked at before each action is: the more clauses all but one of the
+/// sets have that are asked about positively, the more, since these are gone through anew for each
+/// action.
+pub(crate) fn most_literals(case: &Case<'_>, family: FormulaFamily, positive: &[Operand]) -> usize {
+    let actions = case.task.actions() as usize;
+    match clauses_of_others(case, family, positive) {
+        0 => most_for(case.task),
+        count => actions.saturating_mul(4).saturating_mul(count),
     }
 }
 
-/// Whether at least two of the operands are sets of a store.
-fn has_several_sets(operands: &[Operand]) -> bool {
-    let mut has_one = false;
+/// How many clauses the sets of a store among the operands have but for the one that has the most,
+/// with one for each of these sets.
+fn clauses_of_others(case: &Case<'_>, family: FormulaFamily, operands: &[Operand]) -> usize {
+    let mut all: usize = 0;
+    let mut greatest: usize = 0;
     for operand in operands {
         if is_set(operand) {
-            if has_one {
-                return true;
+            let count = clauses_of(case, family, operand.which).saturating_add(1);
+            all = all.saturating_add(count);
+            if count > greatest {
+                greatest = count;
             }
-            has_one = true;
         }
     }
-    false
+    all.saturating_sub(greatest)
 }
 
 fn is_set(operand: &Operand) -> bool {

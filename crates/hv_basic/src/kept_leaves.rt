@@ -172,7 +172,7 @@ fn put_all(into: &mut Vec<Leaf>, more: &[Leaf]) -> Result<(), AllocError>
 }
 
 /// Puts in the leaf behind those of later sets, if it isn't there.
-fn put_leaf(into: &mut Vec<Leaf>, leaf: Leaf) -> Result<(), AllocError>
+pub(crate) fn put_leaf(into: &mut Vec<Leaf>, leaf: Leaf) -> Result<(), AllocError>
     ensures places { OnOk result (AreLeavesWith (places into.old.items) (leaf.place ∷ [])
         (places into.new.items)) }
     ensures read { OnOk result ((lines : List Line) → All (IsLeafRead lines) into.old.items

@@ -19,6 +19,7 @@ ghost use Rattle.hv_basic.specs.Working.Sharing.{IsPlaceFor};
 
 use crate::case::Case;
 use crate::families::family_with;
+use crate::kept_leaves::put_leaf;
 use crate::leaves::{Half, leaves};
 use crate::shared::Kept;
 use crate::signed_sets::Leaf;
@@ -219,7 +220,7 @@ fn add_one(case: &Case<'_>, kept: &mut Kept, leaf: Leaf) -> Result<bool, AllocEr
         return Ok(false);
     };
     if !literal.is_plain {
-        kept.negations.push(leaf)?;
+        put_leaf(&mut kept.negations, leaf)?;
         return Ok(true);
     }
     let Some(both) = family_with(kept.family, leaf.family) else {
@@ -302,7 +303,7 @@ fn ways_with(ways: Option<u64>, expr: &Expr) -> Option<u64>
 
 /// How many clauses there are to choose from: those of a formula in clauses, and of the empty set
 /// one.
-fn clauses_to_choose(expr: &Expr) -> Option<u64>
+pub(crate) fn clauses_to_choose(expr: &Expr) -> Option<u64>
     ensures { result ≡ clauses_to_choose expr.now }
 {
     match expr {
