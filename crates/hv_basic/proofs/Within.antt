@@ -34,7 +34,8 @@ use Rattle.hv_lines.proofs.Ready.{asked_exprs}
 use Rattle.hv_lines.proofs.Named.{counts_before, family_is, found_number, which_is}
 use Rattle.hv_basic.specs.Deciding.{IsQuestionOver}
 use Rattle.hv_basic.specs.Sharing.{AreWays, clauses_to_choose}
-use Rattle.hv_basic.specs.Working.Sharing.{IsInClauses, IsListWithinIts, IsWithinIts}
+use Rattle.hv_basic.specs.Working.Sharing.{IsAloneWithin, IsInClauses, IsListWithinIts}
+use Rattle.hv_basic.specs.Working.Sharing.{IsWithinIts}
 use Rattle.hv_basic.specs.Working.Views.{question_of}
 use Rattle.hv_basic.specs.declared.shared.Kept.{Kept}
 use Rattle.hv_basic.proofs.Querying.{IsOfferedIn}
@@ -258,6 +259,24 @@ own_within setting lines kept over told own =
     (λ a c. over.is.family.within false a ((over.is.negative a).0 c)) in (
       offered lines q q.family own.family,
       own_decided setting lines q own.own own.asked_for own.has
+          (λ action. passes_out setting lines (query_of lines q action) own.ways q.family own.family
+          is own.few),
+    )
+
+-- the verdict on a question whose right side asks for one set that its left side asks for
+pub alone_within : (setting : Setting) (lines : List Line) (q : QuestionState)
+    → IsQuestionOver lines q → IsAloneWithin lines q setting.budget
+    → IsVerdictOfSets setting lines q V.True
+alone_within setting lines q over own =
+    let has : Contains q.negative own.own =
+    subst (λ xs. Contains xs own.own) (sym own.only) (head_in own.own []) in
+    let one : own.ways ≡ own.ways * 1 = omega arith in
+    let are : AreWays lines q.negative own.ways =
+    subst (λ xs. AreWays lines xs own.ways) (sym own.only) (own.ways, 1, own.told, refl, one) in
+    let is = ways_are setting.task lines q.family q.negative own.ways are
+    (λ a c. over.is.family.within false a ((over.is.negative a).0 c)) in (
+      offered lines q q.family own.family,
+      own_decided setting lines q own.own own.asked_for has
           (λ action. passes_out setting lines (query_of lines q action) own.ways q.family own.family
           is own.few),
     )

@@ -45,8 +45,9 @@
 //! do four such rows of unions that are asked about by turns. Every other union on the right is
 //! looked at anew and kept in place of the one that wasn't asked about for longest. The leaves of
 //! the four intersections that were on the left last are kept in the same way, and what they ask is
-//! gathered for each statement. Negations among the leaves on the right are kept beside: what they
-//! ask about has the sign of the left side, and is gathered with what that asks. Where a negation on
+//! gathered for each statement. Negations among the leaves on the right are kept beside, each once:
+//! what they ask about has the sign of the left side, and is gathered with what that asks. Where a
+//! negation on
 //! the left gives it something that is asked about with the sign of the right one, the statement is
 //! decided as if nothing were kept. What is kept is the negative half of a question and of its
 //! query; the invariant says that it is right for the lines so far, and a further line changes
@@ -57,7 +58,8 @@
 //! in a set and outside of it. For that the cost has to be known to be within the budget: over
 //! formulas in clauses that is the number of ways to choose one clause of each, which is kept with
 //! the right side (nothing is known of it where the initial state or the goal is among the sets);
-//! over listed states the length of the one list that the left side asks about. Nor is one asked
+//! over listed states the length of the one list that the left side asks about. A right side that is
+//! one formula in clauses is looked for in the same way, whether it is kept or not. Nor is one asked
 //! where the left side asks for a formula, at the time of the right side, with a clause each of
 //! whose literals is in the only clause of some set of the right one: a state in which the clause
 //! is true is in such a set. The literals of the sets whose only clause has at most four are kept
@@ -91,8 +93,9 @@
 //! literals and the actions in their rows are together more than a quarter as many as the task's
 //! actions, each action is looked at, and the atoms have flags. All actions are asked about where
 //! the literals are that many themselves, with a sixteenth of the atoms for the flags; or, where
-//! several formulas are asked about positively, where they are sixteen times as many, since all but
-//! one of these formulas are gone through anew for each action. Of several formulas that are asked
+//! several formulas are asked about positively, where they are sixteen times as many for each of
+//! these formulas and of their clauses, but for the formula with the most, since the others are gone
+//! through anew for each action. Of several formulas that are asked
 //! about at both times the one is taken for which the least is looked at.
 //!
 //! Where that formula's clauses have one or two literals, all negative or all positive, and are many

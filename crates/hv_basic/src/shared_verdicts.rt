@@ -1,6 +1,6 @@
 //! Verdicts of statements whose right sides grow.
 
-ghost use Rattle.std.specs.Prelude.{◌≡◌, ◌<◌, ◌≤◌, ℕ, Bool, true, false, List, [], ◌∷◌, IfOk};
+ghost use Rattle.std.specs.Prelude.{◌≡◌, ◌<◌, ◌≤◌, ℕ, Bool, true, false, List, [], ◌∷◌, IfOk, Some};
 ghost use Rattle.std.specs.Prelude.{IfErr, IfSome, OnOk, length};
 ghost use Rattle.hv_sets.specs.declared.literal.Literal.{Literal};
 ghost use Rattle.hv_lines.specs.Numbering.{IsTable, SpeaksBelow, acts_count, expr_count};
@@ -12,11 +12,11 @@ ghost use Rattle.hv_basic.specs.Deciding.{IsQuestionOver};
 ghost use Rattle.hv_basic.specs.Faults.{IsShapeFault};
 ghost use Rattle.hv_basic.specs.Cases.{lines_in, setting_in};
 ghost use Rattle.hv_basic.specs.Sharing.{AreEnoughFor, AreNegations, AreWays, IsKeptFor};
-ghost use Rattle.hv_basic.specs.Sharing.{IsRightSide, IsShared, NamesLiteral};
+ghost use Rattle.hv_basic.specs.Sharing.{IsRightSide, IsShared, NamesLiteral, clauses_to_choose};
 ghost use Rattle.hv_basic.specs.Working.Asked.{AreOperands};
 ghost use Rattle.hv_basic.specs.Working.Gathered.{IsLeftRead};
 ghost use Rattle.hv_lines.specs.declared.line.Line.{Line};
-ghost use Rattle.hv_basic.specs.Working.Sharing.{AreAskedBeside};
+ghost use Rattle.hv_basic.specs.Working.Sharing.{AreAskedBeside, IsAloneWithin};
 ghost use Rattle.hv_basic.specs.Working.Sharing.{AreNamed, IsAskedBy, IsInClauses, IsVerdictOfSub};
 ghost use Rattle.hv_basic.specs.Working.Sharing.{HasEnough, IsEnoughWithin, IsListWithinIts};
 ghost use Rattle.hv_basic.specs.Working.Sharing.{IsWithinIts, IsWithinWays};
@@ -24,12 +24,13 @@ ghost use Rattle.hv_lines.specs.declared.line.Expr.TheVariants as E;
 ghost use Rattle.hv_basic.specs.declared.signed_sets.Asking.{Asking};
 ghost use Rattle.hv_basic.specs.Working.Views.{question_of};
 
+use crate::basic::Question;
 use crate::candidates::is_listed;
 use crate::case::Case;
 use crate::families::one_family;
 use crate::lefts::{asks_sides_after, left_of};
 use crate::recent::bring;
-use crate::rights::{is_union, keep_right, lesser_before, own_clauses};
+use crate::rights::{clauses_to_choose, is_union, keep_right, lesser_before, own_clauses};
 use crate::rising::in_order;
 use crate::shapes::{MOST_OPERANDS, ShapeFault, question_beside, shape};
 use crate::shared::{Kept, Shared};
@@ -491,6 +492,47 @@ fn is_in_clauses(family: FormulaFamily) -> bool
     match family {
         FormulaFamily::Horn | FormulaFamily::Dual | FormulaFamily::Two => true,
         FormulaFamily::States | FormulaFamily::Node => false,
+    }
+}
+
+/// Whether the right side asks for one set alone, for which the left side asks too, and the cost is
+/// known to be within the budget.
+pub(crate) fn is_alone_within(case: &Case<'_>, question: &Question) -> bool
+    requires table { IsTable (lines_in case.now) }
+    requires question { IsQuestionOver (lines_in case.now) (question_of question.now) }
+    ensures { result ≡ true
+        → IsAloneWithin (lines_in case.now) (question_of question.now) case.now.budget }
+{
+    if !is_in_clauses(question.family) {
+        return false;
+    }
+    let Some(own) = only_one(&question.negative) else {
+        return false;
+    };
+    if !is_among(&question.positive, own) {
+        return false;
+    }
+    chooses_upto(case.table.expr(own.0), case.budget)
+}
+
+/// What is asked about, if it is alone.
+fn only_one(asked: &[(usize, bool)]) -> Option<(usize, bool)>
+    ensures { IfSome result (λ own. asked.now ≡ own ∷ []) }
+{
+    if asked.len() != 1 {
+        return None;
+    }
+    Some(asked[0])
+}
+
+/// Whether the clauses to choose from are told, and at most so many.
+fn chooses_upto(expr: &Expr, most: u64) -> bool
+    ensures { result ≡ true → (count : ℕ) × (clauses_to_choose expr.now ≡ Some count)
+        × (count ≤ most) }
+{
+    match clauses_to_choose(expr) {
+        None => false,
+        Some(count) => count <= most,
     }
 }
 

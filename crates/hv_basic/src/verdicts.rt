@@ -30,6 +30,7 @@ use crate::mixed::decide_two;
 use crate::node_walk::walk_nodes;
 use crate::query_walk::walk;
 use crate::shared::FlaggedActs;
+use crate::shared_verdicts::is_alone_within;
 use crate::store::Store;
 use hv_bdd::Diagrams;
 use hv_clauses::Formulas;
@@ -94,7 +95,8 @@ pub(crate) fn decide_on(
     }
 }
 
-/// The verdict on a question.
+/// The verdict on a question. Where its right side asks for one set alone, for which the left side
+/// asks, no query is asked.
 pub(crate) fn decide_whole(
     alloc: Global,
     case: &Case<'_>,
@@ -108,6 +110,9 @@ pub(crate) fn decide_whole(
 {
     // For its contract alone: the lines are those of a table.
     let _count = case.table.expr_count();
+    if is_alone_within(case, question) {
+        return Ok(Verdict::True);
+    }
     let negative = operands_of(alloc, case, &question.negative)?;
     let mut query = Query {
         positive: Operands::new(alloc),

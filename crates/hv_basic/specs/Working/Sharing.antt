@@ -18,7 +18,7 @@ use Rattle.hv_lines.specs.Verdicts.{IsVerdictOfSets}
 use Rattle.hv_lines.specs.declared.verdict.Verdict.{Verdict}
 use Rattle.hv_basic.specs.Leaves.{places}
 use Rattle.hv_basic.specs.Sharing.{AreEnoughFor, AreItsLeaves, AreWays, HasLeaf, NamesLiteral}
-use Rattle.hv_basic.specs.Sharing.{clauses_to_choose, own_clauses}
+use Rattle.hv_basic.specs.Sharing.{HasToChoose, clauses_to_choose, own_clauses}
 use Rattle.hv_basic.specs.Working.Asked.{AreOperands}
 use Rattle.hv_basic.specs.Working.Gathered.{AreGathered, IsFamilyIn}
 use Rattle.hv_basic.specs.Working.Views.{question_of}
@@ -141,6 +141,17 @@ pub record IsWithinWays (kept : Kept) (budget : ℕ) : Type 0 where
   pub family : IsInClauses kept.question.family
   pub ways : ℕ
   pub told : kept.ways ≡ Some ways
+  pub few : ways ≤ budget
+
+-- the right side asks for one set alone, for which the left side asks at the same time, and the cost
+-- is within the budget
+pub record IsAloneWithin (lines : List Line) (question : QuestionState) (budget : ℕ) : Type 0 where
+  pub family : IsInClauses question.family
+  pub own : ℕ × Bool
+  pub only : question.negative ≡ own ∷ []
+  pub asked_for : Contains question.positive own
+  pub ways : ℕ
+  pub told : HasToChoose lines own.0 ways
   pub few : ways ≤ budget
 
 -- some clause of the set has only literals that are enough
