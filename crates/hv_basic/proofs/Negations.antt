@@ -1,17 +1,18 @@
 -- Negations that are kept of a right side, and what they ask.
-use Rattle.std.proofs.Common.{◌≡◌, ℕ, false, List, [], ◌∷◌, Some, inl, inr, refl, subst}
-use Rattle.std.proofs.lemmas.List.Elements.{All-contains}
+use Rattle.std.proofs.Common.{◌≡◌, ℕ, ◌∙◌, ◌++◌, false, List, [], ◌∷◌, Some, ap, inl, inr, subst, sym}
+use Rattle.std.proofs.lemmas.List.Elements.{Contains-append_left, Contains-push}
+use Rattle.std.proofs.lemmas.List.Elements.{Contains-push_cases}
 use Rattle.std.specs.Global.{Vec}
 use Rattle.std.specs.List.{All, Contains}
 use Rattle.std.specs.Option.{MatchOption}
 use Rattle.hv_lines.specs.Literals.{IsLiteral, IsNegatedSet}
 use Rattle.hv_lines.specs.Shapes.{IsLiteralOf}
 use Rattle.hv_lines.specs.declared.line.Line.{Line}
-use Rattle.hv_lines.proofs.Elements.{all_from, head_in, in_mapped, nothing_in, of_one}
+use Rattle.hv_lines.proofs.Elements.{all_from, in_mapped, nothing_in}
 use Rattle.hv_basic.specs.Leaves.{IsLeafRead, places}
 use Rattle.hv_basic.specs.Sharing.{AreNegations, IsPlainSide}
 use Rattle.hv_basic.specs.Working.Gathered.{IsThe}
-use Rattle.hv_basic.specs.Working.Sharing.{AreAskedBeside, AreLeavesWith, IsAddedTo}
+use Rattle.hv_basic.specs.Working.Sharing.{AreAskedBeside, IsAddedTo}
 use Rattle.hv_basic.specs.declared.shared.Kept.{Kept}
 use Rattle.hv_basic.specs.declared.signed_sets.Asking.{Asking}
 use Rattle.hv_basic.specs.declared.signed_sets.Leaf.{Leaf}
@@ -34,41 +35,49 @@ negated_read lines leaf literal found negated read =
     (literal.set, is.0, is.1)
 
 module _ (kept : Kept) (more : Vec Leaf) (leaf : Leaf)
-    (with : AreLeavesWith (places kept.negations.items) (leaf.place ∷ []) (places more.items)) where
+    (is : more.items ≡ kept.negations.items ++ leaf ∷ []) where
   -- one negation more
   pub negation_put : IsAddedTo leaf.place kept (record kept { negations = more })
   negation_put other = (
     elim [
       | inl has ↦ inl (inl has)
-      | inr there ↦ elim ((with other).0 there) [
-        | inl was ↦ inl (inr was)
-        | inr own ↦ inr (of_one (λ x. leaf.place ≡ x) leaf.place refl other own)
-      ]
+      | inr there ↦
+          let w = in_mapped id_of more.items other there in
+          elim (Contains-push_cases kept.negations.items leaf w.0
+          (subst (λ xs. Contains xs w.0) is w.1)) [
+            | inl was ↦
+                inl (inr (subst (Contains (places kept.negations.items)) w.2
+                (map_has id_of kept.negations.items w.0 was)))
+            | inr same ↦ inr (ap id_of same ∙ w.2)
+          ]
     ],
     elim [
       | inl (inl has) ↦ inl has
-      | inl (inr was) ↦ inr ((with other).1 (inl was))
+      | inl (inr there) ↦
+          let w = in_mapped id_of kept.negations.items other there in
+          inr (subst (Contains (places more.items)) w.2 (map_has id_of more.items w.0
+          (subst (λ xs. Contains xs w.0) (sym is)
+          (Contains-append_left kept.negations.items (leaf ∷ []) w.0 w.1))))
       | inr same ↦
-          inr ((with other).1 (inr (subst (Contains (leaf.place ∷ [])) same
-          (head_in leaf.place []))))
+          inr (subst (Contains (places more.items)) same (map_has id_of more.items leaf
+          (subst (λ xs. Contains xs leaf) (sym is) (Contains-push kept.negations.items leaf))))
     ],
   )
 
-  pub negation_side : (lines : List Line) → IsPlainSide lines kept → IsNegatedSet lines leaf.place
-      → All (IsLeafRead lines) more.items → IsPlainSide lines (record kept { negations = more })
-  negation_side lines side negated read = record {
+module _ (lines : List Line) (kept : Kept) (more : Vec Leaf) (leaf : Leaf) where
+  pub negation_side : IsPlainSide lines kept → IsNegatedSet lines leaf.place → IsLeafRead lines leaf
+      → more.items ≡ kept.negations.items ++ leaf ∷ []
+      → IsPlainSide lines (record kept { negations = more })
+  negation_side side negated read is = record {
     plain = side.plain;
     ways = side.ways;
     enough = side.enough;
-    negations = λ other c. (
-      elim ((with other.place).0 (map_has id_of more.items other c)) [
-        | inl was ↦
-            let w = in_mapped id_of kept.negations.items other.place was in
-            subst (IsNegatedSet lines) w.2 (side.negations w.0 w.1).0
-        | inr own ↦ of_one (IsNegatedSet lines) leaf.place negated other.place own
-      ],
-      All-contains (IsLeafRead lines) more.items other read c,
-    );
+    negations = λ other c. elim (Contains-push_cases kept.negations.items leaf other
+        (subst (λ xs. Contains xs other) is c)) [
+          | inl was ↦ side.negations other was
+          | inr same ↦ subst (λ (x : Leaf). IsNegatedSet lines x.place × IsLeafRead lines x) same
+              (negated, read)
+        ];
     named = side.named;
   }
 

@@ -44,7 +44,8 @@ pub record ArePlain (lines : List Line) (after : Bool) (family : Option FormulaF
     pub rises : AskingsRise asked
     pub one_family : IsTheFamily lines asked family
 
--- how many clauses there are to choose from: those of a formula in clauses, and of the empty set one
+-- how many clauses there are to choose from: those of a formula in clauses, and of the empty set
+-- one
 abbrev pub clauses_to_choose : Expr → Option ℕ
 clauses_to_choose (E.Constant C.Empty) = Some 1
 clauses_to_choose (E.Constant C.Start) = None

@@ -1,7 +1,7 @@
 //! For which actions a statement over all actions is asked about: where few states are asked about
 //! before the action, for those that can be applicable in one of them; where one formula is asked
-//! about before the action and after it, for those that can lead into it, or out of it; where clauses
-//! before the action deny atoms, for those that don't stand in the row of one.
+//! about before the action and after it, for those that can lead into it, or out of it; where
+//! clauses before the action deny atoms, for those that don't stand in the row of one.
 
 ghost use Rattle.std.specs.Prelude.{◌≡◌, ◌<◌, ◌⊎◌, ◌↔◌, ℕ, Option, Some, false, length, map};
 ghost use Rattle.std.specs.Prelude.{IfOk, IfSome, IsTrue, OnOk};
@@ -36,9 +36,9 @@ use std::alloc::{AllocError, Global};
 /// Lists of more states aren't looked at.
 const FEW: usize = 64;
 
-/// The actions for which the question's query is enough, rising; or once no action. Where the others
-/// can be told to have no counterexample, these are the first action, which tells the cost, and
-/// those that can have one.
+/// The actions for which the question's query is enough, rising; or once no action. Where the
+/// others can be told to have no counterexample, these are the first action, which tells the cost,
+/// and those that can have one.
 pub(crate) fn actions_to_ask(
     alloc: Global,
     case: &Case<'_>,

@@ -1,4 +1,4 @@
-//! Formulas of exclusions: clauses of one or two literals, all of one sign. Such a clause excludes
+//! Formulas of exclusions: clauses of at most two literals, all of one sign. Such a clause excludes
 //! that its atoms all have the other value. The companions of an atom are those that can have the
 //! value beside it, 64 a word.
 
@@ -9,6 +9,7 @@ ghost use Rattle.hv_basic.specs.Working.Excluded.{HaveStrangers, AreCompanions, 
 ghost use Rattle.hv_basic.specs.Working.Excluded.{IsAgainst, IsExclusion, IsFull, IsOfTwo};
 ghost use Rattle.hv_basic.specs.Working.Excluded.{goes_with, parted};
 
+use crate::query_walk::copy_of;
 use hv_sets::{Clauses, Literal};
 use hv_task::State;
 use std::alloc::{AllocError, Global};
@@ -21,8 +22,8 @@ pub(crate) struct Companions {
     pub rows: Vec<State>,
 }
 
-/// The value that the atoms of a clause can't all have, if the clauses have one or two literals, of
-/// these atoms and all of one sign.
+/// The value that the atoms of a clause can't all have, if the clauses have at most two literals,
+/// of these atoms and all of one sign.
 pub(crate) fn excluded_value(atoms: u32, clauses: &Clauses) -> Option<bool>
     ensures { IfSome result (λ value. All (IsExclusion atoms value) clauses.now) }
 {
@@ -46,7 +47,7 @@ fn has_negative(clause: &[Literal]) -> bool {
     }
 }
 
-/// Whether the clause has one or two literals, of these atoms, which are false where their atoms
+/// Whether the clause has at most two literals, of these atoms, which are false where their atoms
 /// have the value.
 fn is_exclusion(atoms: u32, value: bool, clause: &[Literal]) -> bool
     ensures { IsTrue result → IsExclusion atoms value clause.now }
@@ -110,15 +111,6 @@ fn copies(alloc: Global, state: &State, count: u32) -> Result<Vec<State>, AllocE
         rows.push(copy_of(alloc, state)?)?;
     }
     Ok(rows)
-}
-
-/// A copy of the state.
-fn copy_of(alloc: Global, state: &State) -> Result<State, AllocError>
-    ensures { IfOk result (λ copy. copy ≡ state.now) }
-{
-    let mut copy = State::empty(alloc, state.atoms())?;
-    copy.copy_from(state);
-    Ok(copy)
 }
 
 /// Takes each of the two atoms of the clause out of the row of the other one; a lone one out of its

@@ -1,5 +1,5 @@
-//! For which actions a statement over all actions is asked about where formulas in clauses are asked
-//! about before the action: an atom that a clause of one literal denies is in no state of its
+//! For which actions a statement over all actions is asked about where formulas in clauses are
+//! asked about before the action: an atom that a clause of one literal denies is in no state of its
 //! formula, and an action that needs it isn't applicable there.
 
 ghost use Rattle.std.specs.Prelude.{◌≡◌, ◌<◌, ◌⊎◌, ◌∷◌, [], ℕ, Bool, List, map, length, true, false};
@@ -26,9 +26,9 @@ use hv_sets::{Clauses, Literal, Operand, Query, Which};
 use hv_task::{AtomList, AtomSet, Task};
 use std::alloc::{AllocError, Global};
 
-/// The first action and those that don't stand in the row of an atom that is denied before the action,
-/// by the rows of the store, if there are some and it takes less than to ask about each. An action
-/// stands in one row, that of an atom that it needs.
+/// The first action and those that don't stand in the row of an atom that is denied before the
+/// action, by the rows of the store, if there are some and it takes less than to ask about each. An
+/// action stands in one row, that of an atom that it needs.
 pub(crate) fn clashes_in_open(
     alloc: Global,
     case: &Case<'_>,
@@ -49,8 +49,8 @@ pub(crate) fn clashes_in_open(
     Ok(Some(numbers))
 }
 
-/// Whether the store has rows of actions, formulas in clauses are asked about before the action, and
-/// their clauses and the flags of the atoms are little beside the actions.
+/// Whether the store has rows of actions, formulas in clauses are asked about before the action,
+/// and their clauses and the flags of the atoms are little beside the actions.
 fn are_worth_flags(case: &Case<'_>, family: FormulaFamily, positive: &[Operand]) -> bool {
     if case.store.rows().is_none() {
         return false;
@@ -182,8 +182,8 @@ fn denied_by(clause: &[Literal]) -> Option<u32>
     Some(literal.atom)
 }
 
-/// The first action and those that don't stand in the row of an atom with a flag, by the rows of the
-/// store.
+/// The first action and those that don't stand in the row of an atom with a flag, by the rows of
+/// the store.
 fn open_actions(
     alloc: Global,
     case: &Case<'_>,
@@ -222,8 +222,8 @@ fn open_in_rows(
     Ok(Some(numbers))
 }
 
-/// How many actions are in the rows of the atoms that have no flag; or a number that is greater than
-/// this one.
+/// How many actions are in the rows of the atoms that have no flag; or a number that is greater
+/// than this one.
 fn open_cost(rows: &[Vec<u32>], flags: &[bool], most: usize) -> usize {
     let mut cost: usize = 0;
     for place in 0..rows.len() {

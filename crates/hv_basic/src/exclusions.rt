@@ -1,10 +1,10 @@
-//! Which actions can lead into a formula of exclusions, or out of it. An action that leads out of it
-//! makes the atoms of some clause all have the value, so it turns one of them; and the other one has
-//! the value too, afterwards. That one didn't have it before, if it isn't a companion of each atom
-//! of which the value is known.
+//! Which actions can lead into a formula of exclusions, or out of it. An action that leads out of
+//! it makes the atoms of some clause all have the value, so it turns one of them; and the other one
+//! has the value too, afterwards. That one didn't have it before, if it isn't a companion of each
+//! atom of which the value is known.
 
-ghost use Rattle.std.specs.Prelude.{◌≡◌, ◌⊎◌, ◌<◌, ◌&&◌, ℕ, Some, false, length, not, slice_get, true};
-ghost use Rattle.std.specs.Prelude.{IfOk, IfSome, IsTrue, OnOk};
+ghost use Rattle.std.specs.Prelude.{◌≡◌, ◌⊎◌, ◌<◌, ◌&&◌, ℕ, Some, false, length, not, slice_get};
+ghost use Rattle.std.specs.Prelude.{IfOk, IfSome, IsTrue, OnOk, true};
 ghost use Rattle.std.specs.List.{All, Contains};
 ghost use Rattle.hv_task.specs.State.{AreBelow, has_atom, put_all};
 ghost use Rattle.hv_task.specs.Strips.{IsOver, atoms};
@@ -22,17 +22,17 @@ use hv_task::{Action, AtomList, AtomSet, State, Task};
 use std::alloc::{AllocError, Global};
 
 /// The first action and those that can lead out of the formula, or into it, if it is one of
-/// exclusions, each action may be looked at (look), and to make the companions is little beside that.
+/// exclusions, and to make the companions is little beside a look at so many actions (many).
 pub(crate) fn leading(
     alloc: Global,
     task: &Task,
     clauses: &Clauses,
     into: bool,
-    look: Option<usize>,
+    many: usize,
 ) -> Result<Option<AtomList>, AllocError>
     ensures { IfOk result (λ found. IfSome found (AreLeading task.now clauses.now into)) }
 {
-    if !are_worth_companions(task, clauses, look) {
+    if !are_worth_companions(task.atoms(), clauses, many) {
         return Ok(None);
     }
     let Some(value) = excluded_value(task.atoms(), clauses) else {
@@ -43,16 +43,12 @@ pub(crate) fn leading(
     Ok(Some(numbers))
 }
 
-/// Whether each action may be looked at (look), and the clauses are many beside the atoms and the words
-/// of the companions, and few beside the actions.
-fn are_worth_companions(task: &Task, clauses: &Clauses, look: Option<usize>) -> bool {
-    let atoms = task.atoms() as usize;
+/// Whether the clauses are many beside the atoms and the words of the companions, and few beside
+/// the actions that may turn a literal of the formula.
+fn are_worth_companions(atoms: u32, clauses: &Clauses, many: usize) -> bool {
+    let atoms = atoms as usize;
     let words = atoms / 64 + 1;
-    let actions = task.actions() as usize;
-    look.is_some()
-        && clauses.len() / 2 >= atoms
-        && clauses.len() / words >= atoms / 8
-        && clauses.len() / 32 <= actions
+    clauses.len() / 2 >= atoms && clauses.len() / words >= atoms / 2 && clauses.len() / 32 <= many
 }
 
 /// The first action and those that can lead out of the formula, or into it.

@@ -1,6 +1,7 @@
-//! For which actions a statement over all actions is asked about where a formula in clauses is asked
-//! about positively at one time, before the action or after it, and negatively at the other: for
-//! those that can turn a literal of it.
+//! For which actions a statement over all actions is asked about where a formula in clauses is
+//! asked about positively at one time, before the action or after it, and negatively at the other:
+//! for those that can turn a literal of it, or, of a formula of exclusions, for those that can lead
+//! into it or out of it (`exclusions`).
 
 ghost use Rattle.std.specs.Prelude.{◌≡◌, ◌⊎◌, ◌∷◌, [], List, map, not, slice_index_or, IfOk};
 ghost use Rattle.std.specs.Prelude.{IfSome, IsTrue};
@@ -21,7 +22,7 @@ use hv_clauses::Formulas;
 use hv_formula::ClauseKind;
 use hv_lines::FormulaFamily;
 use hv_sets::{Operand, Query, Which};
-use hv_task::AtomList;
+use hv_task::{AtomList, Task};
 use std::alloc::{AllocError, Global};
 
 /// A set of the store that is asked about positively at one time, and negatively at the other.
@@ -33,9 +34,9 @@ pub(crate) struct Frame {
 }
 
 /// The first action and those for which the query can have a counterexample, if it asks about a
-/// formula at both times, and there is a way to find the actions that can turn a literal of it: by a
-/// look at each action, if its clauses and literals, with a sixteenth of the atoms, are at most so
-/// many (look), or by rows of actions.
+/// formula at both times, and there is a way to find the actions that can turn a literal of it: by
+/// a look at each action, if its clauses and literals, with a sixteenth of the atoms, are at most
+/// so many (look), or by rows of actions.
 pub(crate) fn crossing(
     alloc: Global,
     case: &Case<'_>,
@@ -165,7 +166,8 @@ fn past_lesser(operands: &[Operand], id: usize, from: usize) -> usize {
 
 /// The operand and one of the two at this place ask about one set, at different times.
 fn frame_near(operand: Operand, negative: &[Operand], place: usize) -> Option<Frame>
-    ensures { IfSome result (λ frame. IsFramed (operand ∷ []) negative.now frame.number frame.into) }
+    ensures { IfSome result (λ frame.
+        IsFramed (operand ∷ []) negative.now frame.number frame.into) }
 {
     match frame_with(operand, negative, place) {
         Some(frame) => Some(frame),
@@ -175,7 +177,8 @@ fn frame_near(operand: Operand, negative: &[Operand], place: usize) -> Option<Fr
 
 /// The operand and the negative one at this place ask about one set, at different times.
 fn frame_with(operand: Operand, negative: &[Operand], place: usize) -> Option<Frame>
-    ensures { IfSome result (λ frame. IsFramed (operand ∷ []) negative.now frame.number frame.into) }
+    ensures { IfSome result (λ frame.
+        IsFramed (operand ∷ []) negative.now frame.number frame.into) }
 {
     let Some(other) = negative.get(place) else {
         return None;
@@ -232,6 +235,14 @@ fn crossing_at(
     }
 }
 
+/// How many actions are listed, or of the task, if none are.
+fn count_or_all(listed: &Option<AtomList>, task: &Task) -> usize {
+    match listed {
+        Some(numbers) => numbers.len(),
+        None => task.actions() as usize,
+    }
+}
+
 /// The first action and those that can lead into the formula, or out of it: as its exclusions say,
 /// or since they can turn a literal of it.
 fn crossing_in<K: ClauseKind>(
@@ -250,11 +261,13 @@ fn crossing_in<K: ClauseKind>(
         return Ok(None);
     }
     let clauses = sets.get(frame.number).clauses();
-    if let Some(numbers) = leading(alloc, case.task, clauses, frame.into, look)? {
+    let turned = turning(alloc, case, clauses, frame.into, look)?;
+    if look.is_none() {
+        return Ok(turned);
+    }
+    let many = count_or_all(&turned, case.task);
+    if let Some(numbers) = leading(alloc, case.task, clauses, frame.into, many)? {
         return Ok(Some(numbers));
     }
-    let Some(numbers) = turning(alloc, case, clauses, frame.into, look)? else {
-        return Ok(None);
-    };
-    Ok(Some(numbers))
+    Ok(turned)
 }

@@ -1,5 +1,5 @@
-//! The flags of the actions of action sets, kept from statement to statement: where an action set is
-//! the union of one whose flags are kept and a list, only that list is looked at.
+//! The flags of the actions of action sets, kept from statement to statement: where an action set
+//! is the union of one whose flags are kept and a list, only that list is looked at.
 
 ghost use Rattle.std.specs.Prelude.{◌≡◌, ◌<◌, List, true, IfOk, IfSome, length};
 ghost use Rattle.std.specs.List.{All};
@@ -16,8 +16,8 @@ use std::alloc::{AllocError, Global};
 /// Of so many action sets flags are kept at most.
 const MOST_FLAGGED: usize = 4;
 
-/// The flags of the action set, one for each of so many actions. What is kept of it, or of a part of
-/// it, is taken out and serves for it.
+/// The flags of the action set, one for each of so many actions. What is kept of it, or of a part
+/// of it, is taken out and serves for it.
 pub(crate) fn take_flags(
     alloc: Global,
     table: &Table,
@@ -75,8 +75,8 @@ fn serving(kept: &[FlaggedActs], table: &Table, acts: usize) -> Option<usize>
     None
 }
 
-/// Makes the flags those of the action set, if they are, or if it is the union of theirs and a list:
-/// whether they are then.
+/// Makes the flags those of the action set, if they are, or if it is the union of theirs and a
+/// list: whether they are then.
 fn turn_to(table: &Table, flagged: &mut FlaggedActs, acts: usize, actions: u32) -> bool
     requires acts { acts < acts_count table.now.lines }
     requires flagged { AreItsFlags table.now.lines flagged.old }

@@ -21,8 +21,8 @@ const MOST_LEFTS: usize = 4;
 /// A part with more leaves isn't put in leaf by leaf.
 const MOST_MORE: usize = 16;
 
-/// The leaves of a left side, the newest first. What is kept of it, or of a part of it, is taken out
-/// and serves for it.
+/// The leaves of a left side, the newest first. What is kept of it, or of a part of it, is taken
+/// out and serves for it.
 pub(crate) fn take_leaves(
     alloc: Global,
     table: &Table,
@@ -172,7 +172,7 @@ fn put_all(into: &mut Vec<Leaf>, more: &[Leaf]) -> Result<(), AllocError>
 }
 
 /// Puts in the leaf behind those of later sets, if it isn't there.
-pub(crate) fn put_leaf(into: &mut Vec<Leaf>, leaf: Leaf) -> Result<(), AllocError>
+fn put_leaf(into: &mut Vec<Leaf>, leaf: Leaf) -> Result<(), AllocError>
     ensures places { OnOk result (AreLeavesWith (places into.old.items) (leaf.place ∷ [])
         (places into.new.items)) }
     ensures read { OnOk result ((lines : List Line) → All (IsLeafRead lines) into.old.items

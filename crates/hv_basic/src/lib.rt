@@ -6,15 +6,16 @@
 //!
 //! - `shared_verdicts::verdict_of` takes it, with the `case` that it is judged in (task, lines,
 //!   nodes, stores, budget) and what is kept of the right sides before it (`shared`).
-//! - `lefts::left_of` reads the left side, once for both ways of asking: `leaves` takes it apart and
-//!   reads of each leaf's line which literal that is and of what family, `kept_leaves` keeps that of
-//!   an intersection, `signed_sets` gathers what the literals ask about, and the set of the
+//! - `lefts::left_of` reads the left side, once for both ways of asking: `leaves` takes it apart
+//!   and reads of each leaf's line which literal that is and of what family, `kept_leaves` keeps
+//!   that of an intersection, `signed_sets` gathers what the literals ask about, and the set of the
 //!   progression is read like it.
 //! - `recent` brings what is kept of the right side, if that is a union, or of a part of it, and
-//!   `rights` keeps it, if its leaves are literals: where it is what is kept and a further set, only
-//!   the leaves of that set are looked up.
+//!   `rights` keeps it, if its leaves are literals: where it is what is kept and a further set,
+//!   only the leaves of that set are looked up.
 //! - Where what is kept serves, and all that the left side asks about is positive, the question
-//!   is there already: `families` says whose family it is, and `rising` puts the left part in order.
+//!   is there already: `families` says whose family it is, and `rising` puts the left part in
+//!   order.
 //! - Else `shapes::question_beside` makes the question: `sides` reads the leaves of the right side
 //!   too, `families` looks for the one family, and `rising` puts both parts in order.
 //! - Either way `verdicts::decide_sets` decides the question. It makes the query of it by the names
@@ -22,12 +23,12 @@
 //!   and few states are asked about before the action, for those that can be applicable there, by
 //!   the `action_rows` that the `store` keeps; where one formula is asked about at both times
 //!   (`framed`), for those that can turn a literal of it (`turned`), by the `change_rows` that the
-//!   `store` keeps, or by a look at each action; where that formula says of pairs of atoms that they
-//!   exclude each other, for those that its `companions` don't tell to stay in it (`exclusions`); where
-//!   formulas before the action deny atoms
+//!   `store` keeps, or by a look at each action; where that formula says of pairs of atoms that
+//!   they exclude each other, for those that its `companions` don't tell to stay in it
+//!   (`exclusions`); where formulas before the action deny atoms
 //!   (`denied`), for those that need none of these, by the `action_rows` too. Else `actions` lists
-//!   the actions of the progression: those of a list that rises as they are there, else by the flags
-//!   of `acts`. For each of them `query_walk` asks the query of the store of the family, and
+//!   the actions of the progression: those of a list that rises as they are there, else by the
+//!   flags of `acts`. For each of them `query_walk` asks the query of the store of the family, and
 //!   `node_walk` asks it of the diagrams; the first query that exceeds the budget or has a
 //!   counterexample decides.
 //!
@@ -45,25 +46,24 @@
 //! do four such rows of unions that are asked about by turns. Every other union on the right is
 //! looked at anew and kept in place of the one that wasn't asked about for longest. The leaves of
 //! the four intersections that were on the left last are kept in the same way, and what they ask is
-//! gathered for each statement. Negations among the leaves on the right are kept beside, each once:
-//! what they ask about has the sign of the left side, and is gathered with what that asks. Where a
-//! negation on
-//! the left gives it something that is asked about with the sign of the right one, the statement is
-//! decided as if nothing were kept. What is kept is the negative half of a question and of its
+//! gathered for each statement. Negations among the leaves on the right are kept beside: what they
+//! ask about has the sign of the left side, and is gathered with what that asks. Where a negation
+//! on the left gives it something that is asked about with the sign of the right one, the statement
+//! is decided as if nothing were kept. What is kept is the negative half of a question and of its
 //! query; the invariant says that it is right for the lines so far, and a further line changes
-//! nothing of it. The operands of a right side whose sets didn't come in order are made once a query
-//! is asked.
+//! nothing of it. The operands of a right side whose sets didn't come in order are made once a
+//! query is asked.
 //!
 //! Where the left side asks for a set that the right one has, no query is asked, since no state is
 //! in a set and outside of it. For that the cost has to be known to be within the budget: over
 //! formulas in clauses that is the number of ways to choose one clause of each, which is kept with
 //! the right side (nothing is known of it where the initial state or the goal is among the sets);
-//! over listed states the length of the one list that the left side asks about. A right side that is
-//! one formula in clauses is looked for in the same way, whether it is kept or not. Nor is one asked
-//! where the left side asks for a formula, at the time of the right side, with a clause each of
-//! whose literals is in the only clause of some set of the right one: a state in which the clause
-//! is true is in such a set. The literals of the sets whose only clause has at most four are kept
-//! with the right side; on the left at most eight sets are looked at, each with at most eight
+//! over listed states the length of the one list that the left side asks about. A right side that
+//! is one formula in clauses is looked for in the same way, whether it is kept or not. Nor is one
+//! asked where the left side asks for a formula, at the time of the right side, with a clause each
+//! of whose literals is in the only clause of some set of the right one: a state in which the
+//! clause is true is in such a set. The literals of the sets whose only clause has at most four are
+//! kept with the right side; on the left at most eight sets are looked at, each with at most eight
 //! clauses.
 //!
 //! An action set is looked at from its newest part to its oldest, each part once, so a union that
@@ -88,30 +88,31 @@
 //! a counterexample leads out of the formula, so its action makes some literal of it false: it
 //! deletes the atom of a positive one, or adds that of a negative one. With a regression it leads
 //! into the formula, and makes some literal true. So a statement over all actions is asked about
-//! those actions alone that change such an atom so, and about the first one. They are in the rows of
-//! these atoms, which the store makes with the ninth formula in clauses. Before that, and where the
-//! literals and the actions in their rows are together more than a quarter as many as the task's
-//! actions, each action is looked at, and the atoms have flags. All actions are asked about where
-//! the literals are that many themselves, with a sixteenth of the atoms for the flags; or, where
-//! several formulas are asked about positively, where they are sixteen times as many for each of
-//! these formulas and of their clauses, but for the formula with the most, since the others are gone
-//! through anew for each action. Of several formulas that are asked
+//! those actions alone that change such an atom so, and about the first one. They are in the rows
+//! of these atoms, which the store makes with the ninth formula in clauses. Before that, and where
+//! the literals and the actions in their rows are together more than a quarter as many as the
+//! task's actions, each action is looked at, and the atoms have flags. All actions are asked about
+//! where the literals are that many themselves, with a sixteenth of the atoms for the flags; or,
+//! where several formulas are asked about positively, where they are sixteen times as many for each
+//! of these formulas and of their clauses, but for the formula with the most, since the others are
+//! gone through anew for each action. Of several formulas that are asked
 //! about at both times the one is taken for which the least is looked at.
 //!
-//! Where that formula's clauses have one or two literals, all negative or all positive, and are many
-//! beside the atoms, as where they say which pairs of atoms are never reached, a word has what 64
-//! atoms say: for each atom those that can be true beside it, or false, are kept for the statement. An
+//! Where that formula's clauses have at most two literals, all negative or all positive, are many
+//! beside the atoms and their words, as where they say which pairs of atoms are never reached, and
+//! are at most 32 for each action that can turn one of its literals, a word has what 64 atoms say:
+//! for each atom those that can be true beside it, or false, are worked out for the statement. An
 //! action that leads out of the formula turns an atom of some clause whose other atom has the value
-//! too, afterwards. So it is left out if each atom that is no companion of one that it turns is known
-//! not to have the value: by the action's own lists, or since it is no companion of an atom that the
-//! precondition needs, and isn't turned. All this takes some words an atom of the action's lists, and
-//! not the clauses of these atoms.
+//! too, afterwards. So it is left out if each atom that is no companion of one that it turns is
+//! known not to have the value: by the action's own lists, or since it is no companion of an atom
+//! that the precondition needs, and isn't turned. All this takes some words an atom of the action's
+//! lists, and not the clauses of these atoms. Where the actions are found by rows, it isn't done.
 //!
 //! Where formulas in clauses are asked about before the action, an atom that one of their clauses
 //! denies, as its only literal, is in no state there, and no action that needs it is applicable. So
 //! before each action is looked at, a statement over all actions is asked about those alone that
-//! aren't in the row of such an atom, by their preconditions, and about the first one: if these rows
-//! are there, and the other rows have at most a quarter of the actions.
+//! aren't in the row of such an atom, by their preconditions, and about the first one: if these
+//! rows are there, and the other rows have at most a quarter of the actions.
 #![tactic(auto)]
 
 mod action_rows;

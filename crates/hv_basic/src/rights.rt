@@ -19,7 +19,6 @@ ghost use Rattle.hv_basic.specs.Working.Sharing.{IsPlaceFor};
 
 use crate::case::Case;
 use crate::families::family_with;
-use crate::kept_leaves::put_leaf;
 use crate::leaves::{Half, leaves};
 use crate::shared::Kept;
 use crate::signed_sets::Leaf;
@@ -220,7 +219,7 @@ fn add_one(case: &Case<'_>, kept: &mut Kept, leaf: Leaf) -> Result<bool, AllocEr
         return Ok(false);
     };
     if !literal.is_plain {
-        put_leaf(&mut kept.negations, leaf)?;
+        kept.negations.push(leaf)?;
         return Ok(true);
     }
     let Some(both) = family_with(kept.family, leaf.family) else {

@@ -32,7 +32,8 @@ pub(crate) struct Kept {
     pub after: bool,
     /// The family of its formulas; none where all are constants.
     pub family: Option<FormulaFamily>,
-    /// How many ways there are to choose one clause of each of its sets; none where that isn't told.
+    /// How many ways there are to choose one clause of each of its sets; none where that isn't
+    /// told.
     pub ways: Option<u64>,
     /// Literals each of which puts a state into one of its sets: those of sets with one short
     /// clause.

@@ -45,10 +45,10 @@ use std::collections::BTreeSet;
 /// Of a left side with more sets, and of a set with more clauses, no clause is looked at.
 const MOST_FEW: usize = 8;
 
-/// The verdict of a basic statement with its word, as `shape` and `decide` give it. What right sides
-/// ask, the leaves of left sides, and which actions are in action sets, is kept for the statements
-/// after it, of the last four: where the next one is made of one of these and a further set, only
-/// that set is looked at.
+/// The verdict of a basic statement with its word, as `shape` and `decide` give it. What right
+/// sides ask, the leaves of left sides, and which actions are in action sets, is kept for the
+/// statements after it, of the last four: where the next one is made of one of these and a further
+/// set, only that set is looked at.
 pub fn verdict_of(
     alloc: Global,
     case: &Case<'_>,
@@ -239,8 +239,8 @@ fn verdict_by_kept(
     verdict_by_leaves(alloc, case, scratch, claim, sides)
 }
 
-/// Puts what the inclusion asks beside what is kept, if its right side can be kept and no negation on
-/// the left asks anything: whether it is there.
+/// Puts what the inclusion asks beside what is kept, if its right side can be kept and no negation
+/// on the left asks anything: whether it is there.
 fn ask_by_kept(
     alloc: Global,
     case: &Case<'_>,
@@ -295,8 +295,8 @@ fn askings_beside(alloc: Global, kept: &Kept, sides: &Sides) -> Result<Vec<Askin
     Ok(askings)
 }
 
-/// Puts these beside what is kept of the right side: what the left side asks, and what the negations
-/// on the right ask.
+/// Puts these beside what is kept of the right side: what the left side asks, and what the
+/// negations on the right ask.
 fn ask_together(
     alloc: Global,
     table: &Table,
@@ -495,8 +495,8 @@ fn is_in_clauses(family: FormulaFamily) -> bool
     }
 }
 
-/// Whether the right side asks for one set alone, for which the left side asks too, and the cost is
-/// known to be within the budget.
+/// Whether the right side asks for one formula in clauses alone, for which the left side asks too,
+/// and the cost is known to be within the budget.
 pub(crate) fn is_alone_within(case: &Case<'_>, question: &Question) -> bool
     requires table { IsTable (lines_in case.now) }
     requires question { IsQuestionOver (lines_in case.now) (question_of question.now) }
@@ -536,8 +536,8 @@ fn chooses_upto(expr: &Expr, most: u64) -> bool
     }
 }
 
-/// Whether the left side asks for one list of states, before the action, that the right one has, and
-/// the list isn't longer than the budget allows.
+/// Whether the left side asks for one list of states, before the action, that the right one has,
+/// and the list isn't longer than the budget allows.
 fn is_list_within_its(case: &Case<'_>, kept: &Kept) -> bool
     requires rises { AskingsRise kept.now.question.negative.items }
     requires below { All (λ a. a.0 < expr_count (lines_in case.now))

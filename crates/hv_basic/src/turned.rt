@@ -17,8 +17,8 @@ use hv_task::{AtomList, AtomSet, Task};
 use std::alloc::{AllocError, Global};
 
 /// The first action and those that can make a literal of the clauses true, or false: by a look at
-/// each action, if there are at most so many literals (look), or by the rows of the literals, if that
-/// takes less than to ask about each action.
+/// each action, if there are at most so many literals (look), or by the rows of the literals, if
+/// that takes less than to ask about each action.
 pub(crate) fn turning(
     alloc: Global,
     case: &Case<'_>,
@@ -35,7 +35,8 @@ pub(crate) fn turning(
     }
 }
 
-/// The same by a look at each action, if the literals and the flags of the atoms are at most so many.
+/// The same by a look at each action, if the literals and the flags of the atoms are at most so
+/// many.
 fn turning_of_few(
     alloc: Global,
     task: &Task,

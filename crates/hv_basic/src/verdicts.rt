@@ -95,8 +95,8 @@ pub(crate) fn decide_on(
     }
 }
 
-/// The verdict on a question. Where its right side asks for one set alone, for which the left side
-/// asks, no query is asked.
+/// The verdict on a question. Where its right side asks for one formula in clauses alone, for which
+/// the left side asks, and the cost is known to be within the budget, no query is asked.
 pub(crate) fn decide_whole(
     alloc: Global,
     case: &Case<'_>,

@@ -1,4 +1,4 @@
--- Formulas of exclusions: each clause says of one or two atoms that they don't all have one value.
+-- Formulas of exclusions: each clause says of at most two atoms that they don't all have one value.
 -- And which actions can lead into such a formula, or out of it.
 use Rattle.std.specs.Prelude.{◌≡◌, ◌<◌, ◌≤◌, ◌⊎◌, ℕ, Bool, true, false, not, cond, List, []}
 use Rattle.std.specs.Prelude.{Some, length, slice_get, slice_index_or, slice_set}
@@ -53,8 +53,8 @@ HaveStrangers rows clause =
 abbrev pub IsFull : ℕ → List Bool → Type 0
 IsFull count state = (length state ≡ count) × ((p : ℕ) → p < count → has_atom state p ≡ true)
 
--- for each of so many atoms the others that can have the value where it has it: all but those with
--- which it makes up a clause
+-- for each of so many atoms those that can have the value where it has it: all but those with which
+-- it makes up a clause
 pub record AreCompanions (count : ℕ) (clauses : List (List Literal)) (companions : Companions)
     : Type 0
   where
@@ -68,24 +68,24 @@ pub record AreCompanions (count : ℕ) (clauses : List (List Literal)) (companio
     pub only : (p q : ℕ) → p < count → q < count → goes_with companions.rows.items p q ≡ false
         → (clause : List Literal) × Contains clauses clause × IsOfTwo clause p q
 
--- where the action is applicable in a state, and the formula holds at the one time, after the action
--- (into) or before it, it holds at the other
+-- where the action is applicable in a state, and the formula holds at the one time, after the
+-- action (into) or before it, it holds at the other
 abbrev pub KeepsFormula : ℕ → List (List Literal) → Bool → Action → Type 0
 KeepsFormula count clauses into action =
     (state : List Bool) → length state ≡ count → applicable action state ≡ true
     → in_clauses clauses (asked (Some action) into state) ≡ true
     → in_clauses clauses (asked (Some action) (not into) state) ≡ true
 
--- where the action is applicable in a state, and the formula holds at the one time (into), the atoms
--- that have the value after the action (time), or before it, are all among these
+-- where the action is applicable in a state, and the formula holds at the one time (into), the
+-- atoms that have the value after the action (time), or before it, are all among these
 abbrev pub AreAbleAt : ℕ → List (List Literal) → Bool → Bool → Bool → Action → List Bool → Type 0
 AreAbleAt count clauses value into time action able =
     (state : List Bool) → length state ≡ count → applicable action state ≡ true
     → in_clauses clauses (asked (Some action) into state) ≡ true → (p : ℕ) → p < count
     → has_value value (asked (Some action) time state) p ≡ true → has_atom able p ≡ true
 
--- the atoms that have the value at the one time, after the action (into) or before it, but for those
--- that are deleted and added
+-- the atoms that have the value at the one time, after the action (into) or before it, but for
+-- those that are deleted and added
 abbrev pub fixed_first : Bool → Bool → Action → List ℕ
 fixed_first value true action = changed_to value action
 fixed_first true false action = action.pre
@@ -101,14 +101,13 @@ fixed_later false true action = action.pre
 abbrev pub turned_atoms : Bool → Bool → Action → List ℕ
 turned_atoms value into action = changed_to (sign_to into (not value)) action
 
--- the atom is deleted as the action's list says: where the value is that of atoms which are deleted,
--- it isn't added too
+-- after the action the atom isn't added, if the value is false: one that is deleted is false then
 abbrev pub IsFixed : Bool → Bool → Action → ℕ → Type 0
 IsFixed value into action atom =
     into ≡ true → value ≡ false → Contains action.add atom → ⊥
 
--- the list is of actions of the task, of which it has the first, and each one but for some that keep
--- the formula
+-- the list is of actions of the task, of which it has the first, and each one but for some that
+-- keep the formula
 pub record AreLeading (task : Strips) (clauses : List (List Literal)) (into : Bool)
     (listed : List ℕ) : Type 0
   where

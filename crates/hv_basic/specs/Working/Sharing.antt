@@ -143,8 +143,8 @@ pub record IsWithinWays (kept : Kept) (budget : ℕ) : Type 0 where
   pub told : kept.ways ≡ Some ways
   pub few : ways ≤ budget
 
--- the right side asks for one set alone, for which the left side asks at the same time, and the cost
--- is within the budget
+-- the right side asks for one formula in clauses alone, for which the left side asks at the same
+-- time, and the cost is within the budget
 pub record IsAloneWithin (lines : List Line) (question : QuestionState) (budget : ℕ) : Type 0 where
   pub family : IsInClauses question.family
   pub own : ℕ × Bool

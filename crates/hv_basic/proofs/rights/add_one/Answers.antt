@@ -5,7 +5,6 @@ use Rattle.hv_lines.specs.Shapes.{Askings}
 use Rattle.hv_basic.specs.Cases.{lines_in}
 use Rattle.hv_basic.specs.Working.Sharing.{IsFamilyWith, IsPlaceFor}
 use Rattle.hv_basic.proofs.Negations.{negated_read, negation_put, negation_side}
-use Rattle.hv_basic.proofs.Negations.{negations_read}
 use Rattle.hv_basic.proofs.Sharing.{one_put, one_there, plain_read, side_put}
 use Rattle.hv_basic.proofs.rights.add_one.Goals as goal
 
@@ -47,15 +46,12 @@ returns-in_default-place_for-clause-added c = λ _.
 
 pub returns-then-not-literal-clause-side : goal.returns-then-not-literal-clause-side
 returns-then-not-literal-clause-side c = λ _.
-    let lines = lines_in c.args.case.now in
-    negation_side c.args.kept.now c.put_leaf.new.into c.args.leaf c.in_ok-put_leaf.ensures.places
-    lines c.requires.side
-    (negated_read lines c.args.leaf c.in-Some.literal c.in-Some.is
+    negation_side (lines_in c.args.case.now) c.args.kept.now c.push.new.self c.args.leaf
+    c.requires.side
+    (negated_read (lines_in c.args.case.now) c.args.leaf c.in-Some.literal c.in-Some.is
     (not-true c.in-Some.literal.is_plain c.if-not-literal.true) c.requires.read)
-    (c.in_ok-put_leaf.ensures.read lines
-    (negations_read lines c.args.kept.now.negations.items c.requires.side.negations)
-    c.requires.read)
+    c.requires.read c.in_ok-push.ensures.items
 
 pub returns-then-not-literal-clause-added : goal.returns-then-not-literal-clause-added
 returns-then-not-literal-clause-added c = λ _.
-    negation_put c.args.kept.now c.put_leaf.new.into c.args.leaf c.in_ok-put_leaf.ensures.places
+    negation_put c.args.kept.now c.push.new.self c.args.leaf c.in_ok-push.ensures.items
