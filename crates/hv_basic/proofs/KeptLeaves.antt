@@ -16,12 +16,14 @@ use Rattle.hv_lines.proofs.Elements.{all_from, head_in, in_mapped, of_one}
 use Rattle.hv_lines.proofs.Laws.{exprs_grow}
 use Rattle.hv_lines.proofs.Shaped.{leaf_below}
 use Rattle.hv_basic.specs.Leaves.{IsLeafRead, places}
-use Rattle.hv_basic.specs.Sharing.{AreItsFlags, AreItsLeaves, IsRightSide, IsShared, SharedState}
+use Rattle.hv_basic.specs.Sharing.{AreItsFlags, AreItsLeaves, IsJointKept, IsRightSide, IsShared}
+use Rattle.hv_basic.specs.Sharing.{SharedState}
 use Rattle.hv_basic.specs.Working.Sharing.{AreLeavesWith, AreTakenLeaves, IsAndBeside}
 use Rattle.hv_basic.specs.declared.shared.KeptLeaves.{KeptLeaves}
 use Rattle.hv_basic.specs.declared.signed_sets.Leaf.{Leaf}
 use Rattle.hv_basic.proofs.Flagging.{flagged_more}
 use Rattle.hv_basic.proofs.Gathering.{take_more}
+use Rattle.hv_basic.proofs.Joints.{joint_more}
 use Rattle.hv_basic.proofs.Leafing.{leaf_parts}
 use Rattle.hv_basic.proofs.Sharing.{and_earlier, insert_cases, insert_in, inserted, leaf_before}
 use Rattle.hv_basic.proofs.Sharing.{leaf_more, read_more, side_stays}
@@ -56,6 +58,8 @@ shared_more line older shared next is = record {
       (λ kept right. side_stays line older kept next right) shared.sides is.sides;
   lefts = All-weaker (AreItsLeaves older) (AreItsLeaves (line ∷ older))
       (λ kept right. leaves_more line older kept next right) shared.lefts is.lefts;
+  joints = All-weaker (IsJointKept older) (IsJointKept (line ∷ older))
+      (λ kept right. joint_more line older next kept right) shared.joints is.joints;
   flagged = All-weaker (AreItsFlags older) (AreItsFlags (line ∷ older))
       (λ kept right. flagged_more line older kept next right) shared.flagged is.flagged;
 }

@@ -30,7 +30,7 @@ pub record IsLeafing (parts : Expr → Option (ℕ × ℕ)) (lines : List Line) 
   pub done : (leaf : ℕ) → Contains found leaf → IsLeaf parts lines root leaf
 
 -- a set that isn't taken apart is its only leaf
-leaf_alone : (parts : Expr → Option (ℕ × ℕ)) (lines : List Line) (set leaf : ℕ) (expr : Expr)
+pub leaf_alone : (parts : Expr → Option (ℕ × ℕ)) (lines : List Line) (set leaf : ℕ) (expr : Expr)
     → expr_at lines set ≡ Some expr
     → parts expr ≡ None → IsLeaf parts lines set leaf → leaf ≡ set
 leaf_alone parts lines _ _ expr at none (alone set x found out) = refl

@@ -20,10 +20,14 @@ pub mod Flagged
 pub mod Mixing
 pub mod Turning
 pub mod Sharing
+pub mod Joints
+pub mod JointClauses
+pub mod JointLeaves
 pub mod KeptLeaves
 pub mod LeftSides
 pub mod Within
 pub mod Literals
+pub mod JointVerdicts
 pub mod Denying
 pub mod Negations
 pub mod Excluding

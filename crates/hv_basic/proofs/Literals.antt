@@ -115,7 +115,7 @@ module _ (setting : Setting) (lines : List Line) (family : FormulaFamily) (state
   named_clauses set (E.Before x y) clauses at is of = absurd (cc (is))
 
   -- a state is in a formula in clauses where its clauses are true
-  in_formula : (set : ℕ) (expr : Expr) (clauses : List (List Literal))
+  pub in_formula : (set : ℕ) (expr : Expr) (clauses : List (List Literal))
       → expr_at lines set ≡ Some expr → own_clauses expr ≡ Some clauses
       → IsWithinFamily lines family set → is_in set ≡ in_clauses clauses state
   in_formula set expr clauses at is (other, other_at, of) =

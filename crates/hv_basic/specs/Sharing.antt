@@ -11,15 +11,19 @@ use Rattle.hv_lines.specs.Meaning.{acts_of}
 use Rattle.hv_lines.specs.Numbering.{IsTable, acts_count, expr_at, expr_count}
 use Rattle.hv_lines.specs.Queries.{operand_of}
 use Rattle.hv_lines.specs.Shapes.{Askings, AskingsRise, IsAndLeaf, IsOfFamily, IsOrLeaf}
-use Rattle.hv_lines.specs.Shapes.{IsWithinFamily, family_of}
+use Rattle.hv_lines.specs.Shapes.{IsWithinFamily, family_of, most_operands}
 use Rattle.hv_lines.specs.declared.formula_family.FormulaFamily.{FormulaFamily}
+use Rattle.hv_lines.specs.declared.formula_family.FormulaFamily.TheVariants as F
 use Rattle.hv_lines.specs.declared.line.Constant.TheVariants as C
 use Rattle.hv_lines.specs.declared.line.Expr.{Expr}
 use Rattle.hv_lines.specs.declared.line.Expr.TheVariants as E
 use Rattle.hv_lines.specs.declared.line.Line.{Line}
 use Rattle.hv_basic.specs.Leaves.{IsLeafRead, places}
+use Rattle.hv_basic.specs.declared.joint.JointFormula.{JointFormula}
+use Rattle.hv_basic.specs.declared.joint.JointFormula.TheVariants as J
 use Rattle.hv_basic.specs.declared.shared.FlaggedActs.{FlaggedActs}
 use Rattle.hv_basic.specs.declared.shared.Kept.{Kept}
+use Rattle.hv_basic.specs.declared.shared.KeptJoint.{KeptJoint}
 use Rattle.hv_basic.specs.declared.shared.KeptLeaves.{KeptLeaves}
 use Rattle.hv_basic.specs.declared.signed_sets.Leaf.{Leaf}
 
@@ -161,14 +165,65 @@ pub record AreItsLeaves (lines : List Line) (kept : KeptLeaves) : Type 0 where
   pub leaves : (leaf : ℕ) → Contains (places kept.leaves.items) leaf ↔ IsAndLeaf lines kept.root leaf
   pub read : All (IsLeafRead lines) kept.leaves.items
 
+-- the family of a joint formula
+abbrev pub joint_family : JointFormula → FormulaFamily
+joint_family (J.Horn formula) = F.Horn
+joint_family (J.Dual formula) = F.Dual
+joint_family (J.Two formula) = F.Two
+
+-- its clauses
+abbrev pub joint_clauses : JointFormula → List (List Literal)
+joint_clauses (J.Horn formula) = formula.clauses
+joint_clauses (J.Dual formula) = formula.clauses
+joint_clauses (J.Two formula) = formula.clauses
+
+-- the clause is one of the formula in clauses
+abbrev pub HasClause : List Line → ℕ → List Literal → Type 0
+HasClause lines set clause =
+    (expr : Expr) × (expr_at lines set ≡ Some expr)
+    × ((clauses : List (List Literal)) × (own_clauses expr ≡ Some clauses)
+    × Contains clauses clause)
+
+-- the clauses are those of the sets that are asked about, all of them and no others
+abbrev pub AreJointClauses : List Line → Askings → List (List Literal) → Type 0
+AreJointClauses lines asked clauses = (clause : List Literal) → Contains clauses clause
+    ↔ ((a : ℕ × Bool) × Contains asked a × HasClause lines a.0 clause)
+
+-- the formula stands for the sets that are asked about: they are formulas of its family, and it has
+-- their clauses, so it has a state exactly where each of them has it
+pub record IsJointOf (lines : List Line) (asked : Askings) (formula : JointFormula) : Type 0 where
+  pub of_family : (a : ℕ × Bool) → Contains asked a → IsOfFamily lines (joint_family formula) a.0
+  pub clauses : AreJointClauses lines asked (joint_clauses formula)
+
+-- each leaf of the intersection is asked about before the action, in order, and they are so few
+-- that one set more can be asked about
+pub record AreLeavesAsked (lines : List Line) (root : ℕ) (asked : Askings) : Type 0 where
+  pub each : (a : ℕ × Bool) → Contains asked a ↔ (IsAndLeaf lines root a.0 × (a.1 ≡ false))
+  pub rises : AskingsRise asked
+  pub few : length asked < most_operands
+
+-- the formula stands for the leaves of the intersection
+pub record IsJointFor (lines : List Line) (root : ℕ) (formula : JointFormula) : Type 0 where
+  pub asked : Askings
+  pub leaves : AreLeavesAsked lines root asked
+  pub joint : IsJointOf lines asked formula
+
+-- the formula that is kept of the intersection stands for its leaves, if there is one
+pub record IsJointKept (lines : List Line) (kept : KeptJoint) : Type 0 where
+  pub table : IsTable lines
+  pub below : kept.root < expr_count lines
+  pub stands : IfSome kept.formula (IsJointFor lines kept.root)
+
 -- what is kept of right sides, of left sides and of action sets
 pub record SharedState : Type 0 where
   pub sides : List Kept
   pub lefts : List KeptLeaves
+  pub joints : List KeptJoint
   pub flagged : List FlaggedActs
 
 -- what is kept is right for these lines
 pub record IsShared (lines : List Line) (shared : SharedState) : Type 0 where
   pub sides : All (IsRightSide lines) shared.sides
   pub lefts : All (AreItsLeaves lines) shared.lefts
+  pub joints : All (IsJointKept lines) shared.joints
   pub flagged : All (AreItsFlags lines) shared.flagged

@@ -11,4 +11,5 @@ pub mod Denied
 pub mod Framed
 pub mod Excluded
 pub mod Formulas
+pub mod Joints
 pub mod Sharing

@@ -78,7 +78,7 @@ pub(crate) fn formula_of<'a>(case: &Case<'a>, set: usize) -> AnyFormula<'a>
 }
 
 /// The number of a formula in the store of its family.
-fn number_of(store: &Store, set: usize) -> usize
+pub(crate) fn number_of(store: &Store, set: usize) -> usize
     requires { (number : ℕ) × (slice_get store.now.names set ≡ Some (S.Set number)) }
     ensures { slice_get store.now.names set ≡ Some (S.Set result) }
 {

@@ -54,6 +54,13 @@
 //! nothing of it. The operands of a right side whose sets didn't come in order are made once a
 //! query is asked.
 //!
+//! An intersection on the left that was asked about before, has 16 leaves or more, and whose leaves
+//! are formulas in clauses of one family, with few clauses and literals, is kept as one formula with
+//! the clauses of all (`joint`, `kept_joints`), of the four left sides that were made so last. A
+//! statement without an action whose right side is one formula of the family is decided on it: each
+//! clause of the right formula is made false, and costs what follows from that, and not the number
+//! of leaves.
+//!
 //! Where the left side asks for a set that the right one has, no query is asked, since no state is
 //! in a set and outside of it. For that the cost has to be known to be within the budget: over
 //! formulas in clauses that is the number of ways to choose one clause of each, which is kept with
@@ -129,7 +136,9 @@ mod denied;
 mod exclusions;
 mod families;
 mod framed;
+mod joint;
 mod kept_flags;
+mod kept_joints;
 mod kept_leaves;
 pub mod kinds;
 pub mod laws;

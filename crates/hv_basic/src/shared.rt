@@ -4,6 +4,7 @@
 ghost use Rattle.std.specs.Prelude.{◌≡◌, None};
 
 use crate::basic::Question;
+use crate::joint::JointFormula;
 use crate::signed_sets::Leaf;
 use hv_lines::FormulaFamily;
 use hv_sets::{Operands, Query, Scratch};
@@ -18,6 +19,7 @@ use std::marker::Model;
 pub struct Shared {
     pub(crate) sides: Vec<Kept>,
     pub(crate) lefts: Vec<KeptLeaves>,
+    pub(crate) joints: Vec<KeptJoint>,
     pub(crate) flagged: Vec<FlaggedActs>,
     pub(crate) scratch: Scratch,
 }
@@ -53,6 +55,14 @@ pub(crate) struct KeptLeaves {
     pub leaves: Vec<Leaf>,
 }
 
+/// An intersection that was asked about before, and one formula for its leaves; none where they have
+/// none.
+#[derive(Drop)]
+pub(crate) struct KeptJoint {
+    pub root: usize,
+    pub formula: Option<JointFormula>,
+}
+
 /// An action set, and a flag for each action: true for those of the set.
 #[derive(Drop)]
 pub(crate) struct FlaggedActs {
@@ -68,6 +78,7 @@ impl Model for Shared {
     ghost view = { λ s. record {
       sides = s.sides.items;
       lefts = s.lefts.items;
+      joints = s.joints.items;
       flagged = s.flagged.items;
     } };
 }
@@ -85,6 +96,7 @@ impl Shared {
         Ok(Shared {
             sides: Vec::new(alloc),
             lefts: Vec::new(alloc),
+            joints: Vec::new(alloc),
             flagged: Vec::new(alloc),
             scratch: Scratch::new(alloc)?,
         })

@@ -28,6 +28,7 @@ use crate::basic::Question;
 use crate::candidates::is_listed;
 use crate::case::Case;
 use crate::families::one_family;
+use crate::kept_joints::verdict_by_joint;
 use crate::lefts::{asks_sides_after, left_of};
 use crate::recent::bring;
 use crate::rights::{clauses_to_choose, is_union, keep_right, lesser_before, own_clauses};
@@ -128,6 +129,11 @@ fn verdict_of_sides(
         → IsQuestion (lines_in case.now) claim.word claim.left claim.right question → ⊥)) }
     ensures shared { IsShared (lines_in case.now) shared.new }
 {
+    let joints = &mut shared.joints;
+    let scratch = &mut shared.scratch;
+    if let Some(verdict) = verdict_by_joint(alloc, case, &shared.lefts, joints, scratch, claim)? {
+        return Ok(verdict);
+    }
     match left_of(alloc, case.table, &mut shared.lefts, claim.word, claim.left) {
         Ok(sides) => verdict_beside(alloc, case, shared, claim, sides),
         Err(fault) => Err(fault),
@@ -333,7 +339,7 @@ fn ask_together(
 }
 
 /// Whether nothing is asked about with the sign of the right side's formulas.
-fn are_positive(askings: &[Asking]) -> bool
+pub(crate) fn are_positive(askings: &[Asking]) -> bool
     ensures { result ≡ true → (asking : Asking) → Contains askings.now asking
         → asking.positive ≡ true }
 {
