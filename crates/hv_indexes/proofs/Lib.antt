@@ -5,6 +5,7 @@ pub mod Heads
 pub mod Scattered
 pub mod Gathered
 pub mod Standings
+pub mod Paired
 pub mod Implying
 pub mod ImpliedRows
 pub mod Mated

@@ -4,3 +4,4 @@ pub mod Signed
 pub mod Implied
 pub mod Occurrences
 pub mod Mates
+pub mod Pairs

@@ -6,13 +6,18 @@
 //! one list by rising atoms, made once, eight bytes a literal, with where those of each atom begin
 //! (`rows`).
 
-ghost use Rattle.std.specs.Prelude.{◌≡◌, ◌≤◌, ◌^◌, List, IfOk, length, min, slice_range};
+ghost use Rattle.std.specs.Prelude.{◌≡◌, ◌≤◌, ◌^◌, [], List, IfOk, length, min, slice_range};
+ghost use Rattle.std.specs.Prelude.{slice_index_or};
 ghost use Rattle.std.specs.List.{All};
 ghost use Rattle.hv_sets.specs.declared.literal.Literal.{Literal};
 ghost use Rattle.hv_sets.specs.Cubes.{SpeakBelow};
+ghost use Rattle.hv_indexes.specs.Working.Rows.{ListsCodes};
+ghost use Rattle.hv_indexes.specs.Working.Signed.{IsSignedCode};
+ghost use Rattle.hv_indexes.specs.Working.Pairs.{AreEntryPairs};
 ghost use Rattle.hv_indexes.specs.Occurrences.{AreOccurrences, AreStanding, IsIndexOf, signed};
 
 use crate::counted::sort_by_keys;
+use crate::partners::EntryPair;
 use crate::rows::RowHead;
 use crate::{partners, rows, signed};
 use hv_sets::{Clauses, Literal};
@@ -54,8 +59,10 @@ impl Occurrences {
         requires below { All (SpeakBelow (2 ^ 31)) clauses.now }
         ensures { IfOk result (IsIndexOf clauses.now) }
     {
-        let negative = SignedOccurrences::new(alloc, clauses, false)?;
-        let positive = SignedOccurrences::new(alloc, clauses, true)?;
+        let codes = signed::codes_of(alloc, clauses)?;
+        let pairs = partners::pairs_of(alloc, clauses)?;
+        let negative = SignedOccurrences::new(alloc, clauses, &pairs, false, codes.negative)?;
+        let positive = SignedOccurrences::new(alloc, clauses, &pairs, true, codes.positive)?;
         Ok(Occurrences { negative, positive })
     }
 
@@ -79,16 +86,25 @@ impl Occurrences {
 }
 
 impl SignedOccurrences {
-    // Where the literals of this sign stand.
-    fn new(alloc: Global, clauses: &Clauses, sign: bool) -> Result<SignedOccurrences, AllocError>
+    // Where the literals of this sign stand, which have these codes.
+    fn new(
+        alloc: Global,
+        clauses: &Clauses,
+        pairs: &[EntryPair],
+        sign: bool,
+        codes: Vec<usize>,
+    ) -> Result<SignedOccurrences, AllocError>
         requires few { length clauses.now ≤ 2 ^ 32 }
         requires below { All (SpeakBelow (2 ^ 31)) clauses.now }
+        requires pairs { AreEntryPairs clauses.now pairs.now }
+        requires codes { ListsCodes (λ k. IsSignedCode sign (slice_index_or clauses.now k []) k)
+            (length clauses.now) codes.items }
         ensures { IfOk result (AreOccurrences sign clauses.now) }
     {
-        let mut places = signed::codes_of(alloc, clauses, sign)?;
+        let mut places = codes;
         sort_by_keys(alloc, &mut places)?;
         let heads = rows::heads_of(alloc, &places)?;
-        let partners = partners::entries_of(alloc, clauses, &places, sign)?;
+        let partners = partners::entries_of(alloc, clauses, pairs, &places, sign)?;
         rows::strip(&mut places);
         Ok(SignedOccurrences {
             heads,

@@ -7,15 +7,17 @@
 //! known to be true. One number denotes no literal; it is also that of the last atom that there can
 //! be, so a clause of two with that literal is looked into like a longer one.
 
-ghost use Rattle.std.specs.Prelude.{◌≡◌, ◌<◌, ◌≤◌, ◌⊎◌, ◌^◌, ◌∷◌, ℕ, [], Some, length, slice_index};
-ghost use Rattle.std.specs.Prelude.{IfOk, IfSome, MatchOption, OnOk};
+ghost use Rattle.std.specs.Prelude.{◌≡◌, ◌<◌, ◌≤◌, ◌⊎◌, ◌↔◌, ◌^◌, ◌∷◌, ℕ, [], List, Some, length};
+ghost use Rattle.std.specs.Prelude.{slice_index, IfOk, IfSome, IsTrue, MatchOption, OnOk};
 ghost use Rattle.std.specs.List.{All};
 ghost use Rattle.hv_sets.specs.declared.literal.Literal.{Literal};
 ghost use Rattle.hv_sets.specs.Cubes.{SpeakBelow};
 ghost use Rattle.hv_indexes.specs.Implied.{IsPair};
 ghost use Rattle.hv_indexes.specs.Occurrences.{ArePartners, IsPartner, entry_or_none, no_literal};
 ghost use Rattle.hv_indexes.specs.Occurrences.{literal_of};
+ghost use Rattle.hv_indexes.specs.Places.{clause_at};
 ghost use Rattle.hv_indexes.specs.Working.Occurrences.{PutsEntry};
+ghost use Rattle.hv_indexes.specs.Working.Pairs.{AreEntryPairs, IsEntryPair};
 ghost use Rattle.hv_indexes.specs.Rows.{place_of_code};
 
 use crate::rows;
@@ -25,15 +27,67 @@ use std::alloc::{AllocError, Global};
 // StandsAs for no literal.
 const NONE: u32 = u32::MAX;
 
+// Of fewer clauses each is looked into, wherever that is.
+const FEW: usize = 16;
+
+/// The entries for the two literals of a clause; of any other clause both denote none.
+#[derive(Clone, Copy, Drop)]
+pub(crate) struct EntryPair {
+    pub first: u32,
+    pub second: u32,
+}
+
+// The entries for the literals of each clause, made in one way through the clauses: eight bytes
+// each, where a look into a clause far away reads more of them, at two places. Nothing of few.
+pub(crate) fn pairs_of(alloc: Global, clauses: &Clauses) -> Result<Vec<EntryPair>, AllocError>
+    requires { All (SpeakBelow (2 ^ 31)) clauses.now }
+    ensures { IfOk result (λ pairs. AreEntryPairs clauses.now pairs.items) }
+{
+    if clauses.len() < FEW {
+        return Ok(Vec::new(alloc));
+    }
+    let mut pairs = Vec::with_capacity(alloc, clauses.len())?;
+    for place in 0..clauses.len() {
+        pairs.push(pair_of(clauses.get(place)))?;
+    }
+    Ok(pairs)
+}
+
+// The entries for the literals of a clause.
+fn pair_of(clause: &[Literal]) -> EntryPair
+    requires { SpeakBelow (2 ^ 31) clause.now }
+    ensures { IsEntryPair clause.now result }
+{
+    if clause.len() != 2 {
+        return EntryPair {
+            first: NONE,
+            second: NONE,
+        };
+    }
+    let first = entry_of(clause[0]);
+    let second = entry_of(clause[1]);
+    EntryPair { first, second }
+}
+
+// The entry for a literal.
+fn entry_of(literal: Literal) -> u32
+    requires { literal.atom < 2 ^ 31 }
+    ensures { literal_of result ≡ literal }
+{
+    literal.atom * 2 + literal.positive as u32
+}
+
 // The entries for the literals beside those with these codes, which are of this sign, up to the
-// last one that denotes a literal.
+// last one that denotes a literal. What the entries of clauses are is told as far as it is known.
 pub(crate) fn entries_of(
     alloc: Global,
     clauses: &Clauses,
+    pairs: &[EntryPair],
     codes: &[usize],
     sign: bool,
 ) -> Result<Vec<u32>, AllocError>
     requires below { All (SpeakBelow (2 ^ 31)) clauses.now }
+    requires pairs { AreEntryPairs clauses.now pairs.now }
     requires inside { (k : ℕ) → k < length codes.now
         → place_of_code (slice_index codes.now k) < length clauses.now }
     ensures { IfOk result (λ entries. ArePartners sign clauses.now codes.now entries.items) }
@@ -45,10 +99,47 @@ pub(crate) fn entries_of(
             atom: rows::key_in(code),
             positive: sign,
         };
-        let clause = clauses.get(rows::number_in(code) as usize);
-        put_entry(&mut entries, place, entry_of_partner(clause, own))?;
+        let number = rows::number_in(code) as usize;
+        put_entry(&mut entries, place, entry_at(clauses, pairs, number, own))?;
     }
     Ok(entries)
+}
+
+// The entry for the literal beside this one in the clause at a place.
+fn entry_at(clauses: &Clauses, pairs: &[EntryPair], place: usize, own: Literal) -> u32
+    requires below { All (SpeakBelow (2 ^ 31)) clauses.now }
+    requires pairs { AreEntryPairs clauses.now pairs.now }
+    requires place { place < length clauses.now }
+    ensures { IsPartner (clause_at clauses.now place) own result }
+{
+    if place < pairs.len() {
+        return entry_beside(pairs[place], own);
+    }
+    entry_of_partner(clauses.get(place), own)
+}
+
+// The entry for the literal beside this one, where the entries of the clause are these.
+fn entry_beside(pair: EntryPair, own: Literal) -> u32
+    ensures { (clause : List Literal) → IsEntryPair clause pair → IsPartner clause own result }
+{
+    if denotes(pair.first, own) {
+        return pair.second;
+    }
+    if denotes(pair.second, own) {
+        return pair.first;
+    }
+    NONE
+}
+
+// Whether the entry denotes the literal.
+fn denotes(entry: u32, literal: Literal) -> bool
+    ensures { IsTrue result ↔ (literal_of entry ≡ literal) }
+{
+    let denoted = Literal {
+        atom: entry / 2,
+        positive: entry % 2 == 1,
+    };
+    denoted == literal
 }
 
 // Puts an entry at a place, if it denotes a literal.
@@ -73,7 +164,7 @@ fn entry_of_partner(clause: &[Literal], own: Literal) -> u32
 {
     match partner(clause, own) {
         None => NONE,
-        Some(other) => other.atom * 2 + other.positive as u32,
+        Some(other) => entry_of(other),
     }
 }
 

@@ -1,5 +1,4 @@
-use Rattle.std.proofs.Common.{[], get_or, sym, arith, below_more, subst}
-use Rattle.std.proofs.lemmas.Option.{get_or_from_slice_get}
+use Rattle.std.proofs.Common.{get_or, sym, arith, below_more, subst}
 use Rattle.hv_sets.specs.declared.literal.Literal.{Literal}
 use Rattle.hv_indexes.specs.Places.{clause_at}
 use Rattle.hv_indexes.specs.Occurrences.{IsPartner, entry_or_none}
@@ -14,12 +13,10 @@ loop-place-preserved c =
     let place = c.loop-place.place in
     let code = get_or codes place 0 in
     let new = c.put_entry.new.entries.items in
-    let entry = c.entry_of_partner.result in
+    let entry = c.entry_at.result in
     let own : Literal = record { atom = c.key_in.result; positive = sign } in
     let puts = c.in_ok-put_entry.ensures in
-    let here = subst (λ ls. IsPartner ls own entry)
-    (sym (get_or_from_slice_get clauses c.number_in.result c.get-clause.result.now []
-    c.get-clause.ensures)) c.entry_of_partner.ensures in
+    let here = c.entry_at.ensures in
     record {
       few = puts.few;
       each = below_more (λ k. IsPartner (clause_at clauses (place_of_code (get_or codes k 0)))
@@ -32,7 +29,7 @@ loop-place-preserved c =
           (record { atom = key_of code; positive = sign })) (sym puts.here)
           (subst (λ a. IsPartner (clause_at clauses (place_of_code code))
           (record { atom = a; positive = sign }) entry) c.key_in.ensures
-          (subst (λ n. IsPartner (clause_at clauses n) own entry) c.number_in.ensures here)));
+          (subst (λ n. IsPartner (clause_at clauses n) own entry) c.number_in-number.ensures here)));
     }
 
 pub returns : goal.returns

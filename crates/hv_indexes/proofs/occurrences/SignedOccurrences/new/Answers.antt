@@ -8,8 +8,8 @@ pub entries_of-requires-clause-inside : goal.entries_of-requires-clause-inside
 entries_of-requires-clause-inside c =
     subst (λ (cs : List ℕ). (k : ℕ) → k < length cs
     → place_of_code (get_or cs k 0) < length c.args.clauses.now) (sym c.deref-2.ensures.value)
-    (signed_inside c.args.sign c.args.clauses.now c.in_ok-places.places.items
-    c.sort_by_keys.new.codes.items c.requires.few c.in_ok-places.ensures c.in_ok-sort_by_keys.ensures.has)
+    (signed_inside c.args.sign c.args.clauses.now c.args.codes.items
+    c.sort_by_keys.new.codes.items c.requires.few c.requires.codes c.in_ok-sort_by_keys.ensures.has)
 
 pub returns : goal.returns
 returns c =
@@ -18,8 +18,8 @@ returns c =
       codes = codes;
       heads = subst (λ cs. AreHeads cs c.in_ok-heads.heads.items) c.deref.ensures.value
           c.in_ok-heads.ensures;
-      coded = signed_coded c.args.sign c.args.clauses.now c.in_ok-places.places.items codes
-          c.strip.new.codes.items c.requires.few c.in_ok-places.ensures c.in_ok-sort_by_keys.ensures.rises
+      coded = signed_coded c.args.sign c.args.clauses.now c.args.codes.items codes
+          c.strip.new.codes.items c.requires.few c.requires.codes c.in_ok-sort_by_keys.ensures.rises
           c.in_ok-sort_by_keys.ensures.has c.strip.ensures;
       partners = subst (λ cs. ArePartners c.args.sign c.args.clauses.now cs
           c.in_ok-partners.partners.items) c.deref-2.ensures.value c.in_ok-partners.ensures;
