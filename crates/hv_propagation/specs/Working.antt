@@ -5,4 +5,5 @@ pub mod Effect
 pub mod Scan
 pub mod Completion
 pub mod Buffers
+pub mod Chase
 pub mod UnitRounds

@@ -7,7 +7,7 @@
 //! that the trail has from the present place on is settled, that is, it is satisfied or has two
 //! unassigned literals. When the place has reached the end of the trail, all clauses are settled.
 
-ghost use Rattle.std.specs.Prelude.{◌≡◌, ◌<◌, ◌+◌, ℕ, List, Some, false, true, length};
+ghost use Rattle.std.specs.Prelude.{◌≡◌, ◌<◌, ◌≤◌, ◌+◌, ℕ, List, Some, false, true, length};
 ghost use Rattle.std.specs.Prelude.{slice_get, slice_index};
 ghost use Rattle.std.specs.List.{Contains};
 ghost use Rattle.hv_sets.specs.declared.literal.Literal.{Literal as LiteralOf};
@@ -21,6 +21,7 @@ ghost use Rattle.hv_indexes.specs.Occurrences.{AreStanding, IsIndexOf};
 ghost use Rattle.hv_indexes.specs.Signed.{StandsAs};
 ghost use Rattle.hv_propagation.specs.Trail.{marks_of};
 ghost use Rattle.hv_propagation.specs.Units.{IsSettled, value_of};
+ghost use Rattle.hv_propagation.specs.Working.Chase.{AreSettledBetween, IsSettledAt};
 
 use crate::effect::ActionEffect;
 use crate::trail::Assignment;
@@ -154,12 +155,75 @@ pub(crate) fn visit_all(
     ensures kept { result ≡ true → (place : ℕ) → Contains standing.now.places.now place
         → IsKept effect.now (clause_at clauses.now place) marks.new (length marks.old.trail) }
 {
-    for index in 0..standing.places.len() {
+    let mut index = 0;
+    while index < standing.places.len() {
+        let before = marks.len();
         if !visit_one(clauses, standing, index, effect, marks) {
             return false;
         }
+        index = place_after(standing, index, marks.len() > before, effect, marks);
     }
     true
+}
+
+// The place after this one. Where nothing was found out here, what follows is mostly known too, as
+// where each literal implies all that later ones do: then all are passed over at once beside which
+// stands a literal that is known to be true.
+#[inline(always)]
+fn place_after(
+    standing: &Standing<'_>,
+    index: usize,
+    found: bool,
+    effect: &ActionEffect<'_>,
+    marks: &Assignment<'_>,
+) -> usize
+    requires { index < length standing.now.places.now }
+    ensures after { index < result }
+    ensures settled { AreSettledBetween effect.now (marks_of marks.now) standing.now (index + 1)
+        result }
+{
+    if found {
+        return index + 1;
+    }
+    place_of_other(standing, index + 1, effect, marks)
+}
+
+// The first place from this one on beside which stands no literal that is known to be true. It is
+// a loop of its own, which writes nothing.
+#[inline(never)]
+fn place_of_other(
+    standing: &Standing<'_>,
+    from: usize,
+    effect: &ActionEffect<'_>,
+    marks: &Assignment<'_>,
+) -> usize
+    ensures after { from ≤ result }
+    ensures settled { AreSettledBetween effect.now (marks_of marks.now) standing.now from result }
+{
+    let mut index = from;
+    while index < standing.entries.len() {
+        if !is_true_beside(standing, index, effect, marks) {
+            return index;
+        }
+        index += 1;
+    }
+    index
+}
+
+// Whether a literal stands beside the one at this place that is known to be true.
+#[inline(always)]
+fn is_true_beside(
+    standing: &Standing<'_>,
+    index: usize,
+    effect: &ActionEffect<'_>,
+    marks: &Assignment<'_>,
+) -> bool
+    ensures { result ≡ true → IsSettledAt effect.now (marks_of marks.now) standing.now index }
+{
+    match partners::literal_at(standing.entries, index) {
+        None => false,
+        Some(other) => literals::value(effect, marks, other) == Some(true),
+    }
 }
 
 // Looks again at one of these clauses. Of two literals, the other one is true: what that is tells

@@ -1,5 +1,6 @@
-use Rattle.std.proofs.Common.{◌≡◌, ◌<◌, ◌∙◌, true, false, length, get_or, refl, sym, ap, arith}
-use Rattle.std.proofs.Common.{below_more, subst}
+use Rattle.std.proofs.Common.{◌≡◌, ◌<◌, ◌+◌, ◌∙◌, ℕ, true, false, length, get_or, refl, sym, ap}
+use Rattle.std.proofs.Common.{arith, below_more, inl, inr, subst}
+use Rattle.std.proofs.lemmas.Bool.{cases_lt}
 use Rattle.hv_sets.specs.Truth.{in_clauses}
 use Rattle.std.proofs.lemmas.List.{get_or_default}
 use Rattle.hv_propagation.specs.Chase.{IsKept}
@@ -28,6 +29,9 @@ returns-then-not-visit_one-clause-followed c =
     _ _ _ _ (λ state size holds. holds) c.loop-index.invariant.followed
     c.if-not-visit_one.ensures.followed
 
+pub place_after-index-requires : goal.place_after-index-requires
+place_after-index-requires c = c.loop-index-test.true
+
 pub loop-index-preserved : goal.loop-index-preserved
 loop-index-preserved c =
     let e = c.args.effect.now in
@@ -38,15 +42,21 @@ loop-index-preserved c =
     let new = c.visit_one.new.marks in
     let from = length c.args.marks.now.trail in
     let step = c.if-not-visit_one.ensures.followed in
+    let Seen : ℕ → Type 0 = λ k. k < length places
+    → IsKept e (clause_at clauses (get_or places k 0)) new from in
     record {
       followed = followed_then (λ s. in_clauses clauses (over e s) ≡ true)
           (λ s. in_clauses clauses (over e s) ≡ true)
           _ _ _ _ (λ state size holds. holds) c.loop-index.invariant.followed step;
-      seen = below_more (λ k. IsKept e (clause_at clauses (get_or places k 0)) new from) index
-          (λ k less. kept_on e (clause_at clauses (get_or places k 0)) old new from
-          step.roots step.more (longer _ _ _ _ c.loop-index.invariant.followed)
-          (c.loop-index.invariant.seen k less))
-          (λ apart. c.if-not-visit_one.ensures.settled refl);
+      seen = λ k less. elim (cases_lt k (index + 1)) [
+        | inl here ↦ below_more Seen index
+            (λ j before within. kept_on e (clause_at clauses (get_or places j 0)) old new from
+            step.roots step.more (longer _ _ _ _ c.loop-index.invariant.followed)
+            (c.loop-index.invariant.seen j before within))
+            (λ within apart. c.if-not-visit_one.ensures.settled refl) k here
+        | inr past ↦ λ within apart. c.place_after-index.ensures.settled k (omega arith) less clauses
+            c.requires.standing within
+      ];
     }
 
 pub returns-clause-kept : goal.returns-clause-kept
@@ -56,4 +66,4 @@ returns-clause-kept c = λ is place has.
     subst (λ x. IsKept c.args.effect.now (clause_at c.args.clauses.now x) c.loop-index.marks
     (length c.args.marks.now.trail))
     (get_or_default c.args.standing.now.places.now has.0 0 place within ∙ has.2)
-    (c.loop-index.invariant.seen has.0 (omega arith))
+    (c.loop-index.invariant.seen has.0 (omega arith) within)
