@@ -48,13 +48,13 @@ pub(crate) fn pairs_of(alloc: Global, clauses: &Clauses) -> Result<Vec<EntryPair
     }
     let mut pairs = Vec::with_capacity(alloc, clauses.len())?;
     for place in 0..clauses.len() {
-        pairs.push(pair_of(clauses.get(place)))?;
+        pairs.push(entries_in(clauses.get(place)))?;
     }
     Ok(pairs)
 }
 
 // The entries for the literals of a clause.
-fn pair_of(clause: &[Literal]) -> EntryPair
+fn entries_in(clause: &[Literal]) -> EntryPair
     requires { SpeakBelow (2 ^ 31) clause.now }
     ensures { IsEntryPair clause.now result }
 {

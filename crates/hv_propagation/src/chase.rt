@@ -161,7 +161,7 @@ pub(crate) fn visit_all(
         if !visit_one(clauses, standing, index, effect, marks) {
             return false;
         }
-        index = place_after(standing, index, marks.len() > before, effect, marks);
+        index = next_place(standing, index, marks.len() > before, effect, marks);
     }
     true
 }
@@ -170,7 +170,7 @@ pub(crate) fn visit_all(
 // where each literal implies all that later ones do: then all are passed over at once beside which
 // stands a literal that is known to be true.
 #[inline(always)]
-fn place_after(
+fn next_place(
     standing: &Standing<'_>,
     index: usize,
     found: bool,

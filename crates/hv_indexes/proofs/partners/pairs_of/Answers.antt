@@ -13,14 +13,14 @@ loop-place-preserved c =
     let place = c.loop-place.place in
     let old = c.loop-place.pairs.items in
     let new = c.push.new.self.items in
-    let pair = c.pair_of.result in
+    let pair = c.entries_in.result in
     let items : new ≡ old ++ pair ∷ [] = c.in_ok-push.ensures.items in
     let size = c.loop-place.invariant.size in
     let long = ap length items in
     let more = length-append old (pair ∷ []) in
     let here = subst (λ ls. IsEntryPair ls pair)
     (sym (get_or_from_slice_get clauses place c.get.result.now [] c.get.ensures))
-    c.pair_of.ensures in
+    c.entries_in.ensures in
     record {
       size = omega arith;
       are = λ k d less. elim (cases_lt k (length old)) [

@@ -1,4 +1,4 @@
-use Rattle.std.proofs.Common.{ℕ, ◌<◌, ◌+◌, ◌≤◌, arith, below_more, refl}
+use Rattle.std.proofs.Common.{ℕ, ◌≤◌, arith, below_more}
 use Rattle.hv_propagation.specs.Trail.{marks_of}
 use Rattle.hv_propagation.specs.Working.Chase.{IsSettledAt}
 use Rattle.hv_propagation.proofs.chase.place_of_other.Goals as goal

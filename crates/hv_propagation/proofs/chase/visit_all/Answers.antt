@@ -29,8 +29,8 @@ returns-then-not-visit_one-clause-followed c =
     _ _ _ _ (λ state size holds. holds) c.loop-index.invariant.followed
     c.if-not-visit_one.ensures.followed
 
-pub place_after-index-requires : goal.place_after-index-requires
-place_after-index-requires c = c.loop-index-test.true
+pub next_place-index-requires : goal.next_place-index-requires
+next_place-index-requires c = c.loop-index-test.true
 
 pub loop-index-preserved : goal.loop-index-preserved
 loop-index-preserved c =
@@ -54,7 +54,7 @@ loop-index-preserved c =
             step.roots step.more (longer _ _ _ _ c.loop-index.invariant.followed)
             (c.loop-index.invariant.seen j before within))
             (λ within apart. c.if-not-visit_one.ensures.settled refl) k here
-        | inr past ↦ λ within apart. c.place_after-index.ensures.settled k (omega arith) less clauses
+        | inr past ↦ λ within apart. c.next_place-index.ensures.settled k (omega arith) less clauses
             c.requires.standing within
       ];
     }

@@ -2,7 +2,7 @@ use Rattle.std.proofs.Common.{false, ◌<◌, ◌∙◌, ◌∷◌, [], get_or, 
 use Rattle.std.proofs.lemmas.List.Elements.{All-contains, Contains-get_or}
 use Rattle.hv_sets.specs.declared.literal.Literal.{Literal}
 use Rattle.hv_indexes.proofs.Paired.{two_are}
-use Rattle.hv_indexes.proofs.partners.pair_of.Goals as goal
+use Rattle.hv_indexes.proofs.partners.entries_in.Goals as goal
 
 abbrev none : Literal
 none = record { atom = 0; positive = false }
