@@ -222,7 +222,7 @@ fn is_true_beside(
 {
     match partners::literal_at(standing.entries, index) {
         None => false,
-        Some(other) => literals::value(effect, marks, other) == Some(true),
+        Some(other) => literals::is_found_true(effect, marks, other),
     }
 }
 

@@ -28,6 +28,22 @@ pub fn value(effect: &ActionEffect<'_>, marks: &Assignment<'_>, literal: Literal
     }
 }
 
+// Whether the effect makes the literal true, or leaves its atom and the literal was found true: a
+// quick look, which doesn't see what was known before.
+#[inline(always)]
+pub(crate) fn is_found_true(
+    effect: &ActionEffect<'_>,
+    marks: &Assignment<'_>,
+    literal: Literal,
+) -> bool
+    ensures { result ≡ true → value_of effect.now (marks_of marks.now) literal ≡ Some true }
+{
+    match effect.read(literal.atom) {
+        None => marks.has_found(literal),
+        Some(value) => value == literal.positive,
+    }
+}
+
 /// Whether a literal of the clause is known to be true.
 pub fn has_true(clause: &[Literal], effect: &ActionEffect<'_>, marks: &Assignment<'_>) -> bool
     ensures { result ≡ true → (l : Literal) × Contains clause.now l ×

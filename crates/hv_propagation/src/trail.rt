@@ -5,7 +5,7 @@
 //! no clearing, whatever is in them, and to forget the latest literals is to shorten the trail.
 
 ghost use Rattle.std.specs.Prelude.{◌≡◌, ◌<◌, ◌≤◌, ◌++◌, ◌^◌, [], ◌∷◌, None, Some, length, take};
-ghost use Rattle.std.specs.Prelude.{IfOk, slice_get};
+ghost use Rattle.std.specs.Prelude.{IfOk, slice_get, true};
 ghost use Rattle.std.specs.List.Sorted.{IsStrictlyIncreasing};
 ghost use Rattle.hv_sets.specs.Cubes.{atoms_of};
 ghost use Rattle.hv_propagation.specs.Marks.{filled, known};
@@ -156,6 +156,27 @@ impl<'a> Assignment<'a> {
             return self.roots.read(self.atoms, atom);
         }
         Some(entry % 2 == 1)
+    }
+
+    // Whether the literal stands on the trail. It may be known to be true where it doesn't.
+    #[inline(always)]
+    pub(crate) fn has_found(&self, literal: Literal) -> bool
+        ensures { result ≡ true
+            → known (marks_of self.now) literal.atom ≡ Some literal.positive }
+    {
+        let at = literal.atom as usize;
+        if at >= self.atoms {
+            return false;
+        }
+        let place = self.buffers.place(at) as usize;
+        if place >= self.len {
+            return false;
+        }
+        let entry = self.buffers.entry(place) as usize;
+        if entry / 2 != at {
+            return false;
+        }
+        (entry % 2 == 1) == literal.positive
     }
 
     /// Puts a literal on the trail, of whose atom nothing is known.
