@@ -11,11 +11,12 @@
 //! marks an atom, where a table of which literal follows from which has a place for each pair of
 //! literals. A state is written only at the end, once there is one.
 
-ghost use Rattle.std.specs.Prelude.{◌≡◌, ◌<◌, ◌≤◌, None, Some, false, true, length};
-ghost use Rattle.std.specs.Prelude.{IfSome, MatchOption, is_some};
+ghost use Rattle.std.specs.Prelude.{◌≡◌, ◌<◌, ◌≤◌, ℕ, None, Some, false, true, length};
+ghost use Rattle.std.specs.Prelude.{IfSome, IsSome, MatchOption, is_some};
 ghost use Rattle.hv_propagation.specs.Chase.{IsFollowed};
 ghost use Rattle.hv_propagation.specs.Completion.{Completes, IsCompleted, IsTried};
 ghost use Rattle.hv_propagation.specs.declared.completion.Completion.TheVariants as Ways;
+ghost use Rattle.hv_propagation.specs.declared.propagation.Bound.TheVariants as Bounds;
 ghost use Rattle.hv_propagation.specs.Working.Completion.{IsAssumed};
 ghost use Rattle.hv_propagation.specs.Marks.{known, AllKnown};
 ghost use Rattle.hv_propagation.specs.Trail.{Grows, marks_of};
@@ -33,6 +34,50 @@ const TURN: usize = 16;
 // How many turns there are at most. A turn that is twice as long as another one reaches further.
 const TURNS: usize = 128;
 
+// How far the trail is followed up.
+#[derive(Clone, Copy)]
+pub(crate) enum Bound {
+    // To its end.
+    End,
+    // The literals before this place.
+    Place(usize),
+    // As far as so many clauses are to be looked at.
+    Clauses(usize),
+}
+
+impl Bound {
+    // What is left of it once the literal at this place is followed up, too, if that is still
+    // within it.
+    #[inline(always)]
+    fn past<C: Constraint>(
+        self,
+        constraint: &C,
+        marks: &Assignment<'_>,
+        place: usize,
+    ) -> Option<Bound>
+        requires over { (atoms : ℕ) × C.is_over constraint.now atoms }
+        requires place { place < length marks.now.trail }
+        ensures end { self ≡ Bounds.End → result ≡ Some Bounds.End }
+    {
+        match self {
+            Bound::End => Some(self),
+            Bound::Place(upto) => {
+                if place >= upto {
+                    return None;
+                }
+                Some(self)
+            }
+            Bound::Clauses(many) => {
+                let weight = constraint.weight(marks.get(place));
+                if weight >= many {
+                    return None;
+                }
+                Some(Bound::Clauses(many - weight))
+            }
+        }
+    }
+}
+
 /// Follows up what the trail has from a place on, until nothing more follows. The answer is false
 /// only if no state that agrees with what was known meets the condition.
 pub fn close<C: Constraint>(constraint: &C, marks: &mut Assignment<'_>, from: usize) -> bool
@@ -44,14 +89,7 @@ pub fn close<C: Constraint>(constraint: &C, marks: &mut Assignment<'_>, from: us
     ensures settled { result ≡ true → C.settled constraint.now (marks_of marks.new) }
 {
     constraint.laws();
-    let mut place = from;
-    while place < marks.len() {
-        if !constraint.visit(marks, place) {
-            return false;
-        }
-        place += 1;
-    }
-    true
+    follow(constraint, marks, from, Bound::End).is_some()
 }
 
 /// The same of the literals before another place of the trail. The answer is the place that was
@@ -69,22 +107,16 @@ pub fn close_upto<C: Constraint>(
     ensures left { IfSome result (λ place. (place ≤ length marks.new.trail)
         × C.left constraint.now marks.new place) }
 {
-    let mut place = from;
-    while place < upto && place < marks.len() {
-        if !constraint.visit(marks, place) {
-            return None;
-        }
-        place += 1;
-    }
-    Some(place)
+    follow(constraint, marks, from, Bound::Place(upto))
 }
 
-// The same as far as so many clauses are to be looked at.
-pub(crate) fn close_within<C: Constraint>(
+// The same within a bound.
+#[inline(always)]
+fn follow<C: Constraint>(
     constraint: &C,
     marks: &mut Assignment<'_>,
     from: usize,
-    many: usize,
+    bound: Bound,
 ) -> Option<usize>
     requires over { C.is_over constraint.now (length marks.old.roots) }
     requires from { from ≤ length marks.old.trail }
@@ -92,56 +124,32 @@ pub(crate) fn close_within<C: Constraint>(
     ensures followed { IsFollowed (C.admits constraint.now) marks.old marks.new (is_some result) }
     ensures left { IfSome result (λ place. (place ≤ length marks.new.trail)
         × C.left constraint.now marks.new place) }
+    ensures end { bound ≡ Bounds.End
+        → IfSome result (λ place. place ≡ length marks.new.trail) }
 {
-    let mut at = from;
-    let mut rest = many;
-    while at < marks.len() {
-        let weight = constraint.weight(marks.get(at));
-        if weight >= rest {
-            return Some(at);
-        }
-        rest -= weight;
-        if !constraint.visit(marks, at) {
+    let mut place = from;
+    let mut rest = bound;
+    while place < marks.len() {
+        let Some(next) = rest.past(constraint, marks, place) else {
+            return Some(place);
+        };
+        if !constraint.visit(marks, place) {
             return None;
         }
-        at += 1;
+        rest = next;
+        place += 1;
     }
-    Some(at)
+    Some(place)
 }
 
 // Tries a value of an open atom: puts it on the trail with all that follows, or leaves all as it
-// was if no state that agrees with what is known has it.
-pub(crate) fn assume<C: Constraint>(
+// was if no state that agrees with what is known has it. If neither shows within the bound, the
+// answer is None, and all is left as it was, too.
+fn assume<C: Constraint>(
     constraint: &C,
     marks: &mut Assignment<'_>,
     literal: Literal,
-) -> bool
-    requires over { C.is_over constraint.now (length marks.old.roots) }
-    requires atom { literal.atom < length marks.old.roots }
-    requires open { known (marks_of marks.old) literal.atom ≡ None }
-    requires left { C.left constraint.now marks.old (length marks.old.trail) }
-    ensures assumed { IsAssumed (C.admits constraint.now) (C.settled constraint.now) literal.atom
-        literal.positive (marks_of marks.old) (marks_of marks.new) result }
-    ensures grown { Grows marks.old marks.new }
-    ensures left { C.left constraint.now marks.new (length marks.new.trail) }
-{
-    constraint.laws();
-    let point = marks.len();
-    marks.write(literal);
-    if close(constraint, marks, point) {
-        return true;
-    }
-    marks.undo(point);
-    false
-}
-
-// The same, if nothing more follows, or the value is refuted, before so many clauses are looked at.
-// Otherwise the answer is None, and all is left as it was.
-pub(crate) fn assume_within<C: Constraint>(
-    constraint: &C,
-    marks: &mut Assignment<'_>,
-    literal: Literal,
-    many: usize,
+    bound: Bound,
 ) -> Option<bool>
     requires over { C.is_over constraint.now (length marks.old.roots) }
     requires atom { literal.atom < length marks.old.roots }
@@ -152,11 +160,12 @@ pub(crate) fn assume_within<C: Constraint>(
         literal.positive (marks_of marks.old) (marks_of marks.new)) }
     ensures grown { Grows marks.old marks.new }
     ensures left { C.left constraint.now marks.new (length marks.new.trail) }
+    ensures end { bound ≡ Bounds.End → IsSome result }
 {
     constraint.laws();
     let point = marks.len();
     marks.write(literal);
-    match close_within(constraint, marks, point, many) {
+    match follow(constraint, marks, point, bound) {
         None => {
             marks.undo(point);
             Some(false)
@@ -211,7 +220,8 @@ fn settle_open<C: Constraint>(constraint: &C, marks: &mut Assignment<'_>, atom: 
     let mut positive = false;
     for _ in 0..TURNS {
         let guess = Literal { atom, positive };
-        if let Some(settled) = settle_within(constraint, marks, guess, many) {
+        let bound = Bound::Clauses(many);
+        if let Some(settled) = settle_within(constraint, marks, guess, bound) {
             return settled;
         }
         if positive {
@@ -219,17 +229,16 @@ fn settle_open<C: Constraint>(constraint: &C, marks: &mut Assignment<'_>, atom: 
         }
         positive = !positive;
     }
-    settle_whole(constraint, marks, atom)
+    settle_within(constraint, marks, low, Bound::End).unwrap()
 }
 
-// The same, where this value is followed as far as so many clauses are to be looked at, and the
-// other one to its end, if this one is refuted. If that doesn't show, the answer is None, and all
-// is left as it was.
+// The same, where this value is followed within a bound, and the other one to its end, if this one
+// is refuted. If that doesn't show, the answer is None, and all is left as it was.
 fn settle_within<C: Constraint>(
     constraint: &C,
     marks: &mut Assignment<'_>,
     guess: Literal,
-    many: usize,
+    bound: Bound,
 ) -> Option<bool>
     requires over { C.is_over constraint.now (length marks.old.roots) }
     requires atom { guess.atom < length marks.old.roots }
@@ -243,9 +252,10 @@ fn settle_within<C: Constraint>(
         (marks_of marks.new)) }
     ensures grown { Grows marks.old marks.new }
     ensures left { C.left constraint.now marks.new (length marks.new.trail) }
+    ensures end { bound ≡ Bounds.End → IsSome result }
 {
     constraint.laws();
-    let Some(kept) = assume_within(constraint, marks, guess, many) else {
+    let Some(kept) = assume(constraint, marks, guess, bound) else {
         return None;
     };
     if kept {
@@ -255,35 +265,7 @@ fn settle_within<C: Constraint>(
         atom: guess.atom,
         positive: !guess.positive,
     };
-    Some(assume(constraint, marks, other))
-}
-
-// The same, where each value is followed to its end.
-fn settle_whole<C: Constraint>(constraint: &C, marks: &mut Assignment<'_>, atom: u32) -> bool
-    requires over { C.is_over constraint.now (length marks.old.roots) }
-    requires atom { atom < length marks.old.roots }
-    requires open { known (marks_of marks.old) atom ≡ None }
-    requires left { C.left constraint.now marks.old (length marks.old.trail) }
-    requires completes { Completes Ways.Try (C.admits constraint.now) (C.settled constraint.now)
-        (length marks.old.roots) }
-    ensures tried { IsTried (C.admits constraint.now) (C.settled constraint.now)
-        (λ marks. known marks atom ≡ None → ⊥) (marks_of marks.old) (marks_of marks.new) result }
-    ensures grown { Grows marks.old marks.new }
-    ensures left { C.left constraint.now marks.new (length marks.new.trail) }
-{
-    constraint.laws();
-    let low = Literal {
-        atom,
-        positive: false,
-    };
-    if assume(constraint, marks, low) {
-        return true;
-    }
-    let high = Literal {
-        atom,
-        positive: true,
-    };
-    assume(constraint, marks, high)
+    assume(constraint, marks, other, Bound::End)
 }
 
 // Finds a value for each atom. The answer is false only if no state meets the condition.

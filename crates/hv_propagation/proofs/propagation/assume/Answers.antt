@@ -7,69 +7,85 @@ use Rattle.hv_propagation.proofs.Completing.{assumed_broken, assumed_closed}
 use Rattle.hv_propagation.proofs.Trailed.{length-marks}
 use Rattle.hv_propagation.proofs.propagation.assume.Goals as goal
 
-pub close-requires-clause-left : goal.close-requires-clause-left
-close-requires-clause-left g c =
+pub follow-requires-clause-left : goal.follow-requires-clause-left
+follow-requires-clause-left g c =
     let h = c.len-point.ensures.len in
     subst (λ n. g.C.Constraint.left c.args.constraint.now c.write.new.self n) (sym h)
     (c.laws.ensures.stays c.args.marks.now c.write.new.self (length c.args.marks.now.trail)
     (grown_by_one c.args.marks.now c.write.new.self c.args.literal c.write.ensures c.requires.atom
     c.requires.open) (omega arith) c.requires.left)
 
-pub returns-then-close-clause-grown : goal.returns-then-close-clause-grown
-returns-then-close-clause-grown g c =
-    grows_then _ _ _ (grown_by_one c.args.marks.now c.write.new.self c.args.literal c.write.ensures
-    c.requires.atom c.requires.open)
-    (grown_by _ _ _ _ c.if-close.ensures.followed)
-
-pub returns-then-close-clause-assumed : goal.returns-then-close-clause-assumed
-returns-then-close-clause-assumed g c =
+pub returns-then-place-len-clause-assumed : goal.returns-then-place-len-clause-assumed
+returns-then-place-len-clause-assumed g c =
     let k = c.args.marks.now in
+    let followed = c.in-Some.ensures.followed in
+    let size = c.len.ensures.len in
+    let past = c.if-place-len.true in
     let m = marked_by k c.write.new.self c.args.literal c.write.ensures c.requires.atom in
     assumed_closed (g.C.Constraint.admits c.args.constraint.now)
     (g.C.Constraint.settled c.args.constraint.now) c.args.literal.atom c.args.literal.positive
-    (marks_of k) (marks_of c.write.new.self) (marks_of c.close.new.marks) c.requires.open m.size
-    m.here m.others
-    (length-marks c.close.new.marks ∙ (ap length c.if-close.ensures.followed.roots
+    (marks_of k) (marks_of c.write.new.self) (marks_of c.follow.new.marks) c.requires.open
+    m.size m.here m.others
+    (length-marks c.follow.new.marks ∙ (ap length followed.roots
     ∙ sym (length-marks c.write.new.self)))
-    c.if-close.ensures.followed.grows (c.if-close.ensures.settled refl)
+    followed.grows
+    (c.laws.ensures.ends c.follow.new.marks c.in-Some.place (omega arith)
+    c.in-Some.ensures.left.1)
 
-pub returns-clause-assumed : goal.returns-clause-assumed
-returns-clause-assumed g c =
+pub returns-then-place-len-clause-grown : goal.returns-then-place-len-clause-grown
+returns-then-place-len-clause-grown g c =
+    grows_then _ _ _ (grown_by_one c.args.marks.now c.write.new.self c.args.literal c.write.ensures
+    c.requires.atom c.requires.open)
+    (grown_by _ _ _ _ c.in-Some.ensures.followed)
+
+pub returns-in-None-clause-assumed : goal.returns-in-None-clause-assumed
+returns-in-None-clause-assumed g c =
     let k = c.args.marks.now in
     let P = g.C.Constraint.admits c.args.constraint.now in
     let S = g.C.Constraint.settled c.args.constraint.now in
     let m = marked_by k c.write.new.self c.args.literal c.write.ensures c.requires.atom in
     let grown = grows_then _ _ _ (grown_by_one k c.write.new.self c.args.literal c.write.ensures
     c.requires.atom c.requires.open)
-    (grown_by _ _ _ _ c.if-close.ensures.followed) in
-    let same : c.undo.new.self ≡ k = taken_back c.len-point.result k c.close.new.marks
+    (grown_by _ _ _ _ c.in-None.ensures.followed) in
+    let same : c.undo.new.self ≡ k = taken_back c.len-point.result k c.follow.new.marks
     c.undo.new.self c.len-point.ensures.len grown c.undo.ensures in
     subst (λ (n : Knowledge). IsAssumed P S c.args.literal.atom c.args.literal.positive (marks_of k)
     (marks_of n) false) (sym same)
     (assumed_broken P S c.args.literal.atom c.args.literal.positive
-    (marks_of k) (marks_of c.write.new.self) (marks_of c.close.new.marks) c.requires.open m.size
-    m.here m.others
+    (marks_of k) (marks_of c.write.new.self) (marks_of c.follow.new.marks) c.requires.open
+    m.size m.here m.others
     (c.laws.ensures.ends k (length k.trail) (omega arith) c.requires.left)
-    (λ state long holds agrees. c.if-close.ensures.followed.broken refl state
+    (λ state long holds agrees. c.in-None.ensures.followed.broken refl state
     (long ∙ length-marks c.write.new.self) holds agrees))
 
-pub returns-clause-grown : goal.returns-clause-grown
-returns-clause-grown g c =
+pub returns-in-None-clause-grown : goal.returns-in-None-clause-grown
+returns-in-None-clause-grown g c =
     let k = c.args.marks.now in
     let grown = grows_then _ _ _ (grown_by_one k c.write.new.self c.args.literal c.write.ensures
     c.requires.atom c.requires.open)
-    (grown_by _ _ _ _ c.if-close.ensures.followed) in
-    let same : c.undo.new.self ≡ k = taken_back c.len-point.result k c.close.new.marks
+    (grown_by _ _ _ _ c.in-None.ensures.followed) in
+    let same : c.undo.new.self ≡ k = taken_back c.len-point.result k c.follow.new.marks
     c.undo.new.self c.len-point.ensures.len grown c.undo.ensures in
     subst (λ (n : Knowledge). Grows k n) (sym same) (grows_same k)
 
-pub returns-clause-left : goal.returns-clause-left
-returns-clause-left g c =
+pub returns-in-None-clause-left : goal.returns-in-None-clause-left
+returns-in-None-clause-left g c =
     let k = c.args.marks.now in
     let grown = grows_then _ _ _ (grown_by_one k c.write.new.self c.args.literal c.write.ensures
     c.requires.atom c.requires.open)
-    (grown_by _ _ _ _ c.if-close.ensures.followed) in
-    let same : c.undo.new.self ≡ k = taken_back c.len-point.result k c.close.new.marks
+    (grown_by _ _ _ _ c.in-None.ensures.followed) in
+    let same : c.undo.new.self ≡ k = taken_back c.len-point.result k c.follow.new.marks
     c.undo.new.self c.len-point.ensures.len grown c.undo.ensures in
     subst (λ (n : Knowledge). g.C.Constraint.left c.args.constraint.now n (length n.trail))
     (sym same) c.requires.left
+
+pub returns-else-place-len-clause-grown : goal.returns-else-place-len-clause-grown
+returns-else-place-len-clause-grown g c =
+    let k = c.args.marks.now in
+    let grown = grows_then _ _ _ (grown_by_one k c.write.new.self c.args.literal c.write.ensures
+    c.requires.atom c.requires.open)
+    (grown_by _ _ _ _ c.in-Some.ensures.followed) in
+    let same : c.undo-in-Some.new.self ≡ k = taken_back c.len-point.result k
+    c.follow.new.marks c.undo-in-Some.new.self c.len-point.ensures.len grown
+    c.undo-in-Some.ensures in
+    subst (λ (n : Knowledge). Grows k n) (sym same) (grows_same k)

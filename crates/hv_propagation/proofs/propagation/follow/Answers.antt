@@ -1,6 +1,7 @@
-use Rattle.std.proofs.Common.{refl, arith}
+use Rattle.std.proofs.Common.{◌≡◌, ◌∙◌, Some, refl, sym, arith}
+use Rattle.hv_propagation.specs.declared.propagation.Bound.TheVariants as Bounds
 use Rattle.hv_propagation.proofs.Chasing.{followed_then, longer}
-use Rattle.hv_propagation.proofs.propagation.close_upto.Goals as goal
+use Rattle.hv_propagation.proofs.propagation.follow.Goals as goal
 
 pub returns-then-not-visit-clause-followed : goal.returns-then-not-visit-clause-followed
 returns-then-not-visit-clause-followed g c =
@@ -19,4 +20,8 @@ loop-place-preserved g c =
           c.if-not-visit.ensures.followed;
       within = omega arith;
       left = c.if-not-visit.ensures.left refl;
+      end = λ is.
+          let same : Some c.in-Some.next ≡ Some Bounds.End = sym c.in-Some.is
+          ∙ c.past.ensures.end (c.loop-place.invariant.end is) in
+          cc;
     }

@@ -1,12 +1,14 @@
-use Rattle.std.proofs.Common.{◌≤◌, ◌-◌, true, length}
+use Rattle.std.proofs.Common.{◌≡◌, ◌≤◌, ◌-◌, true, length}
 use Rattle.hv_propagation.specs.Chase.{IsFollowed}
-use Rattle.hv_propagation.proofs.propagation.close_upto.Given as goal
+use Rattle.hv_propagation.specs.declared.propagation.Bound.TheVariants as Bounds
+use Rattle.hv_propagation.proofs.propagation.follow.Given as goal
 
 abbrev pub invariant-loop-place : goal.invariant-loop-place
 invariant-loop-place g l = record {
   followed : IsFollowed (g.C.Constraint.admits l.constraint) l.fn.marks l.marks true;
   within : l.place ≤ length l.marks.trail;
   left : g.C.Constraint.left l.constraint l.marks l.place;
+  end : l.fn.bound ≡ Bounds.End → l.rest ≡ Bounds.End;
 }
 
 abbrev pub decreases-loop-place : goal.decreases-loop-place
