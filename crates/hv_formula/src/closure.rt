@@ -19,7 +19,7 @@ ghost use Rattle.hv_propagation.specs.Clauses.{AreClauses};
 ghost use Rattle.hv_propagation.specs.Chase.{AreKept};
 ghost use Rattle.hv_propagation.specs.declared.completion.Completion.TheVariants as Ways;
 ghost use Rattle.hv_propagation.specs.Forced.{AreForced, AreNever};
-ghost use Rattle.hv_formula.specs.Working.Closure.{IsClosure, ListsBelow};
+ghost use Rattle.hv_formula.specs.Working.Closure.{IsBasis, IsClosure, ListsBelow};
 ghost use Rattle.hv_propagation.specs.Marks.{known, Agrees};
 ghost use Rattle.hv_indexes.specs.Occurrences.{IsIndexOf};
 ghost use Rattle.hv_propagation.specs.Trail.{marked, marks_of};
@@ -67,7 +67,15 @@ impl Closure {
         let occurs = Occurrences::new(alloc, clauses)?;
         let watches = watches_of(clauses);
         let mut forced = Vec::new(alloc);
-        let broken = !find_out::<K>(alloc, atoms, clauses, &occurs, watches, &mut forced)?;
+        let basis = Basis {
+            atoms,
+            bare: BareClauses {
+                clauses,
+                occurs: &occurs,
+            },
+            watches,
+        };
+        let broken = !find_out::<K>(alloc, &basis, &mut forced)?;
         Ok(Closure {
             occurs,
             broken,
@@ -75,6 +83,15 @@ impl Closure {
             watches,
         })
     }
+}
+
+// What a closure is worked out from: clauses that speak of so many atoms, and how many entries the
+// places take that looks into them remember.
+#[derive(Drop)]
+pub(crate) struct Basis<'a> {
+    pub atoms: usize,
+    pub bare: BareClauses<'a>,
+    pub watches: usize,
 }
 
 // How many entries the places take that looks into these clauses remember: two for each, up to the
@@ -93,84 +110,71 @@ fn watches_of(clauses: &Clauses) -> usize {
 // in no state. The answer is false only if they are.
 fn find_out<K: ClauseKind>(
     alloc: Global,
-    atoms: usize,
-    clauses: &Clauses,
-    occurs: &Occurrences,
-    watches: usize,
+    basis: &Basis<'_>,
     forced: &mut Vec<Literal>,
 ) -> Result<bool, AllocError>
-    requires few { atoms ≤ 2 ^ 31 }
-    requires clauses { AreClauses atoms clauses.now }
-    requires kind { All K.is_of clauses.now }
-    requires index { IsIndexOf clauses.now occurs.now }
+    requires basis { IsBasis basis.now }
+    requires kind { All K.is_of basis.now.bare.clauses.now }
     requires none { forced.old.items ≡ [] }
-    ensures forced { IfOk result (λ r. r ≡ true → AreForced atoms clauses.now forced.new.items) }
-    ensures never { IfOk result (λ r. r ≡ false → AreNever atoms clauses.now) }
+    ensures forced { IfOk result (λ r. r ≡ true
+        → AreForced basis.now.atoms basis.now.bare.clauses.now forced.new.items) }
+    ensures never { IfOk result (λ r. r ≡ false
+        → AreNever basis.now.atoms basis.now.bare.clauses.now) }
 {
-    if !force(alloc, atoms, clauses, occurs, watches, forced)? {
+    if !force(alloc, basis, forced)? {
         return Ok(false);
     }
-    if !is_in_doubt::<K>(atoms, clauses) {
+    if !is_in_doubt::<K>(basis.atoms, basis.bare.clauses) {
         return Ok(true);
     }
-    try_values::<K>(alloc, atoms, clauses, occurs, watches, forced)
+    try_values::<K>(alloc, basis, forced)
 }
 
 // Lists what follows from the clauses. The answer is false only if they are true in no state. Of
 // clauses that are few beside the atoms it is found out without rows.
-fn force(
-    alloc: Global,
-    atoms: usize,
-    clauses: &Clauses,
-    occurs: &Occurrences,
-    watches: usize,
-    forced: &mut Vec<Literal>,
-) -> Result<bool, AllocError>
-    requires few { atoms ≤ 2 ^ 31 }
-    requires clauses { AreClauses atoms clauses.now }
-    requires index { IsIndexOf clauses.now occurs.now }
+fn force(alloc: Global, basis: &Basis<'_>, forced: &mut Vec<Literal>) -> Result<bool, AllocError>
+    requires basis { IsBasis basis.now }
     requires none { forced.old.items ≡ [] }
-    ensures forced { IfOk result (λ r. r ≡ true → AreForced atoms clauses.now forced.new.items) }
-    ensures never { IfOk result (λ r. r ≡ false → AreNever atoms clauses.now) }
+    ensures forced { IfOk result (λ r. r ≡ true
+        → AreForced basis.now.atoms basis.now.bare.clauses.now forced.new.items) }
+    ensures never { IfOk result (λ r. r ≡ false
+        → AreNever basis.now.atoms basis.now.bare.clauses.now) }
 {
     let mut cube = Cube::new(alloc);
-    match unit_rounds::run(clauses, atoms, &mut cube)? {
+    match unit_rounds::run(basis.bare.clauses, basis.atoms, &mut cube)? {
         RoundsEnd::Settled => {
             forced.extend_from_slice(cube.as_slice())?;
             Ok(true)
         }
         RoundsEnd::Broken => Ok(false),
-        RoundsEnd::Open => force_in_rows(alloc, atoms, clauses, occurs, watches, forced),
+        RoundsEnd::Open => force_in_rows(alloc, basis, forced),
     }
 }
 
 // The same in rows as long as there are atoms.
 fn force_in_rows(
     alloc: Global,
-    atoms: usize,
-    clauses: &Clauses,
-    occurs: &Occurrences,
-    watches: usize,
+    basis: &Basis<'_>,
     forced: &mut Vec<Literal>,
 ) -> Result<bool, AllocError>
-    requires few { atoms ≤ 2 ^ 31 }
-    requires clauses { AreClauses atoms clauses.now }
-    requires index { IsIndexOf clauses.now occurs.now }
+    requires basis { IsBasis basis.now }
     requires none { forced.old.items ≡ [] }
-    ensures forced { IfOk result (λ r. r ≡ true → AreForced atoms clauses.now forced.new.items) }
-    ensures never { IfOk result (λ r. r ≡ false → AreNever atoms clauses.now) }
+    ensures forced { IfOk result (λ r. r ≡ true
+        → AreForced basis.now.atoms basis.now.bare.clauses.now forced.new.items) }
+    ensures never { IfOk result (λ r. r ≡ false
+        → AreNever basis.now.atoms basis.now.bare.clauses.now) }
 {
     let mut places = Vec::new(alloc);
-    places.resize(atoms, 0)?;
+    places.resize(basis.atoms, 0)?;
     let mut queue = Vec::new(alloc);
-    queue.resize(atoms, 0)?;
+    queue.resize(basis.atoms, 0)?;
     let mut places_watched = Vec::new(alloc);
-    places_watched.resize(watches, 0)?;
+    places_watched.resize(basis.watches, 0)?;
     let places = places.as_mut_slice();
     let queue = queue.as_mut_slice();
     let watched = places_watched.as_mut_slice();
-    let mut marks = Assignment::over(atoms, &[], places, queue, watched);
-    if !conclude(clauses, occurs, &mut marks) {
+    let mut marks = Assignment::over(basis.atoms, &[], places, queue, watched);
+    if !conclude(&basis.bare, &mut marks) {
         return Ok(false);
     }
     list(&marks, forced)?;
@@ -178,23 +182,22 @@ fn force_in_rows(
 }
 
 // Marks what follows from the clauses. The answer is false only if they are true in no state.
-fn conclude(clauses: &Clauses, occurs: &Occurrences, marks: &mut Assignment<'_>) -> bool
-    requires clauses { AreClauses (length marks.old.roots) clauses.now }
-    requires index { IsIndexOf clauses.now occurs.now }
+fn conclude(bare: &BareClauses<'_>, marks: &mut Assignment<'_>) -> bool
+    requires clauses { AreClauses (length marks.old.roots) bare.now.clauses.now }
+    requires index { IsIndexOf bare.now.clauses.now bare.now.occurs.now }
     requires none { marks.old.trail ≡ [] }
     requires unknown { (p : ℕ) → known marks.old.roots p ≡ None }
-    ensures settled { result ≡ true → AreSettled [] clauses.now (marks_of marks.new) }
+    ensures settled { result ≡ true → AreSettled [] bare.now.clauses.now (marks_of marks.new) }
     ensures follows { result ≡ true → (state : List Bool) → length state ≡ length marks.old.roots →
-        in_clauses clauses.now state ≡ true → Agrees (marks_of marks.new) state }
-    ensures never { result ≡ false → AreNever (length marks.old.roots) clauses.now }
+        in_clauses bare.now.clauses.now state ≡ true → Agrees (marks_of marks.new) state }
+    ensures never { result ≡ false → AreNever (length marks.old.roots) bare.now.clauses.now }
     ensures size { length marks.new.roots ≡ length marks.old.roots }
 {
     let none = ActionEffect::none();
-    if !chase::start(clauses, &none, marks) {
+    if !chase::start(bare.clauses, &none, marks) {
         return false;
     }
-    let bare = BareClauses { clauses, occurs };
-    propagation::close(&bare, marks, 0)
+    propagation::close(bare, marks, 0)
 }
 
 // Whether values have to be tried to find a state in the clauses, and these are enough for rows as
@@ -226,32 +229,27 @@ fn has_of(clauses: &Clauses, sign: bool) -> bool {
 // no state.
 fn try_values<K: ClauseKind>(
     alloc: Global,
-    atoms: usize,
-    clauses: &Clauses,
-    occurs: &Occurrences,
-    watches: usize,
+    basis: &Basis<'_>,
     forced: &[Literal],
 ) -> Result<bool, AllocError>
-    requires few { atoms ≤ 2 ^ 31 }
-    requires clauses { AreClauses atoms clauses.now }
-    requires kind { All K.is_of clauses.now }
+    requires basis { IsBasis basis.now }
+    requires kind { All K.is_of basis.now.bare.clauses.now }
     requires by_trials { K.completed_by ≡ Ways.Try }
-    requires index { IsIndexOf clauses.now occurs.now }
-    requires forced { AreForced atoms clauses.now forced.now }
-    ensures { IfOk result (λ r. r ≡ false → AreNever atoms clauses.now) }
+    requires forced { AreForced basis.now.atoms basis.now.bare.clauses.now forced.now }
+    ensures { IfOk result
+        (λ r. r ≡ false → AreNever basis.now.atoms basis.now.bare.clauses.now) }
 {
     let mut places = Vec::new(alloc);
-    places.resize(atoms, 0)?;
+    places.resize(basis.atoms, 0)?;
     let mut queue = Vec::new(alloc);
-    queue.resize(atoms, 0)?;
+    queue.resize(basis.atoms, 0)?;
     let mut places_watched = Vec::new(alloc);
-    places_watched.resize(watches, 0)?;
+    places_watched.resize(basis.watches, 0)?;
     let places = places.as_mut_slice();
     let queue = queue.as_mut_slice();
     let watched = places_watched.as_mut_slice();
-    let mut marks = Assignment::over(atoms, forced, places, queue, watched);
-    let bare = BareClauses { clauses, occurs };
-    Ok(try_each::<K>(&bare, &mut marks))
+    let mut marks = Assignment::over(basis.atoms, forced, places, queue, watched);
+    Ok(try_each::<K>(&basis.bare, &mut marks))
 }
 
 // Tries values for the atoms that are somewhere positive. With these the clauses are true once each

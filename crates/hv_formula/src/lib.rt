@@ -1,19 +1,19 @@
 //! Formulas of one kind of clauses: sets of states, and exact answers about one of them.
 //!
-//! One crate serves all kinds: Horn, dual Horn and 2CNF formulas differ only in how an assignment to
-//! which propagation has come to its end is completed to a state (`clause_kind`).
+//! One crate serves all kinds: Horn, dual Horn and 2CNF formulas differ only in how an assignment
+//! to which propagation has come to its end is completed to a state (`clause_kind`).
 //!
 //! - `formula` keeps the clauses, with the `closure` of what follows from them alone: where their
 //!   literals stand, and what is known in each state of the formula, or that it has none. Whether
 //!   some state of a cube is in it, `meet` tells; `kept_lists` says which lists are handed out.
-//! - The walk over the states outside a formula takes its clauses in order: the cube of each has the
-//!   opposites of its literals (`denial`).
+//! - The walk over the states outside a formula takes its clauses in order: the cube of each has
+//!   the opposites of its literals (`denial`).
 //!
-//! The way of an inclusion (`paths`): `clause_walk` goes through the states outside a formula, in an
-//! order of hv_indexes; `formula_ask` answers about a formula and `rest_ask` about what is outside
-//! it, literal by literal, with the clauses that are true in the whole cube kept apart (`arranged`).
-//! For listed states `listed_ask` asks `first_states`, and later the clusters of clauses that
-//! hv_indexes makes.
+//! The way of an inclusion (`paths`): `clause_walk` goes through the states outside a formula, in
+//! an order of hv_indexes; `formula_ask` answers about a formula and `rest_ask` about what is
+//! outside it, literal by literal, with the clauses that are true in the whole cube kept apart
+//! (`arranged`). For listed states `listed_ask` asks `first_states`, and later the clusters of
+//! clauses that hv_indexes makes.
 #![tactic(auto)]
 
 mod arranged;

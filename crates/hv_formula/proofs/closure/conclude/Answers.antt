@@ -25,41 +25,45 @@ module _ (clauses : List (List Literal)) (e : List ℕ) (k : Knowledge) (none : 
 
 pub returns-then-not-start-clause-never : goal.returns-then-not-start-clause-never
 returns-then-not-start-clause-never c = λ is state size holds.
+    let clauses = c.args.bare.now.clauses.now in
     let k = c.args.marks.now in
     c.if-not-start.ensures.followed.broken refl state size
-    (holds_start c.args.clauses.now c.none-none.result k c.requires.none c.requires.unknown
+    (holds_start clauses c.none-none.result k c.requires.none c.requires.unknown
     c.none-none.ensures state holds)
-    (agrees_start c.args.clauses.now c.none-none.result k c.requires.none c.requires.unknown
+    (agrees_start clauses c.none-none.result k c.requires.none c.requires.unknown
     c.none-none.ensures state)
 
 pub close-requires-clause-left : goal.close-requires-clause-left
 close-requires-clause-left c =
+    let clauses = c.args.bare.now.clauses.now in
     let more = longer _ _ _ _ c.if-not-start.ensures.followed in
-    kept_earlier [] c.args.clauses.now c.start.new.marks 0 (length c.args.marks.now.trail)
+    kept_earlier [] clauses c.start.new.marks 0 (length c.args.marks.now.trail)
     (omega arith) more
-    (subst (λ e. AreKept e c.args.clauses.now c.start.new.marks (length c.args.marks.now.trail))
+    (subst (λ e. AreKept e clauses c.start.new.marks (length c.args.marks.now.trail))
     c.none-none.ensures (c.if-not-start.ensures.kept refl))
 
 pub returns-clause-follows : goal.returns-clause-follows
 returns-clause-follows c = λ is state size holds.
+    let clauses = c.args.bare.now.clauses.now in
     let k = c.args.marks.now in
     c.close.ensures.followed.follows state
     (size ∙ sym (ap length c.if-not-start.ensures.followed.roots))
-    (ap (in_clauses c.args.clauses.now) (over-nil state) ∙ holds)
+    (ap (in_clauses clauses) (over-nil state) ∙ holds)
     (c.if-not-start.ensures.followed.follows state size
-    (holds_start c.args.clauses.now c.none-none.result k c.requires.none c.requires.unknown
+    (holds_start clauses c.none-none.result k c.requires.none c.requires.unknown
     c.none-none.ensures state holds)
-    (agrees_start c.args.clauses.now c.none-none.result k c.requires.none c.requires.unknown
+    (agrees_start clauses c.none-none.result k c.requires.none c.requires.unknown
     c.none-none.ensures state))
 
 pub returns-clause-never : goal.returns-clause-never
 returns-clause-never c = λ is state size holds.
+    let clauses = c.args.bare.now.clauses.now in
     let k = c.args.marks.now in
     c.close.ensures.followed.broken is state
     (size ∙ sym (ap length c.if-not-start.ensures.followed.roots))
-    (ap (in_clauses c.args.clauses.now) (over-nil state) ∙ holds)
+    (ap (in_clauses clauses) (over-nil state) ∙ holds)
     (c.if-not-start.ensures.followed.follows state size
-    (holds_start c.args.clauses.now c.none-none.result k c.requires.none c.requires.unknown
+    (holds_start clauses c.none-none.result k c.requires.none c.requires.unknown
     c.none-none.ensures state holds)
-    (agrees_start c.args.clauses.now c.none-none.result k c.requires.none c.requires.unknown
+    (agrees_start clauses c.none-none.result k c.requires.none c.requires.unknown
     c.none-none.ensures state))

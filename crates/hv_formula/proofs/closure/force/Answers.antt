@@ -9,8 +9,8 @@ use Rattle.hv_formula.proofs.closure.force.Goals as goal
 
 pub returns-in-Settled-clause-forced : goal.returns-in-Settled-clause-forced
 returns-in-Settled-clause-forced c = λ _.
-    let atoms = c.args.atoms in
-    let clauses = c.args.clauses.now in
+    let atoms = c.args.basis.now.atoms in
+    let clauses = c.args.basis.now.bare.clauses.now in
     let cube = c.as_slice.result.now in
     let same : cube ≡ c.run.new.cube = c.as_slice.ensures.items in
     let told = subst (λ (e : RoundsEnd). RoundsTell atoms clauses c.run.new.cube e)

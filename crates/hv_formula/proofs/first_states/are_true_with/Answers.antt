@@ -15,5 +15,6 @@ returns c =
     let places = c.standing-standing.result.places.now in
     row_tried clauses c.args.state.now c.are_true_at.result c.args.atom places
     (subst (λ (l : Literal). IsRow (StandsAs l.positive clauses) l.atom places)
-    c.standing-standing.ensures.literal (c.standing-standing.ensures.standing clauses c.requires.index).row)
+    c.standing-standing.ensures.literal
+    (c.standing-standing.ensures.standing clauses c.requires.index).row)
     c.are_true_at.ensures
