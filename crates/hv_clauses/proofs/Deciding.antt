@@ -98,7 +98,8 @@ module _ (p : ProblemState) where
         m1_wide = denied.size ∙ wide
 
         pub not_closed : (D : List ℕ → Type 0) (found : List Bool)
-            → IsConcluded (InEach p) D m1 m2 false → IsMet false (width p) (FitsChoice p number) found
+            → IsConcluded (InEach p) D m1 m2 false
+            → IsMet false (width p) (FitsChoice p number) found
         not_closed D found closed = λ state size fits.
             closed.broken refl state (size ∙ sym m1_wide) fits.inside
             (denied.follows state (size ∙ sym wide) fits.outside (agrees_base state size fits))

@@ -151,8 +151,8 @@ pub owners_left : (p : ProblemState) (k : Knowledge) (from : ℕ) (literal : Lit
     → from < length k.trail → get_or k.trail from literal ≡ literal → AreLeft p k from
     → (row : List ℕ)
     → ((place : ℕ) → Owns p (opposite literal) place → Contains row place)
-    → ((i : ℕ) → i < length row → (o : Operand) → slice_get p.query.positive (get_or row i 0) ≡ Some o
-    → IsLeftOf p o k (from + 1))
+    → ((i : ℕ) → i < length row → (o : Operand)
+    → slice_get p.query.positive (get_or row i 0) ≡ Some o → IsLeftOf p o k (from + 1))
     → AreLeft p k (from + 1)
 owners_left p k from literal h at left row whole seen = λ j d less.
     let o = get_or p.query.positive j d in

@@ -12,8 +12,8 @@
 //! - `start` puts what is known at first below the trail: what one positive operand forces. Upon it
 //!   come the action's `precondition`, the initial state and the goal, and what follows from the
 //!   other operands, and in that one from the clauses to which the action gives a false literal.
-//! - The positive operands are a condition that hv_propagation follows up. `literal_owners` says, in
-//!   a query with many of them, which have a literal that became false.
+//! - The positive operands are a condition that hv_propagation follows up. `literal_owners` says,
+//!   in a query with many of them, which have a literal that became false.
 //! - `choices`, `refuted`, `affected` and `fronts` go through the choices of one clause of each
 //!   negative operand. Where none of them is refuted, what is known is completed to a state, as the
 //!   kind says.

@@ -80,30 +80,16 @@ pub(crate) fn is_clause_true<K: ClauseKind>(
     };
     let clause = problem.set(number).clauses().get(place as usize);
     let seen = problem.seen(operand.after);
-    if has_true_if(false, clause, &seen, marks) {
+    if clause.len() <= SHORT && literals::has_true(clause, &seen, marks) {
         return true;
     }
     if !problem.names(operand.which, !operand.after) {
         return false;
     }
-    if has_true_if(true, clause, &seen, marks) {
+    if clause.len() > SHORT && literals::has_true(clause, &seen, marks) {
         return true;
     }
     is_held(clause, problem.effect(), operand.after)
-}
-
-// Whether the clause is long (true) or short, and a literal of it is known to be true.
-#[inline(always)]
-fn has_true_if(
-    long: bool,
-    clause: &[Literal],
-    effect: &ActionEffect<'_>,
-    marks: &Assignment<'_>,
-) -> bool
-    ensures { result ≡ true → (l : LiteralOf) × Contains clause.now l
-        × (value_of effect.now (marks_of marks.now) l ≡ Some true) }
-{
-    (clause.len() > SHORT) == long && literals::has_true(clause, effect, marks)
 }
 
 // Whether the effect turns no literal of the clause: none is made false by it where the clause is

@@ -12,8 +12,8 @@ pub set-requires : goal.set-requires
 set-requires g c =
     set_within c.args.problem.now c.args.operand.which _ c.args.place c.in-Set.is c.requires
 
-pub returns-then-has_true_if : goal.returns-then-has_true_if
-returns-then-has_true_if g c = λ _ state size agrees inside broken.
+pub returns-then-has_true : goal.returns-then-has_true
+returns-then-has_true g c = λ _ state size agrees inside broken.
     let p = c.args.problem.now in
     refuted_known p.task (formulas p) p.effect c.args.operand.which
     c.in-Set.number c.args.place c.in-Set.is
@@ -23,10 +23,10 @@ returns-then-has_true_if g c = λ _ state size agrees inside broken.
     c.get-clause.result.now c.get-clause.ensures)) refl
     c.requires c.args.operand.after c.seen-seen.result (marks_of c.args.marks.now) _ _ state
     c.seen-seen.ensures c.clauses.ensures.below c.set.ensures.atoms size
-    (c.has_true_if.ensures c.if-has_true_if.true) agrees broken
+    (c.has_true.ensures c.if-has_true.true) agrees broken
 
-pub returns-then-has_true_if-2 : goal.returns-then-has_true_if-2
-returns-then-has_true_if-2 g c = λ _ state size agrees inside broken.
+pub returns-then-has_true-2 : goal.returns-then-has_true-2
+returns-then-has_true-2 g c = λ _ state size agrees inside broken.
     let p = c.args.problem.now in
     refuted_known p.task (formulas p) p.effect c.args.operand.which
     c.in-Set.number c.args.place c.in-Set.is
@@ -36,7 +36,7 @@ returns-then-has_true_if-2 g c = λ _ state size agrees inside broken.
     c.get-clause.result.now c.get-clause.ensures)) refl
     c.requires c.args.operand.after c.seen-seen.result (marks_of c.args.marks.now) _ _ state
     c.seen-seen.ensures c.clauses.ensures.below c.set.ensures.atoms size
-    (c.has_true_if-2.ensures c.if-has_true_if-2.true) agrees broken
+    (c.has_true-then-clause-gt-SHORT.ensures c.if-has_true-2.true) agrees broken
 
 pub returns : goal.returns
 returns g c = λ e state size agrees inside broken.
