@@ -32,8 +32,8 @@ module _ (list : NodeList) where
   }
 
   -- one passage after the other
-  pub passes_on : (a b c near far : ℕ) → near ≤ far → PassesAlong list a b near → PassesAlong list b c far
-      → PassesAlong list a c far
+  pub passes_on : (a b c near far : ℕ) → near ≤ far → PassesAlong list a b near
+      → PassesAlong list b c far → PassesAlong list a c far
   passes_on a b c near far le first second =
       let upto = first.upto in
       let more = second.upto in
@@ -77,7 +77,8 @@ module _ (list : NodeList) where
               let last : length jumps ≡ i = omega arith in
               subst (λ k. IsJump list k (get_or new k 0)) last
               (subst (IsJump list (length jumps))
-              (sym (ap (λ xs. get_or xs (length jumps) 0) is ∙ get_or_push jumps jump 0 (length jumps) refl)) one)
+              (sym (ap (λ xs. get_or xs (length jumps) 0) is
+              ∙ get_or_push jumps jump 0 (length jumps) refl)) one)
         ];
       }
 

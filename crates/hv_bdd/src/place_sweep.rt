@@ -3,9 +3,9 @@
 //! known how many there were, for which places they asked, and that none of them ends; most queries
 //! are answered so, and only the tuples of a few places take room at a time.
 //!
-//! Where one ends, a state is asked for, so the search through all of them is made (`reach.rt`); and
-//! so it is where too many wait for later places while others move. The next searches for the same
-//! operands begin with it then.
+//! Where one ends, a state is asked for, so the search through all of them is made (`reach.rt`);
+//! and so it is where too many wait for later places while others move. The next searches for the
+//! same operands begin with it then.
 
 ghost use Rattle.std.specs.Prelude.{◌≡◌, ◌<◌, ◌≤◌, ◌+◌, ◌++◌, ◌∷◌, ℕ, List, [], length, map, true};
 ghost use Rattle.std.specs.Prelude.{option_map, filter, nat_eq, false, IfOk, OnOk};
@@ -190,8 +190,8 @@ impl Search<'_> {
         Ok(())
     }
 
-    // Lets the tuples move that ask for the place, and the others wait on. The answer is whether all
-    // are passed: it ends where more than so many wait.
+    // Lets the tuples move that ask for the place, and the others wait on. The answer is whether
+    // all are passed: it ends where more than so many wait.
     fn pass(
         &self,
         alloc: Global,

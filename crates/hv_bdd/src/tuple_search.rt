@@ -24,8 +24,11 @@ use smallvec::SmallVec;
 use std::alloc::{AllocError, Global};
 use std::marker::Model;
 
+// A tuple of so many operands takes no room of its own.
+const FEW: usize = 8;
+
 /// A node for each operand.
-pub(crate) type Tuple = SmallVec<u32, 8>;
+pub(crate) type Tuple = SmallVec<u32, FEW>;
 
 /// From which tuple a tuple was reached, and by which bit.
 #[derive(Clone, Copy)]
@@ -34,8 +37,8 @@ pub(crate) struct Link {
     pub bit: bool,
 }
 
-/// The marks of the atom at a place: the bit that the state needs of it, and the one that the action
-/// makes of it, if there are such. Past the last place there is none.
+/// The marks of the atom at a place: the bit that the state needs of it, and the one that the
+/// action makes of it, if there are such. Past the last place there is none.
 #[derive(Clone, Copy)]
 pub(crate) struct PlaceMarks {
     pub place: u32,
@@ -451,7 +454,7 @@ impl Search<'_> {
             ≡ if_live (moves self.now.setting) self.now.asked
             (move_all (moves self.now.setting) marks.now.place bit self.now.asked tuple.now)) }
     {
-        if tuple.len() > 8 {
+        if tuple.len() > FEW {
             return self.move_many(alloc, tuple, marks, bit);
         }
         let mut moved = SmallVec::new(alloc);

@@ -70,10 +70,10 @@ pub record SweptSoFar (s : TupleSearch) (count : ℕ) (places : List ℕ) (waiti
   pub asked_for : All (λ t. Contains places (least (moves s.setting) s.asked t)) gone
   pub within : All (λ v. v < s.setting.list.atoms) places
 
--- what a sweep comes to at one place, where so many tuples may still be reached: so many have moved,
--- or more are reached, or it isn't found out
-abbrev pub IsPlacePass : TupleSearch → ℕ → List ℕ → List (List ℕ) → List ℕ → List (List ℕ) → PlacePass
-    → Type 0
+-- what a sweep comes to at one place, where so many tuples may still be reached: so many have
+-- moved, or more are reached, or it isn't found out
+abbrev pub IsPlacePass : TupleSearch → ℕ → List ℕ → List (List ℕ) → List ℕ → List (List ℕ)
+    → PlacePass → Type 0
 IsPlacePass s left places here places' here' (P.Moved n) =
     (n ≤ length here) × ((count : ℕ) → SweptSoFar s count places here
     → SweptSoFar s (count + n) places' here')

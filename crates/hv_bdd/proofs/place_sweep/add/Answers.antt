@@ -9,4 +9,5 @@ pub returns-in_ok-insert : goal.returns-in_ok-insert
 returns-in_ok-insert c =
     subst (λ o. IsTupleAdded (tuples_of c.args.set.now)
     (option_map (λ (t : SmallVec ℕ). t.items) o) (tuples_of c.insert.new.self)) (sym c.in-Some.is)
-    (added_is c.args.set.now.keys c.in-Some.tuple c.insert.new.self.keys c.in_ok-insert.ensures.keys)
+    (added_is c.args.set.now.keys c.in-Some.tuple c.insert.new.self.keys
+    c.in_ok-insert.ensures.keys)
