@@ -111,6 +111,15 @@ impl<'a> Assignment<'a> {
         })
     }
 
+    /// Forgets all, and takes these literals beside an effect for what was known before.
+    pub fn start_over(&mut self, roots: Roots<'a>)
+        ensures { self.new
+            ≡ record { roots = marked (length self.old.roots) roots.entry; trail = [] } }
+    {
+        self.roots = roots;
+        self.len = 0;
+    }
+
     /// How many atoms the task has.
     #[inline(always)]
     pub fn atoms(&self) -> usize
