@@ -135,4 +135,4 @@ module _ (p : ProblemState) where
       (clauses_in_is p.task (formulas p)) goal (λ n less. stored_kind IsOf p.store kinded n less)
       (λ n less. stored_below IsOf p.store kinded n less _ posed.over) p.query.positive
       (named_first (length p.store) p.query.positive p.query.negative p.query.positive refl
-      posed.ready.named)
+      posed.named)

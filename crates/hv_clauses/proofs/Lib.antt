@@ -9,6 +9,8 @@ pub mod RefutedChoices
 pub mod AffectedChoices
 pub mod Searching
 pub mod Problems
+pub mod EarlyParts
+pub mod Asking
 pub mod Starting
 pub mod Blocks
 pub mod Digits

@@ -6,6 +6,7 @@ pub mod Posed
 pub mod Problem
 pub mod Found
 pub mod Start
+pub mod Early
 pub mod Front
 pub mod Affected
 pub mod Owners

@@ -12,14 +12,17 @@
 //! set: the union with it, which such proofs write on the right, changes neither the
 //! counterexamples nor the cost of a query.
 
-ghost use Rattle.std.specs.Prelude.{◌≡◌, ◌<◌, Some, length, slice_index, true};
+ghost use Rattle.std.specs.Prelude.{◌≡◌, ◌<◌, ℕ, List, Some, false, length, slice_index, true};
 ghost use Rattle.std.specs.List.{Contains};
 ghost use Rattle.std.specs.List.Sorted.{IsStrictlyIncreasing};
 ghost use Rattle.hv_clauses.specs.Working.Found.{AreFollowedRoots, IsAskedTwice, IsMet, IsMetAmong};
 ghost use Rattle.hv_clauses.specs.Working.Found.{IsMetBelow};
 ghost use Rattle.hv_indexes.specs.Occurrences.{AreStanding, IsIndexOf, entry_or_none, no_literal};
 ghost use Rattle.hv_indexes.specs.Occurrences.{literal_of};
+ghost use Rattle.hv_indexes.specs.Signed.{StandsAs};
+ghost use Rattle.hv_sets.specs.declared.literal.Literal.{Literal as LiteralOf};
 ghost use Rattle.hv_clauses.specs.Working.Affected.{turning_sign, HasTrue, IsAffected, IsTurnedBy};
+ghost use Rattle.hv_clauses.specs.Working.Affected.{IsUntouched};
 ghost use Rattle.hv_clauses.specs.Working.Posed.{choices, formulas, width};
 ghost use Rattle.hv_clauses.specs.Working.Problem.{FitsChoice};
 ghost use Rattle.hv_indexes.specs.Places.{clause_at};
@@ -44,6 +47,67 @@ pub(crate) struct Affected<'a> {
     pub number: usize,
     pub clauses: &'a Clauses,
     pub occurs: &'a Occurrences,
+}
+
+// Whether there may be such a choice. Else no state is a counterexample, whatever is known.
+pub(crate) fn is_touched<K: ClauseKind>(problem: &Problem<'_, K>, operand: Operand) -> bool
+    requires asked_twice { IsAskedTwice problem.now operand }
+    ensures { result ≡ false → IsUntouched problem.now operand }
+{
+    let Which::Set(number) = operand.which else {
+        return true;
+    };
+    let occurs = problem.set(number).occurs();
+    if stands_among(problem, occurs, operand.after, true) {
+        return true;
+    }
+    stands_among(problem, occurs, operand.after, false)
+}
+
+// Whether a literal stands somewhere that is turned by an atom that the effect makes this value.
+fn stands_among<K: ClauseKind>(
+    problem: &Problem<'_, K>,
+    occurs: &Occurrences,
+    after: bool,
+    value: bool,
+) -> bool
+    requires { (clauses : List (List LiteralOf)) × IsIndexOf clauses occurs.now }
+    ensures { result ≡ false → (clauses : List (List LiteralOf)) → IsIndexOf clauses occurs.now
+        → (number : ℕ) → IsTurnedBy problem.now.effect value (turning_sign after value) clauses
+        number → ⊥ }
+{
+    let positive = turning_sign(after, value);
+    if stands_nowhere(occurs, positive) {
+        return false;
+    }
+    let turned = problem.effect().turned(value);
+    for atom in turned {
+        let own = Literal {
+            atom: *atom,
+            positive,
+        };
+        if !stands_never(occurs, own) {
+            return true;
+        }
+    }
+    false
+}
+
+// Whether no clause has a literal of this sign.
+fn stands_nowhere(occurs: &Occurrences, sign: bool) -> bool
+    ensures { result ≡ true → (clauses : List (List LiteralOf)) → IsIndexOf clauses occurs.now
+        → (atom number : ℕ) → StandsAs sign clauses atom number → ⊥ }
+{
+    occurs.signed(sign).places.is_empty()
+}
+
+// Whether no clause has this literal.
+fn stands_never(occurs: &Occurrences, literal: Literal) -> bool
+    requires { (clauses : List (List LiteralOf)) × IsIndexOf clauses occurs.now }
+    ensures { result ≡ true → (clauses : List (List LiteralOf)) → IsIndexOf clauses occurs.now
+        → (number : ℕ) → StandsAs literal.positive clauses literal.atom number → ⊥ }
+{
+    occurs.standing(literal).places.is_empty()
 }
 
 // Tries each choice of a clause of which the effect turns a literal.

@@ -2,33 +2,36 @@
 //!
 //! A query with one negative operand, whose set is its one positive operand at the other time,
 //! costs what its action and its trail touch, and neither the number of atoms nor that of clauses,
-//! but for the one state that is written where there is a counterexample. Each further positive set
-//! has each of its clauses looked at once for each query; the initial state as a positive operand
-//! makes each atom known.
+//! but for the one state that is written where there is a counterexample. So does, from the second
+//! search of an inquiry on, one with any number of positive operands before the action, the initial
+//! state and the goal among them: what these say together is found out once. Each further positive
+//! set after the action has each of its clauses looked at once for each search.
 //!
 //! `find` makes the scratch ready for the atoms of the task and for the places that are remembered
 //! of the clauses of the positive operands, which a formula of short clauses has none of. The
 //! condition of `find_in` asks for all the capacity that a query may need by its numbers of
 //! operands and clauses, so that a body with counters can come under the same contract.
 
-ghost use Rattle.std.specs.Prelude.{◌≡◌, ◌<◌, ◌≤◌, [], Bool, List, IfSome, false, length};
-ghost use Rattle.std.specs.Prelude.{MatchOption};
+ghost use Rattle.std.specs.Prelude.{◌≡◌, ◌<◌, ◌≤◌, ◌+◌, ℕ, Bool, List, IfSome, MatchOption, length};
+ghost use Rattle.std.specs.Prelude.{true};
 ghost use Rattle.hv_task.specs.Strips.{atoms};
 ghost use Rattle.hv_sets.specs.Cost.{ClausesPass, IsAnswer};
 ghost use Rattle.hv_sets.specs.Query.{IsReady, is_clash};
 ghost use Rattle.hv_sets.specs.Room.{HasRoom, KeepsLengths};
 ghost use Rattle.hv_clauses.specs.Store.{tests_of, sizes_of, AreOver, formula_at};
-ghost use Rattle.hv_clauses.specs.Working.Found.{AreFollowedRoots, IsSearchBegun, IsFound, IsMet};
+ghost use Rattle.hv_clauses.specs.Working.Early.{AreMeans, IsBegunWith, IsBegunFrom};
+ghost use Rattle.hv_clauses.specs.Working.Found.{AreFollowedRoots, IsSearchBegun, IsMet};
 ghost use Rattle.hv_clauses.specs.Working.Found.{IsMetBelow};
-ghost use Rattle.hv_clauses.specs.Working.Posed.{Applies, InEach, IsPosed, choices, formulas};
-ghost use Rattle.hv_clauses.specs.Working.Posed.{width};
-ghost use Rattle.hv_clauses.specs.Working.Problem.{FitsChoice};
-ghost use Rattle.hv_clauses.specs.Working.Start.{HoldInEach, IsBasedOn};
-ghost use Rattle.hv_propagation.specs.Trail.{Grows, marks_of};
+ghost use Rattle.hv_clauses.specs.Working.Posed.{Applies, InEach, choices, width};
+ghost use Rattle.hv_clauses.specs.Working.Problem.{AreLeft, FitsChoice};
+ghost use Rattle.hv_propagation.specs.Chase.{IsFollowed};
+ghost use Rattle.hv_propagation.specs.Trail.{Grows};
 
 use crate::formulas::Formulas;
+use crate::inquiry::ClauseInquiry;
+use crate::opening::Begun;
 use crate::problem::{self, Problem};
-use crate::{affected, choices, fronts, literal_owners, precondition, refuted, start};
+use crate::{affected, choices, fronts, literal_owners, precondition, refuted};
 use hv_formula::ClauseKind;
 use hv_propagation::{Assignment, Constraint, propagation};
 use hv_sets::{Finding, Operand, Query, Scratch};
@@ -58,93 +61,85 @@ pub(crate) fn find_in<K: ClauseKind>(
     ensures state { length scratch.new.state ≡ length scratch.old.state }
     ensures lengths { KeepsLengths scratch.old scratch.new }
 {
-    let problem = Problem::of(task, store, query);
-    let Some(cost) = choices::cost_within(&problem, budget) else {
-        return Finding::Over;
-    };
-    let means = Means { cost, alloc };
     let places = scratch.marks.as_mut_slice();
     let queue = scratch.queue.as_mut_slice();
     let watches = scratch.counts.as_mut_slice();
-    if search(&problem, means, places, queue, watches, &mut scratch.state) {
-        Finding::Clash
-    } else {
-        Finding::Empty
-    }
+    let state = &mut scratch.state;
+    ask_in(
+        alloc, store, task, query, budget, places, queue, watches, state,
+    )
 }
 
-// How many choices there are, and the memory for lists of the operands, if there is any.
-#[derive(Drop)]
-struct Means {
-    cost: u64,
+// The same, in space for each atom.
+fn ask_in<K: ClauseKind>(
     alloc: Option<Global>,
-}
-
-// Starts at what follows from one positive operand alone, in space for each atom.
-fn search<K: ClauseKind>(
-    problem: &Problem<'_, K>,
-    means: Means,
+    store: &Formulas<K>,
+    task: &Task,
+    query: &Query,
+    budget: u64,
     places: &mut [u32],
     queue: &mut [u32],
     watches: &mut [u32],
     state: &mut State,
-) -> bool
-    requires posed { IsPosed problem.now }
-    requires cost { means.cost ≡ choices problem.now }
-    requires places { width problem.now ≤ length places.old }
-    requires queue { width problem.now ≤ length queue.old }
-    requires state { length state.old ≡ width problem.now }
-    ensures found { IsFound result (width problem.now) (is_clash problem.now.task
-        (tests_of (formulas problem.now)) problem.now.query) state.new }
+) -> Finding
+    requires ready { IsReady (length store.now) query.now }
+    requires over { AreOver store.now (atoms task.now) }
+    requires action { IfSome query.now.action (λ a. a < length task.now.actions) }
+    requires places { atoms task.now ≤ length places.old }
+    requires queue { atoms task.now ≤ length queue.old }
+    requires state { length state.old ≡ atoms task.now }
+    ensures answer { IsAnswer result (ClausesPass task.now (sizes_of (formula_at store.now))
+        query.now budget) (atoms task.now) (is_clash task.now (tests_of (formula_at store.now))
+        query.now) state.new }
     ensures places { length places.new ≡ length places.old }
     ensures queue { length queue.new ≡ length queue.old }
     ensures watches { length watches.new ≡ length watches.old }
     ensures state { length state.new ≡ length state.old }
 {
-    let Some(start) = start::start_of(problem) else {
-        return false;
-    };
-    let atoms = problem.atoms() as usize;
-    let rooted = start.operand;
-    let mut marks = Assignment::from(atoms, start.roots, places, queue, watches);
-    search_from(problem, rooted, means, &mut marks, state)
+    let mut inquiry = ClauseInquiry::new(alloc, store, task, query, budget, places, queue, watches);
+    inquiry.ask(query.action, state)
+}
+
+// What is the same for each action: how many choices there are, if that is within the budget, how
+// many literals the positive operands have, where there are many, which operand is asked about
+// twice, and the memory for lists of the operands, if there is any.
+#[derive(Clone, Copy)]
+pub(crate) struct Means {
+    pub cost: Option<u64>,
+    pub size: usize,
+    pub twin: Option<Operand>,
+    pub alloc: Option<Global>,
 }
 
 // Marks what follows from the precondition and the positive operands, and then tries the choices.
 // Where more is to be gone through than literals are in the positive operands, those that have
 // each literal are listed first.
-fn search_from<K: ClauseKind>(
-    problem: &Problem<'_, K>,
-    rooted: Option<Operand>,
-    means: Means,
+pub(crate) fn search_from<K: ClauseKind>(
+    problem: &mut Problem<'_, K>,
+    begun: Begun,
+    means: &Means,
+    cost: u64,
     marks: &mut Assignment<'_>,
     state: &mut State,
 ) -> bool
-    requires cost { means.cost ≡ choices problem.now }
-    requires marks { length marks.old.roots ≡ width problem.now }
-    requires none { marks.old.trail ≡ [] }
-    requires rooted { IsBasedOn problem.now rooted marks.old.roots }
-    requires follows { HoldInEach problem.now (marks_of marks.old) }
-    requires state { length state.old ≡ width problem.now }
-    ensures met { IsMetBelow result (choices problem.now) (width problem.now)
-        (FitsChoice problem.now) state.new }
+    requires means { AreMeans problem.old means.now }
+    requires cost { cost ≡ choices problem.old }
+    requires begun { IsBegunWith problem.old begun marks.old }
+    requires state { length state.old ≡ width problem.old }
+    ensures met { IsMetBelow result (choices problem.old) (width problem.old)
+        (FitsChoice problem.old) state.new }
+    ensures grown { Grows marks.old marks.new }
+    ensures same { problem.new ≡ problem.old }
     ensures state { length state.new ≡ length state.old }
 {
-    let size = literal_owners::size_of(problem);
-    let Some(place) = mark_base(
-        problem,
-        rooted,
-        literal_owners::patience(problem, size),
-        marks,
-    ) else {
+    let patience = literal_owners::patience(problem, means.size);
+    let upto = marks.len().saturating_add(patience);
+    let Some(place) = mark_base(problem, begun, upto, marks) else {
         return false;
     };
-    let cost = means.cost;
-    let pays = pays_to_list(problem, place, cost, size, marks);
-    match literal_owners::listed(means.alloc, problem, pays) {
-        None => search_on(problem, place, cost, marks, state),
-        Some(owners) => search_on(&problem.with(owners), place, cost, marks, state),
-    }
+    let pays = pays_to_list(problem, place, means, cost, marks);
+    problem.list_owners(pays, means.alloc);
+    search_on(problem, place, means, cost, marks, state)
 }
 
 // Whether it pays to list the positive operands that have each literal: more is to be gone through
@@ -153,21 +148,28 @@ fn search_from<K: ClauseKind>(
 fn pays_to_list<K: ClauseKind>(
     problem: &Problem<'_, K>,
     place: usize,
+    means: &Means,
     cost: u64,
-    size: usize,
     marks: &mut Assignment<'_>,
 ) -> bool
     requires cost { cost ≡ choices problem.now }
     requires begun { IsSearchBegun problem.now place marks.old }
     ensures { marks.new ≡ marks.old }
 {
-    if place < marks.len() || literal_owners::pays(problem, size, cost) {
-        return true;
-    }
-    if size == usize::MAX || cost == 0 || refuted::asked_twice(problem).is_some() {
+    if problem.has_owners() {
         return false;
     }
-    leads_far(problem, literal_owners::patience(problem, size), marks)
+    if place < marks.len() || literal_owners::pays(problem, means.size, cost) {
+        return true;
+    }
+    if means.size == usize::MAX || cost == 0 || means.twin.is_some() {
+        return false;
+    }
+    leads_far(
+        problem,
+        literal_owners::patience(problem, means.size),
+        marks,
+    )
 }
 
 // Whether more than so many literals follow from the first choice. What is known stays as it was.
@@ -211,21 +213,24 @@ fn follow_first<K: ClauseKind>(
 fn search_on<K: ClauseKind>(
     problem: &Problem<'_, K>,
     place: usize,
+    means: &Means,
     cost: u64,
     marks: &mut Assignment<'_>,
     state: &mut State,
 ) -> bool
+    requires means { AreMeans problem.now means.now }
     requires cost { cost ≡ choices problem.now }
     requires begun { IsSearchBegun problem.now place marks.old }
     requires state { length state.old ≡ width problem.now }
     ensures met { IsMetBelow result (choices problem.now) (width problem.now)
         (FitsChoice problem.now) state.new }
+    ensures grown { Grows marks.old marks.new }
     ensures state { length state.new ≡ length state.old }
 {
     if !propagation::close(problem, marks, place) {
         return false;
     }
-    choose(problem, cost, marks, state)
+    choose(problem, means, cost, marks, state)
 }
 
 // Marks what follows from the precondition and the positive operands, as far as that comes from the
@@ -233,43 +238,63 @@ fn search_on<K: ClauseKind>(
 // state meets these.
 fn mark_base<K: ClauseKind>(
     problem: &Problem<'_, K>,
-    rooted: Option<Operand>,
+    begun: Begun,
     upto: usize,
     marks: &mut Assignment<'_>,
 ) -> Option<usize>
-    requires marks { length marks.old.roots ≡ width problem.now }
-    requires none { marks.old.trail ≡ [] }
-    requires rooted { IsBasedOn problem.now rooted marks.old.roots }
-    requires follows { HoldInEach problem.now (marks_of marks.old) }
-    ensures { MatchOption result ((state : List Bool) → length state ≡ width problem.now
+    requires begun { IsBegunWith problem.now begun marks.old }
+    ensures begun { MatchOption result ((state : List Bool) → length state ≡ width problem.now
         → Applies problem.now state → InEach problem.now state → ⊥)
         (λ place. IsSearchBegun problem.now place marks.new) }
+    ensures grown { Grows marks.old marks.new }
 {
+    let point = marks.len();
     if !precondition::mark_pre(problem, marks) {
         return None;
     }
-    if !problem::start_all(problem, rooted, marks) {
+    if !start_on(problem, begun, marks) {
         return None;
     }
-    propagation::close_upto(problem, marks, 0, upto)
+    propagation::close_upto(problem, marks, point, upto)
+}
+
+// Looks at the clauses of the positive operands of which isn't known what they say.
+fn start_on<K: ClauseKind>(
+    problem: &Problem<'_, K>,
+    begun: Begun,
+    marks: &mut Assignment<'_>,
+) -> bool
+    requires wide { length marks.old.roots ≡ width problem.now }
+    requires begun { (from : ℕ) × IsBegunFrom problem.now begun marks.old from }
+    ensures followed { IsFollowed (InEach problem.now) marks.old marks.new result }
+    ensures left { result ≡ true → (from : ℕ) → from ≤ length marks.old.trail
+        → IsBegunFrom problem.now begun marks.old from → AreLeft problem.now marks.new from }
+{
+    match begun {
+        Begun::Early => problem::start_late(problem, marks),
+        Begun::From(rooted) => problem::start_all(problem, rooted, marks),
+    }
 }
 
 // Tries choices of one clause of each negative operand. The answer is true once one fits some
 // state, which is then written.
 fn choose<K: ClauseKind>(
     problem: &Problem<'_, K>,
+    means: &Means,
     cost: u64,
     marks: &mut Assignment<'_>,
     state: &mut State,
 ) -> bool
+    requires means { AreMeans problem.now means.now }
     requires cost { cost ≡ choices problem.now }
     requires rooted { AreFollowedRoots problem.now marks.old }
     requires state { length state.old ≡ width problem.now }
     ensures met { IsMetBelow result (choices problem.now)
         (width problem.now) (FitsChoice problem.now) state.new }
+    ensures same { marks.new ≡ marks.old }
     ensures state { length state.new ≡ length state.old }
 {
-    match refuted::asked_twice(problem) {
+    match means.twin {
         Some(operand) => affected::choose_affected(problem, operand, marks, state),
         None => fronts::choose_each(problem, cost, marks, state),
     }

@@ -4,8 +4,8 @@
 //! wants one, that have an anchor. Besides that, only what exceeding the budget means is left to
 //! each family, since the cost of a diagram is of another form.
 
-ghost use Rattle.std.specs.Prelude.{◌≡◌, ◌<◌, ◌+◌, ◌++◌, ◌∷◌, [], ℕ, length, slice_get, Some, IfOk};
-ghost use Rattle.std.specs.Prelude.{IfSome, OnErr};
+ghost use Rattle.std.specs.Prelude.{◌≡◌, ◌<◌, ◌≤◌, ◌+◌, ◌++◌, ◌∷◌, [], ℕ, length, slice_get, Some};
+ghost use Rattle.std.specs.Prelude.{IfOk, IfSome, OnErr, OnOk};
 ghost use Rattle.std.specs.List.{All};
 ghost use Rattle.hv_task.specs.Strips.{atoms};
 ghost use Rattle.hv_sets.specs.Cost.{ClausesPass, IsAnswer, clauses_among};
@@ -15,6 +15,7 @@ ghost use Rattle.hv_clauses.specs.Store.{tests_of, sizes_of, AreOver, formula_at
 ghost use Rattle.hv_formula.specs.Working.Kinded.{IsKinded};
 
 use crate::find;
+use crate::inquiry::ClauseInquiry;
 use hv_formula::{ClauseKind, Formula};
 use hv_propagation::Completion;
 use hv_sets::{Family, Finding, Operand, Query, Scratch, Which};
@@ -97,6 +98,48 @@ impl<K: ClauseKind> Formulas<K> {
         K::completion()
     }
 
+    /// Makes space for an inquiry about the query.
+    pub fn make_room(
+        &self,
+        task: &Task,
+        query: &Query,
+        scratch: &mut Scratch,
+    ) -> Result<(), AllocError>
+        requires { All (λ o. IsNamed (length self.now) o.which) query.now.positive }
+        ensures room { OnOk result (HasRoom (atoms task.now) 0 0 scratch.new) }
+        ensures lengths { KeepsLengths scratch.old scratch.new }
+    {
+        let watches = self.watches(query.positive.as_slice());
+        scratch.reserve(task.atoms(), 0, watches)
+    }
+
+    /// An inquiry about the query for one action after the other, whose own isn't looked at. It
+    /// takes memory only from what is given here, for lists of the operands where there are many
+    /// or of both times, and does without where there is none.
+    pub fn inquire<'a>(
+        &'a self,
+        alloc: Option<Global>,
+        task: &'a Task,
+        query: &'a Query,
+        budget: u64,
+        places: &'a mut [u32],
+        queue: &'a mut [u32],
+        watches: &'a mut [u32],
+    ) -> ClauseInquiry<'a, K>
+        requires named { All (λ o. IsNamed (length self.now) o.which)
+            (query.now.positive ++ query.now.negative) }
+        requires over { AreOver self.now (atoms task.now) }
+        requires places { atoms task.now ≤ length places.old }
+        requires queue { atoms task.now ≤ length queue.old }
+        ensures task { result.task ≡ task.now }
+        ensures store { result.store ≡ self.now }
+        ensures positive { result.positive ≡ query.now.positive }
+        ensures negative { result.negative ≡ query.now.negative }
+        ensures budget { result.budget ≡ budget }
+    {
+        ClauseInquiry::new(alloc, self, task, query, budget, places, queue, watches)
+    }
+
     // How many entries the places take that looks into the clauses of these operands remember.
     fn watches(&self, operands: &[Operand]) -> usize
         requires { All (λ o. IsNamed (length self.now) o.which) operands.now }
@@ -151,8 +194,7 @@ impl<K: ClauseKind> Family for Formulas<K> {
         budget: u64,
         scratch: &mut Scratch,
     ) -> Result<Finding, AllocError> {
-        let watches = self.watches(query.positive.as_slice());
-        scratch.reserve(task.atoms(), 0, watches)?;
+        self.make_room(task, query, scratch)?;
         Ok(find::find_in(Some(alloc), self, task, query, budget, scratch))
     }
 }

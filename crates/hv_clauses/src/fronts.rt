@@ -48,6 +48,7 @@ pub(crate) fn choose_each<K: ClauseKind>(
     requires rooted { AreFollowedRoots problem.now marks.old }
     requires state { length state.old ≡ width problem.now }
     ensures met { IsMetBelow result cost (width problem.now) (FitsChoice problem.now) state.new }
+    ensures same { marks.new ≡ marks.old }
     ensures state { length state.new ≡ length state.old }
 {
     let mut number = 0;

@@ -177,8 +177,11 @@ pub(crate) fn size_of<K: ClauseKind>(problem: &Problem<'_, K>) -> usize {
 }
 
 /// After how many literals of the trail it has cost as much to go through all positive operands as
-/// it does to list those that have each literal.
+/// it does to list those that have each literal. Where these are listed, it is the greatest number.
 pub(crate) fn patience<K: ClauseKind>(problem: &Problem<'_, K>, size: usize) -> usize {
+    if problem.has_owners() {
+        return usize::MAX;
+    }
     let count = problem.positive().len();
     (size / count.max(1) / LISTED).max(1)
 }
@@ -189,17 +192,12 @@ pub(crate) fn pays<K: ClauseKind>(problem: &Problem<'_, K>, size: usize, cost: u
     size <= (cost as usize).saturating_mul(count) / CHOICES
 }
 
-/// The positive operands that have each literal, if that pays and there is memory for it.
+/// The positive operands that have each literal, if there is memory for them.
 pub(crate) fn listed<K: ClauseKind>(
     alloc: Option<Global>,
     problem: &Problem<'_, K>,
-    pays: bool,
 ) -> Option<ClauseOwners>
     ensures { IfSome result (AreOwners problem.now) }
 {
-    let alloc = alloc?;
-    if !pays {
-        return None;
-    }
-    ClauseOwners::of(alloc, problem).ok()
+    ClauseOwners::of(alloc?, problem).ok()
 }

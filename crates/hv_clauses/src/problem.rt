@@ -1,13 +1,13 @@
 //! A query as it is asked, and its positive operands as a condition on states.
 
-ghost use Rattle.std.specs.Prelude.{◌≡◌, ◌<◌, ◌+◌, None, Some, IfSome, MatchOption, false, true};
-ghost use Rattle.std.specs.Prelude.{◌↔◌, IsTrue, length, map, slice_get};
+ghost use Rattle.std.specs.Prelude.{◌≡◌, ◌<◌, ◌≤◌, ◌+◌, ◌++◌, ◌↔◌, ℕ, None, Some, IfSome, IsTrue};
+ghost use Rattle.std.specs.Prelude.{MatchOption, false, true, length, map, slice_get};
 ghost use Rattle.std.specs.List.{All};
 ghost use Rattle.hv_task.specs.State.{AreBelow, names_atom};
 ghost use Rattle.hv_task.specs.Strips.{IsTask, atoms, is_goal, start_state};
 ghost use Rattle.hv_sets.specs.declared.operand.Operand.{Operand as OperandOf};
 ghost use Rattle.hv_sets.specs.Names.{AsksAbout};
-ghost use Rattle.hv_sets.specs.Query.{IsNamed, IsReady, action_of};
+ghost use Rattle.hv_sets.specs.Query.{IsNamed, action_of};
 ghost use Rattle.hv_sets.specs.Truth.{in_clauses, is_same};
 ghost use Rattle.hv_propagation.specs.Roots.{AreSettledBut};
 ghost use Rattle.hv_propagation.specs.Chase.{AreKept, IsFollowed};
@@ -16,30 +16,37 @@ ghost use Rattle.hv_clauses.specs.Working.Operands.{clauses_of_state, unit};
 ghost use Rattle.hv_propagation.specs.Effect.{late};
 ghost use Rattle.hv_propagation.specs.Marks.{over};
 ghost use Rattle.hv_clauses.specs.Working.Owners.{AreOwners};
-ghost use Rattle.hv_clauses.specs.Working.Posed.{InEach, IsPosed, formulas, size_in, width};
+ghost use Rattle.hv_clauses.specs.Working.Posed.{InEach, IsPosed, formulas, size_in, turned_to};
+ghost use Rattle.hv_clauses.specs.Working.Posed.{width};
+ghost use Rattle.hv_clauses.specs.Working.Early.{AreEarlyLeft};
+ghost use Rattle.hv_clauses.specs.Inquiry.{asked_with};
 ghost use Rattle.hv_clauses.specs.Working.Problem.{AreEachSettled, AreLeft, InOne, IsLeftOf};
 ghost use Rattle.hv_propagation.specs.Trail.{marks_of};
 ghost use Rattle.hv_propagation.specs.Units.{AreSettled};
 ghost use Rattle.hv_clauses.specs.Working.Start.{IsBasedOn};
 ghost use Rattle.hv_clauses.specs.Store.{AreOver};
 
-use crate::choices;
 use crate::formulas::Formulas;
 use crate::literal_owners::ClauseOwners;
+use crate::{choices, literal_owners};
 use hv_formula::{ClauseKind, Formula};
 use hv_propagation::{
     ActionEffect, Assignment, Completion, Constraint, chase, falsified, literals,
 };
-use hv_sets::{Literal, Operand, Query, Which};
+use hv_sets::{Literal, Operand, Operands, Query, Which};
 use hv_task::{Action, AtomList, Task};
+use std::alloc::Global;
 use std::marker::Model;
 
-/// A query, the task and the store of which it is asked, and the effect of its action.
+/// A query, the task and the store of which it is asked, and the effect of its action. The action
+/// can be turned to another one.
 #[derive(Drop)]
 pub(crate) struct Problem<'a, K: ClauseKind> {
     task: &'a Task,
     store: &'a Formulas<K>,
-    query: &'a Query,
+    positive: &'a Operands,
+    negative: &'a Operands,
+    action: Option<u32>,
     effect: ActionEffect<'a>,
     // Where there are many positive operands, those that have each literal.
     owners: Option<ClauseOwners>,
@@ -55,56 +62,68 @@ impl<'a, K: ClauseKind> Model for Problem<'a, K> {
     ghost view = { λ s. record {
       task = s.task.now;
       store = s.store.now;
-      query = s.query.now;
+      query = record { positive = s.positive.now; negative = s.negative.now; action = s.action };
       effect = s.effect;
     } };
 
     ghost invariant = { λ s. IsPosed (record {
       task = s.task.now;
       store = s.store.now;
-      query = s.query.now;
+      query = record { positive = s.positive.now; negative = s.negative.now; action = s.action };
       effect = s.effect;
     }) × IfSome s.owners (AreOwners (record {
       task = s.task.now;
       store = s.store.now;
-      query = s.query.now;
+      query = record { positive = s.positive.now; negative = s.negative.now; action = s.action };
       effect = s.effect;
     })) };
 }
 
 impl<'a, K: ClauseKind> Problem<'a, K> {
-    /// The query, asked of this task and this store.
+    /// The query without its action, asked of this task and this store.
     pub(crate) fn of(task: &'a Task, store: &'a Formulas<K>, query: &'a Query) -> Problem<'a, K>
-        requires ready { IsReady (length store.now) query.now }
+        requires named { All (λ o. IsNamed (length store.now) o.which)
+            (query.now.positive ++ query.now.negative) }
         requires over { AreOver store.now (atoms task.now) }
-        requires action { IfSome query.now.action (λ a. a < length task.now.actions) }
         ensures posed { IsPosed result }
         ensures task { result.task ≡ task.now }
         ensures store { result.store ≡ store.now }
-        ensures query { result.query ≡ query.now }
+        ensures query { result.query ≡ asked_with query.now.positive query.now.negative None }
     {
-        let effect = ActionEffect::of(task, query.action);
+        let effect = ActionEffect::of(task, None);
         Problem {
             task,
             store,
-            query,
+            positive: &query.positive,
+            negative: &query.negative,
+            action: None,
             effect,
             owners: None,
         }
     }
 
-    /// The same, with the positive operands that have each literal.
-    pub(crate) fn with(&self, owners: ClauseOwners) -> Problem<'a, K>
-        requires { AreOwners self.now owners }
-        ensures { result ≡ self.now }
+    /// Turns it to this action, or to none.
+    pub(crate) fn turn_to(&mut self, action: Option<u32>)
+        requires action { IfSome action (λ a. a < length self.old.task.actions) }
+        ensures posed { IsPosed self.new }
+        ensures turned { self.new ≡ turned_to self.old action self.new.effect }
     {
-        Problem {
-            task: self.task,
-            store: self.store,
-            query: self.query,
-            effect: self.effect.late(true),
-            owners: Some(owners),
+        self.action = action;
+        self.effect = ActionEffect::of(self.task, action);
+    }
+
+    /// Lists the positive operands that have each literal, if that pays and there is memory for it.
+    pub(crate) fn list_owners(&mut self, pays: bool, alloc: Option<Global>)
+        ensures { self.new ≡ self.old }
+    {
+        if pays && self.owners.is_none() {
+            self.owners = literal_owners::listed(alloc, self);
         }
+    }
+
+    /// Whether the positive operands that have each literal were listed.
+    pub(crate) fn has_owners(&self) -> bool {
+        self.owners.is_some()
     }
 
     // The positive operands that have each literal, if they were listed.
@@ -118,7 +137,14 @@ impl<'a, K: ClauseKind> Problem<'a, K> {
     pub(crate) fn names(&self, which: Which, after: bool) -> bool
         ensures { IsTrue result ↔ AsksAbout self.now.query.positive which after }
     {
-        self.query.positive.names(which, after)
+        self.positive.names(which, after)
+    }
+
+    /// The task.
+    pub(crate) fn task(&self) -> &'a Task
+        ensures { result.now ≡ self.now.task }
+    {
+        self.task
     }
 
     /// The store.
@@ -166,7 +192,7 @@ impl<'a, K: ClauseKind> Problem<'a, K> {
         ensures list { result.now ≡ self.now.query.positive }
         ensures named { All (λ o. IsNamed (length self.now.store) o.which) result.now }
     {
-        self.query.positive.as_slice()
+        self.positive.as_slice()
     }
 
     /// Its negative operands.
@@ -174,7 +200,7 @@ impl<'a, K: ClauseKind> Problem<'a, K> {
         ensures list { result.now ≡ self.now.query.negative }
         ensures named { All (λ o. IsNamed (length self.now.store) o.which) result.now }
     {
-        self.query.negative.as_slice()
+        self.negative.as_slice()
     }
 
     /// The effect through which an operand is asked about.
@@ -212,7 +238,7 @@ impl<'a, K: ClauseKind> Problem<'a, K> {
             (λ action. (action_of self.now.task self.now.query.action ≡ Some action.now)
             × AreBelow (width self.now) action.now.pre) }
     {
-        match self.query.action {
+        match self.action {
             None => None,
             Some(number) => Some(self.task.action(number)),
         }
@@ -413,6 +439,44 @@ pub(crate) fn start_all<K: ClauseKind>(
     true
 }
 
+// Looks at each clause once of each positive operand that is asked about after the action.
+pub(crate) fn start_late<K: ClauseKind>(
+    problem: &Problem<'_, K>,
+    marks: &mut Assignment<'_>,
+) -> bool
+    requires size { length marks.old.roots ≡ width problem.now }
+    ensures followed { IsFollowed (InEach problem.now) marks.old marks.new result }
+    ensures left { result ≡ true → (from : ℕ) → from ≤ length marks.old.trail
+        → AreEarlyLeft problem.now marks.old from → AreLeft problem.now marks.new from }
+{
+    let positive = problem.positive();
+    for operand in positive {
+        if !start_if_late(problem, *operand, marks) {
+            return false;
+        }
+    }
+    true
+}
+
+// Looks at each clause of an operand once, if it is asked about after the action.
+fn start_if_late<K: ClauseKind>(
+    problem: &Problem<'_, K>,
+    operand: Operand,
+    marks: &mut Assignment<'_>,
+) -> bool
+    requires named { IsNamed (length problem.now.store) operand.which }
+    requires size { length marks.old.roots ≡ width problem.now }
+    ensures followed { IsFollowed (InOne problem.now operand) marks.old marks.new result }
+    ensures left { result ≡ true → (from : ℕ) → from ≤ length marks.old.trail
+        → (operand.after ≡ false → IsLeftOf problem.now operand marks.old from)
+        → IsLeftOf problem.now operand marks.new from }
+{
+    if !operand.after {
+        return true;
+    }
+    start_whole(problem, operand, marks)
+}
+
 // Looks at each clause of an operand once; or, if it is that on which all is based, at each of
 // which the effect makes a literal false.
 fn start_operand<K: ClauseKind>(
@@ -427,18 +491,32 @@ fn start_operand<K: ClauseKind>(
     ensures followed { IsFollowed (InOne problem.now operand) marks.old marks.new result }
     ensures left { result ≡ true → IsLeftOf problem.now operand marks.new 0 }
 {
+    if let Which::Set(number) = operand.which
+        && is_based(operand, rooted)
+    {
+        let seen = problem.seen(operand.after);
+        return start_turned(problem.set(number), &seen, marks);
+    }
+    start_whole(problem, operand, marks)
+}
+
+// Looks at each clause of an operand once.
+fn start_whole<K: ClauseKind>(
+    problem: &Problem<'_, K>,
+    operand: Operand,
+    marks: &mut Assignment<'_>,
+) -> bool
+    requires named { IsNamed (length problem.now.store) operand.which }
+    requires size { length marks.old.roots ≡ width problem.now }
+    ensures followed { IsFollowed (InOne problem.now operand) marks.old marks.new result }
+    ensures left { result ≡ true → IsLeftOf problem.now operand marks.new (length marks.old.trail) }
+{
     let seen = problem.seen(operand.after);
     match operand.which {
         Which::Empty => false,
         Which::Start => start_start(problem, &seen, marks),
         Which::Goal => start_goal(problem, &seen, marks),
-        Which::Set(number) => {
-            let set = problem.set(number);
-            if is_based(operand, rooted) {
-                return start_turned(set, &seen, marks);
-            }
-            chase::start(set.clauses(), &seen, marks)
-        }
+        Which::Set(number) => chase::start(problem.set(number).clauses(), &seen, marks),
     }
 }
 

@@ -2,6 +2,7 @@
 use Rattle.std.specs.Prelude.{◌≡◌, ℕ, Bool, true, List, Some, false, not}
 use Rattle.std.specs.List.{Contains}
 use Rattle.hv_sets.specs.declared.literal.Literal.{Literal}
+use Rattle.hv_sets.specs.declared.operand.Operand.{Operand}
 use Rattle.hv_clauses.specs.declared.affected.Affected.{Affected}
 use Rattle.hv_propagation.specs.Clauses.{AreClauses}
 use Rattle.hv_propagation.specs.Marks.{known}
@@ -39,3 +40,8 @@ pub record IsTurnedBy (effect : List ℕ) (value sign : Bool) (clauses : List (L
 abbrev pub turning_sign : Bool → Bool → Bool
 turning_sign true value = not value
 turning_sign false value = value
+
+-- no clause of the operand, which is a set, has a literal that the effect turns against it
+abbrev pub IsUntouched : ProblemState → Operand → Type 0
+IsUntouched p operand = (number : ℕ) → operand.which ≡ W.Set number → (value : Bool) (place : ℕ)
+    → IsTurnedBy p.effect value (turning_sign operand.after value) (formulas p number) place → ⊥

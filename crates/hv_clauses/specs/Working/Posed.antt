@@ -1,13 +1,15 @@
 -- A query as it is asked: with the task and the store of which it is asked, and the effect of its
 -- action.
-use Rattle.std.specs.Prelude.{◌≡◌, ◌<◌, ℕ, Bool, true, List, IfSome, length}
+use Rattle.std.specs.Prelude.{◌≡◌, ◌<◌, ◌++◌, ℕ, Bool, true, List, Option, IfSome, length}
+use Rattle.std.specs.List.{All}
 use Rattle.hv_task.specs.Strips.{Strips, atoms}
 use Rattle.hv_sets.specs.declared.literal.Literal.{Literal}
 use Rattle.hv_sets.specs.declared.operand.Which.{Which}
 use Rattle.hv_sets.specs.declared.query.Query.{Query}
 use Rattle.hv_sets.specs.Cost.{choices_of, clauses_of}
-use Rattle.hv_sets.specs.Query.{IsReady, action_of, may_apply}
+use Rattle.hv_sets.specs.Query.{IsNamed, action_of, may_apply}
 use Rattle.hv_formula.specs.Clausal.{FormulaState}
+use Rattle.hv_clauses.specs.Inquiry.{asked_with}
 use Rattle.hv_clauses.specs.Store.{sizes_of, AreOver, formula_at}
 use Rattle.hv_clauses.specs.Working.Operands.{InAll}
 use Rattle.hv_propagation.specs.Effect.{IsEffect}
@@ -47,11 +49,20 @@ Applies p state = may_apply (action_of p.task p.query.action) state ≡ true
 abbrev pub InEach : ProblemState → List Bool → Type 0
 InEach p state = InAll p.task (formulas p) p.effect p.query.positive state
 
--- the query can be asked of the store: it is ready, the formulas are over the atoms of the task,
--- and the effect is that of its action, which is one of the task
+-- the query can be asked of the store: the sets that it names are there, the formulas are over the
+-- atoms of the task, and the effect is that of its action, which is one of the task
 pub record IsPosed (p : ProblemState) : Type 0 where
-  pub ready : IsReady (length p.store) p.query
+  pub named : All (λ o. IsNamed (length p.store) o.which) (p.query.positive ++ p.query.negative)
   pub over : AreOver p.store (atoms p.task)
   pub among : IfSome p.query.action (λ a. a < length p.task.actions)
   pub does : IsEffect (action_of p.task p.query.action) p.effect
   pub wide : length p.effect ≡ atoms p.task
+
+-- the problem with this action, which has this effect, in place of its own
+abbrev pub turned_to : ProblemState → Option ℕ → List ℕ → ProblemState
+turned_to p action effect = record {
+  task = p.task;
+  store = p.store;
+  query = asked_with p.query.positive p.query.negative action;
+  effect = effect;
+}

@@ -15,7 +15,7 @@ returns-clause-completes g c =
     (positive_completes (record {
       task = s.task.now;
       store = s.store.now;
-      query = s.query.now;
+      query = record { positive = s.positive.now; negative = s.negative.now; action = s.action };
       effect = s.effect;
     }) how g.K.ClauseKind.is_of
     (subst (λ x. CompletesClauses x g.K.ClauseKind.is_of) (sym c.completion.ensures.how)

@@ -7,7 +7,7 @@ use Rattle.hv_clauses.proofs.problem.Problem.negative.Goals as goal
 
 pub returns-clause-named : goal.returns-clause-named
 returns-clause-named g c =
-    let q = c.self.inside.query.now in
+    let s = c.self.inside in
     subst (λ (p : ProblemState). All (λ o. IsNamed (length p.store) o.which) c.as_slice.result.now)
     c.self.view_is
-    (named_second _ q.positive q.negative _ c.as_slice.ensures c.self.invariant.0.ready.named)
+    (named_second _ s.positive.now s.negative.now _ c.as_slice.ensures c.self.invariant.0.named)
