@@ -15,6 +15,8 @@ ghost use Rattle.hv_bdd.specs.Working.Chains.{node_slot_of};
 ghost use Rattle.hv_bdd.specs.Working.Chains.{AreAllBelow, IsListedNode};
 
 use crate::node::Node;
+use crate::node_listing::BLOCK;
+use crate::numbers::Triple;
 use std::alloc::{AllocError, Global};
 
 // A search that passes so many nodes is long at first.
@@ -33,6 +35,8 @@ pub struct Chains {
     // For each slot, one more than the last place in it, or 0.
     heads: Vec<u32>,
     turn: NodeFactor,
+    // What was read ahead. Only how long searches take hangs on it.
+    ahead: u32,
 }
 
 // The factor by which nodes fall into slots, and how many nodes a long search passes.
@@ -63,7 +67,24 @@ impl Chains {
                 factor: 0x9e37_79b9_7f4a_7c15,
                 long: LONG,
             },
+            ahead: 0,
         }
+    }
+
+    /// Reads ahead where the children of these nodes stand, and where the searches for them begin.
+    /// Nothing waits for what is read, so many reads are under way at once, and what is then tested
+    /// is at hand.
+    pub fn look_ahead(&mut self, nodes: &[Node], triples: &[Triple])
+        requires { IsChained nodes.now self.old }
+        ensures { IsChained nodes.now self.new }
+    {
+        self.ahead = read_ahead(
+            nodes,
+            self.turn.factor,
+            self.before.as_slice(),
+            self.heads.as_slice(),
+            triples,
+        );
     }
 
     /// Looks for a node among those listed.
@@ -134,7 +155,46 @@ fn node_slot_of(factor: u64, slots: usize, node: &Node) -> usize
 {
     let children = u64::from(node.low) + u64::from(node.high) * 4_294_967_296;
     let mixed = (children.wrapping_mul(factor) >> 32) + u64::from(node.atom);
-    ((mixed.wrapping_mul(factor) >> 32) % slots as u64) as usize
+    ((mixed.wrapping_mul(factor) as u128 * slots as u128) >> 64) as usize
+}
+
+// Into which of so many slots the node of these numbers falls.
+fn slot_ahead(factor: u64, slots: usize, triple: &Triple) -> usize
+    requires { 0 < slots }
+    ensures { result < slots }
+{
+    let children = triple
+        .low
+        .wrapping_add(triple.high.wrapping_mul(4_294_967_296));
+    let mixed = (children.wrapping_mul(factor) >> 32).wrapping_add(triple.atom);
+    ((mixed.wrapping_mul(factor) as u128 * slots as u128) >> 64) as usize
+}
+
+// Reads of each of these nodes the children, the start of its chain, and the node there. The answer
+// is a sum of what was read, so that it is read.
+fn read_ahead(nodes: &[Node], factor: u64, before: &[u32], heads: &[u32], triples: &[Triple]) -> u32
+    requires { length nodes.now ≤ length before.now }
+{
+    if nodes.is_empty() || heads.is_empty() {
+        return 0;
+    }
+    let last = nodes.len() - 1;
+    let mut starts = [0; BLOCK];
+    let mut sum: u32 = 0;
+    for k in 0..triples.len().min(BLOCK) {
+        let triple = &triples[k];
+        let low = nodes[(triple.low as usize).saturating_sub(2).min(last)];
+        let high = nodes[(triple.high as usize).saturating_sub(2).min(last)];
+        sum = sum.wrapping_add(low.atom).wrapping_add(high.atom);
+        starts[k] = heads[slot_ahead(factor, heads.len(), triple)];
+    }
+    for start in starts {
+        let place = (start as usize).saturating_sub(1).min(last);
+        sum = sum
+            .wrapping_add(nodes[place].low)
+            .wrapping_add(before[place]);
+    }
+    sum
 }
 
 // Goes back along a chain to the node.

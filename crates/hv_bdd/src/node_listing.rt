@@ -1,6 +1,6 @@
-//! Nodes that come one after another, and are tested in blocks of 64, so that the look-ups of one
-//! don't wait for those of another. Whatever ends the reading, the nodes that wait are tested
-//! first, so the first fault is the same.
+//! Nodes that come one after another, and are tested in blocks of 64: what the tests of a block will
+//! read is read ahead, so that the look-ups of one node don't wait for those of another. Whatever
+//! ends the reading, the nodes that wait are tested first, so the first fault is the same.
 //!
 //! The tests of a line are in the order of the kinds of fault, so a contract can say "the first
 //! fault" by one function of the list and the numbers. What comes of the lines that follow nodes
@@ -20,9 +20,8 @@ use crate::numbers::Triple;
 use hv_grammar::ParseFault;
 use std::alloc::Global;
 
-// So many nodes are read before they are tested, one right after the other: so the look-ups of one
-// don't wait for those of the one before.
-const BLOCK: usize = 64;
+// So many nodes are read before they are tested.
+pub(crate) const BLOCK: usize = 64;
 
 /// The nodes of a file that were read so far.
 #[derive(Drop)]
@@ -78,7 +77,9 @@ impl NodeListing {
         requires { IsListing self.old }
         ensures { Settles result self.old self.new }
     {
-        add_all(&mut self.list, &mut self.seen, self.waiting.as_slice())?;
+        let waiting = self.waiting.as_slice();
+        self.seen.look_ahead(self.list.listed(), waiting);
+        add_all(&mut self.list, &mut self.seen, waiting)?;
         self.waiting.clear();
         Ok(())
     }

@@ -12,7 +12,7 @@ listed_at nodes k = slice_index_or nodes k record { atom = 0; low = 0; high = 0 
 unfoldable pub node_slot_of : ℕ → ℕ → Node → ℕ
 node_slot_of factor slots node =
     ((node.low + node.high * 2 ^ 32) * factor % 2 ^ 64 / 2 ^ 32 + node.atom) * factor % 2 ^ 64
-    / 2 ^ 32 % slots
+    * slots / 2 ^ 64
 
 -- into which slot the node at a place falls
 abbrev pub node_slot_at : List Node → ℕ → ℕ → ℕ → ℕ

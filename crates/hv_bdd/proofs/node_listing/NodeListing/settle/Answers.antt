@@ -9,7 +9,7 @@ pub returns : goal.returns
 returns c =
     let a = c.in_ok-add_all.ensures in
     let none = c.clear.ensures.items in
-    let waiting = c.as_slice.ensures.value in
+    let waiting = c.as_slice-waiting.ensures.value in
     let lists : tried (Ok c.args.self.now.list) (map as_node c.args.self.now.waiting.items)
     ≡ Ok c.add_all.new.list =
     ap (λ (ts : List Triple). tried (Ok c.args.self.now.list) (map as_node ts)) (sym waiting)
