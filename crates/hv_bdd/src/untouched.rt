@@ -29,10 +29,18 @@ pub(crate) struct Untouched {
     pub places: State,
     /// How many tuples each of them reaches, where it is known that no state suits the operands.
     pub count: Option<usize>,
-    /// Whether too many tuples waited in a sweep, so that the next search makes none. Only how long
-    /// a query takes hangs on it.
-    pub crowded: bool,
+    /// So many more searches that reach few tuples make no sweep, since too many waited in one. Only
+    /// how long a query takes hangs on it.
+    pub crowded: u32,
 }
+
+// So many searches that reach few tuples make no sweep, once too many waited in one: so it is tried
+// again where the operands are searched for by many actions, and no search in vain costs much
+// beside these.
+const CALM: u32 = 8;
+
+// The most nodes that few tuples have.
+const FEW: usize = 1024;
 
 impl Untouched {
     /// Of these operands nothing is known yet.
@@ -48,7 +56,7 @@ impl Untouched {
             asked: own,
             places,
             count: None,
-            crowded: false,
+            crowded: 0,
         })
     }
 
@@ -140,7 +148,7 @@ pub(crate) fn is_fruitless(
 fn is_crowded(known: &Option<Untouched>) -> bool {
     match known {
         None => false,
-        Some(known) => known.crowded,
+        Some(known) => known.crowded > 0,
     }
 }
 
@@ -205,7 +213,22 @@ impl Search<'_> {
     {
         match known {
             None => {}
-            Some(known) => known.crowded = crowded,
+            Some(known) => known.crowded = if crowded { CALM } else { 0 },
+        }
+    }
+
+    // Counts a search that made no sweep, if it reached few tuples.
+    fn count_calm(&self, reached: &Reached, known: &mut Option<Untouched>)
+        requires { IsKeptTrulyFor self.now known.old }
+        ensures { IsKeptTrulyFor self.now known.new }
+    {
+        match known {
+            None => {}
+            Some(known) => {
+                if reached.tuples.len().saturating_mul(self.operands()) <= FEW {
+                    known.crowded = known.crowded.saturating_sub(1);
+                }
+            }
         }
     }
 
@@ -225,6 +248,7 @@ impl Search<'_> {
         ensures known { OnOk result (IsKeptTrulyFor self.old known.new) }
     {
         let reached = self.reach(alloc, budget)?;
+        self.count_calm(&reached, known);
         self.keep(budget, &reached, known);
         Ok(self.conclude(budget, &reached, state))
     }
