@@ -7,12 +7,10 @@ use Rattle.std.proofs.lemmas.List.{get_or-set_other, get_or-set_same}
 use Rattle.std.specs.Str.Parse.{AllDigits, digits_value}
 use Rattle.std.proofs.lemmas.Int.Digits.{digits_more, digits_value_more}
 use Rattle.std.proofs.lemmas.Str.{digit_value_digit}
-use Rattle.std.proofs.lemmas.Str.Parse.{digits_value_short}
 use Rattle.hv_bytes.specs.Fields.{cut_fields}
 use Rattle.hv_bytes.specs.Working.Decimals.{HasDecimalShape}
 use Rattle.hv_bytes.specs.Working.Fronts.{IsDigitFront}
 use Rattle.hv_bytes.proofs.DecimalFronts.{front_decimal, front_space}
-use Rattle.hv_bytes.proofs.DecimalTexts.{digits_model}
 use Rattle.hv_bdd.specs.Working.Digits.{AreDigits, SpellsNumber}
 
 -- before the first one
@@ -36,21 +34,12 @@ more_digit bytes count number digit within digits value few is =
       omega (arith, more, spelled, value),
     )
 
-pub spelled_more : (bytes : List ℕ) (count number digit : ℕ) → count < length bytes
+spelled_more : (bytes : List ℕ) (count number digit : ℕ) → count < length bytes
     → SpellsNumber bytes count number → digit ≤ 9 → digit + 48 ≡ get_or bytes count 0
     → SpellsNumber bytes (count + 1) (number * 10 + digit)
 spelled_more bytes count number digit within so_far few is =
     let more = more_digit bytes count number digit within so_far.digits so_far.value few is in
     record { digits = more.0; value = more.1; plain = so_far.plain }
-
--- seven digits are a number below 10^7
-pub spelled_short : (bytes : List ℕ) (count number : ℕ) → count ≤ length bytes → count ≤ 7
-    → SpellsNumber bytes count number → number < 10 ^ 7
-spelled_short bytes count number within few so_far =
-    let size = length-take-le count bytes within in
-    let short = digits_value_short digits_model (take count bytes) 7 so_far.digits
-    (omega arith) in
-    let value = so_far.value in omega arith
 
 -- a space behind them ends the first field
 pub spelled_field : (bytes : List ℕ) (count number : ℕ) → 1 ≤ count → count ≤ 7

@@ -14,7 +14,7 @@ ghost use Rattle.hv_bdd.specs.Working.Inverse.{AreInverse, fields_left};
 ghost use Rattle.hv_bdd.specs.Working.Noting.{AreNoted, named_behind};
 
 use crate::atom_bits::ListedState;
-use crate::numbers::{digit_table, long_front, short_front};
+use crate::numbers::{digit_table, long_front};
 use hv_bytes::{decimal_front, split_field};
 use std::alloc::{AllocError, Global};
 use std::marker::Model;
@@ -124,29 +124,9 @@ fn note(order: &mut [u32], places: &mut [u32], place: usize, atom: usize)
     order[place] = atom as u32;
 }
 
-// The atom that the first field of a line of 8 bytes or more names, of so many, and what follows,
-// where a quick way gives them.
-#[inline(always)]
-fn quick_front<'a>(digits: &[u64; 512], line: &'a [u8], atoms: usize) -> Option<(usize, &'a [u8])>
-    requires digits { AreDigits digits.now }
-    requires room { 8 ≤ length line.now }
-    requires few { atoms < 2 ^ 32 }
-    ensures below { IfSome result (λ p. p.0 < atoms) }
-    ensures fields { IfSome result (λ p.
-        cut_fields line.now ≡ decimal p.0 ∷ cut_fields p.1.now) }
-    ensures rest { IfSome result (λ p. length line.now ≤ length p.1.now + 8) }
-{
-    if let Some(front) = long_front(digits, line, atoms) {
-        return Some(front);
-    }
-    match short_front(line) {
-        Some((atom, behind)) if (atom as usize) < atoms => Some((atom as usize, behind)),
-        _ => None,
-    }
-}
-
-// Notes the atoms that fields name, from this place on, as far as the quick way goes. The answer is
-// the next place, and what is left of the fields. It goes no further than there are 8 bytes for
+// Notes the atoms that fields name, from this place on, as far as the quick way goes: numbers of
+// other lengths are few, since each atom stands in an order once. The answer is the next place, and
+// what is left of the fields. It goes no further than there are 8 bytes for
 // each field, so that none has to be looked for.
 fn note_quickly<'a>(
     digits: &[u64; 512],
@@ -167,7 +147,7 @@ fn note_quickly<'a>(
     let last = from + (order.len() - from).min(fields.len() / 8);
     let mut rest = fields;
     for place in from..last {
-        let Some((atom, behind)) = quick_front(digits, rest, order.len()) else {
+        let Some((atom, behind)) = long_front(digits, rest, order.len()) else {
             return (place, rest);
         };
         note(order, places, place, atom);
