@@ -50,6 +50,14 @@ module _ (s : TupleSearch) (done : ℕ) (reached : Reached) (e : Explored s done
   tuple_read k v ts within is same = subst (IsTuple s) (item_at keys k v within is ∙ sym same)
       (tuple_here k within)
 
+  -- and it is live
+  pub live_read : (k : ℕ) (v : SmallVec ℕ) (ts : List ℕ) → k < length keys → get_or keys k v ≡ v
+      → ts ≡ v.items → is_live (moves s.setting) s.asked ts ≡ true
+  live_read k v ts within is same =
+      subst (λ us. is_live (moves s.setting) s.asked us ≡ true)
+      (item_at keys k v within is ∙ sym same)
+      (reached_live s e.search (tuple_at (items keys) k) (reached_at k within))
+
   pub all_tuples : All (λ (t : SmallVec ℕ). IsTuple s t.items) keys
   all_tuples k d within = tuple_read k (get_or keys k d) (get_or keys k d).items within
       (get_or_default keys k (get_or keys k d) d within) refl

@@ -1,8 +1,9 @@
 -- Tuples whose nodes move one after the other.
-use Rattle.std.proofs.Common.{◌≡◌, ℕ, ◌<◌, ◌+◌, ◌++◌, ◌∷◌, ◌∙◌, Bool, List, [], ap, ap₂, arith, drop}
-use Rattle.std.proofs.Common.{get_or, length, set, sym, take}
+use Rattle.std.proofs.Common.{◌≡◌, ℕ, ◌<◌, ◌+◌, ◌++◌, ◌∷◌, ◌∙◌, Bool, true, false, not, List, []}
+use Rattle.std.proofs.Common.{ap, ap₂, arith, cond, drop, eqb, get_or, length, refl, set, sym, take}
+use Rattle.std.proofs.lemmas.Bool.{and_parts, cond-false, ne_eqb}
 use Rattle.std.proofs.lemmas.List.{append_assoc, drop-set-lt, drop_more, take_more_set}
-use Rattle.hv_bdd.specs.Tuples.{Moves, move_all, move_one}
+use Rattle.hv_bdd.specs.Tuples.{Moves, is_live, move_all, move_one}
 
 -- one node more has moved
 pub moved_more : {O : Type 0} (m : Moves O) (v : ℕ) (b : Bool) (os : List O) (nodes : List ℕ)
@@ -20,3 +21,28 @@ moved_more {O} m v b os nodes k x o less size is =
     ∙ (ap (λ y. take k nodes ++ (y ∷ move_all m v b rest more)) is
     ∙ sym (ap₂ (λ (left : List O) (nodes' : List ℕ). take k nodes ++ move_all m v b left nodes')
     (drop_more os k o (omega arith)) (drop_more nodes k 0 less))))
+
+-- a node that asks for another place rules nothing out that it didn't before
+pub stays_put : {O : Type 0} (m : Moves O) (v : ℕ) (b : Bool) (o : O) (i : ℕ)
+    → (m.top o i ≡ v → ⊥) → eqb i (cond (m.wants o) 0 1) ≡ false
+    → eqb (move_one m v b o i) (cond (m.wants o) 0 1) ≡ false
+stays_put m v b o i other alive =
+    ap (λ n. eqb n (cond (m.wants o) 0 1))
+    (cond-false (eqb (m.top o i) v) (m.child o i (m.seen o v b)) i (ne_eqb (m.top o i) v other))
+    ∙ alive
+
+-- what a live tuple says of one of its nodes, and of those behind it
+pub live_more : {O : Type 0} (m : Moves O) (os : List O) (nodes : List ℕ) (k : ℕ) (o : O)
+    → k < length nodes → length nodes ≡ length os
+    → is_live m (drop k os) (drop k nodes) ≡ true
+    → (eqb (get_or nodes k 0) (cond (m.wants (get_or os k o)) 0 1) ≡ false)
+    × (is_live m (drop (k + 1) os) (drop (k + 1) nodes) ≡ true)
+live_more m os nodes k o less size alive =
+    let parts = and_parts (not (eqb (get_or nodes k 0) (cond (m.wants (get_or os k o)) 0 1)))
+    (is_live m (drop (k + 1) os) (drop (k + 1) nodes))
+    (sym (ap₂ (is_live m) (drop_more os k o (omega arith)) (drop_more nodes k 0 less)) ∙ alive) in
+    (by (eqb (get_or nodes k 0) (cond (m.wants (get_or os k o)) 0 1)) parts.0, parts.1)
+  where
+    by : (x : Bool) → not x ≡ true → x ≡ false
+    by true e = let f : false ≡ true = e in absurd cc
+    by false e = refl

@@ -1,7 +1,7 @@
 //! The search through live tuples: how a tuple moves.
 
-ghost use Rattle.std.specs.Prelude.{◌≡◌, ◌<◌, ◌≤◌, ◌-◌, ◌&&◌, true, cond, length, nat_eq, nat_lt};
-ghost use Rattle.std.specs.Prelude.{option_map, IfOk, IfSome, slice_index_or};
+ghost use Rattle.std.specs.Prelude.{◌≡◌, ◌<◌, ◌≤◌, ◌-◌, ◌&&◌, true, false, cond, length, nat_eq};
+ghost use Rattle.std.specs.Prelude.{nat_lt, option_map, IfOk, IfSome, slice_index_or};
 ghost use Rattle.std.specs.List.{All};
 ghost use Rattle.std.specs.List.Sorted.{IsStrictlyIncreasing};
 ghost use Rattle.hv_task.specs.Atoms.{IsNext};
@@ -447,6 +447,7 @@ impl Search<'_> {
         bit: bool,
     ) -> Result<Option<Tuple>, AllocError>
         requires tuple { IsTuple self.now tuple.now }
+        requires live { is_live (moves self.now.setting) self.now.asked tuple.now ≡ true }
         requires place { marks.now.place < self.now.setting.list.atoms }
         requires marks { AreMarksOf self.now.setting marks.now }
         ensures { IfOk result (λ to.
@@ -478,6 +479,7 @@ impl Search<'_> {
         bit: bool,
     ) -> Result<Option<Tuple>, AllocError>
         requires tuple { IsTuple self.now tuple.now }
+        requires live { is_live (moves self.now.setting) self.now.asked tuple.now ≡ true }
         requires place { marks.now.place < self.now.setting.list.atoms }
         requires marks { AreMarksOf self.now.setting marks.now }
         ensures { IfOk result (λ to.
@@ -493,9 +495,10 @@ impl Search<'_> {
         Ok(Some(moved))
     }
 
-    // Whether the tuple to which a bit at a place leads is live.
+    // Whether the tuple to which a bit at a place leads from a live one is live.
     fn stays_live(&self, tuple: &[u32], marks: &PlaceMarks, bit: bool) -> bool
         requires tuple { IsTuple self.now tuple.now }
+        requires live { is_live (moves self.now.setting) self.now.asked tuple.now ≡ true }
         requires place { marks.now.place < self.now.setting.list.atoms }
         requires marks { AreMarksOf self.now.setting marks.now }
         ensures { result
@@ -503,12 +506,30 @@ impl Search<'_> {
             (move_all (moves self.now.setting) marks.now.place bit self.now.asked tuple.now) }
     {
         for (k, node) in tuple.iter().enumerate() {
-            let asked = self.operand(k);
-            if self.move_one(asked, *node, marks, bit) == ruled_out(asked.positive) {
+            if self.rules_out(self.operand(k), *node, marks, bit) {
                 return false;
             }
         }
         true
+    }
+
+    // Whether a bit at a place rules out an operand that its node doesn't rule out: more is looked at
+    // only where it asks for the place.
+    #[tactic(auto, using(crate::proofs::Moving::stays_put))]
+    fn rules_out(&self, asked: &Asked, node: u32, marks: &PlaceMarks, bit: bool) -> bool
+        requires askable { IsAskable self.now.setting asked.now.which }
+        requires node { node < limit self.now.setting asked.now.which }
+        requires live { nat_eq node (cond asked.now.positive 0 1) ≡ false }
+        requires place { marks.now.place < self.now.setting.list.atoms }
+        requires marks { AreMarksOf self.now.setting marks.now }
+        ensures { result
+            ≡ nat_eq (move_one (moves self.now.setting) marks.now.place bit asked.now node)
+            (cond asked.now.positive 0 1) }
+    {
+        if node < 2 || self.top(asked.which, node) != marks.place {
+            return false;
+        }
+        self.move_one(asked, node, marks, bit) == ruled_out(asked.positive)
     }
 
     // Moves each node of a tuple by a bit at a place.
@@ -585,6 +606,7 @@ impl Search<'_> {
         bit: bool,
     ) -> Result<Option<Tuple>, AllocError>
         requires tuple { IsTuple self.now tuple.now }
+        requires live { is_live (moves self.now.setting) self.now.asked tuple.now ≡ true }
         requires least { marks.now.place ≡ least (moves self.now.setting) self.now.asked tuple.now }
         requires marks { AreMarksOf self.now.setting marks.now }
         ensures { IfOk result (λ to.

@@ -4,7 +4,7 @@ use Rattle.smallvec.specs.SmallVec.{SmallVec}
 use Rattle.hv_bdd.specs.Live.{moves, roots}
 use Rattle.hv_bdd.specs.Tuples.{next}
 use Rattle.hv_bdd.proofs.Explored.{expanded, item_at, items}
-use Rattle.hv_bdd.proofs.Found.{tuple_read}
+use Rattle.hv_bdd.proofs.Found.{live_read, tuple_read}
 use Rattle.hv_bdd.proofs.tuple_search.Search.expand.Goals as goal
 
 pub least-requires : goal.least-requires
@@ -57,3 +57,19 @@ returns-clause-explored c =
           c.args.self.now.asked ts true) at)
           c.in_ok-put.ensures c.in_ok-put-2.ensures;
     }
+
+pub next-requires-clause-live : goal.next-requires-clause-live
+next-requires-clause-live c =
+    live_read c.args.self.now c.args.done c.args.reached.now c.requires.explored c.args.done
+    c.index-as_slice-done.result c.as_slice-tuple.result.now c.requires.done
+    (ap (λ keys. get_or keys c.args.done c.index-as_slice-done.result) (sym c.as_slice.ensures.keys)
+    ∙ sym c.index-as_slice-done.is)
+    c.as_slice-tuple.ensures
+
+pub next-requires-2-clause-live : goal.next-requires-2-clause-live
+next-requires-2-clause-live c =
+    live_read c.args.self.now c.args.done c.args.reached.now c.requires.explored c.args.done
+    c.index-as_slice-done.result c.as_slice-tuple.result.now c.requires.done
+    (ap (λ keys. get_or keys c.args.done c.index-as_slice-done.result) (sym c.as_slice.ensures.keys)
+    ∙ sym c.index-as_slice-done.is)
+    c.as_slice-tuple.ensures

@@ -5,7 +5,7 @@ use Rattle.hv_bdd.specs.Tuples.{least}
 use Rattle.hv_bdd.specs.Working.Search.{tuples_of}
 use Rattle.hv_bdd.specs.Working.Sweeping.{IsTupleAdded}
 use Rattle.hv_bdd.proofs.Swept.{later_by, moves_on, waits_on}
-use Rattle.hv_bdd.proofs.Tupled.{next_rises, reached_tuple}
+use Rattle.hv_bdd.proofs.Tupled.{next_rises, reached_live, reached_tuple}
 use Rattle.hv_bdd.proofs.tuple_search.Search.pass_on.Goals as goal
 
 pub next-requires-clause-tuple : goal.next-requires-clause-tuple
@@ -45,3 +45,11 @@ returns c = λ tuples swept.
     (tuples_of c.add-2.new.set)) c.in_ok-low.ensures c.in_ok-add-2.ensures)
     (subst (λ (o : Option (List ℕ)). IsTupleAdded (tuples_of c.add-2.new.set) o
     (tuples_of c.add-3.new.set)) c.in_ok-high.ensures c.in_ok-add-3.ensures)
+
+pub next-requires-clause-live : goal.next-requires-clause-live
+next-requires-clause-live c =
+    reached_live c.args.self.now c.requires.search c.args.tuple.now c.requires.reached
+
+pub next-requires-2-clause-live : goal.next-requires-2-clause-live
+next-requires-2-clause-live c =
+    reached_live c.args.self.now c.requires.search c.args.tuple.now c.requires.reached

@@ -1,12 +1,14 @@
-use Rattle.std.proofs.Common.{◌≡◌, drop}
+use Rattle.std.proofs.Common.{◌≡◌, drop, true}
 use Rattle.hv_bdd.specs.Live.{moves}
 use Rattle.hv_bdd.specs.Tuples.{is_live, move_all}
 use Rattle.hv_bdd.proofs.tuple_search.Search.stays_live.Given as goal
 
 abbrev pub invariant-loop-k : goal.invariant-loop-k
-invariant-loop-k l =
-    is_live (moves l.self.setting) (drop l.k l.self.asked)
-    (move_all (moves l.self.setting) l.marks.place l.bit (drop l.k l.self.asked)
-    (drop l.k l.tuple))
-    ≡ is_live (moves l.self.setting) l.self.asked
-    (move_all (moves l.self.setting) l.marks.place l.bit l.self.asked l.tuple)
+invariant-loop-k l = record {
+  same : is_live (moves l.self.setting) (drop l.k l.self.asked)
+      (move_all (moves l.self.setting) l.marks.place l.bit (drop l.k l.self.asked)
+      (drop l.k l.tuple))
+      ≡ is_live (moves l.self.setting) l.self.asked
+      (move_all (moves l.self.setting) l.marks.place l.bit l.self.asked l.tuple);
+  live : is_live (moves l.self.setting) (drop l.k l.self.asked) (drop l.k l.tuple) ≡ true;
+}
